@@ -59,17 +59,16 @@ data Filed (i : Item) (s t : CustomerSpool) : Type 0 where
   one : (rcb srcb : ℕ) (f : WholeFile) → i ≡ Data rcb srcb [] → f.state ≡ Ready → is_whole f.records ≡ true
       → t.whole ≡ s.whole ++ f ∷ [] → t.arrived ≡ one_more s.arrived → Filed i s t
 
-finished_files :
-    (rcb srcb n : ℕ) (s t : CustomerSpool) → is_whole (partial_records n t) ≡ true → SameWhole s t
+finished_files : (rcb srcb n : ℕ) (s t : CustomerSpool) → is_whole (partial_records n t) ≡ true → SameWhole s t
     → Filed (Data rcb srcb []) s (with_finished n t)
 finished_files rcb srcb n s t e same = at_file (partial_numbered n t) e
   where
-    at_file :
-        (o : Option PartialFile) → is_whole (elim o [ Some f ↦ f.records | None ↦ [] ]) ≡ true
+    at_file : (o : Option PartialFile) → is_whole (elim o [ Some f ↦ f.records | None ↦ [] ]) ≡ true
         → Filed (Data rcb srcb []) s (elim o [ None ↦ t | Some f ↦ with_arrived (as_whole f) (without_partial n t) ])
     at_file None e = none same
     at_file (Some f) e =
-        one rcb srcb (as_whole f) refl refl e (ap (λ (fs : List WholeFile). fs ++ as_whole f ∷ []) same.0) (ap one_more same.1)
+        one rcb srcb (as_whole f) refl refl e (ap (λ (fs : List WholeFile). fs ++ as_whole f ∷ []) same.0)
+        (ap one_more same.1)
 
 files_in_arrivals : (s : CustomerSpool) → StaysInArrivals (SameWhole s) (λ i t. Filed i s t)
 files_in_arrivals s = record {
@@ -80,17 +79,19 @@ files_in_arrivals s = record {
   finished = λ rcb srcb n t whole same. finished_files rcb srcb n s t whole same;
 }
 
-arrived_acts : (l k : ℕ) (a : Arrival) (i : Item) (c : Customer) → Brings a i → Acted l i c (after_stream_arrival l k a c)
+arrived_acts : (l k : ℕ) (a : Arrival) (i : Item) (c : Customer) → Brings a i
+    → Acted l i c (after_stream_arrival l k a c)
 arrived_acts l k a i c brings =
-    at_files (received_so (SameWhole c.spool) (λ j t. Filed j c.spool t) (files_in_arrivals c.spool) c.entry l (kind_of k)
+    at_files (received_so (SameWhole c.spool) (λ j t. Filed j c.spool t) (files_in_arrivals c.spool) c.entry l
+    (kind_of k)
     (receiver_at k (line_at l c.lines)) a i c.spool brings (refl, refl))
   where
     streams : streams_from_hub (after_stream_arrival l k a c).lines ≡ streams_from_hub c.lines
     streams =
-        arrived_so l (λ lines. streams_from_hub lines ≡ streams_from_hub c.lines) (senders_receiving l c.lines) k a c refl
+        arrived_so l (λ lines. streams_from_hub lines ≡ streams_from_hub c.lines)
+        (senders_receiving l c.lines) k a c refl
 
-    parts_are :
-        (files : List WholeFile) (arrived : ℕ) → (after_stream_arrival l k a c).spool.whole ≡ files
+    parts_are : (files : List WholeFile) (arrived : ℕ) → (after_stream_arrival l k a c).spool.whole ≡ files
         → (after_stream_arrival l k a c).spool.arrived ≡ arrived
         → outgoing (after_stream_arrival l k a c) ≡ of_parts files arrived (streams_from_hub c.lines)
     parts_are files arrived whole came =
@@ -99,34 +100,39 @@ arrived_acts l k a i c brings =
         ∙ ap (λ n. of_parts files n (streams_from_hub d.lines)) came ∙ ap (of_parts files arrived) streams
 
     at_files : Filed i c.spool (after_stream_arrival l k a c).spool → Acted l i c (after_stream_arrival l k a c)
-    at_files (none same) =
-        record { entry = refl; moves = inl (parts_are c.spool.whole c.spool.arrived same.0 same.1) }
-    at_files (one rcb srcb f came ready whole last more) =
-        record {
-          entry = refl;
-          moves = inr (moves.comes rcb srcb f came ready whole
-              (parts_are (c.spool.whole ++ f ∷ []) (one_more c.spool.arrived) last more));
-        }
+    at_files (none same) = record { entry = refl; moves = inl (parts_are c.spool.whole c.spool.arrived same.0 same.1) }
+    at_files (one rcb srcb f came ready whole last more) = record {
+      entry = refl;
+      moves = inr (moves.comes rcb srcb f came ready whole
+          (parts_are (c.spool.whole ++ f ∷ []) (one_more c.spool.arrived) last more));
+    }
 
 -- ---- streams from the hub
 
 module _ (l k streams srcb : ℕ) (c : Customer) (names : stream_of streams srcb ≡ Some k) where
   -- nothing moves
-  stays : (answer : ℕ) (x : Sender) → sender_on l k (outgoing c) ≡ x → Acted l (Control answer srcb) c (with_sender_outcome l k (record { sender = x; spool = c.spool }) c)
-  stays answer x at = record { entry = refl; moves = inl (sent_is l k x c.spool c refl ∙ same_stream l k x (outgoing c) at) }
+  stays : (answer : ℕ) (x : Sender) → sender_on l k (outgoing c) ≡ x
+      → Acted l (Control answer srcb) c (with_sender_outcome l k (record { sender = x; spool = c.spool }) c)
+  stays answer x at = record {
+    entry = refl;
+    moves = inl
+        (sent_is l k x c.spool c refl ∙ same_stream l k x (outgoing c) at);
+  }
 
-  permitted_acts : (x : Sender) → sender_on l k (outgoing c) ≡ x → Acted l (Control 0xa0 srcb) c (with_sender_outcome l k (record { sender = after_grant x; spool = c.spool }) c)
+  permitted_acts : (x : Sender) → sender_on l k (outgoing c) ≡ x
+      → Acted l (Control 0xa0 srcb) c (with_sender_outcome l k (record { sender = after_grant x; spool = c.spool }) c)
   permitted_acts sender.Idle at = stays 0xa0 sender.Idle at
-  permitted_acts (sender.Requested n) at =
-      record {
-        entry = refl;
-        moves = inr (moves.permitted streams k n (record { srcb = srcb; is_control = refl; names = names }) at (sent_is l k (sender.Sending n 0) c.spool c refl));
-      }
+  permitted_acts (sender.Requested n) at = record {
+    entry = refl;
+    moves = inr (moves.permitted streams k n (record { srcb = srcb; is_control = refl; names = names }) at
+        (sent_is l k (sender.Sending n 0) c.spool c refl));
+  }
   permitted_acts (sender.Sending n place) at = stays 0xa0 (sender.Sending n place) at
   permitted_acts (sender.EofSent n) at = stays 0xa0 (sender.EofSent n) at
   permitted_acts sender.Aborting at = stays 0xa0 sender.Aborting at
 
-  refused_acts : (x : Sender) → sender_on l k (outgoing c) ≡ x → Acted l (Control 0xb0 srcb) c (with_sender_outcome l k (after_refusal x c.spool) c)
+  refused_acts : (x : Sender) → sender_on l k (outgoing c) ≡ x
+      → Acted l (Control 0xb0 srcb) c (with_sender_outcome l k (after_refusal x c.spool) c)
   refused_acts sender.Idle at = stays 0xb0 sender.Idle at
   refused_acts (sender.Requested n) at =
       let sent = after_refusal (sender.Requested n) c.spool in
@@ -151,7 +157,8 @@ module _ (l k streams srcb : ℕ) (c : Customer) (names : stream_of streams srcb
       }
   refused_acts sender.Aborting at = stays 0xb0 sender.Aborting at
 
-  completed_acts : (x : Sender) → sender_on l k (outgoing c) ≡ x → Acted l (Control 0xc0 srcb) c (with_sender_outcome l k (after_completion x c.spool) c)
+  completed_acts : (x : Sender) → sender_on l k (outgoing c) ≡ x
+      → Acted l (Control 0xc0 srcb) c (with_sender_outcome l k (after_completion x c.spool) c)
   completed_acts sender.Idle at = stays 0xc0 sender.Idle at
   completed_acts (sender.Requested n) at = stays 0xc0 (sender.Requested n) at
   completed_acts (sender.Sending n place) at = stays 0xc0 (sender.Sending n place) at
@@ -159,7 +166,8 @@ module _ (l k streams srcb : ℕ) (c : Customer) (names : stream_of streams srcb
       let sent = after_completion (sender.EofSent n) c.spool in
       record {
         entry = refl;
-        moves = inr (moves.completed streams k n (record { srcb = srcb; is_control = refl; names = names }) at (sent_is l k sent.sender sent.spool c refl));
+        moves = inr (moves.completed streams k n (record { srcb = srcb; is_control = refl; names = names }) at
+            (sent_is l k sent.sender sent.spool c refl));
       }
   completed_acts sender.Aborting at = stays 0xc0 sender.Aborting at
 
@@ -167,8 +175,7 @@ module _ (l k streams srcb : ℕ) (c : Customer) (names : stream_of streams srcb
 
 module _ (l : ℕ) (i : Item) (c : Customer) (n : Nodal) where
   -- the replies move no stream
-  told :
-      (done : CommandOutcome) → streams_from_hub (with_outcome n done c).lines
+  told : (done : CommandOutcome) → streams_from_hub (with_outcome n done c).lines
       ≡ streams_from_hub (fold without_sending c.lines done.cancelled)
   told done =
       let lines = fold without_sending c.lines done.cancelled in
@@ -176,9 +183,9 @@ module _ (l : ℕ) (i : Item) (c : Customer) (n : Nodal) where
       (sender_of n) done.replies lines refl
 
   -- a command that cancels no file that is being sent
-  changes : (done : CommandOutcome) → done.cancelled ≡ [] → streams_from_hub (with_outcome n done c).lines ≡ streams_from_hub c.lines
-  changes done e =
-      told done ∙ ap (λ numbers. streams_from_hub (fold without_sending c.lines numbers)) e
+  changes : (done : CommandOutcome) → done.cancelled ≡ []
+      → streams_from_hub (with_outcome n done c).lines ≡ streams_from_hub c.lines
+  changes done e = told done ∙ ap (λ numbers. streams_from_hub (fold without_sending c.lines numbers)) e
 
   -- no stream moves, and the files are these
   left_so : (done : CommandOutcome) (files : List WholeFile) → done.files ≡ files → done.cancelled ≡ []
@@ -188,20 +195,30 @@ module _ (l : ℕ) (i : Item) (c : Customer) (n : Nodal) where
       ∙ ap (of_parts files c.spool.arrived) (changes done quiet)
 
   -- by what becomes of the files
-  moved_acts : (done : CommandOutcome) → ((x : Command) → command_of n.message ≡ Some x → Commands c.entry (sender_of n) x i)
+  moved_acts : (done : CommandOutcome) → ((x : Command) → command_of n.message ≡ Some x
+      → Commands c.entry (sender_of n) x i)
       → FilesMove c.entry (sender_of n) n.message c.spool.whole done → Acted l i c (with_outcome n done c)
   moved_acts done given (stay left quiet) = record { entry = refl; moves = inl (left_so done c.spool.whole left quiet) }
   moved_acts done given (held name says left quiet) =
       let files = map (changed_file (is_of_name (sender_of n) name) (file_in_state Held)) c.spool.whole in
-      record { entry = refl; moves = inr (moves.holds (sender_of n) name (given (commands.Hold name) says) (left_so done files left quiet)) }
+      record {
+        entry = refl;
+        moves = inr (moves.holds (sender_of n) name (given (commands.Hold name) says)
+            (left_so done files left quiet));
+      }
   moved_acts done given (released name says left quiet) =
       let files = map (changed_file (is_of_name (sender_of n) name) (file_in_state Ready)) c.spool.whole in
-      record { entry = refl; moves = inr (moves.releases (sender_of n) name (given (commands.Release name) says) (left_so done files left quiet)) }
+      record {
+        entry = refl;
+        moves = inr (moves.releases (sender_of n) name (given (commands.Release name) says)
+            (left_so done files left quiet));
+      }
   moved_acts done given (rerouted name node line says route left quiet) =
       let files = map (changed_file (is_of_name (sender_of n) name) (with_new_destination node)) c.spool.whole in
       record {
         entry = refl;
-        moves = inr (moves.reroutes (sender_of n) name node line (given (commands.Reroute name node) says) route (left_so done files left quiet));
+        moves = inr (moves.reroutes (sender_of n) name node line (given (commands.Reroute name node) says) route
+            (left_so done files left quiet));
       }
   moved_acts done given (cancelled name says left numbers) =
       let p = is_of_name (sender_of n) name in
@@ -216,10 +233,10 @@ module _ (l : ℕ) (i : Item) (c : Customer) (n : Nodal) where
       }
 
   command_acts :
-      CommandsMoveFilesSo → (srcb : ℕ) (bytes : List ℕ) → i ≡ Data 0x9a srcb bytes → nodal_of bytes ≡ Ok n → route_of c.entry n.to ≡ Here
+      CommandsMoveFilesSo → (srcb : ℕ) (bytes : List ℕ) → i ≡ Data 0x9a srcb bytes → nodal_of bytes ≡ Ok n
+      → route_of c.entry n.to ≡ Here
       → is_user_command n ≡ true → Acted l i c (after_user_command n c)
-  command_acts move srcb bytes is reads here user =
-      moved_acts (message_outcome c.entry (sender_of n) n.message c.spool)
+  command_acts move srcb bytes is reads here user = moved_acts (message_outcome c.entry (sender_of n) n.message c.spool)
       (λ x says. record {
         srcb = srcb;
         bytes = bytes;
@@ -230,8 +247,7 @@ module _ (l : ℕ) (i : Item) (c : Customer) (n : Nodal) where
         is_command = user;
         sender = refl;
         says = says;
-      })
-      (move c.entry (sender_of n) n.message c.spool)
+      }) (move c.entry (sender_of n) n.message c.spool)
 
 -- ---- every record
 
@@ -250,8 +266,7 @@ acts_so move l i c = at i (after_record l i c) (record_does l c i)
     at : (i : Item) (d : Customer) → RecordDoes l c i d → Acted l i c d
     at _ _ (does.nothing i) = unmoved l i c
     at _ _ (does.arrives i code k a brings named) = arrived_acts l k a i c brings
-    at _ _ (does.answers i a) =
-        lines_alone l i (with_answer_on l a c.lines) c
+    at _ _ (does.answers i a) = lines_alone l i (with_answer_on l a c.lines) c
         (answered_so l (λ lines. streams_from_hub lines ≡ streams_from_hub c.lines) same a c.lines refl)
     at _ _ (does.permits srcb k named) = permitted_acts l k streams srcb c named (x k) (stream_is l k c)
     at _ _ (does.refuses srcb k named) = refused_acts l k streams srcb c named (x k) (stream_is l k c)
@@ -260,7 +275,7 @@ acts_so move l i c = at i (after_record l i c) (record_does l c i)
         command_acts l (Data 0x9a srcb bytes) c n move srcb bytes refl reads here user
     at _ _ (does.knows_no_node i n) =
         lines_alone l i (with_message_to c.entry (sender_of n) (node_unknown n.to) c.lines) c
-        (told_so l (λ lines. streams_from_hub lines ≡ streams_from_hub c.lines) same c.entry (sender_of n) (node_unknown n.to)
+        (told_so l (λ lines. streams_from_hub lines ≡ streams_from_hub c.lines) same c.entry (sender_of n)
+        (node_unknown n.to)
         c.lines refl)
-    at _ _ (does.passes_on i k m) =
-        lines_alone l i (with_waiting k m c.lines) c (same.waits k m c.lines refl)
+    at _ _ (does.passes_on i k m) = lines_alone l i (with_waiting k m c.lines) c (same.waits k m c.lines refl)

@@ -25,7 +25,8 @@ FrontLeavesLess n (OfEnd end rest) = length rest < n
 FrontLeavesLess n Bad = Unit {0}
 FrontLeavesLess n Cut = Unit {0}
 
-either_front : (n : ℕ) (b : Bool) (x y : Front) → FrontLeavesLess n x → FrontLeavesLess n y → FrontLeavesLess n (if b then x else y)
+either_front : (n : ℕ) (b : Bool) (x y : Front) → FrontLeavesLess n x → FrontLeavesLess n y
+    → FrontLeavesLess n (if b then x else y)
 either_front n true x y first second = first
 either_front n false x y first second = second
 
@@ -48,8 +49,7 @@ front_leaves (scb ∷ rest) =
     let item = if nat_lt scb 0x80 then Bad else counted in
     let aborted = if scb == 0x40 then OfEnd Abort rest else item in
     either_front n (scb == 0x00) (OfEnd Record rest) aborted less
-    (either_front n (scb == 0x40) (OfEnd Abort rest) item less
-    (either_front n (nat_lt scb 0x80) Bad counted tt
+    (either_front n (scb == 0x40) (OfEnd Abort rest) item less (either_front n (nat_lt scb 0x80) Bad counted tt
     (either_front n (nat_lt scb 0xA0) (OfItem (blanks (scb - 0x80)) rest) spelled less
     (either_front n (nat_lt scb 0xC0) (repeat_front (scb - 0xA0) rest) (literal_front (scb - 0xC0) rest)
     (repeat_leaves n (scb - 0xA0) rest less) (literal_leaves n (scb - 0xC0) rest less)))))
@@ -58,7 +58,8 @@ abbrev LeavesLess : ℕ → Result Unspelled Fault → Type 0
 LeavesLess n (Ok r) = length r.rest < n
 LeavesLess n (Err e) = Unit {0}
 
-behind_leaves : (front : List ℕ) (m n : ℕ) (r : Result Unspelled Fault) → m < n → LeavesLess m r → LeavesLess n (with_front front r)
+behind_leaves : (front : List ℕ) (m n : ℕ) (r : Result Unspelled Fault) → m < n → LeavesLess m r
+    → LeavesLess n (with_front front r)
 behind_leaves front m n (Ok r) less leaves = omega (arith, less, leaves)
 behind_leaves front m n (Err e) less leaves = tt
 
@@ -67,7 +68,8 @@ within_leaves zero bytes = tt
 within_leaves (suc k) bytes = at_front (front_of bytes) (front_leaves bytes) (λ rest. within_leaves k rest)
   where
     at_front :
-        (front : Front) → FrontLeavesLess (length bytes) front → ((rest : List ℕ) → LeavesLess (length rest) (unspelled_within k rest))
+        (front : Front) → FrontLeavesLess (length bytes) front
+        → ((rest : List ℕ) → LeavesLess (length rest) (unspelled_within k rest))
         → LeavesLess (length bytes) (elim front [
           | OfItem item rest ↦ with_front (added_bytes item) (unspelled_within k rest)
           | OfEnd end rest ↦ Ok (record { contents = []; end = end; rest = rest })
@@ -94,13 +96,17 @@ one_item rcb srcb r = at_end r.end
     at_length true = omega arith
     at_length false = omega arith
 
-    at_end :
-        (e : End)
-        → data_in (elim e [ Record ↦ cond (nat_le (length r.contents) 256) (Data rcb srcb r.contents) (Long rcb srcb) | Abort ↦ Aborted rcb srcb ]) ≤ 1
+    at_end : (e : End)
+        → data_in (elim e [
+          | Record ↦ cond (nat_le (length r.contents) 256) (Data rcb srcb r.contents)
+              (Long rcb srcb)
+          | Abort ↦ Aborted rcb srcb
+        ]) ≤ 1
     at_end Record = at_length (nat_le (length r.contents) 256)
     at_end Abort = omega arith
 
-spelled_takes : (rcb srcb n : ℕ) (r : Result Unspelled Fault) → LeavesLess n r → TakesEnough (suc (suc n)) (record_of_spelling rcb srcb r)
+spelled_takes : (rcb srcb n : ℕ) (r : Result Unspelled Fault) → LeavesLess n r
+    → TakesEnough (suc (suc n)) (record_of_spelling rcb srcb r)
 spelled_takes rcb srcb n (Ok r) less = omega (arith, less, one_item rcb srcb r)
 spelled_takes rcb srcb n (Err e) less = tt
 
@@ -113,12 +119,14 @@ control_leaves (b ∷ c ∷ rest) = at_zero (b == 0)
     at_zero true = omega arith
     at_zero false = omega arith
 
-form_takes : (f : Form) (rcb srcb : ℕ) (rest : List ℕ) → TakesEnough (suc (suc (length rest))) (record_of_form f rcb srcb rest)
+form_takes : (f : Form) (rcb srcb : ℕ) (rest : List ℕ) → TakesEnough (suc (suc (length rest)))
+    (record_of_form f rcb srcb rest)
 form_takes form.End rcb srcb rest = tt
 form_takes form.Bad rcb srcb rest = tt
 form_takes form.General rcb srcb rest = omega arith
 form_takes (form.Control c) rcb srcb rest = omega (arith, control_leaves rest)
-form_takes form.Spelled rcb srcb rest = spelled_takes rcb srcb (length rest) (record_at_front rest) (within_leaves (length rest) rest)
+form_takes form.Spelled rcb srcb rest = spelled_takes rcb srcb (length rest) (record_at_front rest)
+    (within_leaves (length rest) rest)
 
 one_byte_takes : (f : Form) → TakesEnough 1 (record_of_one_byte f)
 one_byte_takes form.End = tt
@@ -138,7 +146,8 @@ abbrev AreFew : ℕ → Result (List Item) BlockFault → Type 0
 AreFew n (Ok items) = 3 * data_count items ≤ n
 AreFew n (Err e) = Unit {0}
 
-one_more_few : (i : Item) (m n : ℕ) (r : Result (List Item) BlockFault) → 3 * data_in i + m ≤ n → AreFew m r → AreFew n (with_item i r)
+one_more_few : (i : Item) (m n : ℕ) (r : Result (List Item) BlockFault) → 3 * data_in i + m ≤ n → AreFew m r
+    → AreFew n (with_item i r)
 one_more_few i m n (Ok items) less few = omega (arith, less, few)
 one_more_few i m n (Err e) less few = tt
 
@@ -147,7 +156,8 @@ items_few zero bytes = omega arith
 items_few (suc k) bytes = at_first (first_record bytes) (first_takes bytes) (λ rest. items_few k rest)
   where
     at_first :
-        (r : Result (Option First) BlockFault) → TakesEnough (length bytes) r → ((rest : List ℕ) → AreFew (length rest) (read_items k rest))
+        (r : Result (Option First) BlockFault) → TakesEnough (length bytes) r
+        → ((rest : List ℕ) → AreFew (length rest) (read_items k rest))
         → AreFew (length bytes) (elim r [
           | Ok first ↦ elim first [ None ↦ Ok [] | Some x ↦ with_item x.item (read_items k x.rest) ]
           | Err e ↦ Err e
@@ -161,11 +171,13 @@ abbrev pub BlockIsFew : ℕ → Result Block BlockFault → Type 0
 BlockIsFew n (Ok b) = 3 * data_count b.items ≤ n
 BlockIsFew n (Err e) = Unit {0}
 
-with_few : (bcb : ℕ) (fcs : ℕ × ℕ) (m n : ℕ) (r : Result (List Item) BlockFault) → m ≤ n → AreFew m r → BlockIsFew n (block_with bcb fcs r)
+with_few : (bcb : ℕ) (fcs : ℕ × ℕ) (m n : ℕ) (r : Result (List Item) BlockFault) → m ≤ n → AreFew m r
+    → BlockIsFew n (block_with bcb fcs r)
 with_few bcb fcs m n (Ok items) less few = omega (arith, less, few)
 with_few bcb fcs m n (Err e) less few = tt
 
-either_block : (n : ℕ) (b : Bool) (x y : Result Block BlockFault) → BlockIsFew n x → BlockIsFew n y → BlockIsFew n (cond b x y)
+either_block : (n : ℕ) (b : Bool) (x y : Result Block BlockFault) → BlockIsFew n x → BlockIsFew n y
+    → BlockIsFew n (cond b x y)
 either_block n true x y first second = first
 either_block n false x y first second = second
 
@@ -178,5 +190,4 @@ block_few (b ∷ f ∷ g ∷ rest) =
     let found = block_with b (f, g) (items_in rest) in
     either_block n (is_bcb b) (cond (is_fcs (f, g)) found (Err BadFcs)) (Err BadBcb)
     (either_block n (is_fcs (f, g)) found (Err BadFcs)
-    (with_few b (f, g) (length rest) n (items_in rest) (omega arith) (items_few (length rest) rest)) tt)
-    tt
+    (with_few b (f, g) (length rest) n (items_in rest) (omega arith) (items_few (length rest) rest)) tt) tt

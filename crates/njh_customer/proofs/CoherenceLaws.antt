@@ -36,13 +36,15 @@ use Rattle.njh_customer.proofs.SpoolWalks.{received_so}
 -- what the streams of a customer owe to each other, as the crate of streams says it
 abbrev pub ArrivalsTie : Type 0
 ArrivalsTie =
-    (entry : CustomerEntry) (l k : ℕ) (a : Arrival) (lines : List (List Receiver)) (s : CustomerSpool) → l < length lines
+    (entry : CustomerEntry) (l k : ℕ) (a : Arrival) (lines : List (List Receiver)) (s : CustomerSpool)
+    → l < length lines
     → k < length (streams_at l lines) → AreTied lines s
     → AreTied (with_stream l k (received_arrival entry l (kind_of k) (stream_at l k lines) a s).receiver lines)
     (received_arrival entry l (kind_of k) (stream_at l k lines) a s).spool
 
 abbrev pub NothingUnties : Type 0
-NothingUnties = (lines : List (List Receiver)) (s t : CustomerSpool) → t.partial ≡ s.partial → AreTied lines s → AreTied lines t
+NothingUnties = (lines : List (List Receiver)) (s t : CustomerSpool) → t.partial ≡ s.partial → AreTied lines s
+    → AreTied lines t
 
 abbrev pub ArrivalsKeepHeaders : Type 0
 ArrivalsKeepHeaders =
@@ -56,8 +58,7 @@ pub record RecordsKeep : Type 0 where
   pub commands : CommandsKeepHeaders
 
 abbrev pub EndsTie : Type 0
-EndsTie =
-    (l : ℕ) (lines : List (List Receiver)) (s : CustomerSpool) → l < length lines → AreTied lines s
+EndsTie = (l : ℕ) (lines : List (List Receiver)) (s : CustomerSpool) → l < length lines → AreTied lines s
     → AreTied (without_streams l lines) (without_all_open (streams_at l lines) s)
 
 -- the streams are the same, and the files changed harmlessly
@@ -79,19 +80,21 @@ coherent_still d c untied like coherent = record {
 
 -- ---- the stream at a place
 
-pub stream_is : (l k : ℕ) (lines : List CustomerLine) → stream_at l k (streams_to_hub lines) ≡ receiver_at k (line_at l lines)
+pub stream_is : (l k : ℕ) (lines : List CustomerLine) → stream_at l k (streams_to_hub lines) ≡ receiver_at k
+    (line_at l lines)
 stream_is l k lines = ap (λ rs. get_or rs k Idle) (get_or-map (λ x. x.receivers) lines l no_customer_line)
 
-pub agrees_there : (l k : ℕ) (c : Customer) → IsCoherent c → Agrees (kind_of k) (receiver_at k (line_at l c.lines)) c.spool
-agrees_there l k c coherent = subst (λ r. Agrees (kind_of k) r c.spool) (stream_is l k c.lines) (coherent.tied.agree l k)
+pub agrees_there : (l k : ℕ) (c : Customer) → IsCoherent c
+    → Agrees (kind_of k) (receiver_at k (line_at l c.lines)) c.spool
+agrees_there l k c coherent = subst (λ r. Agrees (kind_of k) r c.spool) (stream_is l k c.lines)
+    (coherent.tied.agree l k)
 
 -- ---- an arrival
 
 finished_limits : (n : ℕ) (s : CustomerSpool) → limits_of (with_finished n s) ≡ limits_of s
 finished_limits n s = at_file (partial_numbered n s)
   where
-    at_file :
-        (o : Option PartialFile)
+    at_file : (o : Option PartialFile)
         → limits_of (elim o [ None ↦ s | Some f ↦ with_arrived (as_whole f) (without_partial n s) ]) ≡ limits_of s
     at_file None = refl
     at_file (Some f) = refl
@@ -104,44 +107,43 @@ brought Long = (block.Long 0 0, too_long 0 0)
 brought Abort = (Aborted 0 0, an_abort 0 0)
 
 -- it leaves the quota and the limit of files
-received_limits :
-    (entry : CustomerEntry) (l : ℕ) (kind : Kind) (r : Receiver) (a : Arrival) (s : CustomerSpool)
+received_limits : (entry : CustomerEntry) (l : ℕ) (kind : Kind) (r : Receiver) (a : Arrival) (s : CustomerSpool)
     → limits_of (received_arrival entry l kind r a s).spool ≡ limits_of s
 received_limits entry l kind r a s =
     let item = brought a in
-    received_so (λ t. limits_of t ≡ limits_of s) (λ i t. limits_of t ≡ limits_of s)
-    (record {
+    received_so (λ t. limits_of t ≡ limits_of s) (λ i t. limits_of t ≡ limits_of s) (record {
       still = λ i t same. same;
       without = λ n t same. same;
       begun = λ rcb srcb k t room same. same;
       appended = λ rcb more n t room same. same;
       finished = λ rcb srcb n t whole same. finished_limits n t ∙ same;
-    })
-    entry l kind r a item.0 s item.1 refl
+    }) entry l kind r a item.0 s item.1 refl
 
-with_streams : (l k : ℕ) (r : Receiver) (lines : List CustomerLine) → streams_to_hub (on_line l (with_receiver k r) lines) ≡ with_stream l k r (streams_to_hub lines)
-with_streams l k r lines =
-    map-set (λ x. x.receivers) lines l (with_receiver k r (line_at l lines))
-    ∙ ap (λ rs. set (streams_to_hub lines) l (set rs k r)) (sym (get_or-map (λ x. x.receivers) lines l no_customer_line))
+with_streams : (l k : ℕ) (r : Receiver) (lines : List CustomerLine)
+    → streams_to_hub (on_line l (with_receiver k r) lines) ≡ with_stream l k r (streams_to_hub lines)
+with_streams l k r lines = map-set (λ x. x.receivers) lines l (with_receiver k r (line_at l lines))
+    ∙ ap (λ rs. set (streams_to_hub lines) l (set rs k r))
+    (sym (get_or-map (λ x. x.receivers) lines l no_customer_line))
 
 -- the stream has moved, and nothing was said of it yet
 abbrev moved : ℕ → ℕ → Received → Customer → Customer
 moved l k done c = record c { spool = done.spool; lines = on_line l (with_receiver k done.receiver) c.lines }
 
-keeps_moved :
-    (l k : ℕ) (a : Arrival) (c : Customer) → RecordsKeep → l < length c.lines → k < 8 → IsCoherent c
+keeps_moved : (l k : ℕ) (a : Arrival) (c : Customer) → RecordsKeep → l < length c.lines → k < 8 → IsCoherent c
     → IsCoherent (moved l k (received_arrival c.entry l (kind_of k) (receiver_at k (line_at l c.lines)) a c.spool) c)
 keeps_moved l k a c records line_there stream_there coherent =
     let lines = streams_to_hub c.lines in
     let r = receiver_at k (line_at l c.lines) in
     let done = received_arrival c.entry l (kind_of k) r a c.spool in
     let eight = coherent.streamed l no_customer_line line_there in
-    let at : streams_at l lines ≡ (line_at l c.lines).receivers = get_or-map (λ x. x.receivers) c.lines l no_customer_line in
+    let at : streams_at l lines ≡ (line_at l c.lines).receivers = get_or-map
+    (λ x. x.receivers) c.lines l no_customer_line in
     let there : l < length lines = omega (arith, line_there, length-map c.lines (λ x. x.receivers)) in
     let in_line : k < length (streams_at l lines) = omega (arith, stream_there, eight.0, ap length at) in
     let tied = records.tied c.entry l k a lines c.spool there in_line coherent.tied in
     let now : AreTied (with_stream l k done.receiver lines) done.spool =
-    subst (λ x. let d = received_arrival c.entry l (kind_of k) x a c.spool in AreTied (with_stream l k d.receiver lines) d.spool)
+    subst (λ x. let d = received_arrival c.entry l (kind_of k) x a c.spool in
+    AreTied (with_stream l k d.receiver lines) d.spool)
     (stream_is l k c.lines) tied in
     record {
       tied = subst (λ rs. AreTied rs done.spool) (sym (with_streams l k done.receiver c.lines)) now;
@@ -162,13 +164,10 @@ keeps_arrived l k a c records untied line_there stream_there coherent =
     let answer = option_map (answer_on k) done.answer in
     let told = with_notice_to c.entry done.notice (with_answer_on l answer lines) in
     let waiting = shape_waiting l lines in
-    coherent_still (after_arrival l k done c) (moved l k done c) untied
-    (record {
+    coherent_still (after_arrival l k done c) (moved l k done c) untied (record {
       entry = refl;
-      lines =
-          on_line_seen shape l (with_notice k done.receiver done.notice) told (λ x. refl)
+      lines = on_line_seen shape l (with_notice k done.receiver done.notice) told (λ x. refl)
           ∙ notified_so l (IsSeen shape lines) waiting c.entry done.notice (with_answer_on l answer lines)
           (answered_so l (IsSeen shape lines) waiting answer lines refl);
       files = restated_harmless done.spool done.spool (as_it_is done.spool);
-    })
-    (keeps_moved l k a c records line_there stream_there coherent)
+    }) (keeps_moved l k a c records line_there stream_there coherent)

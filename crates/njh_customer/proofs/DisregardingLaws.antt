@@ -24,7 +24,11 @@ use Rattle.njh_customer.specs.Disregarding.{BadBlocksAreDisregarded, GarbledIsDi
 
 -- by what the line table says, where the line goes up or doesn't
 abbrev by_mark : Bool → ℕ → Session → Verdict → Customer → CustomerStep
-by_mark up l s v c = carried_out l v (record c { entry = with_raised_line up l c.entry; lines = on_line l (in_state (with_session s)) c.lines })
+by_mark up l s v c = carried_out l v (record c {
+  entry = with_raised_line up l c.entry;
+  lines = on_line l
+      (in_state (with_session s)) c.lines;
+})
 
 abbrev by_parts : ℕ → Session → Verdict → Customer → CustomerStep
 by_parts l s v c = by_mark (goes_up (session_on l c).phase s.phase) l s v c
@@ -37,7 +41,8 @@ same_phase Answered = refl
 same_phase SentI = refl
 same_phase Up = refl
 
-unraised : (l : ℕ) (s : Session) (v : Verdict) (c : Customer) → s.phase ≡ (session_on l c).phase → by_parts l s v c ≡ by_mark false l s v c
+unraised : (l : ℕ) (s : Session) (v : Verdict) (c : Customer) → s.phase ≡ (session_on l c).phase
+    → by_parts l s v c ≡ by_mark false l s v c
 unraised l s v c same =
     let p = (session_on l c).phase in
     ap (λ up. by_mark up l s v c) (ap (goes_up p) same ∙ same_phase p)
@@ -69,101 +74,105 @@ module _ (l : ℕ) (c : Customer) where
   again xs = set-get_or xs l no_customer_line
 
   nothing : by_parts l (none (session_on l c)).session (none (session_on l c)).verdict c ≡ silent c
-  nothing =
-      unraised l (none (session_on l c)).session (none (session_on l c)).verdict c refl
+  nothing = unraised l (none (session_on l c)).session (none (session_on l c)).verdict c refl
       ∙ ap (λ lines. silent (lines_as c lines)) (again (set c.lines l (line_at l c.lines)) ∙ same_lines)
 
   ends : by_parts l (end (session_on l c)).session (end (session_on l c)).verdict c ≡ silent (session_ended l c)
-  ends =
-      ap (λ lines. silent (session_over l (lines_as c lines)))
+  ends = ap (λ lines. silent (session_over l (lines_as c lines)))
       (again (on_line l (in_state (with_session (end (session_on l c)).session)) c.lines))
 
   try_is : (b : Bool) → ((session_on l c).tries == 5) ≡ b
-      → try_nak (session_on l c) ≡ cond b (end (session_on l c)) (with_reply (reply.Control control.Nak) (record (session_on l c) { tries = (session_on l c).tries + 1 }))
+      → try_nak (session_on l c) ≡ cond b (end (session_on l c))
+      (with_reply (reply.Control control.Nak) (record (session_on l c) { tries = (session_on l c).tries + 1 }))
   try_is b e =
-      ap (λ t. cond t (end (session_on l c)) (with_reply (reply.Control control.Nak) (record (session_on l c) { tries = (session_on l c).tries + 1 }))) e
+      ap (λ t. cond t (end (session_on l c)) (with_reply (reply.Control control.Nak)
+      (record (session_on l c) { tries = (session_on l c).tries + 1 }))) e
 
   -- NAK goes out
-  one_try :
-      (s : Session) → s.phase ≡ (session_on l c).phase → l < length c.lines
+  one_try : (s : Session) → s.phase ≡ (session_on l c).phase → l < length c.lines
       → IsButSession l c (by_parts l s (with_reply (reply.Control control.Nak) s).verdict c).after
   one_try s same there =
-      subst (λ t. IsButSession l c t.after) (sym (unraised l s (with_reply (reply.Control control.Nak) s).verdict c same))
+      subst (λ t. IsButSession l c t.after) (sym (unraised l s
+      (with_reply (reply.Control control.Nak) s).verdict c same))
       (record {
         session = without_turn s;
         after = ap (lines_as c)
-            (ap (λ x. set (on_line l (in_state (with_session s)) c.lines) l (in_state (with_session (without_turn x.state.session)) x))
+            (ap (λ x. set (on_line l (in_state (with_session s)) c.lines) l
+            (in_state (with_session (without_turn x.state.session)) x))
             (get_or-set_same c.lines l (in_state (with_session s) (line_at l c.lines)) no_customer_line there)
-            ∙ set-set c.lines l (in_state (with_session s) (line_at l c.lines)) (in_state (with_session (without_turn s)) (line_at l c.lines)));
+            ∙ set-set c.lines l (in_state (with_session s) (line_at l c.lines))
+            (in_state (with_session (without_turn s)) (line_at l c.lines)));
       })
 
   unchanged : IsButSession l c c
   unchanged = record { session = session_on l c; after = ap (lines_as c) (sym same_lines) }
 
   where_down : (s : CustomerStep) → in_session (session_on l c).phase ≡ false → s ≡ silent c → IsDisregarded l c s
-  where_down s e same =
-      record {
-        down = λ _. same;
-        goes_on = λ _. subst (λ t. IsButSession l c t.after) (sym same) unchanged;
-        over = λ there up tries. absurd (cc (sym up ∙ e));
-      }
+  where_down s e same = record {
+    down = λ _. same;
+    goes_on = λ _. subst (λ t. IsButSession l c t.after) (sym same) unchanged;
+    over = λ there up tries. absurd (cc (sym up ∙ e));
+  }
 
-  tried_or_over : (b : Bool) → ((session_on l c).tries == 5) ≡ b → l < length c.lines → in_session (session_on l c).phase ≡ true
-      → (s : CustomerStep) → s ≡ by_parts l (try_nak (session_on l c)).session (try_nak (session_on l c)).verdict c → IsDisregarded l c s
-  tried_or_over true e there up s is =
-      record {
-        down = λ down. absurd (cc (sym up ∙ down));
-        goes_on = λ few. absurd (few (eqb-true (session_on l c).tries 5 e));
-        over = λ _ _ _. is ∙ ap (λ o. by_parts l o.session o.verdict c) (try_is true e) ∙ ends;
-      }
+  tried_or_over : (b : Bool) → ((session_on l c).tries == 5) ≡ b → l < length c.lines
+      → in_session (session_on l c).phase ≡ true
+      → (s : CustomerStep) → s ≡ by_parts l (try_nak (session_on l c)).session (try_nak (session_on l c)).verdict c
+      → IsDisregarded l c s
+  tried_or_over true e there up s is = record {
+    down = λ down. absurd (cc (sym up ∙ down));
+    goes_on = λ few. absurd (few (eqb-true (session_on l c).tries 5 e));
+    over = λ _ _ _. is ∙ ap (λ o. by_parts l o.session o.verdict c) (try_is true e) ∙ ends;
+  }
   tried_or_over false e there up s is =
       let tried : Session = record (session_on l c) { tries = (session_on l c).tries + 1 } in
       record {
         down = λ down. absurd (cc (sym up ∙ down));
-        goes_on = λ few. subst (λ t. IsButSession l c t.after) (sym (is ∙ ap (λ o. by_parts l o.session o.verdict c) (try_is false e))) (one_try tried refl there);
+        goes_on = λ few. subst (λ t. IsButSession l c t.after)
+            (sym (is ∙ ap (λ o. by_parts l o.session o.verdict c) (try_is false e))) (one_try tried refl there);
         over = λ _ _ tries. absurd (eqb-false (session_on l c).tries 5 e tries);
       }
 
   by_phase : (p : Phase) → (session_on l c).phase ≡ p → l < length c.lines → (s : CustomerStep)
-      → (let o = cell p (none (session_on l c)) (none (session_on l c)) (try_nak (session_on l c)) (try_nak (session_on l c)) (try_nak (session_on l c)) in
-      s ≡ by_parts l o.session o.verdict c)
-      → IsDisregarded l c s
+      → (let o = cell p (none (session_on l c)) (none (session_on l c)) (try_nak (session_on l c))
+      (try_nak (session_on l c)) (try_nak (session_on l c)) in
+      s ≡ by_parts l o.session o.verdict c) → IsDisregarded l c s
   by_phase Down e there s is = where_down s (ap in_session e) (is ∙ nothing)
   by_phase Calling e there s is = where_down s (ap in_session e) (is ∙ nothing)
   by_phase Answered e there s is = tried_or_over ((session_on l c).tries == 5) refl there (ap in_session e) s is
   by_phase SentI e there s is = tried_or_over ((session_on l c).tries == 5) refl there (ap in_session e) s is
   by_phase Up e there s is = tried_or_over ((session_on l c).tries == 5) refl there (ap in_session e) s is
 
-  input_disregarded : (came : Input) → is_disregarded came ≡ true → l < length c.lines → IsDisregarded l c (after_line_input l came c)
-  input_disregarded came e there =
-      by_phase (session_on l c).phase refl there (after_line_input l came c)
+  input_disregarded : (came : Input) → is_disregarded came ≡ true → l < length c.lines
+      → IsDisregarded l c (after_line_input l came c)
+  input_disregarded came e there = by_phase (session_on l c).phase refl there (after_line_input l came c)
       (ap (λ o. by_parts l o.session o.verdict c) (table_is (line_at l c.lines).state.config came (session_on l c) e))
 
   -- a line that isn't there
   not_there : nat_lt l (length c.lines) ≡ false → IsDisregarded l c (silent c)
-  not_there e =
-      record {
-        down = λ _. refl;
-        goes_on = λ _. unchanged;
-        over = λ there up tries. absurd (omega (arith, ltb-false l (length c.lines) e, there));
-      }
+  not_there e = record {
+    down = λ _. refl;
+    goes_on = λ _. unchanged;
+    over = λ there up tries. absurd (omega (arith, ltb-false l (length c.lines) e, there));
+  }
 
-  where_it_is : (s : CustomerStep) (b : Bool) → nat_lt l (length c.lines) ≡ b → (l < length c.lines → IsDisregarded l c s) → IsDisregarded l c (cond b s (silent c))
+  where_it_is : (s : CustomerStep) (b : Bool) → nat_lt l (length c.lines) ≡ b
+      → (l < length c.lines → IsDisregarded l c s) → IsDisregarded l c (cond b s (silent c))
   where_it_is s true e there = there (ltb-true l (length c.lines) e)
   where_it_is s false e there = not_there e
 
 pub spoiled : SpoiledIsDisregarded
 unfolding after_frame
 spoiled l c =
-    where_it_is l c (after_line_input l input.Spoiled c) (nat_lt l (length c.lines)) refl (input_disregarded l c input.Spoiled refl)
+    where_it_is l c (after_line_input l input.Spoiled c) (nat_lt l (length c.lines)) refl
+    (input_disregarded l c input.Spoiled refl)
 
 pub bad_blocks : BadBlocksAreDisregarded
 unfolding after_frame
-bad_blocks l text fault c e =
-    where_it_is l c (text_read l (read_block text) c) (nat_lt l (length c.lines)) refl
+bad_blocks l text fault c e = where_it_is l c (text_read l (read_block text) c) (nat_lt l (length c.lines)) refl
     (λ there. subst (λ b. IsDisregarded l c (text_read l b c)) (sym e) (input_disregarded l c input.Bad refl there))
 
 pub garbled : GarbledIsDisregarded
 unfolding after_signal
 garbled l c =
-    where_it_is l c (after_line_input l input.Garbled c) (nat_lt l (length c.lines)) refl (input_disregarded l c input.Garbled refl)
+    where_it_is l c (after_line_input l input.Garbled c) (nat_lt l (length c.lines)) refl
+    (input_disregarded l c input.Garbled refl)

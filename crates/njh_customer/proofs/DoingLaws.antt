@@ -49,9 +49,11 @@ use Rattle.njh_customer.proofs.StepWalks.{frame_holds, signal_holds}
 -- what a block carries of each stream's file
 abbrev pub BlocksCarry : Type 0
 BlocksCarry =
-    (entry : CustomerEntry) (l k : ℕ) (base : List (List Sender)) (x : Filling) → l < length base → k < 8 → k < length x.outlet.senders
+    (entry : CustomerEntry) (l k : ℕ) (base : List (List Sender)) (x : Filling) → l < length base → k < 8
+    → k < length x.outlet.senders
     → x.block.items ≡ []
-    → Carries l k (filled_block (goes_by entry l) x).block.items (out_of l base x) (out_of l base (filled_block (goes_by entry l) x))
+    → Carries l k (filled_block (goes_by entry l) x).block.items (out_of l base x)
+    (out_of l base (filled_block (goes_by entry l) x))
 
 control_is : (line x : LineState) (which : Control) → IsNoNewBlock line (sending_of_control which x).frame
 control_is line x Enquiry = control Enquiry refl
@@ -64,19 +66,24 @@ in_its_place line x true = control Ack0 refl
 in_its_place line x false = nothing_sent refl
 
 -- by how a line is set up, and its last transmission
-as_set_up : (x y : LineState) (sent : List ℕ) → x.config ≡ y.config → x.last ≡ y.last → IsNoNewBlock x sent → IsNoNewBlock y sent
+as_set_up : (x y : LineState) (sent : List ℕ) → x.config ≡ y.config → x.last ≡ y.last → IsNoNewBlock x sent
+    → IsNoNewBlock y sent
 as_set_up x y sent config last (nothing_sent e) = nothing_sent e
 as_set_up x y sent config last (control which e) = control which e
 as_set_up x y sent config last (again e) = again (e ∙ last)
-as_set_up x y sent config last (sign_on kind e) = sign_on kind (e ∙ ap (λ config. text_bytes (opening kind config)) config)
+as_set_up x y sent config last (sign_on kind e) = sign_on kind
+    (e ∙ ap (λ config. text_bytes (opening kind config)) config)
 as_set_up x y sent config last (count bcb fcs expected e) = count bcb fcs expected e
 as_set_up x y sent config last (without_records bcb fcs e) = without_records bcb fcs e
 
 goes_out_as :
-    (entry : CustomerEntry) (l : ℕ) (x y : LineState) (u v : Outgoing) (sent : List ℕ) → x.config ≡ y.config → x.last ≡ y.last
+    (entry : CustomerEntry) (l : ℕ) (x y : LineState) (u v : Outgoing) (sent : List ℕ) → x.config ≡ y.config
+    → x.last ≡ y.last
     → GoesOut entry l x u v sent → GoesOut entry l y u v sent
-goes_out_as entry l x y u v sent config last (no_block same no_new) = no_block same (as_set_up x y sent config last no_new)
-goes_out_as entry l x y u v sent config last (new_block bcb fcs items e leads carries) = new_block bcb fcs items e leads carries
+goes_out_as entry l x y u v sent config last (no_block same no_new) = no_block same
+    (as_set_up x y sent config last no_new)
+goes_out_as entry l x y u v sent config last (new_block bcb fcs items e leads carries) = new_block bcb fcs items e leads
+    carries
 
 -- how a line is set up, and its last transmission
 abbrev set_up : CustomerLine → Config × List ℕ
@@ -96,7 +103,8 @@ module _ (carry : BlocksCarry) (commands : CommandsMoveFilesSo) where
       → GoesOut c.entry l (line_at l c.lines).state (outgoing c) (outgoing (replied_to l (reply.Next or_ack0) c).after)
       (replied_to l (reply.Next or_ack0) c).frame
   next_goes_out l or_ack0 c there =
-      subst (λ y. GoesOut c.entry l line (outgoing c) y (replied_to l (reply.Next or_ack0) c).frame) (sym (next_is l or_ack0 c))
+      subst (λ y. GoesOut c.entry l line (outgoing c) y (replied_to l (reply.Next or_ack0) c).frame)
+      (sym (next_is l or_ack0 c))
       (written_so (λ sent. GoesOut c.entry l line (outgoing c) (out_of l base full) sent.frame) or_ack0 full.block x
       (λ none. no_block (filled_with_none c.entry l base inside first none ∙ begins)
       (empty_so (λ sent. IsNoNewBlock line sent.frame) or_ack0 full.block x (in_its_place line x or_ack0)
@@ -128,15 +136,18 @@ module _ (carry : BlocksCarry) (commands : CommandsMoveFilesSo) where
       leads : LeadsByMoves (Sends c.entry l) (outgoing c) (out_of l base full)
       leads = next_leads l c there
 
-      carries : (k : ℕ) → k < 8 → k < length (streams_of l (outgoing c)) → Carries l k full.block.items (outgoing c) (out_of l base full)
+      carries : (k : ℕ) → k < 8 → k < length (streams_of l (outgoing c))
+          → Carries l k full.block.items (outgoing c) (out_of l base full)
       carries k few in_line =
-          let here : streams_of l (outgoing c) ≡ (line_at l c.lines).senders = get_or-map (λ y. y.senders) c.lines l no_customer_line in
+          let here : streams_of l (outgoing c) ≡ (line_at l c.lines).senders = get_or-map
+          (λ y. y.senders) c.lines l no_customer_line in
           let in_outlet : k < length first.outlet.senders = omega (arith, in_line, ap length here) in
-          subst (λ x. Carries l k full.block.items x (out_of l base full)) begins (carry c.entry l k base first inside few in_outlet refl)
+          subst (λ x. Carries l k full.block.items x (out_of l base full)) begins
+          (carry c.entry l k base first inside few in_outlet refl)
 
-  reply_goes_out :
-      (l : ℕ) (r : LineReply) (c : Customer) → l < length c.lines
-      → GoesOut c.entry l (line_at l c.lines).state (outgoing c) (outgoing (replied_to l r c).after) (replied_to l r c).frame
+  reply_goes_out : (l : ℕ) (r : LineReply) (c : Customer) → l < length c.lines
+      → GoesOut c.entry l (line_at l c.lines).state (outgoing c) (outgoing (replied_to l r c).after)
+      (replied_to l r c).frame
   reply_goes_out l r c there = at r
     where
       line : LineState
@@ -147,13 +158,15 @@ module _ (carry : BlocksCarry) (commands : CommandsMoveFilesSo) where
           → GoesOut c.entry l line (outgoing c) (outgoing (replied_to l r c).after) (replied_to l r c).frame
       still r quiet no_new = no_block (reply_unmoved l r c quiet) no_new
 
-      at : (r : LineReply) → GoesOut c.entry l line (outgoing c) (outgoing (replied_to l r c).after) (replied_to l r c).frame
+      at : (r : LineReply) → GoesOut c.entry l line (outgoing c) (outgoing (replied_to l r c).after)
+          (replied_to l r c).frame
       at reply.Nothing = still reply.Nothing refl (nothing_sent refl)
       at (reply.Control which) = still (reply.Control which) refl (control_is line line which)
       at reply.Again = still reply.Again refl (again refl)
       at (reply.SignOn kind) = still (reply.SignOn kind) refl (sign_on kind refl)
       at (reply.Sequence expected) =
-          still (reply.Sequence expected) refl (count (own_block (own_fcs c.spool) line).bcb (own_fcs c.spool) expected refl)
+          still (reply.Sequence expected) refl (count (own_block (own_fcs c.spool) line).bcb
+          (own_fcs c.spool) expected refl)
       at (reply.Next or_ack0) = next_goes_out l or_ack0 c there
 
   -- ---- a step, behind its records
@@ -167,12 +180,15 @@ module _ (carry : BlocksCarry) (commands : CommandsMoveFilesSo) where
   over_lines l true d = length-set d.lines l (with_idle_streams (line_at l d.lines))
   over_lines l false d = refl
 
-  kept_at : (l : ℕ) (c d : Customer) → kepts d.lines ≡ kepts c.lines → kept (line_at l d.lines) ≡ kept (line_at l c.lines)
+  kept_at : (l : ℕ) (c d : Customer) → kepts d.lines ≡ kepts c.lines
+      → kept (line_at l d.lines) ≡ kept (line_at l c.lines)
   kept_at l c d e =
-      sym (get_or-map kept d.lines l no_customer_line) ∙ ap (λ ps. get_or ps l (kept no_customer_line)) e ∙ get_or-map kept c.lines l no_customer_line
+      sym (get_or-map kept d.lines l no_customer_line) ∙ ap (λ ps. get_or ps l (kept no_customer_line)) e
+      ∙ get_or-map kept c.lines l no_customer_line
 
   carried_does :
-      (l : ℕ) (items : List Item) (v : Verdict) (c d : Customer) (up : Bool) → Judged up l items c d → l < length d.lines
+      (l : ℕ) (items : List Item) (v : Verdict) (c d : Customer) (up : Bool) → Judged up l items c d
+      → l < length d.lines
       → Does l items c (carried_out l v d)
   carried_does l items v c d up judged there =
       let sent = (replied_to l v.reply d).after in
@@ -181,24 +197,29 @@ module _ (carry : BlocksCarry) (commands : CommandsMoveFilesSo) where
         acted = outgoing d;
         records = judged.records;
         answered = outgoing sent;
-        answer = subst (λ entry. GoesOut entry l (line_at l c.lines).state (outgoing d) (outgoing sent) (replied_to l v.reply d).frame) judged.entry
-            (goes_out_as d.entry l (line_at l d.lines).state (line_at l c.lines).state (outgoing d) (outgoing sent) (replied_to l v.reply d).frame
+        answer = subst (λ entry. GoesOut entry l (line_at l c.lines).state (outgoing d) (outgoing sent)
+            (replied_to l v.reply d).frame) judged.entry
+            (goes_out_as d.entry l (line_at l d.lines).state (line_at l c.lines).state (outgoing d) (outgoing sent)
+            (replied_to l v.reply d).frame
             judged.config judged.last (reply_goes_out l v.reply d there));
-        end = subst (λ entry. Ends entry l (outgoing sent) (session_over_where v.ended l sent)) judged.entry (ended_so l v.ended sent);
+        end = subst (λ entry. Ends entry l (outgoing sent) (session_over_where v.ended l sent)) judged.entry
+            (ended_so l v.ended sent);
         lines = over_lines l v.ended sent
-            ∙ length-set d.lines l (sending_of_reply d.entry l v.reply d.spool (line_at l d.lines)).line
-            ∙ judged.lines;
+            ∙ length-set d.lines l (sending_of_reply d.entry l v.reply d.spool (line_at l d.lines)).line ∙ judged.lines;
       }
 
   accepted_is : (l : ℕ) (came : Input) (c : Customer) → outgoing (accepted_on l came c) ≡ outgoing c
-  accepted_is l came c = ap (of_parts c.spool.whole c.spool.arrived) (on_line_senders l (in_state (after_input came)) c.lines (λ x. refl))
+  accepted_is l came c = ap (of_parts c.spool.whole c.spool.arrived)
+      (on_line_senders l (in_state (after_input came)) c.lines (λ x. refl))
 
   -- what comes sets no line up anew, nor is it a transmission
-  accepted_at : (l : ℕ) (came : Input) (c : Customer) → set_up (line_at l (accepted_on l came c).lines) ≡ set_up (line_at l c.lines)
+  accepted_at : (l : ℕ) (came : Input) (c : Customer) → set_up (line_at l (accepted_on l came c).lines) ≡ set_up
+      (line_at l c.lines)
   accepted_at l came c =
       let lines = on_line l (in_state (after_input came)) c.lines in
       sym (get_or-map set_up lines l no_customer_line)
-      ∙ ap (λ ps. get_or ps l (set_up no_customer_line)) (map-set_same set_up c.lines l (in_state (after_input came) (line_at l c.lines)) no_customer_line refl)
+      ∙ ap (λ ps. get_or ps l (set_up no_customer_line)) (map-set_same set_up c.lines l
+      (in_state (after_input came) (line_at l c.lines)) no_customer_line refl)
       ∙ get_or-map set_up c.lines l no_customer_line
 
   accepted_judged :
@@ -208,19 +229,22 @@ module _ (carry : BlocksCarry) (commands : CommandsMoveFilesSo) where
       let a = accepted_on l came c in
       record {
         entry = acting.entry;
-        records = subst (λ x. LeadsByMoves (OneActs a.entry l items) x (outgoing d)) (accepted_is l came c) acting.records;
+        records = subst (λ x. LeadsByMoves (OneActs a.entry l items) x (outgoing d))
+            (accepted_is l came c) acting.records;
         config = ap (λ p. p.0) (kept_at l a d acting.kept) ∙ ap (λ p. p.0) (accepted_at l came c);
         last = ap (λ p. p.1) (kept_at l a d acting.kept) ∙ ap (λ p. p.1) (accepted_at l came c);
         lines = lines_of a d acting.kept ∙ length-set c.lines l (in_state (after_input came) (line_at l c.lines));
       }
 
-  input_does : (l : ℕ) (items : List Item) (came : Input) (c : Customer) → l < length c.lines → Does l items c (after_line_input l came c)
+  input_does : (l : ℕ) (items : List Item) (came : Input) (c : Customer) → l < length c.lines
+      → Does l items c (after_line_input l came c)
   input_does l items came c there =
       let d = accepted_on l came c in
       let judged = accepted_judged l items came c d (acting_where commands false l items d) in
       carried_does l items (verdict_on l came c) c d (goes_up_by l came c) judged (omega (arith, there, judged.lines))
 
-  ended_does : (l : ℕ) (items : List Item) (c d : Customer) (up : Bool) → Judged up l items c d → Does l items c (silent (session_ended l d))
+  ended_does : (l : ℕ) (items : List Item) (c d : Customer) (up : Bool) → Judged up l items c d
+      → Does l items c (silent (session_ended l d))
   ended_does l items c d up judged =
       let e : Customer = record d { lines = on_line l (in_state after_end) d.lines } in
       record {
@@ -228,13 +252,15 @@ module _ (carry : BlocksCarry) (commands : CommandsMoveFilesSo) where
         acted = outgoing d;
         records = judged.records;
         answered = outgoing e;
-        answer = no_block (ap (of_parts d.spool.whole d.spool.arrived) (on_line_senders l (in_state after_end) d.lines (λ x. refl))) (nothing_sent refl);
+        answer = no_block (ap (of_parts d.spool.whole d.spool.arrived)
+            (on_line_senders l (in_state after_end) d.lines (λ x. refl))) (nothing_sent refl);
         end = subst (λ entry. Ends entry l (outgoing e) (session_over l e)) judged.entry (over_now (over_so l e) refl);
         lines = over_lines l true e ∙ length-set d.lines l (in_state after_end (line_at l d.lines)) ∙ judged.lines;
       }
 
   behind_does :
-      (l : ℕ) (items : List Item) (ended : Bool) (v : Verdict) (c d : Customer) (up : Bool) → Judged up l items c d → l < length d.lines
+      (l : ℕ) (items : List Item) (ended : Bool) (v : Verdict) (c d : Customer) (up : Bool) → Judged up l items c d
+      → l < length d.lines
       → Does l items c (behind_records ended l v d)
   behind_does l items true v c d up judged there = ended_does l items c d up judged
   behind_does l items false v c d up judged there = carried_does l items v c d up judged there
@@ -243,30 +269,29 @@ module _ (carry : BlocksCarry) (commands : CommandsMoveFilesSo) where
   block_does l b c there =
       let v = verdict_on l (block_input b) c in
       let a = acted_where v.acts l b.items (accepted_on l (block_input b) c) in
-      let judged = accepted_judged l b.items (block_input b) c a.customer (acting_where commands v.acts l b.items (accepted_on l (block_input b) c)) in
-      behind_does l b.items a.ended v c a.customer (goes_up_by l (block_input b) c) judged (omega (arith, there, judged.lines))
+      let judged = accepted_judged l b.items (block_input b) c a.customer
+      (acting_where commands v.acts l b.items (accepted_on l (block_input b) c)) in
+      behind_does l b.items a.ended v c a.customer (goes_up_by l (block_input b) c) judged
+      (omega (arith, there, judged.lines))
 
   silent_does : (l : ℕ) (items : List Item) (c : Customer) → Does l items c (silent c)
-  silent_does l items c =
-      record {
-        up = false;
-        acted = outgoing c;
-        records = nowhere (outgoing c);
-        answered = outgoing c;
-        answer = no_block refl (nothing_sent refl);
-        end = still_on refl refl;
-        lines = refl;
-      }
+  silent_does l items c = record {
+    up = false;
+    acted = outgoing c;
+    records = nowhere (outgoing c);
+    answered = outgoing c;
+    answer = no_block refl (nothing_sent refl);
+    end = still_on refl refl;
+    lines = refl;
+  }
 
   pub frame_does : (l : ℕ) (x : Received) (c : Customer) → Does l (records_of_frame x) c (after_frame l x c)
-  frame_does l x c =
-      frame_holds l c (λ items s. Does l items c s)
-      (record {
-        none = λ items. silent_does l items c;
-        input = λ came there. input_does l [] came c there;
-        block = λ b there. block_does l b c there;
-      })
-      x
+  frame_does l x c = frame_holds l c (λ items s. Does l items c s) (record {
+    none = λ items. silent_does l items c;
+    input = λ came there. input_does l [] came c there;
+    block = λ b there. block_does l b c there;
+  }) x
 
   pub signal_does : (l : ℕ) (x : Signal) (c : Customer) → Does l [] c (after_signal l x c)
-  signal_does l x c = signal_holds l c (λ s. Does l [] c s) (silent_does l [] c) (λ came there. input_does l [] came c there) x
+  signal_does l x c = signal_holds l c (λ s. Does l [] c s) (silent_does l [] c)
+      (λ came there. input_does l [] came c there) x

@@ -16,8 +16,7 @@ over_so l c =
     let restated = ended_restated c.entry l x.senders c.spool in
     let gone = without_open_same x.receivers (tried_again c.entry l (all_ended x.senders c.spool)) in
     record {
-      streams =
-          map-set (λ y. y.senders) c.lines l (with_idle_streams x)
+      streams = map-set (λ y. y.senders) c.lines l (with_idle_streams x)
           ∙ ap (λ senders. set (streams_from_hub c.lines) l (replicate (length senders) sender.Idle))
           (sym (get_or-map (λ y. y.senders) c.lines l no_customer_line));
       files = ap (map ready) gone.whole ∙ restated.whole;

@@ -27,41 +27,48 @@ use Rattle.njh_customer.proofs.PieceLaws.{no_bytes_do_nothing, steps_follow_byte
 use Rattle.njh_customer.proofs.RoutesMoves.{routes_move}
 
 pub leads_as :
-    (M N : Outgoing → Outgoing → Type 0) (x z : Outgoing) → ((u v : Outgoing) → M u v → N u v) → LeadsByMoves M x z → LeadsByMoves N x z
+    (M N : Outgoing → Outgoing → Type 0) (x z : Outgoing) → ((u v : Outgoing) → M u v → N u v) → LeadsByMoves M x z
+    → LeadsByMoves N x z
 leads_as M N _ _ each (nowhere x) = nowhere x
 leads_as M N _ _ each (onward x y z move later) = onward x y z (each x y move) (leads_as M N y z each later)
 
-pub leads_then : (M : Outgoing → Outgoing → Type 0) (x y z : Outgoing) → LeadsByMoves M x y → LeadsByMoves M y z → LeadsByMoves M x z
+pub leads_then : (M : Outgoing → Outgoing → Type 0) (x y z : Outgoing) → LeadsByMoves M x y → LeadsByMoves M y z
+    → LeadsByMoves M x z
 leads_then M _ _ z (nowhere x) second = second
 leads_then M _ _ z (onward x u y move later) second = onward x u z move (leads_then M u y z later second)
 
 more_records :
-    (entry : CustomerEntry) (l : ℕ) (some items : List Item) (x y : Outgoing) → ((i : Item) → Contains some i → Contains items i)
+    (entry : CustomerEntry) (l : ℕ) (some items : List Item) (x y : Outgoing)
+    → ((i : Item) → Contains some i → Contains items i)
     → Moves entry l some x y → Moves entry l items x y
 more_records entry l some items x y among (by_record (i, there, acts)) = by_record (i, among i there, acts)
 more_records entry l some items x y among (by_sending sends) = by_sending sends
 more_records entry l some items x y among (by_end over) = by_end over
 
 -- all moves of a step
-pub does_moves :
-    (l : ℕ) (items : List Item) (c : Customer) (s : CustomerStep) (does : Does l items c s)
+pub does_moves : (l : ℕ) (items : List Item) (c : Customer) (s : CustomerStep) (does : Does l items c s)
     → LeadsByMoves (Moves (with_raised_line does.up l c.entry) l items) (outgoing c) (outgoing s.after)
-does_moves l items c s does =
-    leads_then (Moves entry l items) (outgoing c) does.acted (outgoing s.after)
-    (leads_as (OneActs entry l items) (Moves entry l items) (outgoing c) does.acted (λ u v acts. by_record acts) does.records)
-    (leads_then (Moves entry l items) does.acted does.answered (outgoing s.after) (at_answer does.answer) (at_end does.end))
+does_moves l items c s does = leads_then (Moves entry l items) (outgoing c) does.acted (outgoing s.after)
+    (leads_as (OneActs entry l items) (Moves entry l items) (outgoing c) does.acted
+    (λ u v acts. by_record acts) does.records)
+    (leads_then (Moves entry l items) does.acted does.answered (outgoing s.after) (at_answer does.answer)
+    (at_end does.end))
   where
     entry : CustomerEntry
     entry = with_raised_line does.up l c.entry
 
-    at_answer : GoesOut entry l (line_at l c.lines).state does.acted does.answered s.frame → LeadsByMoves (Moves entry l items) does.acted does.answered
-    at_answer (no_block same no_new) = subst (LeadsByMoves (Moves entry l items) does.acted) (sym same) (nowhere does.acted)
+    at_answer : GoesOut entry l (line_at l c.lines).state does.acted does.answered s.frame
+        → LeadsByMoves (Moves entry l items) does.acted does.answered
+    at_answer (no_block same no_new) = subst (LeadsByMoves (Moves entry l items) does.acted) (sym same)
+        (nowhere does.acted)
     at_answer (new_block bcb fcs is frame sends carries) =
         leads_as (Sends entry l) (Moves entry l items) does.acted does.answered (λ u v send. by_sending send) sends
 
     at_end : Ends entry l does.answered s.after → LeadsByMoves (Moves entry l items) does.answered (outgoing s.after)
-    at_end (still_on same kept) = subst (LeadsByMoves (Moves entry l items) does.answered) (sym same) (nowhere does.answered)
-    at_end (over_now gone lowered) = onward does.answered (outgoing s.after) (outgoing s.after) (by_end gone) (nowhere (outgoing s.after))
+    at_end (still_on same kept) = subst (LeadsByMoves (Moves entry l items) does.answered) (sym same)
+        (nowhere does.answered)
+    at_end (over_now gone lowered) = onward does.answered (outgoing s.after) (outgoing s.after) (by_end gone)
+        (nowhere (outgoing s.after))
 
 -- ---- of an entry the marks alone are changed
 
@@ -70,24 +77,31 @@ abbrev pub IsMarkedAt : ℕ → (new old : CustomerEntry) → Type 0
 IsMarkedAt l new old = (up : Bool) × (new ≡ entry_marked l up old)
 
 unmarked_at : (l : ℕ) (entry : CustomerEntry) → IsMarkedAt l entry entry
-unmarked_at l entry = (get_or entry.up l false, sym (ap (λ (up : List Bool). record entry { up = up }) (set-get_or entry.up l false)))
+unmarked_at l entry = (
+  get_or entry.up l false,
+  sym (ap (λ (up : List Bool). record entry { up = up })
+      (set-get_or entry.up l false)),
+)
 
 raised_at : (up : Bool) (l : ℕ) (entry : CustomerEntry) → IsMarkedAt l (with_raised_line up l entry) entry
 raised_at true l entry = (true, refl)
 raised_at false l entry = unmarked_at l entry
 
 -- and the last that is set holds
-marked_again : (l : ℕ) (a b : Bool) (entry : CustomerEntry) → entry_marked l b (entry_marked l a entry) ≡ entry_marked l b entry
+marked_again : (l : ℕ) (a b : Bool) (entry : CustomerEntry)
+    → entry_marked l b (entry_marked l a entry) ≡ entry_marked l b entry
 marked_again l a b entry = ap (λ (up : List Bool). record entry { up = up }) (set-set entry.up l a b)
 
-marked_behind : (l : ℕ) (old between new : CustomerEntry) → IsMarkedAt l between old → (b : Bool) → new ≡ entry_marked l b between → new ≡ entry_marked l b old
+marked_behind : (l : ℕ) (old between new : CustomerEntry) → IsMarkedAt l between old → (b : Bool)
+    → new ≡ entry_marked l b between → new ≡ entry_marked l b old
 marked_behind l old between new first b second = second ∙ ap (entry_marked l b) first.1 ∙ marked_again l first.0 b old
 
 -- what is an entry with some marks is so with its own
 own_marks : (new old : CustomerEntry) (up : List Bool) → new ≡ with_marks up old → new ≡ with_marks new.up old
 own_marks new old up e = e ∙ sym (ap (λ (x : CustomerEntry). with_marks x.up old) e)
 
-does_mark : (l : ℕ) (items : List Item) (c : Customer) (s : CustomerStep) → Does l items c s → IsMarkedAt l s.after.entry c.entry
+does_mark : (l : ℕ) (items : List Item) (c : Customer) (s : CustomerStep) → Does l items c s
+    → IsMarkedAt l s.after.entry c.entry
 does_mark l items c s does = at_end does.end
   where
     judged : CustomerEntry
@@ -100,14 +114,16 @@ does_mark l items c s does = at_end does.end
     at_end (still_on same kept) = (raised.0, kept ∙ raised.1)
     at_end (over_now gone lowered) = (false, marked_behind l c.entry judged s.after.entry raised false lowered)
 
-pub does_entry : (l : ℕ) (items : List Item) (c : Customer) (s : CustomerStep) → Does l items c s → s.after.entry ≡ with_marks s.after.entry.up c.entry
+pub does_entry : (l : ℕ) (items : List Item) (c : Customer) (s : CustomerStep) → Does l items c s
+    → s.after.entry ≡ with_marks s.after.entry.up c.entry
 does_entry l items c s does =
     let mark = does_mark l items c s does in
     own_marks s.after.entry c.entry (set c.entry.up l mark.0) mark.1
 
 -- the moves of a step, by the marks of their moments
 pub does_moves_by :
-    (l : ℕ) (items more : List Item) (c : Customer) (s : CustomerStep) → ((i : Item) → Contains items i → Contains more i) → Does l items c s
+    (l : ℕ) (items more : List Item) (c : Customer) (s : CustomerStep)
+    → ((i : Item) → Contains items i → Contains more i) → Does l items c s
     → LeadsByMoves (MovesBy c.entry (Records l more)) (outgoing c) (outgoing s.after)
 does_moves_by l items more c s among does =
     let entry = with_raised_line does.up l c.entry in
@@ -123,9 +139,11 @@ pub record Moved (l : ℕ) (items : List Item) (c d : Customer) : Type 0 where
   pub moves : LeadsByMoves (MovesBy c.entry (Records l items)) (outgoing c) (outgoing d)
 
 module _ (frames : FramesDoSo) where
-  pub bytes_move : (rest : Rest) (c : Customer) (l : ℕ) (bytes : List ℕ) → Moved l (flat_map records_of_frame (frames_after rest bytes)) c (bytes_run rest c l bytes).after
+  pub bytes_move : (rest : Rest) (c : Customer) (l : ℕ) (bytes : List ℕ)
+      → Moved l (flat_map records_of_frame (frames_after rest bytes)) c (bytes_run rest c l bytes).after
   bytes_move rest c l [] = record { mark = unmarked_at l c.entry; lines = refl; moves = nowhere (outgoing c) }
-  bytes_move rest c l (byte ∷ bytes) = at_frame (rest_step rest byte).frame (λ d. bytes_move (rest_step rest byte).rest d l bytes)
+  bytes_move rest c l (byte ∷ bytes) = at_frame (rest_step rest byte).frame
+      (λ d. bytes_move (rest_step rest byte).rest d l bytes)
     where
       next : Rest
       next = (rest_step rest byte).rest
@@ -133,9 +151,9 @@ module _ (frames : FramesDoSo) where
       later : List Item
       later = flat_map records_of_frame (frames_after next bytes)
 
-      at_frame :
-          (o : Option Received) → ((d : Customer) → Moved l later d (bytes_run next d l bytes).after)
-          → Moved l (flat_map records_of_frame (cons_option o (frames_after next bytes))) c (bytes_run next (acted_on l o c).after l bytes).after
+      at_frame : (o : Option Received) → ((d : Customer) → Moved l later d (bytes_run next d l bytes).after)
+          → Moved l (flat_map records_of_frame (cons_option o (frames_after next bytes))) c
+          (bytes_run next (acted_on l o c).after l bytes).after
       at_frame None rest_moves = rest_moves c
       at_frame (Some received) rest_moves =
           let items = records_of_frame received ++ later in
@@ -148,14 +166,17 @@ module _ (frames : FramesDoSo) where
             mark = (behind.mark.0, marked_behind l c.entry step.after.entry end.entry mark behind.mark.0 behind.mark.1);
             lines = behind.lines ∙ does.lines;
             moves = leads_then (MovesBy c.entry (Records l items)) (outgoing c) (outgoing step.after) (outgoing end)
-                (does_moves_by l (records_of_frame received) items c step (λ i. Contains-append_left (records_of_frame received) later i) does)
-                (leads_as (MovesBy step.after.entry (Records l later)) (MovesBy c.entry (Records l items)) (outgoing step.after) (outgoing end)
+                (does_moves_by l (records_of_frame received) items c step
+                (λ i. Contains-append_left (records_of_frame received) later i) does)
+                (leads_as (MovesBy step.after.entry (Records l later)) (MovesBy c.entry (Records l items))
+                (outgoing step.after) (outgoing end)
                 (λ u v move. (
                   move.0,
-                  subst (λ x. Moves x l items u v) (marked_behind l c.entry step.after.entry (entry_marked l move.0 step.after.entry) mark move.0 refl)
-                      (more_records (entry_marked l move.0 step.after.entry) l later items u v (λ i. Contains-append_right (records_of_frame received) later i) move.1),
-                ))
-                behind.moves);
+                  subst (λ x. Moves x l items u v) (marked_behind l c.entry step.after.entry
+                      (entry_marked l move.0 step.after.entry) mark move.0 refl)
+                      (more_records (entry_marked l move.0 step.after.entry) l later items u v
+                      (λ i. Contains-append_right (records_of_frame received) later i) move.1),
+                )) behind.moves);
           }
 
   -- its marks alone are other ones
@@ -168,7 +189,8 @@ module _ (frames : FramesDoSo) where
   pub events_move : SignalsDoSo → EventsMoveSo
   events_move signals p (OwnBytes l piece) = (bytes_move (rest_on l p) p.customer l piece).moves
   events_move signals p (OwnSignal signal l) =
-      does_moves_by l [] [] p.customer (after_signal l signal p.customer) (λ i there. there) (signals l signal p.customer)
+      does_moves_by l [] [] p.customer (after_signal l signal p.customer) (λ i there. there)
+      (signals l signal p.customer)
   events_move signals p (OwnRoutes routes) = routes_move p routes
 
   pub takes_move : TakesMoveSo
@@ -177,7 +199,8 @@ module _ (frames : FramesDoSo) where
       let front = take t.taken piece in
       let nothing : event_run p (OwnBytes l []) ≡ record { after = p; sent = [] } = no_bytes_do_nothing p l in
       let some : event_run p (OwnBytes l front) ≡ followed_by (record { after = p; sent = [] }) l piece =
-      subst (λ (r : Run). event_run p (OwnBytes l (take (part_after_bytes r.after l piece).taken piece)) ≡ followed_by r l piece) nothing
+      subst (λ (r : Run). event_run p (OwnBytes l (take (part_after_bytes r.after l piece).taken piece)) ≡ followed_by r
+      l piece) nothing
       (steps_follow_bytes p l [] piece (omega (arith, there, ap (λ (r : Run). length r.after.rests) nothing))) in
       subst (LeadsByMoves (MovesBy p.customer.entry (coming p (OwnBytes l front))) (outgoing p.customer))
       (ap (λ (r : Run). outgoing r.after.customer) some) (bytes_move (rest_on l p) p.customer l front).moves

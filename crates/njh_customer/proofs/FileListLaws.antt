@@ -34,8 +34,7 @@ module _ {X Y : Type 0} (g : X → Y) where
   each_same f same (x ∷ xs) = ap₂ (λ y ys. y ∷ ys) (same x) (each_same f same xs)
 
   -- and where a test says so
-  pub changed_where :
-      (p : X → Bool) (change : X → X) (xs : List X) → ((x : X) → g (change x) ≡ g x)
+  pub changed_where : (p : X → Bool) (change : X → X) (xs : List X) → ((x : X) → g (change x) ≡ g x)
       → map g (map (λ x. cond (p x) (change x) x) xs) ≡ map g xs
   changed_where p change xs same = each_same (λ x. cond (p x) (change x) x) each xs
     where
@@ -51,11 +50,10 @@ module _ {X Y : Type 0} (g : X → Y) where
   as_many xs ys e = sym (length-map xs g) ∙ ap (λ (zs : List Y). length zs) e ∙ length-map ys g
 
   -- and what is added of each by what g sees is the same
-  pub same_sum : (weight : Y → ℕ) (xs ys : List X) → map g xs ≡ map g ys → sum_by (λ x. weight (g x)) xs ≡ sum_by (λ x. weight (g x)) ys
-  same_sum weight xs ys e =
-      sym (sum-map (λ x. weight (g x)) xs)
-      ∙ ap sum (sym (map-map weight g xs) ∙ ap (map weight) e ∙ map-map weight g ys)
-      ∙ sum-map (λ x. weight (g x)) ys
+  pub same_sum : (weight : Y → ℕ) (xs ys : List X) → map g xs ≡ map g ys
+      → sum_by (λ x. weight (g x)) xs ≡ sum_by (λ x. weight (g x)) ys
+  same_sum weight xs ys e = sym (sum-map (λ x. weight (g x)) xs)
+      ∙ ap sum (sym (map-map weight g xs) ∙ ap (map weight) e ∙ map-map weight g ys) ∙ sum-map (λ x. weight (g x)) ys
 
 module _ {X : Type 0} (weight : X → ℕ) (p : X → Bool) where
   pub some_less : (xs : List X) → sum_by weight (filter p xs) ≤ sum_by weight xs
@@ -63,14 +61,16 @@ module _ {X : Type 0} (weight : X → ℕ) (p : X → Bool) where
 
   -- without those that pass a test, of which one was found
   pub found_less :
-      (xs : List X) (x : X) → find p xs ≡ Some x → sum_by weight (filter (λ y. not (p y)) xs) + weight x ≤ sum_by weight xs
+      (xs : List X) (x : X) → find p xs ≡ Some x → sum_by weight
+      (filter (λ y. not (p y)) xs) + weight x ≤ sum_by weight xs
   found_less [] x e = absurd (cc e)
   found_less (y ∷ ys) x e = at_test (p y) (found_less ys x) e
     where
       left : List X
       left = filter (λ z. not (p z)) ys
 
-      at_test : (b : Bool) → (find p ys ≡ Some x → sum_by weight left + weight x ≤ sum_by weight ys) → cond b (Some y) (find p ys) ≡ Some x
+      at_test : (b : Bool) → (find p ys ≡ Some x → sum_by weight left + weight x ≤ sum_by weight ys)
+          → cond b (Some y) (find p ys) ≡ Some x
           → sum_by weight (cond (not b) (y ∷ left) left) + weight x ≤ sum_by weight (y ∷ ys)
       at_test true rest e =
           let same : weight y ≡ weight x = ap weight (cc e) in
@@ -85,10 +85,15 @@ first_or_later x xs y (zero, inside, e) = inl e
 first_or_later x xs y (suc i, inside, e) = inr (i, omega (arith, inside), e)
 
 -- an element of a mapped list is one of the list's, mapped
-pub from_map : {A B : Type 0} (h : A → B) (xs : List A) (d : A) (g : B) → Contains (map h xs) g → (f : A) × Contains xs f × (g ≡ h f)
+pub from_map : {A B : Type 0} (h : A → B) (xs : List A) (d : A) (g : B) → Contains (map h xs) g
+    → (f : A) × Contains xs f × (g ≡ h f)
 from_map h xs d g at =
-    let inside : at.0 < length xs = omega (arith, at.1, length-map xs h) in
-    (get_or xs at.0 d, Contains-get_or xs at.0 d inside, sym at.2 ∙ get_or_default (map h xs) at.0 g (h d) at.1 ∙ get_or-map h xs at.0 d)
+    let inside : at.0 < length xs = omega (arith, at.1, length-map xs h) in (
+      get_or xs at.0 d,
+      Contains-get_or xs at.0 d inside,
+      sym at.2 ∙ get_or_default (map h xs) at.0 g (h d) at.1
+          ∙ get_or-map h xs at.0 d,
+    )
 
 pub into_map : {A B : Type 0} (h : A → B) (xs : List A) (f : A) → Contains xs f → Contains (map h xs) (h f)
 into_map h xs f at = (at.0, omega (arith, at.1, length-map xs h), get_or-map h xs at.0 f ∙ ap h at.2)
@@ -97,7 +102,8 @@ pub from_filter : {A : Type 0} (p : A → Bool) (xs : List A) (g : A) → Contai
 from_filter p [] g at = at
 from_filter {A} p (x ∷ xs) g at = at_test (p x) (from_filter p xs g) at
   where
-    at_test : (b : Bool) → (Contains (filter p xs) g → Contains xs g) → Contains (cond b (x ∷ filter p xs) (filter p xs)) g → Contains (x ∷ xs) g
+    at_test : (b : Bool) → (Contains (filter p xs) g → Contains xs g)
+        → Contains (cond b (x ∷ filter p xs) (filter p xs)) g → Contains (x ∷ xs) g
     at_test false rest at = Contains-append_right (x ∷ []) xs g (rest at)
     at_test true rest at = at_first (first_or_later x (filter p xs) g at)
       where
@@ -105,12 +111,13 @@ from_filter {A} p (x ∷ xs) g at = at_test (p x) (from_filter p xs g) at
         at_first (inl first) = (0, omega arith, first)
         at_first (inr later) = Contains-append_right (x ∷ []) xs g (rest later)
 
-pub into_filter : {A : Type 0} (p : A → Bool) (xs : List A) (g : A) → Contains xs g → p g ≡ true → Contains (filter p xs) g
+pub into_filter : {A : Type 0} (p : A → Bool) (xs : List A) (g : A) → Contains xs g → p g ≡ true
+    → Contains (filter p xs) g
 into_filter p [] g at passes = at
-into_filter {A} p (x ∷ xs) g at passes = at_first (p x) refl (first_or_later x xs g at) (λ there. into_filter p xs g there passes)
+into_filter {A} p (x ∷ xs) g at passes = at_first (p x) refl (first_or_later x xs g at)
+    (λ there. into_filter p xs g there passes)
   where
-    at_first :
-        (b : Bool) → p x ≡ b → (x ≡ g) ⊎ Contains xs g → (Contains xs g → Contains (filter p xs) g)
+    at_first : (b : Bool) → p x ≡ b → (x ≡ g) ⊎ Contains xs g → (Contains xs g → Contains (filter p xs) g)
         → Contains (cond b (x ∷ filter p xs) (filter p xs)) g
     at_first true e (inl first) rest = (0, omega arith, first)
     at_first true e (inr later) rest = Contains-append_right (x ∷ []) (filter p xs) g (rest later)
@@ -122,11 +129,9 @@ passes_filter p xs g at = All-contains (λ x. p x ≡ true) (filter p xs) g (fil
 
 -- an element of a list that changes where a test says so has changed, or it is as it was
 abbrev pub WasOrIs : {X : Type 0} → (X → Bool) → (X → X) → List X → X → Type 0
-WasOrIs {X} p change xs g =
-    ((f : X) × Contains xs f × (p f ≡ true) × (g ≡ change f)) ⊎ (Contains xs g × (p g ≡ false))
+WasOrIs {X} p change xs g = ((f : X) × Contains xs f × (p f ≡ true) × (g ≡ change f)) ⊎ (Contains xs g × (p g ≡ false))
 
-pub from_where :
-    {X : Type 0} (p : X → Bool) (change : X → X) (xs : List X) (g : X)
+pub from_where : {X : Type 0} (p : X → Bool) (change : X → X) (xs : List X) (g : X)
     → Contains (map (λ x. cond (p x) (change x) x) xs) g → WasOrIs p change xs g
 from_where {X} p change xs g at =
     let found = from_map (λ x. cond (p x) (change x) x) xs g g at in at_test (p found.0) found.0 refl found.1 found.2
@@ -141,7 +146,8 @@ found_one p [] x e = absurd (cc e)
 found_one {X} p (y ∷ ys) x e = at_test (p y) refl e (found_one p ys x)
   where
     at_test :
-        (b : Bool) → p y ≡ b → cond b (Some y) (find p ys) ≡ Some x → (find p ys ≡ Some x → Contains ys x × (p x ≡ true))
+        (b : Bool) → p y ≡ b → cond b (Some y) (find p ys) ≡ Some x
+        → (find p ys ≡ Some x → Contains ys x × (p x ≡ true))
         → Contains (y ∷ ys) x × (p x ≡ true)
     at_test true passes e later = let same : y ≡ x = cc e in ((0, omega arith, same), ap p (sym same) ∙ passes)
     at_test false passes e later = let rest = later e in (Contains-append_right (y ∷ []) ys x rest.0, rest.1)
@@ -155,15 +161,15 @@ found_numbered number xs x n few at e =
     ∙ ap Some at.2
 
 -- an element is as before, or is the one that was set
-pub set_one : {A : Type 0} (xs : List A) (i j : ℕ) (a d : A) → (get_or (set xs i a) j d ≡ get_or xs j d) ⊎ ((j ≡ i) × (get_or (set xs i a) j d ≡ a))
+pub set_one : {A : Type 0} (xs : List A) (i j : ℕ) (a d : A)
+    → (get_or (set xs i a) j d ≡ get_or xs j d) ⊎ ((j ≡ i) × (get_or (set xs i a) j d ≡ a))
 set_one [] i j a d = inl refl
 set_one (x ∷ xs) zero zero a d = inr (refl, refl)
 set_one (x ∷ xs) zero (suc j) a d = inl refl
 set_one (x ∷ xs) (suc i) zero a d = inl refl
 set_one (x ∷ xs) (suc i) (suc j) a d = at_rest (set_one xs i j a d)
   where
-    at_rest :
-        (get_or (set xs i a) j d ≡ get_or xs j d) ⊎ ((j ≡ i) × (get_or (set xs i a) j d ≡ a))
+    at_rest : (get_or (set xs i a) j d ≡ get_or xs j d) ⊎ ((j ≡ i) × (get_or (set xs i a) j d ≡ a))
         → (get_or (set xs i a) j d ≡ get_or xs j d) ⊎ ((suc j ≡ suc i) × (get_or (set xs i a) j d ≡ a))
     at_rest (inl same) = inl same
     at_rest (inr there) = inr (ap suc there.0, there.1)
@@ -186,14 +192,15 @@ same_numbered n fs gs e = by_numbers n fs ∙ ap (list_any (λ m. m == n)) e ∙
 
 -- files that are the same but for their states
 pub but_states : (fs gs : List WholeFile) → map ready fs ≡ map ready gs → numbers fs ≡ numbers gs
-but_states fs gs e =
-    sym (map-map (λ f. f.number) ready fs) ∙ ap numbers e ∙ map-map (λ f. f.number) ready gs
+but_states fs gs e = sym (map-map (λ f. f.number) ready fs) ∙ ap numbers e ∙ map-map (λ f. f.number) ready gs
 
 pub marked_numbers : (n : ℕ) (state : State) (fs : List WholeFile) → numbers (with_file_state n state fs) ≡ numbers fs
-marked_numbers n state fs = changed_where (λ f. f.number) (λ f. f.number == n) (λ f. record f { state = state }) fs (λ f. refl)
+marked_numbers n state fs = changed_where (λ f. f.number) (λ f. f.number == n) (λ f. record f { state = state }) fs
+    (λ f. refl)
 
 pub changed_numbers :
-    (p : WholeFile → Bool) (change : WholeFile → WholeFile) (fs : List WholeFile) → ((f : WholeFile) → (change f).number ≡ f.number)
+    (p : WholeFile → Bool) (change : WholeFile → WholeFile) (fs : List WholeFile)
+    → ((f : WholeFile) → (change f).number ≡ f.number)
     → numbers (map (changed_file p change) fs) ≡ numbers fs
 changed_numbers p change fs same = changed_where (λ f. f.number) (may_change p) change fs same
 
@@ -205,12 +212,15 @@ pub has_one : (n : ℕ) (fs : List WholeFile) → any_numbered n fs ≡ true →
 has_one n [] e = absurd (cc e)
 has_one n (f ∷ fs) e = at_first (f.number == n) refl e (has_one n fs)
   where
-    at_first : (b : Bool) → (f.number == n) ≡ b → (b || any_numbered n fs) ≡ true → (any_numbered n fs ≡ true → Has n fs) → Has n (f ∷ fs)
+    at_first : (b : Bool) → (f.number == n) ≡ b → (b || any_numbered n fs) ≡ true
+        → (any_numbered n fs ≡ true → Has n fs) → Has n (f ∷ fs)
     at_first true same there later = (f, (0, omega arith, refl), eqb-true f.number n same)
-    at_first false other there later = let found = later there in (found.0, Contains-append_right (f ∷ []) fs found.0 found.1, found.2)
+    at_first false other there later = let found = later there in
+        (found.0, Contains-append_right (f ∷ []) fs found.0 found.1, found.2)
 
 pub any_there : (n : ℕ) (fs : List WholeFile) → Has n fs → any_numbered n fs ≡ true
-any_there n fs (f, (i, inside, e), is) = list_any_at (λ g. g.number == n) fs i f inside (eq-eqb (get_or fs i f).number n (ap (λ g. g.number) e ∙ is))
+any_there n fs (f, (i, inside, e), is) = list_any_at (λ g. g.number == n) fs i f inside
+    (eq-eqb (get_or fs i f).number n (ap (λ g. g.number) e ∙ is))
 
 -- ---- a file that is gone
 
@@ -222,7 +232,8 @@ gone_later : (p : WholeFile → Bool) (n : ℕ) (f : WholeFile) (fs : List Whole
 gone_later p n f fs gone = (gone.0, Contains-append_right (f ∷ []) fs gone.0 gone.1, gone.2, gone.3)
 
 pub one_gone :
-    (p : WholeFile → Bool) (n : ℕ) (fs : List WholeFile) → any_numbered n fs ≡ true → any_numbered n (filter (λ f. not (p f)) fs) ≡ false
+    (p : WholeFile → Bool) (n : ℕ) (fs : List WholeFile) → any_numbered n fs ≡ true
+    → any_numbered n (filter (λ f. not (p f)) fs) ≡ false
     → Gone p n fs
 one_gone p n [] there gone = absurd (cc there)
 one_gone p n (f ∷ fs) there gone = at_first (f.number == n) (p f) refl refl there gone (one_gone p n fs)
@@ -231,9 +242,11 @@ one_gone p n (f ∷ fs) there gone = at_first (f.number == n) (p f) refl refl th
     left = filter (λ g. not (p g)) fs
 
     at_first :
-        (b c : Bool) → (f.number == n) ≡ b → p f ≡ c → (b || any_numbered n fs) ≡ true → any_numbered n (cond (not c) (f ∷ left) left) ≡ false
+        (b c : Bool) → (f.number == n) ≡ b → p f ≡ c → (b || any_numbered n fs) ≡ true
+        → any_numbered n (cond (not c) (f ∷ left) left) ≡ false
         → (any_numbered n fs ≡ true → any_numbered n left ≡ false → Gone p n fs) → Gone p n (f ∷ fs)
     at_first true true e h there gone later = (f, (0, omega arith, refl), eqb-true f.number n e, h)
     at_first true false e h there gone later = absurd (cc (ap (λ b. b || any_numbered n left) (sym e) ∙ gone))
     at_first false true e h there gone later = gone_later p n f fs (later there gone)
-    at_first false false e h there gone later = gone_later p n f fs (later there (ap (λ b. b || any_numbered n left) (sym e) ∙ gone))
+    at_first false false e h there gone later = gone_later p n f fs
+        (later there (ap (λ b. b || any_numbered n left) (sym e) ∙ gone))

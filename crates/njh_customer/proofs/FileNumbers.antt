@@ -35,7 +35,12 @@ FreeNumbers = (s : CustomerSpool) → has_file_room s ≡ true → is_number (ne
 free_count : (n : ℕ) (s : CustomerSpool) → is_number n s ≡ false → files_numbered n s ≡ 0
 free_count n s free =
     let none = or_parts (list_any (λ f. f.number == n) s.whole) (list_any (λ f. f.number == n) s.partial) free in
-    omega (arith, count_by_none (λ f. f.number == n) s.whole none.0, count_by_none (λ f. f.number == n) s.partial none.1)
+    omega (
+      arith,
+      count_by_none (λ f. f.number == n) s.whole none.0,
+      count_by_none
+          (λ f. f.number == n) s.partial none.1,
+    )
 
 -- ---- spools
 
@@ -47,24 +52,31 @@ apart_fewer : (s t : CustomerSpool) → ((n : ℕ) → files_numbered n t ≤ fi
 apart_fewer s t fewer apart = λ n. omega (arith, fewer n, apart n)
 
 -- one file more, of a free number
-one_more : (m : ℕ) (s : CustomerSpool) → is_number m s ≡ false → AreApart s → (n : ℕ) → files_numbered n s + cond {A = ℕ} (m == n) 1 0 ≤ 1
+one_more : (m : ℕ) (s : CustomerSpool) → is_number m s ≡ false → AreApart s → (n : ℕ)
+    → files_numbered n s + cond {A = ℕ} (m == n) 1 0 ≤ 1
 one_more m s free apart n = at_test (m == n) refl
   where
     at_test : (b : Bool) → (m == n) ≡ b → files_numbered n s + cond {A = ℕ} b 1 0 ≤ 1
     at_test true e =
-        let none : files_numbered n s ≡ 0 = subst (λ k. files_numbered k s ≡ 0) (eqb-true m n e) (free_count m s free) in
+        let none : files_numbered n s ≡ 0 = subst (λ k. files_numbered k s ≡ 0) (eqb-true m n e)
+        (free_count m s free) in
         omega (arith, none)
     at_test false e = omega (arith, apart n)
 
-pub apart_arrived : (f : WholeFile) (s : CustomerSpool) → is_number f.number s ≡ false → AreApart s → AreApart (with_arrived f s)
+pub apart_arrived : (f : WholeFile) (s : CustomerSpool) → is_number f.number s ≡ false → AreApart s
+    → AreApart (with_arrived f s)
 apart_arrived f s free apart =
-    λ n. omega (arith, one_more f.number s free apart n, sum_by_push (λ (g : WholeFile). cond {A = ℕ} (g.number == n) 1 0) s.whole f)
+    λ n. omega (
+      arith,
+      one_more f.number s free apart n,
+      sum_by_push
+          (λ (g : WholeFile). cond {A = ℕ} (g.number == n) 1 0) s.whole f,
+    )
 
 finished_apart : (n : ℕ) (s : CustomerSpool) → AreApart s → AreApart (with_finished n s)
 finished_apart n s = at_file (partial_numbered n s) refl
   where
-    at_file :
-        (o : Option PartialFile) → partial_numbered n s ≡ o → AreApart s
+    at_file : (o : Option PartialFile) → partial_numbered n s ≡ o → AreApart s
         → AreApart (elim o [ None ↦ s | Some f ↦ with_arrived (as_whole f) (without_partial n s) ])
     at_file None found apart = apart
     at_file (Some f) found apart = λ m. omega (
@@ -75,13 +87,13 @@ finished_apart n s = at_file (partial_numbered n s) refl
     )
 
 -- states change, and other nodes are named
-whole_apart : (s t : CustomerSpool) → numbers t.whole ≡ numbers s.whole → t.partial ≡ s.partial → AreApart s → AreApart t
-whole_apart s t whole partial =
-    apart_fewer s t (λ n. omega (
-      arith,
-      same_sum (λ (f : WholeFile). f.number) (λ m. cond {A = ℕ} (m == n) 1 0) t.whole s.whole whole,
-      ap (λ (fs : List PartialFile). count_by (λ f. f.number == n) fs) partial,
-    ))
+whole_apart : (s t : CustomerSpool) → numbers t.whole ≡ numbers s.whole → t.partial ≡ s.partial → AreApart s
+    → AreApart t
+whole_apart s t whole partial = apart_fewer s t (λ n. omega (
+  arith,
+  same_sum (λ (f : WholeFile). f.number) (λ m. cond {A = ℕ} (m == n) 1 0) t.whole s.whole whole,
+  ap (λ (fs : List PartialFile). count_by (λ f. f.number == n) fs) partial,
+))
 
 apart_restated : (s t : CustomerSpool) → IsRestated s t → AreApart s → AreApart t
 apart_restated s t restated = whole_apart s t (but_states t.whole s.whole restated.whole) restated.partial
@@ -91,7 +103,11 @@ apart_files free = record {
   arrivals = record {
     still = λ i s apart. apart;
     without = λ n s. apart_fewer s (without_partial n s)
-        (λ m. omega (arith, some_less (counted (λ (f : PartialFile). f.number) m) (λ f. not (f.number == n)) s.partial));
+        (λ m. omega (
+          arith,
+          some_less (counted (λ (f : PartialFile). f.number) m)
+              (λ f. not (f.number == n)) s.partial,
+        ));
     begun = λ rcb srcb kind s room apart n.
         let begun : PartialFile = record { number = next_number s; kind = kind; records = [] } in
         omega (
@@ -99,12 +115,13 @@ apart_files free = record {
           one_more (next_number s) s (free s room) apart n,
           sum_by_push (counted (λ (g : PartialFile). g.number) n) s.partial begun,
         );
-    appended = λ rcb r n s room. apart_fewer s (with_appended n r s)
-        (λ m. omega (
-          arith,
-          same_sum (λ (f : PartialFile). f.number) (λ k. cond {A = ℕ} (k == m) 1 0) (with_appended n r s).partial s.partial
-              (changed_where (λ (f : PartialFile). f.number) (λ f. f.number == n) (λ f. record f { records = f.records ++ r ∷ [] }) s.partial (λ f. refl)),
-        ));
+    appended = λ rcb r n s room. apart_fewer s (with_appended n r s) (λ m. omega (
+      arith,
+      same_sum (λ (f : PartialFile). f.number) (λ k. cond {A = ℕ} (k == m) 1 0)
+          (with_appended n r s).partial s.partial
+          (changed_where (λ (f : PartialFile). f.number) (λ f. f.number == n)
+          (λ f. record f { records = f.records ++ r ∷ [] }) s.partial (λ f. refl)),
+    ));
     finished = λ rcb srcb n s whole. finished_apart n s;
   };
   restated = apart_restated;
@@ -115,7 +132,8 @@ apart_files free = record {
       (changed_numbers p (with_new_destination node) s.whole (λ f. refl)) refl;
 }
 
-pub apart_routes : (routes : List RouteEntry) (c : Customer) → AreApart c.spool → AreApart (customer_with_routes routes c).spool
+pub apart_routes : (routes : List RouteEntry) (c : Customer) → AreApart c.spool
+    → AreApart (customer_with_routes routes c).spool
 apart_routes = routes_so AreApart apart_restated
 
 pub apart_fresh : (entry : CustomerEntry) → AreApart (fresh_customer entry).spool

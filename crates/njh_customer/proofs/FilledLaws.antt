@@ -25,8 +25,7 @@ abbrev IsCalm : CustomerSpool → Option Candidate → Type 0
 IsCalm s None = Unit {0}
 IsCalm s (Some c) = IsRestated s c.spool
 
-calm_map :
-    {A : Type 0} (s : CustomerSpool) (f : A → Candidate) (o : Option A) → ((x : A) → IsRestated s (f x).spool)
+calm_map : {A : Type 0} (s : CustomerSpool) (f : A → Candidate) (o : Option A) → ((x : A) → IsRestated s (f x).spool)
     → IsCalm s (option_map f o)
 calm_map s f None each = tt
 calm_map s f (Some x) each = each x
@@ -48,9 +47,11 @@ calm_request goes o s k = at_idle (may_ask o k)
     at_idle : (b : Bool) → IsCalm s (request_where b (λ f. asking o s k f.number) (oldest goes (kind_of k) s))
     at_idle false = tt
     at_idle true =
-        calm_map {A = WholeFile} s (λ f. asking o s k f.number) (oldest goes (kind_of k) s) (λ f. marked_restated f.number Sending s)
+        calm_map {A = WholeFile} s (λ f. asking o s k f.number) (oldest goes (kind_of k) s)
+        (λ f. marked_restated f.number Sending s)
 
-calm : (goes : WholeFile → Bool) (source : Source) (o : Outlet) (s : CustomerSpool) → IsCalm s (candidate goes source o s)
+calm : (goes : WholeFile → Bool) (source : Source) (o : Outlet) (s : CustomerSpool)
+    → IsCalm s (candidate goes source o s)
 calm goes WaitingAnswer o s = calm_map s (answering o s) (slice_get o.answers 0) (λ a. as_it_is s)
 calm goes (StreamAbort k) o s = calm_abort (sender_at k o) o s k
 calm goes (StreamRequest k) o s = calm_request goes o s k

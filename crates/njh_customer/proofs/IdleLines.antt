@@ -59,12 +59,17 @@ record OnlyUp (v : Verdict) (p : Phase) : Type 0 where
   pub next : is_next v.reply ≡ true → is_up p ≡ true
 
 asks_nothing : {v : Verdict} {p : Phase} → v.acts ≡ false → is_next v.reply ≡ false → OnlyUp v p
-asks_nothing still quiet = record { acts = λ acts. absurd (cc (sym still ∙ acts)); next = λ next. absurd (cc (sym quiet ∙ next)) }
+asks_nothing still quiet = record {
+  acts = λ acts. absurd (cc (sym still ∙ acts));
+  next = λ next. absurd
+      (cc (sym quiet ∙ next));
+}
 
 is_up_then : {v : Verdict} {p : Phase} → is_up p ≡ true → OnlyUp v p
 is_up_then up = record { acts = λ _. up; next = λ _. up }
 
-signed : (r : LineReply) (config : Config) (o : Option SignOn) (t : Session) → (let x = signed_on r config o t in OnlyUp x.verdict x.session.phase)
+signed : (r : LineReply) (config : Config) (o : Option SignOn) (t : Session)
+    → (let x = signed_on r config o t in OnlyUp x.verdict x.session.phase)
 signed r config (Some x) t = is_up_then refl
 signed r config None t = asks_nothing refl refl
 
@@ -72,14 +77,16 @@ module _ (s : Session) where
   tries : (r : LineReply) → is_next r ≡ false → (let x = try_with r s in OnlyUp x.verdict x.session.phase)
   tries r quiet = at (s.tries == 5)
     where
-      at : (b : Bool) → (let x = cond b (end s) (with_reply r (record s { tries = s.tries + 1 })) in OnlyUp x.verdict x.session.phase)
+      at : (b : Bool) → (let x = cond b (end s) (with_reply r (record s { tries = s.tries + 1 })) in
+          OnlyUp x.verdict x.session.phase)
       at true = asks_nothing refl refl
       at false = asks_nothing refl quiet
 
   in_turn : s.phase ≡ Up → (let x = next_in_turn s in OnlyUp x.verdict x.session.phase)
   in_turn up = at s.has_turn
     where
-      at : (b : Bool) → (let x = cond b (with_reply (reply.Next true) s) (try_nak s) in OnlyUp x.verdict x.session.phase)
+      at : (b : Bool) → (let x = cond b (with_reply (reply.Next true) s) (try_nak s) in
+          OnlyUp x.verdict x.session.phase)
       at true = is_up_then (ap is_up up)
       at false = tries (reply.Control control.Nak) refl
 
@@ -100,10 +107,9 @@ module _ (s : Session) where
   acting_on fcs last = record s { tries = 0; last_bcb = last; peer_fcs = fcs }
 
   -- by the tests of the count rule, whose outcomes can't be named here
-  by_counts :
-      (bcb : ℕ) (fcs : ℕ × ℕ) (acted : _)
-      → (let x = by_count bcb fcs acted s in
-      ((last : Option ℕ) → (let y = acted (acting_on fcs last) in OnlyUp y.verdict y.session.phase)) → OnlyUp x.verdict x.session.phase)
+  by_counts : (bcb : ℕ) (fcs : ℕ × ℕ) (acted : _) → (let x = by_count bcb fcs acted s in
+      ((last : Option ℕ) → (let y = acted (acting_on fcs last) in OnlyUp y.verdict y.session.phase))
+      → OnlyUp x.verdict x.session.phase)
   by_counts bcb fcs acted acts = at_unchecked (bcb_type bcb == 1) refl
     where
       IsSo : Type 0
@@ -115,7 +121,8 @@ module _ (s : Session) where
       at_taken true e f g h = rw (e, f, g, h, by_count, count_verdict) (acts _)
       at_taken false e f g h = rw (e, f, g, h, by_count, count_verdict) (asks_nothing refl refl)
 
-      at_set : (b : Bool) → (bcb_type bcb == 1) ≡ false → is_repeat s.last_bcb bcb ≡ false → (bcb_type bcb == 2) ≡ b → IsSo
+      at_set : (b : Bool) → (bcb_type bcb == 1) ≡ false → is_repeat s.last_bcb bcb ≡ false → (bcb_type bcb == 2) ≡ b
+          → IsSo
       at_set true e f g = rw (e, f, g, by_count, count_verdict) (acts _)
       at_set false e f g = at_taken (is_taken s.last_bcb (bcb_count bcb)) e f g refl
 
@@ -127,14 +134,15 @@ module _ (s : Session) where
       at_unchecked true e = rw (e, by_count, count_verdict) (acts _)
       at_unchecked false e = at_repeat (is_repeat s.last_bcb bcb) e refl
 
-  in_row :
-      (down calling answered sent_i up : _)
-      → (let x = cell s.phase down calling answered sent_i up in
-      OnlyUp down.verdict down.session.phase → OnlyUp calling.verdict calling.session.phase → OnlyUp answered.verdict answered.session.phase
-      → OnlyUp sent_i.verdict sent_i.session.phase → (s.phase ≡ Up → OnlyUp up.verdict up.session.phase) → OnlyUp x.verdict x.session.phase)
+  in_row : (down calling answered sent_i up : _) → (let x = cell s.phase down calling answered sent_i up in
+      OnlyUp down.verdict down.session.phase → OnlyUp calling.verdict calling.session.phase
+      → OnlyUp answered.verdict answered.session.phase
+      → OnlyUp sent_i.verdict sent_i.session.phase → (s.phase ≡ Up → OnlyUp up.verdict up.session.phase)
+      → OnlyUp x.verdict x.session.phase)
   in_row down calling answered sent_i up d c a i u = at s.phase refl
     where
-      at : (p : Phase) → s.phase ≡ p → (let x = cell p down calling answered sent_i up in OnlyUp x.verdict x.session.phase)
+      at : (p : Phase) → s.phase ≡ p → (let x = cell p down calling answered sent_i up in
+          OnlyUp x.verdict x.session.phase)
       at Down e = d
       at Calling e = c
       at Answered e = a
@@ -144,35 +152,43 @@ module _ (s : Session) where
   nothing : OnlyUp (none s).verdict (none s).session.phase
   nothing = asks_nothing refl refl
 
-  tried : (let x = cell s.phase (none s) (none s) (try_nak s) (try_nak s) (try_nak s) in OnlyUp x.verdict x.session.phase)
+  tried : (let x = cell s.phase (none s) (none s) (try_nak s) (try_nak s) (try_nak s) in
+      OnlyUp x.verdict x.session.phase)
   tried =
       let nak = tries (reply.Control control.Nak) refl in
       in_row (none s) (none s) (try_nak s) (try_nak s) (try_nak s) nothing nothing nak nak (λ _. nak)
 
-  hung_up : (let x = cell s.phase (none s) (hang_up s) (hang_up s) (hang_up s) (end s) in OnlyUp x.verdict x.session.phase)
+  hung_up : (let x = cell s.phase (none s) (hang_up s) (hang_up s) (hang_up s) (end s) in
+      OnlyUp x.verdict x.session.phase)
   hung_up =
-      in_row (none s) (hang_up s) (hang_up s) (hang_up s) (end s) nothing (asks_nothing refl refl) (asks_nothing refl refl) (asks_nothing refl refl)
+      in_row (none s) (hang_up s) (hang_up s) (hang_up s) (end s) nothing (asks_nothing refl refl)
+      (asks_nothing refl refl) (asks_nothing refl refl)
       (λ _. asks_nothing refl refl)
 
-only_up : (config : Config) (came : Input) (s : Session) → (let x = table_outcome config came s in OnlyUp x.verdict x.session.phase)
+only_up : (config : Config) (came : Input) (s : Session)
+    → (let x = table_outcome config came s in OnlyUp x.verdict x.session.phase)
 unfolding table_outcome
 only_up config input.Enquiry s =
-    in_row s (contact config.role s) (none s) (ack0 s) (none s) (end_and_contact config.role s) (contacts s config.role) (nothing s)
+    in_row s (contact config.role s) (none s) (ack0 s) (none s) (end_and_contact config.role s) (contacts s config.role)
+    (nothing s)
     (asks_nothing refl refl) (nothing s) (λ _. ends_and_contacts s config.role)
 only_up config input.Ack0 s =
-    in_row s (none s) (i_block s) (none s) (none s) (next_or_turn s) (nothing s) (asks_nothing refl refl) (nothing s) (nothing s)
+    in_row s (none s) (i_block s) (none s) (none s) (next_or_turn s) (nothing s) (asks_nothing refl refl) (nothing s)
+    (nothing s)
     (λ up. is_up_then (ap is_up up))
 only_up config input.Nak s =
     let again = tries s reply.Again refl in
-    in_row s (none s) (none s) (try_again s) (try_again s) (try_again s) (nothing s) (nothing s) again again (λ _. again)
+    in_row s (none s) (none s) (try_again s) (try_again s) (try_again s) (nothing s) (nothing s) again again
+    (λ _. again)
 only_up config input.Eot s = hung_up s
 only_up config input.Lost s = hung_up s
 only_up config (input.Block bcb fcs first) s =
-    in_row s (none s) (none s) (by_count bcb fcs (i_sign_on config first) s) (by_count bcb fcs (j_sign_on config first) s) (by_count bcb fcs act s)
-    (nothing s) (nothing s)
-    (by_counts s bcb fcs (i_sign_on config first)
+    in_row s (none s) (none s) (by_count bcb fcs (i_sign_on config first) s)
+    (by_count bcb fcs (j_sign_on config first) s) (by_count bcb fcs act s)
+    (nothing s) (nothing s) (by_counts s bcb fcs (i_sign_on config first)
     (λ last. signed (reply.SignOn Response) config (fitting Initial config first) (acting_on s fcs last)))
-    (by_counts s bcb fcs (j_sign_on config first) (λ last. signed (reply.Next true) config (fitting Response config first) (acting_on s fcs last)))
+    (by_counts s bcb fcs (j_sign_on config first) (λ last. signed (reply.Next true) config
+    (fitting Response config first) (acting_on s fcs last)))
     (λ up. by_counts s bcb fcs act (λ last. is_up_then (ap is_up up)))
 only_up config input.Spoiled s = tried s
 only_up config input.Bad s = tried s
@@ -186,7 +202,8 @@ only_up config input.Tick s =
 
 -- each line but one rests, unless it is up
 abbrev OthersRest : ℕ → List CustomerLine → Type 0
-OthersRest l lines = (m : ℕ) → (m ≡ l → ⊥) → m < length lines → is_up (phase_of (line_at m lines)) ≡ false → IsIdle (line_at m lines)
+OthersRest l lines = (m : ℕ) → (m ≡ l → ⊥) → m < length lines → is_up (phase_of (line_at m lines)) ≡ false
+    → IsIdle (line_at m lines)
 
 others : (l : ℕ) (lines : List CustomerLine) → IdleUnlessUp lines → OthersRest l lines
 others l lines rest m other there down = rest m there down
@@ -194,10 +211,12 @@ others l lines rest m other there down = rest m there down
 set_others : (l : ℕ) (x : CustomerLine) (lines : List CustomerLine) → OthersRest l lines → OthersRest l (set lines l x)
 set_others l x lines rest m other there down =
     let same : line_at m (set lines l x) ≡ line_at m lines = get_or-set_other lines l m x no_customer_line other in
-    subst IsIdle (sym same) (rest m other (omega (arith, there, length-set lines l x)) (ap (λ y. is_up (phase_of y)) (sym same) ∙ down))
+    subst IsIdle (sym same) (rest m other (omega (arith, there, length-set lines l x))
+    (ap (λ y. is_up (phase_of y)) (sym same) ∙ down))
 
 set_rests :
-    (l : ℕ) (x : CustomerLine) (lines : List CustomerLine) → OthersRest l lines → (l < length lines → is_up (phase_of x) ≡ false → IsIdle x)
+    (l : ℕ) (x : CustomerLine) (lines : List CustomerLine) → OthersRest l lines
+    → (l < length lines → is_up (phase_of x) ≡ false → IsIdle x)
     → IdleUnlessUp (set lines l x)
 set_rests l x lines rest here m there down = at (m == l) refl
   where
@@ -219,16 +238,21 @@ abbrev KeepsPhase : (CustomerLine → CustomerLine) → Type 0
 KeepsPhase f = (x : CustomerLine) → phase_of (f x) ≡ phase_of x
 
 -- line l is as far as it was where another one changes that is itself as far as it was
-same_phase :
-    (l k : ℕ) (f : CustomerLine → CustomerLine) (lines : List CustomerLine) → KeepsPhase f
+same_phase : (l k : ℕ) (f : CustomerLine → CustomerLine) (lines : List CustomerLine) → KeepsPhase f
     → phase_of (line_at l (on_line k f lines)) ≡ phase_of (line_at l lines)
-same_phase l k f lines same =
-    sym (get_or-map phase_of (on_line k f lines) l no_customer_line)
-    ∙ ap (λ ps. get_or ps l Down) (map-set_same phase_of lines k (f (line_at k lines)) no_customer_line (same (line_at k lines)))
+same_phase l k f lines same = sym (get_or-map phase_of (on_line k f lines) l no_customer_line)
+    ∙ ap (λ ps. get_or ps l Down) (map-set_same phase_of lines k (f (line_at k lines)) no_customer_line
+    (same (line_at k lines)))
     ∙ get_or-map phase_of lines l no_customer_line
 
 message_idle : (m : List ℕ) (x : CustomerLine) → IsIdle x → IsIdle (in_state (with_message m) x)
-message_idle m x idle = record { receivers = idle.receivers; senders = idle.senders; answers = idle.answers; served = idle.served }
+message_idle m x idle = record {
+  receivers = idle.receivers;
+  senders = idle.senders;
+  answers = idle.answers;
+  served =
+      idle.served;
+}
 
 given_up_idle : (n : ℕ) (x : CustomerLine) → IsIdle x → IsIdle (with_senders_by (without_file n) x)
 given_up_idle n x idle = record {
@@ -240,12 +264,14 @@ given_up_idle n x idle = record {
 
 module _ (l : ℕ) where
   -- the line changes
-  own : (f : CustomerLine → CustomerLine) (lines : List CustomerLine) → KeepsPhase f → UpAndRest l lines → UpAndRest l (on_line l f lines)
+  own : (f : CustomerLine → CustomerLine) (lines : List CustomerLine) → KeepsPhase f → UpAndRest l lines
+      → UpAndRest l (on_line l f lines)
   own f lines same r =
       let x = line_at l lines in
       record {
         up = ap is_up (same_phase l l f lines same) ∙ r.up;
-        rest = set_rests l (f x) lines (others l lines r.rest) (λ _ down. absurd (cc (sym down ∙ ap is_up (same x) ∙ r.up)));
+        rest = set_rests l (f x) lines (others l lines r.rest)
+            (λ _ down. absurd (cc (sym down ∙ ap is_up (same x) ∙ r.up)));
       }
 
   waits : (k : ℕ) (m : List ℕ) (lines : List CustomerLine) → UpAndRest l lines → UpAndRest l (with_waiting k m lines)
@@ -253,15 +279,16 @@ module _ (l : ℕ) where
       let x = line_at k lines in
       record {
         up = ap is_up (same_phase l k (in_state (with_message m)) lines (λ y. refl)) ∙ r.up;
-        rest = set_rests k (in_state (with_message m) x) lines (others k lines r.rest) (λ there down. message_idle m x (r.rest k there down));
+        rest = set_rests k (in_state (with_message m) x) lines (others k lines r.rest)
+            (λ there down. message_idle m x (r.rest k there down));
       }
 
   given_up : (n : ℕ) (lines : List CustomerLine) → UpAndRest l lines → UpAndRest l (without_sending lines n)
   given_up n lines r = record {
     up = ap (λ x. is_up (phase_of x)) (it l) ∙ r.up;
-    rest = λ m there down. subst IsIdle (sym (it m))
-        (given_up_idle n (line_at m lines)
-        (r.rest m (omega (arith, there, length-map lines (with_senders_by (without_file n)))) (ap (λ x. is_up (phase_of x)) (sym (it m)) ∙ down)));
+    rest = λ m there down. subst IsIdle (sym (it m)) (given_up_idle n (line_at m lines)
+        (r.rest m (omega (arith, there, length-map lines (with_senders_by (without_file n))))
+        (ap (λ x. is_up (phase_of x)) (sym (it m)) ∙ down)));
   }
     where
       it : (m : ℕ) → line_at m (without_sending lines n) ≡ with_senders_by (without_file n) (line_at m lines)
@@ -289,17 +316,20 @@ idle_streams x = record {
 }
 
 over_rests : (l : ℕ) (c : Customer) → OthersRest l c.lines → IdleUnlessUp (session_over l c).lines
-over_rests l c rest = set_rests l (with_idle_streams (line_at l c.lines)) c.lines rest (λ _ _. idle_streams (line_at l c.lines))
+over_rests l c rest = set_rests l (with_idle_streams (line_at l c.lines)) c.lines rest
+    (λ _ _. idle_streams (line_at l c.lines))
 
 ended_rests : (l : ℕ) (c : Customer) → OthersRest l c.lines → IdleUnlessUp (session_ended l c).lines
 ended_rests l c rest =
-    over_rests l (record c { lines = on_line l (in_state after_end) c.lines }) (set_others l (in_state after_end (line_at l c.lines)) c.lines rest)
+    over_rests l (record c { lines = on_line l (in_state after_end) c.lines })
+    (set_others l (in_state after_end (line_at l c.lines)) c.lines rest)
 
 -- ---- what a line sends
 
 -- it rests still where nothing of this changed
 idle_still :
-    (x y : CustomerLine) → y.receivers ≡ x.receivers → y.senders ≡ x.senders → y.state.answers ≡ x.state.answers → y.served ≡ x.served
+    (x y : CustomerLine) → y.receivers ≡ x.receivers → y.senders ≡ x.senders → y.state.answers ≡ x.state.answers
+    → y.served ≡ x.served
     → IsIdle x → IsIdle y
 idle_still x y receivers senders answers served idle = record {
   receivers = λ k. ap (λ rs. get_or rs k receiver.Idle) receivers ∙ idle.receivers k;
@@ -310,7 +340,8 @@ idle_still x y receivers senders answers served idle = record {
 
 -- what it sends leaves it so, but for the next block
 reply_idle :
-    (entry : CustomerEntry) (l : ℕ) (r : LineReply) (s : CustomerSpool) (x : CustomerLine) → is_next r ≡ false → IsIdle x
+    (entry : CustomerEntry) (l : ℕ) (r : LineReply) (s : CustomerSpool) (x : CustomerLine) → is_next r ≡ false
+    → IsIdle x
     → IsIdle (sending_of_reply entry l r s x).line
 reply_idle entry l reply.Nothing s x quiet idle = idle
 reply_idle entry l (reply.Control control.Enquiry) s x quiet idle = idle_still x _ refl refl refl refl idle
@@ -322,7 +353,8 @@ reply_idle entry l (reply.Sequence expected) s x quiet idle = idle_still x _ ref
 reply_idle entry l (reply.Next or_ack0) s x quiet idle = absurd (cc quiet)
 
 replied_rests :
-    (l : ℕ) (r : LineReply) (c : Customer) → (is_next r ≡ true → is_up (phase_of (line_at l c.lines)) ≡ true) → IdleUnlessUp c.lines
+    (l : ℕ) (r : LineReply) (c : Customer) → (is_next r ≡ true → is_up (phase_of (line_at l c.lines)) ≡ true)
+    → IdleUnlessUp c.lines
     → IdleUnlessUp (replied_to l r c).after.lines
 replied_rests l r c up rest = set_rests l sent c.lines (others l c.lines rest) (at (is_next r) refl)
   where
@@ -340,21 +372,23 @@ replied_rests l r c up rest = set_rests l sent c.lines (others l c.lines rest) (
     at false e there down = reply_idle c.entry l r c.spool x e (rest l there (sym as_far ∙ down))
 
 -- what a verdict asks for is sent, and then the session ends where it says so
-carried_rests :
-    (l : ℕ) (v : Verdict) (c : Customer) → OthersRest l c.lines → (v.ended ≡ false → IdleUnlessUp c.lines)
-    → (is_next v.reply ≡ true → is_up (phase_of (line_at l c.lines)) ≡ true) → IdleUnlessUp (carried_out l v c).after.lines
+carried_rests : (l : ℕ) (v : Verdict) (c : Customer) → OthersRest l c.lines → (v.ended ≡ false → IdleUnlessUp c.lines)
+    → (is_next v.reply ≡ true → is_up (phase_of (line_at l c.lines)) ≡ true)
+    → IdleUnlessUp (carried_out l v c).after.lines
 carried_rests l v c rest going_on up = at v.ended refl
   where
     sent : Customer
     sent = (replied_to l v.reply c).after
 
     at : (b : Bool) → v.ended ≡ b → IdleUnlessUp (session_over_where b l sent).lines
-    at true e = over_rests l sent (set_others l (sending_of_reply c.entry l v.reply c.spool (line_at l c.lines)).line c.lines rest)
+    at true e = over_rests l sent (set_others l (sending_of_reply c.entry l v.reply c.spool (line_at l c.lines)).line
+        c.lines rest)
     at false e = replied_rests l v.reply c up (going_on e)
 
 -- ---- what comes on a line
 
-module _ (keep : InputsKeepUp) (l : ℕ) (came : Input) (c : Customer) (there : l < length c.lines) (rest : IdleUnlessUp c.lines) where
+module _ (keep : InputsKeepUp) (l : ℕ) (came : Input) (c : Customer) (there : l < length c.lines)
+    (rest : IdleUnlessUp c.lines) where
   abbrev before : CustomerLine
   before = line_at l c.lines
 
@@ -371,7 +405,8 @@ module _ (keep : InputsKeepUp) (l : ℕ) (came : Input) (c : Customer) (there : 
   asks = only_up before.state.config came before.state.session
 
   accepted_phase : is_up (phase_of (line_at l accepted.lines)) ≡ is_up after
-  accepted_phase = ap (λ x. is_up (phase_of x)) (get_or-set_same c.lines l (in_state (after_input came) before) no_customer_line there)
+  accepted_phase = ap (λ x. is_up (phase_of x)) (get_or-set_same c.lines l
+      (in_state (after_input came) before) no_customer_line there)
 
   accepted_others : OthersRest l accepted.lines
   accepted_others = set_others l (in_state (after_input came) before) c.lines (others l c.lines rest)
@@ -379,7 +414,8 @@ module _ (keep : InputsKeepUp) (l : ℕ) (came : Input) (c : Customer) (there : 
   -- a line that was up is up still, so one that isn't was at rest
   accepted_rests : (verdict_on l came c).ended ≡ false → IdleUnlessUp accepted.lines
   accepted_rests on =
-      set_rests l (in_state (after_input came) before) c.lines (others l c.lines rest) (λ _ down. at (is_up (phase_of before)) refl down)
+      set_rests l (in_state (after_input came) before) c.lines (others l c.lines rest)
+      (λ _ down. at (is_up (phase_of before)) refl down)
     where
       at : (b : Bool) → is_up (phase_of before) ≡ b → is_up after ≡ false → IsIdle (in_state (after_input came) before)
       at true e down = absurd (cc (sym down ∙ keeps.on on e))
@@ -388,16 +424,18 @@ module _ (keep : InputsKeepUp) (l : ℕ) (came : Input) (c : Customer) (there : 
   accepted_up : is_up after ≡ true → UpAndRest l accepted.lines
   accepted_up up = record {
     up = accepted_phase ∙ up;
-    rest = set_rests l (in_state (after_input came) before) c.lines (others l c.lines rest) (λ _ down. absurd (cc (sym down ∙ up)));
+    rest = set_rests l (in_state (after_input came) before) c.lines (others l c.lines rest)
+        (λ _ down. absurd (cc (sym down ∙ up)));
   }
 
   input_rests : IdleUnlessUp (after_line_input l came c).after.lines
-  input_rests = carried_rests l (verdict_on l came c) accepted accepted_others accepted_rests (λ next. accepted_phase ∙ asks.next next)
+  input_rests = carried_rests l (verdict_on l came c) accepted accepted_others accepted_rests
+      (λ next. accepted_phase ∙ asks.next next)
 
   -- records act on a line that is up, so it is up behind them
-  acting_rests :
-      (acts : Bool) (items : List Item) → (verdict_on l came c).acts ≡ acts
-      → (let a = acted_where acts l items accepted in IdleUnlessUp (behind_records a.ended l (verdict_on l came c) a.customer).after.lines)
+  acting_rests : (acts : Bool) (items : List Item) → (verdict_on l came c).acts ≡ acts
+      → (let a = acted_where acts l items accepted in IdleUnlessUp
+      (behind_records a.ended l (verdict_on l came c) a.customer).after.lines)
   acting_rests false items e = input_rests
   acting_rests true items e = at (all_acted l items accepted).ended
     where
@@ -406,33 +444,40 @@ module _ (keep : InputsKeepUp) (l : ℕ) (came : Input) (c : Customer) (there : 
 
       acted : UpAndRest l behind.lines
       acted =
-          acted_where_so l (λ d. UpAndRest l d.lines) (λ i d. record_on_lines l (UpAndRest l) (acting l) i d) true items accepted
+          acted_where_so l (λ d. UpAndRest l d.lines) (λ i d. record_on_lines l (UpAndRest l) (acting l) i d) true items
+          accepted
           (accepted_up (asks.acts e))
 
       at : (ended : Bool) → IdleUnlessUp (behind_records ended l (verdict_on l came c) behind).after.lines
       at true = ended_rests l behind (others l behind.lines acted.rest)
-      at false = carried_rests l (verdict_on l came c) behind (others l behind.lines acted.rest) (λ _. acted.rest) (λ _. acted.up)
+      at false = carried_rests l (verdict_on l came c) behind (others l behind.lines acted.rest) (λ _. acted.rest)
+          (λ _. acted.up)
 
 -- ---- a frame, and a signal
 
-pub idle_by_frame : InputsKeepUp → (l : ℕ) (x : Received) (c : Customer) → IdleUnlessUp c.lines → IdleUnlessUp (after_frame l x c).after.lines
-idle_by_frame keep l x c rest =
-    frame_holds l c (λ items s. IdleUnlessUp s.after.lines)
-    (record {
-      none = λ items. rest;
-      input = λ came there. input_rests keep l came c there rest;
-      block = λ b there. acting_rests keep l (block_input b) c there rest (verdict_on l (block_input b) c).acts b.items refl;
-    })
-    x
+pub idle_by_frame : InputsKeepUp → (l : ℕ) (x : Received) (c : Customer) → IdleUnlessUp c.lines
+    → IdleUnlessUp (after_frame l x c).after.lines
+idle_by_frame keep l x c rest = frame_holds l c (λ items s. IdleUnlessUp s.after.lines) (record {
+  none = λ items. rest;
+  input = λ came there. input_rests keep l came c there rest;
+  block = λ b there. acting_rests keep l (block_input b) c there rest
+      (verdict_on l (block_input b) c).acts b.items refl;
+}) x
 
-pub idle_by_signal : InputsKeepUp → (l : ℕ) (x : Signal) (c : Customer) → IdleUnlessUp c.lines → IdleUnlessUp (after_signal l x c).after.lines
+pub idle_by_signal : InputsKeepUp → (l : ℕ) (x : Signal) (c : Customer) → IdleUnlessUp c.lines
+    → IdleUnlessUp (after_signal l x c).after.lines
 idle_by_signal keep l x c rest =
     signal_holds l c (λ s. IdleUnlessUp s.after.lines) rest (λ came there. input_rests keep l came c there rest) x
 
 -- ---- a customer that was just opened
 
 fresh_idle : (config : Config) (streams : ℕ) → IsIdle (idle_line config streams)
-fresh_idle config streams = record { receivers = λ k. copies 8 k receiver.Idle; senders = λ k. copies 8 k sender.Idle; answers = refl; served = refl }
+fresh_idle config streams = record {
+  receivers = λ k. copies 8 k receiver.Idle;
+  senders = λ k. copies 8 k sender.Idle;
+  answers = refl;
+  served = refl;
+}
 
 pub idle_when_opened : (entry : CustomerEntry) → IdleUnlessUp (fresh_customer entry).lines
 idle_when_opened entry l there down = at entry.lines l there

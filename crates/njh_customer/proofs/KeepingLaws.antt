@@ -18,20 +18,23 @@ use Rattle.njh_customer.proofs.EventMoves.{bytes_keep_entry, bytes_move, does_en
 use Rattle.njh_customer.proofs.RoutesMoves.{routes_do, routes_keep_entry}
 
 -- with the same routes it is the same but for its marks
-same_routes : (new old : CustomerEntry) → new ≡ with_marks new.up old → new ≡ entry_with new.routes (with_marks new.up old)
+same_routes : (new old : CustomerEntry) → new ≡ with_marks new.up old
+    → new ≡ entry_with new.routes (with_marks new.up old)
 same_routes new old e = e ∙ sym (ap (λ (x : CustomerEntry). entry_with x.routes (with_marks new.up old)) e)
 
 module _ (frames : FramesDoSo) (signals : SignalsDoSo) where
   pub events_keep_entries : EventsKeepEntries
   events_keep_entries p (OwnBytes l piece) =
-      same_routes (event_run p (OwnBytes l piece)).after.customer.entry p.customer.entry (bytes_keep_entry frames (rest_on l p) p.customer l piece)
+      same_routes (event_run p (OwnBytes l piece)).after.customer.entry p.customer.entry
+      (bytes_keep_entry frames (rest_on l p) p.customer l piece)
   events_keep_entries p (OwnSignal signal l) =
       same_routes (event_run p (OwnSignal signal l)).after.customer.entry p.customer.entry
       (does_entry l [] p.customer (after_signal l signal p.customer) (signals l signal p.customer))
   events_keep_entries p (OwnRoutes routes) = routes_keep_entry p routes
 
   pub events_keep_faults : EventsKeepFaults
-  events_keep_faults p event routes = ap (λ (entry : CustomerEntry). routes_checked entry routes) (events_keep_entries p event)
+  events_keep_faults p event routes = ap (λ (entry : CustomerEntry). routes_checked entry routes)
+      (events_keep_entries p event)
 
   pub events_keep_lines : EventsKeepLines
   events_keep_lines p (OwnBytes l piece) = (bytes_move frames (rest_on l p) p.customer l piece).lines
@@ -45,7 +48,8 @@ SameButMarks entry d = d.entry ≡ with_marks d.entry.up entry
 
 -- by the frame that was sent
 by_sent :
-    (entry : CustomerEntry) (rest : Rest) (d : Customer) (frame : List ℕ) (later : Taking) → SameButMarks entry d → SameButMarks d.entry later.after
+    (entry : CustomerEntry) (rest : Rest) (d : Customer) (frame : List ℕ) (later : Taking) → SameButMarks entry d
+    → SameButMarks d.entry later.after
     → SameButMarks entry (or_later 1 rest (record { after = d; frame = frame }) later).after
 by_sent entry rest d [] later first second = second ∙ ap (with_marks later.after.entry.up) first
 by_sent entry rest d (b ∷ frame) later first second = first
@@ -53,13 +57,16 @@ by_sent entry rest d (b ∷ frame) later first second = first
 module _ (frames : FramesDoSo) where
   acted_entry : (l : ℕ) (o : Option Received) (c : Customer) → SameButMarks c.entry (acted_on l o c).after
   acted_entry l None c = refl
-  acted_entry l (Some received) c = does_entry l (records_of_frame received) c (acted_on l (Some received) c) (frames l received c)
+  acted_entry l (Some received) c = does_entry l (records_of_frame received) c (acted_on l (Some received) c)
+      (frames l received c)
 
-  take_entry : (rest : Rest) (c : Customer) (l : ℕ) (piece : List ℕ) → SameButMarks c.entry (take_step rest c l piece).after
+  take_entry : (rest : Rest) (c : Customer) (l : ℕ) (piece : List ℕ)
+      → SameButMarks c.entry (take_step rest c l piece).after
   take_entry rest c l [] = refl
   take_entry rest c l (byte ∷ bytes) =
       let x = byte_step rest c l byte in
-      by_sent c.entry x.rest x.after x.frame (take_step x.rest x.after l bytes) (acted_entry l (rest_step rest byte).frame c)
+      by_sent c.entry x.rest x.after x.frame (take_step x.rest x.after l bytes)
+      (acted_entry l (rest_step rest byte).frame c)
       (take_entry x.rest x.after l bytes)
 
   pub takes_keep_entries : TakesKeepEntries

@@ -41,20 +41,17 @@ module _ (l : ℕ) (I : List CustomerLine → Type 0) (keep : StaysWaiting l I) 
   goes_so (Line k) m lines so = keep.waits k m lines so
   goes_so Unknown m lines so = so
 
-  pub told_so :
-      (entry : CustomerEntry) (whom : User) (text : List ℕ) (lines : List CustomerLine) → I lines
+  pub told_so : (entry : CustomerEntry) (whom : User) (text : List ℕ) (lines : List CustomerLine) → I lines
       → I (with_message_to entry whom text lines)
   told_so entry whom text = goes_so (route_of entry whom.node) (notice_record entry.hub whom text)
 
-  pub all_told_so :
-      (entry : CustomerEntry) (whom : User) (texts : List (List ℕ)) (lines : List CustomerLine) → I lines
+  pub all_told_so : (entry : CustomerEntry) (whom : User) (texts : List (List ℕ)) (lines : List CustomerLine) → I lines
       → I (all_said entry whom texts lines)
   all_told_so entry whom [] lines so = so
   all_told_so entry whom (t ∷ ts) lines so =
       all_told_so entry whom ts (with_message_to entry whom t lines) (told_so entry whom t lines so)
 
-  pub notified_so :
-      (entry : CustomerEntry) (notice : Option Notice) (lines : List CustomerLine) → I lines
+  pub notified_so : (entry : CustomerEntry) (notice : Option Notice) (lines : List CustomerLine) → I lines
       → I (with_notice_to entry notice lines)
   notified_so entry None lines so = so
   notified_so entry (Some n) lines so = told_so entry n.whom n.text lines so
@@ -71,8 +68,7 @@ given_up_so I one (n ∷ ns) lines so = given_up_so I one ns (without_sending li
 pub record StaysReceiving (l : ℕ) (I : List CustomerLine → Type 0) : Type 0 where
   pub waiting : StaysWaiting l I
   pub receives : (k : ℕ) (r : Receiver) (lines : List CustomerLine) → I lines → I (on_line l (with_receiver k r) lines)
-  pub notes :
-      (k : ℕ) (r : Receiver) (n : Option Notice) (lines : List CustomerLine) → I lines
+  pub notes : (k : ℕ) (r : Receiver) (n : Option Notice) (lines : List CustomerLine) → I lines
       → I (on_line l (with_notice k r n) lines)
 
 pub arrived_so :
@@ -114,8 +110,7 @@ record_on_lines l I keep i c so = at i (after_record l i c) (record_does l c i)
         let done = message_outcome c.entry (sender_of n) n.message c.spool in
         all_told_so l I waiting c.entry (sender_of n) done.replies (fold without_sending c.lines done.cancelled)
         (given_up_so I keep.gives_up done.cancelled c.lines so)
-    at _ _ (does.knows_no_node i n) =
-        told_so l I waiting c.entry (sender_of n) (node_unknown n.to) c.lines so
+    at _ _ (does.knows_no_node i n) = told_so l I waiting c.entry (sender_of n) (node_unknown n.to) c.lines so
     at _ _ (does.passes_on i k m) = waiting.waits k m c.lines so
 
 -- ---- what is seen of each line

@@ -49,7 +49,8 @@ use Rattle.njh_customer.proofs.Restated.{ended_where, without_open_same}
 abbrev RestReady : ℕ → List WholeFile → Type 0
 RestReady n fs = (f : WholeFile) → Contains fs f → f.number ≡ n → state_at_rest f.state ≡ Ready
 
-marked_at_rest : (n : ℕ) (fs : List WholeFile) → RestReady n fs → map at_rest (with_file_state n Ready fs) ≡ map at_rest fs
+marked_at_rest : (n : ℕ) (fs : List WholeFile) → RestReady n fs
+    → map at_rest (with_file_state n Ready fs) ≡ map at_rest fs
 marked_at_rest n [] restful = refl
 marked_at_rest n (f ∷ fs) restful =
     at_number (f.number == n) refl (marked_at_rest n fs (λ g at. restful g (Contains-append_right (f ∷ []) fs g at)))
@@ -65,13 +66,15 @@ marked_at_rest n (f ∷ fs) restful =
     at_number false e rest = ap (λ more. at_rest f ∷ more) rest
 
 marked_still : (m n : ℕ) (fs : List WholeFile) → RestReady n fs → RestReady n (with_file_state m Ready fs)
-marked_still m n fs restful g at same = at_mark (from_where (λ f. f.number == m) (λ f. record f { state = Ready }) fs g at)
+marked_still m n fs restful g at same = at_mark (from_where (λ f. f.number == m)
+    (λ f. record f { state = Ready }) fs g at)
   where
     at_mark : WasOrIs (λ f. f.number == m) (λ f. record f { state = Ready }) fs g → state_at_rest g.state ≡ Ready
     at_mark (inl (f, there, e, is)) = ap (λ h. state_at_rest h.state) is
     at_mark (inr (there, e)) = restful g there same
 
-ended_still : (x : Sender) (n : ℕ) (s : CustomerSpool) → RestReady n s.whole → RestReady n (spool_after_session x s).whole
+ended_still : (x : Sender) (n : ℕ) (s : CustomerSpool) → RestReady n s.whole
+    → RestReady n (spool_after_session x s).whole
 ended_still x n s restful = at_file (file_in x)
   where
     at_file : (o : Option ℕ) → RestReady n (ended_where o s).whole
@@ -80,29 +83,32 @@ ended_still x n s restful = at_file (file_in x)
 
 -- the files that streams are about are Ready at rest, and so is what the end of these streams makes of them
 all_ended_at_rest :
-    (xs : List Sender) (s : CustomerSpool) → ((k n : ℕ) → file_in (get_or xs k sender.Idle) ≡ Some n → RestReady n s.whole)
+    (xs : List Sender) (s : CustomerSpool) → ((k n : ℕ) → file_in (get_or xs k sender.Idle) ≡ Some n
+    → RestReady n s.whole)
     → map at_rest (all_ended xs s).whole ≡ map at_rest s.whole
 all_ended_at_rest [] s restful = refl
 all_ended_at_rest (x ∷ xs) s restful =
-    all_ended_at_rest xs (spool_after_session x s) (λ k n about. ended_still x n s (restful (suc k) n about)) ∙ at_file (file_in x) refl
+    all_ended_at_rest xs (spool_after_session x s) (λ k n about. ended_still x n s (restful (suc k) n about)) ∙ at_file
+    (file_in x) refl
   where
     at_file : (o : Option ℕ) → file_in x ≡ o → map at_rest (ended_where o s).whole ≡ map at_rest s.whole
     at_file None e = refl
     at_file (Some n) e = marked_at_rest n s.whole (restful zero n e)
 
-tried_file : (entry : CustomerEntry) (l : ℕ) (f : WholeFile) → at_rest (cond (may_go_again entry l f) (ready f) f) ≡ at_rest f
+tried_file : (entry : CustomerEntry) (l : ℕ) (f : WholeFile)
+    → at_rest (cond (may_go_again entry l f) (ready f) f) ≡ at_rest f
 tried_file entry l f = at_state f.state (goes_by entry l f)
   where
     at_state : (state : State) (b : Bool)
-        → at_rest (cond (is_refused state && b) (ready f) (record f { state = state })) ≡ record f { state = state_at_rest state }
+        → at_rest (cond (is_refused state && b) (ready f) (record f { state = state })) ≡ record f
+        { state = state_at_rest state }
     at_state Ready b = refl
     at_state Held b = refl
     at_state Refused true = refl
     at_state Refused false = refl
     at_state Sending b = refl
 
-tried_at_rest :
-    (entry : CustomerEntry) (l : ℕ) (fs : List WholeFile)
+tried_at_rest : (entry : CustomerEntry) (l : ℕ) (fs : List WholeFile)
     → map at_rest (map (λ f. cond (may_go_again entry l f) (ready f) f) fs) ≡ map at_rest fs
 tried_at_rest entry l fs = each_same at_rest (λ f. cond (may_go_again entry l f) (ready f) f) (tried_file entry l) fs
 
@@ -113,7 +119,8 @@ set_still_down :
     → phase_of (line_at m (set lines l x)) ≡ Down
 set_still_down lines l m x down there = at (set_one lines l m x no_customer_line)
   where
-    at : (line_at m (set lines l x) ≡ line_at m lines) ⊎ ((m ≡ l) × (line_at m (set lines l x) ≡ x)) → phase_of (line_at m (set lines l x)) ≡ Down
+    at : (line_at m (set lines l x) ≡ line_at m lines) ⊎ ((m ≡ l) × (line_at m (set lines l x) ≡ x))
+        → phase_of (line_at m (set lines l x)) ≡ Down
     at (inl same) = ap phase_of same ∙ there
     at (inr it) = ap phase_of it.1 ∙ down
 
@@ -128,11 +135,13 @@ record HangsUp (s : Session) (v : Verdict) : Type 0 where
   pub verdict : v ≡ lost_verdict ended
   pub down : s.phase ≡ Down
 
-lost_hangs_up : (config : Config) (s : Session) → (let o = table_outcome config input.Lost s in HangsUp o.session o.verdict)
+lost_hangs_up : (config : Config) (s : Session) → (let o = table_outcome config input.Lost s in
+    HangsUp o.session o.verdict)
 unfolding table_outcome
 lost_hangs_up config s = at s.phase refl
   where
-    at : (p : Phase) → s.phase ≡ p → (let o = cell p (none s) (hang_up s) (hang_up s) (hang_up s) (end s) in HangsUp o.session o.verdict)
+    at : (p : Phase) → s.phase ≡ p → (let o = cell p (none s) (hang_up s) (hang_up s) (hang_up s) (end s) in
+        HangsUp o.session o.verdict)
     at Down e = record { ended = false; verdict = refl; down = e }
     at Calling e = record { ended = false; verdict = refl; down = refl }
     at Answered e = record { ended = false; verdict = refl; down = refl }
@@ -168,19 +177,20 @@ module _ (l : ℕ) (c : Customer) (order : IsInOrder c) where
     lines = length-set accepted_lines l (line_at l accepted_lines) ∙ length-set c.lines l accepted_line;
     down = set_down accepted_lines l (line_at l accepted_lines) accepted_down;
     still = λ m there.
-        set_still_down accepted_lines l m (line_at l accepted_lines) accepted_down (set_still_down c.lines l m accepted_line hangs_up.down there);
+        set_still_down accepted_lines l m (line_at l accepted_lines) accepted_down
+        (set_still_down c.lines l m accepted_line hangs_up.down there);
     files = refl;
   }
 
   same_senders : (line_at l judged.lines).senders ≡ (line_at l c.lines).senders
-  same_senders =
-      sym (get_or-map (λ x. x.senders) judged.lines l no_customer_line)
-      ∙ ap (λ all. get_or all l [])
-      (on_line_senders l (λ x. x) accepted_lines (λ x. refl) ∙ on_line_senders l (in_state (after_input input.Lost)) c.lines (λ x. refl))
+  same_senders = sym (get_or-map (λ x. x.senders) judged.lines l no_customer_line) ∙ ap (λ all. get_or all l [])
+      (on_line_senders l (λ x. x) accepted_lines (λ x. refl) ∙ on_line_senders l
+      (in_state (after_input input.Lost)) c.lines (λ x. refl))
       ∙ get_or-map (λ x. x.senders) c.lines l no_customer_line
 
   -- what the line was sending is Ready at rest
-  sent_ready : (k n : ℕ) → file_in (get_or (line_at l judged.lines).senders k sender.Idle) ≡ Some n → RestReady n c.spool.whole
+  sent_ready : (k n : ℕ) → file_in (get_or (line_at l judged.lines).senders k sender.Idle) ≡ Some n
+      → RestReady n c.spool.whole
   sent_ready k n about f at same =
       let here = stream_is l k c ∙ ap (λ xs. get_or xs k sender.Idle) (sym same_senders) in
       ap state_at_rest (order.sent.sending l k n f (ap file_in here ∙ about) at same)
@@ -188,7 +198,8 @@ module _ (l : ℕ) (c : Customer) (order : IsInOrder c) where
   over_files : map at_rest (session_over l judged).spool.whole ≡ map at_rest c.spool.whole
   over_files =
       let x = line_at l judged.lines in
-      ap (map at_rest) ((without_open_same x.receivers (tried_again judged.entry l (all_ended x.senders c.spool))).whole)
+      ap (map at_rest) ((without_open_same x.receivers (tried_again judged.entry l
+      (all_ended x.senders c.spool))).whole)
       ∙ tried_at_rest judged.entry l (all_ended x.senders c.spool).whole
       ∙ all_ended_at_rest x.senders c.spool sent_ready
 
@@ -205,13 +216,15 @@ module _ (l : ℕ) (c : Customer) (order : IsInOrder c) where
 
   input_lost : LineLost l c (after_line_input l input.Lost c).after
   input_lost =
-      subst (λ v. LineLost l c (carried_out l v (accepted_on l input.Lost c)).after) (sym hangs_up.verdict) (over_lost hangs_up.ended)
+      subst (λ v. LineLost l c (carried_out l v (accepted_on l input.Lost c)).after) (sym hangs_up.verdict)
+      (over_lost hangs_up.ended)
 
   signal_lost : l < length c.lines → LineLost l c (after_signal l Lost c).after
   unfolding after_signal
   signal_lost there = at_there (nat_lt l (length c.lines)) refl
     where
-      at_there : (b : Bool) → nat_lt l (length c.lines) ≡ b → LineLost l c (cond b (after_line_input l input.Lost c) (silent c)).after
+      at_there : (b : Bool) → nat_lt l (length c.lines) ≡ b
+          → LineLost l c (cond b (after_line_input l input.Lost c) (silent c)).after
       at_there true e = input_lost
       at_there false e = absurd (omega (arith, ltb-false l (length c.lines) e, there))
 
@@ -225,7 +238,8 @@ none_came (r ∷ rs) (suc l) = none_came rs l
 none_still : (rests : List Rest) (l m : ℕ) → rest_at m rests ≡ Nothing → rest_at m (set rests l Nothing) ≡ Nothing
 none_still rests l m there = at (set_one rests l m Nothing Nothing)
   where
-    at : (rest_at m (set rests l Nothing) ≡ rest_at m rests) ⊎ ((m ≡ l) × (rest_at m (set rests l Nothing) ≡ Nothing)) → rest_at m (set rests l Nothing) ≡ Nothing
+    at : (rest_at m (set rests l Nothing) ≡ rest_at m rests) ⊎ ((m ≡ l) × (rest_at m (set rests l Nothing) ≡ Nothing))
+        → rest_at m (set rests l Nothing) ≡ Nothing
     at (inl same) = same ∙ there
     at (inr it) = it.1
 
@@ -248,7 +262,8 @@ below P n m few here earlier = at (nat_lt m n) refl
     at true e = earlier (ltb-true m n e)
     at false e = let same : n ≡ m = omega (arith, few, ltb-false m n e) in subst P same here
 
-all_lost : StaysInOrder → (n : ℕ) (p : Part) → n ≤ length p.customer.lines → IsInOrder p.customer → LinesLost n p (alone_run p (losses n)).after
+all_lost : StaysInOrder → (n : ℕ) (p : Part) → n ≤ length p.customer.lines → IsInOrder p.customer
+    → LinesLost n p (alone_run p (losses n)).after
 all_lost stays zero p few order = record {
   order = order;
   files = refl;
@@ -267,9 +282,11 @@ all_lost stays (suc l) p few order =
       order = later.order;
       files = later.files ∙ one.files;
       lines = later.lines ∙ one.lines;
-      down = λ m there. below (λ k. phase_of (line_at k y.customer.lines) ≡ Down) l m there (later.still_down l one.down) (later.down m);
+      down = λ m there. below (λ k. phase_of (line_at k y.customer.lines) ≡ Down) l m there
+          (later.still_down l one.down) (later.down m);
       still_down = λ m there. later.still_down m (one.still m there);
-      rests = λ m there. below (λ k. rest_on k y ≡ Nothing) l m there (later.still_none l (none_came p.rests l)) (later.rests m);
+      rests = λ m there. below (λ k. rest_on k y ≡ Nothing) l m there (later.still_none l (none_came p.rests l))
+          (later.rests m);
       still_none = λ m there. later.still_none m (none_still p.rests l m there);
     }
 
@@ -281,15 +298,16 @@ module _ (c : Customer) (order : IsInOrder c) (idle : (l : ℕ) → l < length c
     where
       at_there : (b : Bool) → nat_lt l (length c.lines) ≡ b → receiver_at k (line_at l c.lines) ≡ receiver.Idle
       at_there true e = (idle l (ltb-true l (length c.lines) e)).receivers k
-      at_there false e = ap (receiver_at k) (get_or_past c.lines l no_customer_line (omega (arith, ltb-false l (length c.lines) e)))
+      at_there false e = ap (receiver_at k) (get_or_past c.lines l no_customer_line
+          (omega (arith, ltb-false l (length c.lines) e)))
 
   senders_idle : (l k : ℕ) → file_in (get_or (line_at l c.lines).senders k sender.Idle) ≡ None
   senders_idle l k = at_there (nat_lt l (length c.lines)) refl
     where
-      at_there : (b : Bool) → nat_lt l (length c.lines) ≡ b → file_in (get_or (line_at l c.lines).senders k sender.Idle) ≡ None
+      at_there : (b : Bool) → nat_lt l (length c.lines) ≡ b
+          → file_in (get_or (line_at l c.lines).senders k sender.Idle) ≡ None
       at_there true e = ap file_in ((idle l (ltb-true l (length c.lines) e)).senders k)
-      at_there false e =
-          ap (λ (x : CustomerLine). file_in (get_or x.senders k sender.Idle))
+      at_there false e = ap (λ (x : CustomerLine). file_in (get_or x.senders k sender.Idle))
           (get_or_past c.lines l no_customer_line (omega (arith, ltb-false l (length c.lines) e)))
 
   no_partial : c.spool.partial ≡ []
@@ -297,19 +315,20 @@ module _ (c : Customer) (order : IsInOrder c) (idle : (l : ℕ) → l < length c
     where
       at_files : (fs : List PartialFile) → c.spool.partial ≡ fs → c.spool.partial ≡ []
       at_files [] e = e
-      at_files (f ∷ fs) e =
-          let found : partial_numbered f.number c.spool ≡ Some f =
+      at_files (f ∷ fs) e = let found : partial_numbered f.number c.spool ≡ Some f =
           ap (find (λ g. g.number == f.number)) e
           ∙ ap (λ b. cond b (Some f) (find (λ g. g.number == f.number) fs)) (eq-eqb f.number f.number refl) in
           let comes = order.coherent.tied.come f.number f found in
           let none : None ≡ Some f.number =
-          ap coming_file (sym (coherence.stream_is comes.line comes.stream c.lines ∙ receivers_idle comes.line comes.stream)) ∙ comes.file in
+          ap coming_file (sym (coherence.stream_is comes.line comes.stream c.lines
+          ∙ receivers_idle comes.line comes.stream)) ∙ comes.file in
           absurd (cc none)
 
   none_goes : (f : WholeFile) → Contains c.spool.whole f → f.state ≡ Sending → ⊥
   none_goes f at goes =
       let x = order.sent.go f at goes in
-      let none : None ≡ Some f.number = sym (ap file_in (stream_is x.line x.stream c) ∙ senders_idle x.line x.stream) ∙ x.about in
+      let none : None ≡ Some f.number = sym (ap file_in (stream_is x.line x.stream c) ∙ senders_idle x.line x.stream)
+      ∙ x.about in
       cc none
 
 -- ---- the loss of all lines
@@ -318,8 +337,10 @@ pub losses_leave : StaysInOrder → LossesLeaveFiles
 losses_leave stays p order =
     let c = (after_losses p).customer in
     let lost = all_lost stays (length p.customer.lines) p (omega arith) order in
-    let down : (l : ℕ) → l < length c.lines → phase_of (line_at l c.lines) ≡ Down = λ l there. lost.down l (omega (arith, there, lost.lines)) in
-    let idle : (l : ℕ) → l < length c.lines → IsIdle (line_at l c.lines) = λ l there. lost.order.idle l there (ap is_up (down l there)) in
+    let down : (l : ℕ) → l < length c.lines → phase_of (line_at l c.lines) ≡ Down = λ l there. lost.down l
+    (omega (arith, there, lost.lines)) in
+    let idle : (l : ℕ) → l < length c.lines → IsIdle (line_at l c.lines) = λ l there. lost.order.idle l there
+    (ap is_up (down l there)) in
     record {
       files = lost.files;
       none_sent = none_goes c lost.order idle;

@@ -45,20 +45,23 @@ ups_kept xs ys e = sym (map-map is_kept_up kept xs) ∙ ap (map is_kept_up) e �
 
 -- ---- marks
 
-marks_over : (up : Bool) (l : ℕ) (entry : CustomerEntry) → set (with_raised_line up l entry).up l false ≡ set entry.up l false
+marks_over : (up : Bool) (l : ℕ) (entry : CustomerEntry)
+    → set (with_raised_line up l entry).up l false ≡ set entry.up l false
 marks_over true l entry = set-set entry.up l true false
 marks_over false l entry = refl
 
 -- a line that is marked as it was before, and goes up or doesn't
 marks_on :
-    (p q : Phase) (l : ℕ) (entry : CustomerEntry) (us : List Bool) → entry.up ≡ us → get_or us l false ≡ is_up p → (is_up p ≡ true → is_up q ≡ true)
+    (p q : Phase) (l : ℕ) (entry : CustomerEntry) (us : List Bool) → entry.up ≡ us → get_or us l false ≡ is_up p
+    → (is_up p ≡ true → is_up q ≡ true)
     → (with_raised_line (goes_up p q) l entry).up ≡ set us l (is_up q)
 marks_on p q l entry us marked has = at (is_up p) (is_up q) has
   where
     stays : (b : Bool) → get_or us l false ≡ b → entry.up ≡ set us l b
     stays b e = marked ∙ sym (set-get_or us l false) ∙ ap (set us l) e
 
-    at : (a b : Bool) → get_or us l false ≡ a → (a ≡ true → b ≡ true) → (with_raised_line (b && not a) l entry).up ≡ set us l b
+    at : (a b : Bool) → get_or us l false ≡ a → (a ≡ true → b ≡ true)
+        → (with_raised_line (b && not a) l entry).up ≡ set us l b
     at true true e on = stays true e
     at true false e on = absurd (cc (sym (on refl)))
     at false true e on = ap (λ xs. set xs l true) marked
@@ -83,11 +86,13 @@ module _ (keep : InputsKeepUp) (l : ℕ) (came : Input) (c : Customer) (marked :
   -- once the session is over
   lowered : (d : Customer) → d.entry ≡ (accepted_on l came c).entry → set d.entry.up l false ≡ set (ups c.lines) l false
   lowered d entry =
-      ap (λ (e : CustomerEntry). set e.up l false) entry ∙ marks_over (goes_up before after) l c.entry ∙ ap (λ us. set us l false) marked
+      ap (λ (e : CustomerEntry). set e.up l false) entry ∙ marks_over (goes_up before after) l c.entry ∙ ap
+      (λ us. set us l false) marked
 
   -- behind the records
   carried_marked :
-      (v : Verdict) (d : Customer) → d.entry ≡ (accepted_on l came c).entry → kepts d.lines ≡ kepts (accepted_on l came c).lines
+      (v : Verdict) (d : Customer) → d.entry ≡ (accepted_on l came c).entry
+      → kepts d.lines ≡ kepts (accepted_on l came c).lines
       → v.ended ≡ (verdict_on l came c).ended → IsMarked (carried_out l v d).after
   carried_marked v d entry kept_so ended = at v.ended ended
     where
@@ -96,27 +101,26 @@ module _ (keep : InputsKeepUp) (l : ℕ) (came : Input) (c : Customer) (marked :
 
       sent_ups : ups sent.lines ≡ set (ups c.lines) l (is_up after)
       sent_ups =
-          map-set_same is_line_up d.lines l (sending_of_reply d.entry l v.reply d.spool (line_at l d.lines)).line no_customer_line
-          (ap (λ (p : Config × Phase × ℕ × List Receiver). is_up p.1) (reply_lasting d.entry l v.reply d.spool (line_at l d.lines)))
+          map-set_same is_line_up d.lines l (sending_of_reply d.entry l v.reply d.spool (line_at l d.lines)).line
+          no_customer_line
+          (ap (λ (p : Config × Phase × ℕ × List Receiver). is_up p.1)
+          (reply_lasting d.entry l v.reply d.spool (line_at l d.lines)))
           ∙ ups_kept d.lines (accepted_on l came c).lines kept_so ∙ accepted_ups
 
       at : (b : Bool) → b ≡ (verdict_on l came c).ended → IsMarked (session_over_where b l sent)
-      at true e =
-          lowered d entry
-          ∙ ap (set (ups c.lines) l) (sym (keeps.over (sym e)))
-          ∙ sym sent_ups ∙ sym (map-set_same is_line_up sent.lines l (with_idle_streams (line_at l sent.lines)) no_customer_line refl)
-      at false e =
-          ap (λ (x : CustomerEntry). x.up) entry
-          ∙ marks_on before after l c.entry (ups c.lines) marked has_mark (keeps.on (sym e))
-          ∙ sym sent_ups
+      at true e = lowered d entry ∙ ap (set (ups c.lines) l) (sym (keeps.over (sym e)))
+          ∙ sym sent_ups ∙ sym (map-set_same is_line_up sent.lines l
+          (with_idle_streams (line_at l sent.lines)) no_customer_line refl)
+      at false e = ap (λ (x : CustomerEntry). x.up) entry
+          ∙ marks_on before after l c.entry (ups c.lines) marked has_mark (keeps.on (sym e)) ∙ sym sent_ups
 
   -- a record ended the session
   ended_marked :
-      (d : Customer) → d.entry ≡ (accepted_on l came c).entry → kepts d.lines ≡ kepts (accepted_on l came c).lines → IsMarked (session_ended l d)
+      (d : Customer) → d.entry ≡ (accepted_on l came c).entry → kepts d.lines ≡ kepts (accepted_on l came c).lines
+      → IsMarked (session_ended l d)
   ended_marked d entry kept_so =
       let xs = on_line l (in_state after_end) d.lines in
-      lowered d entry
-      ∙ sym (map-set_same is_line_up xs l (with_idle_streams (line_at l xs)) no_customer_line refl
+      lowered d entry ∙ sym (map-set_same is_line_up xs l (with_idle_streams (line_at l xs)) no_customer_line refl
       ∙ map-set is_line_up d.lines l (in_state after_end (line_at l d.lines))
       ∙ ap (λ us. set us l false) (ups_kept d.lines (accepted_on l came c).lines kept_so ∙ accepted_ups)
       ∙ set-set (ups c.lines) l (is_up after) false)
@@ -145,15 +149,13 @@ module _ (keep : InputsKeepUp) (commands : CommandsMoveFilesSo) where
 
   frames_marked : StaysInFrames IsMarked
   frames_marked = record {
-    by_frame = λ l x c marked.
-        frame_holds l c (λ items s. IsMarked s.after)
-        (record {
-          none = λ items. marked;
-          input = λ came there. input_marked keep l came c marked;
-          block = λ b there. block_marked l b c marked;
-        })
-        x;
-    by_signal = λ l x c marked. signal_holds l c (λ s. IsMarked s.after) marked (λ came there. input_marked keep l came c marked) x;
+    by_frame = λ l x c marked. frame_holds l c (λ items s. IsMarked s.after) (record {
+      none = λ items. marked;
+      input = λ came there. input_marked keep l came c marked;
+      block = λ b there. block_marked l b c marked;
+    }) x;
+    by_signal = λ l x c marked. signal_holds l c (λ s. IsMarked s.after) marked
+        (λ came there. input_marked keep l came c marked) x;
     by_routes = λ routes c marked. marked;
   }
 
@@ -164,5 +166,6 @@ pub marks_right : InputsKeepUp → CommandsMoveFilesSo → MarksAreRight
 marks_right keep commands = record {
   fresh = fresh_marked;
   events = event_so IsMarked (frames_marked keep commands);
-  takes = λ p l piece marked. take_so IsMarked (frames_marked keep commands).by_frame (rest_on l p) p.customer l piece marked;
+  takes = λ p l piece marked. take_so IsMarked (frames_marked keep commands).by_frame
+      (rest_on l p) p.customer l piece marked;
 }

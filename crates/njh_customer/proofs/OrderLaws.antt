@@ -71,7 +71,8 @@ raised_set_up : (up : Bool) (l : ℕ) (entry : CustomerEntry) → set_up_by (wit
 raised_set_up true l entry = refl
 raised_set_up false l entry = refl
 
-set_still : (d c : Customer) → set_ups d.lines ≡ set_ups c.lines → set_up_by d.entry ≡ set_up_by c.entry → AreSetUp c → AreSetUp d
+set_still : (d c : Customer) → set_ups d.lines ≡ set_ups c.lines → set_up_by d.entry ≡ set_up_by c.entry → AreSetUp c
+    → AreSetUp d
 set_still d c lines entry so = lines ∙ so ∙ sym entry
 
 fresh_set_up : (entry : CustomerEntry) → AreSetUp (fresh_customer entry)
@@ -84,27 +85,28 @@ module _ (commands : CommandsMoveFilesSo) where
       judged = λ l came c there.
           set_still (accepted_on l came c) c (on_line_seen set_up l (in_state (after_input came)) c.lines (λ x. refl))
           (raised_set_up (goes_up_by l came c) l c.entry);
-      answered = λ l r c there.
-          let sent = (sending_of_reply c.entry l r c.spool (line_at l c.lines)).line in
-          set_still (replied_to l r c).after c
-          (map-set_same set_up c.lines l sent no_customer_line
-          (ap (λ (p : Config × Phase × ℕ × List Receiver). (p.0, p.2)) (reply_lasting c.entry l r c.spool (line_at l c.lines))))
+      answered = λ l r c there. let sent = (sending_of_reply c.entry l r c.spool (line_at l c.lines)).line in
+          set_still (replied_to l r c).after c (map-set_same set_up c.lines l sent no_customer_line
+          (ap (λ (p : Config × Phase × ℕ × List Receiver). (p.0, p.2))
+          (reply_lasting c.entry l r c.spool (line_at l c.lines))))
           refl;
-      ended = λ l c there.
-          let lines = on_line l (in_state after_end) c.lines in
-          set_still (record c { lines = lines }) c (on_line_seen set_up l (in_state after_end) c.lines (λ x. refl)) refl;
-      over = λ l c there. set_still (session_over l c) c (on_line_seen set_up l with_idle_streams c.lines (λ x. refl)) refl;
+      ended = λ l c there. let lines = on_line l (in_state after_end) c.lines in
+          set_still (record c { lines = lines }) c (on_line_seen set_up l (in_state after_end) c.lines (λ x. refl))
+          refl;
+      over = λ l c there. set_still (session_over l c) c (on_line_seen set_up l with_idle_streams c.lines (λ x. refl))
+          refl;
     };
-    acted = λ l i c there.
-        let d = after_record l i c in
+    acted = λ l i c there. let d = after_record l i c in
         set_still d c (kept_set_ups d.lines c.lines (acted_keeps l i c)) (ap set_up_by (acts_so commands l i c).entry);
   }
 
 -- ---- files
 
 -- the state of a line's session moves no file and no stream
-session_outgoing : (l : ℕ) (f : LineState → LineState) (c : Customer) → outgoing (record c { lines = on_line l (in_state f) c.lines }) ≡ outgoing c
-session_outgoing l f c = ap (of_parts c.spool.whole c.spool.arrived) (on_line_senders l (in_state f) c.lines (λ x. refl))
+session_outgoing : (l : ℕ) (f : LineState → LineState) (c : Customer)
+    → outgoing (record c { lines = on_line l (in_state f) c.lines }) ≡ outgoing c
+session_outgoing l f c = ap (of_parts c.spool.whole c.spool.arrived)
+    (on_line_senders l (in_state f) c.lines (λ x. refl))
 
 -- which of them are being sent, where no two have one number
 abbrev AreSent : Customer → Type 0
@@ -115,23 +117,23 @@ sent_steps free names commands =
     let apart = files_in_steps AreApart (apart_files free) names commands in
     record {
       session = record {
-        judged = λ l came c there so.
-            (so.0, subst AreBeingSent (sym (session_outgoing l (after_input came) c)) so.1);
+        judged = λ l came c there so. (so.0, subst AreBeingSent (sym (session_outgoing l (after_input came) c)) so.1);
         answered = λ l r c there so. (apart.session.answered l r c there so.0, sent_replied l r c there so.1);
         ended = λ l c there so. (so.0, subst AreBeingSent (sym (session_outgoing l after_end c)) so.1);
         over = λ l c there so. (apart.session.over l c there so.0, sent_over l c there so.1);
       };
-      acted = λ l i c there so.
-          let behind = apart.acted l i c there so.0 in (
-            behind,
-            sent_record commands l i c (whole_distinct c.spool so.0) (whole_distinct (after_record l i c).spool behind) so.1,
-          );
+      acted = λ l i c there so. let behind = apart.acted l i c there so.0 in (
+        behind,
+        sent_record commands l i c (whole_distinct c.spool so.0)
+            (whole_distinct (after_record l i c).spool behind) so.1,
+      );
     }
 
 -- ---- all of it
 
 -- what is so of the lines that aren't up holds between frames alone, and so has no part in the walk over a frame's steps
-in_order : (c : Customer) → IsCoherent c → AreSent c → IsWithinQuota c.spool → AreSetUp c → IdleUnlessUp c.lines → IsInOrder c
+in_order : (c : Customer) → IsCoherent c → AreSent c → IsWithinQuota c.spool → AreSetUp c → IdleUnlessUp c.lines
+    → IsInOrder c
 in_order c coherent sent within lines idle =
     record { coherent = coherent; apart = sent.0; within = within; sent = sent.1; idle = idle; set_up = lines }
 
@@ -166,16 +168,23 @@ module _ (keep_up : InputsKeepUp) (free : FreeNumbers) (untied : NothingUnties) 
   }
 
   order_stays : (p : Part) (event : OwnEvent) → IsInOrder p.customer → IsInOrder (event_run p event).after.customer
-  order_stays = event_so IsInOrder (record { by_frame = order_by_frame; by_signal = order_by_signal; by_routes = order_by_routes })
+  order_stays = event_so IsInOrder (record {
+    by_frame = order_by_frame;
+    by_signal = order_by_signal;
+    by_routes =
+        order_by_routes;
+  })
 
 -- where no stream is about a file and none is partial, nothing need agree, as the crate of streams says it
 abbrev pub NothingIsTied : Type 0
 NothingIsTied =
-    (lines : List (List Receiver)) (s : CustomerSpool) → ((l k : ℕ) → stream_at l k lines ≡ receiver.Idle) → s.partial ≡ [] → AreTied lines s
+    (lines : List (List Receiver)) (s : CustomerSpool) → ((l k : ℕ) → stream_at l k lines ≡ receiver.Idle)
+    → s.partial ≡ [] → AreTied lines s
 
 -- a whole file that is put back
 put_back :
-    NothingUnties → (f : WholeFile) (c : Customer) → is_number f.number c.spool ≡ false → HasHeaders f.kind f.records → (f.state ≡ Sending → ⊥)
+    NothingUnties → (f : WholeFile) (c : Customer) → is_number f.number c.spool ≡ false → HasHeaders f.kind f.records
+    → (f.state ≡ Sending → ⊥)
     → IsWithinQuota (with_arrived f c.spool) → IsInOrder c → IsInOrder (customer_with_last_file f c)
 put_back untied f c free has waits within order =
     let apart = apart_arrived f c.spool free order.apart in
@@ -196,7 +205,8 @@ put_back untied f c free has waits within order =
       set_up = order.set_up;
     }
 
-pub stays_in_order : InputsKeepUp → FreeNumbers → NothingIsTied → NothingUnties → EndsTie → RecordsKeep → ReroutesNameNodes → CommandsMoveFilesSo
+pub stays_in_order : InputsKeepUp → FreeNumbers → NothingIsTied → NothingUnties → EndsTie → RecordsKeep
+    → ReroutesNameNodes → CommandsMoveFilesSo
     → StaysInOrder
 stays_in_order keep_up free at_rest untied ends records names commands = record {
   opened = λ entry few. record {

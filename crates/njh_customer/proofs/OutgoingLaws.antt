@@ -26,12 +26,14 @@ of_parts files arrived streams = record { files = files; arrived = arrived; stre
 -- ---- streams that stay
 
 pub on_line_senders :
-    (l : ℕ) (f : CustomerLine → CustomerLine) (lines : List CustomerLine) → ((x : CustomerLine) → (f x).senders ≡ x.senders)
+    (l : ℕ) (f : CustomerLine → CustomerLine) (lines : List CustomerLine)
+    → ((x : CustomerLine) → (f x).senders ≡ x.senders)
     → streams_from_hub (on_line l f lines) ≡ streams_from_hub lines
 on_line_senders l f lines same = on_line_seen (λ x. x.senders) l f lines same
 
 -- what waits, and what comes, moves none
-pub senders_receiving : (l : ℕ) (before : List CustomerLine) → StaysReceiving l (λ lines. streams_from_hub lines ≡ streams_from_hub before)
+pub senders_receiving : (l : ℕ) (before : List CustomerLine)
+    → StaysReceiving l (λ lines. streams_from_hub lines ≡ streams_from_hub before)
 senders_receiving l before = seen_receiving (λ x. x.senders) l before (record {
   waiting = record { answers = λ a x. refl; messages = λ m x. refl };
   receivers = λ k r x. refl;
@@ -44,19 +46,18 @@ pub stream_is : (l k : ℕ) (c : Customer) → sender_on l k (outgoing c) ≡ se
 stream_is l k c = ap (λ senders. get_or senders k Idle) (get_or-map (λ x. x.senders) c.lines l no_customer_line)
 
 -- a stream and the files
-pub sent_is :
-    (l k : ℕ) (x : Sender) (s : CustomerSpool) (c : Customer) → s.arrived ≡ c.spool.arrived
-    → outgoing (record c { spool = s; lines = on_line l (with_sender k x) c.lines }) ≡ with_sender_on l k x (with_files s.whole (outgoing c))
+pub sent_is : (l k : ℕ) (x : Sender) (s : CustomerSpool) (c : Customer) → s.arrived ≡ c.spool.arrived
+    → outgoing (record c { spool = s; lines = on_line l (with_sender k x) c.lines }) ≡ with_sender_on l k x
+    (with_files s.whole (outgoing c))
 sent_is l k x s c none_came =
     ap (λ n. of_parts s.whole n (streams_from_hub (on_line l (with_sender k x) c.lines))) none_came
-    ∙ ap (of_parts s.whole c.spool.arrived)
-    (map-set (λ y. y.senders) c.lines l (with_sender k x (line_at l c.lines))
-    ∙ ap (λ senders. set (streams_from_hub c.lines) l (set senders k x)) (sym (get_or-map (λ y. y.senders) c.lines l no_customer_line)))
+    ∙ ap (of_parts s.whole c.spool.arrived) (map-set (λ y. y.senders) c.lines l (with_sender k x (line_at l c.lines))
+    ∙ ap (λ senders. set (streams_from_hub c.lines) l (set senders k x))
+    (sym (get_or-map (λ y. y.senders) c.lines l no_customer_line)))
 
 -- one that doesn't
 pub same_stream : (l k : ℕ) (s : Sender) (x : Outgoing) → sender_on l k x ≡ s → with_sender_on l k s x ≡ x
-same_stream l k s x e =
-    ap (λ t. with_sender_on l k t x) (sym e)
+same_stream l k s x e = ap (λ t. with_sender_on l k t x) (sym e)
     ∙ ap (λ senders. of_parts x.files x.arrived (set x.streams l senders)) (set-get_or (get_or x.streams l []) k Idle)
     ∙ ap (of_parts x.files x.arrived) (set-get_or x.streams l [])
 
@@ -67,32 +68,39 @@ pub reply_unmoved :
     (l : ℕ) (r : LineReply) (c : Customer) → is_next r ≡ false → outgoing (replied_to l r c).after ≡ outgoing c
 reply_unmoved l r c quiet = at r quiet
   where
-    still : (line : CustomerLine) → line.senders ≡ (line_at l c.lines).senders → outgoing (record c { lines = set c.lines l line }) ≡ outgoing c
-    still line same = ap (of_parts c.spool.whole c.spool.arrived) (map-set_same (λ y. y.senders) c.lines l line no_customer_line same)
+    still : (line : CustomerLine) → line.senders ≡ (line_at l c.lines).senders
+        → outgoing (record c { lines = set c.lines l line }) ≡ outgoing c
+    still line same = ap (of_parts c.spool.whole c.spool.arrived)
+        (map-set_same (λ y. y.senders) c.lines l line no_customer_line same)
 
     at : (r : LineReply) → is_next r ≡ false → outgoing (replied_to l r c).after ≡ outgoing c
     at reply.Nothing e = still (line_at l c.lines) refl
-    at (reply.Control which) e = still (sending_of_reply c.entry l (reply.Control which) c.spool (line_at l c.lines)).line refl
+    at (reply.Control which) e = still (sending_of_reply c.entry l (reply.Control which) c.spool
+        (line_at l c.lines)).line refl
     at reply.Again e = still (sending_of_reply c.entry l reply.Again c.spool (line_at l c.lines)).line refl
-    at (reply.SignOn kind) e = still (sending_of_reply c.entry l (reply.SignOn kind) c.spool (line_at l c.lines)).line refl
+    at (reply.SignOn kind) e = still (sending_of_reply c.entry l (reply.SignOn kind) c.spool (line_at l c.lines)).line
+        refl
     at (reply.Sequence expected) e =
         still (sending_of_reply c.entry l (reply.Sequence expected) c.spool (line_at l c.lines)).line refl
     at (reply.Next or_ack0) e = absurd (cc e)
 
 -- a line's own streams are those in its place
-pub own_again : (l : ℕ) (lines : List CustomerLine) → set (streams_from_hub lines) l (line_at l lines).senders ≡ streams_from_hub lines
+pub own_again : (l : ℕ) (lines : List CustomerLine) → set (streams_from_hub lines) l
+    (line_at l lines).senders ≡ streams_from_hub lines
 own_again l lines =
-    ap (set (streams_from_hub lines) l) (sym (get_or-map (λ y. y.senders) lines l no_customer_line)) ∙ set-get_or (streams_from_hub lines) l []
+    ap (set (streams_from_hub lines) l) (sym (get_or-map (λ y. y.senders) lines l no_customer_line)) ∙ set-get_or
+    (streams_from_hub lines) l []
 
 -- ---- streams that give their files up
 
-one_given_up : (n : ℕ) (lines : List CustomerLine) → map (λ senders. map (without_file n) senders) (streams_from_hub lines) ≡ streams_from_hub (without_sending lines n)
+one_given_up : (n : ℕ) (lines : List CustomerLine) → map (λ senders. map (without_file n) senders)
+    (streams_from_hub lines) ≡ streams_from_hub (without_sending lines n)
 one_given_up n [] = refl
 one_given_up n (x ∷ xs) = ap (λ rest. map (without_file n) x.senders ∷ rest) (one_given_up n xs)
 
-pub all_given_up :
-    (ns : List ℕ) (files : List WholeFile) (arrived : ℕ) (lines : List CustomerLine)
-    → without_files ns (of_parts files arrived (streams_from_hub lines)) ≡ of_parts files arrived (streams_from_hub (fold without_sending lines ns))
+pub all_given_up : (ns : List ℕ) (files : List WholeFile) (arrived : ℕ) (lines : List CustomerLine)
+    → without_files ns (of_parts files arrived (streams_from_hub lines)) ≡ of_parts files arrived
+    (streams_from_hub (fold without_sending lines ns))
 all_given_up [] files arrived lines = refl
 all_given_up (n ∷ ns) files arrived lines =
     ap (λ streams. without_files ns (of_parts files arrived streams)) (one_given_up n lines)

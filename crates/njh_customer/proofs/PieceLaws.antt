@@ -17,7 +17,8 @@ take-one_more n byte bytes = let e : 1 + n ≡ suc n = omega arith in rw e refl
 abbrev run_by : ℕ → Taking → LineRun
 run_by l t = record { rest = t.rest; after = t.after; sent = sent_on l t.frame }
 
-after_byte : (go : List ℕ → LineRun) (byte : ℕ) (rest : Rest) (after : Customer) (frame : List ℕ) (l : ℕ) (bytes : List ℕ)
+after_byte : (go : List ℕ → LineRun) (byte : ℕ) (rest : Rest) (after : Customer) (frame : List ℕ) (l : ℕ)
+    (bytes : List ℕ)
     (later : Taking) →
     ((more : List ℕ) → go (byte ∷ more) ≡ sent_first (sent_on l frame) (bytes_run rest after l more)) →
     bytes_run rest after l (take later.taken bytes) ≡ run_by l later →
@@ -32,7 +33,8 @@ take_step-run : (rest : Rest) (c : Customer) (l : ℕ) (piece : List ℕ) →
 take_step-run rest c l [] = refl
 take_step-run rest c l (byte ∷ bytes) =
     let x = byte_step rest c l byte in
-    after_byte (bytes_run rest c l) byte x.rest x.after x.frame l bytes (take_step x.rest x.after l bytes) (λ more. refl)
+    after_byte (bytes_run rest c l) byte x.rest x.after x.frame l bytes (take_step x.rest x.after l bytes)
+    (λ more. refl)
     (take_step-run x.rest x.after l bytes)
 
 -- a part whose line l has read some bytes
@@ -44,16 +46,19 @@ run_with after sent = record { after = after; sent = sent }
 
 -- a line that read some bytes and then more has read the last
 read_part-twice : (p : Part) (l : ℕ) (r q : LineRun) → read_part p l q ≡ read_part (read_part p l r) l q
-read_part-twice p l r q = ap (λ (rests : List Rest). record { rests = rests; customer = q.after }) (sym (set-set p.rests l r.rest q.rest))
+read_part-twice p l r q = ap (λ (rests : List Rest). record { rests = rests; customer = q.after })
+    (sym (set-set p.rests l r.rest q.rest))
 
 -- no bytes change nothing
 pub no_bytes_do_nothing : NoBytesDoNothing
-no_bytes_do_nothing p l = ap (λ (rests : List Rest). run_with (record p { rests = rests }) []) (set-get_or p.rests l Nothing)
+no_bytes_do_nothing p l = ap (λ (rests : List Rest). run_with (record p { rests = rests }) [])
+    (set-get_or p.rests l Nothing)
 
 -- bytes, and then the run over more
 bytes_run-more : (p : Part) (l : ℕ) (front more : List ℕ) → l < length p.rests →
     (let r = bytes_run (rest_on l p) p.customer l front in
-    bytes_run (rest_on l p) p.customer l (front ++ more) ≡ sent_first r.sent (bytes_run (rest_on l (read_part p l r)) r.after l more))
+    bytes_run (rest_on l p) p.customer l (front ++ more) ≡ sent_first r.sent
+    (bytes_run (rest_on l (read_part p l r)) r.after l more))
 bytes_run-more p l front more within =
     let r = bytes_run (rest_on l p) p.customer l front in
     let rest_is : rest_on l (read_part p l r) ≡ r.rest = get_or-set_same p.rests l r.rest Nothing within in
@@ -85,9 +90,13 @@ cuts_are_like p l front back events within =
     let s = bytes_run (rest_on l q) q.customer l back in
     ap (λ (x : LineRun). later_run x.sent (read_part p l x) events) (bytes_run-more p l front back within)
     ∙ later_run-twice r.sent s.sent (read_part p l s) events
-    ∙ ap (λ (y : Part). run_with (alone_run y events).after (r.sent ++ (s.sent ++ (alone_run y events).sent))) (read_part-twice p l r s)
+    ∙ ap (λ (y : Part). run_with (alone_run y events).after (r.sent ++ (s.sent ++ (alone_run y events).sent)))
+    (read_part-twice p l r s)
 
 pub first_bytes_send_first : FirstBytesSendFirst
 first_bytes_send_first p l front back =
-    let r = bytes_run (rest_on l p) p.customer l front in
-    ((bytes_run r.rest r.after l back).sent, ap (λ (x : LineRun). x.sent) (sym (bytes_run-append (rest_on l p) p.customer l front back)))
+    let r = bytes_run (rest_on l p) p.customer l front in (
+      (bytes_run r.rest r.after l back).sent,
+      ap (λ (x : LineRun). x.sent)
+          (sym (bytes_run-append (rest_on l p) p.customer l front back)),
+    )

@@ -25,69 +25,82 @@ use Rattle.njh_customer.specs.declared.shared.Shared.{Shared}
 use Rattle.njh_customer.proofs.StepLaws.{Stays}
 
 pub next_ready :
-    (id : LineId) (old new : Shared) (lines_old lines_new : List CustomerLine) (after : Customer) → IsReady id old lines_old
-    → Leads id.customer old new lines_new after → Stays after (customer_of id.customer old lines_old) → IsReady id new lines_new
+    (id : LineId) (old new : Shared) (lines_old lines_new : List CustomerLine) (after : Customer)
+    → IsReady id old lines_old
+    → Leads id.customer old new lines_new after → Stays after (customer_of id.customer old lines_old)
+    → IsReady id new lines_new
 next_ready id old new lines_old lines_new after ready leads stays = record {
   known = omega (arith, ready.known, ap (λ t. length t.customers) leads.tables);
-  spooled = omega (arith, ready.spooled, ap length leads.others, length-set old.spool id.customer (spool_at id.customer new.spool));
+  spooled = omega (
+    arith,
+    ready.spooled,
+    ap length leads.others,
+    length-set old.spool id.customer
+        (spool_at id.customer new.spool),
+  );
   there = omega (arith, ready.there, ap (λ c. length c.lines) leads.customer, stays.lines);
   coherent = subst IsCoherent (sym leads.customer) stays.coherent;
 }
 
 -- what leaves a spool to others leaves it so twice
 pub others_twice :
-    (old now new : List CustomerSpool) (c : ℕ) → now ≡ slice_set old c (spool_at c now) → new ≡ slice_set now c (spool_at c new)
+    (old now new : List CustomerSpool) (c : ℕ) → now ≡ slice_set old c (spool_at c now)
+    → new ≡ slice_set now c (spool_at c new)
     → new ≡ slice_set old c (spool_at c new)
 others_twice old now new c first then =
     then ∙ ap (λ spools. slice_set spools c (spool_at c new)) first ∙ set-set old c (spool_at c now) (spool_at c new)
 
 -- the first record acts, and then the others
 pub one_acted :
-    (l : ℕ) (items rest : List Item) (item : Item) (ended : Bool) (c : Customer) → Some item ≡ slice_get items 0 → rest ≡ drop 1 items
+    (l : ℕ) (items rest : List Item) (item : Item) (ended : Bool) (c : Customer) → Some item ≡ slice_get items 0
+    → rest ≡ drop 1 items
     → ended ≡ false → ended ≡ ends_session item → all_acted l rest (after_record l item c) ≡ all_acted l items c
 one_acted l [] rest item ended c first others goes_on is = absurd (cc first)
 one_acted l (i ∷ is) rest item ended c first others goes_on ends =
     let same : item ≡ i = cc first in
-    ap (λ xs. all_acted l xs (after_record l item c)) others
-    ∙ ap (λ x. all_acted l is (after_record l x c)) same
+    ap (λ xs. all_acted l xs (after_record l item c)) others ∙ ap (λ x. all_acted l is (after_record l x c)) same
     ∙ ap (λ b. ended_or b c (all_acted l is (after_record l i c))) (sym goes_on ∙ ends ∙ ap ends_session same)
 
 -- a customer's files are led on twice
 pub moved_twice :
-    (old now new : List CustomerSpool) (c : ℕ) (x : CustomerSpool) (f : CustomerSpool → CustomerSpool) → c < length old → now ≡ slice_set old c x
+    (old now new : List CustomerSpool) (c : ℕ) (x : CustomerSpool) (f : CustomerSpool → CustomerSpool) → c < length old
+    → now ≡ slice_set old c x
     → new ≡ slice_set now c (f (spool_at c now)) → new ≡ slice_set old c (f x)
-moved_twice old now new c x f range now_is new_is =
-    new_is
+moved_twice old now new c x f range now_is new_is = new_is
     ∙ ap₂ (λ m s. slice_set m c (f s)) now_is (ap (spool_at c) now_is ∙ get_or-set_same old c x no_spool range)
     ∙ set-set old c x (f x)
 
 -- ---- steps that may mark the customer's lines
 
 -- what the tables say of one customer is changed twice
-pub retold_twice : (old now new : TableFile) (c : ℕ) → KeepsOtherEntries c old now → KeepsOtherEntries c now new → KeepsOtherEntries c old new
-retold_twice old now new c first then =
-    then
-    ∙ ap (with_customer c (customer_at new c)) first
-    ∙ ap (λ customers. record old { customers = customers }) (set-set old.customers c (customer_at now c) (customer_at new c))
+pub retold_twice : (old now new : TableFile) (c : ℕ) → KeepsOtherEntries c old now → KeepsOtherEntries c now new
+    → KeepsOtherEntries c old new
+retold_twice old now new c first then = then ∙ ap (with_customer c (customer_at new c)) first
+    ∙ ap (λ customers. record old { customers = customers })
+    (set-set old.customers c (customer_at now c) (customer_at new c))
 
 -- another customer in a place that is there
-retold_by : (tables : TableFile) (c : ℕ) (customer : NamedCustomer) → c < length tables.customers → KeepsOtherEntries c tables (with_customer c customer tables)
-retold_by tables c customer there = ap (λ x. with_customer c x tables) (sym (get_or-set_same tables.customers c customer no_customer there))
+retold_by : (tables : TableFile) (c : ℕ) (customer : NamedCustomer) → c < length tables.customers
+    → KeepsOtherEntries c tables (with_customer c customer tables)
+retold_by tables c customer there = ap (λ x. with_customer c x tables)
+    (sym (get_or-set_same tables.customers c customer no_customer there))
 
 -- nothing is changed
 pub retold_same : (tables : TableFile) (c : ℕ) → KeepsOtherEntries c tables tables
-retold_same tables c = ap (λ customers. record tables { customers = customers }) (sym (set-get_or tables.customers c no_customer))
+retold_same tables c = ap (λ customers. record tables { customers = customers })
+    (sym (set-get_or tables.customers c no_customer))
 
 -- a mark of a line
-pub retold_marked : (tables new : TableFile) (id : LineId) (up : Bool) → id.customer < length tables.customers → new ≡ with_mark id up tables
+pub retold_marked : (tables new : TableFile) (id : LineId) (up : Bool) → id.customer < length tables.customers
+    → new ≡ with_mark id up tables
     → KeepsOtherEntries id.customer tables new
-retold_marked tables new id up there is =
-    subst (KeepsOtherEntries id.customer tables) (sym is)
+retold_marked tables new id up there is = subst (KeepsOtherEntries id.customer tables) (sym is)
     (retold_by tables id.customer (customer_marked id.number up (customer_at tables id.customer)) there)
 
 -- a step that leaves the tables
 pub as_brings :
-    (c : ℕ) (old new : Shared) (lines : List CustomerLine) (after : Customer) → Leads c old new lines after → Brings c old new lines after
+    (c : ℕ) (old new : Shared) (lines : List CustomerLine) (after : Customer) → Leads c old new lines after
+    → Brings c old new lines after
 as_brings c old new lines after leads = record {
   customer = leads.customer;
   others = leads.others;
@@ -95,8 +108,10 @@ as_brings c old new lines after leads = record {
 }
 
 pub next_brought :
-    (id : LineId) (old new : Shared) (lines_old lines_new : List CustomerLine) (after : Customer) → IsReady id old lines_old
-    → Brings id.customer old new lines_new after → Stays after (customer_of id.customer old lines_old) → IsReady id new lines_new
+    (id : LineId) (old new : Shared) (lines_old lines_new : List CustomerLine) (after : Customer)
+    → IsReady id old lines_old
+    → Brings id.customer old new lines_new after → Stays after (customer_of id.customer old lines_old)
+    → IsReady id new lines_new
 next_brought id old new lines_old lines_new after ready brings stays = record {
   known = omega (
     arith,
@@ -104,14 +119,21 @@ next_brought id old new lines_old lines_new after ready brings stays = record {
     ap (λ t. length t.customers) brings.entries,
     length-set old.tables.customers id.customer (customer_at new.tables id.customer),
   );
-  spooled = omega (arith, ready.spooled, ap length brings.others, length-set old.spool id.customer (spool_at id.customer new.spool));
+  spooled = omega (
+    arith,
+    ready.spooled,
+    ap length brings.others,
+    length-set old.spool id.customer
+        (spool_at id.customer new.spool),
+  );
   there = omega (arith, ready.there, ap (λ c. length c.lines) brings.customer, stays.lines);
   coherent = subst IsCoherent (sym brings.customer) stays.coherent;
 }
 
 -- the files stay
 pub still_brings :
-    (c : ℕ) (old new : Shared) (lines : List CustomerLine) (after : Customer) → customer_of c new lines ≡ after → new.spool ≡ old.spool
+    (c : ℕ) (old new : Shared) (lines : List CustomerLine) (after : Customer) → customer_of c new lines ≡ after
+    → new.spool ≡ old.spool
     → KeepsOtherEntries c old.tables new.tables → Brings c old new lines after
 still_brings c old new lines after customer files entries = record {
   customer = customer;
@@ -120,11 +142,19 @@ still_brings c old new lines after customer files entries = record {
 }
 
 -- a line of the customer is one of the tables
-pub known_line : (id : LineId) (shared : Shared) (lines : List CustomerLine) → IsReady id shared lines → HasLine shared.tables id
+pub known_line : (id : LineId) (shared : Shared) (lines : List CustomerLine) → IsReady id shared lines
+    → HasLine shared.tables id
 known_line id shared lines ready =
-    omega (arith, ready.there, ready.coherent.marks, length-map (customer_at shared.tables id.customer).lines (λ l. l.up))
+    omega (
+      arith,
+      ready.there,
+      ready.coherent.marks,
+      length-map (customer_at shared.tables id.customer).lines
+          (λ l. l.up),
+    )
 
-pub is_there : (id : LineId) (shared : Shared) (lines : List CustomerLine) → IsReady id shared lines → IsThere id shared lines
+pub is_there : (id : LineId) (shared : Shared) (lines : List CustomerLine) → IsReady id shared lines
+    → IsThere id shared lines
 is_there id shared lines ready = record {
   known = ready.known;
   line = known_line id shared lines ready;
@@ -134,19 +164,28 @@ is_there id shared lines ready = record {
 
 -- it is still there behind a step that leaves the tables
 pub still_there :
-    (id : LineId) (old new : Shared) (lines_old lines_new : List CustomerLine) (after : Customer) → IsThere id old lines_old
+    (id : LineId) (old new : Shared) (lines_old lines_new : List CustomerLine) (after : Customer)
+    → IsThere id old lines_old
     → Leads id.customer old new lines_new after → length after.lines ≡ length lines_old → IsThere id new lines_new
 still_there id old new lines_old lines_new after there leads count = record {
   known = omega (arith, there.known, ap (λ t. length t.customers) leads.tables);
   line = subst (λ t. HasLine t id) (sym leads.tables) there.line;
-  spooled = omega (arith, there.spooled, ap length leads.others, length-set old.spool id.customer (spool_at id.customer new.spool));
+  spooled = omega (
+    arith,
+    there.spooled,
+    ap length leads.others,
+    length-set old.spool id.customer
+        (spool_at id.customer new.spool),
+  );
   there = omega (arith, there.there, ap (λ c. length c.lines) leads.customer, count);
 }
 
 -- what brings on from where it was brought
 pub brought_on :
-    (c : ℕ) (old now new : Shared) (lines_now lines_new : List CustomerLine) (between : Customer) (then : Customer → Customer)
-    → Brings c old now lines_now between → Brings c now new lines_new (then (customer_of c now lines_now)) → Brings c old new lines_new (then between)
+    (c : ℕ) (old now new : Shared) (lines_now lines_new : List CustomerLine) (between : Customer)
+    (then : Customer → Customer)
+    → Brings c old now lines_now between → Brings c now new lines_new (then (customer_of c now lines_now))
+    → Brings c old new lines_new (then between)
 brought_on c old now new lines_now lines_new between then first second = record {
   customer = second.customer ∙ ap then first.customer;
   others = others_twice old.spool now.spool new.spool c first.others second.others;
@@ -155,7 +194,8 @@ brought_on c old now new lines_now lines_new between then first second = record 
 
 -- what sends a frame from where it was brought
 pub sent_behind :
-    (c : ℕ) (old now new : Shared) (lines_now lines_new : List CustomerLine) (frame : List ℕ) (between : Customer) (then : Customer → CustomerStep)
+    (c : ℕ) (old now new : Shared) (lines_now lines_new : List CustomerLine) (frame : List ℕ) (between : Customer)
+    (then : Customer → CustomerStep)
     → Brings c old now lines_now between → SendsStep c now new lines_new frame (then (customer_of c now lines_now))
     → SendsStep c old new lines_new frame (then between)
 sent_behind c old now new lines_now lines_new frame between then first second = record {
@@ -165,8 +205,10 @@ sent_behind c old now new lines_now lines_new frame between then first second = 
 
 -- a step that leaves the customer coherent, with as many lines
 pub made_by :
-    (id : LineId) (old : Shared) (before : List CustomerLine) (new : Shared) (lines : List CustomerLine) (frame : List ℕ) (step : CustomerStep)
-    → IsReady id old before → SendsStep id.customer old new lines frame step → Stays step.after (customer_of id.customer old before)
+    (id : LineId) (old : Shared) (before : List CustomerLine) (new : Shared) (lines : List CustomerLine)
+    (frame : List ℕ) (step : CustomerStep)
+    → IsReady id old before → SendsStep id.customer old new lines frame step
+    → Stays step.after (customer_of id.customer old before)
     → MakesStep id old before new lines frame step
 made_by id old before new lines frame step ready sends stays = record {
   after = sends.after;
@@ -177,19 +219,23 @@ made_by id old before new lines frame step ready sends stays = record {
 
 -- a mark behind what a step led to
 pub marked_behind :
-    (id : LineId) (up : Bool) (old now new : Shared) (lines : List CustomerLine) (after : Customer) → Leads id.customer old now lines after
+    (id : LineId) (up : Bool) (old now new : Shared) (lines : List CustomerLine) (after : Customer)
+    → Leads id.customer old now lines after
     → id.customer < length old.tables.customers → new.tables ≡ with_mark id up now.tables → new.spool ≡ now.spool
-    → entry_of (customer_at (with_mark id up old.tables) id.customer) ≡ entry_marked id.number up (entry_of (customer_at old.tables id.customer))
+    → entry_of (customer_at (with_mark id up old.tables) id.customer) ≡ entry_marked id.number up
+    (entry_of (customer_at old.tables id.customer))
     → Brings id.customer old new lines (record after { entry = entry_marked id.number up after.entry })
 marked_behind id up old now new lines after leads there is files own =
     let marked : new.tables ≡ with_mark id up old.tables = is ∙ ap (with_mark id up) leads.tables in
     let mark : Customer → Customer = λ d. record d { entry = entry_marked id.number up d.entry } in
     let here : CustomerEntry = entry_of (customer_at old.tables id.customer) in
     let before : customer_of id.customer now lines ≡ customer_with here (spool_at id.customer now.spool) lines =
-    ap (λ t. customer_with (entry_of (customer_at t id.customer)) (spool_at id.customer now.spool) lines) leads.tables in
+    ap (λ t. customer_with (entry_of (customer_at t id.customer)) (spool_at id.customer now.spool) lines)
+    leads.tables in
     record {
       customer =
-          ap₂ (λ entry s. customer_with entry (spool_at id.customer s) lines) (ap (λ t. entry_of (customer_at t id.customer)) marked ∙ own) files
+          ap₂ (λ entry s. customer_with entry (spool_at id.customer s) lines)
+          (ap (λ t. entry_of (customer_at t id.customer)) marked ∙ own) files
           ∙ ap mark (sym before ∙ leads.customer);
       others = files ∙ leads.others ∙ ap (λ s. slice_set old.spool id.customer (spool_at id.customer s)) (sym files);
       entries = retold_marked old.tables new.tables id up there marked;
@@ -199,26 +245,34 @@ marked_behind id up old now new lines after leads there is files own =
 pub accepted_so :
     (id : LineId) (old now : Shared) (lines new : List CustomerLine) (came : Input) (was_up now_up up : Bool)
     → id.number < length lines → new ≡ on_line id.number (in_state (after_input came)) lines
-    → was_up ≡ is_up (line_at id.number lines).state.session.phase → now_up ≡ is_up (line_at id.number new).state.session.phase
+    → was_up ≡ is_up (line_at id.number lines).state.session.phase
+    → now_up ≡ is_up (line_at id.number new).state.session.phase
     → up ≡ (now_up && not was_up) → now.spool ≡ old.spool
-    → entry_of (customer_at now.tables id.customer) ≡ with_raised_line up id.number (entry_of (customer_at old.tables id.customer))
+    → entry_of (customer_at now.tables id.customer) ≡ with_raised_line up id.number
+    (entry_of (customer_at old.tables id.customer))
     → customer_of id.customer now new ≡ accepted_on id.number came (customer_of id.customer old lines)
 accepted_so id old now lines new came was_up now_up up there is was went goes files entry =
     let x = line_at id.number lines in
     let phase : is_up (line_at id.number new).state.session.phase ≡ is_up (after_input came x.state).session.phase =
     ap (λ ls. is_up (line_at id.number ls).state.session.phase) is
-    ∙ ap (λ y. is_up y.state.session.phase) (get_or-set_same lines id.number (in_state (after_input came) x) no_customer_line there) in
+    ∙ ap (λ y. is_up y.state.session.phase) (get_or-set_same lines id.number
+    (in_state (after_input came) x) no_customer_line there) in
     ap₂ (λ e s. customer_with e (spool_at id.customer s) new)
-    (entry ∙ ap (λ b. with_raised_line b id.number (entry_of (customer_at old.tables id.customer))) (goes ∙ ap₂ (λ n w. n && not w) (went ∙ phase) was)) files
-    ∙ ap (customer_with (with_raised_line (goes_up_by id.number came (customer_of id.customer old lines)) id.number (entry_of (customer_at old.tables id.customer))) (spool_at id.customer old.spool)) is
+    (entry ∙ ap (λ b. with_raised_line b id.number (entry_of (customer_at old.tables id.customer)))
+    (goes ∙ ap₂ (λ n w. n && not w) (went ∙ phase) was)) files
+    ∙ ap (customer_with (with_raised_line (goes_up_by id.number came (customer_of id.customer old lines)) id.number
+    (entry_of (customer_at old.tables id.customer))) (spool_at id.customer old.spool)) is
 
 -- What comes but a good block: its verdict, and what that asks for.
 pub sent_by_verdict :
-    (id : LineId) (old accepted new : Shared) (lines lines_accepted lines_new : List CustomerLine) (frame : List ℕ) (came : Input) (v : Verdict)
+    (id : LineId) (old accepted new : Shared) (lines lines_accepted lines_new : List CustomerLine) (frame : List ℕ)
+    (came : Input) (v : Verdict)
     → v ≡ verdict_on id.number came (customer_of id.customer old lines)
     → Brings id.customer old accepted lines_accepted (accepted_on id.number came (customer_of id.customer old lines))
-    → SendsStep id.customer accepted new lines_new frame (carried_out id.number v (customer_of id.customer accepted lines_accepted))
-    → SendsStep id.customer old new lines_new frame (after_line_input id.number came (customer_of id.customer old lines))
+    → SendsStep id.customer accepted new lines_new frame (carried_out id.number v
+    (customer_of id.customer accepted lines_accepted))
+    → SendsStep id.customer old new lines_new frame (after_line_input id.number came
+    (customer_of id.customer old lines))
 sent_by_verdict id old accepted new lines lines_accepted lines_new frame came v verdict first behind =
     let l = id.number in
     let d = accepted_on l came (customer_of id.customer old lines) in
@@ -231,21 +285,27 @@ behind_block l items v d = let a = acted_where v.acts l items d in behind_record
 
 -- A good block: its verdict, its records, and what is behind them, where these ended the session or didn't.
 pub sent_by_block :
-    (ended : Bool) (id : LineId) (old accepted now new : Shared) (lines lines_accepted lines_now lines_new : List CustomerLine) (frame : List ℕ)
+    (ended : Bool) (id : LineId) (old accepted now new : Shared)
+    (lines lines_accepted lines_now lines_new : List CustomerLine) (frame : List ℕ)
     (b : Block) (v : Verdict) → v ≡ verdict_on id.number (block_input b) (customer_of id.customer old lines)
-    → Brings id.customer old accepted lines_accepted (accepted_on id.number (block_input b) (customer_of id.customer old lines))
+    → Brings id.customer old accepted lines_accepted (accepted_on id.number (block_input b)
+    (customer_of id.customer old lines))
     → ended ≡ (acted_where v.acts id.number b.items (customer_of id.customer accepted lines_accepted)).ended
-    → Leads id.customer accepted now lines_now (acted_where v.acts id.number b.items (customer_of id.customer accepted lines_accepted)).customer
-    → SendsStep id.customer now new lines_new frame (behind_records ended id.number v (customer_of id.customer now lines_now))
+    → Leads id.customer accepted now lines_now (acted_where v.acts id.number b.items
+    (customer_of id.customer accepted lines_accepted)).customer
+    → SendsStep id.customer now new lines_new frame (behind_records ended id.number v
+    (customer_of id.customer now lines_now))
     → SendsStep id.customer old new lines_new frame (after_block id.number b (customer_of id.customer old lines))
-sent_by_block ended id old accepted now new lines lines_accepted lines_now lines_new frame b v verdict first is_ended acted behind =
+sent_by_block ended id old accepted now new lines lines_accepted lines_now lines_new frame b v verdict first is_ended
+    acted behind =
     let l = id.number in
     let n = id.customer in
     let d = accepted_on l (block_input b) (customer_of n old lines) in
     let a = acted_where v.acts l b.items (customer_of n accepted lines_accepted) in
     let later = sent_behind n accepted now new lines_now lines_new frame a.customer (behind_records ended l v)
     (as_brings n accepted now lines_now a.customer acted) behind in
-    let ends : SendsStep n accepted new lines_new frame (behind_block l b.items v (customer_of n accepted lines_accepted)) =
+    let ends : SendsStep n accepted new lines_new frame (behind_block l b.items v
+    (customer_of n accepted lines_accepted)) =
     subst (λ e. SendsStep n accepted new lines_new frame (behind_records e l v a.customer)) is_ended later in
     subst (λ w. SendsStep n old new lines_new frame (behind_block l b.items w d)) verdict
     (sent_behind n old accepted new lines_accepted lines_new frame d (behind_block l b.items v) first ends)

@@ -36,14 +36,15 @@ use Rattle.njh_customer.proofs.RoutesMoves.{held_so}
 
 -- a file is one of some with its records
 abbrev IsOneOf : List WholeFile → WholeFile → Type 0
-IsOneOf files g = (f : WholeFile) × Contains files f × (g.number ≡ f.number) × (g.kind ≡ f.kind) × (g.records ≡ f.records)
+IsOneOf files g = (f : WholeFile) × Contains files f × (g.number ≡ f.number) × (g.kind ≡ f.kind)
+    × (g.records ≡ f.records)
 
 itself : (files : List WholeFile) (g : WholeFile) → Contains files g → IsOneOf files g
 itself files g at = (g, at, refl, refl, refl)
 
-one_restated :
-    (p : WholeFile → Bool) (change : WholeFile → WholeFile) (files : List WholeFile) (g : WholeFile)
-    → ((f : WholeFile) → ready (change f) ≡ ready f) → Contains (map (λ f. cond (p f) (change f) f) files) g → IsOneOf files g
+one_restated : (p : WholeFile → Bool) (change : WholeFile → WholeFile) (files : List WholeFile) (g : WholeFile)
+    → ((f : WholeFile) → ready (change f) ≡ ready f) → Contains (map (λ f. cond (p f) (change f) f) files) g
+    → IsOneOf files g
 one_restated p change files g same at = at_change (from_where p change files g at)
   where
     at_change : WasOrIs p change files g → IsOneOf files g
@@ -52,9 +53,11 @@ one_restated p change files g same at = at_change (from_where p change files g a
         (f, there, ap (λ h. h.number) e, ap (λ h. h.kind) e, ap (λ h. h.records) e)
     at_change (inr (there, e)) = itself files g there
 
-but_state : (files now : List WholeFile) (g : WholeFile) → map ready now ≡ map ready files → Contains now g → IsOneOf files g
+but_state : (files now : List WholeFile) (g : WholeFile) → map ready now ≡ map ready files → Contains now g
+    → IsOneOf files g
 but_state files now g e at =
-    let there : Contains (map ready files) (ready g) = subst (λ fs. Contains fs (ready g)) e (into_map ready now g at) in
+    let there : Contains (map ready files) (ready g) = subst (λ fs. Contains fs (ready g)) e
+    (into_map ready now g at) in
     let found = from_map ready files no_file (ready g) there in
     (found.0, found.1, ap (λ h. h.number) found.2, ap (λ h. h.kind) found.2, ap (λ h. h.records) found.2)
 
@@ -63,7 +66,8 @@ both_are true true e = absurd (cc e)
 both_are true false e = (refl, refl)
 both_are false b e = absurd (cc e)
 
-module _ (by_records : (kind : Kind) (node : List ℕ) (records : List Stored) → records_to_node kind node None records ≡ with_destination kind node records)
+module _ (by_records : (kind : Kind) (node : List ℕ) (records : List Stored)
+    → records_to_node kind node None records ≡ with_destination kind node records)
     (names : ReroutesNameNodes) where
   module _ (entry : CustomerEntry) (l : ℕ) (items : List Item) (x y : Outgoing) (g : WholeFile) where
     was_there : IsOneOf x.files g → FileMoves entry items x g
@@ -74,54 +78,71 @@ module _ (by_records : (kind : Kind) (node : List ℕ) (records : List Stored) �
     among files e at = subst (λ fs. Contains fs g) e at
 
     rerouted_one :
-        (i : Item) (who : User) (name : FileName) (node : List ℕ) → Contains items i → Commands entry who (commands.Reroute name node) i
-        → Contains (map (changed_file (is_of_name who name) (with_new_destination node)) x.files) g → FileMoves entry items x g
+        (i : Item) (who : User) (name : FileName) (node : List ℕ) → Contains items i
+        → Commands entry who (commands.Reroute name node) i
+        → Contains (map (changed_file (is_of_name who name) (with_new_destination node)) x.files) g
+        → FileMoves entry items x g
     rerouted_one i who name node at given there =
         at_change (from_where (may_change (is_of_name who name)) (with_new_destination node) x.files g there)
       where
-        at_change : WasOrIs (may_change (is_of_name who name)) (with_new_destination node) x.files g → FileMoves entry items x g
+        at_change : WasOrIs (may_change (is_of_name who name)) (with_new_destination node) x.files g
+            → FileMoves entry items x g
         at_change (inl (f, found, e, is)) =
             let idle = both_are (is_of_name who name f) (is_sending f.state) e in
             laws.rerouted i who name node f at given found idle.0 idle.1 (ap (λ h. h.number) is) (ap (λ h. h.kind) is)
-            (names given.nodal.message name node given.says) (ap (λ h. h.records) is ∙ sym (by_records f.kind node f.records))
+            (names given.nodal.message name node given.says) (ap (λ h. h.records) is ∙ sym
+            (by_records f.kind node f.records))
         at_change (inr (found, e)) = was_there (itself x.files g found)
 
     one_came :
-        (i : Item) (rcb srcb : ℕ) (f : WholeFile) → Contains items i → i ≡ Data rcb srcb [] → f.state ≡ state.Ready → is_whole f.records ≡ true
+        (i : Item) (rcb srcb : ℕ) (f : WholeFile) → Contains items i → i ≡ Data rcb srcb [] → f.state ≡ state.Ready
+        → is_whole f.records ≡ true
         → Contains x.files g ⊎ (f ≡ g) → FileMoves entry items x g
     one_came i rcb srcb f at is ready whole (inl old) = was_there (itself x.files g old)
     one_came i rcb srcb f at is ready whole (inr new) =
-        laws.comes i rcb srcb at is (ap (λ h. is_whole h.records) (sym new) ∙ whole) (ap (λ h. h.state) (sym new) ∙ ready)
+        laws.comes i rcb srcb at is (ap (λ h. is_whole h.records) (sym new) ∙ whole)
+        (ap (λ h. h.state) (sym new) ∙ ready)
 
     record_changes : (i : Item) → Contains items i → Acts entry l i x y → Contains y.files g → FileMoves entry items x g
     record_changes i at (moves.comes rcb srcb f is ready whole e) there =
-        one_came i rcb srcb f at is ready whole (Contains-push_cases x.files f g (among (x.files ++ f ∷ []) (ap (λ z. z.files) e) there))
-    record_changes i at (moves.permitted streams m n told before e) there = was_there (itself x.files g (among x.files (ap (λ z. z.files) e) there))
+        one_came i rcb srcb f at is ready whole (Contains-push_cases x.files f g
+        (among (x.files ++ f ∷ []) (ap (λ z. z.files) e) there))
+    record_changes i at (moves.permitted streams m n told before e) there = was_there
+        (itself x.files g (among x.files (ap (λ z. z.files) e) there))
     record_changes i at (moves.refused streams m n after told before none e) there =
         was_there (one_restated (λ f. f.number == n) (λ f. record f { state = state.Refused }) x.files g (λ f. refl)
         (among (with_file_state n state.Refused x.files) (ap (λ z. z.files) e) there))
     record_changes i at (moves.completed streams m n told before e) there =
-        was_there (itself x.files g (from_filter (λ f. not (f.number == n)) x.files g (among (filter (λ f. not (f.number == n)) x.files) (ap (λ z. z.files) e) there)))
+        was_there (itself x.files g (from_filter (λ f. not (f.number == n)) x.files g
+        (among (filter (λ f. not (f.number == n)) x.files) (ap (λ z. z.files) e) there)))
     record_changes i at (moves.holds who name given e) there =
         was_there (one_restated (may_change (is_of_name who name)) (file_in_state state.Held) x.files g (λ f. refl)
-        (among (map (changed_file (is_of_name who name) (file_in_state state.Held)) x.files) (ap (λ z. z.files) e) there))
+        (among (map (changed_file (is_of_name who name) (file_in_state state.Held)) x.files)
+        (ap (λ z. z.files) e) there))
     record_changes i at (moves.releases who name given e) there =
         was_there (one_restated (may_change (is_of_name who name)) (file_in_state state.Ready) x.files g (λ f. refl)
-        (among (map (changed_file (is_of_name who name) (file_in_state state.Ready)) x.files) (ap (λ z. z.files) e) there))
+        (among (map (changed_file (is_of_name who name) (file_in_state state.Ready)) x.files)
+        (ap (λ z. z.files) e) there))
     record_changes i at (moves.reroutes who name node line given route e) there =
-        rerouted_one i who name node at given (among (map (changed_file (is_of_name who name) (with_new_destination node)) x.files) (ap (λ z. z.files) e) there)
+        rerouted_one i who name node at given (among (map (changed_file (is_of_name who name)
+        (with_new_destination node)) x.files) (ap (λ z. z.files) e) there)
     record_changes i at (moves.cancels who name given e) there =
         let kept = filter (λ f. not (is_of_name who name f)) x.files in
-        let files = ap (λ z. z.files) e ∙ without_files_files (moves.busy_numbers (is_of_name who name) x.files) (with_files kept x) in
+        let files = ap (λ z. z.files) e ∙ without_files_files (moves.busy_numbers (is_of_name who name) x.files)
+        (with_files kept x) in
         was_there (itself x.files g (from_filter (λ f. not (is_of_name who name f)) x.files g (among kept files there)))
 
     sending_changes : Sends entry l x y → Contains y.files g → FileMoves entry items x g
-    sending_changes (moves.gives_up k before e) there = was_there (itself x.files g (among x.files (ap (λ z. z.files) e) there))
+    sending_changes (moves.gives_up k before e) there = was_there
+        (itself x.files g (among x.files (ap (λ z. z.files) e) there))
     sending_changes (moves.asks k f few before found e) there =
-        was_there (one_restated (λ h. h.number == f.number) (λ h. record h { state = state.Sending }) x.files g (λ h. refl)
+        was_there (one_restated (λ h. h.number == f.number) (λ h. record h { state = state.Sending }) x.files g
+        (λ h. refl)
         (among (with_file_state f.number state.Sending x.files) (ap (λ z. z.files) e) there))
-    sending_changes (moves.goes_on k n place r before found e) there = was_there (itself x.files g (among x.files (ap (λ z. z.files) e) there))
-    sending_changes (moves.ends k n place before found e) there = was_there (itself x.files g (among x.files (ap (λ z. z.files) e) there))
+    sending_changes (moves.goes_on k n place r before found e) there = was_there
+        (itself x.files g (among x.files (ap (λ z. z.files) e) there))
+    sending_changes (moves.ends k n place before found e) there = was_there
+        (itself x.files g (among x.files (ap (λ z. z.files) e) there))
 
     changes : Moves entry l items x y → Contains y.files g → FileMoves entry items x g
     changes (by_record (i, at, acts)) there = record_changes i at acts there
@@ -129,6 +150,7 @@ module _ (by_records : (kind : Kind) (node : List ℕ) (records : List Stored) �
     changes (by_end over) there = was_there (but_state x.files y.files g over.files there)
 
   pub records_change : RecordsChangeSo
-  records_change entry (Records l items) x y g (up, move) there = (up, changes (entry_marked l up entry) l items x y g move there)
+  records_change entry (Records l items) x y g (up, move) there =
+      (up, changes (entry_marked l up entry) l items x y g move there)
   records_change entry (Routes routes) x y g given there =
       held_so (entry_with (entries_of_routes routes) entry) x g (subst (λ z. Contains z.files g) given.holds there)

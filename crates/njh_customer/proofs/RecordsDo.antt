@@ -33,22 +33,15 @@ stream_named l code c = stream_of (line_at l c.lines).streams code
 -- What a record on a line leaves.
 pub data RecordDoes (l : ℕ) (c : Customer) : Item → Customer → Type 0 where
   nothing : (i : Item) → RecordDoes l c i c
-  arrives :
-      (i : Item) (code k : ℕ) (a : Arrival) → Brings a i → stream_named l code c ≡ Some k
+  arrives : (i : Item) (code k : ℕ) (a : Arrival) → Brings a i → stream_named l code c ≡ Some k
       → RecordDoes l c i (after_stream_arrival l k a c)
   answers : (i : Item) (a : Option Answer) → RecordDoes l c i (record c { lines = with_answer_on l a c.lines })
-  permits :
-      (srcb k : ℕ) → stream_named l srcb c ≡ Some k → RecordDoes l c (Control 0xa0 srcb) (after_permission l k c)
-  refuses :
-      (srcb k : ℕ) → stream_named l srcb c ≡ Some k
-      → RecordDoes l c (Control 0xb0 srcb)
+  permits : (srcb k : ℕ) → stream_named l srcb c ≡ Some k → RecordDoes l c (Control 0xa0 srcb) (after_permission l k c)
+  refuses : (srcb k : ℕ) → stream_named l srcb c ≡ Some k → RecordDoes l c (Control 0xb0 srcb)
       (with_sender_outcome l k (after_refusal (sender_at k (line_at l c.lines)) c.spool) c)
-  completes :
-      (srcb k : ℕ) → stream_named l srcb c ≡ Some k
-      → RecordDoes l c (Control 0xc0 srcb)
+  completes : (srcb k : ℕ) → stream_named l srcb c ≡ Some k → RecordDoes l c (Control 0xc0 srcb)
       (with_sender_outcome l k (after_completion (sender_at k (line_at l c.lines)) c.spool) c)
-  commands :
-      (srcb : ℕ) (bytes : List ℕ) (n : Nodal) → nodal_of bytes ≡ Ok n → route_of c.entry n.to ≡ Here
+  commands : (srcb : ℕ) (bytes : List ℕ) (n : Nodal) → nodal_of bytes ≡ Ok n → route_of c.entry n.to ≡ Here
       → is_user_command n ≡ true → RecordDoes l c (Data 0x9a srcb bytes) (after_user_command n c)
   knows_no_node : (i : Item) (n : Nodal) → RecordDoes l c i (after_unknown_node n c)
   passes_on : (i : Item) (k : ℕ) (m : List ℕ) → RecordDoes l c i (record c { lines = with_waiting k m c.lines })
@@ -61,28 +54,24 @@ module _ (l : ℕ) (c : Customer) where
 
   -- ---- streams
 
-  stream_does :
-      (code : ℕ) (o : Option ℕ) (a : Arrival) (i : Item) → Brings a i → stream_named l code c ≡ o
+  stream_does : (code : ℕ) (o : Option ℕ) (a : Arrival) (i : Item) → Brings a i → stream_named l code c ≡ o
       → RecordDoes l c i (after_stream_record l o a c)
   stream_does code None a i brings e = nothing i
   stream_does code (Some k) a i brings e = arrives i code k a brings e
 
-  request_does :
-      (rcb srcb : ℕ) (o : Option ℕ) → stream_named l srcb c ≡ o
+  request_does : (rcb srcb : ℕ) (o : Option ℕ) → stream_named l srcb c ≡ o
       → RecordDoes l c (Control rcb srcb) (after_stream_request l srcb o c)
   request_does rcb srcb None e = answers (Control rcb srcb) (refusal_of srcb (stream_number srcb))
   request_does rcb srcb (Some k) e = arrives (Control rcb srcb) srcb k receiving.Request (a_request rcb srcb) e
 
   -- where the code is this one
-  at_code :
-      (code rcb srcb : ℕ) (b : Bool) (x y : Customer) → (rcb == code) ≡ b → RecordDoes l c (Control code srcb) x
+  at_code : (code rcb srcb : ℕ) (b : Bool) (x y : Customer) → (rcb == code) ≡ b → RecordDoes l c (Control code srcb) x
       → RecordDoes l c (Control rcb srcb) y → RecordDoes l c (Control rcb srcb) (cond b x y)
   at_code code rcb srcb true x y e first second =
       subst (λ n. RecordDoes l c (Control n srcb) x) (sym (eqb-true rcb code e)) first
   at_code code rcb srcb false x y e first second = second
 
-  peer_does :
-      (rcb srcb : ℕ) (o : Option ℕ) → stream_named l srcb c ≡ o
+  peer_does : (rcb srcb : ℕ) (o : Option ℕ) → stream_named l srcb c ≡ o
       → RecordDoes l c (Control rcb srcb) (peer_answered l rcb o c)
   peer_does rcb srcb None e = nothing (Control rcb srcb)
   peer_does rcb srcb (Some k) e =
@@ -91,19 +80,16 @@ module _ (l : ℕ) (c : Customer) where
       let completed = with_sender_outcome l k (after_completion x c.spool) c in
       let others = cond (rcb == 0xc0) completed c in
       at_code 0xa0 rcb srcb (rcb == 0xa0) (after_permission l k c) (cond (rcb == 0xb0) refused others) refl
-      (permits srcb k e)
-      (at_code 0xb0 rcb srcb (rcb == 0xb0) refused others refl (refuses srcb k e)
+      (permits srcb k e) (at_code 0xb0 rcb srcb (rcb == 0xb0) refused others refl (refuses srcb k e)
       (at_code 0xc0 rcb srcb (rcb == 0xc0) completed c refl (completes srcb k e) (nothing (Control rcb srcb))))
 
   -- ---- messages
 
-  routed_does :
-      (srcb : ℕ) (bytes : List ℕ) (n : Nodal) (r : Route) → nodal_of bytes ≡ Ok n → route_of c.entry n.to ≡ r
+  routed_does : (srcb : ℕ) (bytes : List ℕ) (n : Nodal) (r : Route) → nodal_of bytes ≡ Ok n → route_of c.entry n.to ≡ r
       → RecordDoes l c (Data 0x9a srcb bytes) (message_routed l n bytes r c)
   routed_does srcb bytes n Here reads to = at_command (is_user_command n) refl
     where
-      at_command :
-          (b : Bool) → is_user_command n ≡ b
+      at_command : (b : Bool) → is_user_command n ≡ b
           → RecordDoes l c (Data 0x9a srcb bytes) (cond b (after_user_command n c) c)
       at_command true is = commands srcb bytes n reads to is
       at_command false is = nothing (Data 0x9a srcb bytes)
@@ -118,8 +104,7 @@ module _ (l : ℕ) (c : Customer) where
   message_does : (srcb : ℕ) (bytes : List ℕ) → RecordDoes l c (Data 0x9a srcb bytes) (after_message l bytes c)
   message_does srcb bytes = at_nodal (nodal_of bytes) refl
     where
-      at_nodal :
-          (n : Result Nodal NmrFault) → nodal_of bytes ≡ n
+      at_nodal : (n : Result Nodal NmrFault) → nodal_of bytes ≡ n
           → RecordDoes l c (Data 0x9a srcb bytes) (message_read l bytes n c)
       at_nodal (Err e) reads = nothing (Data 0x9a srcb bytes)
       at_nodal (Ok n) reads = routed_does srcb bytes n (route_of c.entry n.to) reads refl
@@ -129,16 +114,13 @@ module _ (l : ℕ) (c : Customer) where
   pub record_does : (i : Item) → RecordDoes l c i (after_record l i c)
   record_does (Data rcb srcb bytes) = at_message (rcb == 0x9a) refl
     where
-      at_message :
-          (b : Bool) → (rcb == 0x9a) ≡ b
-          → RecordDoes l c (Data rcb srcb bytes)
+      at_message : (b : Bool) → (rcb == 0x9a) ≡ b → RecordDoes l c (Data rcb srcb bytes)
           (cond b (after_message l bytes c)
           (after_stream_record l (stream_named l rcb c) (receiving.Data srcb bytes) c))
       at_message true e =
           subst (λ n. RecordDoes l c (Data n srcb bytes) (after_message l bytes c)) (sym (eqb-true rcb 0x9a e))
           (message_does srcb bytes)
-      at_message false e =
-          stream_does rcb (stream_named l rcb c) (receiving.Data srcb bytes) (Data rcb srcb bytes)
+      at_message false e = stream_does rcb (stream_named l rcb c) (receiving.Data srcb bytes) (Data rcb srcb bytes)
           (some_data rcb srcb bytes) refl
   record_does (Aborted rcb srcb) =
       stream_does rcb (stream_named l rcb c) receiving.Abort (Aborted rcb srcb) (an_abort rcb srcb) refl

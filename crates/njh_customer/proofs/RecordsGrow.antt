@@ -33,10 +33,12 @@ data_count (i ∷ is) = data_in i + data_count is
 
 abbrev pub RedirectsByRecords : Type 0
 RedirectsByRecords =
-    (kind : Kind) (node : List ℕ) (records : List Stored) → records_to_node kind node None records ≡ with_destination kind node records
+    (kind : Kind) (node : List ℕ) (records : List Stored)
+    → records_to_node kind node None records ≡ with_destination kind node records
 
 -- whole files alone change
-whole_grows : (s t u : CustomerSpool) → Survive t.whole u.whole → FilesGrow 0 s t → u.arrived ≡ t.arrived → u.partial ≡ t.partial → FilesGrow 0 s u
+whole_grows : (s t u : CustomerSpool) → Survive t.whole u.whole → FilesGrow 0 s t → u.arrived ≡ t.arrived
+    → u.partial ≡ t.partial → FilesGrow 0 s u
 whole_grows s t u survive grow arrived partial = then_quietly 0 s t u grow (quiet t u survive arrived partial)
 
 module _ (by_records : RedirectsByRecords) (names : ReroutesNameNodes) (commands : CommandsMoveFilesSo) where
@@ -48,16 +50,15 @@ module _ (by_records : RedirectsByRecords) (names : ReroutesNameNodes) (commands
       without = λ n t grow. then_quietly 0 s t (without_partial n t) grow (without_grows n t);
       begun = λ rcb srcb kind t room grow. then_quietly 0 s t (with_new_partial kind t) grow (begun_grows kind t);
       appended = λ rcb r n t room grow. quietly_then 1 s t (with_appended n r t) grow (appended_grows n r t);
-      finished = λ rcb srcb n t whole grow.
-          quietly_then 1 s t (with_finished n t) grow
+      finished = λ rcb srcb n t whole grow. quietly_then 1 s t (with_finished n t) grow
           (grow_within 0 1 t (with_finished n t) (omega arith) (finished_grows n t));
     };
     restated = restated_grows s;
     left = λ p t grow. whole_grows s t (record t { whole = filter p t.whole }) (some_still p t.whole) grow refl refl;
-    rerouted = λ p node t named grow.
-        let change = changed_file p (with_new_destination node) in
+    rerouted = λ p node t named grow. let change = changed_file p (with_new_destination node) in
         whole_grows s t (record t { whole = map change t.whole })
-        (all_still change (changed_still p (with_new_destination node) (rerouted_still by_records names node named)) t.whole) grow
+        (all_still change (changed_still p (with_new_destination node) (rerouted_still by_records names node named))
+        t.whole) grow
         refl refl;
   }
 
@@ -66,7 +67,8 @@ module _ (by_records : RedirectsByRecords) (names : ReroutesNameNodes) (commands
       record_so (FilesGrow 0 c.spool) (λ j. FilesGrow (data_in j) c.spool) (grow_files c.spool) names commands l i c
       (unchanged c.spool)
 
-  pub all_grow : (l : ℕ) (items : List Item) (c : Customer) → FilesGrow (data_count items) c.spool (all_acted l items c).customer.spool
+  pub all_grow : (l : ℕ) (items : List Item) (c : Customer)
+      → FilesGrow (data_count items) c.spool (all_acted l items c).customer.spool
   all_grow l [] c = unchanged c.spool
   all_grow l (i ∷ is) c = at_end (ends_session i) (all_grow l is (after_record l i c))
     where
@@ -77,4 +79,5 @@ module _ (by_records : RedirectsByRecords) (names : ReroutesNameNodes) (commands
           → FilesGrow (data_count (i ∷ is)) c.spool (ended_or b c later).customer.spool
       at_end true grow = grow_within 0 (data_count (i ∷ is)) c.spool c.spool (omega arith) (unchanged c.spool)
       at_end false grow =
-          grow_then (data_in i) (data_count is) c.spool (after_record l i c).spool later.customer.spool (record_grows l i c) grow
+          grow_then (data_in i) (data_count is) c.spool (after_record l i c).spool later.customer.spool
+          (record_grows l i c) grow

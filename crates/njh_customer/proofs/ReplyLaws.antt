@@ -34,7 +34,11 @@ module _ (P : Sending → Type 0) (or_ack0 : Bool) (w : Writing) (x : LineState)
       (w.items ≡ [] → P (sending_of_empty or_ack0 w x)) → P (sending_of_block w x) → P (sending_of_written or_ack0 w x)
   written_so none some = at w.items refl
     where
-      at : (is : List Item) → w.items ≡ is → P (elim is [ [] ↦ sending_of_empty or_ack0 w x | i ∷ js ↦ sending_of_block w x ])
+      at : (is : List Item) → w.items ≡ is → P (elim is [
+        | [] ↦ sending_of_empty or_ack0 w x
+        | i ∷ js ↦ sending_of_block
+            w x
+      ])
       at [] e = none e
       at (i ∷ is) e = some
 
@@ -53,8 +57,7 @@ no_block_lasting false x = refl
 abbrev pub line_lasting : CustomerLine → Config × Phase × ℕ × List Receiver
 line_lasting x = (x.state.config, x.state.session.phase, x.streams, x.receivers)
 
-pub reply_lasting :
-    (entry : CustomerEntry) (l : ℕ) (r : LineReply) (s : CustomerSpool) (x : CustomerLine)
+pub reply_lasting : (entry : CustomerEntry) (l : ℕ) (r : LineReply) (s : CustomerSpool) (x : CustomerLine)
     → line_lasting (sending_of_reply entry l r s x).line ≡ line_lasting x
 reply_lasting entry l reply.Nothing s x = refl
 reply_lasting entry l (reply.Control which) s x =

@@ -37,7 +37,8 @@ kept_short : (held : Option (List ℕ)) (byte : ℕ) → IsShortText held → Is
 kept_short None byte short = tt
 kept_short (Some held) byte short = at_room (nat_lt (length held) longest_text) refl
   where
-    at_room : (b : Bool) → nat_lt (length held) longest_text ≡ b → IsShortText (if b then Some (held ++ byte ∷ []) else None)
+    at_room : (b : Bool) → nat_lt (length held) longest_text ≡ b
+        → IsShortText (if b then Some (held ++ byte ∷ []) else None)
     at_room true e = omega (arith, ltb-true (length held) longest_text e, length-append held (byte ∷ []))
     at_room false e = tt
 
@@ -51,8 +52,7 @@ step_short Nothing byte short =
     let eot = if byte == 0x37 then ends frame.Eot else on_to Nothing in
     let nak = if byte == 0x3D then ends frame.Nak else eot in
     let dle = if byte == 0x10 then on_to AfterDle else nak in
-    either_step (byte == 0x01) (on_to AfterSoh) dle (tt, tt)
-    (either_step (byte == 0x10) (on_to AfterDle) nak (tt, tt)
+    either_step (byte == 0x01) (on_to AfterSoh) dle (tt, tt) (either_step (byte == 0x10) (on_to AfterDle) nak (tt, tt)
     (either_step (byte == 0x3D) (ends frame.Nak) eot (tt, tt)
     (either_step (byte == 0x37) (ends frame.Eot) (on_to Nothing) (tt, tt) (tt, tt))))
 step_short AfterSoh byte short = either_step (byte == 0x2D) (ends frame.Enquiry) (on_to Nothing) (tt, tt) (tt, tt)
@@ -61,7 +61,8 @@ step_short AfterDle byte short =
     either_step (byte == 0x70) (ends frame.Ack0) begun (tt, tt)
     (either_step (byte == 0x02) (on_to (InText (Some []) false)) (on_to Nothing) (omega arith, tt) (tt, tt))
 step_short (InText held false) byte short =
-    either_step (byte == 0x10) (on_to (InText held true)) (on_to (InText (kept_with held byte) false)) (short, tt) (kept_short held byte short, tt)
+    either_step (byte == 0x10) (on_to (InText held true)) (on_to (InText (kept_with held byte) false)) (short, tt)
+    (kept_short held byte short, tt)
 step_short (InText held true) byte short =
     let text = ends (text_or_spoiled held) in
     let stray = if byte == 0x2D then ends frame.Spoiled else on_to (InText None false) in
@@ -76,29 +77,35 @@ step_short (InText held true) byte short =
 
 -- ---- bytes
 
-run_short : (rest : Rest) (c : Customer) (l : ℕ) (bytes : List ℕ) → IsShortRest rest → IsShortRest (bytes_run rest c l bytes).rest
+run_short : (rest : Rest) (c : Customer) (l : ℕ) (bytes : List ℕ) → IsShortRest rest
+    → IsShortRest (bytes_run rest c l bytes).rest
 run_short rest c l [] short = short
 run_short rest c l (byte ∷ bytes) short =
     let x = byte_step rest c l byte in run_short x.rest x.after l bytes (step_short rest byte short).0
 
-later_short : (n : ℕ) (rest : Rest) (after : Customer) (sent : List ℕ) (later : Taking) → IsShortRest rest → IsShortRest later.rest
+later_short : (n : ℕ) (rest : Rest) (after : Customer) (sent : List ℕ) (later : Taking) → IsShortRest rest
+    → IsShortRest later.rest
     → IsShortRest (or_later n rest (record { after = after; frame = sent }) later).rest
 later_short n rest after [] later short short_later = short_later
 later_short n rest after (b ∷ sent) later short short_later = short
 
-take_short : (rest : Rest) (c : Customer) (l : ℕ) (piece : List ℕ) → IsShortRest rest → IsShortRest (take_step rest c l piece).rest
+take_short : (rest : Rest) (c : Customer) (l : ℕ) (piece : List ℕ) → IsShortRest rest
+    → IsShortRest (take_step rest c l piece).rest
 take_short rest c l [] short = short
 take_short rest c l (byte ∷ bytes) short =
     let x = byte_step rest c l byte in
     let next = (step_short rest byte short).0 in
-    later_short 1 x.rest x.after x.frame (take_step x.rest x.after l bytes) next (take_short x.rest x.after l bytes next)
+    later_short 1 x.rest x.after x.frame (take_step x.rest x.after l bytes) next
+    (take_short x.rest x.after l bytes next)
 
 -- ---- all lines
 
-set_short : (rests : List Rest) (l m : ℕ) (rest : Rest) → IsShortRest rest → IsShortRest (rest_at m rests) → IsShortRest (rest_at m (set rests l rest))
+set_short : (rests : List Rest) (l m : ℕ) (rest : Rest) → IsShortRest rest → IsShortRest (rest_at m rests)
+    → IsShortRest (rest_at m (set rests l rest))
 set_short rests l m rest short there = at (set_one rests l m rest Nothing)
   where
-    at : (rest_at m (set rests l rest) ≡ rest_at m rests) ⊎ ((m ≡ l) × (rest_at m (set rests l rest) ≡ rest)) → IsShortRest (rest_at m (set rests l rest))
+    at : (rest_at m (set rests l rest) ≡ rest_at m rests) ⊎ ((m ≡ l) × (rest_at m (set rests l rest) ≡ rest))
+        → IsShortRest (rest_at m (set rests l rest))
     at (inl same) = subst IsShortRest (sym same) there
     at (inr it) = subst IsShortRest (sym it.1) short
 

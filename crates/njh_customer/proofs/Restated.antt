@@ -40,8 +40,7 @@ restated_then s t u first second = record {
 }
 
 -- whole files that pass a test change in their states
-restated_where :
-    (p : WholeFile → Bool) (change : WholeFile → WholeFile) (s : CustomerSpool)
+restated_where : (p : WholeFile → Bool) (change : WholeFile → WholeFile) (s : CustomerSpool)
     → ((f : WholeFile) → ready (change f) ≡ ready f)
     → IsRestated s (record s { whole = map (λ f. cond (p f) (change f) f) s.whole })
 restated_where p change s same =
@@ -90,8 +89,7 @@ all_restated (x ∷ xs) s =
     restated_then s t (all_ended xs t) (one_ended x s) (all_restated xs t)
 
 -- the files that were being sent, and those that go again
-pub ended_restated :
-    (entry : CustomerEntry) (l : ℕ) (xs : List Sender) (s : CustomerSpool)
+pub ended_restated : (entry : CustomerEntry) (l : ℕ) (xs : List Sender) (s : CustomerSpool)
     → IsRestated s (tried_again entry l (all_ended xs s))
 ended_restated entry l xs s =
     let t = all_ended xs s in
@@ -136,13 +134,11 @@ pub restated_harmless : (s t : CustomerSpool) → IsRestated s t → IsHarmless 
 restated_harmless s t restated = record { partial = restated.partial; limits = restated.limits; headers = headers }
   where
     headers : HaveHeaders s.whole → HaveHeaders t.whole
-    headers have k d inside =
-        let now : All Reads (map ready t.whole) =
+    headers have k d inside = let now : All Reads (map ready t.whole) =
         subst (All Reads) (sym restated.whole) (All-map Reads ready s.whole have) in
         subst Reads (get_or-map ready t.whole k d) (now k (ready d) (omega (arith, inside, length-map t.whole ready)))
 
 pub completed_harmless : (x : Sender) (s : CustomerSpool) → IsHarmless s (after_completion x s).spool
-completed_harmless x s =
-    completed_so (IsHarmless s) s
+completed_harmless x s = completed_so (IsHarmless s) s
     (λ n. record { partial = refl; limits = refl; headers = All-filter (λ f. not (f.number == n)) Reads s.whole })
     (restated_harmless s s (as_it_is s)) x

@@ -37,18 +37,19 @@ routes_do p routes = at_check (routes_checked p.customer.entry routes) refl
     }
 
 pub routes_move :
-    (p : Part) (routes : List NewRoute) → LeadsByMoves (RoutesMove p.customer.entry routes) (outgoing p.customer) (outgoing (routes_given routes p).customer)
+    (p : Part) (routes : List NewRoute) → LeadsByMoves (RoutesMove p.customer.entry routes) (outgoing p.customer)
+    (outgoing (routes_given routes p).customer)
 routes_move p routes = at_check (routes_checked p.customer.entry routes) refl
   where
     at_check : (w : Walked (Unit {0})) → routes_checked p.customer.entry routes ≡ w
-        → LeadsByMoves (RoutesMove p.customer.entry routes) (outgoing p.customer) (outgoing (taken_where w routes p).customer)
+        → LeadsByMoves (RoutesMove p.customer.entry routes) (outgoing p.customer)
+        (outgoing (taken_where w routes p).customer)
     at_check (Ok faultless) e =
         let y = outgoing (taken_where (Ok faultless) routes p).customer in
         onward (outgoing p.customer) y y (record { faultless = e; holds = refl }) (nowhere y)
     at_check (Err found) e = nowhere (outgoing p.customer)
 
-pub routes_keep_entry :
-    (p : Part) (routes : List NewRoute) → let after = (routes_given routes p).customer.entry in
+pub routes_keep_entry : (p : Part) (routes : List NewRoute) → let after = (routes_given routes p).customer.entry in
     after ≡ entry_with after.routes (with_marks after.up p.customer.entry)
 routes_keep_entry p routes = at_check (routes_checked p.customer.entry routes)
   where
@@ -65,8 +66,7 @@ held_where entry f = cond (has_lost_route entry f) (held_file f) f
 pub held_numbers : (entry : CustomerEntry) (fs : List WholeFile) → numbers (map (held_where entry) fs) ≡ numbers fs
 held_numbers entry fs = changed_where (λ f. f.number) (has_lost_route entry) held_file fs (λ f. refl)
 
-pub held_so :
-    (entry : CustomerEntry) (x : Outgoing) (g : WholeFile) → Contains (map (held_where entry) x.files) g
+pub held_so : (entry : CustomerEntry) (x : Outgoing) (g : WholeFile) → Contains (map (held_where entry) x.files) g
     → RoutesMoveFile entry x g
 held_so entry x g at = at_file (from_where (has_lost_route entry) held_file x.files g at)
   where

@@ -14,16 +14,14 @@ use Rattle.njh_customer.proofs.SpoolWalks.{replied_so, routes_so, session_over_s
 use Rattle.njh_customer.proofs.SurvivingLaws.{but_states}
 
 pub restated_grows : (s t u : CustomerSpool) → IsRestated t u → FilesGrow 0 s t → FilesGrow 0 s u
-restated_grows s t u restated grow =
-    then_quietly 0 s t u grow
+restated_grows s t u restated grow = then_quietly 0 s t u grow
     (quiet t u (but_states t.whole u.whole restated.whole) restated.arrived restated.partial)
 
 pub reply_grows : (l : ℕ) (r : LineReply) (c : Customer) → FilesGrow 0 c.spool (replied_to l r c).after.spool
 reply_grows l r c = replied_so (FilesGrow 0 c.spool) (restated_grows c.spool) l r c (unchanged c.spool)
 
 pub over_grows : (l : ℕ) (c : Customer) → FilesGrow 0 c.spool (session_over l c).spool
-over_grows l c =
-    session_over_so (FilesGrow 0 c.spool) (restated_grows c.spool)
+over_grows l c = session_over_so (FilesGrow 0 c.spool) (restated_grows c.spool)
     (λ n t grow. then_quietly 0 c.spool t (without_partial n t) grow (without_grows n t)) l c (unchanged c.spool)
 
 pub over_where_grows : (b : Bool) (l : ℕ) (c : Customer) → FilesGrow 0 c.spool (session_over_where b l c).spool

@@ -59,16 +59,26 @@ aborts_eight = (tt, (tt, (tt, (tt, (tt, (tt, (tt, (tt, tt))))))))
 
 requests_eight : AreOfEight requests
 unfolding streams
-requests_eight =
-    (omega arith, (omega arith, (omega arith, (omega arith, (omega arith, (omega arith, (omega arith, (omega arith, tt))))))))
+requests_eight = (
+  omega arith,
+  (
+    omega arith,
+    (
+      omega arith,
+      (
+        omega arith,
+        (omega arith, (omega arith, (omega arith, (omega arith, tt)))),
+      ),
+    ),
+  ),
+)
 
 messages_eight : (b : Bool) (messages : List (List ℕ)) → AreOfEight (messages_where b messages)
 messages_eight true messages = many_eight (length messages) WaitingMessage tt
 messages_eight false messages = tt
 
 pub sources_eight : (limit : ℕ) (o : Outlet) → AreOfEight (sources limit o)
-sources_eight limit o =
-    both_eight (waiting_answers o) (aborts ++ (requests ++ (waiting_messages o ++ turns limit)))
+sources_eight limit o = both_eight (waiting_answers o) (aborts ++ (requests ++ (waiting_messages o ++ turns limit)))
     (many_eight (length o.answers) WaitingAnswer tt)
     (both_eight aborts (requests ++ (waiting_messages o ++ turns limit)) aborts_eight
     (both_eight requests (waiting_messages o ++ turns limit) requests_eight
@@ -84,13 +94,14 @@ out_of l base x = of_parts x.spool.whole x.spool.arrived (set base l x.outlet.se
 -- a candidate moves nothing, or one stream, as its record says
 data OffersOne (entry : CustomerEntry) (l : ℕ) (base : List (List Sender)) (x : Filling) (c : Candidate) : Type 0 where
   same : out_of l base (record x { outlet = c.outlet; spool = c.spool }) ≡ out_of l base x → OffersOne entry l base x c
-  one : Sends entry l (out_of l base x) (out_of l base (record x { outlet = c.outlet; spool = c.spool })) → OffersOne entry l base x c
+  one : Sends entry l (out_of l base x) (out_of l base (record x { outlet = c.outlet; spool = c.spool }))
+      → OffersOne entry l base x c
 
 -- a source moves nothing, or one stream, and then the block has one record more
 pub data GivesOne (entry : CustomerEntry) (l : ℕ) (base : List (List Sender)) (x y : Filling) : Type 0 where
-  nothing : out_of l base y ≡ out_of l base x → (more : List Item) → y.block.items ≡ x.block.items ++ more → GivesOne entry l base x y
-  a_record :
-      Sends entry l (out_of l base x) (out_of l base y) → (i : Item) → y.block.items ≡ x.block.items ++ i ∷ []
+  nothing : out_of l base y ≡ out_of l base x → (more : List Item) → y.block.items ≡ x.block.items ++ more
+      → GivesOne entry l base x y
+  a_record : Sends entry l (out_of l base x) (out_of l base y) → (i : Item) → y.block.items ≡ x.block.items ++ i ∷ []
       → GivesOne entry l base x y
 
 module _ (entry : CustomerEntry) (l : ℕ) (base : List (List Sender)) (inside : l < length base) where
@@ -98,9 +109,9 @@ module _ (entry : CustomerEntry) (l : ℕ) (base : List (List Sender)) (inside :
   stream_now k x = ap (λ senders. get_or senders k Idle) (get_or-set_same base l x.outlet.senders [] inside)
 
   -- the line's streams with another
-  set_again : (senders : List Sender) (k : ℕ) (s : Sender) → set base l (set senders k s) ≡ set (set base l senders) l (set (get_or (set base l senders) l []) k s)
-  set_again senders k s =
-      sym (set-set base l senders (set senders k s))
+  set_again : (senders : List Sender) (k : ℕ) (s : Sender)
+      → set base l (set senders k s) ≡ set (set base l senders) l (set (get_or (set base l senders) l []) k s)
+  set_again senders k s = sym (set-set base l senders (set senders k s))
       ∙ ap (λ now. set (set base l senders) l (set now k s)) (sym (get_or-set_same base l senders [] inside))
 
   abbrev Offers : Filling → Candidate → Type 0
@@ -110,15 +121,18 @@ module _ (entry : CustomerEntry) (l : ℕ) (base : List (List Sender)) (inside :
   OffersIf x None = Unit {0}
   OffersIf x (Some c) = Offers x c
 
-  offers_map : {A : Type 0} (x : Filling) (f : A → Candidate) (o : Option A) → ((a : A) → o ≡ Some a → Offers x (f a)) → OffersIf x (option_map f o)
+  offers_map : {A : Type 0} (x : Filling) (f : A → Candidate) (o : Option A) → ((a : A) → o ≡ Some a → Offers x (f a))
+      → OffersIf x (option_map f o)
   offers_map x f None each = tt
   offers_map x f (Some a) each = each a refl
 
   moved_is : (x : Filling) (k : ℕ) (s : Sender) (files : List WholeFile)
-      → of_parts files x.spool.arrived (set base l (set x.outlet.senders k s)) ≡ with_sender_on l k s (of_parts files x.spool.arrived (set base l x.outlet.senders))
+      → of_parts files x.spool.arrived (set base l (set x.outlet.senders k s)) ≡ with_sender_on l k s
+      (of_parts files x.spool.arrived (set base l x.outlet.senders))
   moved_is x k s files = ap (of_parts files x.spool.arrived) (set_again x.outlet.senders k s)
 
-  offers_abort : (x : Filling) (k : ℕ) (s : Sender) → sender_at k x.outlet ≡ s → OffersIf x (abort_where s x.outlet x.spool k)
+  offers_abort : (x : Filling) (k : ℕ) (s : Sender) → sender_at k x.outlet ≡ s
+      → OffersIf x (abort_where s x.outlet x.spool k)
   offers_abort x k Idle e = tt
   offers_abort x k (Requested n) e = tt
   offers_abort x k (Sending n place) e = tt
@@ -137,47 +151,63 @@ module _ (entry : CustomerEntry) (l : ℕ) (base : List (List Sender)) (inside :
   both_right false b e = absurd (cc e)
 
   offers_request : (x : Filling) (k : ℕ) (b : Bool) → k < 8 → may_ask x.outlet k ≡ b
-      → OffersIf x (elim b [ false ↦ None | true ↦ option_map (λ f. asking x.outlet x.spool k f.number) (oldest (goes_by entry l) (kind_of k) x.spool) ])
+      → OffersIf x (elim b [
+        | false ↦ None
+        | true ↦ option_map (λ f. asking x.outlet x.spool k f.number)
+            (oldest (goes_by entry l) (kind_of k) x.spool)
+      ])
   offers_request x k false few e = tt
   offers_request x k true few e =
-      offers_map {A = WholeFile} x (λ f. asking x.outlet x.spool k f.number) (oldest (goes_by entry l) (kind_of k) x.spool)
-      (λ f found. one (moves.asks k f few (stream_now k x ∙ idle_is (sender_at k x.outlet) (both_right (nat_lt (k % 4) x.outlet.streams) (is_idle (sender_at k x.outlet)) e)) found
+      offers_map {A = WholeFile} x (λ f. asking x.outlet x.spool k f.number)
+      (oldest (goes_by entry l) (kind_of k) x.spool)
+      (λ f found. one (moves.asks k f few (stream_now k x ∙ idle_is (sender_at k x.outlet)
+      (both_right (nat_lt (k % 4) x.outlet.streams) (is_idle (sender_at k x.outlet)) e)) found
       (moved_is x k (Requested f.number) (asking x.outlet x.spool k f.number).spool.whole)))
 
   at_place : (n place : ℕ) (x : Filling) → record_at n place x.spool ≡ record_numbered n place (out_of l base x)
   at_place n place x = at_file (whole_numbered n x.spool)
     where
-      at_file : (o : Option WholeFile) → elim o [ Some f ↦ slice_get f.records place | None ↦ None ] ≡ slice_get (records_of o) place
+      at_file : (o : Option WholeFile) → elim o [ Some f ↦ slice_get f.records place | None ↦ None ] ≡ slice_get
+          (records_of o) place
       at_file None = refl
       at_file (Some f) = refl
 
   -- a stream that isn't sending stays
-  left_as_it_is : (x : Filling) (k : ℕ) (s : Sender) → sender_at k x.outlet ≡ s → out_of l base (record x { outlet = record x.outlet { senders = set x.outlet.senders k s } }) ≡ out_of l base x
+  left_as_it_is : (x : Filling) (k : ℕ) (s : Sender) → sender_at k x.outlet ≡ s
+      → out_of l base (record x { outlet = record x.outlet { senders = set x.outlet.senders k s } }) ≡ out_of l base x
   left_as_it_is x k s e =
       ap (λ t. of_parts x.spool.whole x.spool.arrived (set base l (set x.outlet.senders k t))) (sym e)
       ∙ ap (λ senders. of_parts x.spool.whole x.spool.arrived (set base l senders)) (set-get_or x.outlet.senders k Idle)
 
-  offers_next : (x : Filling) (k n place : ℕ) (o : Option Stored) → sender_at k x.outlet ≡ Sending n place → record_at n place x.spool ≡ o
+  offers_next : (x : Filling) (k n place : ℕ) (o : Option Stored) → sender_at k x.outlet ≡ Sending n place
+      → record_at n place x.spool ≡ o
       → Offers x (serving x.outlet x.spool k (next_at n place o))
   offers_next x k n place (Some r) e found =
-      one (moves.goes_on k n place r (stream_now k x ∙ e) (sym (at_place n place x) ∙ found) (moved_is x k (Sending n (place + 1)) x.spool.whole))
+      one (moves.goes_on k n place r (stream_now k x ∙ e) (sym (at_place n place x) ∙ found)
+      (moved_is x k (Sending n (place + 1)) x.spool.whole))
   offers_next x k n place None e found =
-      one (moves.ends k n place (stream_now k x ∙ e) (sym (at_place n place x) ∙ found) (moved_is x k (EofSent n) x.spool.whole))
+      one (moves.ends k n place (stream_now k x ∙ e) (sym (at_place n place x) ∙ found)
+      (moved_is x k (EofSent n) x.spool.whole))
 
-  offers_turn : (x : Filling) (k : ℕ) (s : Sender) → sender_at k x.outlet ≡ s → Offers x (serving x.outlet x.spool k (next_of s x.spool))
+  offers_turn : (x : Filling) (k : ℕ) (s : Sender) → sender_at k x.outlet ≡ s
+      → Offers x (serving x.outlet x.spool k (next_of s x.spool))
   offers_turn x k Idle e = same (left_as_it_is x k Idle e)
   offers_turn x k (Requested n) e = same (left_as_it_is x k (Requested n) e)
   offers_turn x k (Sending n place) e = offers_next x k n place (record_at n place x.spool) e refl
   offers_turn x k (EofSent n) e = same (left_as_it_is x k (EofSent n) e)
   offers_turn x k Aborting e = same (left_as_it_is x k Aborting e)
 
-  offers : (source : Source) (x : Filling) → IsOfEight source → OffersIf x (candidate (goes_by entry l) source x.outlet x.spool)
-  offers WaitingAnswer x few = offers_map {A = Answer} x (answering x.outlet x.spool) (slice_get x.outlet.answers 0) (λ a found. same refl)
+  offers : (source : Source) (x : Filling) → IsOfEight source
+      → OffersIf x (candidate (goes_by entry l) source x.outlet x.spool)
+  offers WaitingAnswer x few = offers_map {A = Answer} x (answering x.outlet x.spool) (slice_get x.outlet.answers 0)
+      (λ a found. same refl)
   offers (StreamAbort k) x few = offers_abort x k (sender_at k x.outlet) refl
   offers (StreamRequest k) x few = offers_request x k (may_ask x.outlet k) few refl
-  offers WaitingMessage x few = offers_map {A = List ℕ} x (telling x.outlet x.spool) (slice_get x.outlet.messages 0) (λ m found. same refl)
+  offers WaitingMessage x few = offers_map {A = List ℕ} x (telling x.outlet x.spool) (slice_get x.outlet.messages 0)
+      (λ m found. same refl)
   offers StreamTurn x few =
-      offers_map {A = ℕ} x (λ k. serving x.outlet x.spool k (next_of (sender_at k x.outlet) x.spool)) (next_served x.outlet)
+      offers_map {A = ℕ} x (λ k. serving x.outlet x.spool k (next_of (sender_at k x.outlet) x.spool))
+      (next_served x.outlet)
       (λ k found. offers_turn x k (sender_at k x.outlet) refl)
 
   abbrev Gives : Filling → Filling → Type 0
@@ -201,16 +231,19 @@ module _ (entry : CustomerEntry) (l : ℕ) (base : List (List Sender)) (inside :
       at_full false = gives_candidate x (candidate (goes_by entry l) source x.outlet x.spool) (offers source x few)
 
   -- all sources, one after the other
-  step_on : (x y : Filling) (z : Outgoing) → Gives x y → LeadsByMoves (Sends entry l) (out_of l base y) z → LeadsByMoves (Sends entry l) (out_of l base x) z
+  step_on : (x y : Filling) (z : Outgoing) → Gives x y → LeadsByMoves (Sends entry l) (out_of l base y) z
+      → LeadsByMoves (Sends entry l) (out_of l base x) z
   step_on x y z (nothing e more items) later = subst (λ w. LeadsByMoves (Sends entry l) w z) e later
   step_on x y z (a_record s i items) later = onward (out_of l base x) (out_of l base y) z s later
 
-  all_lead : (more : List Source) (x : Filling) → AreOfEight more → LeadsByMoves (Sends entry l) (out_of l base x) (out_of l base (after_sources (goes_by entry l) more x))
+  all_lead : (more : List Source) (x : Filling) → AreOfEight more
+      → LeadsByMoves (Sends entry l) (out_of l base x) (out_of l base (after_sources (goes_by entry l) more x))
   unfolding after_sources
   all_lead [] x few = nowhere (out_of l base x)
   all_lead (source ∷ more) x few =
       let y = after_source (goes_by entry l) source x in
-      step_on x y (out_of l base (after_sources (goes_by entry l) more y)) (gives source x few.0) (all_lead more y few.1)
+      step_on x y (out_of l base (after_sources (goes_by entry l) more y)) (gives source x few.0)
+      (all_lead more y few.1)
 
   -- a block without records has moved nothing
   no_records : (xs ys : List Item) → xs ++ ys ≡ [] → xs ≡ []
@@ -221,7 +254,8 @@ module _ (entry : CustomerEntry) (l : ℕ) (base : List (List Sender)) (inside :
   not_one_more [] i e = cc e
   not_one_more (x ∷ xs) i e = cc e
 
-  gave_none : (x y : Filling) → Gives x y → y.block.items ≡ [] → (x.block.items ≡ []) × (out_of l base y ≡ out_of l base x)
+  gave_none : (x y : Filling) → Gives x y → y.block.items ≡ []
+      → (x.block.items ≡ []) × (out_of l base y ≡ out_of l base x)
   gave_none x y (nothing e more items) none = (no_records x.block.items more (sym items ∙ none), e)
   gave_none x y (a_record s i items) none = absurd (not_one_more x.block.items i (sym items ∙ none))
 
@@ -236,35 +270,37 @@ module _ (entry : CustomerEntry) (l : ℕ) (base : List (List Sender)) (inside :
       let first = gave_none x y (gives source x few.0) later.0 in
       (first.0, later.1 ∙ first.1)
 
-  pub filled_leads : (x : Filling) → LeadsByMoves (Sends entry l) (out_of l base x) (out_of l base (filled_block (goes_by entry l) x))
+  pub filled_leads : (x : Filling) → LeadsByMoves (Sends entry l) (out_of l base x)
+      (out_of l base (filled_block (goes_by entry l) x))
   unfolding filled_block
   filled_leads x = at_suspended (all_suspended x.outlet.peer_fcs)
     where
-      at_suspended : (b : Bool) → LeadsByMoves (Sends entry l) (out_of l base x) (out_of l base (filled_where b (goes_by entry l) x))
+      at_suspended : (b : Bool) → LeadsByMoves (Sends entry l) (out_of l base x)
+          (out_of l base (filled_where b (goes_by entry l) x))
       at_suspended true = nowhere (out_of l base x)
       at_suspended false = all_lead (sources x.block.limit x.outlet) x (sources_eight x.block.limit x.outlet)
 
-  pub filled_with_none : (x : Filling) → (filled_block (goes_by entry l) x).block.items ≡ [] → out_of l base (filled_block (goes_by entry l) x) ≡ out_of l base x
+  pub filled_with_none : (x : Filling) → (filled_block (goes_by entry l) x).block.items ≡ []
+      → out_of l base (filled_block (goes_by entry l) x) ≡ out_of l base x
   unfolding filled_block
   filled_with_none x = at_suspended (all_suspended x.outlet.peer_fcs)
     where
-      at_suspended : (b : Bool) → (filled_where b (goes_by entry l) x).block.items ≡ [] → out_of l base (filled_where b (goes_by entry l) x) ≡ out_of l base x
+      at_suspended : (b : Bool) → (filled_where b (goes_by entry l) x).block.items ≡ []
+          → out_of l base (filled_where b (goes_by entry l) x) ≡ out_of l base x
       at_suspended true none = refl
-      at_suspended false none = (all_gave_none (sources x.block.limit x.outlet) x (sources_eight x.block.limit x.outlet) none).1
+      at_suspended false none = (all_gave_none (sources x.block.limit x.outlet) x
+          (sources_eight x.block.limit x.outlet) none).1
 
 -- ---- the next block of a line
 
 -- the block that is filled
 abbrev pub filling_on : ℕ → Customer → Filling
-filling_on l c =
-    let x = line_at l c.lines in filling (own_block (own_fcs c.spool) x.state) (outlet_of x) c.spool
+filling_on l c = let x = line_at l c.lines in filling (own_block (own_fcs c.spool) x.state) (outlet_of x) c.spool
 
 pub next_begins : (l : ℕ) (c : Customer) → out_of l (streams_from_hub c.lines) (filling_on l c) ≡ outgoing c
 next_begins l c = ap (of_parts c.spool.whole c.spool.arrived) (own_again l c.lines)
 
-pub next_leads :
-    (l : ℕ) (c : Customer) → l < length c.lines
-    → LeadsByMoves (Sends c.entry l) (outgoing c)
+pub next_leads : (l : ℕ) (c : Customer) → l < length c.lines → LeadsByMoves (Sends c.entry l) (outgoing c)
     (out_of l (streams_from_hub c.lines) (next_block c.entry l c.spool (line_at l c.lines)))
 next_leads l c there =
     let base = streams_from_hub c.lines in
@@ -272,11 +308,10 @@ next_leads l c there =
     (next_begins l c)
     (filled_leads c.entry l base (omega (arith, there, length-map c.lines (λ x. x.senders))) (filling_on l c))
 
-pub next_is :
-    (l : ℕ) (or_ack0 : Bool) (c : Customer)
-    → outgoing (replied_to l (reply.Next or_ack0) c).after
+pub next_is : (l : ℕ) (or_ack0 : Bool) (c : Customer) → outgoing (replied_to l (reply.Next or_ack0) c).after
     ≡ out_of l (streams_from_hub c.lines) (next_block c.entry l c.spool (line_at l c.lines))
 next_is l or_ack0 c =
     let full = next_block c.entry l c.spool (line_at l c.lines) in
     ap (of_parts full.spool.whole full.spool.arrived)
-    (map-set (λ y. y.senders) c.lines l (sending_of_reply c.entry l (reply.Next or_ack0) c.spool (line_at l c.lines)).line)
+    (map-set (λ y. y.senders) c.lines l (sending_of_reply c.entry l (reply.Next or_ack0) c.spool
+    (line_at l c.lines)).line)

@@ -51,40 +51,41 @@ record AreAlike (x y : Outgoing) : Type 0 where
   about : (l k : ℕ) → file_in (sender_on l k y) ≡ file_in (sender_on l k x)
 
 sent_alike : (x y : Outgoing) → AreAlike x y → AreBeingSent x → AreBeingSent y
-sent_alike x y like sent =
-    record {
-      eight = λ l there. like.streams l ∙ sent.eight l (omega (arith, there, like.lines));
-      there = λ l k n about. ap (any_numbered n) like.files ∙ sent.there l k n (sym (like.about l k) ∙ about);
-      sending =
-          λ l k n f about at same. sent.sending l k n f (sym (like.about l k) ∙ about) (subst (λ fs. Contains fs f) like.files at) same;
-      apart = λ l k m j n first second. sent.apart l k m j n (sym (like.about l k) ∙ first) (sym (like.about m j) ∙ second);
-      go = λ f at is.
-          let goes = sent.go f (subst (λ fs. Contains fs f) like.files at) is in
-          record { line = goes.line; stream = goes.stream; about = like.about goes.line goes.stream ∙ goes.about };
-    }
+sent_alike x y like sent = record {
+  eight = λ l there. like.streams l ∙ sent.eight l (omega (arith, there, like.lines));
+  there = λ l k n about. ap (any_numbered n) like.files ∙ sent.there l k n (sym (like.about l k) ∙ about);
+  sending =
+      λ l k n f about at same. sent.sending l k n f (sym (like.about l k) ∙ about)
+      (subst (λ fs. Contains fs f) like.files at) same;
+  apart = λ l k m j n first second. sent.apart l k m j n (sym (like.about l k) ∙ first)
+      (sym (like.about m j) ∙ second);
+  go = λ f at is. let goes = sent.go f (subst (λ fs. Contains fs f) like.files at) is in
+      record { line = goes.line; stream = goes.stream; about = like.about goes.line goes.stream ∙ goes.about };
+}
 
 -- one stream moves, and is about the file that it was about
-one_alike : (l k : ℕ) (s : Sender) (x : Outgoing) → file_in s ≡ file_in (sender_on l k x) → AreAlike x (with_sender_on l k s x)
-one_alike l k s x same =
-    record {
-      files = refl;
-      lines = set_lines l k s x;
-      streams = λ j. set_streams j l k s x;
-      about = λ j m. at_place j m (moved_one j m l k s x);
-    }
+one_alike : (l k : ℕ) (s : Sender) (x : Outgoing) → file_in s ≡ file_in (sender_on l k x)
+    → AreAlike x (with_sender_on l k s x)
+one_alike l k s x same = record {
+  files = refl;
+  lines = set_lines l k s x;
+  streams = λ j. set_streams j l k s x;
+  about = λ j m. at_place j m (moved_one j m l k s x);
+}
   where
-    at_place : (j m : ℕ) → IsOne j m l k s x (with_sender_on l k s x) → file_in (sender_on j m (with_sender_on l k s x)) ≡ file_in (sender_on j m x)
+    at_place : (j m : ℕ) → IsOne j m l k s x (with_sender_on l k s x)
+        → file_in (sender_on j m (with_sender_on l k s x)) ≡ file_in (sender_on j m x)
     at_place j m (inl stays) = ap (λ t. file_in t) stays
-    at_place j m (inr one) =
-        ap (λ t. file_in t) one.2
-        ∙ same
+    at_place j m (inr one) = ap (λ t. file_in t) one.2 ∙ same
         ∙ sym (ap (λ n. file_in (sender_on n m x)) one.0 ∙ ap (λ n. file_in (sender_on l n x)) one.1)
 
 one_moves :
-    (l k : ℕ) (s t : Sender) (x y : Outgoing) → sender_on l k x ≡ s → file_in t ≡ file_in s → y ≡ with_sender_on l k t x → AreBeingSent x
+    (l k : ℕ) (s t : Sender) (x y : Outgoing) → sender_on l k x ≡ s → file_in t ≡ file_in s → y ≡ with_sender_on l k t x
+    → AreBeingSent x
     → AreBeingSent y
 one_moves l k s t x y before same e sent =
-    subst AreBeingSent (sym e) (sent_alike x (with_sender_on l k t x) (one_alike l k t x (same ∙ sym (ap (λ u. file_in u) before))) sent)
+    subst AreBeingSent (sym e) (sent_alike x (with_sender_on l k t x)
+    (one_alike l k t x (same ∙ sym (ap (λ u. file_in u) before))) sent)
 
 -- ---- a stream asks for a file
 
@@ -92,11 +93,13 @@ some_is : {A : Type 0} (a b : A) → Some a ≡ Some b → a ≡ b
 some_is a b e = ap (λ o. elim o [ Some c ↦ c | None ↦ a ]) e
 
 -- a file that may go isn't being sent
-goes_ready : (goes : WholeFile → Bool) (k : ℕ) (f : WholeFile) → may_go goes (kind_of k) f ≡ true → f.state ≡ state.Sending → ⊥
+goes_ready : (goes : WholeFile → Bool) (k : ℕ) (f : WholeFile) → may_go goes (kind_of k) f ≡ true
+    → f.state ≡ state.Sending → ⊥
 goes_ready goes k f may is = cc (sym may ∙ ap (λ s. is_ready s && (same_kind f.kind (kind_of k) && goes f)) is)
 
 module _ (entry : CustomerEntry) (l k : ℕ) (f : WholeFile) (x : Outgoing) (line : l < length x.streams) (few : k < 8)
-    (idle : sender_on l k x ≡ Idle) (found : find (may_go (goes_by entry l) (kind_of k)) x.files ≡ Some f) (sent : AreBeingSent x) where
+    (idle : sender_on l k x ≡ Idle) (found : find (may_go (goes_by entry l) (kind_of k)) x.files ≡ Some f)
+    (sent : AreBeingSent x) where
   abbrev marked : Outgoing
   marked = with_files (with_file_state f.number state.Sending x.files) x
 
@@ -130,23 +133,28 @@ module _ (entry : CustomerEntry) (l k : ℕ) (f : WholeFile) (x : Outgoing) (lin
       at_place : IsOne m j l k (Requested f.number) marked asked → IsAbout m j n asked
       at_place (inl same) = ap (λ t. file_in t) same ∙ about
       at_place (inr one) =
-          absurd (cc (sym about ∙ ap (λ i. file_in (sender_on i j x)) one.0 ∙ ap (λ i. file_in (sender_on l i x)) one.1 ∙ ap (λ t. file_in t) idle))
+          absurd (cc (sym about ∙ ap (λ i. file_in (sender_on i j x)) one.0 ∙ ap (λ i. file_in (sender_on l i x)) one.1
+          ∙ ap (λ t. file_in t) idle))
 
   asks_about : IsAbout l k f.number asked
-  asks_about = ap (λ t. file_in t) (set_there l k (Requested f.number) marked line (omega (arith, few, sent.eight l line)))
+  asks_about = ap (λ t. file_in t) (set_there l k (Requested f.number) marked line
+      (omega (arith, few, sent.eight l line)))
 
   -- a file of these is the one that is asked for, or was there
-  from_asked : (g : WholeFile) → Contains asked.files g → WasOrIs (λ h. h.number == f.number) (λ h. record h { state = state.Sending }) x.files g
+  from_asked : (g : WholeFile) → Contains asked.files g → WasOrIs (λ h. h.number == f.number)
+      (λ h. record h { state = state.Sending }) x.files g
   from_asked = from_where (λ h. h.number == f.number) (λ h. record h { state = state.Sending }) x.files
 
   asked_there : (m j n : ℕ) → IsAbout m j n asked → has_file n asked ≡ true
-  asked_there m j n about = same_numbered n asked.files x.files (marked_numbers f.number state.Sending x.files) ∙ at_stream (was_about m j n about)
+  asked_there m j n about = same_numbered n asked.files x.files (marked_numbers f.number state.Sending x.files)
+      ∙ at_stream (was_about m j n about)
     where
       at_stream : WasAbout m j n → any_numbered n x.files ≡ true
       at_stream (inl was) = sent.there m j n was
       at_stream (inr asks) = ap (λ i. any_numbered i x.files) asks.2 ∙ any_there f.number x.files (f, at_file, refl)
 
-  asked_sending : (m j n : ℕ) (g : WholeFile) → IsAbout m j n asked → Contains asked.files g → g.number ≡ n → g.state ≡ state.Sending
+  asked_sending : (m j n : ℕ) (g : WholeFile) → IsAbout m j n asked → Contains asked.files g → g.number ≡ n
+      → g.state ≡ state.Sending
   asked_sending m j n g about at same = at_mark (from_asked g at) (was_about m j n about)
     where
       at_mark : WasOrIs (λ h. h.number == f.number) (λ h. record h { state = state.Sending }) x.files g → WasAbout m j n
@@ -167,32 +175,35 @@ module _ (entry : CustomerEntry) (l k : ℕ) (f : WholeFile) (x : Outgoing) (lin
   asked_go : (g : WholeFile) → Contains asked.files g → g.state ≡ state.Sending → IsOnStream g.number asked
   asked_go g at is = at_mark (from_asked g at)
     where
-      at_mark : WasOrIs (λ h. h.number == f.number) (λ h. record h { state = state.Sending }) x.files g → IsOnStream g.number asked
-      at_mark (inl (h, there, e, same)) =
-          record {
-            line = l;
-            stream = k;
-            about = asks_about ∙ ap Some (sym (ap (λ i. i.number) same ∙ eqb-true h.number f.number e));
-          }
+      at_mark : WasOrIs (λ h. h.number == f.number) (λ h. record h { state = state.Sending }) x.files g
+          → IsOnStream g.number asked
+      at_mark (inl (h, there, e, same)) = record {
+        line = l;
+        stream = k;
+        about = asks_about ∙ ap Some (sym (ap (λ i. i.number) same ∙ eqb-true h.number f.number e));
+      }
       at_mark (inr (there, other)) =
           let goes = sent.go g there is in
-          record { line = goes.line; stream = goes.stream; about = still_about goes.line goes.stream g.number goes.about }
+          record {
+            line = goes.line;
+            stream = goes.stream;
+            about = still_about goes.line goes.stream g.number goes.about;
+          }
 
   sent_asked : AreBeingSent asked
-  sent_asked =
-      record {
-        eight = λ m there.
-            set_streams m l k (Requested f.number) marked
-            ∙ sent.eight m (omega (arith, there, set_lines l k (Requested f.number) marked));
-        there = asked_there;
-        sending = asked_sending;
-        apart = asked_apart;
-        go = asked_go;
-      }
+  sent_asked = record {
+    eight = λ m there. set_streams m l k (Requested f.number) marked
+        ∙ sent.eight m (omega (arith, there, set_lines l k (Requested f.number) marked));
+    there = asked_there;
+    sending = asked_sending;
+    apart = asked_apart;
+    go = asked_go;
+  }
 
 -- ---- what goes out in a new block
 
-pub sent_by_sends : (entry : CustomerEntry) (l : ℕ) (x y : Outgoing) → l < length x.streams → Sends entry l x y → AreBeingSent x → AreBeingSent y
+pub sent_by_sends : (entry : CustomerEntry) (l : ℕ) (x y : Outgoing) → l < length x.streams → Sends entry l x y
+    → AreBeingSent x → AreBeingSent y
 sent_by_sends entry l x y line (moves.gives_up k before e) sent = one_moves l k Aborting Idle x y before refl e sent
 sent_by_sends entry l x y line (moves.asks k f few before found e) sent =
     subst AreBeingSent (sym e) (sent_asked entry l k f x line few before found sent)
@@ -205,20 +216,23 @@ sent_by_sends entry l x y line (moves.ends k n place before found e) sent =
 sends_lines : (entry : CustomerEntry) (l : ℕ) (x y : Outgoing) → Sends entry l x y → length y.streams ≡ length x.streams
 sends_lines entry l x y (moves.gives_up k before e) = ap (λ z. length z.streams) e ∙ set_lines l k Idle x
 sends_lines entry l x y (moves.asks k f few before found e) =
-    ap (λ z. length z.streams) e ∙ set_lines l k (Requested f.number) (with_files (with_file_state f.number state.Sending x.files) x)
+    ap (λ z. length z.streams) e ∙ set_lines l k (Requested f.number)
+    (with_files (with_file_state f.number state.Sending x.files) x)
 sends_lines entry l x y (moves.goes_on k n place r before found e) =
     ap (λ z. length z.streams) e ∙ set_lines l k (Sending n (place + 1)) x
-sends_lines entry l x y (moves.ends k n place before found e) = ap (λ z. length z.streams) e ∙ set_lines l k (EofSent n) x
+sends_lines entry l x y (moves.ends k n place before found e) = ap (λ z. length z.streams) e ∙ set_lines l k
+    (EofSent n) x
 
-pub sent_by_all : (entry : CustomerEntry) (l : ℕ) (x y : Outgoing) → l < length x.streams → LeadsByMoves (Sends entry l) x y → AreBeingSent x → AreBeingSent y
+pub sent_by_all : (entry : CustomerEntry) (l : ℕ) (x y : Outgoing) → l < length x.streams
+    → LeadsByMoves (Sends entry l) x y → AreBeingSent x → AreBeingSent y
 sent_by_all entry l _ _ line (nowhere x) sent = sent
 sent_by_all entry l _ _ line (onward x y z move later) sent =
-    sent_by_all entry l y z (omega (arith, line, sends_lines entry l x y move)) later (sent_by_sends entry l x y line move sent)
+    sent_by_all entry l y z (omega (arith, line, sends_lines entry l x y move)) later
+    (sent_by_sends entry l x y line move sent)
 
 -- ---- what a line sends
 
-pub sent_replied :
-    (l : ℕ) (r : LineReply) (c : Customer) → l < length c.lines → AreBeingSent (outgoing c)
+pub sent_replied : (l : ℕ) (r : LineReply) (c : Customer) → l < length c.lines → AreBeingSent (outgoing c)
     → AreBeingSent (outgoing (replied_to l r c).after)
 sent_replied l (reply.Next or_ack0) c there sent =
     let base = streams_from_hub c.lines in
@@ -227,9 +241,11 @@ sent_replied l (reply.Next or_ack0) c there sent =
     (sent_by_all c.entry l (outgoing c) (out_of l base full) (omega (arith, there, length-map c.lines (λ x. x.senders)))
     (next_leads l c there) sent)
 sent_replied l reply.Nothing c there sent = subst AreBeingSent (sym (reply_unmoved l reply.Nothing c refl)) sent
-sent_replied l (reply.Control which) c there sent = subst AreBeingSent (sym (reply_unmoved l (reply.Control which) c refl)) sent
+sent_replied l (reply.Control which) c there sent = subst AreBeingSent
+    (sym (reply_unmoved l (reply.Control which) c refl)) sent
 sent_replied l reply.Again c there sent = subst AreBeingSent (sym (reply_unmoved l reply.Again c refl)) sent
-sent_replied l (reply.SignOn kind) c there sent = subst AreBeingSent (sym (reply_unmoved l (reply.SignOn kind) c refl)) sent
+sent_replied l (reply.SignOn kind) c there sent = subst AreBeingSent
+    (sym (reply_unmoved l (reply.SignOn kind) c refl)) sent
 sent_replied l (reply.Sequence expected) c there sent =
     subst AreBeingSent (sym (reply_unmoved l (reply.Sequence expected) c refl)) sent
 
@@ -239,13 +255,15 @@ sent_replied l (reply.Sequence expected) c there sent =
 abbrev NoneAbout : ℕ → List Sender → Type 0
 NoneAbout n senders = (k : ℕ) → file_in (get_or senders k Idle) ≡ Some n → ⊥
 
-none_more : (n : ℕ) (s : Sender) (more : List Sender) → (file_in s ≡ Some n → ⊥) → NoneAbout n more → NoneAbout n (s ∷ more)
+none_more : (n : ℕ) (s : Sender) (more : List Sender) → (file_in s ≡ Some n → ⊥) → NoneAbout n more
+    → NoneAbout n (s ∷ more)
 none_more n s more first rest zero about = first about
 none_more n s more first rest (suc k) about = rest k about
 
 -- behind the end of one stream's session a file was there, or it was what the stream was about
 one_ended : (s : Sender) (spool : CustomerSpool) (g : WholeFile) → Contains (spool_after_session s spool).whole g
-    → (Contains spool.whole g × (file_in s ≡ Some g.number → ⊥)) ⊎ ((file_in s ≡ Some g.number) × (g.state ≡ state.Ready))
+    → (Contains spool.whole g × (file_in s ≡ Some g.number → ⊥))
+    ⊎ ((file_in s ≡ Some g.number) × (g.state ≡ state.Ready))
 one_ended s spool g at = at_about (file_in s) at
   where
     at_mark : (n : ℕ) → WasOrIs (λ h. h.number == n) (λ h. record h { state = state.Ready }) spool.whole g
@@ -257,32 +275,36 @@ one_ended s spool g at = at_about (file_in s) at
     at_about : (o : Option ℕ) → Contains (ended_where o spool).whole g
         → (Contains spool.whole g × (o ≡ Some g.number → ⊥)) ⊎ ((o ≡ Some g.number) × (g.state ≡ state.Ready))
     at_about None at = inl (at, λ about. cc about)
-    at_about (Some n) at = at_mark n (from_where (λ h. h.number == n) (λ h. record h { state = state.Ready }) spool.whole g at)
+    at_about (Some n) at = at_mark n (from_where (λ h. h.number == n)
+        (λ h. record h { state = state.Ready }) spool.whole g at)
 
 all_ended_ones :
-    (senders : List Sender) (spool : CustomerSpool) (g : WholeFile) → Contains (all_ended senders spool).whole g → g.state ≡ state.Sending
+    (senders : List Sender) (spool : CustomerSpool) (g : WholeFile) → Contains (all_ended senders spool).whole g
+    → g.state ≡ state.Sending
     → Contains spool.whole g × NoneAbout g.number senders
 all_ended_ones [] spool g at is = (at, λ k about. cc about)
 all_ended_ones (s ∷ more) spool g at is =
     let rest = all_ended_ones more (spool_after_session s spool) g at is in at_first rest.1 (one_ended s spool g rest.0)
   where
-    at_first :
-        NoneAbout g.number more
-        → (Contains spool.whole g × (file_in s ≡ Some g.number → ⊥)) ⊎ ((file_in s ≡ Some g.number) × (g.state ≡ state.Ready))
+    at_first : NoneAbout g.number more
+        → (Contains spool.whole g × (file_in s ≡ Some g.number → ⊥))
+        ⊎ ((file_in s ≡ Some g.number) × (g.state ≡ state.Ready))
         → Contains spool.whole g × NoneAbout g.number (s ∷ more)
     at_first others (inl (there, none)) = (there, none_more g.number s more none others)
     at_first others (inr (about, waits)) = absurd (cc (sym is ∙ waits))
 
 -- a file that no stream is about stays as it is
 unended_ones :
-    (senders : List Sender) (spool : CustomerSpool) (g : WholeFile) → Contains (all_ended senders spool).whole g → NoneAbout g.number senders
+    (senders : List Sender) (spool : CustomerSpool) (g : WholeFile) → Contains (all_ended senders spool).whole g
+    → NoneAbout g.number senders
     → Contains spool.whole g
 unended_ones [] spool g at none = at
 unended_ones (s ∷ more) spool g at none =
     at_first (one_ended s spool g (unended_ones more (spool_after_session s spool) g at (λ k. none (suc k))))
   where
     at_first :
-        (Contains spool.whole g × (file_in s ≡ Some g.number → ⊥)) ⊎ ((file_in s ≡ Some g.number) × (g.state ≡ state.Ready))
+        (Contains spool.whole g × (file_in s ≡ Some g.number → ⊥))
+        ⊎ ((file_in s ≡ Some g.number) × (g.state ≡ state.Ready))
         → Contains spool.whole g
     at_first (inl was) = was.0
     at_first (inr (about, waits)) = absurd (none 0 about)
@@ -316,16 +338,15 @@ module _ (l : ℕ) (c : Customer) (line : l < length c.lines) (sent : AreBeingSe
   line_now = ap (λ lines. get_or lines l []) streams_now ∙ get_or-set_same before_end.streams l idles [] inside
 
   other_line : (m : ℕ) → (m ≡ l → ⊥) → streams_of m behind_end ≡ streams_of m before_end
-  other_line m apart = ap (λ lines. get_or lines m []) streams_now ∙ get_or-set_other before_end.streams l m idles [] apart
+  other_line m apart = ap (λ lines. get_or lines m []) streams_now
+      ∙ get_or-set_other before_end.streams l m idles [] apart
 
   -- a stream that is about a file is of another line, and was about it
   about_before : (m k n : ℕ) → IsAbout m k n behind_end → (m ≡ l → ⊥) × IsAbout m k n before_end
   about_before m k n about = (apart, sym (ap (λ senders. file_in (get_or senders k Idle)) (other_line m apart)) ∙ about)
     where
       apart : m ≡ l → ⊥
-      apart same =
-          cc (sym about
-          ∙ ap (λ i. file_in (sender_on i k behind_end)) same
+      apart same = cc (sym about ∙ ap (λ i. file_in (sender_on i k behind_end)) same
           ∙ ap (λ senders. file_in (get_or senders k Idle)) line_now
           ∙ ap (λ s. file_in s) (copies (length (streams_of l before_end)) k Idle))
 
@@ -335,8 +356,10 @@ module _ (l : ℕ) (c : Customer) (line : l < length c.lines) (sent : AreBeingSe
       let was = about_before m k n about in
       was.0 (sent.apart m k l j n was.1 (ap (λ senders. file_in (get_or senders j Idle)) own_streams ∙ of_own)).0
 
-  from_tried : (g : WholeFile) → Contains behind_end.files g → WasOrIs (may_go_again c.entry l) ready (all_ended own c.spool).whole g
-  from_tried g at = from_where (may_go_again c.entry l) ready (all_ended own c.spool).whole g (subst (λ fs. Contains fs g) files_now at)
+  from_tried : (g : WholeFile) → Contains behind_end.files g
+      → WasOrIs (may_go_again c.entry l) ready (all_ended own c.spool).whole g
+  from_tried g at = from_where (may_go_again c.entry l) ready (all_ended own c.spool).whole g
+      (subst (λ fs. Contains fs g) files_now at)
 
   over_eight : (m : ℕ) → m < length behind_end.streams → length (streams_of m behind_end) ≡ 8
   over_eight m there = at_line (m == l) refl
@@ -345,29 +368,28 @@ module _ (l : ℕ) (c : Customer) (line : l < length c.lines) (sent : AreBeingSe
       was_there = omega (arith, there, ap length streams_now, length-set before_end.streams l idles)
 
       at_line : (b : Bool) → (m == l) ≡ b → length (streams_of m behind_end) ≡ 8
-      at_line true e =
-          ap (λ i. length (streams_of i behind_end)) (eqb-true m l e)
-          ∙ ap length line_now
-          ∙ length-replicate {A = Sender} (length (streams_of l before_end)) Idle
-          ∙ sent.eight l inside
+      at_line true e = ap (λ i. length (streams_of i behind_end)) (eqb-true m l e) ∙ ap length line_now
+          ∙ length-replicate {A = Sender} (length (streams_of l before_end)) Idle ∙ sent.eight l inside
       at_line false e = ap length (other_line m (eqb-false m l e)) ∙ sent.eight m was_there
 
   over_there : (m k n : ℕ) → IsAbout m k n behind_end → has_file n behind_end ≡ true
   over_there m k n about =
-      same_numbered n behind_end.files before_end.files (but_states behind_end.files before_end.files (over_so l c).files)
+      same_numbered n behind_end.files before_end.files (but_states behind_end.files before_end.files
+      (over_so l c).files)
       ∙ sent.there m k n (about_before m k n about).1
 
-  over_sending : (m k n : ℕ) (g : WholeFile) → IsAbout m k n behind_end → Contains behind_end.files g → g.number ≡ n → g.state ≡ state.Sending
+  over_sending : (m k n : ℕ) (g : WholeFile) → IsAbout m k n behind_end → Contains behind_end.files g → g.number ≡ n
+      → g.state ≡ state.Sending
   over_sending m k n g about at same = at_tried (from_tried g at)
     where
       was_sending : (f : WholeFile) → Contains (all_ended own c.spool).whole f → f.number ≡ n → f.state ≡ state.Sending
-      was_sending f there number =
-          sent.sending m k n f (about_before m k n about).1
+      was_sending f there number = sent.sending m k n f (about_before m k n about).1
           (unended_ones own c.spool f there (subst (λ i. NoneAbout i own) (sym number) (none_own m k n about))) number
 
       at_tried : WasOrIs (may_go_again c.entry l) ready (all_ended own c.spool).whole g → g.state ≡ state.Sending
       at_tried (inl (f, there, e, is)) =
-          absurd (cc (sym e ∙ ap (λ s. is_refused s && goes_by c.entry l f) (was_sending f there (sym (ap (λ i. i.number) is) ∙ same))))
+          absurd (cc (sym e ∙ ap (λ s. is_refused s && goes_by c.entry l f)
+          (was_sending f there (sym (ap (λ i. i.number) is) ∙ same))))
       at_tried (inr (there, e)) = was_sending g there same
 
   over_go : (g : WholeFile) → Contains behind_end.files g → g.state ≡ state.Sending → IsOnStream g.number behind_end
@@ -392,16 +414,17 @@ module _ (l : ℕ) (c : Customer) (line : l < length c.lines) (sent : AreBeingSe
       at_tried (inr (there, e)) = let was = all_ended_ones own c.spool g there is in on_other was.0 was.1
 
   over_sent : AreBeingSent behind_end
-  over_sent =
-      record {
-        eight = over_eight;
-        there = over_there;
-        sending = over_sending;
-        apart = λ m k i j n first second. sent.apart m k i j n (about_before m k n first).1 (about_before i j n second).1;
-        go = over_go;
-      }
+  over_sent = record {
+    eight = over_eight;
+    there = over_there;
+    sending = over_sending;
+    apart = λ m k i j n first second. sent.apart m k i j n (about_before m k n first).1
+        (about_before i j n second).1;
+    go = over_go;
+  }
 
-pub sent_over : (l : ℕ) (c : Customer) → l < length c.lines → AreBeingSent (outgoing c) → AreBeingSent (outgoing (session_over l c))
+pub sent_over : (l : ℕ) (c : Customer) → l < length c.lines → AreBeingSent (outgoing c)
+    → AreBeingSent (outgoing (session_over l c))
 sent_over l c line sent = over_sent l c line sent
 
 -- ---- new routes
@@ -410,15 +433,16 @@ sent_over l c line sent = over_sent l c line sent
 never_waits : (entry : CustomerEntry) (f : WholeFile) → f.state ≡ state.Sending → has_lost_route entry f ≡ false
 never_waits entry f is = ap (λ s. waits_in_state s && destination_unrouted entry (destination_of f.kind f.records)) is
 
-pub sent_routes : (routes : List RouteEntry) (c : Customer) → AreBeingSent (outgoing c) → AreBeingSent (outgoing (customer_with_routes routes c))
-sent_routes routes c sent =
-    record {
-      eight = sent.eight;
-      there = λ l k n about. same_numbered n behind.files c.spool.whole (held_numbers entry c.spool.whole) ∙ sent.there l k n about;
-      sending = λ l k n g about at same. now_sending l k n g about same (held_so entry (outgoing c) g at);
-      apart = sent.apart;
-      go = λ g at is. now_goes g is (held_so entry (outgoing c) g at);
-    }
+pub sent_routes : (routes : List RouteEntry) (c : Customer) → AreBeingSent (outgoing c)
+    → AreBeingSent (outgoing (customer_with_routes routes c))
+sent_routes routes c sent = record {
+  eight = sent.eight;
+  there = λ l k n about. same_numbered n behind.files c.spool.whole (held_numbers entry c.spool.whole)
+      ∙ sent.there l k n about;
+  sending = λ l k n g about at same. now_sending l k n g about same (held_so entry (outgoing c) g at);
+  apart = sent.apart;
+  go = λ g at is. now_goes g is (held_so entry (outgoing c) g at);
+}
   where
     entry : CustomerEntry
     entry = entry_with routes c.entry
@@ -427,12 +451,15 @@ sent_routes routes c sent =
     behind = outgoing (customer_with_routes routes c)
 
     now_sending :
-        (l k n : ℕ) (g : WholeFile) → IsAbout l k n (outgoing c) → g.number ≡ n → RoutesMoveFile entry (outgoing c) g → g.state ≡ state.Sending
+        (l k n : ℕ) (g : WholeFile) → IsAbout l k n (outgoing c) → g.number ≡ n → RoutesMoveFile entry (outgoing c) g
+        → g.state ≡ state.Sending
     now_sending l k n g about same (is_as_before there e) = sent.sending l k n g about there same
     now_sending l k n g about same (is_held f there lost held) =
-        absurd (cc (sym lost ∙ never_waits entry f (sent.sending l k n f about there (sym (ap (λ i. i.number) held) ∙ same))))
+        absurd (cc (sym lost ∙ never_waits entry f (sent.sending l k n f about there
+        (sym (ap (λ i. i.number) held) ∙ same))))
 
-    now_goes : (g : WholeFile) → g.state ≡ state.Sending → RoutesMoveFile entry (outgoing c) g → IsOnStream g.number behind
+    now_goes : (g : WholeFile) → g.state ≡ state.Sending → RoutesMoveFile entry (outgoing c) g
+        → IsOnStream g.number behind
     now_goes g is (is_as_before there e) =
         let goes = sent.go g there is in record { line = goes.line; stream = goes.stream; about = goes.about }
     now_goes g is (is_held f there lost held) = absurd (cc (sym is ∙ ap (λ i. i.state) held))
@@ -442,29 +469,28 @@ sent_routes routes c sent =
 abbrev fresh_line_of : CustomerEntry → LineEntry → CustomerLine
 fresh_line_of entry line = idle_line (config_of entry line) line.streams
 
-fresh_streams : (entry : CustomerEntry) (lines : List LineEntry) (l : ℕ) → l < length (streams_from_hub (map (fresh_line_of entry) lines))
+fresh_streams : (entry : CustomerEntry) (lines : List LineEntry) (l : ℕ)
+    → l < length (streams_from_hub (map (fresh_line_of entry) lines))
     → get_or (streams_from_hub (map (fresh_line_of entry) lines)) l [] ≡ replicate 8 Idle
 fresh_streams entry [] l there = absurd (omega (arith, there))
 fresh_streams entry (x ∷ xs) zero there = refl
 fresh_streams entry (x ∷ xs) (suc l) there = fresh_streams entry xs l (omega (arith, there))
 
 -- all are idle
-fresh_idle :
-    (entry : CustomerEntry) (lines : List LineEntry) (l k : ℕ)
+fresh_idle : (entry : CustomerEntry) (lines : List LineEntry) (l k : ℕ)
     → get_or (get_or (streams_from_hub (map (fresh_line_of entry) lines)) l []) k Idle ≡ Idle
 fresh_idle entry [] l k = refl
 fresh_idle entry (x ∷ xs) zero k = copies 8 k Idle
 fresh_idle entry (x ∷ xs) (suc l) k = fresh_idle entry xs l k
 
 pub sent_fresh : (entry : CustomerEntry) → AreBeingSent (outgoing (fresh_customer entry))
-sent_fresh entry =
-    record {
-      eight = λ l there. ap length (fresh_streams entry entry.lines l there);
-      there = λ l k n about. absurd (none_about l k n about);
-      sending = λ l k n f about at same. absurd (none_about l k n about);
-      apart = λ l k m j n first second. absurd (none_about l k n first);
-      go = λ f at is. absurd (omega (arith, at.1));
-    }
+sent_fresh entry = record {
+  eight = λ l there. ap length (fresh_streams entry entry.lines l there);
+  there = λ l k n about. absurd (none_about l k n about);
+  sending = λ l k n f about at same. absurd (none_about l k n about);
+  apart = λ l k m j n first second. absurd (none_about l k n first);
+  go = λ f at is. absurd (omega (arith, at.1));
+}
   where
     none_about : (l k n : ℕ) → IsAbout l k n (outgoing (fresh_customer entry)) → ⊥
     none_about l k n about = cc (sym about ∙ ap (λ s. file_in s) (fresh_idle entry entry.lines l k))

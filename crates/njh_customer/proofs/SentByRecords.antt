@@ -44,16 +44,17 @@ one_counts : (n : ℕ) (f : WholeFile) → f.number ≡ n → ◌≡◌ {A = ℕ
 one_counts n f e = ap (λ b. cond b 1 0) (eq-eqb f.number n e)
 
 -- one that is there is counted
-counted : (n : ℕ) (fs : List WholeFile) (g : WholeFile) → Contains fs g → g.number ≡ n → 1 ≤ count_by (λ f. f.number == n) fs
+counted : (n : ℕ) (fs : List WholeFile) (g : WholeFile) → Contains fs g → g.number ≡ n
+    → 1 ≤ count_by (λ f. f.number == n) fs
 counted n fs g at is =
     counted_at (λ f. f.number == n) fs at.0 g at.1 (eq-eqb (get_or fs at.0 g).number n (ap (λ h. h.number) at.2 ∙ is))
 
 -- two of a number are one
 same_file :
-    (n : ℕ) (fs : List WholeFile) (f g : WholeFile) → count_by (λ h. h.number == n) fs ≤ 1 → Contains fs f → Contains fs g
+    (n : ℕ) (fs : List WholeFile) (f g : WholeFile) → count_by (λ h. h.number == n) fs ≤ 1 → Contains fs f
+    → Contains fs g
     → f.number ≡ n → g.number ≡ n → f ≡ g
-same_file n fs f g few at there is one =
-    let both : Some f ≡ Some g =
+same_file n fs f g few at there is one = let both : Some f ≡ Some g =
     sym (found_numbered (λ (h : WholeFile). h.number) fs f n few at is)
     ∙ found_numbered (λ (h : WholeFile). h.number) fs g n few there one in cc both
 
@@ -68,7 +69,8 @@ pub record Carries (x y : Outgoing) : Type 0 where
   pub there : (l k n : ℕ) → IsAbout l k n y → has_file n x ≡ true → has_file n y ≡ true
   pub same : (l k n : ℕ) (f : WholeFile) → IsAbout l k n y → Contains y.files f → f.number ≡ n → Contains x.files f
   pub sent : (f : WholeFile) → Contains y.files f → f.state ≡ state.Sending → Contains x.files f
-  pub on : (f : WholeFile) → Contains y.files f → f.state ≡ state.Sending → (l k : ℕ) → IsAbout l k f.number x → IsAbout l k f.number y
+  pub on : (f : WholeFile) → Contains y.files f → f.state ≡ state.Sending → (l k : ℕ) → IsAbout l k f.number x
+      → IsAbout l k f.number y
 
 pub carried : (x y : Outgoing) → Carries x y → AreBeingSent x → AreBeingSent y
 carried x y c are = record {
@@ -85,7 +87,8 @@ carried x y c are = record {
 
 -- ---- a file comes
 
-pub arrival_carries : (f : WholeFile) (x : Outgoing) → (f.state ≡ state.Sending → ⊥) → AreDistinct (x.files ++ f ∷ []) → AreBeingSent x → Carries x (with_arrival f x)
+pub arrival_carries : (f : WholeFile) (x : Outgoing) → (f.state ≡ state.Sending → ⊥) → AreDistinct (x.files ++ f ∷ [])
+    → AreBeingSent x → Carries x (with_arrival f x)
 arrival_carries f x waits apart are = record {
   lines = refl;
   streams = λ l. refl;
@@ -100,11 +103,19 @@ arrival_carries f x waits apart are = record {
     -- a stream is about another of its number
     no_more : {A : Type 0} (n : ℕ) → Has n x.files → f.number ≡ n → A
     no_more n (g, there, is) one =
-        absurd (omega (arith, apart n, sum_by_push (λ h. cond (h.number == n) 1 0) x.files f, one_counts n f one, counted n x.files g there is))
+        absurd (omega (
+          arith,
+          apart n,
+          sum_by_push (λ h. cond (h.number == n) 1 0) x.files f,
+          one_counts n f one,
+          counted n x.files g there is,
+        ))
 
-    at_place : (l k n : ℕ) (g : WholeFile) → IsAbout l k n x → g.number ≡ n → Contains x.files g ⊎ (f ≡ g) → Contains x.files g
+    at_place : (l k n : ℕ) (g : WholeFile) → IsAbout l k n x → g.number ≡ n → Contains x.files g ⊎ (f ≡ g)
+        → Contains x.files g
     at_place l k n g about is (inl old) = old
-    at_place l k n g about is (inr new) = no_more n (has_one n x.files (are.there l k n about)) (ap (λ h. h.number) new ∙ is)
+    at_place l k n g about is (inr new) = no_more n (has_one n x.files (are.there l k n about))
+        (ap (λ h. h.number) new ∙ is)
 
     is_old : (g : WholeFile) → g.state ≡ state.Sending → Contains x.files g ⊎ (f ≡ g) → Contains x.files g
     is_old g sending (inl old) = old
@@ -113,7 +124,8 @@ arrival_carries f x waits apart are = record {
 -- ---- a stream moves
 
 -- it is about the same file
-onward_carries : (l m : ℕ) (s : Sender) (x : Outgoing) → file_in s ≡ file_in (sender_on l m x) → Carries x (with_sender_on l m s x)
+onward_carries : (l m : ℕ) (s : Sender) (x : Outgoing) → file_in s ≡ file_in (sender_on l m x)
+    → Carries x (with_sender_on l m s x)
 onward_carries l m s x e = record {
   lines = set_lines l m s x;
   streams = λ j. set_streams j l m s x;
@@ -124,16 +136,14 @@ onward_carries l m s x e = record {
   on = λ f at sending j k about. same_about j k (moved_one j k l m s x) ∙ about;
 }
   where
-    same_about :
-        (j k : ℕ) → IsOne j k l m s x (with_sender_on l m s x)
+    same_about : (j k : ℕ) → IsOne j k l m s x (with_sender_on l m s x)
         → file_in (sender_on j k (with_sender_on l m s x)) ≡ file_in (sender_on j k x)
     same_about j k (inl same) = ap (λ t. file_in t) same
     same_about j k (inr one) =
         ap (λ t. file_in t) one.2 ∙ e ∙ ap (λ t. file_in t) (sym (was j k l m (sender_on l m x) x refl one.0 one.1))
 
 -- It has none then, and of the files only those of its file's number change: none of them is being sent.
-ended_carries :
-    (l m n : ℕ) (s : Sender) (files : List WholeFile) (x : Outgoing) → IsAbout l m n x → file_in s ≡ None
+ended_carries : (l m n : ℕ) (s : Sender) (files : List WholeFile) (x : Outgoing) → IsAbout l m n x → file_in s ≡ None
     → ((f : WholeFile) → Contains files f → (f.number ≡ n → ⊥) → Contains x.files f)
     → ((f : WholeFile) → Contains files f → f.state ≡ state.Sending → Contains x.files f × (f.number ≡ n → ⊥))
     → ((f : WholeFile) → Contains x.files f → (f.number ≡ n → ⊥) → Contains files f)
@@ -163,15 +173,18 @@ ended_carries l m n s files x before none old sent kept are = record {
     other : (j k o : ℕ) → IsAbout j k o now → o ≡ n → ⊥
     other j k o about e =
         let place = are.apart j k l m n (back j k o about ∙ ap Some e) before in
-        let there : sender_on j k now ≡ s = was j k l m s now (set_where_about l m n s (with_files files x) before) place.0 place.1 in
+        let there : sender_on j k now ≡ s = was j k l m s now
+        (set_where_about l m n s (with_files files x) before) place.0 place.1 in
         cc (sym about ∙ ap (λ t. file_in t) there ∙ none)
 
     on_still :
-        (f : WholeFile) → (f.number ≡ n → ⊥) → (j k : ℕ) → IsAbout j k f.number x → IsOne j k l m s (with_files files x) now
+        (f : WholeFile) → (f.number ≡ n → ⊥) → (j k : ℕ) → IsAbout j k f.number x
+        → IsOne j k l m s (with_files files x) now
         → IsAbout j k f.number now
     on_still f another j k about (inl same) = ap (λ t. file_in t) same ∙ about
     on_still f another j k about (inr one) =
-        absurd (another (number_of f.number n (sym about ∙ ap (λ t. file_in t) (was j k l m (sender_on l m x) x refl one.0 one.1) ∙ before)))
+        absurd (another (number_of f.number n (sym about ∙ ap (λ t. file_in t)
+        (was j k l m (sender_on l m x) x refl one.0 one.1) ∙ before)))
 
 refused_carries : (l m n : ℕ) (s : Sender) (x : Outgoing) → IsAbout l m n x → file_in s ≡ None → AreBeingSent x
     → Carries x (with_sender_on l m s (with_files (with_file_state n state.Refused x.files) x))
@@ -192,7 +205,8 @@ refused_carries l m n s x before none are =
     old g (inl (f, at, e, is)) another = absurd (another (ap (λ h. h.number) is ∙ eqb-true f.number n e))
     old g (inr (at, e)) another = at
 
-    sent : (g : WholeFile) → WasOrIs is_it refused x.files g → g.state ≡ state.Sending → Contains x.files g × (g.number ≡ n → ⊥)
+    sent : (g : WholeFile) → WasOrIs is_it refused x.files g → g.state ≡ state.Sending
+        → Contains x.files g × (g.number ≡ n → ⊥)
     sent g (inl (f, at, e, is)) sending = absurd (cc (sym sending ∙ ap (λ h. h.state) is))
     sent g (inr (at, e)) sending = (at, eqb-false g.number n e)
 
@@ -200,16 +214,20 @@ refused_carries l m n s x before none are =
     kept_where true f e another = absurd (another (eqb-true f.number n e))
     kept_where false f e another = refl
 
-    kept : (f : WholeFile) → Contains x.files f → (f.number ≡ n → ⊥) → Contains (with_file_state n state.Refused x.files) f
-    kept f at another =
-        subst (Contains (with_file_state n state.Refused x.files)) (kept_where (is_it f) f refl another)
+    kept : (f : WholeFile) → Contains x.files f → (f.number ≡ n → ⊥)
+        → Contains (with_file_state n state.Refused x.files) f
+    kept f at another = subst (Contains (with_file_state n state.Refused x.files)) (kept_where (is_it f) f refl another)
         (into_map (λ g. cond (is_it g) (refused g) g) x.files f at)
 
 completed_carries : (l m n : ℕ) (s : Sender) (x : Outgoing) → IsAbout l m n x → file_in s ≡ None → AreBeingSent x
     → Carries x (with_sender_on l m s (with_files (without_numbered n x.files) x))
 completed_carries l m n s x before none are =
     ended_carries l m n s (without_numbered n x.files) x before none (λ f at another. from_filter other x.files f at)
-    (λ f at sending. (from_filter other x.files f at, λ e. cc (sym (not-true (f.number == n) (passes_filter other x.files f at)) ∙ eq-eqb f.number n e)))
+    (λ f at sending. (
+      from_filter other x.files f at,
+      λ e. cc
+          (sym (not-true (f.number == n) (passes_filter other x.files f at)) ∙ eq-eqb f.number n e),
+    ))
     (λ f at another. into_filter other x.files f at (passes_where (f.number == n) f refl another)) are
   where
     other : WholeFile → Bool
@@ -222,19 +240,23 @@ completed_carries l m n s x before none are =
 -- ---- files change that aren't being sent, and aren't then
 
 changed_carries :
-    (p : WholeFile → Bool) (change : WholeFile → WholeFile) (x : Outgoing) → ((f : WholeFile) → (change f).number ≡ f.number)
-    → ((f : WholeFile) → is_sending f.state ≡ false → is_sending (change f).state ≡ false) → AreBeingSent x → Carries x (with_changed p change x)
+    (p : WholeFile → Bool) (change : WholeFile → WholeFile) (x : Outgoing)
+    → ((f : WholeFile) → (change f).number ≡ f.number)
+    → ((f : WholeFile) → is_sending f.state ≡ false → is_sending (change f).state ≡ false) → AreBeingSent x
+    → Carries x (with_changed p change x)
 changed_carries p change x numbers idle are = record {
   lines = refl;
   streams = λ l. refl;
   back = λ l k n about. about;
-  there = λ l k n about there. same_numbered n (map (changed_file p change) x.files) x.files (changed_numbers p change x.files numbers) ∙ there;
+  there = λ l k n about there. same_numbered n (map (changed_file p change) x.files) x.files
+      (changed_numbers p change x.files numbers) ∙ there;
   same = λ l k n g about at is. same l k n g about is (from_where (may_change p) change x.files g at);
   sent = λ g at sending. sent g sending (from_where (may_change p) change x.files g at);
   on = λ g at sending l k about. about;
 }
   where
-    same : (l k n : ℕ) (g : WholeFile) → IsAbout l k n x → g.number ≡ n → WasOrIs (may_change p) change x.files g → Contains x.files g
+    same : (l k n : ℕ) (g : WholeFile) → IsAbout l k n x → g.number ≡ n → WasOrIs (may_change p) change x.files g
+        → Contains x.files g
     same l k n g about one (inl (f, at, e, is)) =
         let sending = are.sending l k n f about at (sym (numbers f) ∙ sym (ap (λ h. h.number) is) ∙ one) in
         absurd (cc (sym (both_are (p f) (is_sending f.state) e).1 ∙ ap is_sending sending))
@@ -259,15 +281,18 @@ about_left : (m n : ℕ) (s : Sender) → file_in (without_file m s) ≡ Some n 
 about_left m n s about = at_file (file_in s) refl about
   where
     at_test :
-        (q : ℕ) (b : Bool) → file_in s ≡ Some q → (q == m) ≡ b → file_in (aborted_where b s) ≡ Some n → (file_in s ≡ Some n) × (m ≡ n → ⊥)
+        (q : ℕ) (b : Bool) → file_in s ≡ Some q → (q == m) ≡ b → file_in (aborted_where b s) ≡ Some n
+        → (file_in s ≡ Some n) × (m ≡ n → ⊥)
     at_test q true e same has = absurd (cc (sym has ∙ aborted_none s))
     at_test q false e differ has = (has, λ one. cc (sym differ ∙ eq-eqb q m (number_of q n (sym e ∙ has) ∙ sym one)))
 
-    at_file : (o : Option ℕ) → file_in s ≡ o → file_in (aborted_where (is_about m o) s) ≡ Some n → (file_in s ≡ Some n) × (m ≡ n → ⊥)
+    at_file : (o : Option ℕ) → file_in s ≡ o → file_in (aborted_where (is_about m o) s) ≡ Some n
+        → (file_in s ≡ Some n) × (m ≡ n → ⊥)
     at_file None e has = absurd (cc (sym has ∙ e))
     at_file (Some q) e has = at_test q (q == m) e refl has
 
-all_left : (l k n : ℕ) (ns : List ℕ) (x : Outgoing) → IsAbout l k n (without_files ns x) → IsAbout l k n x × (Contains ns n → ⊥)
+all_left : (l k n : ℕ) (ns : List ℕ) (x : Outgoing) → IsAbout l k n (without_files ns x)
+    → IsAbout l k n x × (Contains ns n → ⊥)
 all_left l k n [] x about = (about, λ at. not-suc-le-zero at.1)
 all_left l k n (m ∷ ns) x about =
     let later = all_left l k n ns (each_stream (without_file m) x) about in
@@ -278,7 +303,8 @@ all_left l k n (m ∷ ns) x about =
     at_first another none (inl is) = another is
     at_first another none (inr at) = none at
 
-all_stay : (l k n : ℕ) (ns : List ℕ) (x : Outgoing) → IsAbout l k n x → (Contains ns n → ⊥) → IsAbout l k n (without_files ns x)
+all_stay : (l k n : ℕ) (ns : List ℕ) (x : Outgoing) → IsAbout l k n x → (Contains ns n → ⊥)
+    → IsAbout l k n (without_files ns x)
 all_stay l k n ns x about none = at_move (all_give_up l k ns x)
   where
     at_move : StaysOrGivesUp l k ns x (without_files ns x) → IsAbout l k n (without_files ns x)
@@ -289,19 +315,23 @@ all_lines : (ns : List ℕ) (x : Outgoing) → length (without_files ns x).strea
 all_lines [] x = refl
 all_lines (n ∷ ns) x = all_lines ns (each_stream (without_file n) x) ∙ each_lines (without_file n) x
 
-all_streams : (ns : List ℕ) (l : ℕ) (x : Outgoing) → length (streams_of l (without_files ns x)) ≡ length (streams_of l x)
+all_streams : (ns : List ℕ) (l : ℕ) (x : Outgoing) → length (streams_of l (without_files ns x)) ≡ length
+    (streams_of l x)
 all_streams [] l x = refl
 all_streams (n ∷ ns) l x = all_streams ns l (each_stream (without_file n) x) ∙ each_streams (without_file n) l x
 
-cancelled_carries : (p : WholeFile → Bool) (x : Outgoing) → AreDistinct x.files → AreBeingSent x → Carries x (without_cancelled p x)
+cancelled_carries : (p : WholeFile → Bool) (x : Outgoing) → AreDistinct x.files → AreBeingSent x
+    → Carries x (without_cancelled p x)
 cancelled_carries p x apart are = record {
   lines = all_lines busy cut;
   streams = λ l. all_streams busy l cut;
   back = λ l k n about. (all_left l k n busy cut about).0;
-  there = λ l k n about there. ap (any_numbered n) files ∙ stays_there l k n (all_left l k n busy cut about) (has_one n x.files there);
+  there = λ l k n about there. ap (any_numbered n) files ∙ stays_there l k n (all_left l k n busy cut about)
+      (has_one n x.files there);
   same = λ l k n f about at is. from_filter stays x.files f (among f at);
   sent = λ f at sending. from_filter stays x.files f (among f at);
-  on = λ f at sending l k about. all_stay l k f.number busy cut about (λ taken. not_taken f (among f at) (busy_one p x.files f.number taken));
+  on = λ f at sending l k about. all_stay l k f.number busy cut about
+      (λ taken. not_taken f (among f at) (busy_one p x.files f.number taken));
 }
   where
     stays : WholeFile → Bool
@@ -321,29 +351,35 @@ cancelled_carries p x apart are = record {
 
     -- a file that passes and is being sent is busy
     is_taken : (f : WholeFile) → Contains x.files f → p f ≡ true → f.state ≡ state.Sending → Contains busy f.number
-    is_taken f at passing sending =
-        into_map (λ g. g.number) (filter (is_busy p) x.files) f
+    is_taken f at passing sending = into_map (λ g. g.number) (filter (is_busy p) x.files) f
         (into_filter (is_busy p) x.files f at (ap (λ b. b && is_sending f.state) passing ∙ ap is_sending sending))
 
-    stays_there : (l k n : ℕ) → IsAbout l k n cut × (Contains busy n → ⊥) → Has n x.files → any_numbered n (filter stays x.files) ≡ true
+    stays_there : (l k n : ℕ) → IsAbout l k n cut × (Contains busy n → ⊥) → Has n x.files
+        → any_numbered n (filter stays x.files) ≡ true
     stays_there l k n (about, free) (f, at, is) = at_test (p f) refl
       where
         at_test : (b : Bool) → p f ≡ b → any_numbered n (filter stays x.files) ≡ true
-        at_test true e = absurd (free (subst (λ m. Contains busy m) is (is_taken f at e (are.sending l k n f about at is))))
-        at_test false e = any_there n (filter stays x.files) (f, into_filter stays x.files f at (not_from_false (p f) e), is)
+        at_test true e = absurd (free (subst (λ m. Contains busy m) is
+            (is_taken f at e (are.sending l k n f about at is))))
+        at_test false e = any_there n (filter stays x.files)
+            (f, into_filter stays x.files f at (not_from_false (p f) e), is)
 
-    not_taken : (f : WholeFile) → Contains (filter stays x.files) f → (g : WholeFile) × Contains x.files g × (p g ≡ true) × (f.number ≡ g.number) → ⊥
+    not_taken : (f : WholeFile) → Contains (filter stays x.files) f
+        → (g : WholeFile) × Contains x.files g × (p g ≡ true) × (f.number ≡ g.number) → ⊥
     not_taken f at (g, there, passing, is) =
-        let one : g ≡ f = same_file f.number x.files g f (apart f.number) there (from_filter stays x.files f at) (sym is) refl in
+        let one : g ≡ f = same_file f.number x.files g f (apart f.number) there (from_filter stays x.files f at)
+        (sym is) refl in
         cc (sym (not-true (p f) (passes_filter stays x.files f at)) ∙ ap p (sym one) ∙ passing)
 
 -- ---- every move
 
 pub sent_by_acts :
-    (entry : CustomerEntry) (l : ℕ) (i : Item) (x y : Outgoing) → Acts entry l i x y → AreDistinct x.files → AreDistinct y.files → AreBeingSent x
+    (entry : CustomerEntry) (l : ℕ) (i : Item) (x y : Outgoing) → Acts entry l i x y → AreDistinct x.files
+    → AreDistinct y.files → AreBeingSent x
     → AreBeingSent y
 sent_by_acts entry l i x y (moves.comes rcb srcb f is ready whole e) before behind are =
-    carried x y (subst (Carries x) (sym e) (arrival_carries f x (λ sending. cc (sym ready ∙ sending)) (subst (λ z. AreDistinct z.files) e behind) are)) are
+    carried x y (subst (Carries x) (sym e) (arrival_carries f x (λ sending. cc (sym ready ∙ sending))
+    (subst (λ z. AreDistinct z.files) e behind) are)) are
 sent_by_acts entry l i x y (moves.permitted streams k n told asked e) before behind are =
     carried x y (subst (Carries x) (sym e) (onward_carries l k (Sending n 0) x (sym (ap (λ s. file_in s) asked)))) are
 sent_by_acts entry l i x y (moves.refused streams k n after told about none e) before behind are =
@@ -351,18 +387,23 @@ sent_by_acts entry l i x y (moves.refused streams k n after told about none e) b
 sent_by_acts entry l i x y (moves.completed streams k n told ended e) before behind are =
     carried x y (subst (Carries x) (sym e) (completed_carries l k n Idle x (ap (λ s. file_in s) ended) refl are)) are
 sent_by_acts entry l i x y (moves.holds who name given e) before behind are =
-    carried x y (subst (Carries x) (sym e) (changed_carries (is_of_name who name) (file_in_state state.Held) x (λ f. refl) (λ f idle. refl) are)) are
+    carried x y (subst (Carries x) (sym e) (changed_carries (is_of_name who name) (file_in_state state.Held) x
+    (λ f. refl) (λ f idle. refl) are)) are
 sent_by_acts entry l i x y (moves.releases who name given e) before behind are =
-    carried x y (subst (Carries x) (sym e) (changed_carries (is_of_name who name) (file_in_state state.Ready) x (λ f. refl) (λ f idle. refl) are)) are
+    carried x y (subst (Carries x) (sym e) (changed_carries (is_of_name who name) (file_in_state state.Ready) x
+    (λ f. refl) (λ f idle. refl) are)) are
 sent_by_acts entry l i x y (moves.reroutes who name node line given route e) before behind are =
     carried x y (subst (Carries x) (sym e)
-    (changed_carries (is_of_name who name) (with_new_destination node) x (λ f. refl) (λ f idle. reroute_idle f.state idle) are)) are
+    (changed_carries (is_of_name who name) (with_new_destination node) x (λ f. refl)
+    (λ f idle. reroute_idle f.state idle) are)) are
 sent_by_acts entry l i x y (moves.cancels who name given e) before behind are =
     carried x y (subst (Carries x) (sym e) (cancelled_carries (is_of_name who name) x before are)) are
 
-pub streams_by_acts : (entry : CustomerEntry) (l : ℕ) (i : Item) (x y : Outgoing) → Acts entry l i x y → length y.streams ≡ length x.streams
+pub streams_by_acts : (entry : CustomerEntry) (l : ℕ) (i : Item) (x y : Outgoing) → Acts entry l i x y
+    → length y.streams ≡ length x.streams
 streams_by_acts entry l i x y (moves.comes rcb srcb f is ready whole e) = ap (λ z. length z.streams) e
-streams_by_acts entry l i x y (moves.permitted streams k n told asked e) = ap (λ z. length z.streams) e ∙ set_lines l k (Sending n 0) x
+streams_by_acts entry l i x y (moves.permitted streams k n told asked e) = ap (λ z. length z.streams) e ∙ set_lines l k
+    (Sending n 0) x
 streams_by_acts entry l i x y (moves.refused streams k n after told about none e) =
     ap (λ z. length z.streams) e ∙ set_lines l k after (with_files (with_file_state n state.Refused x.files) x)
 streams_by_acts entry l i x y (moves.completed streams k n told ended e) =
@@ -375,7 +416,8 @@ streams_by_acts entry l i x y (moves.cancels who name given e) =
     ap (λ z. length z.streams) e ∙ all_lines (busy_numbers p x.files) (with_files (filter (λ f. not (p f)) x.files) x)
 
 pub sent_record :
-    CommandsMoveFilesSo → (l : ℕ) (i : Item) (c : Customer) → AreDistinct c.spool.whole → AreDistinct (after_record l i c).spool.whole
+    CommandsMoveFilesSo → (l : ℕ) (i : Item) (c : Customer) → AreDistinct c.spool.whole
+    → AreDistinct (after_record l i c).spool.whole
     → AreBeingSent (outgoing c) → AreBeingSent (outgoing (after_record l i c))
 sent_record commands l i c before behind are = at_move (acts_so commands l i c).moves
   where

@@ -17,12 +17,10 @@ abbrev pub shapes : List CustomerLine → List (ℕ × List Receiver)
 shapes lines = map shape lines
 
 pub same_streams : (xs ys : List CustomerLine) → shapes xs ≡ shapes ys → streams_to_hub xs ≡ streams_to_hub ys
-same_streams xs ys same =
-    sym (map-map (λ p. p.1) shape xs) ∙ ap (map (λ p. p.1)) same ∙ map-map (λ p. p.1) shape ys
+same_streams xs ys same = sym (map-map (λ p. p.1) shape xs) ∙ ap (map (λ p. p.1)) same ∙ map-map (λ p. p.1) shape ys
 
 pub streamed_still : (xs ys : List CustomerLine) → shapes xs ≡ shapes ys → All HasStreams ys → All HasStreams xs
-streamed_still xs ys same all k d h =
-    let e : shape (get_or xs k d) ≡ shape (get_or ys k d) =
+streamed_still xs ys same all k d h = let e : shape (get_or xs k d) ≡ shape (get_or ys k d) =
     sym (get_or-map shape xs k d) ∙ ap (λ ps. get_or ps k (shape d)) same ∙ get_or-map shape ys k d in
     let long : length xs ≡ length ys = as_many shape xs ys same in
     let there = all k d (omega (arith, h, long)) in

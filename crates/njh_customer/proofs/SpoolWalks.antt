@@ -48,14 +48,11 @@ use Rattle.njh_customer.proofs.StepWalks.{StaysInSteps}
 pub record StaysInArrivals (I : CustomerSpool → Type 0) (J : Item → CustomerSpool → Type 0) : Type 0 where
   pub still : (i : Item) (s : CustomerSpool) → I s → J i s
   pub without : (n : ℕ) (s : CustomerSpool) → I s → I (without_partial n s)
-  pub begun :
-      (rcb srcb : ℕ) (kind : Kind) (s : CustomerSpool) → has_file_room s ≡ true → I s
+  pub begun : (rcb srcb : ℕ) (kind : Kind) (s : CustomerSpool) → has_file_room s ≡ true → I s
       → J (Control rcb srcb) (with_new_partial kind s)
-  pub appended :
-      (rcb : ℕ) (r : Stored) (n : ℕ) (s : CustomerSpool) → has_room_for n r s ≡ true → I s
+  pub appended : (rcb : ℕ) (r : Stored) (n : ℕ) (s : CustomerSpool) → has_room_for n r s ≡ true → I s
       → J (Data rcb r.srcb r.bytes) (with_appended n r s)
-  pub finished :
-      (rcb srcb n : ℕ) (s : CustomerSpool) → is_whole (partial_records n s) ≡ true → I s
+  pub finished : (rcb srcb n : ℕ) (s : CustomerSpool) → is_whole (partial_records n s) ≡ true → I s
       → J (Data rcb srcb []) (with_finished n s)
 
 -- what is taken fits
@@ -77,14 +74,12 @@ module _ (I : CustomerSpool → Type 0) (J : Item → CustomerSpool → Type 0) 
   gone : (i : Item) (n : ℕ) (s : CustomerSpool) → I s → J i (without_partial n s)
   gone i n s so = keep.still i (without_partial n s) (keep.without n s so)
 
-  stored_so :
-      (v : Verdict) (rcb : ℕ) (kind : Kind) (n : ℕ) (r : Stored) (more : List Stored) (s : CustomerSpool)
+  stored_so : (v : Verdict) (rcb : ℕ) (kind : Kind) (n : ℕ) (r : Stored) (more : List Stored) (s : CustomerSpool)
       → (v ≡ Taken → has_room_for n r s ≡ true) → I s → J (Data rcb r.srcb r.bytes) (stored_by v kind n r more s).spool
   stored_so Taken rcb kind n r more s fits so = keep.appended rcb r n s (fits refl) so
   stored_so (Cancelled text) rcb kind n r more s fits so = gone (Data rcb r.srcb r.bytes) n s so
 
-  closed_so :
-      (b : Bool) (rcb srcb n : ℕ) (s : CustomerSpool) → is_whole (partial_records n s) ≡ b → I s
+  closed_so : (b : Bool) (rcb srcb n : ℕ) (s : CustomerSpool) → is_whole (partial_records n s) ≡ b → I s
       → J (Data rcb srcb []) (closed_by b n s).spool
   closed_so true rcb srcb n s e so = keep.finished rcb srcb n s e so
   closed_so false rcb srcb n s e so = gone (Data rcb srcb []) n s so
@@ -121,37 +116,35 @@ pub record StaysInFiles (I : CustomerSpool → Type 0) (J : Item → CustomerSpo
   pub arrivals : StaysInArrivals I J
   pub restated : (s t : CustomerSpool) → IsRestated s t → I s → I t
   pub left : (p : WholeFile → Bool) (s : CustomerSpool) → I s → I (record s { whole = filter p s.whole })
-  pub rerouted :
-      (p : WholeFile → Bool) (node : List ℕ) (s : CustomerSpool) → is_name node ≡ true → I s
+  pub rerouted : (p : WholeFile → Bool) (node : List ℕ) (s : CustomerSpool) → is_name node ≡ true → I s
       → I (record s { whole = map (changed_file p (with_new_destination node)) s.whole })
 
 module _ (I : CustomerSpool → Type 0) (J : Item → CustomerSpool → Type 0) (keep : StaysInFiles I J)
     (names : ReroutesNameNodes) (commands : CommandsMoveFilesSo) where
-  command_so :
-      (entry : CustomerEntry) (who : User) (message : List ℕ) (s : CustomerSpool) (done : CommandOutcome)
+  command_so : (entry : CustomerEntry) (who : User) (message : List ℕ) (s : CustomerSpool) (done : CommandOutcome)
       → FilesMove entry who message s.whole done → I s → I (spool_after done s)
   command_so entry who message s done move so = at_move move
     where
       states : map ready done.files ≡ map ready s.whole → I (spool_after done s)
       states same =
-          keep.restated s (spool_after done s) (record { whole = same; partial = refl; limits = refl; arrived = refl }) so
+          keep.restated s (spool_after done s) (record { whole = same; partial = refl; limits = refl; arrived = refl })
+          so
 
       files : (fs : List WholeFile) → done.files ≡ fs → I (record s { whole = fs }) → I (spool_after done s)
       files fs e = subst (λ whole. I (record s { whole = whole })) (sym e)
 
       at_move : FilesMove entry who message s.whole done → I (spool_after done s)
       at_move (stay is none_gone) = states (ap (map ready) is)
-      at_move (held name says is none_gone) =
-          states (ap (map ready) is
+      at_move (held name says is none_gone) = states (ap (map ready) is
           ∙ changed_where ready (may_change (is_of_name who name)) (file_in_state Held) s.whole (λ f. refl))
-      at_move (released name says is none_gone) =
-          states (ap (map ready) is
+      at_move (released name says is none_gone) = states (ap (map ready) is
           ∙ changed_where ready (may_change (is_of_name who name)) (file_in_state Ready) s.whole (λ f. refl))
       at_move (rerouted name node line says route is none_gone) =
           files (map (changed_file (is_of_name who name) (with_new_destination node)) s.whole) is
           (keep.rerouted (is_of_name who name) node s (names message name node says) so)
       at_move (cancelled name says is gone) =
-          files (filter (λ f. not (is_of_name who name f)) s.whole) is (keep.left (λ f. not (is_of_name who name f)) s so)
+          files (filter (λ f. not (is_of_name who name f)) s.whole) is
+          (keep.left (λ f. not (is_of_name who name f)) s so)
 
   pub record_so : (l : ℕ) (i : Item) (c : Customer) → I c.spool → J i (after_record l i c).spool
   record_so l i c so = at i (after_record l i c) (record_does l c i)
@@ -165,8 +158,7 @@ module _ (I : CustomerSpool → Type 0) (J : Item → CustomerSpool → Type 0) 
           received_so I J keep.arrivals c.entry l (kind_of k) (receiver_at k (line_at l c.lines)) a i c.spool brings so
       at _ _ (does.answers i a) = keep.arrivals.still i c.spool so
       at _ _ (does.permits srcb k named) = keep.arrivals.still (Control 0xa0 srcb) c.spool so
-      at _ _ (does.refuses srcb k named) =
-          keep.arrivals.still (Control 0xb0 srcb) (after_refusal (x k) c.spool).spool
+      at _ _ (does.refuses srcb k named) = keep.arrivals.still (Control 0xb0 srcb) (after_refusal (x k) c.spool).spool
           (keep.restated c.spool (after_refusal (x k) c.spool).spool (refused_restated (x k) c.spool) so)
       at _ _ (does.completes srcb k named) =
           keep.arrivals.still (Control 0xc0 srcb) (after_completion (x k) c.spool).spool
@@ -174,7 +166,8 @@ module _ (I : CustomerSpool → Type 0) (J : Item → CustomerSpool → Type 0) 
       at _ _ (does.commands srcb bytes n reads here user) =
           let done = message_outcome c.entry (sender_of n) n.message c.spool in
           keep.arrivals.still (Data 0x9a srcb bytes) (spool_after done c.spool)
-          (command_so c.entry (sender_of n) n.message c.spool done (commands c.entry (sender_of n) n.message c.spool) so)
+          (command_so c.entry (sender_of n) n.message c.spool done
+          (commands c.entry (sender_of n) n.message c.spool) so)
       at _ _ (does.knows_no_node i n) = keep.arrivals.still i c.spool so
       at _ _ (does.passes_on i k m) = keep.arrivals.still i c.spool so
 
@@ -190,7 +183,8 @@ module _ (I : CustomerSpool → Type 0) (restated : (s t : CustomerSpool) → Is
   replied_so l (reply.Next or_ack0) c so =
       let x = line_at l c.lines in
       let first = filling (own_block (own_fcs c.spool) x.state) (outlet_of x) c.spool in
-      restated c.spool (replied_to l (reply.Next or_ack0) c).after.spool (filled_kept (goes_by c.entry l) first).files so
+      restated c.spool (replied_to l (reply.Next or_ack0) c).after.spool
+      (filled_kept (goes_by c.entry l) first).files so
 
   pub session_over_so :
       ((n : ℕ) (s : CustomerSpool) → I s → I (without_partial n s)) → (l : ℕ) (c : Customer) → I c.spool
@@ -205,8 +199,7 @@ module _ (I : CustomerSpool → Type 0) (restated : (s t : CustomerSpool) → Is
       restated c.spool (customer_with_routes routes c).spool (held_restated (entry_with routes c.entry) c.spool) so
 
 -- all steps of a session
-pub files_in_steps :
-    (I : CustomerSpool → Type 0) → StaysInFiles I (λ i. I) → ReroutesNameNodes → CommandsMoveFilesSo
+pub files_in_steps : (I : CustomerSpool → Type 0) → StaysInFiles I (λ i. I) → ReroutesNameNodes → CommandsMoveFilesSo
     → StaysInSteps (λ c. I c.spool)
 files_in_steps I keep names commands = record {
   session = record {

@@ -40,15 +40,26 @@ stays c coherent = record { coherent = coherent; lines = refl }
 
 module _ (untied : NothingUnties) where
   pub stays_like : (d c : Customer) → IsLike d c → IsCoherent c → Stays d c
-  stays_like d c like coherent = record { coherent = coherent_still d c untied like coherent; lines = as_many shape d.lines c.lines like.lines }
+  stays_like d c like coherent = record {
+    coherent = coherent_still d c untied like coherent;
+    lines = as_many shape
+        d.lines c.lines like.lines;
+  }
 
   -- only its lines changed, and no stream to the hub
-  pub stays_lines : (lines : List CustomerLine) (c : Customer) → shapes lines ≡ shapes c.lines → IsCoherent c → Stays (record c { lines = lines }) c
+  pub stays_lines : (lines : List CustomerLine) (c : Customer) → shapes lines ≡ shapes c.lines → IsCoherent c
+      → Stays (record c { lines = lines }) c
   stays_lines lines c same coherent =
-      stays_like (record c { lines = lines }) c (record { entry = refl; lines = same; files = restated_harmless c.spool c.spool (as_it_is c.spool) }) coherent
+      stays_like (record c { lines = lines }) c (record {
+        entry = refl;
+        lines = same;
+        files = restated_harmless c.spool
+            c.spool (as_it_is c.spool);
+      }) coherent
 
   -- a mark on a line
-  raised_stays : (up : Bool) (l : ℕ) (c : Customer) → IsCoherent c → Stays (record c { entry = with_raised_line up l c.entry }) c
+  raised_stays : (up : Bool) (l : ℕ) (c : Customer) → IsCoherent c
+      → Stays (record c { entry = with_raised_line up l c.entry }) c
   raised_stays true l c coherent = record {
     coherent = record {
       tied = coherent.tied;
@@ -65,16 +76,20 @@ module _ (untied : NothingUnties) where
   pub accepted_stays : (l : ℕ) (came : Input) (c : Customer) → IsCoherent c → Stays (accepted_on l came c) c
   accepted_stays l came c coherent =
       let d : Customer = record c { lines = on_line l (in_state (after_input came)) c.lines } in
-      let first = stays_lines d.lines c (on_line_seen shape l (in_state (after_input came)) c.lines (λ x. refl)) coherent in
+      let first = stays_lines d.lines c (on_line_seen shape l (in_state (after_input came)) c.lines (λ x. refl))
+      coherent in
       record { coherent = (raised_stays (goes_up_by l came c) l d first.coherent).coherent; lines = first.lines }
 
   -- a stream from the hub moves, and its file
-  sent_stays :
-      (l k : ℕ) (sent : SenderOutcome) (c : Customer) → IsHarmless c.spool sent.spool → IsCoherent c
+  sent_stays : (l k : ℕ) (sent : SenderOutcome) (c : Customer) → IsHarmless c.spool sent.spool → IsCoherent c
       → Stays (with_sender_outcome l k sent c) c
-  sent_stays l k sent c files coherent =
-      stays_like (with_sender_outcome l k sent c) c
-      (record { entry = refl; lines = on_line_seen shape l (with_sender k sent.sender) c.lines (λ x. refl); files = files })
+  sent_stays l k sent c files coherent = stays_like (with_sender_outcome l k sent c) c
+      (record {
+        entry = refl;
+        lines = on_line_seen shape l (with_sender k sent.sender) c.lines (λ x. refl);
+        files =
+            files;
+      })
       coherent
 
   module _ (records : RecordsKeep) where
@@ -82,21 +97,26 @@ module _ (untied : NothingUnties) where
     command_stays n c coherent =
         let done = message_outcome c.entry (sender_of n) n.message c.spool in
         let lines = fold without_sending c.lines done.cancelled in
-        stays_like (after_user_command n c) c
-        (record {
+        stays_like (after_user_command n c) c (record {
           entry = refl;
           lines =
               all_told_so l (IsSeen shape lines) (shape_waiting l lines) c.entry (sender_of n) done.replies lines refl
               ∙ given_up_so (IsSeen shape c.lines)
-              (λ m xs so. each_same shape (with_senders_by (without_file m)) (λ x. refl) xs ∙ so) done.cancelled c.lines refl;
-          files = record { partial = refl; limits = refl; headers = records.commands c.entry (sender_of n) n.message c.spool };
-        })
-        coherent
+              (λ m xs so. each_same shape (with_senders_by (without_file m)) (λ x. refl) xs ∙ so) done.cancelled c.lines
+              refl;
+          files = record {
+            partial = refl;
+            limits = refl;
+            headers = records.commands c.entry
+                (sender_of n) n.message c.spool;
+          };
+        }) coherent
       where
         l : ℕ
         l = 0
 
-    arrived_stays : (l k : ℕ) (a : Arrival) (c : Customer) → l < length c.lines → k < 8 → IsCoherent c → Stays (after_stream_arrival l k a c) c
+    arrived_stays : (l k : ℕ) (a : Arrival) (c : Customer) → l < length c.lines → k < 8 → IsCoherent c
+        → Stays (after_stream_arrival l k a c) c
     arrived_stays l k a c line_there stream_there coherent =
         let done = received_arrival c.entry l (kind_of k) (receiver_at k (line_at l c.lines)) a c.spool in
         let lines = on_line l (with_receiver k done.receiver) c.lines in
@@ -105,8 +125,7 @@ module _ (untied : NothingUnties) where
         let told = with_notice_to c.entry done.notice (with_answer_on l answer lines) in
         record {
           coherent = keeps_arrived l k a c records untied line_there stream_there coherent;
-          lines =
-              as_many shape (on_line l (with_notice k done.receiver done.notice) told) lines
+          lines = as_many shape (on_line l (with_notice k done.receiver done.notice) told) lines
               (on_line_seen shape l (with_notice k done.receiver done.notice) told (λ x. refl)
               ∙ notified_so l (IsSeen shape lines) waiting c.entry done.notice (with_answer_on l answer lines)
               (answered_so l (IsSeen shape lines) waiting answer lines refl))
@@ -121,21 +140,29 @@ module _ (untied : NothingUnties) where
         by_kind n true lt e = let same : n ≡ k = cc e in omega (arith, lt, few, same)
         by_kind n false lt e = let same : n + 4 ≡ k = cc e in omega (arith, lt, few, same)
 
-        at_limit : (n : ℕ) (b : Bool) → nat_lt n streams ≡ b → cond b (Some (cond (rcb % 16 == 8) n (n + 4))) None ≡ Some k → k < 8
+        at_limit : (n : ℕ) (b : Bool) → nat_lt n streams ≡ b
+            → cond b (Some (cond (rcb % 16 == 8) n (n + 4))) None ≡ Some k → k < 8
         at_limit n true e h = by_kind n (rcb % 16 == 8) (ltb-true n streams e) h
         at_limit n false e h = absurd (cc h)
 
         at_number :
-            (o : Option ℕ) → elim o [ None ↦ None | Some n ↦ cond (nat_lt n streams) (Some (cond (rcb % 16 == 8) n (n + 4))) None ] ≡ Some k
+            (o : Option ℕ) → elim o [
+              | None ↦ None
+              | Some n ↦ cond (nat_lt n streams)
+                  (Some (cond (rcb % 16 == 8) n (n + 4))) None
+            ] ≡ Some k
             → k < 8
         at_number None h = absurd (cc h)
         at_number (Some n) h = at_limit n (nat_lt n streams) refl h
 
     -- of a line that is there
-    names_one : (l rcb : ℕ) (c : Customer) → l < length c.lines → IsCoherent c → (k : ℕ) → stream_of (line_at l c.lines).streams rcb ≡ Some k → k < 8
-    names_one l rcb c line_there coherent k h = one_of_eight (line_at l c.lines).streams rcb k (coherent.streamed l no_customer_line line_there).1 h
+    names_one : (l rcb : ℕ) (c : Customer) → l < length c.lines → IsCoherent c → (k : ℕ)
+        → stream_of (line_at l c.lines).streams rcb ≡ Some k → k < 8
+    names_one l rcb c line_there coherent k h = one_of_eight (line_at l c.lines).streams rcb k
+        (coherent.streamed l no_customer_line line_there).1 h
 
-    pub acted_stays : (l : ℕ) (i : Item) (c : Customer) → l < length c.lines → IsCoherent c → Stays (after_record l i c) c
+    pub acted_stays : (l : ℕ) (i : Item) (c : Customer) → l < length c.lines → IsCoherent c
+        → Stays (after_record l i c) c
     acted_stays l i c line_there coherent = at i (after_record l i c) (record_does l c i)
       where
         x : ℕ → Sender
@@ -149,9 +176,9 @@ module _ (untied : NothingUnties) where
         at _ _ (does.arrives i code k a brings named) =
             arrived_stays l k a c line_there (names_one l code c line_there coherent k named) coherent
         at _ _ (does.answers i a) =
-            stays_lines (with_answer_on l a c.lines) c (answered_so l (IsSeen shape c.lines) waiting a c.lines refl) coherent
-        at _ _ (does.permits srcb k named) =
-            stays_lines (on_line l (with_sender k (after_grant (x k))) c.lines) c
+            stays_lines (with_answer_on l a c.lines) c (answered_so l (IsSeen shape c.lines) waiting a c.lines refl)
+            coherent
+        at _ _ (does.permits srcb k named) = stays_lines (on_line l (with_sender k (after_grant (x k))) c.lines) c
             (on_line_seen shape l (with_sender k (after_grant (x k))) c.lines (λ y. refl)) coherent
         at _ _ (does.refuses srcb k named) =
             let sent = after_refusal (x k) c.spool in

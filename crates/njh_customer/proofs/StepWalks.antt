@@ -51,8 +51,7 @@ where_there l c P x none step = at (nat_lt l (length c.lines)) refl
     at true e = step (ltb-true l (length c.lines) e)
     at false e = none
 
-pub frame_holds :
-    (l : ℕ) (c : Customer) (P : List Item → CustomerStep → Type 0) → HoldsOfSteps l c P → (x : Received)
+pub frame_holds : (l : ℕ) (c : Customer) (P : List Item → CustomerStep → Type 0) → HoldsOfSteps l c P → (x : Received)
     → P (records_of_frame x) (after_frame l x c)
 unfolding after_frame
 frame_holds l c P holds x =
@@ -70,8 +69,7 @@ frame_holds l c P holds x =
     at (frame.Text text) there = at_block (read_block text) there
     at frame.Spoiled there = holds.input input.Spoiled there
 
-pub signal_holds :
-    (l : ℕ) (c : Customer) (P : CustomerStep → Type 0) → P (silent c)
+pub signal_holds : (l : ℕ) (c : Customer) (P : CustomerStep → Type 0) → P (silent c)
     → ((came : Input) → l < length c.lines → P (after_line_input l came c)) → (x : Signal) → P (after_signal l x c)
 unfolding after_signal
 signal_holds l c P none by_input x =
@@ -84,7 +82,8 @@ pub record StaysInSession (I : Customer → Type 0) : Type 0 where
   pub judged : (l : ℕ) (came : Input) (c : Customer) → l < length c.lines → I c → I (accepted_on l came c)
   pub answered : (l : ℕ) (r : LineReply) (c : Customer) → l < length c.lines → I c → I (replied_to l r c).after
   pub ended :
-      (l : ℕ) (c : Customer) → l < length c.lines → I c → I (record c { lines = on_line l (in_state after_end) c.lines })
+      (l : ℕ) (c : Customer) → l < length c.lines → I c → I
+      (record c { lines = on_line l (in_state after_end) c.lines })
   pub over : (l : ℕ) (c : Customer) → l < length c.lines → I c → I (session_over l c)
 
 -- and by these.
@@ -101,7 +100,12 @@ module _ (I : Customer → Type 0) (keep : StaysInSession I) where
 
       still : l < length d.lines
       still =
-          omega (arith, there, length-set c.lines l (sending_of_reply c.entry l v.reply c.spool (line_at l c.lines)).line)
+          omega (
+            arith,
+            there,
+            length-set c.lines l (sending_of_reply c.entry l v.reply c.spool
+                (line_at l c.lines)).line,
+          )
 
       at : (b : Bool) → I (session_over_where b l d)
       at true = keep.over l d still (keep.answered l v.reply c there so)
@@ -112,8 +116,7 @@ module _ (I : Customer → Type 0) (keep : StaysInSession I) where
       omega (arith, there, length-set c.lines l (in_state (after_input came) (line_at l c.lines)))
 
   pub input_so : (l : ℕ) (came : Input) (c : Customer) → l < length c.lines → I c → I (after_line_input l came c).after
-  input_so l came c there so =
-      carried_so l (verdict_on l came c) (accepted_on l came c) (accepted_there l came c there)
+  input_so l came c there so = carried_so l (verdict_on l came c) (accepted_on l came c) (accepted_there l came c there)
       (keep.judged l came c there so)
 
 module _ (I : Customer → Type 0) (keep : StaysInSteps I) where
@@ -137,19 +140,15 @@ module _ (I : Customer → Type 0) (keep : StaysInSteps I) where
       let v = verdict_on l (block_input b) c in
       let d = accepted_on l (block_input b) c in
       let a = acted_where v.acts l b.items d in
-      behind_so a.ended l v a.customer
-      (acted_where_so l (So l) (acted_so l) v.acts b.items d
+      behind_so a.ended l v a.customer (acted_where_so l (So l) (acted_so l) v.acts b.items d
       (accepted_there I keep.session l (block_input b) c there, keep.session.judged l (block_input b) c there so))
 
   pub frame_so : (l : ℕ) (x : Received) (c : Customer) → I c → I (after_frame l x c).after
-  frame_so l x c so =
-      frame_holds l c (λ items s. I s.after)
-      (record {
-        none = λ items. so;
-        input = λ came there. input_so I keep.session l came c there so;
-        block = λ b there. block_so l b c there so;
-      })
-      x
+  frame_so l x c so = frame_holds l c (λ items s. I s.after) (record {
+    none = λ items. so;
+    input = λ came there. input_so I keep.session l came c there so;
+    block = λ b there. block_so l b c there so;
+  }) x
 
   pub signal_so : (l : ℕ) (x : Signal) (c : Customer) → I c → I (after_signal l x c).after
   signal_so l x c so = signal_holds l c (λ s. I s.after) so (λ came there. input_so I keep.session l came c there so) x
@@ -171,8 +170,7 @@ module _ (I : Customer → Type 0) (by_frame : ByFrame I) where
       let x = byte_step rest c l byte in
       run_so x.rest x.after l bytes (frame_came_so l (rest_step rest byte).frame c so)
 
-  by_sent :
-      (rest : Rest) (d : Customer) (frame : List ℕ) (later : Taking) → I d → I later.after
+  by_sent : (rest : Rest) (d : Customer) (frame : List ℕ) (later : Taking) → I d → I later.after
       → I (or_later 1 rest (record { after = d; frame = frame }) later).after
   by_sent rest d [] later first second = second
   by_sent rest d (b ∷ frame) later first second = first

@@ -38,8 +38,7 @@ data Steps (l : ℕ) (c : Customer) (s : CustomerStep) : Type 0 where
   goes_down : (k : ℕ) → k < 1366 → FilesGrow k c.spool s.after.spool → phase_on l s.after ≡ Down → Steps l c s
 
 -- what is left of a step behind its first frame
-or_grows :
-    (k n : ℕ) (rest : Rest) (x : CustomerSpool) (after : Customer) (sent : List ℕ) (later : Taking)
+or_grows : (k n : ℕ) (rest : Rest) (x : CustomerSpool) (after : Customer) (sent : List ℕ) (later : Taking)
     → (sent ≡ [] → FilesGrow k x later.after.spool) → FilesGrow k x after.spool
     → FilesGrow k x (or_later n rest (record { after = after; frame = sent }) later).after.spool
 or_grows k n rest x after [] later silently grow = silently refl
@@ -50,19 +49,22 @@ no_more sent is none = absurd (subst IsSent none is)
 
 -- a line that is down, as long as nothing is sent
 abbrev TakesQuietly : Rest → ℕ → List ℕ → Type 0
-TakesQuietly rest l piece = (c : Customer) → phase_on l c ≡ Down → FilesGrow 0 c.spool (take_step rest c l piece).after.spool
+TakesQuietly rest l piece = (c : Customer) → phase_on l c ≡ Down
+    → FilesGrow 0 c.spool (take_step rest c l piece).after.spool
 
 abbrev taken_on : Rest → ℕ → List ℕ → CustomerStep → Taking
 taken_on rest l bytes s = or_later 1 rest (record { after = s.after; frame = s.frame }) (take_step rest s.after l bytes)
 
 down_takes : DownStaysDown → (rest : Rest) (l : ℕ) (piece : List ℕ) → TakesQuietly rest l piece
 down_takes stays_down rest l [] c down = unchanged c.spool
-down_takes stays_down rest l (byte ∷ bytes) c down = at_frame (rest_step rest byte).frame (down_takes stays_down (rest_step rest byte).rest l bytes)
+down_takes stays_down rest l (byte ∷ bytes) c down = at_frame (rest_step rest byte).frame
+    (down_takes stays_down (rest_step rest byte).rest l bytes)
   where
     next : Rest
     next = (rest_step rest byte).rest
 
-    at_stays : (s : CustomerStep) → TakesQuietly next l bytes → StaysDown l c s → FilesGrow 0 c.spool (taken_on next l bytes s).after.spool
+    at_stays : (s : CustomerStep) → TakesQuietly next l bytes → StaysDown l c s
+        → FilesGrow 0 c.spool (taken_on next l bytes s).after.spool
     at_stays s quietly (answers_call grow sent) =
         or_grows 0 1 next c.spool s.after s.frame (take_step next s.after l bytes) (no_more s.frame sent) grow
     at_stays s quietly (still_down grow low) =
@@ -70,15 +72,18 @@ down_takes stays_down rest l (byte ∷ bytes) c down = at_frame (rest_step rest 
         or_grows 0 1 next c.spool s.after s.frame later
         (λ silent. then_quietly 0 c.spool s.after.spool later.after.spool grow (quietly s.after low)) grow
 
-    at_frame : (o : Option Received) → TakesQuietly next l bytes → FilesGrow 0 c.spool (taken_on next l bytes (acted_on l o c)).after.spool
+    at_frame : (o : Option Received) → TakesQuietly next l bytes
+        → FilesGrow 0 c.spool (taken_on next l bytes (acted_on l o c)).after.spool
     at_frame None quietly = quietly c down
-    at_frame (Some received) quietly = at_stays (after_frame l received c) quietly (frame_down stays_down l received c down)
+    at_frame (Some received) quietly = at_stays (after_frame l received c) quietly
+        (frame_down stays_down l received c down)
 
 -- a step brings fewer than 1,366 records
 abbrev GrowsInStep : CustomerSpool → CustomerSpool → Type 0
 GrowsInStep x y = (k : ℕ) × (k < 1366) × FilesGrow k x y
 
-module _ (by_records : RedirectsByRecords) (names : ReroutesNameNodes) (commands : CommandsMoveFilesSo) (acting : ActingIsAnswered)
+module _ (by_records : RedirectsByRecords) (names : ReroutesNameNodes) (commands : CommandsMoveFilesSo)
+    (acting : ActingIsAnswered)
     (stays_down : DownStaysDown) where
   block_steps : (l : ℕ) (b : Block) (c : Customer) → 3 * data_count b.items ≤ 4096 → Steps l c (after_block l b c)
   block_steps l b c short = at_acts v.acts refl
@@ -102,19 +107,19 @@ module _ (by_records : RedirectsByRecords) (names : ReroutesNameNodes) (commands
       grow = all_grow by_records names commands l b.items d
 
       next : v.acts ≡ true → v.reply ≡ reply.Next true
-      next acts =
-          let x = (line_at l c.lines).state in acting x.config x.session (block_input b) acts
+      next acts = let x = (line_at l c.lines).state in acting x.config x.session (block_input b) acts
 
       at_end : v.acts ≡ true → (ended : Bool) → Steps l c (behind_records ended l v a.customer)
       at_end acts true =
-          goes_down k below (then_quietly k c.spool a.customer.spool (session_ended l a.customer).spool grow (ended_grows l a.customer))
+          goes_down k below (then_quietly k c.spool a.customer.spool (session_ended l a.customer).spool grow
+          (ended_grows l a.customer))
           (ended_down l a.customer)
       at_end acts false =
-          answers k below (then_quietly k c.spool a.customer.spool (carried_out l v a.customer).after.spool grow (carried_grows l v a.customer))
+          answers k below (then_quietly k c.spool a.customer.spool (carried_out l v a.customer).after.spool grow
+          (carried_grows l v a.customer))
           (subst (λ r. IsSent (replied_to l r a.customer).frame) (sym (next acts)) (next_sent l a.customer))
 
-      at_acts :
-          (acts : Bool) → v.acts ≡ acts
+      at_acts : (acts : Bool) → v.acts ≡ acts
           → Steps l c (behind_records (acted_where acts l b.items d).ended l v (acted_where acts l b.items d).customer)
       at_acts true e = at_end e a.ended
       at_acts false e = idles (carried_grows l v d)
@@ -145,7 +150,8 @@ module _ (by_records : RedirectsByRecords) (names : ReroutesNameNodes) (commands
 
   -- ---- a step by bytes
 
-  takes : (rest : Rest) (l : ℕ) (piece : List ℕ) (c : Customer) → IsShortRest rest → GrowsInStep c.spool (take_step rest c l piece).after.spool
+  takes : (rest : Rest) (l : ℕ) (piece : List ℕ) (c : Customer) → IsShortRest rest
+      → GrowsInStep c.spool (take_step rest c l piece).after.spool
   takes rest l [] c short = (0, omega arith, unchanged c.spool)
   takes rest l (byte ∷ bytes) c short =
       let t = step_short rest byte short in
@@ -168,17 +174,22 @@ module _ (by_records : RedirectsByRecords) (names : ReroutesNameNodes) (commands
                 (λ silent. quietly_then k c.spool s.after.spool later.after.spool grow behind.2)
                 (grow_within 0 k c.spool s.after.spool (omega arith) grow),
           )
-      at_steps s takes_later (answers k below grow sent) =
-          (k, below, or_grows k 1 next c.spool s.after s.frame (take_step next s.after l bytes) (no_more s.frame sent) grow)
-      at_steps s takes_later (goes_down k below grow low) =
-          let later = take_step next s.after l bytes in (
-            k,
-            below,
-            or_grows k 1 next c.spool s.after s.frame later
-                (λ silent. then_quietly k c.spool s.after.spool later.after.spool grow (down_takes stays_down next l bytes s.after low)) grow,
-          )
+      at_steps s takes_later (answers k below grow sent) = (
+        k,
+        below,
+        or_grows k 1 next c.spool s.after s.frame (take_step next s.after l bytes)
+            (no_more s.frame sent) grow,
+      )
+      at_steps s takes_later (goes_down k below grow low) = let later = take_step next s.after l bytes in (
+        k,
+        below,
+        or_grows k 1 next c.spool s.after s.frame later
+            (λ silent. then_quietly k c.spool s.after.spool later.after.spool grow
+            (down_takes stays_down next l bytes s.after low)) grow,
+      )
 
-      at_frame : (o : Option Received) → IsShortFrame o → Later → GrowsInStep c.spool (taken_on next l bytes (acted_on l o c)).after.spool
+      at_frame : (o : Option Received) → IsShortFrame o → Later
+          → GrowsInStep c.spool (taken_on next l bytes (acted_on l o c)).after.spool
       at_frame None short_frame takes_later = takes_later c
       at_frame (Some received) short_frame takes_later =
           at_steps (after_frame l received c) takes_later (frame_steps l received c short_frame)

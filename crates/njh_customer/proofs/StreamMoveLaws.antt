@@ -41,15 +41,16 @@ moved_one j k l m s x = at_line (set_one x.streams l j (set (streams_of l x) m s
     now : List Sender
     now = get_or (set x.streams l (set (streams_of l x) m s)) j []
 
-    at_stream :
-        j ≡ l → now ≡ set (streams_of l x) m s
-        → (get_or (set (streams_of l x) m s) k Idle ≡ get_or (streams_of l x) k Idle) ⊎ ((k ≡ m) × (get_or (set (streams_of l x) m s) k Idle ≡ s))
+    at_stream : j ≡ l → now ≡ set (streams_of l x) m s
+        → (get_or (set (streams_of l x) m s) k Idle ≡ get_or (streams_of l x) k Idle)
+        ⊎ ((k ≡ m) × (get_or (set (streams_of l x) m s) k Idle ≡ s))
         → IsOne j k l m s x (with_sender_on l m s x)
     at_stream line e (inl same) =
         inl (ap (λ senders. get_or senders k Idle) e ∙ same ∙ ap (λ n. get_or (streams_of n x) k Idle) (sym line))
     at_stream line e (inr there) = inr (line, there.0, ap (λ senders. get_or senders k Idle) e ∙ there.1)
 
-    at_line : (now ≡ get_or x.streams j []) ⊎ ((j ≡ l) × (now ≡ set (streams_of l x) m s)) → IsOne j k l m s x (with_sender_on l m s x)
+    at_line : (now ≡ get_or x.streams j []) ⊎ ((j ≡ l) × (now ≡ set (streams_of l x) m s))
+        → IsOne j k l m s x (with_sender_on l m s x)
     at_line (inl same) = inl (ap (λ senders. get_or senders k Idle) same)
     at_line (inr there) = at_stream there.0 there.1 (set_one (streams_of l x) m k s Idle)
 
@@ -70,22 +71,23 @@ aborted_none (Sending m place) = refl
 aborted_none (EofSent m) = refl
 aborted_none Aborting = refl
 
-gives_up_or_stays : (n : ℕ) (s : Sender) → (without_file n s ≡ s) ⊎ ((file_in s ≡ Some n) × (without_file n s ≡ after_abort s))
+gives_up_or_stays : (n : ℕ) (s : Sender) → (without_file n s ≡ s)
+    ⊎ ((file_in s ≡ Some n) × (without_file n s ≡ after_abort s))
 gives_up_or_stays n s = at_file (file_in s) refl
   where
-    at_test :
-        (m : ℕ) (b : Bool) → file_in s ≡ Some m → (m == n) ≡ b
+    at_test : (m : ℕ) (b : Bool) → file_in s ≡ Some m → (m == n) ≡ b
         → (aborted_where b s ≡ s) ⊎ ((file_in s ≡ Some n) × (aborted_where b s ≡ after_abort s))
     at_test m true e same = inr (e ∙ ap Some (eqb-true m n same), refl)
     at_test m false e same = inl refl
 
-    at_file :
-        (o : Option ℕ) → file_in s ≡ o
-        → (aborted_where (is_about n o) s ≡ s) ⊎ ((file_in s ≡ Some n) × (aborted_where (is_about n o) s ≡ after_abort s))
+    at_file : (o : Option ℕ) → file_in s ≡ o
+        → (aborted_where (is_about n o) s ≡ s) ⊎ ((file_in s ≡ Some n)
+        × (aborted_where (is_about n o) s ≡ after_abort s))
     at_file None e = inl refl
     at_file (Some m) e = at_test m (m == n) e refl
 
-pub each_at : (j k n : ℕ) (x : Outgoing) → sender_on j k (each_stream (without_file n) x) ≡ without_file n (sender_on j k x)
+pub each_at : (j k n : ℕ) (x : Outgoing) → sender_on j k (each_stream (without_file n) x) ≡ without_file n
+    (sender_on j k x)
 each_at j k n x =
     ap (λ senders. get_or senders k Idle) (get_or-map (λ senders. map (without_file n) senders) x.streams j [])
     ∙ get_or-map (without_file n) (get_or x.streams j []) k Idle
@@ -104,22 +106,25 @@ all_give_up j k (n ∷ ns) x =
     first : Contains (n ∷ ns) n
     first = (0, omega arith, refl)
 
-    at_rest :
-        StaysOrGivesUp j k ns next (without_files ns next)
-        → (without_file n (sender_on j k x) ≡ sender_on j k x)
+    at_rest : StaysOrGivesUp j k ns next (without_files ns next) → (without_file n (sender_on j k x) ≡ sender_on j k x)
         ⊎ ((file_in (sender_on j k x) ≡ Some n) × (without_file n (sender_on j k x) ≡ after_abort (sender_on j k x)))
         → StaysOrGivesUp j k (n ∷ ns) x (without_files ns next)
     at_rest (inl same) (inl stays) = inl (same ∙ each_at j k n x ∙ stays)
     at_rest (inl same) (inr gives) = inr (n, first, gives.0, same ∙ each_at j k n x ∙ gives.1)
     at_rest (inr later) (inl stays) =
         let before = each_at j k n x ∙ stays in
-        inr (later.0, Contains-append_right (n ∷ []) ns later.0 later.1, sym (ap (λ s. file_in s) before) ∙ later.2, later.3 ∙ ap (λ s. after_abort s) before)
+        inr (
+          later.0,
+          Contains-append_right (n ∷ []) ns later.0 later.1,
+          sym (ap (λ s. file_in s) before)
+              ∙ later.2,
+          later.3 ∙ ap (λ s. after_abort s) before,
+        )
     at_rest (inr later) (inr gives) =
         absurd (cc (sym later.2 ∙ ap (λ s. file_in s) (each_at j k n x ∙ gives.1) ∙ aborted_none (sender_on j k x)))
 
 -- the number of one that is being sent is that of a file that passes the test
-pub busy_one :
-    (p : WholeFile → Bool) (files : List WholeFile) (n : ℕ) → Contains (busy_numbers p files) n
+pub busy_one : (p : WholeFile → Bool) (files : List WholeFile) (n : ℕ) → Contains (busy_numbers p files) n
     → (f : WholeFile) × Contains files f × (p f ≡ true) × (n ≡ f.number)
 busy_one p [] n at = absurd (omega (arith, at.1))
 busy_one p (g ∷ files) n at = at_tests (p g) (is_sending g.state) refl at (busy_one p files n)
@@ -130,18 +135,15 @@ busy_one p (g ∷ files) n at = at_tests (p g) (is_sending g.state) refl at (bus
     later : IsFoundIn files → IsFoundIn (g ∷ files)
     later found = (found.0, Contains-append_right (g ∷ []) files found.0 found.1, found.2, found.3)
 
-    at_first :
-        p g ≡ true → (g.number ≡ n) ⊎ Contains (busy_numbers p files) n
+    at_first : p g ≡ true → (g.number ≡ n) ⊎ Contains (busy_numbers p files) n
         → (Contains (busy_numbers p files) n → IsFoundIn files) → IsFoundIn (g ∷ files)
     at_first passes (inl first) rest = (g, (0, omega arith, refl), passes, sym first)
     at_first passes (inr there) rest = later (rest there)
 
-    at_tests :
-        (a b : Bool) → p g ≡ a
+    at_tests : (a b : Bool) → p g ≡ a
         → Contains (map (λ f. f.number) (cond (a && b) (g ∷ filter (is_busy p) files) (filter (is_busy p) files))) n
         → (Contains (busy_numbers p files) n → IsFoundIn files) → IsFoundIn (g ∷ files)
-    at_tests true true passes there rest =
-        at_first passes (first_or_later g.number (busy_numbers p files) n there) rest
+    at_tests true true passes there rest = at_first passes (first_or_later g.number (busy_numbers p files) n there) rest
     at_tests true false passes there rest = later (rest there)
     at_tests false b passes there rest = later (rest there)
 
@@ -149,21 +151,20 @@ busy_one p (g ∷ files) n at = at_tests (p g) (is_sending g.state) refl at (bus
 
 module _ (entry : CustomerEntry) (l : ℕ) (items : List Item) (j k : ℕ) (x y : Outgoing) where
   -- as the moved one is, or stays
-  moved_so :
-      (m : ℕ) (s : Sender) (files : List WholeFile) → y ≡ with_sender_on l m s (with_files files x)
+  moved_so : (m : ℕ) (s : Sender) (files : List WholeFile) → y ≡ with_sender_on l m s (with_files files x)
       → (j ≡ l → k ≡ m → IsMovedAlone j k s x y → StreamMoves entry l items j k x y) → StreamMoves entry l items j k x y
   moved_so m s files e there = at_one (moved_one j k l m s (with_files files x))
     where
-      at_one : IsOne j k l m s (with_files files x) (with_sender_on l m s (with_files files x)) → StreamMoves entry l items j k x y
+      at_one : IsOne j k l m s (with_files files x) (with_sender_on l m s (with_files files x))
+          → StreamMoves entry l items j k x y
       at_one (inl same) = laws.stays (ap (sender_on j k) e ∙ same)
-      at_one (inr one) =
-          there one.0 one.1 (
-            ap (sender_on j k) e ∙ one.2,
-            ap (λ z. z.streams) e ∙ sym (ap (λ n. (with_sender_on n k s x).streams) one.0 ∙ ap (λ n. (with_sender_on l n s x).streams) one.1),
-          )
+      at_one (inr one) = there one.0 one.1 (
+        ap (sender_on j k) e ∙ one.2,
+        ap (λ z. z.streams) e ∙ sym (ap (λ n. (with_sender_on n k s x).streams) one.0 ∙ ap
+            (λ n. (with_sender_on l n s x).streams) one.1),
+      )
 
-  cancelling_moves :
-      (i : Item) (who : User) (name : FileName) → Contains items i → Commands entry who (Cancel name) i
+  cancelling_moves : (i : Item) (who : User) (name : FileName) → Contains items i → Commands entry who (Cancel name) i
       → StaysOrGivesUp j k (busy_numbers (is_of_name who name) x.files) x y → StreamMoves entry l items j k x y
   cancelling_moves i who name at given (inl same) = laws.stays same
   cancelling_moves i who name at given (inr gives) =
@@ -172,38 +173,39 @@ module _ (entry : CustomerEntry) (l : ℕ) (items : List Item) (j k : ℕ) (x y 
 
   record_moves : (i : Item) → Contains items i → Acts entry l i x y → StreamMoves entry l items j k x y
   record_moves i at (moves.comes rcb srcb f is ready whole e) = laws.stays (ap (sender_on j k) e)
-  record_moves i at (moves.permitted streams m n told before e) =
-      moved_so m (Sending n 0) x.files e
-      (λ line stream now. laws.permitted i streams n line at (subst (λ t. Tells 0xa0 streams t i) (sym stream) told) (was j k l m (Requested n) x before line stream) now)
+  record_moves i at (moves.permitted streams m n told before e) = moved_so m (Sending n 0) x.files e
+      (λ line stream now. laws.permitted i streams n line at (subst (λ t. Tells 0xa0 streams t i) (sym stream) told)
+      (was j k l m (Requested n) x before line stream) now)
   record_moves i at (moves.refused streams m n after told before none e) =
       moved_so m after (with_file_state n state.Refused x.files) e
       (λ line stream now. laws.refused i streams n after line at (subst (λ t. Tells 0xb0 streams t i) (sym stream) told)
       (ap (λ s. file_in s) (was j k l m (sender_on l m x) x refl line stream) ∙ before) none now)
-  record_moves i at (moves.completed streams m n told before e) =
-      moved_so m Idle (without_numbered n x.files) e
-      (λ line stream now. laws.completed i streams n line at (subst (λ t. Tells 0xc0 streams t i) (sym stream) told) (was j k l m (EofSent n) x before line stream) now)
+  record_moves i at (moves.completed streams m n told before e) = moved_so m Idle (without_numbered n x.files) e
+      (λ line stream now. laws.completed i streams n line at (subst (λ t. Tells 0xc0 streams t i) (sym stream) told)
+      (was j k l m (EofSent n) x before line stream) now)
   record_moves i at (moves.holds who name given e) = laws.stays (ap (sender_on j k) e)
   record_moves i at (moves.releases who name given e) = laws.stays (ap (sender_on j k) e)
   record_moves i at (moves.reroutes who name node line given route e) = laws.stays (ap (sender_on j k) e)
   record_moves i at (moves.cancels who name given e) =
       let kept = filter (λ f. not (is_of_name who name f)) x.files in
       let ns = busy_numbers (is_of_name who name) x.files in
-      cancelling_moves i who name at given (subst (StaysOrGivesUp j k ns x) (sym e) (all_give_up j k ns (with_files kept x)))
+      cancelling_moves i who name at given (subst (StaysOrGivesUp j k ns x) (sym e)
+      (all_give_up j k ns (with_files kept x)))
 
   sending_moves : Sends entry l x y → StreamMoves entry l items j k x y
-  sending_moves (moves.gives_up m before e) =
-      moved_so m Idle x.files e
-      (λ line stream now. laws.gives_up line (moves.gives_up m before e) (was j k l m Aborting x before line stream) now)
+  sending_moves (moves.gives_up m before e) = moved_so m Idle x.files e
+      (λ line stream now. laws.gives_up line (moves.gives_up m before e)
+      (was j k l m Aborting x before line stream) now)
   sending_moves (moves.asks m f few before found e) =
       moved_so m (Requested f.number) (with_file_state f.number state.Sending x.files) e
       (λ line stream now. laws.asks f line (moves.asks m f few before found e) (was j k l m Idle x before line stream)
       (ap (λ t. find (may_go (goes_by entry l) (kind_of t)) x.files) stream ∙ found) now)
-  sending_moves (moves.goes_on m n place r before found e) =
-      moved_so m (Sending n (place + 1)) x.files e
-      (λ line stream now. laws.goes_on n place r line (moves.goes_on m n place r before found e) (was j k l m (Sending n place) x before line stream) found now)
-  sending_moves (moves.ends m n place before found e) =
-      moved_so m (EofSent n) x.files e
-      (λ line stream now. laws.ends n place line (moves.ends m n place before found e) (was j k l m (Sending n place) x before line stream) found now)
+  sending_moves (moves.goes_on m n place r before found e) = moved_so m (Sending n (place + 1)) x.files e
+      (λ line stream now. laws.goes_on n place r line (moves.goes_on m n place r before found e)
+      (was j k l m (Sending n place) x before line stream) found now)
+  sending_moves (moves.ends m n place before found e) = moved_so m (EofSent n) x.files e
+      (λ line stream now. laws.ends n place line (moves.ends m n place before found e)
+      (was j k l m (Sending n place) x before line stream) found now)
 
   end_moves : Over l x y → StreamMoves entry l items j k x y
   end_moves gone = at_line (set_one x.streams l j idles [])
@@ -215,41 +217,50 @@ module _ (entry : CustomerEntry) (l : ℕ) (items : List Item) (j k : ℕ) (x y 
       now = ap (λ lines. get_or (get_or lines j []) k Idle) gone.streams
 
       at_line :
-          (get_or (set x.streams l idles) j [] ≡ get_or x.streams j []) ⊎ ((j ≡ l) × (get_or (set x.streams l idles) j [] ≡ idles))
+          (get_or (set x.streams l idles) j [] ≡ get_or x.streams j [])
+          ⊎ ((j ≡ l) × (get_or (set x.streams l idles) j [] ≡ idles))
           → StreamMoves entry l items j k x y
       at_line (inl same) = laws.stays (now ∙ ap (λ senders. get_or senders k Idle) same)
       at_line (inr there) =
-          laws.over there.0 gone (now ∙ ap (λ senders. get_or senders k Idle) there.1 ∙ copies (length (streams_of l x)) k Idle)
+          laws.over there.0 gone (now ∙ ap (λ senders. get_or senders k Idle) there.1 ∙ copies
+          (length (streams_of l x)) k Idle)
 
 moves_on_line :
-    (entry : CustomerEntry) (l : ℕ) (items : List Item) (x y : Outgoing) (j k : ℕ) → Moves entry l items x y → StreamMoves entry l items j k x y
+    (entry : CustomerEntry) (l : ℕ) (items : List Item) (x y : Outgoing) (j k : ℕ) → Moves entry l items x y
+    → StreamMoves entry l items j k x y
 moves_on_line entry l items x y j k (by_record (i, at, acts)) = record_moves entry l items j k x y i at acts
 moves_on_line entry l items x y j k (by_sending sends) = sending_moves entry l items j k x y sends
 moves_on_line entry l items x y j k (by_end over) = end_moves entry l items j k x y over
 
 pub streams_move : StreamsMoveSo
-streams_move entry (Records l items) x y j k (up, move) = (up, moves_on_line (entry_marked l up entry) l items x y j k move)
+streams_move entry (Records l items) x y j k (up, move) =
+    (up, moves_on_line (entry_marked l up entry) l items x y j k move)
 streams_move entry (Routes routes) x y j k given = ap (sender_on j k) given.holds
 
 pub idle_take : IdleStreamsTakeFiles
 idle_take entry (Routes routes) x y j k n given has = inl (sym (ap (λ s. file_in (sender_on j k s)) given.holds) ∙ has)
-idle_take entry (Records l items) x y j k n (up, move) has = at_move (moves_on_line (entry_marked l up entry) l items x y j k move)
+idle_take entry (Records l items) x y j k n (up, move) has = at_move
+    (moves_on_line (entry_marked l up entry) l items x y j k move)
   where
     -- as it was, about the same file
-    same_file : (b s : Sender) → sender_on j k x ≡ b → sender_on j k y ≡ s → file_in b ≡ file_in s → file_in (sender_on j k x) ≡ Some n
+    same_file : (b s : Sender) → sender_on j k x ≡ b → sender_on j k y ≡ s → file_in b ≡ file_in s
+        → file_in (sender_on j k x) ≡ Some n
     same_file b s before now same = ap (λ t. file_in t) before ∙ same ∙ sym (ap (λ t. file_in t) now) ∙ has
 
     -- about none
     about_none : {A : Type 0} (s : Sender) → sender_on j k y ≡ s → file_in s ≡ None → A
     about_none s now none = absurd (cc (sym has ∙ ap (λ t. file_in t) now ∙ none))
 
-    at_move : StreamMoves (entry_marked l up entry) l items j k x y → (file_in (sender_on j k x) ≡ Some n) ⊎ (sender_on j k x ≡ Idle)
+    at_move : StreamMoves (entry_marked l up entry) l items j k x y
+        → (file_in (sender_on j k x) ≡ Some n) ⊎ (sender_on j k x ≡ Idle)
     at_move (laws.stays same) = inl (sym (ap (λ s. file_in s) same) ∙ has)
     at_move (laws.asks f line sends idle found now) = inr idle
-    at_move (laws.permitted i streams m line at told before now) = inl (same_file (Requested m) (Sending m 0) before now.0 refl)
+    at_move (laws.permitted i streams m line at told before now) = inl
+        (same_file (Requested m) (Sending m 0) before now.0 refl)
     at_move (laws.goes_on m place r line sends before found now) =
         inl (same_file (Sending m place) (Sending m (place + 1)) before now.0 refl)
-    at_move (laws.ends m place line sends before found now) = inl (same_file (Sending m place) (EofSent m) before now.0 refl)
+    at_move (laws.ends m place line sends before found now) = inl
+        (same_file (Sending m place) (EofSent m) before now.0 refl)
     at_move (laws.refused i streams m after line at told before none now) = about_none after now.0 none
     at_move (laws.completed i streams m line at told before now) = about_none Idle now.0 refl
     at_move (laws.gives_up line sends before now) = about_none Idle now.0 refl

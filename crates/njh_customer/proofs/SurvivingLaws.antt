@@ -38,32 +38,37 @@ use Rattle.njh_customer.proofs.LeavingLaws.{without_files_files}
 
 -- ---- a file that is still there
 
-is_same :
-    (before now : WholeFile) → now.number ≡ before.number → now.kind ≡ before.kind → now.records ≡ before.records
+is_same : (before now : WholeFile) → now.number ≡ before.number → now.kind ≡ before.kind → now.records ≡ before.records
     → IsStill before now
 is_same before now number kind records =
-    record { number = number; kind = kind; records = subst (IsRerouted before.kind before.records) (sym records) (as_before before.records) }
+    record {
+      number = number;
+      kind = kind;
+      records = subst (IsRerouted before.kind before.records) (sym records)
+          (as_before before.records);
+    }
 
 itself : (f : WholeFile) → IsStill f f
 itself f = is_same f f refl refl refl
 
-pub rerouted_then : (kind : Kind) (a b c : List Stored) → IsRerouted kind a b → IsRerouted kind b c → IsRerouted kind a c
+pub rerouted_then : (kind : Kind) (a b c : List Stored) → IsRerouted kind a b → IsRerouted kind b c
+    → IsRerouted kind a c
 rerouted_then kind _ _ c (as_before records) second = second
 rerouted_then kind _ _ c (to_node node before after is more) second =
     to_node node before c is (rerouted_then kind (records_to_node kind node None before) after c more second)
 
 pub still_then : (f g h : WholeFile) → IsStill f g → IsStill g h → IsStill f h
-still_then f g h first second =
-    record {
-      number = second.number ∙ first.number;
-      kind = second.kind ∙ first.kind;
-      records = rerouted_then f.kind f.records g.records h.records first.records
-          (subst (λ kind. IsRerouted kind g.records h.records) first.kind second.records);
-    }
+still_then f g h first second = record {
+  number = second.number ∙ first.number;
+  kind = second.kind ∙ first.kind;
+  records = rerouted_then f.kind f.records g.records h.records first.records
+      (subst (λ kind. IsRerouted kind g.records h.records) first.kind second.records);
+}
 
 -- ---- files that are still there
 
-pub all_still : (h : WholeFile → WholeFile) → ((f : WholeFile) → IsStill f (h f)) → (fs : List WholeFile) → Survive fs (map h fs)
+pub all_still : (h : WholeFile → WholeFile) → ((f : WholeFile) → IsStill f (h f)) → (fs : List WholeFile)
+    → Survive fs (map h fs)
 all_still h each [] = none
 all_still h each (f ∷ fs) = stays f (h f) fs (map h fs) (each f) (all_still h each fs)
 
@@ -86,7 +91,8 @@ but_states (f ∷ fs) [] e = absurd (cc e)
 but_states (f ∷ fs) (g ∷ gs) e =
     let one : ready g ≡ ready f = cc e in
     let rest : map ready gs ≡ map ready fs = cc e in
-    stays f g fs gs (is_same f g (ap (λ h. h.number) one) (ap (λ h. h.kind) one) (ap (λ h. h.records) one)) (but_states fs gs rest)
+    stays f g fs gs (is_same f g (ap (λ h. h.number) one) (ap (λ h. h.kind) one) (ap (λ h. h.records) one))
+    (but_states fs gs rest)
 
 all_gone : (fs : List WholeFile) → Survive fs []
 all_gone [] = none
@@ -145,7 +151,14 @@ module _ (x y : Outgoing) where
   -- no file has come
   none_came : (files : List WholeFile) → y.files ≡ files → Survive x.files files → y.arrived ≡ x.arrived → FilesGoOn x y
   none_came files is survive same =
-      record { still = files; new = []; files = is ∙ sym (append-nil files); survive = survive; counted = omega (arith, same) }
+      record {
+        still = files;
+        new = [];
+        files = is ∙ sym (append-nil files);
+        survive = survive;
+        counted = omega
+            (arith, same);
+      }
 
   -- one has
   one_came : (f : WholeFile) → y ≡ with_arrival f x → y.arrived < max_arrived → FilesGoOn x y
@@ -161,13 +174,22 @@ module _ (x y : Outgoing) where
 
 pub goes_on_then : FilesGoOnFurther
 goes_on_then x y z first second =
-    let parts = survive_both first.still first.new second.still (subst (λ files. Survive files second.still) first.files second.survive) in
+    let parts = survive_both first.still first.new second.still
+    (subst (λ files. Survive files second.still) first.files second.survive) in
     record {
       still = parts.first;
       new = parts.second ++ second.new;
-      files = second.files ∙ ap (λ files. files ++ second.new) parts.both ∙ append_assoc parts.first parts.second second.new;
+      files = second.files ∙ ap (λ files. files ++ second.new) parts.both
+          ∙ append_assoc parts.first parts.second second.new;
       survive = survive_then x.files first.still parts.first first.survive parts.of_first;
-      counted = omega (arith, first.counted, second.counted, length-append parts.second second.new, no_more first.new parts.second parts.of_second);
+      counted = omega (
+        arith,
+        first.counted,
+        second.counted,
+        length-append parts.second second.new,
+        no_more first.new
+            parts.second parts.of_second,
+      );
     }
 
 pub in_state_still : (s : State) (f : WholeFile) → IsStill f (record f { state = s })
@@ -193,59 +215,68 @@ marked_still n s fs =
     let change = λ (f : WholeFile). record f { state = s } in
     all_still (λ f. cond (f.number == n) (change f) f) (still_where (λ f. f.number == n) change (in_state_still s)) fs
 
-pub held_still : (entry : CustomerEntry) (fs : List WholeFile) → Survive fs (map (λ f. cond (has_lost_route entry f) (held_file f) f) fs)
-held_still entry fs =
-    all_still (λ f. cond (has_lost_route entry f) (held_file f) f)
+pub held_still : (entry : CustomerEntry) (fs : List WholeFile)
+    → Survive fs (map (λ f. cond (has_lost_route entry f) (held_file f) f) fs)
+held_still entry fs = all_still (λ f. cond (has_lost_route entry f) (held_file f) f)
     (still_where (has_lost_route entry) held_file (in_state_still state.Held)) fs
 
 without_files_arrived : (ns : List ℕ) (x : Outgoing) → (without_files ns x).arrived ≡ x.arrived
 without_files_arrived [] x = refl
 without_files_arrived (n ∷ ns) x = without_files_arrived ns (each_stream (without_file n) x)
 
-module _ (by_records : (kind : Kind) (node : List ℕ) (records : List Stored) → records_to_node kind node None records ≡ with_destination kind node records)
+module _ (by_records : (kind : Kind) (node : List ℕ) (records : List Stored)
+    → records_to_node kind node None records ≡ with_destination kind node records)
     (names : ReroutesNameNodes) where
   pub rerouted_still : (node : List ℕ) → is_name node ≡ true → (f : WholeFile) → IsStill f (with_new_destination node f)
-  rerouted_still node is f =
-      record {
-        number = refl;
-        kind = refl;
-        records = to_node node f.records (with_destination f.kind node f.records) is
-            (subst (IsRerouted f.kind (records_to_node f.kind node None f.records)) (by_records f.kind node f.records)
-            (as_before (records_to_node f.kind node None f.records)));
-      }
+  rerouted_still node is f = record {
+    number = refl;
+    kind = refl;
+    records = to_node node f.records (with_destination f.kind node f.records) is
+        (subst (IsRerouted f.kind (records_to_node f.kind node None f.records)) (by_records f.kind node f.records)
+        (as_before (records_to_node f.kind node None f.records)));
+  }
 
   module _ (entry : CustomerEntry) (l : ℕ) (x y : Outgoing) where
     -- no file has changed
     unmoved : y.files ≡ x.files → y.arrived ≡ x.arrived → FilesGoOn x y
     unmoved files same = none_came x y x.files files (same_files x.files) same
 
-    changes : (p : WholeFile → Bool) (change : WholeFile → WholeFile) → ((f : WholeFile) → IsStill f (change f)) → y ≡ with_changed p change x → FilesGoOn x y
+    changes : (p : WholeFile → Bool) (change : WholeFile → WholeFile) → ((f : WholeFile) → IsStill f (change f))
+        → y ≡ with_changed p change x → FilesGoOn x y
     changes p change each e =
-        none_came x y (map (changed_file p change) x.files) (ap (λ z. z.files) e) (all_still (changed_file p change) (changed_still p change each) x.files)
+        none_came x y (map (changed_file p change) x.files) (ap (λ z. z.files) e)
+        (all_still (changed_file p change) (changed_still p change each) x.files)
         (ap (λ z. z.arrived) e)
 
     by_acts : (i : _) → Acts entry l i x y → y.arrived < max_arrived → FilesGoOn x y
     by_acts i (moves.comes rcb srcb f is ready whole e) below = one_came x y f e below
     by_acts i (moves.permitted streams k n told before e) below = unmoved (ap (λ z. z.files) e) (ap (λ z. z.arrived) e)
     by_acts i (moves.refused streams k n after told before about e) below =
-        none_came x y (with_file_state n state.Refused x.files) (ap (λ z. z.files) e) (marked_still n state.Refused x.files) (ap (λ z. z.arrived) e)
+        none_came x y (with_file_state n state.Refused x.files) (ap (λ z. z.files) e)
+        (marked_still n state.Refused x.files) (ap (λ z. z.arrived) e)
     by_acts i (moves.completed streams k n told before e) below =
-        none_came x y (without_numbered n x.files) (ap (λ z. z.files) e) (some_still (λ f. not (f.number == n)) x.files) (ap (λ z. z.arrived) e)
-    by_acts i (moves.holds who name given e) below = changes (is_of_name who name) (file_in_state state.Held) (in_state_still state.Held) e
-    by_acts i (moves.releases who name given e) below = changes (is_of_name who name) (file_in_state state.Ready) (in_state_still state.Ready) e
+        none_came x y (without_numbered n x.files) (ap (λ z. z.files) e) (some_still (λ f. not (f.number == n)) x.files)
+        (ap (λ z. z.arrived) e)
+    by_acts i (moves.holds who name given e) below = changes (is_of_name who name) (file_in_state state.Held)
+        (in_state_still state.Held) e
+    by_acts i (moves.releases who name given e) below = changes (is_of_name who name) (file_in_state state.Ready)
+        (in_state_still state.Ready) e
     by_acts i (moves.reroutes who name node line given route e) below =
-        changes (is_of_name who name) (with_new_destination node) (rerouted_still node (names given.nodal.message name node given.says)) e
+        changes (is_of_name who name) (with_new_destination node)
+        (rerouted_still node (names given.nodal.message name node given.says)) e
     by_acts i (moves.cancels who name given e) below =
         let p = is_of_name who name in
         let left = filter (λ f. not (p f)) x.files in
         let ns = busy_numbers p x.files in
-        none_came x y left (ap (λ z. z.files) e ∙ without_files_files ns (with_files left x)) (some_still (λ f. not (p f)) x.files)
+        none_came x y left (ap (λ z. z.files) e ∙ without_files_files ns (with_files left x))
+        (some_still (λ f. not (p f)) x.files)
         (ap (λ z. z.arrived) e ∙ without_files_arrived ns (with_files left x))
 
     by_sends : Sends entry l x y → FilesGoOn x y
     by_sends (moves.gives_up k before e) = unmoved (ap (λ z. z.files) e) (ap (λ z. z.arrived) e)
     by_sends (moves.asks k f few before found e) =
-        none_came x y (with_file_state f.number state.Sending x.files) (ap (λ z. z.files) e) (marked_still f.number state.Sending x.files) (ap (λ z. z.arrived) e)
+        none_came x y (with_file_state f.number state.Sending x.files) (ap (λ z. z.files) e)
+        (marked_still f.number state.Sending x.files) (ap (λ z. z.arrived) e)
     by_sends (moves.goes_on k n place r before found e) = unmoved (ap (λ z. z.files) e) (ap (λ z. z.arrived) e)
     by_sends (moves.ends k n place before found e) = unmoved (ap (λ z. z.files) e) (ap (λ z. z.arrived) e)
 
@@ -254,7 +285,8 @@ module _ (by_records : (kind : Kind) (node : List ℕ) (records : List Stored) �
     by_moves items (by_sending sends) below = by_sends sends
     by_moves items (by_end over) below = none_came x y y.files refl (but_states x.files y.files over.files) over.arrived
 
-  one_move : (entry : CustomerEntry) (came : Coming) (x y : Outgoing) → MovesBy entry came x y → y.arrived < max_arrived → FilesGoOn x y
+  one_move : (entry : CustomerEntry) (came : Coming) (x y : Outgoing) → MovesBy entry came x y → y.arrived < max_arrived
+      → FilesGoOn x y
   one_move entry (Records l items) x y (up, move) below = by_moves (entry_marked l up entry) l x y items move below
   one_move entry (Routes routes) x y given below =
       let new = entry_with (entries_of_routes routes) entry in
@@ -269,16 +301,19 @@ module _ (by_records : (kind : Kind) (node : List ℕ) (records : List Stored) �
 
   pub events_keep_files : EventsMoveSo → EventsKeepFiles
   events_keep_files move p event below =
-      files_survive p.customer.entry (coming p event) (outgoing p.customer) (outgoing (event_run p event).after.customer) (move p event) below
+      files_survive p.customer.entry (coming p event) (outgoing p.customer)
+      (outgoing (event_run p event).after.customer) (move p event) below
 
   pub takes_keep_files : TakesMoveSo → TakesKeepFiles
   takes_keep_files move p l piece there below =
       let t = part_after_bytes p l piece in
-      files_survive p.customer.entry (coming p (OwnBytes l (take t.taken piece))) (outgoing p.customer) (outgoing t.after.customer)
+      files_survive p.customer.entry (coming p (OwnBytes l (take t.taken piece))) (outgoing p.customer)
+      (outgoing t.after.customer)
       (move p l piece there) below
 
   pub runs_keep_files : EventsMoveSo → RunsKeepFiles
-  runs_keep_files move p [] below = none_came (outgoing p.customer) (outgoing p.customer) p.customer.spool.whole refl (same_files p.customer.spool.whole) refl
+  runs_keep_files move p [] below = none_came (outgoing p.customer) (outgoing p.customer) p.customer.spool.whole refl
+      (same_files p.customer.spool.whole) refl
   runs_keep_files move p (event ∷ events) below =
       let q = (event_run p event).after in
       let behind = runs_keep_files move q events below in
@@ -290,19 +325,26 @@ module _ (by_records : (kind : Kind) (node : List ℕ) (records : List Stored) �
 pub first_files : FirstFilesSurvive
 first_files x y on =
     let k = length y.files - (y.arrived - x.arrived) in
-    let few : k ≤ length on.still = omega (arith, ap (λ (files : List WholeFile). length files) on.files, length-append on.still on.new, on.counted) in
-    subst (Survive x.files) (sym (ap (take k) on.files ∙ take-append-le k on.still on.new few)) (survive_front k x.files on.still on.survive)
+    let few : k ≤ length on.still = omega (
+      arith,
+      ap (λ (files : List WholeFile). length files) on.files,
+      length-append
+          on.still on.new,
+      on.counted,
+    ) in
+    subst (Survive x.files) (sym (ap (take k) on.files ∙ take-append-le k on.still on.new few))
+    (survive_front k x.files on.still on.survive)
 
 -- one of those that are still there was there
-pub was_there : (fs gs : List WholeFile) → Survive fs gs → (g : WholeFile) → Contains gs g → (f : WholeFile) × Contains fs f × IsStill f g
+pub was_there : (fs gs : List WholeFile) → Survive fs gs → (g : WholeFile) → Contains gs g
+    → (f : WholeFile) × Contains fs f × IsStill f g
 was_there _ _ none g at = absurd (omega (arith, at.1))
 was_there _ _ (leaves f fs gs more) g at =
     let found = was_there fs gs more g at in
     (found.0, Contains-append_right (f ∷ []) fs found.0 found.1, found.2)
 was_there _ _ (stays f h fs gs one more) g at = at_first (first_or_later h gs g at) (was_there fs gs more g)
   where
-    at_first :
-        (h ≡ g) ⊎ Contains gs g → (Contains gs g → (e : WholeFile) × Contains fs e × IsStill e g)
+    at_first : (h ≡ g) ⊎ Contains gs g → (Contains gs g → (e : WholeFile) × Contains fs e × IsStill e g)
         → (e : WholeFile) × Contains (f ∷ fs) e × IsStill e g
     at_first (inl same) rest = (f, (0, omega arith, refl), subst (IsStill f) same one)
     at_first (inr later) rest =
@@ -313,4 +355,5 @@ pub numbered_survivors : SurvivorsAreNumbered
 numbered_survivors files still now survive once at =
     let was = was_there files still survive now at in
     subst (λ o. IsSomeAnd o (λ before. IsStill before now))
-    (sym (found_numbered (λ (f : WholeFile). f.number) files was.0 now.number (once now.number) was.1 (sym was.2.number))) was.2
+    (sym (found_numbered (λ (f : WholeFile). f.number) files was.0 now.number (once now.number) was.1
+    (sym was.2.number))) was.2

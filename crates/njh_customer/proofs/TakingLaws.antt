@@ -56,7 +56,8 @@ by_turn None rest c l byte bytes later =
     let s = acted_on l g.frame c in
     ap (later_by 1) later
     ∙ later_by-or_later 1 g.taken g.rest s.after s.frame (take_step g.rest s.after l (drop g.taken bytes))
-    ∙ ap (λ (left : List ℕ). or_later (1 + g.taken) g.rest s (take_step g.rest s.after l left)) (sym (drop-one_more g.taken byte bytes))
+    ∙ ap (λ (left : List ℕ). or_later (1 + g.taken) g.rest s (take_step g.rest s.after l left))
+    (sym (drop-one_more g.taken byte bytes))
 
 pub take_step-by_frame : (rest : Rest) (c : Customer) (l : ℕ) (piece : List ℕ) → take_step rest c l piece
     ≡ by_frame (feed_outcome rest piece) c l piece
@@ -66,7 +67,8 @@ take_step-by_frame rest c l (byte ∷ bytes) =
     by_turn t.frame t.rest c l byte bytes (take_step-by_frame t.rest c l bytes)
 
 -- A step that took some bytes without an answer, and then those up to the end of a frame.
-pub record TakesOn (taken more : ℕ) (old : Rest) (before : Customer) (l : ℕ) (left : List ℕ) (new : Rest) (after : Customer)
+pub record TakesOn (taken more : ℕ) (old : Rest) (before : Customer) (l : ℕ) (left : List ℕ) (new : Rest)
+    (after : Customer)
     (frame : List ℕ) : Type 0 where
   pub more_is : more ≡ (feed_outcome old left).taken
   pub rest_is : new ≡ (feed_outcome old left).rest
@@ -78,8 +80,7 @@ resumed taken l left more rest after frame =
     or_later (taken + more) rest (record { after = after; frame = frame }) (take_step rest after l (drop more left))
 
 pub takes_on : (taken more : ℕ) (old : Rest) (before : Customer) (l : ℕ) (left : List ℕ) (new : Rest) (after : Customer)
-    (frame : List ℕ) →
-    TakesOn taken more old before l left new after frame →
+    (frame : List ℕ) → TakesOn taken more old before l left new after frame →
     or_later (taken + more) new (record { after = after; frame = frame }) (take_step new after l (drop more left))
     ≡ later_by taken (take_step old before l left)
 takes_on taken more old before l left new after frame h =

@@ -44,7 +44,8 @@ partial_cost f = cost f.records
 -- ---- another destination: eight bytes are written over eight bytes of a header
 
 -- bytes up to a place in the general section
-within_general : (size place at : ℕ) (bytes : List ℕ) → HasGeneral size bytes place → at ≤ size → place + at ≤ length bytes
+within_general : (size place at : ℕ) (bytes : List ℕ) → HasGeneral size bytes place → at ≤ size
+    → place + at ≤ length bytes
 within_general size place at bytes general inside =
     let passes = general.passes in
     let sections : List ℕ = flat_map (λ section. section) passes.sections in
@@ -55,12 +56,22 @@ within_general size place at bytes general inside =
 job_place : (bytes : List ℕ) (h : JobHeader) → job_header bytes ≡ Ok h → h.place + 8 ≤ length bytes
 job_place bytes h reads =
     let is = (header_law 96 64 job_fields bytes h).0 reads in
-    omega (arith, ap (λ (x : JobHeader). x.place) is.says, within_general 96 is.section 88 bytes is.general (omega arith))
+    omega (
+      arith,
+      ap (λ (x : JobHeader). x.place) is.says,
+      within_general 96 is.section 88 bytes is.general
+          (omega arith),
+    )
 
 data_set_place : (bytes : List ℕ) (h : DataSetHeader) → data_set_header bytes ≡ Ok h → h.place + 8 ≤ length bytes
 data_set_place bytes h reads =
     let is = (header_law 20 4 data_set_fields bytes h).0 reads in
-    omega (arith, ap (λ (x : DataSetHeader). x.place) is.says, within_general 20 is.section 12 bytes is.general (omega arith))
+    omega (
+      arith,
+      ap (λ (x : DataSetHeader). x.place) is.says,
+      within_general 20 is.section 12 bytes is.general
+          (omega arith),
+    )
 
 -- a name is eight bytes
 name_eight : (node : List ℕ) → is_name node ≡ true → length node ≡ 8
@@ -84,13 +95,12 @@ module _ (node : List ℕ) (eight : length node ≡ 8) where
       at_header : (h : Result JobHeader HeaderFault) → job_header r.bytes ≡ h
           → stored_size (elim h [ Ok h ↦ with_node_at h.place node r ∷ rs | Err e ↦ r ∷ rs ]) ≡ stored_size (r ∷ rs)
       at_header (Err fault) e = refl
-      at_header (Ok h) e =
-          omega (
-            arith,
-            sum_by-cons size_of (with_node_at h.place node r) rs,
-            sum_by-cons size_of r rs,
-            written_size h.place r (job_place r.bytes h e),
-          )
+      at_header (Ok h) e = omega (
+        arith,
+        sum_by-cons size_of (with_node_at h.place node r) rs,
+        sum_by-cons size_of r rs,
+        written_size h.place r (job_place r.bytes h e),
+      )
 
   data_set_size : (r : Stored) → size_of (with_data_set_node node r) ≡ size_of r
   data_set_size r = at_header (data_set_header r.bytes) refl
@@ -104,18 +114,20 @@ module _ (node : List ℕ) (eight : length node ≡ 8) where
   where_size true r = data_set_size r
   where_size false r = refl
 
-  output_size : (after : Bool) (records : List Stored) → stored_size (with_data_set_nodes node after records) ≡ stored_size records
+  output_size : (after : Bool) (records : List Stored) → stored_size
+      (with_data_set_nodes node after records) ≡ stored_size records
   output_size after [] = refl
-  output_size after (r ∷ rs) =
-      omega (
-        arith,
-        sum_by-cons size_of (cond (has_srcb 0xe0 r && not after) (with_data_set_node node r) r) (with_data_set_nodes node (has_srcb 0xe0 r) rs),
-        sum_by-cons size_of r rs,
-        where_size (has_srcb 0xe0 r && not after) r,
-        output_size (has_srcb 0xe0 r) rs,
-      )
+  output_size after (r ∷ rs) = omega (
+    arith,
+    sum_by-cons size_of (cond (has_srcb 0xe0 r && not after) (with_data_set_node node r) r)
+        (with_data_set_nodes node (has_srcb 0xe0 r) rs),
+    sum_by-cons size_of r rs,
+    where_size (has_srcb 0xe0 r && not after) r,
+    output_size (has_srcb 0xe0 r) rs,
+  )
 
-  redirected_size : (kind : Kind) (records : List Stored) → stored_size (with_destination kind node records) ≡ stored_size records
+  redirected_size : (kind : Kind) (records : List Stored)
+      → stored_size (with_destination kind node records) ≡ stored_size records
   redirected_size In records = job_size records
   redirected_size Out records = output_size false records
 
@@ -125,8 +137,7 @@ module _ (node : List ℕ) (eight : length node ≡ 8) where
 -- ---- spools
 
 -- some blocks and files fewer
-no_more :
-    (s t : CustomerSpool) → limits_of t ≡ limits_of s → used_blocks t ≤ used_blocks s
+no_more : (s t : CustomerSpool) → limits_of t ≡ limits_of s → used_blocks t ≤ used_blocks s
     → length t.whole + length t.partial ≤ length s.whole + length s.partial → IsWithinQuota s → IsWithinQuota t
 no_more s t limits blocks files within = record {
   blocks = omega (arith, within.blocks, blocks, ap (λ (x : ℕ × ℕ). x.0) limits);
@@ -135,20 +146,17 @@ no_more s t limits blocks files within = record {
 
 -- whole files that each take as much as before
 same_cost :
-    (s t : CustomerSpool) → limits_of t ≡ limits_of s → t.partial ≡ s.partial → map whole_cost t.whole ≡ map whole_cost s.whole
+    (s t : CustomerSpool) → limits_of t ≡ limits_of s → t.partial ≡ s.partial
+    → map whole_cost t.whole ≡ map whole_cost s.whole
     → IsWithinQuota s → IsWithinQuota t
-same_cost s t limits partial costs =
-    no_more s t limits
-    (omega (
-      arith,
-      same_sum whole_cost (λ n. n) t.whole s.whole costs,
-      ap (λ (fs : List PartialFile). sum_by partial_cost fs) partial,
-    ))
-    (omega (arith, as_many whole_cost t.whole s.whole costs, ap (λ (fs : List PartialFile). length fs) partial))
+same_cost s t limits partial costs = no_more s t limits (omega (
+  arith,
+  same_sum whole_cost (λ n. n) t.whole s.whole costs,
+  ap (λ (fs : List PartialFile). sum_by partial_cost fs) partial,
+)) (omega (arith, as_many whole_cost t.whole s.whole costs, ap (λ (fs : List PartialFile). length fs) partial))
 
 within_restated : (s t : CustomerSpool) → IsRestated s t → IsWithinQuota s → IsWithinQuota t
-within_restated s t restated =
-    same_cost s t restated.limits restated.partial
+within_restated s t restated = same_cost s t restated.limits restated.partial
     (sym (map-map whole_cost ready t.whole) ∙ ap (map whole_cost) restated.whole ∙ map-map whole_cost ready s.whole)
 
 finished_within : (n : ℕ) (s : CustomerSpool) → IsWithinQuota s → IsWithinQuota (with_finished n s)
@@ -157,12 +165,17 @@ finished_within n s = at_file (partial_numbered n s) refl
     p : PartialFile → Bool
     p f = f.number == n
 
-    at_file :
-        (o : Option PartialFile) → partial_numbered n s ≡ o → IsWithinQuota s
+    at_file : (o : Option PartialFile) → partial_numbered n s ≡ o → IsWithinQuota s
         → IsWithinQuota (elim o [ None ↦ s | Some f ↦ with_arrived (as_whole f) (without_partial n s) ])
     at_file None found within = within
     at_file (Some f) found within = record {
-      blocks = omega (arith, within.blocks, found_less partial_cost p s.partial f found, sum_by_push whole_cost s.whole (as_whole f));
+      blocks = omega (
+        arith,
+        within.blocks,
+        found_less partial_cost p s.partial f found,
+        sum_by_push whole_cost s.whole
+            (as_whole f),
+      );
       files = omega (
         arith,
         within.files,
@@ -177,15 +190,19 @@ pub within_files : StaysInFiles IsWithinQuota (λ i. IsWithinQuota)
 within_files = record {
   arrivals = record {
     still = λ i s within. within;
-    without = λ n s.
-        let p : PartialFile → Bool = λ f. not (f.number == n) in
+    without = λ n s. let p : PartialFile → Bool = λ f. not (f.number == n) in
         no_more s (without_partial n s) refl (omega (arith, some_less partial_cost p s.partial))
         (omega (arith, length-filter_both p (λ f. not (p f)) (λ f. refl) s.partial));
     begun = λ rcb srcb kind s room within.
         let begun : PartialFile = record { number = next_number s; kind = kind; records = [] } in
         record {
           blocks = omega (arith, within.blocks, sum_by_push partial_cost s.partial begun);
-          files = omega (arith, ltb-true (length s.whole + length s.partial) s.limit room, length-append s.partial (begun ∷ []));
+          files = omega (
+            arith,
+            ltb-true (length s.whole + length s.partial) s.limit room,
+            length-append s.partial
+                (begun ∷ []),
+          );
         };
     appended = λ rcb r n s fits within. record {
       blocks = leb-true (used_blocks (with_appended n r s)) s.quota fits;
@@ -198,16 +215,17 @@ within_files = record {
     finished = λ rcb srcb n s whole. finished_within n s;
   };
   restated = within_restated;
-  left = λ p s.
-      no_more s (record s { whole = filter p s.whole }) refl (omega (arith, some_less whole_cost p s.whole))
+  left = λ p s. no_more s (record s { whole = filter p s.whole }) refl (omega (arith, some_less whole_cost p s.whole))
       (omega (arith, length-filter_both p (λ f. not (p f)) (λ f. refl) s.whole));
   rerouted = λ p node s named.
       same_cost s (record s { whole = map (changed_file p (with_new_destination node)) s.whole }) refl refl
-      (changed_where whole_cost (may_change p) (with_new_destination node) s.whole (redirected_cost node (name_eight node named)));
+      (changed_where whole_cost (may_change p) (with_new_destination node) s.whole
+      (redirected_cost node (name_eight node named)));
 }
 
 pub within_routes :
-    (routes : List RouteEntry) (c : Customer) → IsWithinQuota c.spool → IsWithinQuota (customer_with_routes routes c).spool
+    (routes : List RouteEntry) (c : Customer) → IsWithinQuota c.spool
+    → IsWithinQuota (customer_with_routes routes c).spool
 within_routes = routes_so IsWithinQuota within_restated
 
 pub within_fresh : (entry : CustomerEntry) → IsWithinQuota (fresh_customer entry).spool

@@ -14,7 +14,8 @@ returns-then-goes_up-clause-entry c =
     ∙ ap (λ up. with_raised_line up id.number (entry_of (customer_at old id.customer))) (sym c.if-goes_up.true)
 
 pub returns-then-goes_up-clause-entries : goal.returns-then-goes_up-clause-entries
-returns-then-goes_up-clause-entries c = retold_marked c.args.tables.now c.set_up.new.self c.args.id true c.requires.known c.set_up.ensures
+returns-then-goes_up-clause-entries c = retold_marked c.args.tables.now c.set_up.new.self c.args.id true
+    c.requires.known c.set_up.ensures
 
 pub returns-else-goes_up-clause-entries : goal.returns-else-goes_up-clause-entries
 returns-else-goes_up-clause-entries c = retold_same c.args.tables.now c.args.id.customer

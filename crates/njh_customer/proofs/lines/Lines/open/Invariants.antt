@@ -8,5 +8,6 @@ use Rattle.njh_customer.proofs.lines.Lines.open.Given as goal
 abbrev pub invariant-loop-line : goal.invariant-loop-line
 invariant-loop-line l = record {
   rests : l.deframers.items ≡ map (λ line. Nothing) (take l.line-index l.customer.lines);
-  states : l.lines ≡ map (λ line. idle_line (config_of (entry_of l.customer) line.entry) line.entry.streams) (take l.line-index l.customer.lines);
+  states : l.lines ≡ map (λ line. idle_line (config_of (entry_of l.customer) line.entry) line.entry.streams)
+      (take l.line-index l.customer.lines);
 }

@@ -21,19 +21,27 @@ loop-out-preserved c =
     let unanswered : c.loop-out.out ≡ [] = search rules in
     record {
       taken =
-          ap (λ (left : List ℕ). or_later (c.loop-out.taken + t.result) new (record { after = after; frame = t.new.out })
+          ap (λ (left : List ℕ). or_later (c.loop-out.taken + t.result) new
+          (record { after = after; frame = t.new.out })
           (take_step new after l left)) c.split_at.ensures.back
           ∙ takes_on c.loop-out.taken t.result old before l c.loop-out.left.now new after t.new.out
-          (record { more_is = t.ensures.taken; rest_is = t.ensures.rest; after_is = t.ensures.step.after.customer; frame_is = t.ensures.step.frame })
+          (record {
+            more_is = t.ensures.taken;
+            rest_is = t.ensures.rest;
+            after_is = t.ensures.step.after.customer;
+            frame_is = t.ensures.step.frame;
+          })
           ∙ ap (λ (frame : List ℕ). or_later c.loop-out.taken old (record { after = before; frame = frame })
-          (take_step old before l c.loop-out.left.now)) (sym unanswered)
-          ∙ c.loop-out.invariant.taken;
+          (take_step old before l c.loop-out.left.now)) (sym unanswered) ∙ c.loop-out.invariant.taken;
       rests = t.ensures.rests ∙ ap (λ (rests : List Rest). set rests l new) c.loop-out.invariant.rests
           ∙ set-set c.args.self.now.rests l old new;
-      others = others_twice c.args.shared.now.spool c.loop-out.shared.spool t.new.shared.spool id.customer c.loop-out.invariant.others t.ensures.step.after.others;
-      entries = retold_twice c.args.shared.now.tables c.loop-out.shared.tables t.new.shared.tables id.customer c.loop-out.invariant.entries t.ensures.step.after.entries;
+      others = others_twice c.args.shared.now.spool c.loop-out.shared.spool t.new.shared.spool id.customer
+          c.loop-out.invariant.others t.ensures.step.after.others;
+      entries = retold_twice c.args.shared.now.tables c.loop-out.shared.tables t.new.shared.tables id.customer
+          c.loop-out.invariant.entries t.ensures.step.after.entries;
       ready = t.ensures.step.ready;
       count = t.ensures.step.count ∙ c.loop-out.invariant.count;
       few = omega (arith, c.split_at.ensures.back_len);
-      progress = λ _. let left : 0 < length c.loop-out.left.now = search rules in omega (arith, t.ensures.progress left);
+      progress = λ _. let left : 0 < length c.loop-out.left.now = search rules in
+          omega (arith, t.ensures.progress left);
     }

@@ -18,10 +18,12 @@ raise-requires-clause-line c = known_line c.args.id c.args.self.now c.args.lines
 pub returns-clause-after : goal.returns-clause-after
 returns-clause-after c =
     let old = customer_of c.args.id.customer c.args.self.now c.args.lines.now in
-    still_brings c.args.id.customer c.args.self.now (marked c) c.accept-verdict.new.self (accepted_on c.args.id.number (input_value c.args.input.now) old)
+    still_brings c.args.id.customer c.args.self.now (marked c) c.accept-verdict.new.self
+    (accepted_on c.args.id.number (input_value c.args.input.now) old)
     (accepted_so c.args.id c.args.self.now (marked c) c.args.lines.now c.accept-verdict.new.self
     (input_value c.args.input.now) c.is_up-was_up.result c.is_up-is_up.result c.goes_up.result c.requires.ready.there
-    c.accept-verdict.ensures.lines c.is_up-was_up.ensures c.is_up-is_up.ensures c.goes_up.ensures refl c.raise.ensures.entry)
+    c.accept-verdict.ensures.lines c.is_up-was_up.ensures c.is_up-is_up.ensures c.goes_up.ensures refl
+    c.raise.ensures.entry)
     refl c.raise.ensures.entries
 
 pub returns-clause-ready : goal.returns-clause-ready
@@ -29,5 +31,7 @@ returns-clause-ready c =
     let id = c.args.id in
     let came = input_value c.args.input.now in
     let old = customer_of id.customer c.args.self.now c.args.lines.now in
-    next_brought id c.args.self.now (marked c) c.args.lines.now c.accept-verdict.new.self (accepted_on id.number came old) c.requires.ready
-    (returns-clause-after c) (accepted_stays c.streams_stay_tied.ensures.untouched id.number came old c.requires.ready.coherent)
+    next_brought id c.args.self.now (marked c) c.args.lines.now c.accept-verdict.new.self
+    (accepted_on id.number came old) c.requires.ready
+    (returns-clause-after c) (accepted_stays c.streams_stay_tied.ensures.untouched id.number came old
+    c.requires.ready.coherent)

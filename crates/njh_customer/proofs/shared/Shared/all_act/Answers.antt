@@ -22,12 +22,15 @@ records-preserved c =
     let item = given_item c.deref.result.now c.in-Some.item in
     let first : Some item ≡ slice_get r.block.items 0 = search rules in
     let others : c.next.new.self.items ≡ drop 1 r.block.items = search rules in
-    let one = one_acted id.number r.block.items c.next.new.self.items item c.ends_session.result before first others c.if-ends_session.false
+    let one = one_acted id.number r.block.items c.next.new.self.items item c.ends_session.result before first others
+    c.if-ends_session.false
     (c.ends_session.ensures c.deref.result.now) in
     record {
       rest = ap (all_acted id.number c.next.new.self.items) c.act.ensures.customer ∙ one ∙ r.invariant.rest;
-      others = others_twice c.args.self.now.spool r.self.spool c.act.new.self.spool id.customer r.invariant.others c.act.ensures.others;
+      others = others_twice c.args.self.now.spool r.self.spool c.act.new.self.spool id.customer r.invariant.others
+          c.act.ensures.others;
       tables = c.act.ensures.tables ∙ r.invariant.tables;
-      ready = next_ready id r.self c.act.new.self r.lines c.act.new.lines (after_record id.number item before) r.invariant.ready c.act.ensures
+      ready = next_ready id r.self c.act.new.self r.lines c.act.new.lines
+          (after_record id.number item before) r.invariant.ready c.act.ensures
           (acted_stays law.untouched records id.number item before r.invariant.ready.there r.invariant.ready.coherent);
     }

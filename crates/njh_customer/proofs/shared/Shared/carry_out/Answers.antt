@@ -23,11 +23,14 @@ returns-then-verdict c =
     let old = customer_of id.customer c.args.self.now c.args.lines.now in
     let replied = (replied_to id.number c.args.verdict.reply old).after in
     record {
-      after = subst (λ b. Brings id.customer c.args.self.now c.close_session.new.self c.close_session.new.lines (session_over_where b id.number replied))
+      after = subst (λ b. Brings id.customer c.args.self.now c.close_session.new.self c.close_session.new.lines
+          (session_over_where b id.number replied))
           (sym c.if-verdict.true)
-          (brought_on id.customer c.args.self.now c.send_reply.new.shared c.close_session.new.self c.send_reply.new.self c.close_session.new.lines replied
+          (brought_on id.customer c.args.self.now c.send_reply.new.shared c.close_session.new.self c.send_reply.new.self
+          c.close_session.new.lines replied
           (session_over id.number)
-          (as_brings id.customer c.args.self.now c.send_reply.new.shared c.send_reply.new.self replied c.send_reply.ensures.after) c.close_session.ensures);
+          (as_brings id.customer c.args.self.now c.send_reply.new.shared c.send_reply.new.self replied
+          c.send_reply.ensures.after) c.close_session.ensures);
       frame = c.send_reply.ensures.frame;
     }
 
@@ -37,8 +40,10 @@ returns-else-verdict c =
     let old = customer_of id.customer c.args.self.now c.args.lines.now in
     let replied = (replied_to id.number c.args.verdict.reply old).after in
     record {
-      after = subst (λ b. Brings id.customer c.args.self.now c.send_reply.new.shared c.send_reply.new.self (session_over_where b id.number replied))
+      after = subst (λ b. Brings id.customer c.args.self.now c.send_reply.new.shared c.send_reply.new.self
+          (session_over_where b id.number replied))
           (sym c.if-verdict.false)
-          (as_brings id.customer c.args.self.now c.send_reply.new.shared c.send_reply.new.self replied c.send_reply.ensures.after);
+          (as_brings id.customer c.args.self.now c.send_reply.new.shared c.send_reply.new.self replied
+          c.send_reply.ensures.after);
       frame = c.send_reply.ensures.frame;
     }
