@@ -1,19 +1,21 @@
 -- A line that isn't up has no stream about a file and no answer that waits, and SYSOUT 4 counts as served last.
-use Rattle.std.proofs.Common.{◌≡◌, ℕ, zero, suc, ◌+◌, ◌<◌, Bool, true, false, cond, ◌==◌, List, [], ◌∷◌, length, map}
-use Rattle.std.proofs.Common.{set, get_or, Option, Some, None, refl, sym, ap, subst, ◌∙◌, arith}
+use Rattle.std.proofs.Common.{◌≡◌, ℕ, ◌+◌, ◌<◌, Bool, true, false, cond, ◌==◌, List, length, set, get_or, Option, Some}
+use Rattle.std.proofs.Common.{None, refl, sym, ap, subst, ◌∙◌, arith, nat_lt}
 use Rattle.std.proofs.Math.ListN.{get_or-map}
 use Rattle.std.proofs.Math.Seq.{map-set_same}
-use Rattle.std.proofs.lemmas.Bool.{eqb-true, eqb-false}
+use Rattle.std.proofs.lemmas.Bool.{eqb-true, eqb-false, ltb-false, ltb-true}
 use Rattle.std.proofs.lemmas.Grind.{get_or-set_at}
-use Rattle.std.proofs.lemmas.List.{get_or-set_same, get_or-set_other, length-map, length-set}
+use Rattle.std.proofs.lemmas.List.{get_or-set_same, get_or-set_other, length-map, length-set, get_or_past}
+use Rattle.std.proofs.lemmas.List.Elements.{All-map}
 use Rattle.njh_bisync.specs.Frames.{Received}
 use Rattle.njh_bisync.specs.declared.frame.Control.TheVariants as control
 use Rattle.njh_block.specs.Blocks.{Item}
 use Rattle.njh_header.specs.SignOns.{SignOn}
 use Rattle.njh_spool.specs.CustomerSpool.{CustomerSpool}
-use Rattle.njh_table.specs.Entries.{CustomerEntry, LineEntry}
+use Rattle.njh_table.specs.Entries.{CustomerEntry}
 use Rattle.njh_table.specs.declared.Role.{Role}
 use Rattle.njh_table.specs.declared.Role.TheVariants as role
+use Rattle.njh_stream.specs.Sending.{file_in}
 use Rattle.njh_stream.specs.declared.receiver.Receiver.{Receiver}
 use Rattle.njh_stream.specs.declared.receiver.Receiver.TheVariants as receiver
 use Rattle.njh_stream.specs.declared.sender.Sender.TheVariants as sender
@@ -41,6 +43,7 @@ use Rattle.njh_customer.specs.Alone.{carried_out, verdict_on, accepted_on, after
 use Rattle.njh_customer.specs.Alone.{behind_records, after_frame, after_signal}
 use Rattle.njh_customer.specs.Customer.{Customer, CustomerLine, no_customer_line, line_at, on_line, in_state}
 use Rattle.njh_customer.specs.Customer.{with_notice, with_receiver, with_sender, config_of, fresh_customer, idle_line}
+use Rattle.njh_customer.specs.Customer.{receiver_at, sender_at}
 use Rattle.njh_customer.specs.InOrder.{IsIdle, IdleUnlessUp, phase_of}
 use Rattle.njh_customer.specs.Sending.{sending_of_reply}
 use Rattle.njh_customer.specs.Waiting.{with_waiting}
@@ -479,13 +482,29 @@ fresh_idle config streams = record {
   served = refl;
 }
 
-pub idle_when_opened : (entry : CustomerEntry) → IdleUnlessUp (fresh_customer entry).lines
-idle_when_opened entry l there down = at entry.lines l there
-  where
-    lines_of : List LineEntry → List CustomerLine
-    lines_of lines = map (λ line. idle_line (config_of entry line) line.streams) lines
+pub fresh_lines_idle :
+    (entry : CustomerEntry) (l : ℕ) → l < length (fresh_customer entry).lines → IsIdle (line_at l (fresh_customer entry).lines)
+fresh_lines_idle entry l there =
+    All-map IsIdle (λ line. idle_line (config_of entry line) line.streams) entry.lines
+    (λ i d h. let line = get_or entry.lines i d in fresh_idle (config_of entry line) line.streams) l no_customer_line there
 
-    at : (lines : List LineEntry) (l : ℕ) → l < length (lines_of lines) → IsIdle (line_at l (lines_of lines))
-    at [] l there = absurd (omega (arith, there))
-    at (x ∷ xs) zero there = fresh_idle (config_of entry x) x.streams
-    at (x ∷ xs) (suc l) there = at xs l (omega (arith, there))
+pub idle_when_opened : (entry : CustomerEntry) → IdleUnlessUp (fresh_customer entry).lines
+idle_when_opened entry l there down = fresh_lines_idle entry l there
+
+-- ---- a customer whose lines are all idle
+
+module _ (c : Customer) (idle : (l : ℕ) → l < length c.lines → IsIdle (line_at l c.lines)) where
+  -- on a line that isn't there too
+  at_line : (P : CustomerLine → Type 0) → ((x : CustomerLine) → IsIdle x → P x) → P no_customer_line → (l : ℕ) → P (line_at l c.lines)
+  at_line P idles none l = at_there (nat_lt l (length c.lines)) refl
+    where
+      at_there : (b : Bool) → nat_lt l (length c.lines) ≡ b → P (line_at l c.lines)
+      at_there true e = idles (line_at l c.lines) (idle l (ltb-true l (length c.lines) e))
+      at_there false e =
+          subst P (sym (get_or_past c.lines l no_customer_line (omega (arith, ltb-false l (length c.lines) e)))) none
+
+  pub receivers_idle : (l k : ℕ) → receiver_at k (line_at l c.lines) ≡ receiver.Idle
+  receivers_idle l k = at_line (λ x. receiver_at k x ≡ receiver.Idle) (λ x is. is.receivers k) refl l
+
+  pub senders_idle : (l k : ℕ) → file_in (sender_at k (line_at l c.lines)) ≡ None
+  senders_idle l k = at_line (λ x. file_in (sender_at k x) ≡ None) (λ x is. ap file_in (is.senders k)) refl l

@@ -4,7 +4,7 @@ use Rattle.std.proofs.Common.{length, map, set, get_or, find, Option, Some, None
 use Rattle.std.proofs.Common.{inr, ◌⊎◌}
 use Rattle.std.proofs.Math.ListN.{get_or-map}
 use Rattle.std.proofs.lemmas.Bool.{eq-eqb, eqb-true, ltb-true, ltb-false}
-use Rattle.std.proofs.lemmas.List.{get_or_past, length-set}
+use Rattle.std.proofs.lemmas.List.{length-set}
 use Rattle.std.proofs.lemmas.List.Elements.{Contains-append_right}
 use Rattle.std.specs.List.{Contains}
 use Rattle.njh_bisync.specs.Reading.{Rest, Nothing}
@@ -15,7 +15,6 @@ use Rattle.njh_table.specs.Entries.{CustomerEntry}
 use Rattle.njh_stream.specs.Sending.{all_ended, file_in, goes_by, is_refused, may_go_again, ready, spool_after_session}
 use Rattle.njh_stream.specs.Sending.{tried_again}
 use Rattle.njh_stream.specs.Streams.{coming_file}
-use Rattle.njh_stream.specs.declared.receiver.Receiver.TheVariants as receiver
 use Rattle.njh_stream.specs.declared.sender.Sender.{Sender}
 use Rattle.njh_stream.specs.declared.sender.Sender.TheVariants as sender
 use Rattle.njh_line.specs.Laws.{is_up}
@@ -30,7 +29,7 @@ use Rattle.njh_line.specs.declared.verdict.LineReply.TheVariants as reply
 use Rattle.njh_line.specs.declared.verdict.Verdict.{Verdict}
 use Rattle.njh_customer.specs.Alone.{silent, with_idle_streams, session_over, session_over_where, replied_to}
 use Rattle.njh_customer.specs.Alone.{carried_out, verdict_on, accepted_on, after_line_input, after_signal}
-use Rattle.njh_customer.specs.Customer.{Customer, CustomerLine, no_customer_line, line_at, in_state, receiver_at}
+use Rattle.njh_customer.specs.Customer.{Customer, CustomerLine, no_customer_line, line_at, in_state}
 use Rattle.njh_customer.specs.InOrder.{IsInOrder, IsIdle, StaysInOrder, LossesLeaveFiles, phase_of, at_rest}
 use Rattle.njh_customer.specs.InOrder.{state_at_rest, losses, after_losses}
 use Rattle.njh_customer.specs.OutgoingFiles.{with_file_state}
@@ -40,6 +39,7 @@ use Rattle.njh_customer.specs.declared.signal.Signal.TheVariants.{Lost}
 use Rattle.njh_customer.proofs.CoherenceLaws as coherence
 use Rattle.njh_customer.proofs.DownLines.{set_down}
 use Rattle.njh_customer.proofs.FileListLaws.{WasOrIs, each_same, from_where, set_one}
+use Rattle.njh_customer.proofs.IdleLines.{receivers_idle, senders_idle}
 use Rattle.njh_customer.proofs.OutgoingLaws.{on_line_senders, stream_is}
 use Rattle.njh_customer.proofs.Restated.{ended_where, without_open_same}
 
@@ -293,23 +293,6 @@ all_lost stays (suc l) p few order =
 -- ---- no stream is about a file
 
 module _ (c : Customer) (order : IsInOrder c) (idle : (l : ℕ) → l < length c.lines → IsIdle (line_at l c.lines)) where
-  receivers_idle : (l k : ℕ) → receiver_at k (line_at l c.lines) ≡ receiver.Idle
-  receivers_idle l k = at_there (nat_lt l (length c.lines)) refl
-    where
-      at_there : (b : Bool) → nat_lt l (length c.lines) ≡ b → receiver_at k (line_at l c.lines) ≡ receiver.Idle
-      at_there true e = (idle l (ltb-true l (length c.lines) e)).receivers k
-      at_there false e = ap (receiver_at k) (get_or_past c.lines l no_customer_line
-          (omega (arith, ltb-false l (length c.lines) e)))
-
-  senders_idle : (l k : ℕ) → file_in (get_or (line_at l c.lines).senders k sender.Idle) ≡ None
-  senders_idle l k = at_there (nat_lt l (length c.lines)) refl
-    where
-      at_there : (b : Bool) → nat_lt l (length c.lines) ≡ b
-          → file_in (get_or (line_at l c.lines).senders k sender.Idle) ≡ None
-      at_there true e = ap file_in ((idle l (ltb-true l (length c.lines) e)).senders k)
-      at_there false e = ap (λ (x : CustomerLine). file_in (get_or x.senders k sender.Idle))
-          (get_or_past c.lines l no_customer_line (omega (arith, ltb-false l (length c.lines) e)))
-
   no_partial : c.spool.partial ≡ []
   no_partial = at_files c.spool.partial refl
     where
@@ -321,13 +304,13 @@ module _ (c : Customer) (order : IsInOrder c) (idle : (l : ℕ) → l < length c
           let comes = order.coherent.tied.come f.number f found in
           let none : None ≡ Some f.number =
           ap coming_file (sym (coherence.stream_is comes.line comes.stream c.lines
-          ∙ receivers_idle comes.line comes.stream)) ∙ comes.file in
+          ∙ receivers_idle c idle comes.line comes.stream)) ∙ comes.file in
           absurd (cc none)
 
   none_goes : (f : WholeFile) → Contains c.spool.whole f → f.state ≡ Sending → ⊥
   none_goes f at goes =
       let x = order.sent.go f at goes in
-      let none : None ≡ Some f.number = sym (ap file_in (stream_is x.line x.stream c) ∙ senders_idle x.line x.stream)
+      let none : None ≡ Some f.number = sym (ap file_in (stream_is x.line x.stream c) ∙ senders_idle c idle x.line x.stream)
       ∙ x.about in
       cc none
 

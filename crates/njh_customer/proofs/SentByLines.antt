@@ -1,23 +1,26 @@
 -- What a line sends, the end of its session, and new routes leave it so: the files that are being sent are exactly those
 -- that a stream is about, each on one stream.
 use Rattle.std.proofs.Common.{◌≡◌, ℕ, zero, suc, ◌+◌, ◌<◌, Bool, true, false, ◌==◌, ◌&&◌, ◌⊎◌, inl, inr, List, [], ◌∷◌}
-use Rattle.std.proofs.Common.{length, map, set, get_or, replicate, find, Option, Some, None, refl, sym, ap, subst, ◌∙◌}
+use Rattle.std.proofs.Common.{length, set, get_or, replicate, find, Option, Some, None, refl, sym, ap, subst, ◌∙◌}
 use Rattle.std.proofs.Common.{arith}
 use Rattle.std.proofs.Math.ListN.{get_or-map}
 use Rattle.std.proofs.lemmas.Bool.{eqb-true, eqb-false}
 use Rattle.std.proofs.lemmas.List.{get_or-set_same, get_or-set_other, length-map, length-replicate, length-set}
+use Rattle.std.proofs.lemmas.List.Elements.{All-map}
 use Rattle.std.specs.List.{Contains}
 use Rattle.njh_block.specs.Codes.{kind_of}
 use Rattle.njh_header.specs.FileHeaders.{destination_of}
 use Rattle.njh_spool.specs.CustomerSpool.{CustomerSpool, WholeFile}
+use Rattle.njh_spool.specs.declared.State.{State}
 use Rattle.njh_spool.specs.declared.State.TheVariants as state
-use Rattle.njh_table.specs.Entries.{CustomerEntry, LineEntry, RouteEntry}
-use Rattle.njh_stream.specs.Holding.{destination_unrouted, has_lost_route, waits_in_state}
+use Rattle.njh_table.specs.Entries.{CustomerEntry, RouteEntry}
+use Rattle.njh_stream.specs.Holding.{destination_unrouted, has_lost_route, waits_in_state, held_file}
 use Rattle.njh_stream.specs.Sending.{all_ended, file_in, goes_by, is_refused, may_go_again, ready, spool_after_session}
 use Rattle.njh_stream.specs.Sending.{tried_again}
 use Rattle.njh_stream.specs.declared.sender.Sender.{Sender}
 use Rattle.njh_stream.specs.declared.sender.Sender.TheVariants.{Idle, Requested, Sending, EofSent, Aborting}
 use Rattle.njh_sched.specs.NextBlock.{is_ready, may_go, same_kind}
+use Rattle.njh_command.specs.Commands.{is_sending}
 use Rattle.njh_line.specs.declared.verdict.LineReply.{LineReply}
 use Rattle.njh_line.specs.declared.verdict.LineReply.TheVariants as reply
 use Rattle.njh_customer.specs.Alone.{replied_to, session_over}
@@ -26,7 +29,6 @@ use Rattle.njh_customer.specs.Customer.{no_customer_line}
 use Rattle.njh_customer.specs.InOrder.{AreBeingSent, IsOnStream, IsAbout}
 use Rattle.njh_customer.specs.Moves as moves
 use Rattle.njh_customer.specs.Moves.{LeadsByMoves, nowhere, onward, Sends}
-use Rattle.njh_customer.specs.MovingLaws.{RoutesMoveFile, is_as_before, is_held}
 use Rattle.njh_customer.specs.NewRoutes.{customer_with_routes, entry_with}
 use Rattle.njh_customer.specs.OutgoingFiles.{Outgoing, has_file, outgoing, sender_on, streams_from_hub, streams_of}
 use Rattle.njh_customer.specs.OutgoingFiles.{with_file_state, with_files, with_sender_on}
@@ -34,58 +36,20 @@ use Rattle.njh_customer.specs.Sending.{next_block}
 use Rattle.njh_customer.proofs.EndingMoves.{over_so}
 use Rattle.njh_customer.proofs.FileListLaws.{any_numbered, copies, marked_numbers, same_numbered, but_states, found_one}
 use Rattle.njh_customer.proofs.FileListLaws.{WasOrIs, any_there, from_where}
-use Rattle.njh_customer.proofs.OutgoingLaws.{reply_unmoved}
+use Rattle.njh_customer.proofs.IdleLines.{fresh_lines_idle, senders_idle}
+use Rattle.njh_customer.proofs.OutgoingLaws.{reply_unmoved, stream_is}
 use Rattle.njh_customer.proofs.Restated.{ended_where, without_open_same}
-use Rattle.njh_customer.proofs.RoutesMoves.{held_numbers, held_so}
 use Rattle.njh_customer.proofs.SenderPlaces.{set_lines, set_streams, set_there}
 use Rattle.njh_customer.proofs.SendingMoves.{out_of, next_is, next_leads}
+use Rattle.njh_customer.proofs.SentByRecords.{carried, changed_carries, onward_carries, Carries}
 use Rattle.njh_customer.proofs.StreamMoveLaws.{IsOne, moved_one}
 
--- ---- streams that are about the same files
-
--- no file is another, each line has as many streams, and each of these is about the file that it was about
-record AreAlike (x y : Outgoing) : Type 0 where
-  files : y.files ≡ x.files
-  lines : length y.streams ≡ length x.streams
-  streams : (l : ℕ) → length (streams_of l y) ≡ length (streams_of l x)
-  about : (l k : ℕ) → file_in (sender_on l k y) ≡ file_in (sender_on l k x)
-
-sent_alike : (x y : Outgoing) → AreAlike x y → AreBeingSent x → AreBeingSent y
-sent_alike x y like sent = record {
-  eight = λ l there. like.streams l ∙ sent.eight l (omega (arith, there, like.lines));
-  there = λ l k n about. ap (any_numbered n) like.files ∙ sent.there l k n (sym (like.about l k) ∙ about);
-  sending =
-      λ l k n f about at same. sent.sending l k n f (sym (like.about l k) ∙ about)
-      (subst (λ fs. Contains fs f) like.files at) same;
-  apart = λ l k m j n first second. sent.apart l k m j n (sym (like.about l k) ∙ first)
-      (sym (like.about m j) ∙ second);
-  go = λ f at is. let goes = sent.go f (subst (λ fs. Contains fs f) like.files at) is in
-      record { line = goes.line; stream = goes.stream; about = like.about goes.line goes.stream ∙ goes.about };
-}
-
 -- one stream moves, and is about the file that it was about
-one_alike : (l k : ℕ) (s : Sender) (x : Outgoing) → file_in s ≡ file_in (sender_on l k x)
-    → AreAlike x (with_sender_on l k s x)
-one_alike l k s x same = record {
-  files = refl;
-  lines = set_lines l k s x;
-  streams = λ j. set_streams j l k s x;
-  about = λ j m. at_place j m (moved_one j m l k s x);
-}
-  where
-    at_place : (j m : ℕ) → IsOne j m l k s x (with_sender_on l k s x)
-        → file_in (sender_on j m (with_sender_on l k s x)) ≡ file_in (sender_on j m x)
-    at_place j m (inl stays) = ap (λ t. file_in t) stays
-    at_place j m (inr one) = ap (λ t. file_in t) one.2 ∙ same
-        ∙ sym (ap (λ n. file_in (sender_on n m x)) one.0 ∙ ap (λ n. file_in (sender_on l n x)) one.1)
-
 one_moves :
     (l k : ℕ) (s t : Sender) (x y : Outgoing) → sender_on l k x ≡ s → file_in t ≡ file_in s → y ≡ with_sender_on l k t x
-    → AreBeingSent x
-    → AreBeingSent y
-one_moves l k s t x y before same e sent =
-    subst AreBeingSent (sym e) (sent_alike x (with_sender_on l k t x)
-    (one_alike l k t x (same ∙ sym (ap (λ u. file_in u) before))) sent)
+    → AreBeingSent x → AreBeingSent y
+one_moves l k s t x y before same e =
+    carried x y (subst (Carries x) (sym e) (onward_carries l k t x (same ∙ sym (ap (λ u. file_in u) before))))
 
 -- ---- a stream asks for a file
 
@@ -361,136 +325,97 @@ module _ (l : ℕ) (c : Customer) (line : l < length c.lines) (sent : AreBeingSe
   from_tried g at = from_where (may_go_again c.entry l) ready (all_ended own c.spool).whole g
       (subst (λ fs. Contains fs g) files_now at)
 
-  over_eight : (m : ℕ) → m < length behind_end.streams → length (streams_of m behind_end) ≡ 8
-  over_eight m there = at_line (m == l) refl
+  over_streams : (m : ℕ) → length (streams_of m behind_end) ≡ length (streams_of m before_end)
+  over_streams m = at_line (m == l) refl
     where
-      was_there : m < length before_end.streams
-      was_there = omega (arith, there, ap length streams_now, length-set before_end.streams l idles)
+      at_line : (b : Bool) → (m == l) ≡ b → length (streams_of m behind_end) ≡ length (streams_of m before_end)
+      at_line true e =
+          let same = eqb-true m l e in
+          ap (λ i. length (streams_of i behind_end)) same ∙ ap length line_now
+          ∙ length-replicate {A = Sender} (length (streams_of l before_end)) Idle
+          ∙ ap (λ i. length (streams_of i before_end)) (sym same)
+      at_line false e = ap length (other_line m (eqb-false m l e))
 
-      at_line : (b : Bool) → (m == l) ≡ b → length (streams_of m behind_end) ≡ 8
-      at_line true e = ap (λ i. length (streams_of i behind_end)) (eqb-true m l e) ∙ ap length line_now
-          ∙ length-replicate {A = Sender} (length (streams_of l before_end)) Idle ∙ sent.eight l inside
-      at_line false e = ap length (other_line m (eqb-false m l e)) ∙ sent.eight m was_there
-
-  over_there : (m k n : ℕ) → IsAbout m k n behind_end → has_file n behind_end ≡ true
-  over_there m k n about =
-      same_numbered n behind_end.files before_end.files (but_states behind_end.files before_end.files
-      (over_so l c).files)
-      ∙ sent.there m k n (about_before m k n about).1
-
-  over_sending : (m k n : ℕ) (g : WholeFile) → IsAbout m k n behind_end → Contains behind_end.files g → g.number ≡ n
-      → g.state ≡ state.Sending
-  over_sending m k n g about at same = at_tried (from_tried g at)
+  -- a file that a stream is about was there as it is
+  over_same : (m k n : ℕ) (g : WholeFile) → IsAbout m k n behind_end → g.number ≡ n
+      → WasOrIs (may_go_again c.entry l) ready (all_ended own c.spool).whole g → Contains c.spool.whole g
+  over_same m k n g about same = at_tried
     where
-      was_sending : (f : WholeFile) → Contains (all_ended own c.spool).whole f → f.number ≡ n → f.state ≡ state.Sending
-      was_sending f there number = sent.sending m k n f (about_before m k n about).1
-          (unended_ones own c.spool f there (subst (λ i. NoneAbout i own) (sym number) (none_own m k n about))) number
+      there : (f : WholeFile) → Contains (all_ended own c.spool).whole f → f.number ≡ n → Contains c.spool.whole f
+      there f at number = unended_ones own c.spool f at (subst (λ i. NoneAbout i own) (sym number) (none_own m k n about))
 
-      at_tried : WasOrIs (may_go_again c.entry l) ready (all_ended own c.spool).whole g → g.state ≡ state.Sending
-      at_tried (inl (f, there, e, is)) =
+      at_tried : WasOrIs (may_go_again c.entry l) ready (all_ended own c.spool).whole g → Contains c.spool.whole g
+      at_tried (inl (f, at, e, is)) =
+          let number = sym (ap (λ i. i.number) is) ∙ same in
           absurd (cc (sym e ∙ ap (λ s. is_refused s && goes_by c.entry l f)
-          (was_sending f there (sym (ap (λ i. i.number) is) ∙ same))))
-      at_tried (inr (there, e)) = was_sending g there same
+          (sent.sending m k n f (about_before m k n about).1 (there f at number) number)))
+      at_tried (inr (at, e)) = there g at same
 
-  over_go : (g : WholeFile) → Contains behind_end.files g → g.state ≡ state.Sending → IsOnStream g.number behind_end
-  over_go g at is = at_tried (from_tried g at)
+  -- one that is being sent was there, and no stream of the line is about it
+  over_sent : (g : WholeFile) → g.state ≡ state.Sending
+      → WasOrIs (may_go_again c.entry l) ready (all_ended own c.spool).whole g
+      → Contains c.spool.whole g × NoneAbout g.number own
+  over_sent g is (inl (f, at, e, same)) = absurd (cc (sym is ∙ ap (λ i. i.state) same))
+  over_sent g is (inr (at, e)) = all_ended_ones own c.spool g at is
+
+  over_on : (g : WholeFile) → NoneAbout g.number own → (m k : ℕ) → IsAbout m k g.number before_end → IsAbout m k g.number behind_end
+  over_on g none m k about = ap (λ senders. file_in (get_or senders k Idle)) (other_line m apart) ∙ about
     where
-      -- the stream that it goes on isn't of the line
-      on_other : Contains c.spool.whole g → NoneAbout g.number own → IsOnStream g.number behind_end
-      on_other there none =
-          let goes = sent.go g there is in
-          let apart : goes.line ≡ l → ⊥ = λ same. none goes.stream (
-          sym (ap (λ senders. file_in (get_or senders goes.stream Idle)) own_streams)
-          ∙ sym (ap (λ i. file_in (sender_on i goes.stream before_end)) same) ∙ goes.about
-          ) in
-          record {
-            line = goes.line;
-            stream = goes.stream;
-            about = ap (λ senders. file_in (get_or senders goes.stream Idle)) (other_line goes.line apart) ∙ goes.about;
-          }
+      apart : m ≡ l → ⊥
+      apart same =
+          none k (sym (ap (λ senders. file_in (get_or senders k Idle)) own_streams)
+          ∙ sym (ap (λ i. file_in (sender_on i k before_end)) same) ∙ about)
 
-      at_tried : WasOrIs (may_go_again c.entry l) ready (all_ended own c.spool).whole g → IsOnStream g.number behind_end
-      at_tried (inl (f, there, e, same)) = absurd (cc (sym is ∙ ap (λ i. i.state) same))
-      at_tried (inr (there, e)) = let was = all_ended_ones own c.spool g there is in on_other was.0 was.1
-
-  over_sent : AreBeingSent behind_end
-  over_sent = record {
-    eight = over_eight;
-    there = over_there;
-    sending = over_sending;
-    apart = λ m k i j n first second. sent.apart m k i j n (about_before m k n first).1
-        (about_before i j n second).1;
-    go = over_go;
+  over_carries : Carries before_end behind_end
+  over_carries = record {
+    lines = ap length streams_now ∙ length-set before_end.streams l idles;
+    streams = over_streams;
+    back = λ m k n about. (about_before m k n about).1;
+    there = λ m k n about there.
+        same_numbered n behind_end.files before_end.files (but_states behind_end.files before_end.files (over_so l c).files) ∙ there;
+    same = λ m k n g about at is. over_same m k n g about is (from_tried g at);
+    sent = λ g at is. (over_sent g is (from_tried g at)).0;
+    on = λ g at is. over_on g (over_sent g is (from_tried g at)).1;
   }
 
 pub sent_over : (l : ℕ) (c : Customer) → l < length c.lines → AreBeingSent (outgoing c)
     → AreBeingSent (outgoing (session_over l c))
-sent_over l c line sent = over_sent l c line sent
+sent_over l c line sent = carried (outgoing c) (outgoing (session_over l c)) (over_carries l c line sent) sent
 
 -- ---- new routes
 
--- a file that is being sent doesn't wait
-never_waits : (entry : CustomerEntry) (f : WholeFile) → f.state ≡ state.Sending → has_lost_route entry f ≡ false
-never_waits entry f is = ap (λ s. waits_in_state s && destination_unrouted entry (destination_of f.kind f.records)) is
+-- a file that waits isn't being sent
+waiting_idle : (s : State) (b : Bool) → (waits_in_state s && b) ≡ true → is_sending s ≡ false
+waiting_idle state.Ready b e = refl
+waiting_idle state.Held b e = refl
+waiting_idle state.Refused b e = refl
+waiting_idle state.Sending b e = absurd (cc e)
 
 pub sent_routes : (routes : List RouteEntry) (c : Customer) → AreBeingSent (outgoing c)
     → AreBeingSent (outgoing (customer_with_routes routes c))
-sent_routes routes c sent = record {
-  eight = sent.eight;
-  there = λ l k n about. same_numbered n behind.files c.spool.whole (held_numbers entry c.spool.whole)
-      ∙ sent.there l k n about;
-  sending = λ l k n g about at same. now_sending l k n g about same (held_so entry (outgoing c) g at);
-  apart = sent.apart;
-  go = λ g at is. now_goes g is (held_so entry (outgoing c) g at);
-}
-  where
-    entry : CustomerEntry
-    entry = entry_with routes c.entry
-
-    behind : Outgoing
-    behind = outgoing (customer_with_routes routes c)
-
-    now_sending :
-        (l k n : ℕ) (g : WholeFile) → IsAbout l k n (outgoing c) → g.number ≡ n → RoutesMoveFile entry (outgoing c) g
-        → g.state ≡ state.Sending
-    now_sending l k n g about same (is_as_before there e) = sent.sending l k n g about there same
-    now_sending l k n g about same (is_held f there lost held) =
-        absurd (cc (sym lost ∙ never_waits entry f (sent.sending l k n f about there
-        (sym (ap (λ i. i.number) held) ∙ same))))
-
-    now_goes : (g : WholeFile) → g.state ≡ state.Sending → RoutesMoveFile entry (outgoing c) g
-        → IsOnStream g.number behind
-    now_goes g is (is_as_before there e) =
-        let goes = sent.go g there is in record { line = goes.line; stream = goes.stream; about = goes.about }
-    now_goes g is (is_held f there lost held) = absurd (cc (sym is ∙ ap (λ i. i.state) held))
+sent_routes routes c sent =
+    let entry = entry_with routes c.entry in
+    carried (outgoing c) (outgoing (customer_with_routes routes c))
+    (changed_carries (has_lost_route entry) held_file (outgoing c) (λ f. refl)
+    (λ f. waiting_idle f.state (destination_unrouted entry (destination_of f.kind f.records))) (λ f e. refl) sent) sent
 
 -- ---- a customer that was just opened
 
-abbrev fresh_line_of : CustomerEntry → LineEntry → CustomerLine
-fresh_line_of entry line = idle_line (config_of entry line) line.streams
-
-fresh_streams : (entry : CustomerEntry) (lines : List LineEntry) (l : ℕ)
-    → l < length (streams_from_hub (map (fresh_line_of entry) lines))
-    → get_or (streams_from_hub (map (fresh_line_of entry) lines)) l [] ≡ replicate 8 Idle
-fresh_streams entry [] l there = absurd (omega (arith, there))
-fresh_streams entry (x ∷ xs) zero there = refl
-fresh_streams entry (x ∷ xs) (suc l) there = fresh_streams entry xs l (omega (arith, there))
-
--- all are idle
-fresh_idle : (entry : CustomerEntry) (lines : List LineEntry) (l k : ℕ)
-    → get_or (get_or (streams_from_hub (map (fresh_line_of entry) lines)) l []) k Idle ≡ Idle
-fresh_idle entry [] l k = refl
-fresh_idle entry (x ∷ xs) zero k = copies 8 k Idle
-fresh_idle entry (x ∷ xs) (suc l) k = fresh_idle entry xs l k
-
 pub sent_fresh : (entry : CustomerEntry) → AreBeingSent (outgoing (fresh_customer entry))
 sent_fresh entry = record {
-  eight = λ l there. ap length (fresh_streams entry entry.lines l there);
+  eight = λ l there.
+      ap (λ (senders : List Sender). length senders) (get_or-map (λ y. y.senders) c.lines l no_customer_line)
+      ∙ All-map (λ (y : CustomerLine). length y.senders ≡ 8) (λ line. idle_line (config_of entry line) line.streams) entry.lines
+      (λ i d h. refl) l no_customer_line (omega (arith, there, length-map c.lines (λ y. y.senders)));
   there = λ l k n about. absurd (none_about l k n about);
   sending = λ l k n f about at same. absurd (none_about l k n about);
   apart = λ l k m j n first second. absurd (none_about l k n first);
   go = λ f at is. absurd (omega (arith, at.1));
 }
   where
-    none_about : (l k n : ℕ) → IsAbout l k n (outgoing (fresh_customer entry)) → ⊥
-    none_about l k n about = cc (sym about ∙ ap (λ s. file_in s) (fresh_idle entry entry.lines l k))
+    c : Customer
+    c = fresh_customer entry
+
+    none_about : (l k n : ℕ) → IsAbout l k n (outgoing c) → ⊥
+    none_about l k n about =
+        cc (sym about ∙ ap (λ s. file_in s) (stream_is l k c) ∙ senders_idle c (fresh_lines_idle entry) l k)

@@ -16,8 +16,8 @@ use Rattle.njh_stream.specs.Sending.{file_in}
 use Rattle.njh_stream.specs.declared.sender.Sender.{Sender}
 use Rattle.njh_stream.specs.declared.sender.Sender.TheVariants.{Idle, Sending}
 use Rattle.njh_command.specs.CommandLaws.{CommandsMoveFilesSo}
-use Rattle.njh_command.specs.Commands.{aborted_where, changed_file, file_in_state, is_about, is_busy, is_of_name}
-use Rattle.njh_command.specs.Commands.{is_sending, may_change, state_after_reroute, with_new_destination, without_file}
+use Rattle.njh_command.specs.Commands.{aborted_where, file_in_state, is_about, is_busy, is_of_name, is_sending}
+use Rattle.njh_command.specs.Commands.{may_change, state_after_reroute, with_new_destination, without_file}
 use Rattle.njh_customer.specs.Acting.{after_record}
 use Rattle.njh_customer.specs.Customer.{Customer}
 use Rattle.njh_customer.specs.InOrder.{AreBeingSent, IsAbout}
@@ -27,9 +27,9 @@ use Rattle.njh_customer.specs.OutgoingFiles.{Outgoing, each_stream, has_file, ou
 use Rattle.njh_customer.specs.OutgoingFiles.{with_arrival, with_file_state, with_files, with_sender_on}
 use Rattle.njh_customer.specs.OutgoingFiles.{without_numbered}
 use Rattle.njh_customer.proofs.ActingMoves.{acts_so}
-use Rattle.njh_customer.proofs.FileListLaws.{any_numbered, changed_numbers, from_filter, same_numbered, into_map, Has}
-use Rattle.njh_customer.proofs.FileListLaws.{WasOrIs, first_or_later, found_numbered, from_where, has_one, into_filter}
-use Rattle.njh_customer.proofs.FileListLaws.{passes_filter, any_there}
+use Rattle.njh_customer.proofs.FileListLaws.{any_numbered, from_filter, same_numbered, into_map, Has, WasOrIs}
+use Rattle.njh_customer.proofs.FileListLaws.{first_or_later, found_numbered, from_where, has_one, into_filter}
+use Rattle.njh_customer.proofs.FileListLaws.{passes_filter, any_there, changed_where}
 use Rattle.njh_customer.proofs.FileNumbers.{AreDistinct}
 use Rattle.njh_customer.proofs.LeavingLaws.{without_files_files}
 use Rattle.njh_customer.proofs.RecordsChange.{both_are}
@@ -124,7 +124,7 @@ arrival_carries f x waits apart are = record {
 -- ---- a stream moves
 
 -- it is about the same file
-onward_carries : (l m : ℕ) (s : Sender) (x : Outgoing) → file_in s ≡ file_in (sender_on l m x)
+pub onward_carries : (l m : ℕ) (s : Sender) (x : Outgoing) → file_in s ≡ file_in (sender_on l m x)
     → Carries x (with_sender_on l m s x)
 onward_carries l m s x e = record {
   lines = set_lines l m s x;
@@ -239,34 +239,42 @@ completed_carries l m n s x before none are =
 
 -- ---- files change that aren't being sent, and aren't then
 
-changed_carries :
-    (p : WholeFile → Bool) (change : WholeFile → WholeFile) (x : Outgoing)
-    → ((f : WholeFile) → (change f).number ≡ f.number)
-    → ((f : WholeFile) → is_sending f.state ≡ false → is_sending (change f).state ≡ false) → AreBeingSent x
-    → Carries x (with_changed p change x)
-changed_carries p change x numbers idle are = record {
+pub changed_carries :
+    (p : WholeFile → Bool) (change : WholeFile → WholeFile) (x : Outgoing) → ((f : WholeFile) → (change f).number ≡ f.number)
+    → ((f : WholeFile) → p f ≡ true → is_sending f.state ≡ false)
+    → ((f : WholeFile) → p f ≡ true → is_sending (change f).state ≡ false) → AreBeingSent x
+    → Carries x (with_files (map (λ f. cond (p f) (change f) f) x.files) x)
+changed_carries p change x numbers idle still are = record {
   lines = refl;
   streams = λ l. refl;
   back = λ l k n about. about;
-  there = λ l k n about there. same_numbered n (map (changed_file p change) x.files) x.files
-      (changed_numbers p change x.files numbers) ∙ there;
-  same = λ l k n g about at is. same l k n g about is (from_where (may_change p) change x.files g at);
-  sent = λ g at sending. sent g sending (from_where (may_change p) change x.files g at);
+  there = λ l k n about there.
+      same_numbered n (map (λ f. cond (p f) (change f) f) x.files) x.files (changed_where (λ f. f.number) p change x.files numbers)
+      ∙ there;
+  same = λ l k n g about at is. same l k n g about is (from_where p change x.files g at);
+  sent = λ g at sending. sent g sending (from_where p change x.files g at);
   on = λ g at sending l k about. about;
 }
   where
-    same : (l k n : ℕ) (g : WholeFile) → IsAbout l k n x → g.number ≡ n → WasOrIs (may_change p) change x.files g
-        → Contains x.files g
+    same : (l k n : ℕ) (g : WholeFile) → IsAbout l k n x → g.number ≡ n → WasOrIs p change x.files g → Contains x.files g
     same l k n g about one (inl (f, at, e, is)) =
         let sending = are.sending l k n f about at (sym (numbers f) ∙ sym (ap (λ h. h.number) is) ∙ one) in
-        absurd (cc (sym (both_are (p f) (is_sending f.state) e).1 ∙ ap is_sending sending))
+        absurd (cc (sym (idle f e) ∙ ap is_sending sending))
     same l k n g about one (inr (at, e)) = at
 
-    sent : (g : WholeFile) → g.state ≡ state.Sending → WasOrIs (may_change p) change x.files g → Contains x.files g
+    sent : (g : WholeFile) → g.state ≡ state.Sending → WasOrIs p change x.files g → Contains x.files g
     sent g sending (inl (f, at, e, is)) =
-        absurd (cc (sym (idle f (both_are (p f) (is_sending f.state) e).1) ∙ ap (λ h. is_sending h.state) (sym is)
-        ∙ ap is_sending sending))
+        absurd (cc (sym (still f e) ∙ ap (λ h. is_sending h.state) (sym is) ∙ ap is_sending sending))
     sent g sending (inr (at, e)) = at
+
+-- by a command, of those that aren't being sent
+command_carries :
+    (p : WholeFile → Bool) (change : WholeFile → WholeFile) (x : Outgoing) → ((f : WholeFile) → (change f).number ≡ f.number)
+    → ((f : WholeFile) → is_sending f.state ≡ false → is_sending (change f).state ≡ false) → AreBeingSent x
+    → Carries x (with_changed p change x)
+command_carries p change x numbers idle =
+    changed_carries (may_change p) change x numbers (λ f e. (both_are (p f) (is_sending f.state) e).1)
+    (λ f e. idle f (both_are (p f) (is_sending f.state) e).1)
 
 reroute_idle : (s : State) → is_sending s ≡ false → is_sending (state_after_reroute s) ≡ false
 reroute_idle state.Ready e = refl
@@ -387,33 +395,17 @@ sent_by_acts entry l i x y (moves.refused streams k n after told about none e) b
 sent_by_acts entry l i x y (moves.completed streams k n told ended e) before behind are =
     carried x y (subst (Carries x) (sym e) (completed_carries l k n Idle x (ap (λ s. file_in s) ended) refl are)) are
 sent_by_acts entry l i x y (moves.holds who name given e) before behind are =
-    carried x y (subst (Carries x) (sym e) (changed_carries (is_of_name who name) (file_in_state state.Held) x
+    carried x y (subst (Carries x) (sym e) (command_carries (is_of_name who name) (file_in_state state.Held) x
     (λ f. refl) (λ f idle. refl) are)) are
 sent_by_acts entry l i x y (moves.releases who name given e) before behind are =
-    carried x y (subst (Carries x) (sym e) (changed_carries (is_of_name who name) (file_in_state state.Ready) x
+    carried x y (subst (Carries x) (sym e) (command_carries (is_of_name who name) (file_in_state state.Ready) x
     (λ f. refl) (λ f idle. refl) are)) are
 sent_by_acts entry l i x y (moves.reroutes who name node line given route e) before behind are =
     carried x y (subst (Carries x) (sym e)
-    (changed_carries (is_of_name who name) (with_new_destination node) x (λ f. refl)
+    (command_carries (is_of_name who name) (with_new_destination node) x (λ f. refl)
     (λ f idle. reroute_idle f.state idle) are)) are
 sent_by_acts entry l i x y (moves.cancels who name given e) before behind are =
     carried x y (subst (Carries x) (sym e) (cancelled_carries (is_of_name who name) x before are)) are
-
-pub streams_by_acts : (entry : CustomerEntry) (l : ℕ) (i : Item) (x y : Outgoing) → Acts entry l i x y
-    → length y.streams ≡ length x.streams
-streams_by_acts entry l i x y (moves.comes rcb srcb f is ready whole e) = ap (λ z. length z.streams) e
-streams_by_acts entry l i x y (moves.permitted streams k n told asked e) = ap (λ z. length z.streams) e ∙ set_lines l k
-    (Sending n 0) x
-streams_by_acts entry l i x y (moves.refused streams k n after told about none e) =
-    ap (λ z. length z.streams) e ∙ set_lines l k after (with_files (with_file_state n state.Refused x.files) x)
-streams_by_acts entry l i x y (moves.completed streams k n told ended e) =
-    ap (λ z. length z.streams) e ∙ set_lines l k Idle (with_files (without_numbered n x.files) x)
-streams_by_acts entry l i x y (moves.holds who name given e) = ap (λ z. length z.streams) e
-streams_by_acts entry l i x y (moves.releases who name given e) = ap (λ z. length z.streams) e
-streams_by_acts entry l i x y (moves.reroutes who name node line given route e) = ap (λ z. length z.streams) e
-streams_by_acts entry l i x y (moves.cancels who name given e) =
-    let p = is_of_name who name in
-    ap (λ z. length z.streams) e ∙ all_lines (busy_numbers p x.files) (with_files (filter (λ f. not (p f)) x.files) x)
 
 pub sent_record :
     CommandsMoveFilesSo → (l : ℕ) (i : Item) (c : Customer) → AreDistinct c.spool.whole
