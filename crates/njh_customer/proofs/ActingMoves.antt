@@ -83,12 +83,10 @@ arrived_acts : (l k : ℕ) (a : Arrival) (i : Item) (c : Customer) → Brings a 
     → Acted l i c (after_stream_arrival l k a c)
 arrived_acts l k a i c brings =
     at_files (received_so (SameWhole c.spool) (λ j t. Filed j c.spool t) (files_in_arrivals c.spool) c.entry l
-    (kind_of k)
-    (receiver_at k (line_at l c.lines)) a i c.spool brings (refl, refl))
+    (kind_of k) (receiver_at k (line_at l c.lines)) a i c.spool brings (refl, refl))
   where
     streams : streams_from_hub (after_stream_arrival l k a c).lines ≡ streams_from_hub c.lines
-    streams =
-        arrived_so l (λ lines. streams_from_hub lines ≡ streams_from_hub c.lines)
+    streams = arrived_so l (λ lines. streams_from_hub lines ≡ streams_from_hub c.lines)
         (senders_receiving l c.lines) k a c refl
 
     parts_are : (files : List WholeFile) (arrived : ℕ) → (after_stream_arrival l k a c).spool.whole ≡ files
@@ -115,8 +113,7 @@ module _ (l k streams srcb : ℕ) (c : Customer) (names : stream_of streams srcb
       → Acted l (Control answer srcb) c (with_sender_outcome l k (record { sender = x; spool = c.spool }) c)
   stays answer x at = record {
     entry = refl;
-    moves = inl
-        (sent_is l k x c.spool c refl ∙ same_stream l k x (outgoing c) at);
+    moves = inl (sent_is l k x c.spool c refl ∙ same_stream l k x (outgoing c) at);
   }
 
   permitted_acts : (x : Sender) → sender_on l k (outgoing c) ≡ x
@@ -203,8 +200,7 @@ module _ (l : ℕ) (i : Item) (c : Customer) (n : Nodal) where
       let files = map (changed_file (is_of_name (sender_of n) name) (file_in_state Held)) c.spool.whole in
       record {
         entry = refl;
-        moves = inr (moves.holds (sender_of n) name (given (commands.Hold name) says)
-            (left_so done files left quiet));
+        moves = inr (moves.holds (sender_of n) name (given (commands.Hold name) says) (left_so done files left quiet));
       }
   moved_acts done given (released name says left quiet) =
       let files = map (changed_file (is_of_name (sender_of n) name) (file_in_state Ready)) c.spool.whole in
@@ -232,10 +228,8 @@ module _ (l : ℕ) (i : Item) (c : Customer) (n : Nodal) where
             ∙ sym (all_given_up (busy_numbers p c.spool.whole) kept c.spool.arrived c.lines)));
       }
 
-  command_acts :
-      CommandsMoveFilesSo → (srcb : ℕ) (bytes : List ℕ) → i ≡ Data 0x9a srcb bytes → nodal_of bytes ≡ Ok n
-      → route_of c.entry n.to ≡ Here
-      → is_user_command n ≡ true → Acted l i c (after_user_command n c)
+  command_acts : CommandsMoveFilesSo → (srcb : ℕ) (bytes : List ℕ) → i ≡ Data 0x9a srcb bytes → nodal_of bytes ≡ Ok n
+      → route_of c.entry n.to ≡ Here → is_user_command n ≡ true → Acted l i c (after_user_command n c)
   command_acts move srcb bytes is reads here user = moved_acts (message_outcome c.entry (sender_of n) n.message c.spool)
       (λ x says. record {
         srcb = srcb;
@@ -276,6 +270,5 @@ acts_so move l i c = at i (after_record l i c) (record_does l c i)
     at _ _ (does.knows_no_node i n) =
         lines_alone l i (with_message_to c.entry (sender_of n) (node_unknown n.to) c.lines) c
         (told_so l (λ lines. streams_from_hub lines ≡ streams_from_hub c.lines) same c.entry (sender_of n)
-        (node_unknown n.to)
-        c.lines refl)
+        (node_unknown n.to) c.lines refl)
     at _ _ (does.passes_on i k m) = lines_alone l i (with_waiting k m c.lines) c (same.waits k m c.lines refl)

@@ -32,12 +32,12 @@ either_front n false x y first second = second
 
 repeat_leaves : (n count : ℕ) (rest : List ℕ) → length rest < n → FrontLeavesLess n (repeat_front count rest)
 repeat_leaves n count [] less = tt
-repeat_leaves n count (byte ∷ rest) less = omega (arith, less)
+repeat_leaves n count (byte ∷ rest) less = omega arith
 
 literal_leaves : (n count : ℕ) (rest : List ℕ) → length rest < n → FrontLeavesLess n (literal_front count rest)
 literal_leaves n count rest less =
     either_front n (nat_le count (length rest)) (OfItem (literal (take count rest)) (drop count rest)) Cut
-    (omega (arith, less, length-drop count rest)) tt
+    (omega (arith, length-drop count rest)) tt
 
 front_leaves : (bytes : List ℕ) → FrontLeavesLess (length bytes) (front_of bytes)
 front_leaves [] = tt
@@ -60,15 +60,14 @@ LeavesLess n (Err e) = Unit {0}
 
 behind_leaves : (front : List ℕ) (m n : ℕ) (r : Result Unspelled Fault) → m < n → LeavesLess m r
     → LeavesLess n (with_front front r)
-behind_leaves front m n (Ok r) less leaves = omega (arith, less, leaves)
+behind_leaves front m n (Ok r) less leaves = omega arith
 behind_leaves front m n (Err e) less leaves = tt
 
 within_leaves : (k : ℕ) (bytes : List ℕ) → LeavesLess (length bytes) (unspelled_within k bytes)
 within_leaves zero bytes = tt
 within_leaves (suc k) bytes = at_front (front_of bytes) (front_leaves bytes) (λ rest. within_leaves k rest)
   where
-    at_front :
-        (front : Front) → FrontLeavesLess (length bytes) front
+    at_front : (front : Front) → FrontLeavesLess (length bytes) front
         → ((rest : List ℕ) → LeavesLess (length rest) (unspelled_within k rest))
         → LeavesLess (length bytes) (elim front [
           | OfItem item rest ↦ with_front (added_bytes item) (unspelled_within k rest)
@@ -96,18 +95,16 @@ one_item rcb srcb r = at_end r.end
     at_length true = omega arith
     at_length false = omega arith
 
-    at_end : (e : End)
-        → data_in (elim e [
-          | Record ↦ cond (nat_le (length r.contents) 256) (Data rcb srcb r.contents)
-              (Long rcb srcb)
-          | Abort ↦ Aborted rcb srcb
-        ]) ≤ 1
+    at_end : (e : End) → data_in (elim e [
+      | Record ↦ cond (nat_le (length r.contents) 256) (Data rcb srcb r.contents) (Long rcb srcb)
+      | Abort ↦ Aborted rcb srcb
+    ]) ≤ 1
     at_end Record = at_length (nat_le (length r.contents) 256)
     at_end Abort = omega arith
 
 spelled_takes : (rcb srcb n : ℕ) (r : Result Unspelled Fault) → LeavesLess n r
     → TakesEnough (suc (suc n)) (record_of_spelling rcb srcb r)
-spelled_takes rcb srcb n (Ok r) less = omega (arith, less, one_item rcb srcb r)
+spelled_takes rcb srcb n (Ok r) less = omega (arith, one_item rcb srcb r)
 spelled_takes rcb srcb n (Err e) less = tt
 
 control_leaves : (rest : List ℕ) → length (after_control rest) ≤ length rest
@@ -148,17 +145,15 @@ AreFew n (Err e) = Unit {0}
 
 one_more_few : (i : Item) (m n : ℕ) (r : Result (List Item) BlockFault) → 3 * data_in i + m ≤ n → AreFew m r
     → AreFew n (with_item i r)
-one_more_few i m n (Ok items) less few = omega (arith, less, few)
+one_more_few i m n (Ok items) less few = omega arith
 one_more_few i m n (Err e) less few = tt
 
 items_few : (k : ℕ) (bytes : List ℕ) → AreFew (length bytes) (read_items k bytes)
 items_few zero bytes = omega arith
 items_few (suc k) bytes = at_first (first_record bytes) (first_takes bytes) (λ rest. items_few k rest)
   where
-    at_first :
-        (r : Result (Option First) BlockFault) → TakesEnough (length bytes) r
-        → ((rest : List ℕ) → AreFew (length rest) (read_items k rest))
-        → AreFew (length bytes) (elim r [
+    at_first : (r : Result (Option First) BlockFault) → TakesEnough (length bytes) r
+        → ((rest : List ℕ) → AreFew (length rest) (read_items k rest)) → AreFew (length bytes) (elim r [
           | Ok first ↦ elim first [ None ↦ Ok [] | Some x ↦ with_item x.item (read_items k x.rest) ]
           | Err e ↦ Err e
         ])
@@ -173,7 +168,7 @@ BlockIsFew n (Err e) = Unit {0}
 
 with_few : (bcb : ℕ) (fcs : ℕ × ℕ) (m n : ℕ) (r : Result (List Item) BlockFault) → m ≤ n → AreFew m r
     → BlockIsFew n (block_with bcb fcs r)
-with_few bcb fcs m n (Ok items) less few = omega (arith, less, few)
+with_few bcb fcs m n (Ok items) less few = omega arith
 with_few bcb fcs m n (Err e) less few = tt
 
 either_block : (n : ℕ) (b : Bool) (x y : Result Block BlockFault) → BlockIsFew n x → BlockIsFew n y

@@ -39,13 +39,11 @@ marked_records n m state (f ∷ fs) = at_mark (f.number == m) (f.number == n) (m
 
     at_number : (c : Bool) (g : WholeFile) → g.records ≡ f.records
         → records_of (find (λ x. x.number == n) (with_file_state m state fs)) ≡ records_of
-        (find (λ x. x.number == n) fs)
-        → found c g (with_file_state m state fs) ≡ found c f fs
+        (find (λ x. x.number == n) fs) → found c g (with_file_state m state fs) ≡ found c f fs
     at_number true g same rest = same
     at_number false g same rest = rest
 
-    at_mark :
-        (b c : Bool) → records_of (find (λ x. x.number == n) (with_file_state m state fs)) ≡ records_of
+    at_mark : (b c : Bool) → records_of (find (λ x. x.number == n) (with_file_state m state fs)) ≡ records_of
         (find (λ x. x.number == n) fs)
         → records_of (find (λ x. x.number == n) (cond b (record f { state = state }) f ∷ with_file_state m state fs))
         ≡ records_of (cond (f.number == n) (Some f) (find (λ x. x.number == n) fs))
@@ -84,11 +82,9 @@ no_record n p s past = at_file (whole_numbered n s) past
     none : (records : List Stored) → length records ≤ p → slice_get records p ≡ None
     none records h = at_place (slice_get_cases records p).1
       where
-        at_place :
-            ((r : Stored) × (p < length records) × (slice_get records p ≡ Some r) × (get_or records p r ≡ r))
-            ⊎ ((length records ≤ p) × (slice_get records p ≡ None))
-            → slice_get records p ≡ None
-        at_place (inl found) = absurd (omega (arith, found.1, h))
+        at_place : ((r : Stored) × (p < length records) × (slice_get records p ≡ Some r) × (get_or records p r ≡ r))
+            ⊎ ((length records ≤ p) × (slice_get records p ≡ None)) → slice_get records p ≡ None
+        at_place (inl found) = absurd (omega (arith, found.1))
         at_place (inr past) = past.1
 
     at_file : (o : Option WholeFile) → length (records_of o) ≤ p → record_where p o ≡ None
@@ -120,15 +116,12 @@ behind_still goes k n p x y past (ended at one) (sends h) = absurd (cc (sym h.be
 -- ---- the laws of the crate of blocks
 
 abbrev pub CarriesInOrder : Type 0
-CarriesInOrder =
-    (goes : WholeFile → Bool) (k n p : ℕ) (x : Filling) → k < 8 → k < length x.outlet.senders
-    → sender_at k x.outlet ≡ Sending n p
-    → p ≤ length (file_records n x.spool)
+CarriesInOrder = (goes : WholeFile → Bool) (k n p : ℕ) (x : Filling) → k < 8 → k < length x.outlet.senders
+    → sender_at k x.outlet ≡ Sending n p → p ≤ length (file_records n x.spool)
     → carrying.Carries k n p (file_records n x.spool) (records_under (rcb_of k) x.block.items) (filled_block goes x)
 
 abbrev pub IsQuiet : Type 0
-IsQuiet =
-    (goes : WholeFile → Bool) (k : ℕ) (x : Filling) → k < 8 → k < length x.outlet.senders
+IsQuiet = (goes : WholeFile → Bool) (k : ℕ) (x : Filling) → k < 8 → k < length x.outlet.senders
     → sends_file (sender_at k x.outlet) ≡ false
     → records_under (rcb_of k) (filled_block goes x).block.items ≡ records_under (rcb_of k) x.block.items
 
@@ -199,8 +192,7 @@ module _ (in_order : CarriesInOrder) (quiet : IsQuiet) (each : SourcesMove) (fil
           on_its_way n p m (stream_now entry l base inside k x ∙ at)
           (let size : length (drop p (file_records n x.spool)) ≡ length (file_records n x.spool) - p = length-drop p
           (file_records n x.spool) in
-          length-take-le m (drop p (file_records n x.spool)) (omega (arith, size, some)))
-          (stream_now entry l base inside k y ∙ now)
+          length-take-le m (drop p (file_records n x.spool)) (omega arith)) (stream_now entry l base inside k y ∙ now)
           (items ∙ ap (λ front. front ++ map (record_item k) (take m (drop p (file_records n x.spool)))) before_is)
       within n p at fits (carrying.at_its_end now items) =
           to_its_end n p (stream_now entry l base inside k x ∙ at) (stream_now entry l base inside k y ∙ now)
@@ -209,8 +201,7 @@ module _ (in_order : CarriesInOrder) (quiet : IsQuiet) (each : SourcesMove) (fil
 
       past : (n p : ℕ) → sender_at k x.outlet ≡ Sending n p → length (file_records n x.spool) ≤ p → Behind k n p y
           → Carries l k y.block.items (out_of l base x) (out_of l base y)
-      past n p at over (stays now items) =
-          on_its_way n p 0 (stream_now entry l base inside k x ∙ at) refl
+      past n p at over (stays now items) = on_its_way n p 0 (stream_now entry l base inside k x ∙ at) refl
           (stream_now entry l base inside k y ∙ now ∙ ap (Sending n) (omega arith)) items
       past n p at over (ended now items) =
           to_its_end n p (stream_now entry l base inside k x ∙ at) (stream_now entry l base inside k y ∙ now)
@@ -223,8 +214,7 @@ module _ (in_order : CarriesInOrder) (quiet : IsQuiet) (each : SourcesMove) (fil
       at_place n p at true e =
           let fits = leb-true p (length (file_records n x.spool)) e in
           within n p at fits (in_order (goes_by entry l) k n p x few in_line at fits)
-      at_place n p at false e =
-          let over : length (file_records n x.spool) ≤ p = omega
+      at_place n p at false e = let over : length (file_records n x.spool) ≤ p = omega
           (arith, leb-false p (length (file_records n x.spool)) e) in
           past n p at over (behind_filled entry l k n p base x inside few in_line none at over)
 

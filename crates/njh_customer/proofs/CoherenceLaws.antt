@@ -35,10 +35,8 @@ use Rattle.njh_customer.proofs.SpoolWalks.{received_so}
 
 -- what the streams of a customer owe to each other, as the crate of streams says it
 abbrev pub ArrivalsTie : Type 0
-ArrivalsTie =
-    (entry : CustomerEntry) (l k : ℕ) (a : Arrival) (lines : List (List Receiver)) (s : CustomerSpool)
-    → l < length lines
-    → k < length (streams_at l lines) → AreTied lines s
+ArrivalsTie = (entry : CustomerEntry) (l k : ℕ) (a : Arrival) (lines : List (List Receiver)) (s : CustomerSpool)
+    → l < length lines → k < length (streams_at l lines) → AreTied lines s
     → AreTied (with_stream l k (received_arrival entry l (kind_of k) (stream_at l k lines) a s).receiver lines)
     (received_arrival entry l (kind_of k) (stream_at l k lines) a s).spool
 
@@ -138,13 +136,12 @@ keeps_moved l k a c records line_there stream_there coherent =
     let eight = coherent.streamed l no_customer_line line_there in
     let at : streams_at l lines ≡ (line_at l c.lines).receivers = get_or-map
     (λ x. x.receivers) c.lines l no_customer_line in
-    let there : l < length lines = omega (arith, line_there, length-map c.lines (λ x. x.receivers)) in
-    let in_line : k < length (streams_at l lines) = omega (arith, stream_there, eight.0, ap length at) in
+    let there : l < length lines = omega (arith, length-map c.lines (λ x. x.receivers)) in
+    let in_line : k < length (streams_at l lines) = omega (arith, ap length at) in
     let tied = records.tied c.entry l k a lines c.spool there in_line coherent.tied in
     let now : AreTied (with_stream l k done.receiver lines) done.spool =
     subst (λ x. let d = received_arrival c.entry l (kind_of k) x a c.spool in
-    AreTied (with_stream l k d.receiver lines) d.spool)
-    (stream_is l k c.lines) tied in
+    AreTied (with_stream l k d.receiver lines) d.spool) (stream_is l k c.lines) tied in
     record {
       tied = subst (λ rs. AreTied rs done.spool) (sym (with_streams l k done.receiver c.lines)) now;
       streamed = All-set HasStreams c.lines l (with_receiver k done.receiver (line_at l c.lines))

@@ -26,8 +26,7 @@ use Rattle.njh_customer.specs.Disregarding.{BadBlocksAreDisregarded, GarbledIsDi
 abbrev by_mark : Bool → ℕ → Session → Verdict → Customer → CustomerStep
 by_mark up l s v c = carried_out l v (record c {
   entry = with_raised_line up l c.entry;
-  lines = on_line l
-      (in_state (with_session s)) c.lines;
+  lines = on_line l (in_state (with_session s)) c.lines;
 })
 
 abbrev by_parts : ℕ → Session → Verdict → Customer → CustomerStep
@@ -81,23 +80,18 @@ module _ (l : ℕ) (c : Customer) where
   ends = ap (λ lines. silent (session_over l (lines_as c lines)))
       (again (on_line l (in_state (with_session (end (session_on l c)).session)) c.lines))
 
-  try_is : (b : Bool) → ((session_on l c).tries == 5) ≡ b
-      → try_nak (session_on l c) ≡ cond b (end (session_on l c))
+  try_is : (b : Bool) → ((session_on l c).tries == 5) ≡ b → try_nak (session_on l c) ≡ cond b (end (session_on l c))
       (with_reply (reply.Control control.Nak) (record (session_on l c) { tries = (session_on l c).tries + 1 }))
-  try_is b e =
-      ap (λ t. cond t (end (session_on l c)) (with_reply (reply.Control control.Nak)
+  try_is b e = ap (λ t. cond t (end (session_on l c)) (with_reply (reply.Control control.Nak)
       (record (session_on l c) { tries = (session_on l c).tries + 1 }))) e
 
   -- NAK goes out
   one_try : (s : Session) → s.phase ≡ (session_on l c).phase → l < length c.lines
       → IsButSession l c (by_parts l s (with_reply (reply.Control control.Nak) s).verdict c).after
-  one_try s same there =
-      subst (λ t. IsButSession l c t.after) (sym (unraised l s
-      (with_reply (reply.Control control.Nak) s).verdict c same))
-      (record {
+  one_try s same there = subst (λ t. IsButSession l c t.after) (sym (unraised l s
+      (with_reply (reply.Control control.Nak) s).verdict c same)) (record {
         session = without_turn s;
-        after = ap (lines_as c)
-            (ap (λ x. set (on_line l (in_state (with_session s)) c.lines) l
+        after = ap (lines_as c) (ap (λ x. set (on_line l (in_state (with_session s)) c.lines) l
             (in_state (with_session (without_turn x.state.session)) x))
             (get_or-set_same c.lines l (in_state (with_session s) (line_at l c.lines)) no_customer_line there)
             ∙ set-set c.lines l (in_state (with_session s) (line_at l c.lines))
@@ -152,7 +146,7 @@ module _ (l : ℕ) (c : Customer) where
   not_there e = record {
     down = λ _. refl;
     goes_on = λ _. unchanged;
-    over = λ there up tries. absurd (omega (arith, ltb-false l (length c.lines) e, there));
+    over = λ there up tries. absurd (omega (arith, ltb-false l (length c.lines) e));
   }
 
   where_it_is : (s : CustomerStep) (b : Bool) → nat_lt l (length c.lines) ≡ b
@@ -162,8 +156,7 @@ module _ (l : ℕ) (c : Customer) where
 
 pub spoiled : SpoiledIsDisregarded
 unfolding after_frame
-spoiled l c =
-    where_it_is l c (after_line_input l input.Spoiled c) (nat_lt l (length c.lines)) refl
+spoiled l c = where_it_is l c (after_line_input l input.Spoiled c) (nat_lt l (length c.lines)) refl
     (input_disregarded l c input.Spoiled refl)
 
 pub bad_blocks : BadBlocksAreDisregarded
@@ -173,6 +166,5 @@ bad_blocks l text fault c e = where_it_is l c (text_read l (read_block text) c) 
 
 pub garbled : GarbledIsDisregarded
 unfolding after_signal
-garbled l c =
-    where_it_is l c (after_line_input l input.Garbled c) (nat_lt l (length c.lines)) refl
+garbled l c = where_it_is l c (after_line_input l input.Garbled c) (nat_lt l (length c.lines)) refl
     (input_disregarded l c input.Garbled refl)

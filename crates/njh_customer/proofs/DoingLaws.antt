@@ -48,10 +48,8 @@ use Rattle.njh_customer.proofs.StepWalks.{frame_holds, signal_holds}
 
 -- what a block carries of each stream's file
 abbrev pub BlocksCarry : Type 0
-BlocksCarry =
-    (entry : CustomerEntry) (l k : ℕ) (base : List (List Sender)) (x : Filling) → l < length base → k < 8
-    → k < length x.outlet.senders
-    → x.block.items ≡ []
+BlocksCarry = (entry : CustomerEntry) (l k : ℕ) (base : List (List Sender)) (x : Filling) → l < length base → k < 8
+    → k < length x.outlet.senders → x.block.items ≡ []
     → Carries l k (filled_block (goes_by entry l) x).block.items (out_of l base x)
     (out_of l base (filled_block (goes_by entry l) x))
 
@@ -76,10 +74,8 @@ as_set_up x y sent config last (sign_on kind e) = sign_on kind
 as_set_up x y sent config last (count bcb fcs expected e) = count bcb fcs expected e
 as_set_up x y sent config last (without_records bcb fcs e) = without_records bcb fcs e
 
-goes_out_as :
-    (entry : CustomerEntry) (l : ℕ) (x y : LineState) (u v : Outgoing) (sent : List ℕ) → x.config ≡ y.config
-    → x.last ≡ y.last
-    → GoesOut entry l x u v sent → GoesOut entry l y u v sent
+goes_out_as : (entry : CustomerEntry) (l : ℕ) (x y : LineState) (u v : Outgoing) (sent : List ℕ) → x.config ≡ y.config
+    → x.last ≡ y.last → GoesOut entry l x u v sent → GoesOut entry l y u v sent
 goes_out_as entry l x y u v sent config last (no_block same no_new) = no_block same
     (as_set_up x y sent config last no_new)
 goes_out_as entry l x y u v sent config last (new_block bcb fcs items e leads carries) = new_block bcb fcs items e leads
@@ -128,7 +124,7 @@ module _ (carry : BlocksCarry) (commands : CommandsMoveFilesSo) where
       base = streams_from_hub c.lines
 
       inside : l < length base
-      inside = omega (arith, there, length-map c.lines (λ x. x.senders))
+      inside = omega (arith, length-map c.lines (λ x. x.senders))
 
       begins : out_of l base first ≡ outgoing c
       begins = next_begins l c
@@ -138,10 +134,9 @@ module _ (carry : BlocksCarry) (commands : CommandsMoveFilesSo) where
 
       carries : (k : ℕ) → k < 8 → k < length (streams_of l (outgoing c))
           → Carries l k full.block.items (outgoing c) (out_of l base full)
-      carries k few in_line =
-          let here : streams_of l (outgoing c) ≡ (line_at l c.lines).senders = get_or-map
+      carries k few in_line = let here : streams_of l (outgoing c) ≡ (line_at l c.lines).senders = get_or-map
           (λ y. y.senders) c.lines l no_customer_line in
-          let in_outlet : k < length first.outlet.senders = omega (arith, in_line, ap length here) in
+          let in_outlet : k < length first.outlet.senders = omega (arith, ap length here) in
           subst (λ x. Carries l k full.block.items x (out_of l base full)) begins
           (carry c.entry l k base first inside few in_outlet refl)
 
@@ -164,8 +159,7 @@ module _ (carry : BlocksCarry) (commands : CommandsMoveFilesSo) where
       at (reply.Control which) = still (reply.Control which) refl (control_is line line which)
       at reply.Again = still reply.Again refl (again refl)
       at (reply.SignOn kind) = still (reply.SignOn kind) refl (sign_on kind refl)
-      at (reply.Sequence expected) =
-          still (reply.Sequence expected) refl (count (own_block (own_fcs c.spool) line).bcb
+      at (reply.Sequence expected) = still (reply.Sequence expected) refl (count (own_block (own_fcs c.spool) line).bcb
           (own_fcs c.spool) expected refl)
       at (reply.Next or_ack0) = next_goes_out l or_ack0 c there
 
@@ -182,14 +176,11 @@ module _ (carry : BlocksCarry) (commands : CommandsMoveFilesSo) where
 
   kept_at : (l : ℕ) (c d : Customer) → kepts d.lines ≡ kepts c.lines
       → kept (line_at l d.lines) ≡ kept (line_at l c.lines)
-  kept_at l c d e =
-      sym (get_or-map kept d.lines l no_customer_line) ∙ ap (λ ps. get_or ps l (kept no_customer_line)) e
+  kept_at l c d e = sym (get_or-map kept d.lines l no_customer_line) ∙ ap (λ ps. get_or ps l (kept no_customer_line)) e
       ∙ get_or-map kept c.lines l no_customer_line
 
-  carried_does :
-      (l : ℕ) (items : List Item) (v : Verdict) (c d : Customer) (up : Bool) → Judged up l items c d
-      → l < length d.lines
-      → Does l items c (carried_out l v d)
+  carried_does : (l : ℕ) (items : List Item) (v : Verdict) (c d : Customer) (up : Bool) → Judged up l items c d
+      → l < length d.lines → Does l items c (carried_out l v d)
   carried_does l items v c d up judged there =
       let sent = (replied_to l v.reply d).after in
       record {
@@ -200,8 +191,7 @@ module _ (carry : BlocksCarry) (commands : CommandsMoveFilesSo) where
         answer = subst (λ entry. GoesOut entry l (line_at l c.lines).state (outgoing d) (outgoing sent)
             (replied_to l v.reply d).frame) judged.entry
             (goes_out_as d.entry l (line_at l d.lines).state (line_at l c.lines).state (outgoing d) (outgoing sent)
-            (replied_to l v.reply d).frame
-            judged.config judged.last (reply_goes_out l v.reply d there));
+            (replied_to l v.reply d).frame judged.config judged.last (reply_goes_out l v.reply d there));
         end = subst (λ entry. Ends entry l (outgoing sent) (session_over_where v.ended l sent)) judged.entry
             (ended_so l v.ended sent);
         lines = over_lines l v.ended sent
@@ -241,7 +231,7 @@ module _ (carry : BlocksCarry) (commands : CommandsMoveFilesSo) where
   input_does l items came c there =
       let d = accepted_on l came c in
       let judged = accepted_judged l items came c d (acting_where commands false l items d) in
-      carried_does l items (verdict_on l came c) c d (goes_up_by l came c) judged (omega (arith, there, judged.lines))
+      carried_does l items (verdict_on l came c) c d (goes_up_by l came c) judged (omega arith)
 
   ended_does : (l : ℕ) (items : List Item) (c d : Customer) (up : Bool) → Judged up l items c d
       → Does l items c (silent (session_ended l d))
@@ -260,8 +250,7 @@ module _ (carry : BlocksCarry) (commands : CommandsMoveFilesSo) where
 
   behind_does :
       (l : ℕ) (items : List Item) (ended : Bool) (v : Verdict) (c d : Customer) (up : Bool) → Judged up l items c d
-      → l < length d.lines
-      → Does l items c (behind_records ended l v d)
+      → l < length d.lines → Does l items c (behind_records ended l v d)
   behind_does l items true v c d up judged there = ended_does l items c d up judged
   behind_does l items false v c d up judged there = carried_does l items v c d up judged there
 
@@ -271,8 +260,7 @@ module _ (carry : BlocksCarry) (commands : CommandsMoveFilesSo) where
       let a = acted_where v.acts l b.items (accepted_on l (block_input b) c) in
       let judged = accepted_judged l b.items (block_input b) c a.customer
       (acting_where commands v.acts l b.items (accepted_on l (block_input b) c)) in
-      behind_does l b.items a.ended v c a.customer (goes_up_by l (block_input b) c) judged
-      (omega (arith, there, judged.lines))
+      behind_does l b.items a.ended v c a.customer (goes_up_by l (block_input b) c) judged (omega arith)
 
   silent_does : (l : ℕ) (items : List Item) (c : Customer) → Does l items c (silent c)
   silent_does l items c = record {

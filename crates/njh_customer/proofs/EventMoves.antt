@@ -37,10 +37,8 @@ pub leads_then : (M : Outgoing → Outgoing → Type 0) (x y z : Outgoing) → L
 leads_then M _ _ z (nowhere x) second = second
 leads_then M _ _ z (onward x u y move later) second = onward x u z move (leads_then M u y z later second)
 
-more_records :
-    (entry : CustomerEntry) (l : ℕ) (some items : List Item) (x y : Outgoing)
-    → ((i : Item) → Contains some i → Contains items i)
-    → Moves entry l some x y → Moves entry l items x y
+more_records : (entry : CustomerEntry) (l : ℕ) (some items : List Item) (x y : Outgoing)
+    → ((i : Item) → Contains some i → Contains items i) → Moves entry l some x y → Moves entry l items x y
 more_records entry l some items x y among (by_record (i, there, acts)) = by_record (i, among i there, acts)
 more_records entry l some items x y among (by_sending sends) = by_sending sends
 more_records entry l some items x y among (by_end over) = by_end over
@@ -79,8 +77,7 @@ IsMarkedAt l new old = (up : Bool) × (new ≡ entry_marked l up old)
 unmarked_at : (l : ℕ) (entry : CustomerEntry) → IsMarkedAt l entry entry
 unmarked_at l entry = (
   get_or entry.up l false,
-  sym (ap (λ (up : List Bool). record entry { up = up })
-      (set-get_or entry.up l false)),
+  sym (ap (λ (up : List Bool). record entry { up = up }) (set-get_or entry.up l false)),
 )
 
 raised_at : (up : Bool) (l : ℕ) (entry : CustomerEntry) → IsMarkedAt l (with_raised_line up l entry) entry
@@ -121,8 +118,7 @@ does_entry l items c s does =
     own_marks s.after.entry c.entry (set c.entry.up l mark.0) mark.1
 
 -- the moves of a step, by the marks of their moments
-pub does_moves_by :
-    (l : ℕ) (items more : List Item) (c : Customer) (s : CustomerStep)
+pub does_moves_by : (l : ℕ) (items more : List Item) (c : Customer) (s : CustomerStep)
     → ((i : Item) → Contains items i → Contains more i) → Does l items c s
     → LeadsByMoves (MovesBy c.entry (Records l more)) (outgoing c) (outgoing s.after)
 does_moves_by l items more c s among does =
@@ -169,8 +165,7 @@ module _ (frames : FramesDoSo) where
                 (does_moves_by l (records_of_frame received) items c step
                 (λ i. Contains-append_left (records_of_frame received) later i) does)
                 (leads_as (MovesBy step.after.entry (Records l later)) (MovesBy c.entry (Records l items))
-                (outgoing step.after) (outgoing end)
-                (λ u v move. (
+                (outgoing step.after) (outgoing end) (λ u v move. (
                   move.0,
                   subst (λ x. Moves x l items u v) (marked_behind l c.entry step.after.entry
                       (entry_marked l move.0 step.after.entry) mark move.0 refl)
@@ -201,6 +196,6 @@ module _ (frames : FramesDoSo) where
       let some : event_run p (OwnBytes l front) ≡ followed_by (record { after = p; sent = [] }) l piece =
       subst (λ (r : Run). event_run p (OwnBytes l (take (part_after_bytes r.after l piece).taken piece)) ≡ followed_by r
       l piece) nothing
-      (steps_follow_bytes p l [] piece (omega (arith, there, ap (λ (r : Run). length r.after.rests) nothing))) in
+      (steps_follow_bytes p l [] piece (omega (arith, ap (λ (r : Run). length r.after.rests) nothing))) in
       subst (LeadsByMoves (MovesBy p.customer.entry (coming p (OwnBytes l front))) (outgoing p.customer))
       (ap (λ (r : Run). outgoing r.after.customer) some) (bytes_move (rest_on l p) p.customer l front).moves

@@ -60,8 +60,7 @@ module _ {X : Type 0} (weight : X → ℕ) (p : X → Bool) where
   some_less xs = omega (arith, sum_by-filter_both p (λ x. not (p x)) (λ x. refl) weight xs)
 
   -- without those that pass a test, of which one was found
-  pub found_less :
-      (xs : List X) (x : X) → find p xs ≡ Some x → sum_by weight
+  pub found_less : (xs : List X) (x : X) → find p xs ≡ Some x → sum_by weight
       (filter (λ y. not (p y)) xs) + weight x ≤ sum_by weight xs
   found_less [] x e = absurd (cc e)
   found_less (y ∷ ys) x e = at_test (p y) (found_less ys x) e
@@ -74,7 +73,7 @@ module _ {X : Type 0} (weight : X → ℕ) (p : X → Bool) where
           → sum_by weight (cond (not b) (y ∷ left) left) + weight x ≤ sum_by weight (y ∷ ys)
       at_test true rest e =
           let same : weight y ≡ weight x = ap weight (cc e) in
-          omega (arith, same, sum_by-filter_both p (λ z. not (p z)) (λ z. refl) weight ys, sum_by-cons weight y ys)
+          omega (arith, sum_by-filter_both p (λ z. not (p z)) (λ z. refl) weight ys, sum_by-cons weight y ys)
       at_test false rest e = omega (arith, rest e, sum_by-cons weight y left, sum_by-cons weight y ys)
 
 -- ---- the elements of lists
@@ -82,21 +81,19 @@ module _ {X : Type 0} (weight : X → ℕ) (p : X → Bool) where
 -- the first element, or a later one
 pub first_or_later : {X : Type 0} (x : X) (xs : List X) (y : X) → Contains (x ∷ xs) y → (x ≡ y) ⊎ Contains xs y
 first_or_later x xs y (zero, inside, e) = inl e
-first_or_later x xs y (suc i, inside, e) = inr (i, omega (arith, inside), e)
+first_or_later x xs y (suc i, inside, e) = inr (i, omega arith, e)
 
 -- an element of a mapped list is one of the list's, mapped
 pub from_map : {A B : Type 0} (h : A → B) (xs : List A) (d : A) (g : B) → Contains (map h xs) g
     → (f : A) × Contains xs f × (g ≡ h f)
-from_map h xs d g at =
-    let inside : at.0 < length xs = omega (arith, at.1, length-map xs h) in (
-      get_or xs at.0 d,
-      Contains-get_or xs at.0 d inside,
-      sym at.2 ∙ get_or_default (map h xs) at.0 g (h d) at.1
-          ∙ get_or-map h xs at.0 d,
-    )
+from_map h xs d g at = let inside : at.0 < length xs = omega (arith, length-map xs h) in (
+  get_or xs at.0 d,
+  Contains-get_or xs at.0 d inside,
+  sym at.2 ∙ get_or_default (map h xs) at.0 g (h d) at.1 ∙ get_or-map h xs at.0 d,
+)
 
 pub into_map : {A B : Type 0} (h : A → B) (xs : List A) (f : A) → Contains xs f → Contains (map h xs) (h f)
-into_map h xs f at = (at.0, omega (arith, at.1, length-map xs h), get_or-map h xs at.0 f ∙ ap h at.2)
+into_map h xs f at = (at.0, omega (arith, length-map xs h), get_or-map h xs at.0 f ∙ ap h at.2)
 
 pub from_filter : {A : Type 0} (p : A → Bool) (xs : List A) (g : A) → Contains (filter p xs) g → Contains xs g
 from_filter p [] g at = at
@@ -145,10 +142,8 @@ pub found_one : {X : Type 0} (p : X → Bool) (xs : List X) (x : X) → find p x
 found_one p [] x e = absurd (cc e)
 found_one {X} p (y ∷ ys) x e = at_test (p y) refl e (found_one p ys x)
   where
-    at_test :
-        (b : Bool) → p y ≡ b → cond b (Some y) (find p ys) ≡ Some x
-        → (find p ys ≡ Some x → Contains ys x × (p x ≡ true))
-        → Contains (y ∷ ys) x × (p x ≡ true)
+    at_test : (b : Bool) → p y ≡ b → cond b (Some y) (find p ys) ≡ Some x
+        → (find p ys ≡ Some x → Contains ys x × (p x ≡ true)) → Contains (y ∷ ys) x × (p x ≡ true)
     at_test true passes e later = let same : y ≡ x = cc e in ((0, omega arith, same), ap p (sym same) ∙ passes)
     at_test false passes e later = let rest = later e in (Contains-append_right (y ∷ []) ys x rest.0, rest.1)
 
@@ -198,10 +193,8 @@ pub marked_numbers : (n : ℕ) (state : State) (fs : List WholeFile) → numbers
 marked_numbers n state fs = changed_where (λ f. f.number) (λ f. f.number == n) (λ f. record f { state = state }) fs
     (λ f. refl)
 
-pub changed_numbers :
-    (p : WholeFile → Bool) (change : WholeFile → WholeFile) (fs : List WholeFile)
-    → ((f : WholeFile) → (change f).number ≡ f.number)
-    → numbers (map (changed_file p change) fs) ≡ numbers fs
+pub changed_numbers : (p : WholeFile → Bool) (change : WholeFile → WholeFile) (fs : List WholeFile)
+    → ((f : WholeFile) → (change f).number ≡ f.number) → numbers (map (changed_file p change) fs) ≡ numbers fs
 changed_numbers p change fs same = changed_where (λ f. f.number) (may_change p) change fs same
 
 -- there is a file of the number
@@ -231,18 +224,15 @@ Gone p n fs = (f : WholeFile) × Contains fs f × (f.number ≡ n) × (p f ≡ t
 gone_later : (p : WholeFile → Bool) (n : ℕ) (f : WholeFile) (fs : List WholeFile) → Gone p n fs → Gone p n (f ∷ fs)
 gone_later p n f fs gone = (gone.0, Contains-append_right (f ∷ []) fs gone.0 gone.1, gone.2, gone.3)
 
-pub one_gone :
-    (p : WholeFile → Bool) (n : ℕ) (fs : List WholeFile) → any_numbered n fs ≡ true
-    → any_numbered n (filter (λ f. not (p f)) fs) ≡ false
-    → Gone p n fs
+pub one_gone : (p : WholeFile → Bool) (n : ℕ) (fs : List WholeFile) → any_numbered n fs ≡ true
+    → any_numbered n (filter (λ f. not (p f)) fs) ≡ false → Gone p n fs
 one_gone p n [] there gone = absurd (cc there)
 one_gone p n (f ∷ fs) there gone = at_first (f.number == n) (p f) refl refl there gone (one_gone p n fs)
   where
     left : List WholeFile
     left = filter (λ g. not (p g)) fs
 
-    at_first :
-        (b c : Bool) → (f.number == n) ≡ b → p f ≡ c → (b || any_numbered n fs) ≡ true
+    at_first : (b c : Bool) → (f.number == n) ≡ b → p f ≡ c → (b || any_numbered n fs) ≡ true
         → any_numbered n (cond (not c) (f ∷ left) left) ≡ false
         → (any_numbered n fs ≡ true → any_numbered n left ≡ false → Gone p n fs) → Gone p n (f ∷ fs)
     at_first true true e h there gone later = (f, (0, omega arith, refl), eqb-true f.number n e, h)

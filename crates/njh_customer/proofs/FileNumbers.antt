@@ -26,7 +26,7 @@ AreDistinct files = (n : ℕ) → count_by (λ f. f.number == n) files ≤ 1
 pub whole_distinct : (s : CustomerSpool) → AreApart s → AreDistinct s.whole
 whole_distinct s apart n =
     let both : count_by (λ f. f.number == n) s.whole + count_by (λ f. f.number == n) s.partial ≤ 1 = apart n in
-    omega (arith, both)
+    omega arith
 
 -- where there is room for one file more, the next number is no file's
 abbrev pub FreeNumbers : Type 0
@@ -38,8 +38,7 @@ free_count n s free =
     omega (
       arith,
       count_by_none (λ f. f.number == n) s.whole none.0,
-      count_by_none
-          (λ f. f.number == n) s.partial none.1,
+      count_by_none (λ f. f.number == n) s.partial none.1,
     )
 
 -- ---- spools
@@ -57,21 +56,18 @@ one_more : (m : ℕ) (s : CustomerSpool) → is_number m s ≡ false → AreApar
 one_more m s free apart n = at_test (m == n) refl
   where
     at_test : (b : Bool) → (m == n) ≡ b → files_numbered n s + cond {A = ℕ} b 1 0 ≤ 1
-    at_test true e =
-        let none : files_numbered n s ≡ 0 = subst (λ k. files_numbered k s ≡ 0) (eqb-true m n e)
+    at_test true e = let none : files_numbered n s ≡ 0 = subst (λ k. files_numbered k s ≡ 0) (eqb-true m n e)
         (free_count m s free) in
-        omega (arith, none)
+        omega arith
     at_test false e = omega (arith, apart n)
 
 pub apart_arrived : (f : WholeFile) (s : CustomerSpool) → is_number f.number s ≡ false → AreApart s
     → AreApart (with_arrived f s)
-apart_arrived f s free apart =
-    λ n. omega (
-      arith,
-      one_more f.number s free apart n,
-      sum_by_push
-          (λ (g : WholeFile). cond {A = ℕ} (g.number == n) 1 0) s.whole f,
-    )
+apart_arrived f s free apart = λ n. omega (
+  arith,
+  one_more f.number s free apart n,
+  sum_by_push (λ (g : WholeFile). cond {A = ℕ} (g.number == n) 1 0) s.whole f,
+)
 
 finished_apart : (n : ℕ) (s : CustomerSpool) → AreApart s → AreApart (with_finished n s)
 finished_apart n s = at_file (partial_numbered n s) refl
@@ -102,12 +98,10 @@ pub apart_files : FreeNumbers → StaysInFiles AreApart (λ i. AreApart)
 apart_files free = record {
   arrivals = record {
     still = λ i s apart. apart;
-    without = λ n s. apart_fewer s (without_partial n s)
-        (λ m. omega (
-          arith,
-          some_less (counted (λ (f : PartialFile). f.number) m)
-              (λ f. not (f.number == n)) s.partial,
-        ));
+    without = λ n s. apart_fewer s (without_partial n s) (λ m. omega (
+      arith,
+      some_less (counted (λ (f : PartialFile). f.number) m) (λ f. not (f.number == n)) s.partial,
+    ));
     begun = λ rcb srcb kind s room apart n.
         let begun : PartialFile = record { number = next_number s; kind = kind; records = [] } in
         omega (
@@ -117,8 +111,7 @@ apart_files free = record {
         );
     appended = λ rcb r n s room. apart_fewer s (with_appended n r s) (λ m. omega (
       arith,
-      same_sum (λ (f : PartialFile). f.number) (λ k. cond {A = ℕ} (k == m) 1 0)
-          (with_appended n r s).partial s.partial
+      same_sum (λ (f : PartialFile). f.number) (λ k. cond {A = ℕ} (k == m) 1 0) (with_appended n r s).partial s.partial
           (changed_where (λ (f : PartialFile). f.number) (λ f. f.number == n)
           (λ f. record f { records = f.records ++ r ∷ [] }) s.partial (λ f. refl)),
     ));

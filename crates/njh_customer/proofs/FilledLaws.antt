@@ -46,8 +46,7 @@ calm_request goes o s k = at_idle (may_ask o k)
   where
     at_idle : (b : Bool) → IsCalm s (request_where b (λ f. asking o s k f.number) (oldest goes (kind_of k) s))
     at_idle false = tt
-    at_idle true =
-        calm_map {A = WholeFile} s (λ f. asking o s k f.number) (oldest goes (kind_of k) s)
+    at_idle true = calm_map {A = WholeFile} s (λ f. asking o s k f.number) (oldest goes (kind_of k) s)
         (λ f. marked_restated f.number Sending s)
 
 calm : (goes : WholeFile → Bool) (source : Source) (o : Outlet) (s : CustomerSpool)

@@ -21,24 +21,21 @@ use Rattle.njh_customer.proofs.SurvivingLaws.{survive_both, was_there}
 more_come :
     (j k : ℕ) (before : List PartialFile) (n : ℕ) (kind : Kind) (rs : List Stored) → j ≤ k → HasCome j before n kind rs
     → HasCome k before n kind rs
-more_come j k before n kind rs within (few short) = few (omega (arith, within, short))
+more_come j k before n kind rs within (few short) = few (omega arith)
 more_come j k before n kind rs within (goes_on f more at number same short is) = goes_on f more at number same
-    (omega (arith, within, short)) is
+    (omega arith) is
 
 come_then :
     (j k : ℕ) (x y : List PartialFile) → ((f : PartialFile) → Contains y f → HasCome j x f.number f.kind f.records)
-    → (n : ℕ) (kind : Kind) (rs : List Stored)
-    → HasCome k y n kind rs → HasCome (j + k) x n kind rs
-come_then j k x y each n kind rs (few short) = few (omega (arith, short))
+    → (n : ℕ) (kind : Kind) (rs : List Stored) → HasCome k y n kind rs → HasCome (j + k) x n kind rs
+come_then j k x y each n kind rs (few short) = few (omega arith)
 come_then j k x y each n kind rs (goes_on f more at number same short is) = at_file (each f at)
   where
     at_file : HasCome j x f.number f.kind f.records → HasCome (j + k) x n kind rs
-    at_file (few less) =
-        few (omega (arith, less, short, ap (λ (all : List Stored). length all) is, length-append f.records more))
+    at_file (few less) = few (omega (arith, ap (λ (all : List Stored). length all) is, length-append f.records more))
     at_file (goes_on e first there before_number before_kind less was) =
         goes_on e (first ++ more) there (before_number ∙ number) (before_kind ∙ same)
-        (omega (arith, less, short, length-append first more))
-        (is ∙ ap (λ all. all ++ more) was ∙ append_assoc e.records first more)
+        (omega (arith, length-append first more)) (is ∙ ap (λ all. all ++ more) was ∙ append_assoc e.records first more)
 
 -- a partial file that stays
 pub left_come : (before : List PartialFile) (f : PartialFile) → Contains before f
@@ -63,8 +60,7 @@ pub grow_then : FilesGrowFurther
 grow_then j k x y z first second = record {
   still = parts.first;
   new = parts.second ++ second.new;
-  files =
-      second.files ∙ ap (λ files. files ++ second.new) parts.both
+  files = second.files ∙ ap (λ files. files ++ second.new) parts.both
       ∙ append_assoc parts.first parts.second second.new;
   survive = survive_then x.whole first.still parts.first first.survive parts.of_first;
   counted = counted;
@@ -82,7 +78,6 @@ grow_then j k x y z first second = record {
         omega (
           arith,
           first.counted (omega (arith, later, below)),
-          later,
           length-append parts.second second.new,
           no_more first.new parts.second parts.of_second,
         )
@@ -137,16 +132,15 @@ none_whole k x y survive same each = record {
   new = [];
   files = sym (append-nil y.whole);
   survive = survive;
-  counted = λ below. omega (arith, same);
-  became_whole = λ f at. absurd (omega (arith, at.1));
+  counted = λ below. omega arith;
+  became_whole = λ f at. absurd (omega arith);
   partial = each;
 }
 
 -- and no partial file has changed
 pub quiet : (x y : CustomerSpool) → Survive x.whole y.whole → y.arrived ≡ x.arrived → y.partial ≡ x.partial
     → FilesGrow 0 x y
-quiet x y survive same partial =
-    none_whole 0 x y survive same (λ f at. left_come x.partial f
+quiet x y survive same partial = none_whole 0 x y survive same (λ f at. left_come x.partial f
     (subst (λ (fs : List PartialFile). Contains fs f) partial at))
 
 pub unchanged : (x : CustomerSpool) → FilesGrow 0 x x
@@ -159,8 +153,7 @@ without_grows n s = none_whole 0 s (without_partial n s) (same_files s.whole) re
     (λ f at. left_come s.partial f (from_filter (λ (g : PartialFile). not (g.number == n)) s.partial f at))
 
 pub begun_grows : (kind : Kind) (s : CustomerSpool) → FilesGrow 0 s (with_new_partial kind s)
-begun_grows kind s =
-    none_whole 0 s (with_new_partial kind s) (same_files s.whole) refl
+begun_grows kind s = none_whole 0 s (with_new_partial kind s) (same_files s.whole) refl
     (λ f at. at_last f (Contains-push_cases s.partial begun f at))
   where
     begun : PartialFile
@@ -190,7 +183,7 @@ finished_grows n s = at_file (partial_numbered n s) refl
   where
     came : (f : PartialFile) (g : WholeFile) → Contains s.partial f → (as_whole f ≡ g) ⊎ Contains {X = WholeFile} [] g
         → HasBecomeWhole 0 s.partial g
-    came f g there (inr none_there) = absurd (omega (arith, none_there.1))
+    came f g there (inr none_there) = absurd (omega arith)
     came f g there (inl same) = subst (HasBecomeWhole 0 s.partial) same
         (record { came = f.records; has_come = left_come s.partial f there; records = as_before f.records })
 
@@ -202,9 +195,8 @@ finished_grows n s = at_file (partial_numbered n s) refl
       new = as_whole f ∷ [];
       files = refl;
       survive = same_files s.whole;
-      counted = λ below. omega (arith, below);
-      became_whole = λ g at.
-          came f g (found_one (λ (h : PartialFile). h.number == n) s.partial f e).0
+      counted = λ below. omega arith;
+      became_whole = λ g at. came f g (found_one (λ (h : PartialFile). h.number == n) s.partial f e).0
           (first_or_later (as_whole f) [] g at);
       partial = (without_grows n s).partial;
     }
@@ -222,6 +214,6 @@ rerouted_count kind _ _ (to_node node before after is more) =
     rerouted_count kind (records_to_node kind node None before) after more ∙ redirected_count kind node None before
 
 pub many_go_on : ManyRecordsGoOn
-many_go_on k n before kind records many (few short) = absurd (omega (arith, many, short))
+many_go_on k n before kind records many (few short) = absurd (omega arith)
 many_go_on k n before kind records many (goes_on f more at number same short is) =
     record { file = f; more = more; there = at; same_number = number; same_kind = same; records_are = is }

@@ -64,8 +64,7 @@ record OnlyUp (v : Verdict) (p : Phase) : Type 0 where
 asks_nothing : {v : Verdict} {p : Phase} → v.acts ≡ false → is_next v.reply ≡ false → OnlyUp v p
 asks_nothing still quiet = record {
   acts = λ acts. absurd (cc (sym still ∙ acts));
-  next = λ next. absurd
-      (cc (sym quiet ∙ next));
+  next = λ next. absurd (cc (sym quiet ∙ next));
 }
 
 is_up_then : {v : Verdict} {p : Phase} → is_up p ≡ true → OnlyUp v p
@@ -163,30 +162,25 @@ module _ (s : Session) where
 
   hung_up : (let x = cell s.phase (none s) (hang_up s) (hang_up s) (hang_up s) (end s) in
       OnlyUp x.verdict x.session.phase)
-  hung_up =
-      in_row (none s) (hang_up s) (hang_up s) (hang_up s) (end s) nothing (asks_nothing refl refl)
-      (asks_nothing refl refl) (asks_nothing refl refl)
-      (λ _. asks_nothing refl refl)
+  hung_up = in_row (none s) (hang_up s) (hang_up s) (hang_up s) (end s) nothing (asks_nothing refl refl)
+      (asks_nothing refl refl) (asks_nothing refl refl) (λ _. asks_nothing refl refl)
 
 only_up : (config : Config) (came : Input) (s : Session)
     → (let x = table_outcome config came s in OnlyUp x.verdict x.session.phase)
 unfolding table_outcome
 only_up config input.Enquiry s =
     in_row s (contact config.role s) (none s) (ack0 s) (none s) (end_and_contact config.role s) (contacts s config.role)
-    (nothing s)
-    (asks_nothing refl refl) (nothing s) (λ _. ends_and_contacts s config.role)
+    (nothing s) (asks_nothing refl refl) (nothing s) (λ _. ends_and_contacts s config.role)
 only_up config input.Ack0 s =
     in_row s (none s) (i_block s) (none s) (none s) (next_or_turn s) (nothing s) (asks_nothing refl refl) (nothing s)
-    (nothing s)
-    (λ up. is_up_then (ap is_up up))
+    (nothing s) (λ up. is_up_then (ap is_up up))
 only_up config input.Nak s =
     let again = tries s reply.Again refl in
     in_row s (none s) (none s) (try_again s) (try_again s) (try_again s) (nothing s) (nothing s) again again
     (λ _. again)
 only_up config input.Eot s = hung_up s
 only_up config input.Lost s = hung_up s
-only_up config (input.Block bcb fcs first) s =
-    in_row s (none s) (none s) (by_count bcb fcs (i_sign_on config first) s)
+only_up config (input.Block bcb fcs first) s = in_row s (none s) (none s) (by_count bcb fcs (i_sign_on config first) s)
     (by_count bcb fcs (j_sign_on config first) s) (by_count bcb fcs act s)
     (nothing s) (nothing s) (by_counts s bcb fcs (i_sign_on config first)
     (λ last. signed (reply.SignOn Response) config (fitting Initial config first) (acting_on s fcs last)))
@@ -214,19 +208,17 @@ others l lines rest m other there down = rest m there down
 set_others : (l : ℕ) (x : CustomerLine) (lines : List CustomerLine) → OthersRest l lines → OthersRest l (set lines l x)
 set_others l x lines rest m other there down =
     let same : line_at m (set lines l x) ≡ line_at m lines = get_or-set_other lines l m x no_customer_line other in
-    subst IsIdle (sym same) (rest m other (omega (arith, there, length-set lines l x))
+    subst IsIdle (sym same) (rest m other (omega (arith, length-set lines l x))
     (ap (λ y. is_up (phase_of y)) (sym same) ∙ down))
 
-set_rests :
-    (l : ℕ) (x : CustomerLine) (lines : List CustomerLine) → OthersRest l lines
-    → (l < length lines → is_up (phase_of x) ≡ false → IsIdle x)
-    → IdleUnlessUp (set lines l x)
+set_rests : (l : ℕ) (x : CustomerLine) (lines : List CustomerLine) → OthersRest l lines
+    → (l < length lines → is_up (phase_of x) ≡ false → IsIdle x) → IdleUnlessUp (set lines l x)
 set_rests l x lines rest here m there down = at (m == l) refl
   where
     at : (b : Bool) → (m == l) ≡ b → IsIdle (line_at m (set lines l x))
     at true e =
         let same : m ≡ l = eqb-true m l e in
-        let inside : l < length lines = omega (arith, there, same, length-set lines l x) in
+        let inside : l < length lines = omega (arith, length-set lines l x) in
         let it : line_at m (set lines l x) ≡ x = get_or-set_at lines l m x no_customer_line same inside in
         subst IsIdle (sym it) (here inside (ap (λ y. is_up (phase_of y)) (sym it) ∙ down))
     at false e = set_others l x lines rest m (eqb-false m l e) there down
@@ -245,16 +237,14 @@ same_phase : (l k : ℕ) (f : CustomerLine → CustomerLine) (lines : List Custo
     → phase_of (line_at l (on_line k f lines)) ≡ phase_of (line_at l lines)
 same_phase l k f lines same = sym (get_or-map phase_of (on_line k f lines) l no_customer_line)
     ∙ ap (λ ps. get_or ps l Down) (map-set_same phase_of lines k (f (line_at k lines)) no_customer_line
-    (same (line_at k lines)))
-    ∙ get_or-map phase_of lines l no_customer_line
+    (same (line_at k lines))) ∙ get_or-map phase_of lines l no_customer_line
 
 message_idle : (m : List ℕ) (x : CustomerLine) → IsIdle x → IsIdle (in_state (with_message m) x)
 message_idle m x idle = record {
   receivers = idle.receivers;
   senders = idle.senders;
   answers = idle.answers;
-  served =
-      idle.served;
+  served = idle.served;
 }
 
 given_up_idle : (n : ℕ) (x : CustomerLine) → IsIdle x → IsIdle (with_senders_by (without_file n) x)
@@ -290,7 +280,7 @@ module _ (l : ℕ) where
   given_up n lines r = record {
     up = ap (λ x. is_up (phase_of x)) (it l) ∙ r.up;
     rest = λ m there down. subst IsIdle (sym (it m)) (given_up_idle n (line_at m lines)
-        (r.rest m (omega (arith, there, length-map lines (with_senders_by (without_file n))))
+        (r.rest m (omega (arith, length-map lines (with_senders_by (without_file n))))
         (ap (λ x. is_up (phase_of x)) (sym (it m)) ∙ down)));
   }
     where
@@ -323,8 +313,7 @@ over_rests l c rest = set_rests l (with_idle_streams (line_at l c.lines)) c.line
     (λ _ _. idle_streams (line_at l c.lines))
 
 ended_rests : (l : ℕ) (c : Customer) → OthersRest l c.lines → IdleUnlessUp (session_ended l c).lines
-ended_rests l c rest =
-    over_rests l (record c { lines = on_line l (in_state after_end) c.lines })
+ended_rests l c rest = over_rests l (record c { lines = on_line l (in_state after_end) c.lines })
     (set_others l (in_state after_end (line_at l c.lines)) c.lines rest)
 
 -- ---- what a line sends
@@ -332,8 +321,7 @@ ended_rests l c rest =
 -- it rests still where nothing of this changed
 idle_still :
     (x y : CustomerLine) → y.receivers ≡ x.receivers → y.senders ≡ x.senders → y.state.answers ≡ x.state.answers
-    → y.served ≡ x.served
-    → IsIdle x → IsIdle y
+    → y.served ≡ x.served → IsIdle x → IsIdle y
 idle_still x y receivers senders answers served idle = record {
   receivers = λ k. ap (λ rs. get_or rs k receiver.Idle) receivers ∙ idle.receivers k;
   senders = λ k. ap (λ ss. get_or ss k sender.Idle) senders ∙ idle.senders k;
@@ -342,10 +330,8 @@ idle_still x y receivers senders answers served idle = record {
 }
 
 -- what it sends leaves it so, but for the next block
-reply_idle :
-    (entry : CustomerEntry) (l : ℕ) (r : LineReply) (s : CustomerSpool) (x : CustomerLine) → is_next r ≡ false
-    → IsIdle x
-    → IsIdle (sending_of_reply entry l r s x).line
+reply_idle : (entry : CustomerEntry) (l : ℕ) (r : LineReply) (s : CustomerSpool) (x : CustomerLine) → is_next r ≡ false
+    → IsIdle x → IsIdle (sending_of_reply entry l r s x).line
 reply_idle entry l reply.Nothing s x quiet idle = idle
 reply_idle entry l (reply.Control control.Enquiry) s x quiet idle = idle_still x _ refl refl refl refl idle
 reply_idle entry l (reply.Control control.Ack0) s x quiet idle = idle_still x _ refl refl refl refl idle
@@ -357,8 +343,7 @@ reply_idle entry l (reply.Next or_ack0) s x quiet idle = absurd (cc quiet)
 
 replied_rests :
     (l : ℕ) (r : LineReply) (c : Customer) → (is_next r ≡ true → is_up (phase_of (line_at l c.lines)) ≡ true)
-    → IdleUnlessUp c.lines
-    → IdleUnlessUp (replied_to l r c).after.lines
+    → IdleUnlessUp c.lines → IdleUnlessUp (replied_to l r c).after.lines
 replied_rests l r c up rest = set_rests l sent c.lines (others l c.lines rest) (at (is_next r) refl)
   where
     x : CustomerLine
@@ -416,8 +401,7 @@ module _ (keep : InputsKeepUp) (l : ℕ) (came : Input) (c : Customer) (there : 
 
   -- a line that was up is up still, so one that isn't was at rest
   accepted_rests : (verdict_on l came c).ended ≡ false → IdleUnlessUp accepted.lines
-  accepted_rests on =
-      set_rests l (in_state (after_input came) before) c.lines (others l c.lines rest)
+  accepted_rests on = set_rests l (in_state (after_input came) before) c.lines (others l c.lines rest)
       (λ _ down. at (is_up (phase_of before)) refl down)
     where
       at : (b : Bool) → is_up (phase_of before) ≡ b → is_up after ≡ false → IsIdle (in_state (after_input came) before)
@@ -448,8 +432,7 @@ module _ (keep : InputsKeepUp) (l : ℕ) (came : Input) (c : Customer) (there : 
       acted : UpAndRest l behind.lines
       acted =
           acted_where_so l (λ d. UpAndRest l d.lines) (λ i d. record_on_lines l (UpAndRest l) (acting l) i d) true items
-          accepted
-          (accepted_up (asks.acts e))
+          accepted (accepted_up (asks.acts e))
 
       at : (ended : Bool) → IdleUnlessUp (behind_records ended l (verdict_on l came c) behind).after.lines
       at true = ended_rests l behind (others l behind.lines acted.rest)
@@ -483,10 +466,11 @@ fresh_idle config streams = record {
 }
 
 pub fresh_lines_idle :
-    (entry : CustomerEntry) (l : ℕ) → l < length (fresh_customer entry).lines → IsIdle (line_at l (fresh_customer entry).lines)
-fresh_lines_idle entry l there =
-    All-map IsIdle (λ line. idle_line (config_of entry line) line.streams) entry.lines
-    (λ i d h. let line = get_or entry.lines i d in fresh_idle (config_of entry line) line.streams) l no_customer_line there
+    (entry : CustomerEntry) (l : ℕ) → l < length (fresh_customer entry).lines
+    → IsIdle (line_at l (fresh_customer entry).lines)
+fresh_lines_idle entry l there = All-map IsIdle (λ line. idle_line (config_of entry line) line.streams) entry.lines
+    (λ i d h. let line = get_or entry.lines i d in fresh_idle (config_of entry line) line.streams) l no_customer_line
+    there
 
 pub idle_when_opened : (entry : CustomerEntry) → IdleUnlessUp (fresh_customer entry).lines
 idle_when_opened entry l there down = fresh_lines_idle entry l there
@@ -495,7 +479,8 @@ idle_when_opened entry l there down = fresh_lines_idle entry l there
 
 module _ (c : Customer) (idle : (l : ℕ) → l < length c.lines → IsIdle (line_at l c.lines)) where
   -- on a line that isn't there too
-  at_line : (P : CustomerLine → Type 0) → ((x : CustomerLine) → IsIdle x → P x) → P no_customer_line → (l : ℕ) → P (line_at l c.lines)
+  at_line : (P : CustomerLine → Type 0) → ((x : CustomerLine) → IsIdle x → P x) → P no_customer_line → (l : ℕ)
+      → P (line_at l c.lines)
   at_line P idles none l = at_there (nat_lt l (length c.lines)) refl
     where
       at_there : (b : Bool) → nat_lt l (length c.lines) ≡ b → P (line_at l c.lines)

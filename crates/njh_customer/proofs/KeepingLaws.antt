@@ -47,8 +47,7 @@ abbrev SameButMarks : CustomerEntry → Customer → Type 0
 SameButMarks entry d = d.entry ≡ with_marks d.entry.up entry
 
 -- by the frame that was sent
-by_sent :
-    (entry : CustomerEntry) (rest : Rest) (d : Customer) (frame : List ℕ) (later : Taking) → SameButMarks entry d
+by_sent : (entry : CustomerEntry) (rest : Rest) (d : Customer) (frame : List ℕ) (later : Taking) → SameButMarks entry d
     → SameButMarks d.entry later.after
     → SameButMarks entry (or_later 1 rest (record { after = d; frame = frame }) later).after
 by_sent entry rest d [] later first second = second ∙ ap (with_marks later.after.entry.up) first
@@ -66,8 +65,7 @@ module _ (frames : FramesDoSo) where
   take_entry rest c l (byte ∷ bytes) =
       let x = byte_step rest c l byte in
       by_sent c.entry x.rest x.after x.frame (take_step x.rest x.after l bytes)
-      (acted_entry l (rest_step rest byte).frame c)
-      (take_entry x.rest x.after l bytes)
+      (acted_entry l (rest_step rest byte).frame c) (take_entry x.rest x.after l bytes)
 
   pub takes_keep_entries : TakesKeepEntries
   takes_keep_entries p l piece = take_entry (rest_on l p) p.customer l piece

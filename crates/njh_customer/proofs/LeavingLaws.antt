@@ -45,8 +45,7 @@ module _ (n : ℕ) (x y : Outgoing) where
 
 record_leaves :
     (entry : CustomerEntry) (l : ℕ) (items : List Item) (x y : Outgoing) (n : ℕ) (i : Item) → Contains items i
-    → Acts entry l i x y → has_file n x ≡ true
-    → has_file n y ≡ false → Leaves entry l items n x
+    → Acts entry l i x y → has_file n x ≡ true → has_file n y ≡ false → Leaves entry l items n x
 record_leaves entry l items x y n i at (moves.comes rcb srcb f is ready whole e) there gone = one_comes n x y f
     (ap (λ z. z.files) e) there gone
 record_leaves entry l items x y n i at (moves.permitted streams k m told before e) there gone = stayed n x y
@@ -73,10 +72,8 @@ record_leaves entry l items x y n i at (moves.cancels who name given e) there go
     let left = one_gone (is_of_name who name) n x.files there (sym (ap (any_numbered n) files) ∙ gone) in
     laws.cancelled i who name left.0 at given left.1 left.2 left.3
 
-leaves_on_line :
-    (entry : CustomerEntry) (l : ℕ) (items : List Item) (x y : Outgoing) (n : ℕ) → Moves entry l items x y
-    → has_file n x ≡ true
-    → has_file n y ≡ false → Leaves entry l items n x
+leaves_on_line : (entry : CustomerEntry) (l : ℕ) (items : List Item) (x y : Outgoing) (n : ℕ) → Moves entry l items x y
+    → has_file n x ≡ true → has_file n y ≡ false → Leaves entry l items n x
 leaves_on_line entry l items x y n (by_record (i, at, acts)) there gone = record_leaves entry l items x y n i at acts
     there gone
 leaves_on_line entry l items x y n (by_sending (moves.gives_up k before e)) there gone = stayed n x y

@@ -82,10 +82,8 @@ ended_still x n s restful = at_file (file_in x)
     at_file (Some m) = marked_still m n s.whole restful
 
 -- the files that streams are about are Ready at rest, and so is what the end of these streams makes of them
-all_ended_at_rest :
-    (xs : List Sender) (s : CustomerSpool) → ((k n : ℕ) → file_in (get_or xs k sender.Idle) ≡ Some n
-    → RestReady n s.whole)
-    → map at_rest (all_ended xs s).whole ≡ map at_rest s.whole
+all_ended_at_rest : (xs : List Sender) (s : CustomerSpool) → ((k n : ℕ) → file_in (get_or xs k sender.Idle) ≡ Some n
+    → RestReady n s.whole) → map at_rest (all_ended xs s).whole ≡ map at_rest s.whole
 all_ended_at_rest [] s restful = refl
 all_ended_at_rest (x ∷ xs) s restful =
     all_ended_at_rest xs (spool_after_session x s) (λ k n about. ended_still x n s (restful (suc k) n about)) ∙ at_file
@@ -176,8 +174,7 @@ module _ (l : ℕ) (c : Customer) (order : IsInOrder c) where
   judged_lost = record {
     lines = length-set accepted_lines l (line_at l accepted_lines) ∙ length-set c.lines l accepted_line;
     down = set_down accepted_lines l (line_at l accepted_lines) accepted_down;
-    still = λ m there.
-        set_still_down accepted_lines l m (line_at l accepted_lines) accepted_down
+    still = λ m there. set_still_down accepted_lines l m (line_at l accepted_lines) accepted_down
         (set_still_down c.lines l m accepted_line hangs_up.down there);
     files = refl;
   }
@@ -185,8 +182,7 @@ module _ (l : ℕ) (c : Customer) (order : IsInOrder c) where
   same_senders : (line_at l judged.lines).senders ≡ (line_at l c.lines).senders
   same_senders = sym (get_or-map (λ x. x.senders) judged.lines l no_customer_line) ∙ ap (λ all. get_or all l [])
       (on_line_senders l (λ x. x) accepted_lines (λ x. refl) ∙ on_line_senders l
-      (in_state (after_input input.Lost)) c.lines (λ x. refl))
-      ∙ get_or-map (λ x. x.senders) c.lines l no_customer_line
+      (in_state (after_input input.Lost)) c.lines (λ x. refl)) ∙ get_or-map (λ x. x.senders) c.lines l no_customer_line
 
   -- what the line was sending is Ready at rest
   sent_ready : (k n : ℕ) → file_in (get_or (line_at l judged.lines).senders k sender.Idle) ≡ Some n
@@ -199,8 +195,7 @@ module _ (l : ℕ) (c : Customer) (order : IsInOrder c) where
   over_files =
       let x = line_at l judged.lines in
       ap (map at_rest) ((without_open_same x.receivers (tried_again judged.entry l
-      (all_ended x.senders c.spool))).whole)
-      ∙ tried_at_rest judged.entry l (all_ended x.senders c.spool).whole
+      (all_ended x.senders c.spool))).whole) ∙ tried_at_rest judged.entry l (all_ended x.senders c.spool).whole
       ∙ all_ended_at_rest x.senders c.spool sent_ready
 
   over_lost : (ended : Bool) → LineLost l c (session_over_where ended l judged)
@@ -215,8 +210,7 @@ module _ (l : ℕ) (c : Customer) (order : IsInOrder c) where
       }
 
   input_lost : LineLost l c (after_line_input l input.Lost c).after
-  input_lost =
-      subst (λ v. LineLost l c (carried_out l v (accepted_on l input.Lost c)).after) (sym hangs_up.verdict)
+  input_lost = subst (λ v. LineLost l c (carried_out l v (accepted_on l input.Lost c)).after) (sym hangs_up.verdict)
       (over_lost hangs_up.ended)
 
   signal_lost : l < length c.lines → LineLost l c (after_signal l Lost c).after
@@ -226,7 +220,7 @@ module _ (l : ℕ) (c : Customer) (order : IsInOrder c) where
       at_there : (b : Bool) → nat_lt l (length c.lines) ≡ b
           → LineLost l c (cond b (after_line_input l input.Lost c) (silent c)).after
       at_there true e = input_lost
-      at_there false e = absurd (omega (arith, ltb-false l (length c.lines) e, there))
+      at_there false e = absurd (omega (arith, ltb-false l (length c.lines) e))
 
 -- ---- what has come of frames
 
@@ -260,7 +254,7 @@ below P n m few here earlier = at (nat_lt m n) refl
   where
     at : (b : Bool) → nat_lt m n ≡ b → P m
     at true e = earlier (ltb-true m n e)
-    at false e = let same : n ≡ m = omega (arith, few, ltb-false m n e) in subst P same here
+    at false e = let same : n ≡ m = omega (arith, ltb-false m n e) in subst P same here
 
 all_lost : StaysInOrder → (n : ℕ) (p : Part) → n ≤ length p.customer.lines → IsInOrder p.customer
     → LinesLost n p (alone_run p (losses n)).after
@@ -276,8 +270,8 @@ all_lost stays zero p few order = record {
 all_lost stays (suc l) p few order =
     let x = (event_run p (OwnSignal Lost l)).after in
     let y = (alone_run x (losses l)).after in
-    let one = signal_lost l p.customer order (omega (arith, few)) in
-    let later = all_lost stays l x (omega (arith, few, one.lines)) (stays.events p (OwnSignal Lost l) order) in
+    let one = signal_lost l p.customer order (omega arith) in
+    let later = all_lost stays l x (omega arith) (stays.events p (OwnSignal Lost l) order) in
     record {
       order = later.order;
       files = later.files ∙ one.files;
@@ -302,15 +296,15 @@ module _ (c : Customer) (order : IsInOrder c) (idle : (l : ℕ) → l < length c
           ap (find (λ g. g.number == f.number)) e
           ∙ ap (λ b. cond b (Some f) (find (λ g. g.number == f.number) fs)) (eq-eqb f.number f.number refl) in
           let comes = order.coherent.tied.come f.number f found in
-          let none : None ≡ Some f.number =
-          ap coming_file (sym (coherence.stream_is comes.line comes.stream c.lines
+          let none : None ≡ Some f.number = ap coming_file (sym (coherence.stream_is comes.line comes.stream c.lines
           ∙ receivers_idle c idle comes.line comes.stream)) ∙ comes.file in
           absurd (cc none)
 
   none_goes : (f : WholeFile) → Contains c.spool.whole f → f.state ≡ Sending → ⊥
   none_goes f at goes =
       let x = order.sent.go f at goes in
-      let none : None ≡ Some f.number = sym (ap file_in (stream_is x.line x.stream c) ∙ senders_idle c idle x.line x.stream)
+      let none : None ≡ Some f.number = sym (ap file_in (stream_is x.line x.stream c)
+      ∙ senders_idle c idle x.line x.stream)
       ∙ x.about in
       cc none
 
@@ -321,7 +315,7 @@ losses_leave stays p order =
     let c = (after_losses p).customer in
     let lost = all_lost stays (length p.customer.lines) p (omega arith) order in
     let down : (l : ℕ) → l < length c.lines → phase_of (line_at l c.lines) ≡ Down = λ l there. lost.down l
-    (omega (arith, there, lost.lines)) in
+    (omega arith) in
     let idle : (l : ℕ) → l < length c.lines → IsIdle (line_at l c.lines) = λ l there. lost.order.idle l there
     (ap is_up (down l there)) in
     record {

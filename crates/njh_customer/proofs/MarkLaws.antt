@@ -51,10 +51,8 @@ marks_over true l entry = set-set entry.up l true false
 marks_over false l entry = refl
 
 -- a line that is marked as it was before, and goes up or doesn't
-marks_on :
-    (p q : Phase) (l : ℕ) (entry : CustomerEntry) (us : List Bool) → entry.up ≡ us → get_or us l false ≡ is_up p
-    → (is_up p ≡ true → is_up q ≡ true)
-    → (with_raised_line (goes_up p q) l entry).up ≡ set us l (is_up q)
+marks_on : (p q : Phase) (l : ℕ) (entry : CustomerEntry) (us : List Bool) → entry.up ≡ us → get_or us l false ≡ is_up p
+    → (is_up p ≡ true → is_up q ≡ true) → (with_raised_line (goes_up p q) l entry).up ≡ set us l (is_up q)
 marks_on p q l entry us marked has = at (is_up p) (is_up q) has
   where
     stays : (b : Bool) → get_or us l false ≡ b → entry.up ≡ set us l b
@@ -90,8 +88,7 @@ module _ (keep : InputsKeepUp) (l : ℕ) (came : Input) (c : Customer) (marked :
       (λ us. set us l false) marked
 
   -- behind the records
-  carried_marked :
-      (v : Verdict) (d : Customer) → d.entry ≡ (accepted_on l came c).entry
+  carried_marked : (v : Verdict) (d : Customer) → d.entry ≡ (accepted_on l came c).entry
       → kepts d.lines ≡ kepts (accepted_on l came c).lines
       → v.ended ≡ (verdict_on l came c).ended → IsMarked (carried_out l v d).after
   carried_marked v d entry kept_so ended = at v.ended ended
@@ -100,10 +97,8 @@ module _ (keep : InputsKeepUp) (l : ℕ) (came : Input) (c : Customer) (marked :
       sent = (replied_to l v.reply d).after
 
       sent_ups : ups sent.lines ≡ set (ups c.lines) l (is_up after)
-      sent_ups =
-          map-set_same is_line_up d.lines l (sending_of_reply d.entry l v.reply d.spool (line_at l d.lines)).line
-          no_customer_line
-          (ap (λ (p : Config × Phase × ℕ × List Receiver). is_up p.1)
+      sent_ups = map-set_same is_line_up d.lines l (sending_of_reply d.entry l v.reply d.spool (line_at l d.lines)).line
+          no_customer_line (ap (λ (p : Config × Phase × ℕ × List Receiver). is_up p.1)
           (reply_lasting d.entry l v.reply d.spool (line_at l d.lines)))
           ∙ ups_kept d.lines (accepted_on l came c).lines kept_so ∙ accepted_ups
 

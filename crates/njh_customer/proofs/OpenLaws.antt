@@ -22,5 +22,4 @@ pub states_of_lines : (entry : CustomerEntry) (lines : List NamedLine) →
     ≡ map (λ l. idle_line (config_of entry l.entry) l.entry.streams) lines
 states_of_lines entry [] = refl
 states_of_lines entry (l ∷ ls) = ap (λ (states : List CustomerLine). idle_line
-    (config_of entry l.entry) l.entry.streams ∷ states)
-    (states_of_lines entry ls)
+    (config_of entry l.entry) l.entry.streams ∷ states) (states_of_lines entry ls)

@@ -17,12 +17,13 @@ use Rattle.njh_customer.proofs.IdleLines.{fresh_lines_idle, receivers_idle}
 
 pub fresh_coherent : (entry : CustomerEntry) → All (λ line. line.streams ≤ 4) entry.lines
     → ((lines : List (List Receiver)) (s : CustomerSpool) → ((l k : ℕ) → stream_at l k lines ≡ receiver.Idle)
-    → s.partial ≡ [] → AreTied lines s)
-    → IsCoherent (fresh_customer entry)
+    → s.partial ≡ [] → AreTied lines s) → IsCoherent (fresh_customer entry)
 fresh_coherent entry few at_rest = record {
   tied = at_rest (streams_to_hub (fresh_customer entry).lines) (empty_spool entry.quota entry.files)
-      (λ l k. stream_is l k (fresh_customer entry).lines ∙ receivers_idle (fresh_customer entry) (fresh_lines_idle entry) l k) refl;
-  streamed = All-map HasStreams (λ line. idle_line (config_of entry line) line.streams) entry.lines (λ i d h. (refl, few i d h));
+      (λ l k. stream_is l k (fresh_customer entry).lines ∙ receivers_idle (fresh_customer entry)
+      (fresh_lines_idle entry) l k) refl;
+  streamed = All-map HasStreams (λ line. idle_line (config_of entry line) line.streams) entry.lines
+      (λ i d h. (refl, few i d h));
   headers = All-nil (λ (f : WholeFile). HasHeaders f.kind f.records);
   quota = refl;
   limit = refl;

@@ -88,8 +88,7 @@ module _ (commands : CommandsMoveFilesSo) where
       answered = λ l r c there. let sent = (sending_of_reply c.entry l r c.spool (line_at l c.lines)).line in
           set_still (replied_to l r c).after c (map-set_same set_up c.lines l sent no_customer_line
           (ap (λ (p : Config × Phase × ℕ × List Receiver). (p.0, p.2))
-          (reply_lasting c.entry l r c.spool (line_at l c.lines))))
-          refl;
+          (reply_lasting c.entry l r c.spool (line_at l c.lines)))) refl;
       ended = λ l c there. let lines = on_line l (in_state after_end) c.lines in
           set_still (record c { lines = lines }) c (on_line_seen set_up l (in_state after_end) c.lines (λ x. refl))
           refl;
@@ -171,14 +170,12 @@ module _ (keep_up : InputsKeepUp) (free : FreeNumbers) (untied : NothingUnties) 
   order_stays = event_so IsInOrder (record {
     by_frame = order_by_frame;
     by_signal = order_by_signal;
-    by_routes =
-        order_by_routes;
+    by_routes = order_by_routes;
   })
 
 -- where no stream is about a file and none is partial, nothing need agree, as the crate of streams says it
 abbrev pub NothingIsTied : Type 0
-NothingIsTied =
-    (lines : List (List Receiver)) (s : CustomerSpool) → ((l k : ℕ) → stream_at l k lines ≡ receiver.Idle)
+NothingIsTied = (lines : List (List Receiver)) (s : CustomerSpool) → ((l k : ℕ) → stream_at l k lines ≡ receiver.Idle)
     → s.partial ≡ [] → AreTied lines s
 
 -- a whole file that is put back
@@ -206,8 +203,7 @@ put_back untied f c free has waits within order =
     }
 
 pub stays_in_order : InputsKeepUp → FreeNumbers → NothingIsTied → NothingUnties → EndsTie → RecordsKeep
-    → ReroutesNameNodes → CommandsMoveFilesSo
-    → StaysInOrder
+    → ReroutesNameNodes → CommandsMoveFilesSo → StaysInOrder
 stays_in_order keep_up free at_rest untied ends records names commands = record {
   opened = λ entry few. record {
     coherent = fresh_coherent entry few at_rest;

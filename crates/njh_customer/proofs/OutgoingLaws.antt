@@ -25,10 +25,8 @@ of_parts files arrived streams = record { files = files; arrived = arrived; stre
 
 -- ---- streams that stay
 
-pub on_line_senders :
-    (l : ℕ) (f : CustomerLine → CustomerLine) (lines : List CustomerLine)
-    → ((x : CustomerLine) → (f x).senders ≡ x.senders)
-    → streams_from_hub (on_line l f lines) ≡ streams_from_hub lines
+pub on_line_senders : (l : ℕ) (f : CustomerLine → CustomerLine) (lines : List CustomerLine)
+    → ((x : CustomerLine) → (f x).senders ≡ x.senders) → streams_from_hub (on_line l f lines) ≡ streams_from_hub lines
 on_line_senders l f lines same = on_line_seen (λ x. x.senders) l f lines same
 
 -- what waits, and what comes, moves none

@@ -18,8 +18,7 @@ abbrev run_by : ℕ → Taking → LineRun
 run_by l t = record { rest = t.rest; after = t.after; sent = sent_on l t.frame }
 
 after_byte : (go : List ℕ → LineRun) (byte : ℕ) (rest : Rest) (after : Customer) (frame : List ℕ) (l : ℕ)
-    (bytes : List ℕ)
-    (later : Taking) →
+    (bytes : List ℕ) (later : Taking) →
     ((more : List ℕ) → go (byte ∷ more) ≡ sent_first (sent_on l frame) (bytes_run rest after l more)) →
     bytes_run rest after l (take later.taken bytes) ≡ run_by l later →
     go (take (or_later 1 rest (record { after = after; frame = frame }) later).taken (byte ∷ bytes))
@@ -34,8 +33,7 @@ take_step-run rest c l [] = refl
 take_step-run rest c l (byte ∷ bytes) =
     let x = byte_step rest c l byte in
     after_byte (bytes_run rest c l) byte x.rest x.after x.frame l bytes (take_step x.rest x.after l bytes)
-    (λ more. refl)
-    (take_step-run x.rest x.after l bytes)
+    (λ more. refl) (take_step-run x.rest x.after l bytes)
 
 -- a part whose line l has read some bytes
 abbrev read_part : Part → ℕ → LineRun → Part
@@ -71,7 +69,7 @@ steps_follow_bytes p l front left within =
     let q = read_part p l r in
     let t = take_step (rest_on l q) q.customer l left in
     ap (λ (x : LineRun). run_with (read_part p l x) x.sent)
-    (bytes_run-more p l front (take t.taken left) (omega (arith, within, length-set p.rests l r.rest))
+    (bytes_run-more p l front (take t.taken left) (omega (arith, length-set p.rests l r.rest))
     ∙ ap (sent_first r.sent) (take_step-run (rest_on l q) q.customer l left))
     ∙ ap (λ (y : Part). run_with y (r.sent ++ sent_on l t.frame)) (read_part-twice p l r (run_by l t))
 
@@ -94,9 +92,7 @@ cuts_are_like p l front back events within =
     (read_part-twice p l r s)
 
 pub first_bytes_send_first : FirstBytesSendFirst
-first_bytes_send_first p l front back =
-    let r = bytes_run (rest_on l p) p.customer l front in (
-      (bytes_run r.rest r.after l back).sent,
-      ap (λ (x : LineRun). x.sent)
-          (sym (bytes_run-append (rest_on l p) p.customer l front back)),
-    )
+first_bytes_send_first p l front back = let r = bytes_run (rest_on l p) p.customer l front in (
+  (bytes_run r.rest r.after l back).sent,
+  ap (λ (x : LineRun). x.sent) (sym (bytes_run-append (rest_on l p) p.customer l front back)),
+)

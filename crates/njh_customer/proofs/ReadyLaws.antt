@@ -24,29 +24,20 @@ use Rattle.njh_customer.specs.code.Coherence.{IsCoherent}
 use Rattle.njh_customer.specs.declared.shared.Shared.{Shared}
 use Rattle.njh_customer.proofs.StepLaws.{Stays}
 
-pub next_ready :
-    (id : LineId) (old new : Shared) (lines_old lines_new : List CustomerLine) (after : Customer)
+pub next_ready : (id : LineId) (old new : Shared) (lines_old lines_new : List CustomerLine) (after : Customer)
     → IsReady id old lines_old
     → Leads id.customer old new lines_new after → Stays after (customer_of id.customer old lines_old)
     → IsReady id new lines_new
 next_ready id old new lines_old lines_new after ready leads stays = record {
-  known = omega (arith, ready.known, ap (λ t. length t.customers) leads.tables);
-  spooled = omega (
-    arith,
-    ready.spooled,
-    ap length leads.others,
-    length-set old.spool id.customer
-        (spool_at id.customer new.spool),
-  );
-  there = omega (arith, ready.there, ap (λ c. length c.lines) leads.customer, stays.lines);
+  known = omega (arith, ap (λ t. length t.customers) leads.tables);
+  spooled = omega (arith, ap length leads.others, length-set old.spool id.customer (spool_at id.customer new.spool));
+  there = omega (arith, ap (λ c. length c.lines) leads.customer);
   coherent = subst IsCoherent (sym leads.customer) stays.coherent;
 }
 
 -- what leaves a spool to others leaves it so twice
-pub others_twice :
-    (old now new : List CustomerSpool) (c : ℕ) → now ≡ slice_set old c (spool_at c now)
-    → new ≡ slice_set now c (spool_at c new)
-    → new ≡ slice_set old c (spool_at c new)
+pub others_twice : (old now new : List CustomerSpool) (c : ℕ) → now ≡ slice_set old c (spool_at c now)
+    → new ≡ slice_set now c (spool_at c new) → new ≡ slice_set old c (spool_at c new)
 others_twice old now new c first then =
     then ∙ ap (λ spools. slice_set spools c (spool_at c new)) first ∙ set-set old c (spool_at c now) (spool_at c new)
 
@@ -64,8 +55,7 @@ one_acted l (i ∷ is) rest item ended c first others goes_on ends =
 -- a customer's files are led on twice
 pub moved_twice :
     (old now new : List CustomerSpool) (c : ℕ) (x : CustomerSpool) (f : CustomerSpool → CustomerSpool) → c < length old
-    → now ≡ slice_set old c x
-    → new ≡ slice_set now c (f (spool_at c now)) → new ≡ slice_set old c (f x)
+    → now ≡ slice_set old c x → new ≡ slice_set now c (f (spool_at c now)) → new ≡ slice_set old c (f x)
 moved_twice old now new c x f range now_is new_is = new_is
     ∙ ap₂ (λ m s. slice_set m c (f s)) now_is (ap (spool_at c) now_is ∙ get_or-set_same old c x no_spool range)
     ∙ set-set old c x (f x)
@@ -92,14 +82,12 @@ retold_same tables c = ap (λ customers. record tables { customers = customers }
 
 -- a mark of a line
 pub retold_marked : (tables new : TableFile) (id : LineId) (up : Bool) → id.customer < length tables.customers
-    → new ≡ with_mark id up tables
-    → KeepsOtherEntries id.customer tables new
+    → new ≡ with_mark id up tables → KeepsOtherEntries id.customer tables new
 retold_marked tables new id up there is = subst (KeepsOtherEntries id.customer tables) (sym is)
     (retold_by tables id.customer (customer_marked id.number up (customer_at tables id.customer)) there)
 
 -- a step that leaves the tables
-pub as_brings :
-    (c : ℕ) (old new : Shared) (lines : List CustomerLine) (after : Customer) → Leads c old new lines after
+pub as_brings : (c : ℕ) (old new : Shared) (lines : List CustomerLine) (after : Customer) → Leads c old new lines after
     → Brings c old new lines after
 as_brings c old new lines after leads = record {
   customer = leads.customer;
@@ -107,34 +95,25 @@ as_brings c old new lines after leads = record {
   entries = subst (KeepsOtherEntries c old.tables) (sym leads.tables) (retold_same old.tables c);
 }
 
-pub next_brought :
-    (id : LineId) (old new : Shared) (lines_old lines_new : List CustomerLine) (after : Customer)
+pub next_brought : (id : LineId) (old new : Shared) (lines_old lines_new : List CustomerLine) (after : Customer)
     → IsReady id old lines_old
     → Brings id.customer old new lines_new after → Stays after (customer_of id.customer old lines_old)
     → IsReady id new lines_new
 next_brought id old new lines_old lines_new after ready brings stays = record {
   known = omega (
     arith,
-    ready.known,
     ap (λ t. length t.customers) brings.entries,
     length-set old.tables.customers id.customer (customer_at new.tables id.customer),
   );
-  spooled = omega (
-    arith,
-    ready.spooled,
-    ap length brings.others,
-    length-set old.spool id.customer
-        (spool_at id.customer new.spool),
-  );
-  there = omega (arith, ready.there, ap (λ c. length c.lines) brings.customer, stays.lines);
+  spooled = omega (arith, ap length brings.others, length-set old.spool id.customer (spool_at id.customer new.spool));
+  there = omega (arith, ap (λ c. length c.lines) brings.customer);
   coherent = subst IsCoherent (sym brings.customer) stays.coherent;
 }
 
 -- the files stay
 pub still_brings :
     (c : ℕ) (old new : Shared) (lines : List CustomerLine) (after : Customer) → customer_of c new lines ≡ after
-    → new.spool ≡ old.spool
-    → KeepsOtherEntries c old.tables new.tables → Brings c old new lines after
+    → new.spool ≡ old.spool → KeepsOtherEntries c old.tables new.tables → Brings c old new lines after
 still_brings c old new lines after customer files entries = record {
   customer = customer;
   others = files ∙ sym (ap (λ s. slice_set old.spool c (spool_at c s)) files ∙ set-get_or old.spool c no_spool);
@@ -144,14 +123,7 @@ still_brings c old new lines after customer files entries = record {
 -- a line of the customer is one of the tables
 pub known_line : (id : LineId) (shared : Shared) (lines : List CustomerLine) → IsReady id shared lines
     → HasLine shared.tables id
-known_line id shared lines ready =
-    omega (
-      arith,
-      ready.there,
-      ready.coherent.marks,
-      length-map (customer_at shared.tables id.customer).lines
-          (λ l. l.up),
-    )
+known_line id shared lines ready = omega (arith, length-map (customer_at shared.tables id.customer).lines (λ l. l.up))
 
 pub is_there : (id : LineId) (shared : Shared) (lines : List CustomerLine) → IsReady id shared lines
     → IsThere id shared lines
@@ -163,26 +135,18 @@ is_there id shared lines ready = record {
 }
 
 -- it is still there behind a step that leaves the tables
-pub still_there :
-    (id : LineId) (old new : Shared) (lines_old lines_new : List CustomerLine) (after : Customer)
+pub still_there : (id : LineId) (old new : Shared) (lines_old lines_new : List CustomerLine) (after : Customer)
     → IsThere id old lines_old
     → Leads id.customer old new lines_new after → length after.lines ≡ length lines_old → IsThere id new lines_new
 still_there id old new lines_old lines_new after there leads count = record {
-  known = omega (arith, there.known, ap (λ t. length t.customers) leads.tables);
+  known = omega (arith, ap (λ t. length t.customers) leads.tables);
   line = subst (λ t. HasLine t id) (sym leads.tables) there.line;
-  spooled = omega (
-    arith,
-    there.spooled,
-    ap length leads.others,
-    length-set old.spool id.customer
-        (spool_at id.customer new.spool),
-  );
-  there = omega (arith, there.there, ap (λ c. length c.lines) leads.customer, count);
+  spooled = omega (arith, ap length leads.others, length-set old.spool id.customer (spool_at id.customer new.spool));
+  there = omega (arith, ap (λ c. length c.lines) leads.customer);
 }
 
 -- what brings on from where it was brought
-pub brought_on :
-    (c : ℕ) (old now new : Shared) (lines_now lines_new : List CustomerLine) (between : Customer)
+pub brought_on : (c : ℕ) (old now new : Shared) (lines_now lines_new : List CustomerLine) (between : Customer)
     (then : Customer → Customer)
     → Brings c old now lines_now between → Brings c now new lines_new (then (customer_of c now lines_now))
     → Brings c old new lines_new (then between)
@@ -204,12 +168,9 @@ sent_behind c old now new lines_now lines_new frame between then first second = 
 }
 
 -- a step that leaves the customer coherent, with as many lines
-pub made_by :
-    (id : LineId) (old : Shared) (before : List CustomerLine) (new : Shared) (lines : List CustomerLine)
-    (frame : List ℕ) (step : CustomerStep)
-    → IsReady id old before → SendsStep id.customer old new lines frame step
-    → Stays step.after (customer_of id.customer old before)
-    → MakesStep id old before new lines frame step
+pub made_by : (id : LineId) (old : Shared) (before : List CustomerLine) (new : Shared) (lines : List CustomerLine)
+    (frame : List ℕ) (step : CustomerStep) → IsReady id old before → SendsStep id.customer old new lines frame step
+    → Stays step.after (customer_of id.customer old before) → MakesStep id old before new lines frame step
 made_by id old before new lines frame step ready sends stays = record {
   after = sends.after;
   frame = sends.frame;
@@ -218,8 +179,7 @@ made_by id old before new lines frame step ready sends stays = record {
 }
 
 -- a mark behind what a step led to
-pub marked_behind :
-    (id : LineId) (up : Bool) (old now new : Shared) (lines : List CustomerLine) (after : Customer)
+pub marked_behind : (id : LineId) (up : Bool) (old now new : Shared) (lines : List CustomerLine) (after : Customer)
     → Leads id.customer old now lines after
     → id.customer < length old.tables.customers → new.tables ≡ with_mark id up now.tables → new.spool ≡ now.spool
     → entry_of (customer_at (with_mark id up old.tables) id.customer) ≡ entry_marked id.number up
@@ -233,10 +193,8 @@ marked_behind id up old now new lines after leads there is files own =
     ap (λ t. customer_with (entry_of (customer_at t id.customer)) (spool_at id.customer now.spool) lines)
     leads.tables in
     record {
-      customer =
-          ap₂ (λ entry s. customer_with entry (spool_at id.customer s) lines)
-          (ap (λ t. entry_of (customer_at t id.customer)) marked ∙ own) files
-          ∙ ap mark (sym before ∙ leads.customer);
+      customer = ap₂ (λ entry s. customer_with entry (spool_at id.customer s) lines)
+          (ap (λ t. entry_of (customer_at t id.customer)) marked ∙ own) files ∙ ap mark (sym before ∙ leads.customer);
       others = files ∙ leads.others ∙ ap (λ s. slice_set old.spool id.customer (spool_at id.customer s)) (sym files);
       entries = retold_marked old.tables new.tables id up there marked;
     }
@@ -246,8 +204,7 @@ pub accepted_so :
     (id : LineId) (old now : Shared) (lines new : List CustomerLine) (came : Input) (was_up now_up up : Bool)
     → id.number < length lines → new ≡ on_line id.number (in_state (after_input came)) lines
     → was_up ≡ is_up (line_at id.number lines).state.session.phase
-    → now_up ≡ is_up (line_at id.number new).state.session.phase
-    → up ≡ (now_up && not was_up) → now.spool ≡ old.spool
+    → now_up ≡ is_up (line_at id.number new).state.session.phase → up ≡ (now_up && not was_up) → now.spool ≡ old.spool
     → entry_of (customer_at now.tables id.customer) ≡ with_raised_line up id.number
     (entry_of (customer_at old.tables id.customer))
     → customer_of id.customer now new ≡ accepted_on id.number came (customer_of id.customer old lines)
@@ -266,8 +223,7 @@ accepted_so id old now lines new came was_up now_up up there is was went goes fi
 -- What comes but a good block: its verdict, and what that asks for.
 pub sent_by_verdict :
     (id : LineId) (old accepted new : Shared) (lines lines_accepted lines_new : List CustomerLine) (frame : List ℕ)
-    (came : Input) (v : Verdict)
-    → v ≡ verdict_on id.number came (customer_of id.customer old lines)
+    (came : Input) (v : Verdict) → v ≡ verdict_on id.number came (customer_of id.customer old lines)
     → Brings id.customer old accepted lines_accepted (accepted_on id.number came (customer_of id.customer old lines))
     → SendsStep id.customer accepted new lines_new frame (carried_out id.number v
     (customer_of id.customer accepted lines_accepted))
@@ -284,8 +240,7 @@ abbrev behind_block : ℕ → List Item → Verdict → Customer → CustomerSte
 behind_block l items v d = let a = acted_where v.acts l items d in behind_records a.ended l v a.customer
 
 -- A good block: its verdict, its records, and what is behind them, where these ended the session or didn't.
-pub sent_by_block :
-    (ended : Bool) (id : LineId) (old accepted now new : Shared)
+pub sent_by_block : (ended : Bool) (id : LineId) (old accepted now new : Shared)
     (lines lines_accepted lines_now lines_new : List CustomerLine) (frame : List ℕ)
     (b : Block) (v : Verdict) → v ≡ verdict_on id.number (block_input b) (customer_of id.customer old lines)
     → Brings id.customer old accepted lines_accepted (accepted_on id.number (block_input b)

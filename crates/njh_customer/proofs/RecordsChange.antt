@@ -55,8 +55,7 @@ one_restated p change files g same at = at_change (from_where p change files g a
 
 but_state : (files now : List WholeFile) (g : WholeFile) → map ready now ≡ map ready files → Contains now g
     → IsOneOf files g
-but_state files now g e at =
-    let there : Contains (map ready files) (ready g) = subst (λ fs. Contains fs (ready g)) e
+but_state files now g e at = let there : Contains (map ready files) (ready g) = subst (λ fs. Contains fs (ready g)) e
     (into_map ready now g at) in
     let found = from_map ready files no_file (ready g) there in
     (found.0, found.1, ap (λ h. h.number) found.2, ap (λ h. h.kind) found.2, ap (λ h. h.records) found.2)
@@ -67,8 +66,7 @@ both_are true false e = (refl, refl)
 both_are false b e = absurd (cc e)
 
 module _ (by_records : (kind : Kind) (node : List ℕ) (records : List Stored)
-    → records_to_node kind node None records ≡ with_destination kind node records)
-    (names : ReroutesNameNodes) where
+    → records_to_node kind node None records ≡ with_destination kind node records) (names : ReroutesNameNodes) where
   module _ (entry : CustomerEntry) (l : ℕ) (items : List Item) (x y : Outgoing) (g : WholeFile) where
     was_there : IsOneOf x.files g → FileMoves entry items x g
     was_there one = laws.stays one.0 one.1 one.2 one.3 one.4
@@ -77,8 +75,7 @@ module _ (by_records : (kind : Kind) (node : List ℕ) (records : List Stored)
     among : (files : List WholeFile) → y.files ≡ files → Contains y.files g → Contains files g
     among files e at = subst (λ fs. Contains fs g) e at
 
-    rerouted_one :
-        (i : Item) (who : User) (name : FileName) (node : List ℕ) → Contains items i
+    rerouted_one : (i : Item) (who : User) (name : FileName) (node : List ℕ) → Contains items i
         → Commands entry who (commands.Reroute name node) i
         → Contains (map (changed_file (is_of_name who name) (with_new_destination node)) x.files) g
         → FileMoves entry items x g
@@ -96,8 +93,7 @@ module _ (by_records : (kind : Kind) (node : List ℕ) (records : List Stored)
 
     one_came :
         (i : Item) (rcb srcb : ℕ) (f : WholeFile) → Contains items i → i ≡ Data rcb srcb [] → f.state ≡ state.Ready
-        → is_whole f.records ≡ true
-        → Contains x.files g ⊎ (f ≡ g) → FileMoves entry items x g
+        → is_whole f.records ≡ true → Contains x.files g ⊎ (f ≡ g) → FileMoves entry items x g
     one_came i rcb srcb f at is ready whole (inl old) = was_there (itself x.files g old)
     one_came i rcb srcb f at is ready whole (inr new) =
         laws.comes i rcb srcb at is (ap (λ h. is_whole h.records) (sym new) ∙ whole)
@@ -137,8 +133,7 @@ module _ (by_records : (kind : Kind) (node : List ℕ) (records : List Stored)
         (itself x.files g (among x.files (ap (λ z. z.files) e) there))
     sending_changes (moves.asks k f few before found e) there =
         was_there (one_restated (λ h. h.number == f.number) (λ h. record h { state = state.Sending }) x.files g
-        (λ h. refl)
-        (among (with_file_state f.number state.Sending x.files) (ap (λ z. z.files) e) there))
+        (λ h. refl) (among (with_file_state f.number state.Sending x.files) (ap (λ z. z.files) e) there))
     sending_changes (moves.goes_on k n place r before found e) there = was_there
         (itself x.files g (among x.files (ap (λ z. z.files) e) there))
     sending_changes (moves.ends k n place before found e) there = was_there

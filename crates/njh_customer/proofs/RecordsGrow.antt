@@ -32,8 +32,7 @@ data_count [] = 0
 data_count (i ∷ is) = data_in i + data_count is
 
 abbrev pub RedirectsByRecords : Type 0
-RedirectsByRecords =
-    (kind : Kind) (node : List ℕ) (records : List Stored)
+RedirectsByRecords = (kind : Kind) (node : List ℕ) (records : List Stored)
     → records_to_node kind node None records ≡ with_destination kind node records
 
 -- whole files alone change
@@ -58,8 +57,7 @@ module _ (by_records : RedirectsByRecords) (names : ReroutesNameNodes) (commands
     rerouted = λ p node t named grow. let change = changed_file p (with_new_destination node) in
         whole_grows s t (record t { whole = map change t.whole })
         (all_still change (changed_still p (with_new_destination node) (rerouted_still by_records names node named))
-        t.whole) grow
-        refl refl;
+        t.whole) grow refl refl;
   }
 
   pub record_grows : (l : ℕ) (i : Item) (c : Customer) → FilesGrow (data_in i) c.spool (after_record l i c).spool
@@ -78,6 +76,5 @@ module _ (by_records : RedirectsByRecords) (names : ReroutesNameNodes) (commands
       at_end : (b : Bool) → FilesGrow (data_count is) (after_record l i c).spool later.customer.spool
           → FilesGrow (data_count (i ∷ is)) c.spool (ended_or b c later).customer.spool
       at_end true grow = grow_within 0 (data_count (i ∷ is)) c.spool c.spool (omega arith) (unchanged c.spool)
-      at_end false grow =
-          grow_then (data_in i) (data_count is) c.spool (after_record l i c).spool later.customer.spool
+      at_end false grow = grow_then (data_in i) (data_count is) c.spool (after_record l i c).spool later.customer.spool
           (record_grows l i c) grow

@@ -36,8 +36,7 @@ module _ (P : Sending → Type 0) (or_ack0 : Bool) (w : Writing) (x : LineState)
     where
       at : (is : List Item) → w.items ≡ is → P (elim is [
         | [] ↦ sending_of_empty or_ack0 w x
-        | i ∷ js ↦ sending_of_block
-            w x
+        | i ∷ js ↦ sending_of_block w x
       ])
       at [] e = none e
       at (i ∷ is) e = some

@@ -84,8 +84,7 @@ run_short rest c l (byte ∷ bytes) short =
     let x = byte_step rest c l byte in run_short x.rest x.after l bytes (step_short rest byte short).0
 
 later_short : (n : ℕ) (rest : Rest) (after : Customer) (sent : List ℕ) (later : Taking) → IsShortRest rest
-    → IsShortRest later.rest
-    → IsShortRest (or_later n rest (record { after = after; frame = sent }) later).rest
+    → IsShortRest later.rest → IsShortRest (or_later n rest (record { after = after; frame = sent }) later).rest
 later_short n rest after [] later short short_later = short_later
 later_short n rest after (b ∷ sent) later short short_later = short
 

@@ -136,7 +136,7 @@ restated_harmless s t restated = record { partial = restated.partial; limits = r
     headers : HaveHeaders s.whole → HaveHeaders t.whole
     headers have k d inside = let now : All Reads (map ready t.whole) =
         subst (All Reads) (sym restated.whole) (All-map Reads ready s.whole have) in
-        subst Reads (get_or-map ready t.whole k d) (now k (ready d) (omega (arith, inside, length-map t.whole ready)))
+        subst Reads (get_or-map ready t.whole k d) (now k (ready d) (omega (arith, length-map t.whole ready)))
 
 pub completed_harmless : (x : Sender) (s : CustomerSpool) → IsHarmless s (after_completion x s).spool
 completed_harmless x s = completed_so (IsHarmless s) s

@@ -29,8 +29,7 @@ about_stream l k n x about = at_test (cases_lt k (length (streams_of l x)))
 
 -- ---- one that is set
 
-pub set_there :
-    (l k : ℕ) (s : Sender) (x : Outgoing) → l < length x.streams → k < length (streams_of l x)
+pub set_there : (l k : ℕ) (s : Sender) (x : Outgoing) → l < length x.streams → k < length (streams_of l x)
     → sender_on l k (with_sender_on l k s x) ≡ s
 set_there l k s x line stream =
     ap (λ senders. get_or senders k Idle) (get_or-set_same x.streams l (set (streams_of l x) k s) [] line)
@@ -64,6 +63,5 @@ each_lines f x = length-map x.streams (λ senders. map f senders)
 
 pub each_streams : (f : Sender → Sender) (j : ℕ) (x : Outgoing)
     → length (streams_of j (each_stream f x)) ≡ length (streams_of j x)
-each_streams f j x =
-    ap (λ senders. length senders) (get_or-map (λ senders. map f senders) x.streams j []) ∙ length-map
+each_streams f j x = ap (λ senders. length senders) (get_or-map (λ senders. map f senders) x.streams j []) ∙ length-map
     (streams_of j x) f

@@ -61,16 +61,7 @@ requests_eight : AreOfEight requests
 unfolding streams
 requests_eight = (
   omega arith,
-  (
-    omega arith,
-    (
-      omega arith,
-      (
-        omega arith,
-        (omega arith, (omega arith, (omega arith, (omega arith, tt)))),
-      ),
-    ),
-  ),
+  (omega arith, (omega arith, (omega arith, (omega arith, (omega arith, (omega arith, (omega arith, tt))))))),
 )
 
 messages_eight : (b : Bool) (messages : List (List ℕ)) → AreOfEight (messages_where b messages)
@@ -150,15 +141,12 @@ module _ (entry : CustomerEntry) (l : ℕ) (base : List (List Sender)) (inside :
   both_right true b e = e
   both_right false b e = absurd (cc e)
 
-  offers_request : (x : Filling) (k : ℕ) (b : Bool) → k < 8 → may_ask x.outlet k ≡ b
-      → OffersIf x (elim b [
-        | false ↦ None
-        | true ↦ option_map (λ f. asking x.outlet x.spool k f.number)
-            (oldest (goes_by entry l) (kind_of k) x.spool)
-      ])
+  offers_request : (x : Filling) (k : ℕ) (b : Bool) → k < 8 → may_ask x.outlet k ≡ b → OffersIf x (elim b [
+    | false ↦ None
+    | true ↦ option_map (λ f. asking x.outlet x.spool k f.number) (oldest (goes_by entry l) (kind_of k) x.spool)
+  ])
   offers_request x k false few e = tt
-  offers_request x k true few e =
-      offers_map {A = WholeFile} x (λ f. asking x.outlet x.spool k f.number)
+  offers_request x k true few e = offers_map {A = WholeFile} x (λ f. asking x.outlet x.spool k f.number)
       (oldest (goes_by entry l) (kind_of k) x.spool)
       (λ f found. one (moves.asks k f few (stream_now k x ∙ idle_is (sender_at k x.outlet)
       (both_right (nat_lt (k % 4) x.outlet.streams) (is_idle (sender_at k x.outlet)) e)) found
@@ -180,8 +168,7 @@ module _ (entry : CustomerEntry) (l : ℕ) (base : List (List Sender)) (inside :
       ∙ ap (λ senders. of_parts x.spool.whole x.spool.arrived (set base l senders)) (set-get_or x.outlet.senders k Idle)
 
   offers_next : (x : Filling) (k n place : ℕ) (o : Option Stored) → sender_at k x.outlet ≡ Sending n place
-      → record_at n place x.spool ≡ o
-      → Offers x (serving x.outlet x.spool k (next_at n place o))
+      → record_at n place x.spool ≡ o → Offers x (serving x.outlet x.spool k (next_at n place o))
   offers_next x k n place (Some r) e found =
       one (moves.goes_on k n place r (stream_now k x ∙ e) (sym (at_place n place x) ∙ found)
       (moved_is x k (Sending n (place + 1)) x.spool.whole))
@@ -207,8 +194,7 @@ module _ (entry : CustomerEntry) (l : ℕ) (base : List (List Sender)) (inside :
       (λ m found. same refl)
   offers StreamTurn x few =
       offers_map {A = ℕ} x (λ k. serving x.outlet x.spool k (next_of (sender_at k x.outlet) x.spool))
-      (next_served x.outlet)
-      (λ k found. offers_turn x k (sender_at k x.outlet) refl)
+      (next_served x.outlet) (λ k found. offers_turn x k (sender_at k x.outlet) refl)
 
   abbrev Gives : Filling → Filling → Type 0
   Gives x y = GivesOne entry l base x y
@@ -306,7 +292,7 @@ next_leads l c there =
     let base = streams_from_hub c.lines in
     subst (λ x. LeadsByMoves (Sends c.entry l) x (out_of l base (next_block c.entry l c.spool (line_at l c.lines))))
     (next_begins l c)
-    (filled_leads c.entry l base (omega (arith, there, length-map c.lines (λ x. x.senders))) (filling_on l c))
+    (filled_leads c.entry l base (omega (arith, length-map c.lines (λ x. x.senders))) (filling_on l c))
 
 pub next_is : (l : ℕ) (or_ack0 : Bool) (c : Customer) → outgoing (replied_to l (reply.Next or_ack0) c).after
     ≡ out_of l (streams_from_hub c.lines) (next_block c.entry l c.spool (line_at l c.lines))

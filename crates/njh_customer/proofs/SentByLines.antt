@@ -101,8 +101,7 @@ module _ (entry : CustomerEntry) (l k : ℕ) (f : WholeFile) (x : Outgoing) (lin
           ∙ ap (λ t. file_in t) idle))
 
   asks_about : IsAbout l k f.number asked
-  asks_about = ap (λ t. file_in t) (set_there l k (Requested f.number) marked line
-      (omega (arith, few, sent.eight l line)))
+  asks_about = ap (λ t. file_in t) (set_there l k (Requested f.number) marked line (omega (arith, sent.eight l line)))
 
   -- a file of these is the one that is asked for, or was there
   from_asked : (g : WholeFile) → Contains asked.files g → WasOrIs (λ h. h.number == f.number)
@@ -191,7 +190,7 @@ pub sent_by_all : (entry : CustomerEntry) (l : ℕ) (x y : Outgoing) → l < len
     → LeadsByMoves (Sends entry l) x y → AreBeingSent x → AreBeingSent y
 sent_by_all entry l _ _ line (nowhere x) sent = sent
 sent_by_all entry l _ _ line (onward x y z move later) sent =
-    sent_by_all entry l y z (omega (arith, line, sends_lines entry l x y move)) later
+    sent_by_all entry l y z (omega (arith, sends_lines entry l x y move)) later
     (sent_by_sends entry l x y line move sent)
 
 -- ---- what a line sends
@@ -244,14 +243,12 @@ one_ended s spool g at = at_about (file_in s) at
 
 all_ended_ones :
     (senders : List Sender) (spool : CustomerSpool) (g : WholeFile) → Contains (all_ended senders spool).whole g
-    → g.state ≡ state.Sending
-    → Contains spool.whole g × NoneAbout g.number senders
+    → g.state ≡ state.Sending → Contains spool.whole g × NoneAbout g.number senders
 all_ended_ones [] spool g at is = (at, λ k about. cc about)
 all_ended_ones (s ∷ more) spool g at is =
     let rest = all_ended_ones more (spool_after_session s spool) g at is in at_first rest.1 (one_ended s spool g rest.0)
   where
-    at_first : NoneAbout g.number more
-        → (Contains spool.whole g × (file_in s ≡ Some g.number → ⊥))
+    at_first : NoneAbout g.number more → (Contains spool.whole g × (file_in s ≡ Some g.number → ⊥))
         ⊎ ((file_in s ≡ Some g.number) × (g.state ≡ state.Ready))
         → Contains spool.whole g × NoneAbout g.number (s ∷ more)
     at_first others (inl (there, none)) = (there, none_more g.number s more none others)
@@ -260,16 +257,13 @@ all_ended_ones (s ∷ more) spool g at is =
 -- a file that no stream is about stays as it is
 unended_ones :
     (senders : List Sender) (spool : CustomerSpool) (g : WholeFile) → Contains (all_ended senders spool).whole g
-    → NoneAbout g.number senders
-    → Contains spool.whole g
+    → NoneAbout g.number senders → Contains spool.whole g
 unended_ones [] spool g at none = at
 unended_ones (s ∷ more) spool g at none =
     at_first (one_ended s spool g (unended_ones more (spool_after_session s spool) g at (λ k. none (suc k))))
   where
-    at_first :
-        (Contains spool.whole g × (file_in s ≡ Some g.number → ⊥))
-        ⊎ ((file_in s ≡ Some g.number) × (g.state ≡ state.Ready))
-        → Contains spool.whole g
+    at_first : (Contains spool.whole g × (file_in s ≡ Some g.number → ⊥))
+        ⊎ ((file_in s ≡ Some g.number) × (g.state ≡ state.Ready)) → Contains spool.whole g
     at_first (inl was) = was.0
     at_first (inr (about, waits)) = absurd (none 0 about)
 
@@ -290,7 +284,7 @@ module _ (l : ℕ) (c : Customer) (line : l < length c.lines) (sent : AreBeingSe
   own_streams = get_or-map (λ y. y.senders) c.lines l no_customer_line
 
   inside : l < length before_end.streams
-  inside = omega (arith, line, length-map c.lines (λ x. x.senders))
+  inside = omega (arith, length-map c.lines (λ x. x.senders))
 
   streams_now : behind_end.streams ≡ set before_end.streams l idles
   streams_now = (over_so l c).streams
@@ -342,7 +336,8 @@ module _ (l : ℕ) (c : Customer) (line : l < length c.lines) (sent : AreBeingSe
   over_same m k n g about same = at_tried
     where
       there : (f : WholeFile) → Contains (all_ended own c.spool).whole f → f.number ≡ n → Contains c.spool.whole f
-      there f at number = unended_ones own c.spool f at (subst (λ i. NoneAbout i own) (sym number) (none_own m k n about))
+      there f at number = unended_ones own c.spool f at (subst (λ i. NoneAbout i own) (sym number)
+          (none_own m k n about))
 
       at_tried : WasOrIs (may_go_again c.entry l) ready (all_ended own c.spool).whole g → Contains c.spool.whole g
       at_tried (inl (f, at, e, is)) =
@@ -358,12 +353,12 @@ module _ (l : ℕ) (c : Customer) (line : l < length c.lines) (sent : AreBeingSe
   over_sent g is (inl (f, at, e, same)) = absurd (cc (sym is ∙ ap (λ i. i.state) same))
   over_sent g is (inr (at, e)) = all_ended_ones own c.spool g at is
 
-  over_on : (g : WholeFile) → NoneAbout g.number own → (m k : ℕ) → IsAbout m k g.number before_end → IsAbout m k g.number behind_end
+  over_on : (g : WholeFile) → NoneAbout g.number own → (m k : ℕ) → IsAbout m k g.number before_end
+      → IsAbout m k g.number behind_end
   over_on g none m k about = ap (λ senders. file_in (get_or senders k Idle)) (other_line m apart) ∙ about
     where
       apart : m ≡ l → ⊥
-      apart same =
-          none k (sym (ap (λ senders. file_in (get_or senders k Idle)) own_streams)
+      apart same = none k (sym (ap (λ senders. file_in (get_or senders k Idle)) own_streams)
           ∙ sym (ap (λ i. file_in (sender_on i k before_end)) same) ∙ about)
 
   over_carries : Carries before_end behind_end
@@ -372,7 +367,8 @@ module _ (l : ℕ) (c : Customer) (line : l < length c.lines) (sent : AreBeingSe
     streams = over_streams;
     back = λ m k n about. (about_before m k n about).1;
     there = λ m k n about there.
-        same_numbered n behind_end.files before_end.files (but_states behind_end.files before_end.files (over_so l c).files) ∙ there;
+        same_numbered n behind_end.files before_end.files (but_states behind_end.files before_end.files
+        (over_so l c).files) ∙ there;
     same = λ m k n g about at is. over_same m k n g about is (from_tried g at);
     sent = λ g at is. (over_sent g is (from_tried g at)).0;
     on = λ g at is. over_on g (over_sent g is (from_tried g at)).1;
@@ -405,12 +401,13 @@ pub sent_fresh : (entry : CustomerEntry) → AreBeingSent (outgoing (fresh_custo
 sent_fresh entry = record {
   eight = λ l there.
       ap (λ (senders : List Sender). length senders) (get_or-map (λ y. y.senders) c.lines l no_customer_line)
-      ∙ All-map (λ (y : CustomerLine). length y.senders ≡ 8) (λ line. idle_line (config_of entry line) line.streams) entry.lines
+      ∙ All-map (λ (y : CustomerLine). length y.senders ≡ 8)
+      (λ line. idle_line (config_of entry line) line.streams) entry.lines
       (λ i d h. refl) l no_customer_line (omega (arith, there, length-map c.lines (λ y. y.senders)));
   there = λ l k n about. absurd (none_about l k n about);
   sending = λ l k n f about at same. absurd (none_about l k n about);
   apart = λ l k m j n first second. absurd (none_about l k n first);
-  go = λ f at is. absurd (omega (arith, at.1));
+  go = λ f at is. absurd (omega arith);
 }
   where
     c : Customer

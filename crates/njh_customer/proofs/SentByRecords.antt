@@ -50,10 +50,8 @@ counted n fs g at is =
     counted_at (λ f. f.number == n) fs at.0 g at.1 (eq-eqb (get_or fs at.0 g).number n (ap (λ h. h.number) at.2 ∙ is))
 
 -- two of a number are one
-same_file :
-    (n : ℕ) (fs : List WholeFile) (f g : WholeFile) → count_by (λ h. h.number == n) fs ≤ 1 → Contains fs f
-    → Contains fs g
-    → f.number ≡ n → g.number ≡ n → f ≡ g
+same_file : (n : ℕ) (fs : List WholeFile) (f g : WholeFile) → count_by (λ h. h.number == n) fs ≤ 1 → Contains fs f
+    → Contains fs g → f.number ≡ n → g.number ≡ n → f ≡ g
 same_file n fs f g few at there is one = let both : Some f ≡ Some g =
     sym (found_numbered (λ (h : WholeFile). h.number) fs f n few at is)
     ∙ found_numbered (λ (h : WholeFile). h.number) fs g n few there one in cc both
@@ -74,7 +72,7 @@ pub record Carries (x y : Outgoing) : Type 0 where
 
 pub carried : (x y : Outgoing) → Carries x y → AreBeingSent x → AreBeingSent y
 carried x y c are = record {
-  eight = λ l inside. c.streams l ∙ are.eight l (omega (arith, inside, c.lines));
+  eight = λ l inside. c.streams l ∙ are.eight l (omega arith);
   there = λ l k n about. c.there l k n about (are.there l k n (c.back l k n about));
   sending = λ l k n f about at is. are.sending l k n f (c.back l k n about) (c.same l k n f about at is) is;
   apart = λ l k m j n about other. are.apart l k m j n (c.back l k n about) (c.back m j n other);
@@ -102,14 +100,13 @@ arrival_carries f x waits apart are = record {
   where
     -- a stream is about another of its number
     no_more : {A : Type 0} (n : ℕ) → Has n x.files → f.number ≡ n → A
-    no_more n (g, there, is) one =
-        absurd (omega (
-          arith,
-          apart n,
-          sum_by_push (λ h. cond (h.number == n) 1 0) x.files f,
-          one_counts n f one,
-          counted n x.files g there is,
-        ))
+    no_more n (g, there, is) one = absurd (omega (
+      arith,
+      apart n,
+      sum_by_push (λ h. cond (h.number == n) 1 0) x.files f,
+      one_counts n f one,
+      counted n x.files g there is,
+    ))
 
     at_place : (l k n : ℕ) (g : WholeFile) → IsAbout l k n x → g.number ≡ n → Contains x.files g ⊎ (f ≡ g)
         → Contains x.files g
@@ -177,13 +174,10 @@ ended_carries l m n s files x before none old sent kept are = record {
         (set_where_about l m n s (with_files files x) before) place.0 place.1 in
         cc (sym about ∙ ap (λ t. file_in t) there ∙ none)
 
-    on_still :
-        (f : WholeFile) → (f.number ≡ n → ⊥) → (j k : ℕ) → IsAbout j k f.number x
-        → IsOne j k l m s (with_files files x) now
-        → IsAbout j k f.number now
+    on_still : (f : WholeFile) → (f.number ≡ n → ⊥) → (j k : ℕ) → IsAbout j k f.number x
+        → IsOne j k l m s (with_files files x) now → IsAbout j k f.number now
     on_still f another j k about (inl same) = ap (λ t. file_in t) same ∙ about
-    on_still f another j k about (inr one) =
-        absurd (another (number_of f.number n (sym about ∙ ap (λ t. file_in t)
+    on_still f another j k about (inr one) = absurd (another (number_of f.number n (sym about ∙ ap (λ t. file_in t)
         (was j k l m (sender_on l m x) x refl one.0 one.1) ∙ before)))
 
 refused_carries : (l m n : ℕ) (s : Sender) (x : Outgoing) → IsAbout l m n x → file_in s ≡ None → AreBeingSent x
@@ -225,10 +219,8 @@ completed_carries l m n s x before none are =
     ended_carries l m n s (without_numbered n x.files) x before none (λ f at another. from_filter other x.files f at)
     (λ f at sending. (
       from_filter other x.files f at,
-      λ e. cc
-          (sym (not-true (f.number == n) (passes_filter other x.files f at)) ∙ eq-eqb f.number n e),
-    ))
-    (λ f at another. into_filter other x.files f at (passes_where (f.number == n) f refl another)) are
+      λ e. cc (sym (not-true (f.number == n) (passes_filter other x.files f at)) ∙ eq-eqb f.number n e),
+    )) (λ f at another. into_filter other x.files f at (passes_where (f.number == n) f refl another)) are
   where
     other : WholeFile → Bool
     other f = not (f.number == n)
@@ -240,7 +232,8 @@ completed_carries l m n s x before none are =
 -- ---- files change that aren't being sent, and aren't then
 
 pub changed_carries :
-    (p : WholeFile → Bool) (change : WholeFile → WholeFile) (x : Outgoing) → ((f : WholeFile) → (change f).number ≡ f.number)
+    (p : WholeFile → Bool) (change : WholeFile → WholeFile) (x : Outgoing)
+    → ((f : WholeFile) → (change f).number ≡ f.number)
     → ((f : WholeFile) → p f ≡ true → is_sending f.state ≡ false)
     → ((f : WholeFile) → p f ≡ true → is_sending (change f).state ≡ false) → AreBeingSent x
     → Carries x (with_files (map (λ f. cond (p f) (change f) f) x.files) x)
@@ -249,14 +242,16 @@ changed_carries p change x numbers idle still are = record {
   streams = λ l. refl;
   back = λ l k n about. about;
   there = λ l k n about there.
-      same_numbered n (map (λ f. cond (p f) (change f) f) x.files) x.files (changed_where (λ f. f.number) p change x.files numbers)
+      same_numbered n (map (λ f. cond (p f) (change f) f) x.files) x.files
+      (changed_where (λ f. f.number) p change x.files numbers)
       ∙ there;
   same = λ l k n g about at is. same l k n g about is (from_where p change x.files g at);
   sent = λ g at sending. sent g sending (from_where p change x.files g at);
   on = λ g at sending l k about. about;
 }
   where
-    same : (l k n : ℕ) (g : WholeFile) → IsAbout l k n x → g.number ≡ n → WasOrIs p change x.files g → Contains x.files g
+    same : (l k n : ℕ) (g : WholeFile) → IsAbout l k n x → g.number ≡ n → WasOrIs p change x.files g
+        → Contains x.files g
     same l k n g about one (inl (f, at, e, is)) =
         let sending = are.sending l k n f about at (sym (numbers f) ∙ sym (ap (λ h. h.number) is) ∙ one) in
         absurd (cc (sym (idle f e) ∙ ap is_sending sending))
@@ -269,7 +264,8 @@ changed_carries p change x numbers idle still are = record {
 
 -- by a command, of those that aren't being sent
 command_carries :
-    (p : WholeFile → Bool) (change : WholeFile → WholeFile) (x : Outgoing) → ((f : WholeFile) → (change f).number ≡ f.number)
+    (p : WholeFile → Bool) (change : WholeFile → WholeFile) (x : Outgoing)
+    → ((f : WholeFile) → (change f).number ≡ f.number)
     → ((f : WholeFile) → is_sending f.state ≡ false → is_sending (change f).state ≡ false) → AreBeingSent x
     → Carries x (with_changed p change x)
 command_carries p change x numbers idle =
@@ -288,8 +284,7 @@ reroute_idle state.Sending e = e
 about_left : (m n : ℕ) (s : Sender) → file_in (without_file m s) ≡ Some n → (file_in s ≡ Some n) × (m ≡ n → ⊥)
 about_left m n s about = at_file (file_in s) refl about
   where
-    at_test :
-        (q : ℕ) (b : Bool) → file_in s ≡ Some q → (q == m) ≡ b → file_in (aborted_where b s) ≡ Some n
+    at_test : (q : ℕ) (b : Bool) → file_in s ≡ Some q → (q == m) ≡ b → file_in (aborted_where b s) ≡ Some n
         → (file_in s ≡ Some n) × (m ≡ n → ⊥)
     at_test q true e same has = absurd (cc (sym has ∙ aborted_none s))
     at_test q false e differ has = (has, λ one. cc (sym differ ∙ eq-eqb q m (number_of q n (sym e ∙ has) ∙ sym one)))
@@ -383,8 +378,7 @@ cancelled_carries p x apart are = record {
 
 pub sent_by_acts :
     (entry : CustomerEntry) (l : ℕ) (i : Item) (x y : Outgoing) → Acts entry l i x y → AreDistinct x.files
-    → AreDistinct y.files → AreBeingSent x
-    → AreBeingSent y
+    → AreDistinct y.files → AreBeingSent x → AreBeingSent y
 sent_by_acts entry l i x y (moves.comes rcb srcb f is ready whole e) before behind are =
     carried x y (subst (Carries x) (sym e) (arrival_carries f x (λ sending. cc (sym ready ∙ sending))
     (subst (λ z. AreDistinct z.files) e behind) are)) are
@@ -407,8 +401,7 @@ sent_by_acts entry l i x y (moves.reroutes who name node line given route e) bef
 sent_by_acts entry l i x y (moves.cancels who name given e) before behind are =
     carried x y (subst (Carries x) (sym e) (cancelled_carries (is_of_name who name) x before are)) are
 
-pub sent_record :
-    CommandsMoveFilesSo → (l : ℕ) (i : Item) (c : Customer) → AreDistinct c.spool.whole
+pub sent_record : CommandsMoveFilesSo → (l : ℕ) (i : Item) (c : Customer) → AreDistinct c.spool.whole
     → AreDistinct (after_record l i c).spool.whole
     → AreBeingSent (outgoing c) → AreBeingSent (outgoing (after_record l i c))
 sent_record commands l i c before behind are = at_move (acts_so commands l i c).moves

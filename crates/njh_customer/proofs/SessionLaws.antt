@@ -45,8 +45,7 @@ module _ (untied : NothingUnties) (ends : EndsTie) where
   pub reply_stays : (l : ℕ) (r : LineReply) (c : Customer) → IsCoherent c → Stays (replied_to l r c).after c
   reply_stays l r c coherent =
       let x = sending_of_reply c.entry l r c.spool (line_at l c.lines) in
-      let same : shape x.line ≡ shape (line_at l c.lines) =
-      ap (λ (p : Config × Phase × ℕ × List Receiver). (p.2, p.3))
+      let same : shape x.line ≡ shape (line_at l c.lines) = ap (λ (p : Config × Phase × ℕ × List Receiver). (p.2, p.3))
       (reply_lasting c.entry l r c.spool (line_at l c.lines)) in
       stays_like untied (replied_to l r c).after c (record {
         entry = refl;
@@ -66,7 +65,7 @@ module _ (untied : NothingUnties) (ends : EndsTie) where
       let restated = ended_restated c.entry l x.senders c.spool in
       let gone = without_open_same x.receivers sent in
       let here : streams_at l lines ≡ x.receivers = get_or-map (λ y. y.receivers) c.lines l no_customer_line in
-      let there : l < length lines = omega (arith, line_there, length-map c.lines (λ y. y.receivers)) in
+      let there : l < length lines = omega (arith, length-map c.lines (λ y. y.receivers)) in
       let tied = ends l lines sent there (untied lines c.spool sent restated.partial coherent.tied) in
       let after : AreTied (set lines l (replicate (length x.receivers) receiver.Idle))
       (without_all_open x.receivers sent) =
@@ -78,10 +77,8 @@ module _ (untied : NothingUnties) (ends : EndsTie) where
               (sym (map-set (λ y. y.receivers) c.lines l (with_idle_streams x))) after;
           streamed = All-set HasStreams c.lines l (with_idle_streams x)
               (length-replicate (length x.receivers) receiver.Idle ∙ eight.0, eight.1) coherent.streamed;
-          headers =
-              All-same (λ f. HasHeaders f.kind f.records) (without_all_open x.receivers sent).whole sent.whole
-              gone.whole
-              ((restated_harmless c.spool sent restated).headers coherent.headers);
+          headers = All-same (λ f. HasHeaders f.kind f.records) (without_all_open x.receivers sent).whole sent.whole
+              gone.whole ((restated_harmless c.spool sent restated).headers coherent.headers);
           quota = ap (λ (l : ℕ × ℕ). l.0) (gone.limits ∙ restated.limits) ∙ coherent.quota;
           limit = ap (λ (l : ℕ × ℕ). l.1) (gone.limits ∙ restated.limits) ∙ coherent.limit;
           marks = length-set c.entry.up l false ∙ coherent.marks ∙ sym (length-set c.lines l (with_idle_streams x));
@@ -101,8 +98,7 @@ module _ (untied : NothingUnties) (ends : EndsTie) where
     over = λ l d there so. onward (session_over l d) d c (over_stays l d there so.coherent) so;
   }
 
-  pub input_stays :
-      (l : ℕ) (came : Input) (c : Customer) → l < length c.lines → IsCoherent c
+  pub input_stays : (l : ℕ) (came : Input) (c : Customer) → l < length c.lines → IsCoherent c
       → Stays (after_line_input l came c).after c
   input_stays l came c there coherent = input_so (λ d. Stays d c) (stays_in_session c) l came c there (stays c coherent)
 

@@ -23,8 +23,8 @@ pub streamed_still : (xs ys : List CustomerLine) → shapes xs ≡ shapes ys →
 streamed_still xs ys same all k d h = let e : shape (get_or xs k d) ≡ shape (get_or ys k d) =
     sym (get_or-map shape xs k d) ∙ ap (λ ps. get_or ps k (shape d)) same ∙ get_or-map shape ys k d in
     let long : length xs ≡ length ys = as_many shape xs ys same in
-    let there = all k d (omega (arith, h, long)) in
-    (ap (λ p. length p.1) e ∙ there.0, omega (arith, there.1, ap (λ p. p.0) e))
+    let there = all k d (omega arith) in
+    (ap (λ p. length p.1) e ∙ there.0, omega (arith, ap (λ p. p.0) e))
 
 -- what waits isn't seen of it
 pub shape_waiting : (l : ℕ) (before : List CustomerLine) → StaysWaiting l (IsSeen shape before)

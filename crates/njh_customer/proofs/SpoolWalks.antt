@@ -142,8 +142,7 @@ module _ (I : CustomerSpool → Type 0) (J : Item → CustomerSpool → Type 0) 
       at_move (rerouted name node line says route is none_gone) =
           files (map (changed_file (is_of_name who name) (with_new_destination node)) s.whole) is
           (keep.rerouted (is_of_name who name) node s (names message name node says) so)
-      at_move (cancelled name says is gone) =
-          files (filter (λ f. not (is_of_name who name f)) s.whole) is
+      at_move (cancelled name says is gone) = files (filter (λ f. not (is_of_name who name f)) s.whole) is
           (keep.left (λ f. not (is_of_name who name f)) s so)
 
   pub record_so : (l : ℕ) (i : Item) (c : Customer) → I c.spool → J i (after_record l i c).spool

@@ -42,20 +42,17 @@ module _ (untied : NothingUnties) where
   pub stays_like : (d c : Customer) → IsLike d c → IsCoherent c → Stays d c
   stays_like d c like coherent = record {
     coherent = coherent_still d c untied like coherent;
-    lines = as_many shape
-        d.lines c.lines like.lines;
+    lines = as_many shape d.lines c.lines like.lines;
   }
 
   -- only its lines changed, and no stream to the hub
   pub stays_lines : (lines : List CustomerLine) (c : Customer) → shapes lines ≡ shapes c.lines → IsCoherent c
       → Stays (record c { lines = lines }) c
-  stays_lines lines c same coherent =
-      stays_like (record c { lines = lines }) c (record {
-        entry = refl;
-        lines = same;
-        files = restated_harmless c.spool
-            c.spool (as_it_is c.spool);
-      }) coherent
+  stays_lines lines c same coherent = stays_like (record c { lines = lines }) c (record {
+    entry = refl;
+    lines = same;
+    files = restated_harmless c.spool c.spool (as_it_is c.spool);
+  }) coherent
 
   -- a mark on a line
   raised_stays : (up : Bool) (l : ℕ) (c : Customer) → IsCoherent c
@@ -83,14 +80,11 @@ module _ (untied : NothingUnties) where
   -- a stream from the hub moves, and its file
   sent_stays : (l k : ℕ) (sent : SenderOutcome) (c : Customer) → IsHarmless c.spool sent.spool → IsCoherent c
       → Stays (with_sender_outcome l k sent c) c
-  sent_stays l k sent c files coherent = stays_like (with_sender_outcome l k sent c) c
-      (record {
-        entry = refl;
-        lines = on_line_seen shape l (with_sender k sent.sender) c.lines (λ x. refl);
-        files =
-            files;
-      })
-      coherent
+  sent_stays l k sent c files coherent = stays_like (with_sender_outcome l k sent c) c (record {
+    entry = refl;
+    lines = on_line_seen shape l (with_sender k sent.sender) c.lines (λ x. refl);
+    files = files;
+  }) coherent
 
   module _ (records : RecordsKeep) where
     command_stays : (n : Nodal) (c : Customer) → IsCoherent c → Stays (after_user_command n c) c
@@ -107,8 +101,7 @@ module _ (untied : NothingUnties) where
           files = record {
             partial = refl;
             limits = refl;
-            headers = records.commands c.entry
-                (sender_of n) n.message c.spool;
+            headers = records.commands c.entry (sender_of n) n.message c.spool;
           };
         }) coherent
       where
@@ -137,21 +130,18 @@ module _ (untied : NothingUnties) where
     one_of_eight streams rcb k few h = at_number (stream_number rcb) h
       where
         by_kind : (n : ℕ) (b : Bool) → n < streams → Some (cond b n (n + 4)) ≡ Some k → k < 8
-        by_kind n true lt e = let same : n ≡ k = cc e in omega (arith, lt, few, same)
-        by_kind n false lt e = let same : n + 4 ≡ k = cc e in omega (arith, lt, few, same)
+        by_kind n true lt e = let same : n ≡ k = cc e in omega arith
+        by_kind n false lt e = let same : n + 4 ≡ k = cc e in omega arith
 
         at_limit : (n : ℕ) (b : Bool) → nat_lt n streams ≡ b
             → cond b (Some (cond (rcb % 16 == 8) n (n + 4))) None ≡ Some k → k < 8
         at_limit n true e h = by_kind n (rcb % 16 == 8) (ltb-true n streams e) h
         at_limit n false e h = absurd (cc h)
 
-        at_number :
-            (o : Option ℕ) → elim o [
-              | None ↦ None
-              | Some n ↦ cond (nat_lt n streams)
-                  (Some (cond (rcb % 16 == 8) n (n + 4))) None
-            ] ≡ Some k
-            → k < 8
+        at_number : (o : Option ℕ) → elim o [
+          | None ↦ None
+          | Some n ↦ cond (nat_lt n streams) (Some (cond (rcb % 16 == 8) n (n + 4))) None
+        ] ≡ Some k → k < 8
         at_number None h = absurd (cc h)
         at_number (Some n) h = at_limit n (nat_lt n streams) refl h
 

@@ -81,8 +81,7 @@ signal_holds l c P none by_input x =
 pub record StaysInSession (I : Customer → Type 0) : Type 0 where
   pub judged : (l : ℕ) (came : Input) (c : Customer) → l < length c.lines → I c → I (accepted_on l came c)
   pub answered : (l : ℕ) (r : LineReply) (c : Customer) → l < length c.lines → I c → I (replied_to l r c).after
-  pub ended :
-      (l : ℕ) (c : Customer) → l < length c.lines → I c → I
+  pub ended : (l : ℕ) (c : Customer) → l < length c.lines → I c → I
       (record c { lines = on_line l (in_state after_end) c.lines })
   pub over : (l : ℕ) (c : Customer) → l < length c.lines → I c → I (session_over l c)
 
@@ -99,21 +98,14 @@ module _ (I : Customer → Type 0) (keep : StaysInSession I) where
       d = (replied_to l v.reply c).after
 
       still : l < length d.lines
-      still =
-          omega (
-            arith,
-            there,
-            length-set c.lines l (sending_of_reply c.entry l v.reply c.spool
-                (line_at l c.lines)).line,
-          )
+      still = omega (arith, length-set c.lines l (sending_of_reply c.entry l v.reply c.spool (line_at l c.lines)).line)
 
       at : (b : Bool) → I (session_over_where b l d)
       at true = keep.over l d still (keep.answered l v.reply c there so)
       at false = keep.answered l v.reply c there so
 
   accepted_there : (l : ℕ) (came : Input) (c : Customer) → l < length c.lines → l < length (accepted_on l came c).lines
-  accepted_there l came c there =
-      omega (arith, there, length-set c.lines l (in_state (after_input came) (line_at l c.lines)))
+  accepted_there l came c there = omega (arith, length-set c.lines l (in_state (after_input came) (line_at l c.lines)))
 
   pub input_so : (l : ℕ) (came : Input) (c : Customer) → l < length c.lines → I c → I (after_line_input l came c).after
   input_so l came c there so = carried_so l (verdict_on l came c) (accepted_on l came c) (accepted_there l came c there)
@@ -125,13 +117,12 @@ module _ (I : Customer → Type 0) (keep : StaysInSteps I) where
   So l d = (l < length d.lines) × I d
 
   acted_so : (l : ℕ) (i : Item) (c : Customer) → So l c → So l (after_record l i c)
-  acted_so l i c so =
-      (omega (arith, so.0, lines_of c (after_record l i c) (acted_keeps l i c)), keep.acted l i c so.0 so.1)
+  acted_so l i c so = (omega (arith, lines_of c (after_record l i c) (acted_keeps l i c)), keep.acted l i c so.0 so.1)
 
   behind_so : (b : Bool) (l : ℕ) (v : Verdict) (c : Customer) → So l c → I (behind_records b l v c).after
   behind_so true l v c so =
       let d : Customer = record c { lines = on_line l (in_state after_end) c.lines } in
-      keep.session.over l d (omega (arith, so.0, length-set c.lines l (in_state after_end (line_at l c.lines))))
+      keep.session.over l d (omega (arith, length-set c.lines l (in_state after_end (line_at l c.lines))))
       (keep.session.ended l c so.0 so.1)
   behind_so false l v c so = carried_so I keep.session l v c so.0 so.1
 

@@ -83,8 +83,7 @@ abbrev GrowsInStep : CustomerSpool → CustomerSpool → Type 0
 GrowsInStep x y = (k : ℕ) × (k < 1366) × FilesGrow k x y
 
 module _ (by_records : RedirectsByRecords) (names : ReroutesNameNodes) (commands : CommandsMoveFilesSo)
-    (acting : ActingIsAnswered)
-    (stays_down : DownStaysDown) where
+    (acting : ActingIsAnswered) (stays_down : DownStaysDown) where
   block_steps : (l : ℕ) (b : Block) (c : Customer) → 3 * data_count b.items ≤ 4096 → Steps l c (after_block l b c)
   block_steps l b c short = at_acts v.acts refl
     where
@@ -101,7 +100,7 @@ module _ (by_records : RedirectsByRecords) (names : ReroutesNameNodes) (commands
       k = data_count b.items
 
       below : k < 1366
-      below = omega (arith, short)
+      below = omega arith
 
       grow : FilesGrow k c.spool a.customer.spool
       grow = all_grow by_records names commands l b.items d
@@ -112,8 +111,7 @@ module _ (by_records : RedirectsByRecords) (names : ReroutesNameNodes) (commands
       at_end : v.acts ≡ true → (ended : Bool) → Steps l c (behind_records ended l v a.customer)
       at_end acts true =
           goes_down k below (then_quietly k c.spool a.customer.spool (session_ended l a.customer).spool grow
-          (ended_grows l a.customer))
-          (ended_down l a.customer)
+          (ended_grows l a.customer)) (ended_down l a.customer)
       at_end acts false =
           answers k below (then_quietly k c.spool a.customer.spool (carried_out l v a.customer).after.spool grow
           (carried_grows l v a.customer))
@@ -140,7 +138,7 @@ module _ (by_records : RedirectsByRecords) (names : ReroutesNameNodes) (commands
   frame_few (frame.Text text) short = at_block (read_block text) (block_few text)
     where
       at_block : (b : Result Block BlockFault) → BlockIsFew (length text) b → 3 * data_count (block_records b) ≤ 4096
-      at_block (Ok b) few = omega (arith, few, short)
+      at_block (Ok b) few = omega arith
       at_block (Err e) few = omega arith
   frame_few frame.Spoiled short = omega arith
 
@@ -177,8 +175,7 @@ module _ (by_records : RedirectsByRecords) (names : ReroutesNameNodes) (commands
       at_steps s takes_later (answers k below grow sent) = (
         k,
         below,
-        or_grows k 1 next c.spool s.after s.frame (take_step next s.after l bytes)
-            (no_more s.frame sent) grow,
+        or_grows k 1 next c.spool s.after s.frame (take_step next s.after l bytes) (no_more s.frame sent) grow,
       )
       at_steps s takes_later (goes_down k below grow low) = let later = take_step next s.after l bytes in (
         k,

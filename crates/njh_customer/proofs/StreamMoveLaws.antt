@@ -43,8 +43,7 @@ moved_one j k l m s x = at_line (set_one x.streams l j (set (streams_of l x) m s
 
     at_stream : j ≡ l → now ≡ set (streams_of l x) m s
         → (get_or (set (streams_of l x) m s) k Idle ≡ get_or (streams_of l x) k Idle)
-        ⊎ ((k ≡ m) × (get_or (set (streams_of l x) m s) k Idle ≡ s))
-        → IsOne j k l m s x (with_sender_on l m s x)
+        ⊎ ((k ≡ m) × (get_or (set (streams_of l x) m s) k Idle ≡ s)) → IsOne j k l m s x (with_sender_on l m s x)
     at_stream line e (inl same) =
         inl (ap (λ senders. get_or senders k Idle) e ∙ same ∙ ap (λ n. get_or (streams_of n x) k Idle) (sym line))
     at_stream line e (inr there) = inr (line, there.0, ap (λ senders. get_or senders k Idle) e ∙ there.1)
@@ -80,8 +79,7 @@ gives_up_or_stays n s = at_file (file_in s) refl
     at_test m true e same = inr (e ∙ ap Some (eqb-true m n same), refl)
     at_test m false e same = inl refl
 
-    at_file : (o : Option ℕ) → file_in s ≡ o
-        → (aborted_where (is_about n o) s ≡ s) ⊎ ((file_in s ≡ Some n)
+    at_file : (o : Option ℕ) → file_in s ≡ o → (aborted_where (is_about n o) s ≡ s) ⊎ ((file_in s ≡ Some n)
         × (aborted_where (is_about n o) s ≡ after_abort s))
     at_file None e = inl refl
     at_file (Some m) e = at_test m (m == n) e refl
@@ -116,8 +114,7 @@ all_give_up j k (n ∷ ns) x =
         inr (
           later.0,
           Contains-append_right (n ∷ []) ns later.0 later.1,
-          sym (ap (λ s. file_in s) before)
-              ∙ later.2,
+          sym (ap (λ s. file_in s) before) ∙ later.2,
           later.3 ∙ ap (λ s. after_abort s) before,
         )
     at_rest (inr later) (inr gives) =
@@ -126,7 +123,7 @@ all_give_up j k (n ∷ ns) x =
 -- the number of one that is being sent is that of a file that passes the test
 pub busy_one : (p : WholeFile → Bool) (files : List WholeFile) (n : ℕ) → Contains (busy_numbers p files) n
     → (f : WholeFile) × Contains files f × (p f ≡ true) × (n ≡ f.number)
-busy_one p [] n at = absurd (omega (arith, at.1))
+busy_one p [] n at = absurd (omega arith)
 busy_one p (g ∷ files) n at = at_tests (p g) (is_sending g.state) refl at (busy_one p files n)
   where
     IsFoundIn : List WholeFile → Type 0
@@ -216,17 +213,13 @@ module _ (entry : CustomerEntry) (l : ℕ) (items : List Item) (j k : ℕ) (x y 
       now : sender_on j k y ≡ get_or (get_or (set x.streams l idles) j []) k Idle
       now = ap (λ lines. get_or (get_or lines j []) k Idle) gone.streams
 
-      at_line :
-          (get_or (set x.streams l idles) j [] ≡ get_or x.streams j [])
-          ⊎ ((j ≡ l) × (get_or (set x.streams l idles) j [] ≡ idles))
-          → StreamMoves entry l items j k x y
+      at_line : (get_or (set x.streams l idles) j [] ≡ get_or x.streams j [])
+          ⊎ ((j ≡ l) × (get_or (set x.streams l idles) j [] ≡ idles)) → StreamMoves entry l items j k x y
       at_line (inl same) = laws.stays (now ∙ ap (λ senders. get_or senders k Idle) same)
-      at_line (inr there) =
-          laws.over there.0 gone (now ∙ ap (λ senders. get_or senders k Idle) there.1 ∙ copies
+      at_line (inr there) = laws.over there.0 gone (now ∙ ap (λ senders. get_or senders k Idle) there.1 ∙ copies
           (length (streams_of l x)) k Idle)
 
-moves_on_line :
-    (entry : CustomerEntry) (l : ℕ) (items : List Item) (x y : Outgoing) (j k : ℕ) → Moves entry l items x y
+moves_on_line : (entry : CustomerEntry) (l : ℕ) (items : List Item) (x y : Outgoing) (j k : ℕ) → Moves entry l items x y
     → StreamMoves entry l items j k x y
 moves_on_line entry l items x y j k (by_record (i, at, acts)) = record_moves entry l items j k x y i at acts
 moves_on_line entry l items x y j k (by_sending sends) = sending_moves entry l items j k x y sends

@@ -40,13 +40,11 @@ use Rattle.njh_customer.proofs.LeavingLaws.{without_files_files}
 
 is_same : (before now : WholeFile) → now.number ≡ before.number → now.kind ≡ before.kind → now.records ≡ before.records
     → IsStill before now
-is_same before now number kind records =
-    record {
-      number = number;
-      kind = kind;
-      records = subst (IsRerouted before.kind before.records) (sym records)
-          (as_before before.records);
-    }
+is_same before now number kind records = record {
+  number = number;
+  kind = kind;
+  records = subst (IsRerouted before.kind before.records) (sym records) (as_before before.records);
+}
 
 itself : (f : WholeFile) → IsStill f f
 itself f = is_same f f refl refl refl
@@ -150,15 +148,13 @@ survive_front (suc k) _ gs (leaves f fs _ more) = leaves f fs (take (suc k) gs) 
 module _ (x y : Outgoing) where
   -- no file has come
   none_came : (files : List WholeFile) → y.files ≡ files → Survive x.files files → y.arrived ≡ x.arrived → FilesGoOn x y
-  none_came files is survive same =
-      record {
-        still = files;
-        new = [];
-        files = is ∙ sym (append-nil files);
-        survive = survive;
-        counted = omega
-            (arith, same);
-      }
+  none_came files is survive same = record {
+    still = files;
+    new = [];
+    files = is ∙ sym (append-nil files);
+    survive = survive;
+    counted = omega (arith, same);
+  }
 
   -- one has
   one_came : (f : WholeFile) → y ≡ with_arrival f x → y.arrived < max_arrived → FilesGoOn x y
@@ -169,12 +165,11 @@ module _ (x y : Outgoing) where
         new = f ∷ [];
         files = ap (λ z. z.files) e;
         survive = same_files x.files;
-        counted = omega (arith, counts, below);
+        counted = omega arith;
       }
 
 pub goes_on_then : FilesGoOnFurther
-goes_on_then x y z first second =
-    let parts = survive_both first.still first.new second.still
+goes_on_then x y z first second = let parts = survive_both first.still first.new second.still
     (subst (λ files. Survive files second.still) first.files second.survive) in
     record {
       still = parts.first;
@@ -187,8 +182,7 @@ goes_on_then x y z first second =
         first.counted,
         second.counted,
         length-append parts.second second.new,
-        no_more first.new
-            parts.second parts.of_second,
+        no_more first.new parts.second parts.of_second,
       );
     }
 
@@ -225,8 +219,7 @@ without_files_arrived [] x = refl
 without_files_arrived (n ∷ ns) x = without_files_arrived ns (each_stream (without_file n) x)
 
 module _ (by_records : (kind : Kind) (node : List ℕ) (records : List Stored)
-    → records_to_node kind node None records ≡ with_destination kind node records)
-    (names : ReroutesNameNodes) where
+    → records_to_node kind node None records ≡ with_destination kind node records) (names : ReroutesNameNodes) where
   pub rerouted_still : (node : List ℕ) → is_name node ≡ true → (f : WholeFile) → IsStill f (with_new_destination node f)
   rerouted_still node is f = record {
     number = refl;
@@ -243,10 +236,8 @@ module _ (by_records : (kind : Kind) (node : List ℕ) (records : List Stored)
 
     changes : (p : WholeFile → Bool) (change : WholeFile → WholeFile) → ((f : WholeFile) → IsStill f (change f))
         → y ≡ with_changed p change x → FilesGoOn x y
-    changes p change each e =
-        none_came x y (map (changed_file p change) x.files) (ap (λ z. z.files) e)
-        (all_still (changed_file p change) (changed_still p change each) x.files)
-        (ap (λ z. z.arrived) e)
+    changes p change each e = none_came x y (map (changed_file p change) x.files) (ap (λ z. z.files) e)
+        (all_still (changed_file p change) (changed_still p change each) x.files) (ap (λ z. z.arrived) e)
 
     by_acts : (i : _) → Acts entry l i x y → y.arrived < max_arrived → FilesGoOn x y
     by_acts i (moves.comes rcb srcb f is ready whole e) below = one_came x y f e below
@@ -269,8 +260,7 @@ module _ (by_records : (kind : Kind) (node : List ℕ) (records : List Stored)
         let left = filter (λ f. not (p f)) x.files in
         let ns = busy_numbers p x.files in
         none_came x y left (ap (λ z. z.files) e ∙ without_files_files ns (with_files left x))
-        (some_still (λ f. not (p f)) x.files)
-        (ap (λ z. z.arrived) e ∙ without_files_arrived ns (with_files left x))
+        (some_still (λ f. not (p f)) x.files) (ap (λ z. z.arrived) e ∙ without_files_arrived ns (with_files left x))
 
     by_sends : Sends entry l x y → FilesGoOn x y
     by_sends (moves.gives_up k before e) = unmoved (ap (λ z. z.files) e) (ap (λ z. z.arrived) e)
@@ -297,19 +287,17 @@ module _ (by_records : (kind : Kind) (node : List ℕ) (records : List Stored)
   files_survive entry came _ _ (nowhere x) below = none_came x x x.files refl (same_files x.files) refl
   files_survive entry came _ _ (onward x y z move later) below =
       let behind = files_survive entry came y z later below in
-      goes_on_then x y z (one_move entry came x y move (omega (arith, behind.counted, below))) behind
+      goes_on_then x y z (one_move entry came x y move (omega arith)) behind
 
   pub events_keep_files : EventsMoveSo → EventsKeepFiles
-  events_keep_files move p event below =
-      files_survive p.customer.entry (coming p event) (outgoing p.customer)
+  events_keep_files move p event below = files_survive p.customer.entry (coming p event) (outgoing p.customer)
       (outgoing (event_run p event).after.customer) (move p event) below
 
   pub takes_keep_files : TakesMoveSo → TakesKeepFiles
   takes_keep_files move p l piece there below =
       let t = part_after_bytes p l piece in
       files_survive p.customer.entry (coming p (OwnBytes l (take t.taken piece))) (outgoing p.customer)
-      (outgoing t.after.customer)
-      (move p l piece there) below
+      (outgoing t.after.customer) (move p l piece there) below
 
   pub runs_keep_files : EventsMoveSo → RunsKeepFiles
   runs_keep_files move p [] below = none_came (outgoing p.customer) (outgoing p.customer) p.customer.spool.whole refl
@@ -318,7 +306,7 @@ module _ (by_records : (kind : Kind) (node : List ℕ) (records : List Stored)
       let q = (event_run p event).after in
       let behind = runs_keep_files move q events below in
       goes_on_then (outgoing p.customer) (outgoing q.customer) (outgoing (alone_run q events).after.customer)
-      (events_keep_files move p event (omega (arith, behind.counted, below))) behind
+      (events_keep_files move p event (omega arith)) behind
 
 -- ---- what is read from it
 
@@ -328,9 +316,7 @@ first_files x y on =
     let few : k ≤ length on.still = omega (
       arith,
       ap (λ (files : List WholeFile). length files) on.files,
-      length-append
-          on.still on.new,
-      on.counted,
+      length-append on.still on.new,
     ) in
     subst (Survive x.files) (sym (ap (take k) on.files ∙ take-append-le k on.still on.new few))
     (survive_front k x.files on.still on.survive)
@@ -338,7 +324,7 @@ first_files x y on =
 -- one of those that are still there was there
 pub was_there : (fs gs : List WholeFile) → Survive fs gs → (g : WholeFile) → Contains gs g
     → (f : WholeFile) × Contains fs f × IsStill f g
-was_there _ _ none g at = absurd (omega (arith, at.1))
+was_there _ _ none g at = absurd (omega arith)
 was_there _ _ (leaves f fs gs more) g at =
     let found = was_there fs gs more g at in
     (found.0, Contains-append_right (f ∷ []) fs found.0 found.1, found.2)

@@ -68,8 +68,7 @@ take_step-by_frame rest c l (byte ∷ bytes) =
 
 -- A step that took some bytes without an answer, and then those up to the end of a frame.
 pub record TakesOn (taken more : ℕ) (old : Rest) (before : Customer) (l : ℕ) (left : List ℕ) (new : Rest)
-    (after : Customer)
-    (frame : List ℕ) : Type 0 where
+    (after : Customer) (frame : List ℕ) : Type 0 where
   pub more_is : more ≡ (feed_outcome old left).taken
   pub rest_is : new ≡ (feed_outcome old left).rest
   pub after_is : after ≡ (acted_on l (feed_outcome old left).frame before).after

@@ -51,7 +51,7 @@ within_general size place at bytes general inside =
     let sections : List ℕ = flat_map (λ section. section) passes.sections in
     let front = length-append passes.before sections in
     let all = length-append (passes.before ++ sections) general.rest in
-    omega (arith, passes.four, passes.end, general.whole, ap length passes.parts)
+    omega (arith, ap length passes.parts)
 
 job_place : (bytes : List ℕ) (h : JobHeader) → job_header bytes ≡ Ok h → h.place + 8 ≤ length bytes
 job_place bytes h reads =
@@ -59,8 +59,7 @@ job_place bytes h reads =
     omega (
       arith,
       ap (λ (x : JobHeader). x.place) is.says,
-      within_general 96 is.section 88 bytes is.general
-          (omega arith),
+      within_general 96 is.section 88 bytes is.general (omega arith),
     )
 
 data_set_place : (bytes : List ℕ) (h : DataSetHeader) → data_set_header bytes ≡ Ok h → h.place + 8 ≤ length bytes
@@ -69,8 +68,7 @@ data_set_place bytes h reads =
     omega (
       arith,
       ap (λ (x : DataSetHeader). x.place) is.says,
-      within_general 20 is.section 12 bytes is.general
-          (omega arith),
+      within_general 20 is.section 12 bytes is.general (omega arith),
     )
 
 -- a name is eight bytes
@@ -86,7 +84,7 @@ size_of r = 3 + length r.bytes
 
 module _ (node : List ℕ) (eight : length node ≡ 8) where
   written_size : (place : ℕ) (r : Stored) → place + 8 ≤ length r.bytes → size_of (with_node_at place node r) ≡ size_of r
-  written_size place r inside = omega (arith, length-with_field place node r.bytes (omega (arith, eight, inside)))
+  written_size place r inside = omega (arith, length-with_field place node r.bytes (omega arith))
 
   job_size : (records : List Stored) → stored_size (with_job_node node records) ≡ stored_size records
   job_size [] = refl
@@ -140,15 +138,13 @@ module _ (node : List ℕ) (eight : length node ≡ 8) where
 no_more : (s t : CustomerSpool) → limits_of t ≡ limits_of s → used_blocks t ≤ used_blocks s
     → length t.whole + length t.partial ≤ length s.whole + length s.partial → IsWithinQuota s → IsWithinQuota t
 no_more s t limits blocks files within = record {
-  blocks = omega (arith, within.blocks, blocks, ap (λ (x : ℕ × ℕ). x.0) limits);
-  files = omega (arith, within.files, files, ap (λ (x : ℕ × ℕ). x.1) limits);
+  blocks = omega (arith, ap (λ (x : ℕ × ℕ). x.0) limits);
+  files = omega (arith, ap (λ (x : ℕ × ℕ). x.1) limits);
 }
 
 -- whole files that each take as much as before
-same_cost :
-    (s t : CustomerSpool) → limits_of t ≡ limits_of s → t.partial ≡ s.partial
-    → map whole_cost t.whole ≡ map whole_cost s.whole
-    → IsWithinQuota s → IsWithinQuota t
+same_cost : (s t : CustomerSpool) → limits_of t ≡ limits_of s → t.partial ≡ s.partial
+    → map whole_cost t.whole ≡ map whole_cost s.whole → IsWithinQuota s → IsWithinQuota t
 same_cost s t limits partial costs = no_more s t limits (omega (
   arith,
   same_sum whole_cost (λ n. n) t.whole s.whole costs,
@@ -169,16 +165,9 @@ finished_within n s = at_file (partial_numbered n s) refl
         → IsWithinQuota (elim o [ None ↦ s | Some f ↦ with_arrived (as_whole f) (without_partial n s) ])
     at_file None found within = within
     at_file (Some f) found within = record {
-      blocks = omega (
-        arith,
-        within.blocks,
-        found_less partial_cost p s.partial f found,
-        sum_by_push whole_cost s.whole
-            (as_whole f),
-      );
+      blocks = omega (arith, found_less partial_cost p s.partial f found, sum_by_push whole_cost s.whole (as_whole f));
       files = omega (
         arith,
-        within.files,
         length-filter_both p (λ g. not (p g)) (λ g. refl) s.partial,
         length-filter p s.partial,
         find_counts p s.partial f found,
@@ -196,19 +185,17 @@ within_files = record {
     begun = λ rcb srcb kind s room within.
         let begun : PartialFile = record { number = next_number s; kind = kind; records = [] } in
         record {
-          blocks = omega (arith, within.blocks, sum_by_push partial_cost s.partial begun);
+          blocks = omega (arith, sum_by_push partial_cost s.partial begun);
           files = omega (
             arith,
             ltb-true (length s.whole + length s.partial) s.limit room,
-            length-append s.partial
-                (begun ∷ []),
+            length-append s.partial (begun ∷ []),
           );
         };
     appended = λ rcb r n s fits within. record {
       blocks = leb-true (used_blocks (with_appended n r s)) s.quota fits;
       files = omega (
         arith,
-        within.files,
         length-map s.partial (λ (f : PartialFile). cond (f.number == n) (record f { records = f.records ++ r ∷ [] }) f),
       );
     };
@@ -223,8 +210,7 @@ within_files = record {
       (redirected_cost node (name_eight node named)));
 }
 
-pub within_routes :
-    (routes : List RouteEntry) (c : Customer) → IsWithinQuota c.spool
+pub within_routes : (routes : List RouteEntry) (c : Customer) → IsWithinQuota c.spool
     → IsWithinQuota (customer_with_routes routes c).spool
 within_routes = routes_so IsWithinQuota within_restated
 

@@ -8,7 +8,5 @@ returns c =
     (record {
       tied = tie.arrival;
       headers = c.whole_files_have_headers.ensures;
-      commands =
-          c.commands_keep_headers.ensures;
-    })
-    c.reroutes_name_nodes.ensures c.commands_move_files_so.ensures
+      commands = c.commands_keep_headers.ensures;
+    }) c.reroutes_name_nodes.ensures c.commands_move_files_so.ensures

@@ -17,8 +17,7 @@ returns-clause-spool c =
     let ended = all_ended c.self.inside.senders files in
     let tried = tried_again entry id.number ended in
     moved_twice old c.retry_refused.new.spool c.end_receivers.new.spool id.customer tried
-    (without_all_open c.self.inside.receivers)
-    c.requires.spooled
+    (without_all_open c.self.inside.receivers) c.requires.spooled
     (moved_twice old c.end_senders.new.spool c.retry_refused.new.spool id.customer ended
     (tried_again entry id.number) c.requires.spooled
     c.end_senders.ensures.spool c.retry_refused.ensures) c.end_receivers.ensures.spool

@@ -14,5 +14,4 @@ send_written-requires c =
     let entry = entry_of (customer_at c.args.shared.now.tables id.customer) in
     ap (λ w. w.fcs) c.fill.ensures.block
     ∙ (filled_kept (goes_by entry id.number) (filling c.begin_block.new.block (outlet_of c.args.self.now)
-    (spool_at id.customer c.args.shared.now.spool))).fcs
-    ∙ ap (λ w. w.fcs) c.begin_block.ensures.begun
+    (spool_at id.customer c.args.shared.now.spool))).fcs ∙ ap (λ w. w.fcs) c.begin_block.ensures.begun

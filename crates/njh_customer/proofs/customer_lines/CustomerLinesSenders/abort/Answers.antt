@@ -10,5 +10,4 @@ loop-line-preserved c =
     let lines = c.loop-line.self-inside.lines.items in
     ap (set lines c.loop-line.line) c.give_up.ensures
     ∙ map_over_more (with_senders_by (without_file c.args.file)) c.self.inside.lines.items lines c.loop-line.line
-    c.index_mut.result.now
-    (omega (arith, c.len-line-end.ensures)) c.loop-line.invariant c.index_mut.ensures.value
+    c.index_mut.result.now (omega (arith, c.len-line-end.ensures)) c.loop-line.invariant c.index_mut.ensures.value

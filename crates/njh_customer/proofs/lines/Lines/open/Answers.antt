@@ -25,8 +25,7 @@ loop-line-preserved c =
       rests = rests ∙ ap (λ (rs : List Rest). rs ++ Nothing ∷ []) c.loop-line.invariant.rests
           ∙ sym (map_more (λ (l : NamedLine). Nothing) lines i c.line-item.result within);
       states = states ∙ ap (λ (ss : List CustomerLine). ss ++ state c.line-item.result ∷ [])
-          c.loop-line.invariant.states
-          ∙ ap (λ (l : NamedLine). map state (take i lines) ++ state l ∷ []) item
+          c.loop-line.invariant.states ∙ ap (λ (l : NamedLine). map state (take i lines) ++ state l ∷ []) item
           ∙ sym (map_more state lines i c.line-item.result within);
     }
 
@@ -37,11 +36,9 @@ returns c =
     let state : NamedLine → CustomerLine = λ l. idle_line (config_of entry l.entry) l.entry.streams in
     let all : take c.loop-line.line-index lines
     ≡ lines = take_all _ lines (omega (arith, ap (λ (ls : List NamedLine). length ls) c.lines-line-items.ensures)) in
-    let part_of : List Rest → List CustomerLine → Part =
-    λ rests states. record {
+    let part_of : List Rest → List CustomerLine → Part = λ rests states. record {
       rests = rests;
-      customer = customer_with (entry_unmarked entry)
-          (empty_spool entry.quota entry.files) states;
+      customer = customer_with (entry_unmarked entry) (empty_spool entry.quota entry.files) states;
     } in
     ap (λ (rests : List Rest). part_of rests c.loop-line.lines)
     (c.loop-line.invariant.rests ∙ ap (λ (ls : List NamedLine). map (λ (l : NamedLine). Nothing) ls) all ∙ sym

@@ -20,18 +20,14 @@ loop-out-preserved c =
     let new = rest_at l t.new.self.rests in
     let unanswered : c.loop-out.out ≡ [] = search rules in
     record {
-      taken =
-          ap (λ (left : List ℕ). or_later (c.loop-out.taken + t.result) new
-          (record { after = after; frame = t.new.out })
-          (take_step new after l left)) c.split_at.ensures.back
-          ∙ takes_on c.loop-out.taken t.result old before l c.loop-out.left.now new after t.new.out
-          (record {
+      taken = ap (λ (left : List ℕ). or_later (c.loop-out.taken + t.result) new
+          (record { after = after; frame = t.new.out }) (take_step new after l left)) c.split_at.ensures.back
+          ∙ takes_on c.loop-out.taken t.result old before l c.loop-out.left.now new after t.new.out (record {
             more_is = t.ensures.taken;
             rest_is = t.ensures.rest;
             after_is = t.ensures.step.after.customer;
             frame_is = t.ensures.step.frame;
-          })
-          ∙ ap (λ (frame : List ℕ). or_later c.loop-out.taken old (record { after = before; frame = frame })
+          }) ∙ ap (λ (frame : List ℕ). or_later c.loop-out.taken old (record { after = before; frame = frame })
           (take_step old before l c.loop-out.left.now)) (sym unanswered) ∙ c.loop-out.invariant.taken;
       rests = t.ensures.rests ∙ ap (λ (rests : List Rest). set rests l new) c.loop-out.invariant.rests
           ∙ set-set c.args.self.now.rests l old new;

@@ -11,8 +11,7 @@ invariant-loop-out l = record {
   taken : or_later l.taken (rest_at l.id.number l.self.rests)
       (record { after = customer_of l.id.customer l.shared l.self.lines; frame = l.out })
       (take_step (rest_at l.id.number l.self.rests) (customer_of l.id.customer l.shared l.self.lines) l.id.number
-      l.left)
-      ≡ take_step (rest_at l.id.number l.fn.self.rests) (customer_of l.id.customer l.fn.shared l.fn.self.lines)
+      l.left) ≡ take_step (rest_at l.id.number l.fn.self.rests) (customer_of l.id.customer l.fn.shared l.fn.self.lines)
       l.id.number l.piece;
   rests : l.self.rests ≡ set l.fn.self.rests l.id.number (rest_at l.id.number l.self.rests);
   others : l.shared.spool ≡ slice_set l.fn.shared.spool l.id.customer (spool_at l.id.customer l.shared.spool);

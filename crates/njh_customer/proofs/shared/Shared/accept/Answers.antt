@@ -23,8 +23,7 @@ returns-clause-after c =
     (accepted_so c.args.id c.args.self.now (marked c) c.args.lines.now c.accept-verdict.new.self
     (input_value c.args.input.now) c.is_up-was_up.result c.is_up-is_up.result c.goes_up.result c.requires.ready.there
     c.accept-verdict.ensures.lines c.is_up-was_up.ensures c.is_up-is_up.ensures c.goes_up.ensures refl
-    c.raise.ensures.entry)
-    refl c.raise.ensures.entries
+    c.raise.ensures.entry) refl c.raise.ensures.entries
 
 pub returns-clause-ready : goal.returns-clause-ready
 returns-clause-ready c =

@@ -23,8 +23,7 @@ records-preserved c =
     let first : Some item ≡ slice_get r.block.items 0 = search rules in
     let others : c.next.new.self.items ≡ drop 1 r.block.items = search rules in
     let one = one_acted id.number r.block.items c.next.new.self.items item c.ends_session.result before first others
-    c.if-ends_session.false
-    (c.ends_session.ensures c.deref.result.now) in
+    c.if-ends_session.false (c.ends_session.ensures c.deref.result.now) in
     record {
       rest = ap (all_acted id.number c.next.new.self.items) c.act.ensures.customer ∙ one ∙ r.invariant.rest;
       others = others_twice c.args.self.now.spool r.self.spool c.act.new.self.spool id.customer r.invariant.others

@@ -24,11 +24,9 @@ returns-then-verdict c =
     let replied = (replied_to id.number c.args.verdict.reply old).after in
     record {
       after = subst (λ b. Brings id.customer c.args.self.now c.close_session.new.self c.close_session.new.lines
-          (session_over_where b id.number replied))
-          (sym c.if-verdict.true)
+          (session_over_where b id.number replied)) (sym c.if-verdict.true)
           (brought_on id.customer c.args.self.now c.send_reply.new.shared c.close_session.new.self c.send_reply.new.self
-          c.close_session.new.lines replied
-          (session_over id.number)
+          c.close_session.new.lines replied (session_over id.number)
           (as_brings id.customer c.args.self.now c.send_reply.new.shared c.send_reply.new.self replied
           c.send_reply.ensures.after) c.close_session.ensures);
       frame = c.send_reply.ensures.frame;
@@ -41,8 +39,7 @@ returns-else-verdict c =
     let replied = (replied_to id.number c.args.verdict.reply old).after in
     record {
       after = subst (λ b. Brings id.customer c.args.self.now c.send_reply.new.shared c.send_reply.new.self
-          (session_over_where b id.number replied))
-          (sym c.if-verdict.false)
+          (session_over_where b id.number replied)) (sym c.if-verdict.false)
           (as_brings id.customer c.args.self.now c.send_reply.new.shared c.send_reply.new.self replied
           c.send_reply.ensures.after);
       frame = c.send_reply.ensures.frame;

@@ -10,6 +10,5 @@ returns c =
     let id = c.args.id in
     let old = customer_of id.customer c.args.self.now c.args.lines.now in
     marked_behind id false c.args.self.now c.end_session.new.shared _ c.end_session.new.self
-    (session_closed id.number old)
-    c.end_session.ensures c.requires.there.known c.set_up.ensures refl
+    (session_closed id.number old) c.end_session.ensures c.requires.there.known c.set_up.ensures refl
     (c.marks_change_one_entry.ensures.own c.args.self.now.tables id false c.requires.there.known)

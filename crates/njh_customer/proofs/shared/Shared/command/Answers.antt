@@ -28,8 +28,7 @@ returns c =
     ∙ get_or-set_same spools c.args.id.customer (spool_after done files) no_spool c.requires.ready.spooled in
     let replies = c.obey.ensures.replies ∙ ap (λ (o : CommandOutcome). o.replies) same in
     let cancelled = ap (λ (o : CommandOutcome). fold without_sending c.args.lines.now o.cancelled) same in
-    let lines = c.say_all.ensures
-    ∙ (λ i. all_said (entry_of (c.customer.ensures i)) (record
+    let lines = c.say_all.ensures ∙ (λ i. all_said (entry_of (c.customer.ensures i)) (record
     { node = c.origin-node.ensures i; user = c.user-user.ensures i }) (replies i)
     ((c.obey.ensures.senders ∙ cancelled) i)) in
     record {

@@ -23,15 +23,13 @@ returns-then-act_where c =
     let input : Block c.bcb.result c.fcs.result (shown_first c.first_general.result) ≡ block_input c.args.read = search
     rules in
     made_by id c.args.self.now c.args.lines.now c.end_session.new.self c.end_session.new.lines c.clear.new.self
-    (after_block id.number c.args.read old)
-    c.requires.ready
+    (after_block id.number c.args.read old) c.requires.ready
     (sent_by_block true id c.args.self.now accepted.new.self c.act_where.new.self c.end_session.new.self
     c.args.lines.now accepted.new.lines
     c.act_where.new.lines c.end_session.new.lines c.clear.new.self c.args.read accepted.result
     (accepted.ensures.verdict ∙ ap (λ i. verdict_on id.number i old) input)
     (subst (λ i. Brings id.customer c.args.self.now accepted.new.self accepted.new.lines (accepted_on id.number i old))
-    input accepted.ensures.after)
-    (sym c.if-act_where.true ∙ c.act_where.ensures.is_ended) c.act_where.ensures.after
+    input accepted.ensures.after) (sym c.if-act_where.true ∙ c.act_where.ensures.is_ended) c.act_where.ensures.after
     (record { after = c.end_session.ensures; frame = c.clear.ensures }))
     (block_stays law.untouched law.ended records id.number c.args.read old c.requires.ready.there
     c.requires.ready.coherent)
@@ -50,11 +48,9 @@ returns-else-act_where c =
     let input : Block c.bcb.result c.fcs.result (shown_first c.first_general.result) ≡ block_input c.args.read = search
     rules in
     made_by id c.args.self.now c.args.lines.now c.carry_out.new.self c.carry_out.new.lines c.carry_out.new.out
-    (after_block id.number c.args.read old)
-    c.requires.ready
+    (after_block id.number c.args.read old) c.requires.ready
     (sent_by_block false id c.args.self.now accepted.new.self c.act_where.new.self c.carry_out.new.self c.args.lines.now
-    accepted.new.lines
-    c.act_where.new.lines c.carry_out.new.lines c.carry_out.new.out c.args.read accepted.result
+    accepted.new.lines c.act_where.new.lines c.carry_out.new.lines c.carry_out.new.out c.args.read accepted.result
     (accepted.ensures.verdict ∙ ap (λ i. verdict_on id.number i old) input)
     (subst (λ i. Brings id.customer c.args.self.now accepted.new.self accepted.new.lines (accepted_on id.number i old))
     input accepted.ensures.after)

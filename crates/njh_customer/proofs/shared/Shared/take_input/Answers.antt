@@ -14,8 +14,7 @@ returns c =
     let accepted = c.accept-verdict in
     let law = c.streams_stay_tied.ensures in
     made_by id c.args.self.now c.args.lines.now c.carry_out.new.self c.carry_out.new.lines c.carry_out.new.out
-    (after_line_input id.number came old)
-    c.requires.ready
+    (after_line_input id.number came old) c.requires.ready
     (sent_by_verdict id c.args.self.now accepted.new.self c.carry_out.new.self c.args.lines.now accepted.new.lines
     c.carry_out.new.lines
     c.carry_out.new.out came accepted.result accepted.ensures.verdict accepted.ensures.after c.carry_out.ensures)
