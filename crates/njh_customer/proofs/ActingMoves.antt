@@ -1,6 +1,7 @@
 -- What a record that comes does to a customer's whole files and to its streams from the hub.
 use Rattle.std.proofs.Common.{◌≡◌, ℕ, true, not, ◌⊎◌, inl, inr, List, [], ◌∷◌, ◌++◌, fold, map, filter, Option, Some}
-use Rattle.std.proofs.Common.{None, Ok, refl, sym, ap, ◌∙◌}
+use Rattle.std.proofs.Common.{None, Ok, refl, sym, ap, ◌∙◌, Bool, subst}
+use Rattle.std.specs.List.{Contains}
 use Rattle.njh_block.specs.Blocks.{Item, Data, Control, stream_of}
 use Rattle.njh_block.specs.Codes.{kind_of}
 use Rattle.njh_nmr.specs.Nodal.{Nodal, nodal_of, is_user_command, sender_of}
@@ -22,16 +23,18 @@ use Rattle.njh_command.specs.Words.{command_of}
 use Rattle.njh_command.specs.declared.command.Command.{Command}
 use Rattle.njh_command.specs.declared.command.Command.TheVariants as commands
 use Rattle.njh_customer.specs.Acting.{after_stream_arrival, with_sender_outcome, without_sending, with_outcome}
-use Rattle.njh_customer.specs.Acting.{after_user_command, after_record}
+use Rattle.njh_customer.specs.Acting.{after_user_command, after_record, acted_where}
 use Rattle.njh_customer.specs.Customer.{Customer, CustomerLine, line_at, receiver_at, sender_at}
 use Rattle.njh_customer.specs.Moves as moves
-use Rattle.njh_customer.specs.Moves.{Acts, Commands, busy_numbers}
+use Rattle.njh_customer.specs.Moves.{Acts, Commands, busy_numbers, LeadsByMoves, nowhere, onward, OneActs}
 use Rattle.njh_customer.specs.OutgoingFiles.{outgoing, streams_from_hub, sender_on}
 use Rattle.njh_customer.specs.Waiting.{with_answer_on, with_waiting, with_message_to}
-use Rattle.njh_customer.proofs.LineWalks.{StaysWaiting, all_told_so, answered_so, arrived_so, told_so}
-use Rattle.njh_customer.proofs.OutgoingLaws.{all_given_up, of_parts, same_stream, sent_is, stream_is, senders_receiving}
+use Rattle.njh_customer.proofs.LineWalks.{acted_keeps, kepts, StaysWaiting, all_told_so, answered_so, arrived_so}
+use Rattle.njh_customer.proofs.LineWalks.{told_so}
+use Rattle.njh_customer.proofs.OutgoingLaws.{all_given_up, leads_then, of_parts, same_stream, senders_receiving}
+use Rattle.njh_customer.proofs.OutgoingLaws.{sent_is, stream_is}
 use Rattle.njh_customer.proofs.RecordsDo as does
-use Rattle.njh_customer.proofs.RecordsDo.{RecordDoes, record_does, Brings}
+use Rattle.njh_customer.proofs.RecordsDo.{RecordDoes, record_does, Brings, acted_where_so}
 use Rattle.njh_customer.proofs.SpoolWalks.{StaysInArrivals, received_so}
 
 pub record Acted (l : ℕ) (i : Item) (c d : Customer) : Type 0 where
@@ -272,3 +275,34 @@ acts_so move l i c = at i (after_record l i c) (record_does l c i)
         (told_so l (λ lines. streams_from_hub lines ≡ streams_from_hub c.lines) same c.entry (sender_of n)
         (node_unknown n.to) c.lines refl)
     at _ _ (does.passes_on i k m) = lines_alone l i (with_waiting k m c.lines) c (same.waits k m c.lines refl)
+
+-- ---- the records of a block
+
+-- they act one after the other
+pub record Acting (l : ℕ) (items : List Item) (c d : Customer) : Type 0 where
+  pub entry : d.entry ≡ c.entry
+  pub records : LeadsByMoves (OneActs c.entry l items) (outgoing c) (outgoing d)
+  pub kept : kepts d.lines ≡ kepts c.lines  -- how each line is set up, its last transmission, and how far it is
+
+one_acts : (l : ℕ) (items : List Item) (i : Item) (c d e : Customer) → Contains items i → Acting l items c d
+    → Acted l i d e
+    → kepts e.lines ≡ kepts d.lines → Acting l items c e
+one_acts l items i c d e there acting did keeps = record {
+  entry = did.entry ∙ acting.entry;
+  records = leads_then (OneActs c.entry l items) (outgoing c) (outgoing d) (outgoing e) acting.records
+      (at_move did.moves);
+  kept = keeps ∙ acting.kept;
+}
+  where
+    at_move : (outgoing e ≡ outgoing d) ⊎ Acts d.entry l i (outgoing d) (outgoing e)
+        → LeadsByMoves (OneActs c.entry l items) (outgoing d) (outgoing e)
+    at_move (inl same) = subst (LeadsByMoves (OneActs c.entry l items) (outgoing d)) (sym same) (nowhere (outgoing d))
+    at_move (inr acts) = onward (outgoing d) (outgoing e) (outgoing e)
+        (i, there, subst (λ entry. Acts entry l i (outgoing d) (outgoing e)) acting.entry acts) (nowhere (outgoing e))
+
+pub acting_where : CommandsMoveFilesSo → (b : Bool) (l : ℕ) (items : List Item) (c : Customer)
+    → Acting l items c (acted_where b l items c).customer
+acting_where commands b l items c = acted_where_so l (Acting l items c) b items
+    (λ i there d acting. one_acts l items i c d (after_record l i d) there acting (acts_so commands l i d)
+    (acted_keeps l i d)) c
+    (record { entry = refl; records = nowhere (outgoing c); kept = refl })

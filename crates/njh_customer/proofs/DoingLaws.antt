@@ -36,10 +36,9 @@ use Rattle.njh_customer.specs.OutgoingFiles.{Outgoing, outgoing, streams_from_hu
 use Rattle.njh_customer.specs.Sending.{sending_of_control, sending_of_no_block, next_block, own_block, sending_of_reply}
 use Rattle.njh_customer.specs.Sending.{with_outlet}
 use Rattle.njh_customer.specs.declared.signal.Signal.{Signal}
-use Rattle.njh_customer.proofs.EndingMoves.{over_so}
-use Rattle.njh_customer.proofs.KeptLines.{kept, kepts, lines_of}
-use Rattle.njh_customer.proofs.OutgoingLaws.{of_parts, on_line_senders, reply_unmoved}
-use Rattle.njh_customer.proofs.RecordsMoves.{Acting, acting_where}
+use Rattle.njh_customer.proofs.ActingMoves.{Acting, acting_where}
+use Rattle.njh_customer.proofs.LineWalks.{kept, kepts, lines_of}
+use Rattle.njh_customer.proofs.OutgoingLaws.{of_parts, on_line_senders, over_so, reply_unmoved}
 use Rattle.njh_customer.proofs.ReplyLaws.{empty_so, is_next, written_so}
 use Rattle.njh_customer.proofs.SendingMoves.{out_of, filled_with_none, filling_on, next_begins, next_is, next_leads}
 use Rattle.njh_customer.proofs.StepWalks.{frame_holds, signal_holds}

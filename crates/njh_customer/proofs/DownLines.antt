@@ -20,8 +20,8 @@ use Rattle.njh_customer.specs.Customer.{Customer, CustomerLine, line_at, on_line
 use Rattle.njh_customer.specs.Growing.{FilesGrow, SignalsGrowFiles}
 use Rattle.njh_customer.specs.Sending.{next_block, with_outlet}
 use Rattle.njh_customer.proofs.GrowingLaws.{then_quietly, unchanged}
+use Rattle.njh_customer.proofs.RecordsGrow.{reply_grows, over_grows, over_where_grows}
 use Rattle.njh_customer.proofs.ReplyLaws.{empty_so, written_so}
-use Rattle.njh_customer.proofs.SendingGrows.{reply_grows, over_grows, over_where_grows}
 use Rattle.njh_customer.proofs.StepWalks.{frame_holds, signal_holds}
 
 abbrev pub phase_on : ℕ → Customer → Phase

@@ -23,19 +23,9 @@ use Rattle.njh_customer.specs.MovingLaws.{EventsMoveSo, FramesDoSo, SignalsDoSo,
 use Rattle.njh_customer.specs.OutgoingFiles.{Outgoing, outgoing}
 use Rattle.njh_customer.specs.Part.{part_after_bytes, rest_on}
 use Rattle.njh_customer.specs.Runs.{OwnBytes, OwnSignal, OwnRoutes, Run, event_run}
+use Rattle.njh_customer.proofs.OutgoingLaws.{leads_as, leads_then}
 use Rattle.njh_customer.proofs.PieceLaws.{no_bytes_do_nothing, steps_follow_bytes}
 use Rattle.njh_customer.proofs.RoutesMoves.{routes_move}
-
-pub leads_as :
-    (M N : Outgoing → Outgoing → Type 0) (x z : Outgoing) → ((u v : Outgoing) → M u v → N u v) → LeadsByMoves M x z
-    → LeadsByMoves N x z
-leads_as M N _ _ each (nowhere x) = nowhere x
-leads_as M N _ _ each (onward x y z move later) = onward x y z (each x y move) (leads_as M N y z each later)
-
-pub leads_then : (M : Outgoing → Outgoing → Type 0) (x y z : Outgoing) → LeadsByMoves M x y → LeadsByMoves M y z
-    → LeadsByMoves M x z
-leads_then M _ _ z (nowhere x) second = second
-leads_then M _ _ z (onward x u y move later) second = onward x u z move (leads_then M u y z later second)
 
 more_records : (entry : CustomerEntry) (l : ℕ) (some items : List Item) (x y : Outgoing)
     → ((i : Item) → Contains some i → Contains items i) → Moves entry l some x y → Moves entry l items x y

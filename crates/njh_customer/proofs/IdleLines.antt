@@ -430,9 +430,8 @@ module _ (keep : InputsKeepUp) (l : ℕ) (came : Input) (c : Customer) (there : 
       behind = (all_acted l items accepted).customer
 
       acted : UpAndRest l behind.lines
-      acted =
-          acted_where_so l (λ d. UpAndRest l d.lines) (λ i d. record_on_lines l (UpAndRest l) (acting l) i d) true items
-          accepted (accepted_up (asks.acts e))
+      acted = acted_where_so l (λ d. UpAndRest l d.lines) true items
+          (λ i at. record_on_lines l (UpAndRest l) (acting l) i) accepted (accepted_up (asks.acts e))
 
       at : (ended : Bool) → IdleUnlessUp (behind_records ended l (verdict_on l came c) behind).after.lines
       at true = ended_rests l behind (others l behind.lines acted.rest)
@@ -465,8 +464,7 @@ fresh_idle config streams = record {
   served = refl;
 }
 
-pub fresh_lines_idle :
-    (entry : CustomerEntry) (l : ℕ) → l < length (fresh_customer entry).lines
+pub fresh_lines_idle : (entry : CustomerEntry) (l : ℕ) → l < length (fresh_customer entry).lines
     → IsIdle (line_at l (fresh_customer entry).lines)
 fresh_lines_idle entry l there = All-map IsIdle (λ line. idle_line (config_of entry line) line.streams) entry.lines
     (λ i d h. let line = get_or entry.lines i d in fresh_idle (config_of entry line) line.streams) l no_customer_line

@@ -1,13 +1,9 @@
 -- What no event changes of a customer.
-use Rattle.std.proofs.Common.{◌≡◌, ℕ, List, [], ◌∷◌, Option, Some, None, length, refl, sym, ap, ◌∙◌}
-use Rattle.njh_bisync.specs.ByteSteps.{rest_step}
-use Rattle.njh_bisync.specs.Frames.{Received}
-use Rattle.njh_bisync.specs.Reading.{Rest}
+use Rattle.std.proofs.Common.{◌≡◌, [], length, refl, sym, ap, ◌∙◌}
 use Rattle.njh_table.specs.Entries.{CustomerEntry}
 use Rattle.njh_table.specs.NewRoutes.{routes_checked}
-use Rattle.njh_customer.specs.Alone.{after_signal}
+use Rattle.njh_customer.specs.Alone.{after_signal, after_frame}
 use Rattle.njh_customer.specs.Customer.{Customer, with_marks}
-use Rattle.njh_customer.specs.Feeding.{acted_on, byte_step, or_later, take_step, Taking}
 use Rattle.njh_customer.specs.FrameEffects.{records_of_frame}
 use Rattle.njh_customer.specs.Laws.{EventsKeepEntries, EventsKeepFaults, EventsKeepLines, TakesKeepEntries}
 use Rattle.njh_customer.specs.MovingLaws.{FramesDoSo, SignalsDoSo}
@@ -16,6 +12,7 @@ use Rattle.njh_customer.specs.Part.{rest_on}
 use Rattle.njh_customer.specs.Runs.{OwnBytes, OwnSignal, OwnRoutes, event_run}
 use Rattle.njh_customer.proofs.EventMoves.{bytes_keep_entry, bytes_move, does_entry}
 use Rattle.njh_customer.proofs.RoutesMoves.{routes_do, routes_keep_entry}
+use Rattle.njh_customer.proofs.StepWalks.{take_so}
 
 -- with the same routes it is the same but for its marks
 same_routes : (new old : CustomerEntry) → new ≡ with_marks new.up old
@@ -46,26 +43,7 @@ module _ (frames : FramesDoSo) (signals : SignalsDoSo) where
 abbrev SameButMarks : CustomerEntry → Customer → Type 0
 SameButMarks entry d = d.entry ≡ with_marks d.entry.up entry
 
--- by the frame that was sent
-by_sent : (entry : CustomerEntry) (rest : Rest) (d : Customer) (frame : List ℕ) (later : Taking) → SameButMarks entry d
-    → SameButMarks d.entry later.after
-    → SameButMarks entry (or_later 1 rest (record { after = d; frame = frame }) later).after
-by_sent entry rest d [] later first second = second ∙ ap (with_marks later.after.entry.up) first
-by_sent entry rest d (b ∷ frame) later first second = first
-
-module _ (frames : FramesDoSo) where
-  acted_entry : (l : ℕ) (o : Option Received) (c : Customer) → SameButMarks c.entry (acted_on l o c).after
-  acted_entry l None c = refl
-  acted_entry l (Some received) c = does_entry l (records_of_frame received) c (acted_on l (Some received) c)
-      (frames l received c)
-
-  take_entry : (rest : Rest) (c : Customer) (l : ℕ) (piece : List ℕ)
-      → SameButMarks c.entry (take_step rest c l piece).after
-  take_entry rest c l [] = refl
-  take_entry rest c l (byte ∷ bytes) =
-      let x = byte_step rest c l byte in
-      by_sent c.entry x.rest x.after x.frame (take_step x.rest x.after l bytes)
-      (acted_entry l (rest_step rest byte).frame c) (take_entry x.rest x.after l bytes)
-
-  pub takes_keep_entries : TakesKeepEntries
-  takes_keep_entries p l piece = take_entry (rest_on l p) p.customer l piece
+pub takes_keep_entries : FramesDoSo → TakesKeepEntries
+takes_keep_entries frames p l piece = take_so (SameButMarks p.customer.entry)
+    (λ m x c so. does_entry m (records_of_frame x) c (after_frame m x c) (frames m x c)
+    ∙ ap (with_marks (after_frame m x c).after.entry.up) so) (rest_on l p) p.customer l piece refl

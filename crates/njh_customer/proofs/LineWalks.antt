@@ -1,5 +1,5 @@
 -- What is so of a customer's lines stays so, whatever waits on them and whatever a record changes of them.
-use Rattle.std.proofs.Common.{◌≡◌, ℕ, List, [], ◌∷◌, fold, map, Option, Some, None, option_map, ◌∙◌}
+use Rattle.std.proofs.Common.{◌≡◌, ℕ, List, [], ◌∷◌, fold, map, Option, Some, None, option_map, ◌∙◌, length, refl}
 use Rattle.std.proofs.Math.Seq.{map-set_same}
 use Rattle.njh_ebcdic.specs.Users.{User}
 use Rattle.njh_block.specs.Blocks.{Item}
@@ -15,12 +15,15 @@ use Rattle.njh_stream.specs.Receiving.{Arrival, Notice, received_arrival}
 use Rattle.njh_stream.specs.Sending.{after_completion, after_grant, after_refusal}
 use Rattle.njh_stream.specs.declared.receiver.Receiver.{Receiver}
 use Rattle.njh_stream.specs.declared.sender.Sender.{Sender}
-use Rattle.njh_command.specs.Commands.{message_outcome}
+use Rattle.njh_command.specs.Commands.{message_outcome, without_file}
 use Rattle.njh_line.specs.Lines.{with_answer, with_message}
-use Rattle.njh_customer.specs.Acting.{after_record, after_stream_arrival, without_sending}
+use Rattle.njh_line.specs.declared.Phase.{Phase}
+use Rattle.njh_line.specs.declared.config.Config.{Config}
+use Rattle.njh_customer.specs.Acting.{after_record, after_stream_arrival, without_sending, with_senders_by}
 use Rattle.njh_customer.specs.Customer.{Customer, CustomerLine, no_customer_line, line_at, on_line, in_state}
 use Rattle.njh_customer.specs.Customer.{with_notice, receiver_at, sender_at, with_receiver, with_sender}
 use Rattle.njh_customer.specs.Waiting.{all_said, goes, with_answer_on, with_message_to, with_notice_to, with_waiting}
+use Rattle.njh_customer.proofs.FileListLaws.{as_many, each_same}
 use Rattle.njh_customer.proofs.RecordsDo as does
 use Rattle.njh_customer.proofs.RecordsDo.{RecordDoes, record_does}
 
@@ -148,3 +151,29 @@ module _ {X : Type 0} (g : CustomerLine → X) (l : ℕ) (before : List Customer
     receives = λ k r lines so. on_line_seen g l (with_receiver k r) lines (sees.receivers k r) ∙ so;
     notes = λ k r n lines so. on_line_seen g l (with_notice k r n) lines (sees.notices k r n) ∙ so;
   }
+
+-- ---- what no record changes of a line
+
+abbrev pub kept : CustomerLine → Config × List ℕ × Phase × ℕ
+kept x = (x.state.config, x.state.last, x.state.session.phase, x.streams)
+
+abbrev pub kepts : List CustomerLine → List (Config × List ℕ × Phase × ℕ)
+kepts lines = map kept lines
+
+keeps : (l : ℕ) (before : List CustomerLine) → StaysOnLines l (IsSeen kept before)
+keeps l before = record {
+  receiving = seen_receiving kept l before (record {
+    waiting = record { answers = λ a x. refl; messages = λ m x. refl };
+    receivers = λ k r x. refl;
+    notices = λ k r n x. refl;
+  });
+  sends = λ k s lines so. on_line_seen kept l (with_sender k s) lines (λ x. refl) ∙ so;
+  gives_up = λ n lines so. each_same kept (with_senders_by (without_file n)) (λ x. refl) lines ∙ so;
+}
+
+pub acted_keeps : (l : ℕ) (i : Item) (c : Customer) → kepts (after_record l i c).lines ≡ kepts c.lines
+acted_keeps l i c = record_on_lines l (IsSeen kept c.lines) (keeps l c.lines) i c refl
+
+-- as many lines
+pub lines_of : (c d : Customer) → kepts d.lines ≡ kepts c.lines → length d.lines ≡ length c.lines
+lines_of c d e = as_many kept d.lines c.lines e

@@ -304,8 +304,7 @@ module _ (c : Customer) (order : IsInOrder c) (idle : (l : ℕ) → l < length c
   none_goes f at goes =
       let x = order.sent.go f at goes in
       let none : None ≡ Some f.number = sym (ap file_in (stream_is x.line x.stream c)
-      ∙ senders_idle c idle x.line x.stream)
-      ∙ x.about in
+      ∙ senders_idle c idle x.line x.stream) ∙ x.about in
       cc none
 
 -- ---- the loss of all lines

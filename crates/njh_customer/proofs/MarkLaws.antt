@@ -24,8 +24,8 @@ use Rattle.njh_customer.specs.Customer.{config_of, fresh_customer, idle_line}
 use Rattle.njh_customer.specs.Laws.{MarksAreRight}
 use Rattle.njh_customer.specs.Part.{rest_on}
 use Rattle.njh_customer.specs.Sending.{sending_of_reply}
-use Rattle.njh_customer.proofs.KeptLines.{kept, kepts}
-use Rattle.njh_customer.proofs.RecordsMoves.{Acting, acting_where}
+use Rattle.njh_customer.proofs.ActingMoves.{Acting, acting_where}
+use Rattle.njh_customer.proofs.LineWalks.{kept, kepts}
 use Rattle.njh_customer.proofs.ReplyLaws.{reply_lasting}
 use Rattle.njh_customer.proofs.StepWalks.{StaysInFrames, event_so, frame_holds, signal_holds, take_so}
 

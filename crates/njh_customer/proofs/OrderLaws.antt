@@ -36,12 +36,11 @@ use Rattle.njh_customer.proofs.CoherenceLaws.{EndsTie, NothingUnties, RecordsKee
 use Rattle.njh_customer.proofs.FileNumbers.{FreeNumbers, apart_arrived, apart_files, apart_fresh, apart_routes}
 use Rattle.njh_customer.proofs.FileNumbers.{whole_distinct}
 use Rattle.njh_customer.proofs.IdleLines.{idle_by_frame, idle_when_opened, idle_by_signal}
-use Rattle.njh_customer.proofs.KeptLines.{acted_keeps, kept, kepts}
-use Rattle.njh_customer.proofs.LineWalks.{on_line_seen}
-use Rattle.njh_customer.proofs.NewRouteLaws.{coherent_given}
+use Rattle.njh_customer.proofs.LineWalks.{acted_keeps, kept, kepts, on_line_seen}
 use Rattle.njh_customer.proofs.OpenedLaws.{fresh_coherent}
 use Rattle.njh_customer.proofs.OutgoingLaws.{of_parts, on_line_senders}
 use Rattle.njh_customer.proofs.ReplyLaws.{reply_lasting}
+use Rattle.njh_customer.proofs.RoutesMoves.{coherent_given}
 use Rattle.njh_customer.proofs.SentByLines.{sent_fresh, sent_over, sent_replied, sent_routes}
 use Rattle.njh_customer.proofs.SentByRecords.{arrival_carries, carried, sent_record}
 use Rattle.njh_customer.proofs.SessionLaws.{coherent_by_frame, coherent_by_signal}

@@ -1,24 +1,28 @@
 -- A customer's whole files and its streams from the hub, as its lines change.
-use Rattle.std.proofs.Common.{◌≡◌, ℕ, List, [], ◌∷◌, map, set, get_or, fold, refl, sym, ap, ◌∙◌, false}
+use Rattle.std.proofs.Common.{◌≡◌, ℕ, List, [], ◌∷◌, map, set, get_or, fold, refl, sym, ap, ◌∙◌, false, length}
+use Rattle.std.proofs.Common.{replicate}
 use Rattle.std.proofs.Math.ListN.{get_or-map}
 use Rattle.std.proofs.Math.Seq.{map-set_same}
 use Rattle.std.proofs.lemmas.List.{map-set, set-get_or}
 use Rattle.njh_spool.specs.CustomerSpool.{CustomerSpool, WholeFile}
+use Rattle.njh_stream.specs.Sending.{all_ended, ready, tried_again}
 use Rattle.njh_stream.specs.declared.sender.Sender.{Sender}
+use Rattle.njh_stream.specs.declared.sender.Sender.TheVariants as sender
 use Rattle.njh_stream.specs.declared.sender.Sender.TheVariants.{Idle}
 use Rattle.njh_command.specs.Commands.{without_file}
 use Rattle.njh_line.specs.declared.verdict.LineReply.{LineReply}
 use Rattle.njh_line.specs.declared.verdict.LineReply.TheVariants as reply
 use Rattle.njh_customer.specs.Acting.{without_sending}
-use Rattle.njh_customer.specs.Alone.{replied_to}
+use Rattle.njh_customer.specs.Alone.{replied_to, with_idle_streams, session_over}
 use Rattle.njh_customer.specs.Customer.{Customer, CustomerLine, no_customer_line, line_at, on_line, sender_at}
 use Rattle.njh_customer.specs.Customer.{with_sender}
-use Rattle.njh_customer.specs.Moves.{without_files}
+use Rattle.njh_customer.specs.Moves.{nowhere, onward, without_files, Over, LeadsByMoves}
 use Rattle.njh_customer.specs.OutgoingFiles.{Outgoing, outgoing, streams_from_hub, sender_on, with_sender_on}
 use Rattle.njh_customer.specs.OutgoingFiles.{with_files}
 use Rattle.njh_customer.specs.Sending.{sending_of_reply}
 use Rattle.njh_customer.proofs.LineWalks.{StaysReceiving, on_line_seen, seen_receiving}
 use Rattle.njh_customer.proofs.ReplyLaws.{is_next}
+use Rattle.njh_customer.proofs.Restated.{ended_restated, without_open_same}
 
 abbrev pub of_parts : List WholeFile → ℕ → List (List Sender) → Outgoing
 of_parts files arrived streams = record { files = files; arrived = arrived; streams = streams }
@@ -103,3 +107,31 @@ all_given_up [] files arrived lines = refl
 all_given_up (n ∷ ns) files arrived lines =
     ap (λ streams. without_files ns (of_parts files arrived streams)) (one_given_up n lines)
     ∙ all_given_up ns files arrived (without_sending lines n)
+
+-- ---- the end of a session
+
+pub over_so : (l : ℕ) (c : Customer) → Over l (outgoing c) (outgoing (session_over l c))
+over_so l c =
+    let x = line_at l c.lines in
+    let restated = ended_restated c.entry l x.senders c.spool in
+    let gone = without_open_same x.receivers (tried_again c.entry l (all_ended x.senders c.spool)) in
+    record {
+      streams = map-set (λ y. y.senders) c.lines l (with_idle_streams x)
+          ∙ ap (λ senders. set (streams_from_hub c.lines) l (replicate (length senders) sender.Idle))
+          (sym (get_or-map (λ y. y.senders) c.lines l no_customer_line));
+      files = ap (map ready) gone.whole ∙ restated.whole;
+      arrived = gone.arrived ∙ restated.arrived;
+    }
+
+-- ---- moves, one after the other
+
+pub leads_as :
+    (M N : Outgoing → Outgoing → Type 0) (x z : Outgoing) → ((u v : Outgoing) → M u v → N u v) → LeadsByMoves M x z
+    → LeadsByMoves N x z
+leads_as M N _ _ each (nowhere x) = nowhere x
+leads_as M N _ _ each (onward x y z move later) = onward x y z (each x y move) (leads_as M N y z each later)
+
+pub leads_then : (M : Outgoing → Outgoing → Type 0) (x y z : Outgoing) → LeadsByMoves M x y → LeadsByMoves M y z
+    → LeadsByMoves M x z
+leads_then M _ _ z (nowhere x) second = second
+leads_then M _ _ z (onward x u y move later) second = onward x u z move (leads_then M u y z later second)

@@ -1,7 +1,9 @@
 -- What a record that comes does to a customer: nothing, or one of a few small things.
 use Rattle.std.proofs.Common.{◌≡◌, ℕ, ◌==◌, Bool, true, false, cond, List, [], ◌∷◌, Option, Some, None, Result, Ok, Err}
-use Rattle.std.proofs.Common.{refl, sym, subst}
+use Rattle.std.proofs.Common.{refl, sym, subst, arith}
 use Rattle.std.proofs.lemmas.Bool.{eqb-true}
+use Rattle.std.proofs.lemmas.List.Elements.{Contains-append_right}
+use Rattle.std.specs.List.{Contains}
 use Rattle.njh_block.specs.Blocks.{Item, Data, Aborted, Long, Control, General, stream_number, stream_of}
 use Rattle.njh_block.specs.declared.answer.Answer.{Answer}
 use Rattle.njh_nmr.specs.Nodal.{Nodal, nodal_of, is_user_command, cut_after_message}
@@ -134,10 +136,13 @@ module _ (l : ℕ) (c : Customer) where
 
 -- ---- the records of a block
 
-module _ (l : ℕ) (I : Customer → Type 0) (acted : (i : Item) (c : Customer) → I c → I (after_record l i c)) where
-  all_so : (items : List Item) (c : Customer) → I c → I (all_acted l items c).customer
-  all_so [] c so = so
-  all_so (i ∷ is) c so = at_end (ends_session i) (all_so is (after_record l i c) (acted i c so))
+module _ (l : ℕ) (I : Customer → Type 0) where
+  all_so : (items : List Item) → ((i : Item) → Contains items i → (c : Customer) → I c → I (after_record l i c))
+      → (c : Customer) → I c → I (all_acted l items c).customer
+  all_so [] acted c so = so
+  all_so (i ∷ is) acted c so =
+      at_end (ends_session i) (all_so is (λ j at. acted j (Contains-append_right (i ∷ []) is j at)) (after_record l i c)
+      (acted i (0, omega arith, refl) c so))
     where
       later : Acted
       later = all_acted l is (after_record l i c)
@@ -146,6 +151,8 @@ module _ (l : ℕ) (I : Customer → Type 0) (acted : (i : Item) (c : Customer) 
       at_end true behind = so
       at_end false behind = behind
 
-  pub acted_where_so : (b : Bool) (items : List Item) (c : Customer) → I c → I (acted_where b l items c).customer
-  acted_where_so true items c so = all_so items c so
-  acted_where_so false items c so = so
+  pub acted_where_so :
+      (b : Bool) (items : List Item) → ((i : Item) → Contains items i → (c : Customer) → I c → I (after_record l i c))
+      → (c : Customer) → I c → I (acted_where b l items c).customer
+  acted_where_so true items acted c so = all_so items acted c so
+  acted_where_so false items acted c so = so

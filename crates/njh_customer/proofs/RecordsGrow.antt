@@ -1,5 +1,5 @@
 -- What the records of a block do to a customer's files.
-use Rattle.std.proofs.Common.{◌≡◌, ℕ, ◌+◌, Bool, true, false, List, [], ◌∷◌, None, refl, arith, filter, map}
+use Rattle.std.proofs.Common.{◌≡◌, ℕ, ◌+◌, Bool, true, false, List, [], ◌∷◌, None, refl, arith, filter, map, Ok, Err}
 use Rattle.njh_record.specs.Stored.{Stored}
 use Rattle.njh_record.specs.declared.Kind.{Kind}
 use Rattle.njh_block.specs.Blocks.{Item, Data, Aborted, Long, Control, General}
@@ -7,17 +7,48 @@ use Rattle.njh_header.specs.FileHeaders.{with_destination}
 use Rattle.njh_header.specs.Redirecting.{records_to_node}
 use Rattle.njh_spool.specs.CustomerSpool.{CustomerSpool, without_partial, with_appended, with_finished}
 use Rattle.njh_spool.specs.CustomerSpool.{with_new_partial}
+use Rattle.njh_table.specs.Keys.{Walked}
+use Rattle.njh_table.specs.NewRoutes.{entries_of_routes, routes_checked}
 use Rattle.njh_command.specs.CommandLaws.{CommandsMoveFilesSo, ReroutesNameNodes}
 use Rattle.njh_command.specs.Commands.{changed_file, with_new_destination}
+use Rattle.njh_line.specs.declared.verdict.LineReply.{LineReply}
 use Rattle.njh_customer.specs.Acting.{after_record, ends_session, Acted, ended_or, all_acted}
+use Rattle.njh_customer.specs.Alone.{replied_to, session_over, session_over_where}
 use Rattle.njh_customer.specs.Customer.{Customer}
-use Rattle.njh_customer.specs.Growing.{FilesGrow}
+use Rattle.njh_customer.specs.Growing.{FilesGrow, RoutesGrowFiles}
+use Rattle.njh_customer.specs.NewRoutes.{taken_where}
 use Rattle.njh_customer.specs.Surviving.{Survive}
 use Rattle.njh_customer.proofs.GrowingLaws.{grow_then, grow_within, quietly_then, quiet, unchanged, without_grows}
 use Rattle.njh_customer.proofs.GrowingLaws.{begun_grows, appended_grows, finished_grows, then_quietly}
-use Rattle.njh_customer.proofs.SendingGrows.{restated_grows}
-use Rattle.njh_customer.proofs.SpoolWalks.{StaysInFiles, record_so}
-use Rattle.njh_customer.proofs.SurvivingLaws.{all_still, some_still, changed_still, rerouted_still}
+use Rattle.njh_customer.proofs.Restated.{IsRestated}
+use Rattle.njh_customer.proofs.SpoolWalks.{StaysInFiles, record_so, replied_so, routes_so, session_over_so}
+use Rattle.njh_customer.proofs.SurvivingLaws.{all_still, some_still, changed_still, rerouted_still, but_states}
+
+pub restated_grows : (s t u : CustomerSpool) → IsRestated t u → FilesGrow 0 s t → FilesGrow 0 s u
+restated_grows s t u restated grow = then_quietly 0 s t u grow
+    (quiet t u (but_states t.whole u.whole restated.whole) restated.arrived restated.partial)
+
+pub reply_grows : (l : ℕ) (r : LineReply) (c : Customer) → FilesGrow 0 c.spool (replied_to l r c).after.spool
+reply_grows l r c = replied_so (FilesGrow 0 c.spool) (restated_grows c.spool) l r c (unchanged c.spool)
+
+pub over_grows : (l : ℕ) (c : Customer) → FilesGrow 0 c.spool (session_over l c).spool
+over_grows l c = session_over_so (FilesGrow 0 c.spool) (restated_grows c.spool)
+    (λ n t grow. then_quietly 0 c.spool t (without_partial n t) grow (without_grows n t)) l c (unchanged c.spool)
+
+pub over_where_grows : (b : Bool) (l : ℕ) (c : Customer) → FilesGrow 0 c.spool (session_over_where b l c).spool
+over_where_grows true l c = over_grows l c
+over_where_grows false l c = unchanged c.spool
+
+-- ---- new routes
+
+pub routes_grow : RoutesGrowFiles
+routes_grow p routes = at_check (routes_checked p.customer.entry routes)
+  where
+    at_check : (w : Walked (Unit {0})) → FilesGrow 0 p.customer.spool (taken_where w routes p).customer.spool
+    at_check (Ok faultless) =
+        routes_so (FilesGrow 0 p.customer.spool) (restated_grows p.customer.spool) (entries_of_routes routes) p.customer
+        (unchanged p.customer.spool)
+    at_check (Err fault) = unchanged p.customer.spool
 
 -- how many records an item adds at most
 abbrev pub data_in : Item → ℕ

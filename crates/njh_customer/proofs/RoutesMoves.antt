@@ -1,18 +1,28 @@
 -- What new routes do to a customer.
-use Rattle.std.proofs.Common.{◌≡◌, cond, List, [], map, Ok, Err, refl, sym, ◌∙◌, inl, inr}
+use Rattle.std.proofs.Common.{◌≡◌, cond, List, [], map, Ok, Err, refl, sym, ◌∙◌, inl, inr, ℕ, Bool, true, false, not}
+use Rattle.std.proofs.Common.{◌&&◌, ◌||◌, Option, Some, None}
 use Rattle.std.specs.List.{Contains}
+use Rattle.njh_ebcdic.specs.Names.{is_name}
+use Rattle.njh_ebcdic.specs.Users.{User}
+use Rattle.njh_header.specs.FileHeaders.{destination_of}
 use Rattle.njh_spool.specs.CustomerSpool.{WholeFile}
-use Rattle.njh_table.specs.Entries.{CustomerEntry}
+use Rattle.njh_table.specs.Entries.{CustomerEntry, route_of}
 use Rattle.njh_table.specs.Keys.{Walked}
 use Rattle.njh_table.specs.NewRoutes.{NewRoute, routes_checked}
-use Rattle.njh_stream.specs.Holding.{has_lost_route, held_file}
+use Rattle.njh_table.specs.declared.Route.{Route}
+use Rattle.njh_table.specs.declared.Route.TheVariants.{Here, Line, Unknown}
+use Rattle.njh_stream.specs.Holding.{has_lost_route, held_file, destination_unrouted, is_unknown}
+use Rattle.njh_stream.specs.Sending.{destination_goes_by, is_line}
 use Rattle.njh_customer.specs.Customer.{with_marks}
 use Rattle.njh_customer.specs.Moves.{LeadsByMoves, nowhere, onward, RoutesMove}
 use Rattle.njh_customer.specs.MovingLaws.{RoutesDo, RoutesDoSo, RoutesMoveFile, is_as_before, is_held}
-use Rattle.njh_customer.specs.NewRoutes.{entry_with, taken_where, routes_given}
+use Rattle.njh_customer.specs.NewRoutes.{entry_with, taken_where, routes_given, UnroutedFilesStay, customer_with_routes}
 use Rattle.njh_customer.specs.OutgoingFiles.{Outgoing, outgoing}
 use Rattle.njh_customer.specs.Part.{Part}
+use Rattle.njh_customer.specs.code.Coherence.{streams_to_hub, RoutesKeepCoherent}
+use Rattle.njh_customer.proofs.CoherenceLaws.{NothingUnties}
 use Rattle.njh_customer.proofs.FileListLaws.{numbers, WasOrIs, changed_where, from_where}
+use Rattle.njh_customer.proofs.Restated.{held_restated, restated_harmless}
 
 pub routes_do : RoutesDoSo
 routes_do p routes = at_check (routes_checked p.customer.entry routes) refl
@@ -73,3 +83,29 @@ held_so entry x g at = at_file (from_where (has_lost_route entry) held_file x.fi
     at_file : WasOrIs (has_lost_route entry) held_file x.files g → RoutesMoveFile entry x g
     at_file (inl (f, there, e, is)) = is_held f there e is
     at_file (inr (there, e)) = is_as_before there e
+
+-- ---- what stays so
+
+pub coherent_given : NothingUnties → RoutesKeepCoherent
+coherent_given untied routes c coherent = record {
+  tied = untied (streams_to_hub c.lines) c.spool (customer_with_routes routes c).spool refl coherent.tied;
+  streamed = coherent.streamed;
+  headers = (restated_harmless c.spool (customer_with_routes routes c).spool
+      (held_restated (entry_with routes c.entry) c.spool)).headers coherent.headers;
+  quota = coherent.quota;
+  limit = coherent.limit;
+  marks = coherent.marks;
+}
+
+no_line : (named : Bool) (r : Route) (l : ℕ) → (not named || is_unknown r) ≡ true → (named && is_line l r) ≡ false
+no_line false r l e = refl
+no_line true Here l e = refl
+no_line true (Line n) l e = absurd (cc e)
+no_line true Unknown l e = refl
+
+pub unrouted_stay : UnroutedFilesStay
+unrouted_stay entry l f = at_destination (destination_of f.kind f.records)
+  where
+    at_destination : (o : Option User) → destination_unrouted entry o ≡ true → destination_goes_by entry l o ≡ false
+    at_destination None e = refl
+    at_destination (Some d) e = no_line (is_name d.node) (route_of entry d.node) l e

@@ -33,16 +33,14 @@ use Rattle.njh_customer.specs.NewRoutes.{customer_with_routes, entry_with}
 use Rattle.njh_customer.specs.OutgoingFiles.{Outgoing, has_file, outgoing, sender_on, streams_from_hub, streams_of}
 use Rattle.njh_customer.specs.OutgoingFiles.{with_file_state, with_files, with_sender_on}
 use Rattle.njh_customer.specs.Sending.{next_block}
-use Rattle.njh_customer.proofs.EndingMoves.{over_so}
 use Rattle.njh_customer.proofs.FileListLaws.{any_numbered, copies, marked_numbers, same_numbered, but_states, found_one}
 use Rattle.njh_customer.proofs.FileListLaws.{WasOrIs, any_there, from_where}
 use Rattle.njh_customer.proofs.IdleLines.{fresh_lines_idle, senders_idle}
-use Rattle.njh_customer.proofs.OutgoingLaws.{reply_unmoved, stream_is}
+use Rattle.njh_customer.proofs.OutgoingLaws.{over_so, reply_unmoved, stream_is}
 use Rattle.njh_customer.proofs.Restated.{ended_where, without_open_same}
-use Rattle.njh_customer.proofs.SenderPlaces.{set_lines, set_streams, set_there}
 use Rattle.njh_customer.proofs.SendingMoves.{out_of, next_is, next_leads}
 use Rattle.njh_customer.proofs.SentByRecords.{carried, changed_carries, onward_carries, Carries}
-use Rattle.njh_customer.proofs.StreamMoveLaws.{IsOne, moved_one}
+use Rattle.njh_customer.proofs.StreamMoveLaws.{set_lines, set_streams, set_there, IsOne, moved_one}
 
 -- one stream moves, and is about the file that it was about
 one_moves :

@@ -33,9 +33,9 @@ use Rattle.njh_customer.proofs.FileListLaws.{passes_filter, any_there, changed_w
 use Rattle.njh_customer.proofs.FileNumbers.{AreDistinct}
 use Rattle.njh_customer.proofs.LeavingLaws.{without_files_files}
 use Rattle.njh_customer.proofs.RecordsChange.{both_are}
-use Rattle.njh_customer.proofs.SenderPlaces.{each_lines, each_streams, set_lines, set_streams, set_where_about}
-use Rattle.njh_customer.proofs.StreamMoveLaws.{IsOne, StaysOrGivesUp, aborted_none, all_give_up, busy_one, each_at}
-use Rattle.njh_customer.proofs.StreamMoveLaws.{moved_one, was}
+use Rattle.njh_customer.proofs.StreamMoveLaws.{each_lines, each_streams, set_lines, set_streams, set_where_about, IsOne}
+use Rattle.njh_customer.proofs.StreamMoveLaws.{StaysOrGivesUp, aborted_none, all_give_up, busy_one, each_at, moved_one}
+use Rattle.njh_customer.proofs.StreamMoveLaws.{was}
 
 number_of : (a b : ℕ) → Some a ≡ Some b → a ≡ b
 number_of a b e = cc e
@@ -231,20 +231,16 @@ completed_carries l m n s x before none are =
 
 -- ---- files change that aren't being sent, and aren't then
 
-pub changed_carries :
-    (p : WholeFile → Bool) (change : WholeFile → WholeFile) (x : Outgoing)
-    → ((f : WholeFile) → (change f).number ≡ f.number)
-    → ((f : WholeFile) → p f ≡ true → is_sending f.state ≡ false)
+pub changed_carries : (p : WholeFile → Bool) (change : WholeFile → WholeFile) (x : Outgoing)
+    → ((f : WholeFile) → (change f).number ≡ f.number) → ((f : WholeFile) → p f ≡ true → is_sending f.state ≡ false)
     → ((f : WholeFile) → p f ≡ true → is_sending (change f).state ≡ false) → AreBeingSent x
     → Carries x (with_files (map (λ f. cond (p f) (change f) f) x.files) x)
 changed_carries p change x numbers idle still are = record {
   lines = refl;
   streams = λ l. refl;
   back = λ l k n about. about;
-  there = λ l k n about there.
-      same_numbered n (map (λ f. cond (p f) (change f) f) x.files) x.files
-      (changed_where (λ f. f.number) p change x.files numbers)
-      ∙ there;
+  there = λ l k n about there. same_numbered n (map (λ f. cond (p f) (change f) f) x.files) x.files
+      (changed_where (λ f. f.number) p change x.files numbers) ∙ there;
   same = λ l k n g about at is. same l k n g about is (from_where p change x.files g at);
   sent = λ g at sending. sent g sending (from_where p change x.files g at);
   on = λ g at sending l k about. about;
@@ -263,8 +259,7 @@ changed_carries p change x numbers idle still are = record {
     sent g sending (inr (at, e)) = at
 
 -- by a command, of those that aren't being sent
-command_carries :
-    (p : WholeFile → Bool) (change : WholeFile → WholeFile) (x : Outgoing)
+command_carries : (p : WholeFile → Bool) (change : WholeFile → WholeFile) (x : Outgoing)
     → ((f : WholeFile) → (change f).number ≡ f.number)
     → ((f : WholeFile) → is_sending f.state ≡ false → is_sending (change f).state ≡ false) → AreBeingSent x
     → Carries x (with_changed p change x)
@@ -376,30 +371,34 @@ cancelled_carries p x apart are = record {
 
 -- ---- every move
 
-pub sent_by_acts :
-    (entry : CustomerEntry) (l : ℕ) (i : Item) (x y : Outgoing) → Acts entry l i x y → AreDistinct x.files
+sent_by_acts : (entry : CustomerEntry) (l : ℕ) (i : Item) (x y : Outgoing) → Acts entry l i x y → AreDistinct x.files
     → AreDistinct y.files → AreBeingSent x → AreBeingSent y
-sent_by_acts entry l i x y (moves.comes rcb srcb f is ready whole e) before behind are =
-    carried x y (subst (Carries x) (sym e) (arrival_carries f x (λ sending. cc (sym ready ∙ sending))
-    (subst (λ z. AreDistinct z.files) e behind) are)) are
-sent_by_acts entry l i x y (moves.permitted streams k n told asked e) before behind are =
-    carried x y (subst (Carries x) (sym e) (onward_carries l k (Sending n 0) x (sym (ap (λ s. file_in s) asked)))) are
-sent_by_acts entry l i x y (moves.refused streams k n after told about none e) before behind are =
-    carried x y (subst (Carries x) (sym e) (refused_carries l k n after x about none are)) are
-sent_by_acts entry l i x y (moves.completed streams k n told ended e) before behind are =
-    carried x y (subst (Carries x) (sym e) (completed_carries l k n Idle x (ap (λ s. file_in s) ended) refl are)) are
-sent_by_acts entry l i x y (moves.holds who name given e) before behind are =
-    carried x y (subst (Carries x) (sym e) (command_carries (is_of_name who name) (file_in_state state.Held) x
-    (λ f. refl) (λ f idle. refl) are)) are
-sent_by_acts entry l i x y (moves.releases who name given e) before behind are =
-    carried x y (subst (Carries x) (sym e) (command_carries (is_of_name who name) (file_in_state state.Ready) x
-    (λ f. refl) (λ f idle. refl) are)) are
-sent_by_acts entry l i x y (moves.reroutes who name node line given route e) before behind are =
-    carried x y (subst (Carries x) (sym e)
-    (command_carries (is_of_name who name) (with_new_destination node) x (λ f. refl)
-    (λ f idle. reroute_idle f.state idle) are)) are
-sent_by_acts entry l i x y (moves.cancels who name given e) before behind are =
-    carried x y (subst (Carries x) (sym e) (cancelled_carries (is_of_name who name) x before are)) are
+sent_by_acts entry l i x y acts before behind are = at_move acts
+  where
+    now : (z : Outgoing) → y ≡ z → Carries x z → AreBeingSent y
+    now z e carries = carried x y (subst (Carries x) (sym e) carries) are
+
+    by_command : (p : WholeFile → Bool) (change : WholeFile → WholeFile) → y ≡ with_changed p change x
+        → ((f : WholeFile) → (change f).number ≡ f.number)
+        → ((f : WholeFile) → is_sending f.state ≡ false → is_sending (change f).state ≡ false) → AreBeingSent y
+    by_command p change e numbers idle = now (with_changed p change x) e (command_carries p change x numbers idle are)
+
+    at_move : Acts entry l i x y → AreBeingSent y
+    at_move (moves.comes rcb srcb f is ready whole e) =
+        now _ e (arrival_carries f x (λ sending. cc (sym ready ∙ sending))
+        (subst (λ z. AreDistinct z.files) e behind) are)
+    at_move (moves.permitted streams k n told asked e) =
+        now _ e (onward_carries l k (Sending n 0) x (sym (ap (λ s. file_in s) asked)))
+    at_move (moves.refused streams k n after told about none e) = now _ e (refused_carries l k n after x about none are)
+    at_move (moves.completed streams k n told ended e) =
+        now _ e (completed_carries l k n Idle x (ap (λ s. file_in s) ended) refl are)
+    at_move (moves.holds who name given e) =
+        by_command (is_of_name who name) (file_in_state state.Held) e (λ f. refl) (λ f idle. refl)
+    at_move (moves.releases who name given e) =
+        by_command (is_of_name who name) (file_in_state state.Ready) e (λ f. refl) (λ f idle. refl)
+    at_move (moves.reroutes who name node line given route e) =
+        by_command (is_of_name who name) (with_new_destination node) e (λ f. refl) (λ f. reroute_idle f.state)
+    at_move (moves.cancels who name given e) = now _ e (cancelled_carries (is_of_name who name) x before are)
 
 pub sent_record : CommandsMoveFilesSo → (l : ℕ) (i : Item) (c : Customer) → AreDistinct c.spool.whole
     → AreDistinct (after_record l i c).spool.whole

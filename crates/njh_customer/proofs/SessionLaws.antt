@@ -25,12 +25,11 @@ use Rattle.njh_customer.specs.Customer.{Customer, no_customer_line, line_at, on_
 use Rattle.njh_customer.specs.Sending.{sending_of_reply}
 use Rattle.njh_customer.specs.code.Coherence.{streams_to_hub, HasStreams, IsCoherent}
 use Rattle.njh_customer.specs.declared.signal.Signal.{Signal}
-use Rattle.njh_customer.proofs.CoherenceLaws.{EndsTie, NothingUnties, RecordsKeep}
+use Rattle.njh_customer.proofs.CoherenceLaws.{EndsTie, NothingUnties, RecordsKeep, shape}
 use Rattle.njh_customer.proofs.LineWalks.{on_line_seen}
 use Rattle.njh_customer.proofs.ReplyLaws.{reply_lasting}
 use Rattle.njh_customer.proofs.Restated.{IsRestated, as_it_is, ended_restated, restated_harmless, restated_then}
 use Rattle.njh_customer.proofs.Restated.{without_open_same}
-use Rattle.njh_customer.proofs.ShapeLaws.{shape}
 use Rattle.njh_customer.proofs.SpoolWalks.{replied_so}
 use Rattle.njh_customer.proofs.StepLaws.{Stays, accepted_stays, acted_stays, stays_like, stays_lines, stays}
 use Rattle.njh_customer.proofs.StepWalks.{StaysInSession, StaysInSteps, block_so, frame_so, input_so, signal_so}

@@ -22,14 +22,14 @@ use Rattle.njh_customer.specs.Customer.{Customer, CustomerLine, no_customer_line
 use Rattle.njh_customer.specs.Customer.{with_sender, with_notice, with_receiver, receiver_at}
 use Rattle.njh_customer.specs.Waiting.{with_answer_on, with_waiting, with_message_to, with_notice_to}
 use Rattle.njh_customer.specs.code.Coherence.{IsCoherent}
-use Rattle.njh_customer.proofs.CoherenceLaws.{IsLike, NothingUnties, RecordsKeep, coherent_still, keeps_arrived}
+use Rattle.njh_customer.proofs.CoherenceLaws.{IsLike, NothingUnties, RecordsKeep, coherent_still, keeps_arrived, shape}
+use Rattle.njh_customer.proofs.CoherenceLaws.{shape_waiting, shapes}
 use Rattle.njh_customer.proofs.FileListLaws.{as_many, each_same}
 use Rattle.njh_customer.proofs.LineWalks.{IsSeen, StaysWaiting, all_told_so, answered_so, notified_so, on_line_seen}
 use Rattle.njh_customer.proofs.LineWalks.{told_so, given_up_so}
 use Rattle.njh_customer.proofs.RecordsDo as does
 use Rattle.njh_customer.proofs.RecordsDo.{RecordDoes, record_does}
 use Rattle.njh_customer.proofs.Restated.{IsHarmless, as_it_is, completed_harmless, refused_restated, restated_harmless}
-use Rattle.njh_customer.proofs.ShapeLaws.{shape, shape_waiting, shapes}
 
 pub record Stays (d c : Customer) : Type 0 where
   pub coherent : IsCoherent d

@@ -29,7 +29,7 @@ use Rattle.njh_customer.specs.Part.{Part, rest_on}
 use Rattle.njh_customer.specs.Runs.{OwnBytes, OwnEvent, OwnRoutes, OwnSignal, event_run}
 use Rattle.njh_customer.specs.Sending.{sending_of_reply}
 use Rattle.njh_customer.specs.declared.signal.Signal.{Signal}
-use Rattle.njh_customer.proofs.KeptLines.{acted_keeps, lines_of}
+use Rattle.njh_customer.proofs.LineWalks.{acted_keeps, lines_of}
 use Rattle.njh_customer.proofs.RecordsDo.{acted_where_so}
 
 -- ---- what comes on a line
@@ -131,7 +131,7 @@ module _ (I : Customer → Type 0) (keep : StaysInSteps I) where
       let v = verdict_on l (block_input b) c in
       let d = accepted_on l (block_input b) c in
       let a = acted_where v.acts l b.items d in
-      behind_so a.ended l v a.customer (acted_where_so l (So l) (acted_so l) v.acts b.items d
+      behind_so a.ended l v a.customer (acted_where_so l (So l) v.acts b.items (λ i at. acted_so l i) d
       (accepted_there I keep.session l (block_input b) c there, keep.session.judged l (block_input b) c there so))
 
   pub frame_so : (l : ℕ) (x : Received) (c : Customer) → I c → I (after_frame l x c).after

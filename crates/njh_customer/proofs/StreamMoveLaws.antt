@@ -1,9 +1,10 @@
 -- How a stream from the hub moves.
 use Rattle.std.proofs.Common.{◌≡◌, ℕ, ◌+◌, Bool, true, false, ◌⊎◌, inl, inr, List, [], ◌∷◌, length, map, set, get_or}
 use Rattle.std.proofs.Common.{replicate, filter, find, not, cond, ◌&&◌, Option, Some, None, ◌==◌, refl, sym, ap, subst}
-use Rattle.std.proofs.Common.{◌∙◌, arith}
+use Rattle.std.proofs.Common.{◌∙◌, arith, ◌<◌, ◌≤◌}
 use Rattle.std.proofs.Math.ListN.{get_or-map}
-use Rattle.std.proofs.lemmas.Bool.{eqb-true}
+use Rattle.std.proofs.lemmas.Bool.{eqb-true, cases_lt}
+use Rattle.std.proofs.lemmas.List.{get_or_past, get_or-set_same, length-map, length-set}
 use Rattle.std.proofs.lemmas.List.Elements.{Contains-append_right}
 use Rattle.std.specs.List.{Contains}
 use Rattle.njh_ebcdic.specs.Users.{User}
@@ -20,6 +21,7 @@ use Rattle.njh_stream.specs.declared.sender.Sender.TheVariants.{Idle, Requested,
 use Rattle.njh_sched.specs.NextBlock.{may_go}
 use Rattle.njh_command.specs.Commands.{aborted_where, is_of_name, is_about, is_busy, is_sending, without_file}
 use Rattle.njh_command.specs.declared.command.Command.TheVariants.{Cancel}
+use Rattle.njh_customer.specs.InOrder.{IsAbout}
 use Rattle.njh_customer.specs.Moves as moves
 use Rattle.njh_customer.specs.Moves.{Acts, Records, Routes, Moves, by_record, by_sending, by_end, Sends, Tells}
 use Rattle.njh_customer.specs.Moves.{Commands, Over, busy_numbers, without_files}
@@ -260,3 +262,59 @@ idle_take entry (Records l items) x y j k n (up, move) has = at_move
     at_move (laws.cancelled i who name f at given there mine before now) =
         about_none (after_abort (sender_on j k x)) now (aborted_none (sender_on j k x))
     at_move (laws.over line gone now) = about_none Idle now refl
+
+-- ---- a stream that is about a file is there
+
+pub about_line : (l k n : ℕ) (x : Outgoing) → IsAbout l k n x → l < length x.streams
+about_line l k n x about = at_test (cases_lt l (length x.streams))
+  where
+    at_test : (l < length x.streams) ⊎ (length x.streams ≤ l) → l < length x.streams
+    at_test (inl inside) = inside
+    at_test (inr past) =
+        absurd (cc (sym about ∙ ap (λ senders. file_in (get_or senders k Idle)) (get_or_past x.streams l [] past)))
+
+pub about_stream : (l k n : ℕ) (x : Outgoing) → IsAbout l k n x → k < length (streams_of l x)
+about_stream l k n x about = at_test (cases_lt k (length (streams_of l x)))
+  where
+    at_test : (k < length (streams_of l x)) ⊎ (length (streams_of l x) ≤ k) → k < length (streams_of l x)
+    at_test (inl inside) = inside
+    at_test (inr past) = absurd (cc (sym about ∙ ap (λ s. file_in s) (get_or_past (streams_of l x) k Idle past)))
+
+-- ---- one that is set
+
+pub set_there : (l k : ℕ) (s : Sender) (x : Outgoing) → l < length x.streams → k < length (streams_of l x)
+    → sender_on l k (with_sender_on l k s x) ≡ s
+set_there l k s x line stream =
+    ap (λ senders. get_or senders k Idle) (get_or-set_same x.streams l (set (streams_of l x) k s) [] line)
+    ∙ get_or-set_same (streams_of l x) k s Idle stream
+
+pub set_where_about : (l k n : ℕ) (s : Sender) (x : Outgoing) → IsAbout l k n x
+    → sender_on l k (with_sender_on l k s x) ≡ s
+set_where_about l k n s x about = set_there l k s x (about_line l k n x about) (about_stream l k n x about)
+
+-- ---- how many there are
+
+pub set_lines : (l k : ℕ) (s : Sender) (x : Outgoing) → length (with_sender_on l k s x).streams ≡ length x.streams
+set_lines l k s x = length-set x.streams l (set (streams_of l x) k s)
+
+pub set_streams : (j l k : ℕ) (s : Sender) (x : Outgoing)
+    → length (streams_of j (with_sender_on l k s x)) ≡ length (streams_of j x)
+set_streams j l k s x = at_line (set_one x.streams l j (set (streams_of l x) k s) [])
+  where
+    now : List Sender
+    now = get_or (set x.streams l (set (streams_of l x) k s)) j []
+
+    at_line : (now ≡ get_or x.streams j []) ⊎ ((j ≡ l) × (now ≡ set (streams_of l x) k s))
+        → length now ≡ length (streams_of j x)
+    at_line (inl same) = ap (λ senders. length senders) same
+    at_line (inr there) =
+        ap (λ senders. length senders) there.1 ∙ length-set (streams_of l x) k s ∙ ap (λ m. length (streams_of m x))
+        (sym there.0)
+
+pub each_lines : (f : Sender → Sender) (x : Outgoing) → length (each_stream f x).streams ≡ length x.streams
+each_lines f x = length-map x.streams (λ senders. map f senders)
+
+pub each_streams : (f : Sender → Sender) (j : ℕ) (x : Outgoing)
+    → length (streams_of j (each_stream f x)) ≡ length (streams_of j x)
+each_streams f j x = ap (λ senders. length senders) (get_or-map (λ senders. map f senders) x.streams j []) ∙ length-map
+    (streams_of j x) f

@@ -1,8 +1,8 @@
 use Rattle.njh_customer.proofs.DownLines.{signals_grow}
 use Rattle.njh_customer.proofs.GrowingLaws.{grow_then, many_go_on, rerouted_count}
 use Rattle.njh_customer.proofs.PartialNumbers.{partials_numbered}
+use Rattle.njh_customer.proofs.RecordsGrow.{routes_grow}
 use Rattle.njh_customer.proofs.RestLengths.{events_short, opened_short, takes_short}
-use Rattle.njh_customer.proofs.SendingGrows.{routes_grow}
 use Rattle.njh_customer.proofs.StepsGrow.{takes_grow}
 use Rattle.njh_customer.proofs.laws.files_grow.Goals as goal
 
