@@ -45,9 +45,8 @@ unmoved : (l : ℕ) (i : Item) (c : Customer) → Acted l i c c
 unmoved l i c = record { entry = refl; moves = inl refl }
 
 -- only its lines changed, and no stream from the hub
-lines_alone :
-    (l : ℕ) (i : Item) (lines : List CustomerLine) (c : Customer) → streams_from_hub lines ≡ streams_from_hub c.lines
-    → Acted l i c (record c { lines = lines })
+lines_alone : (l : ℕ) (i : Item) (lines : List CustomerLine) (c : Customer)
+    → streams_from_hub lines ≡ streams_from_hub c.lines → Acted l i c (record c { lines = lines })
 lines_alone l i lines c same = record { entry = refl; moves = inl (ap (of_parts c.spool.whole c.spool.arrived) same) }
 
 -- ---- streams to the hub
@@ -285,8 +284,7 @@ pub record Acting (l : ℕ) (items : List Item) (c d : Customer) : Type 0 where
   pub kept : kepts d.lines ≡ kepts c.lines  -- how each line is set up, its last transmission, and how far it is
 
 one_acts : (l : ℕ) (items : List Item) (i : Item) (c d e : Customer) → Contains items i → Acting l items c d
-    → Acted l i d e
-    → kepts e.lines ≡ kepts d.lines → Acting l items c e
+    → Acted l i d e → kepts e.lines ≡ kepts d.lines → Acting l items c e
 one_acts l items i c d e there acting did keeps = record {
   entry = did.entry ∙ acting.entry;
   records = leads_then (OneActs c.entry l items) (outgoing c) (outgoing d) (outgoing e) acting.records
@@ -304,5 +302,4 @@ pub acting_where : CommandsMoveFilesSo → (b : Bool) (l : ℕ) (items : List It
     → Acting l items c (acted_where b l items c).customer
 acting_where commands b l items c = acted_where_so l (Acting l items c) b items
     (λ i there d acting. one_acts l items i c d (after_record l i d) there acting (acts_so commands l i d)
-    (acted_keeps l i d)) c
-    (record { entry = refl; records = nowhere (outgoing c); kept = refl })
+    (acted_keeps l i d)) c (record { entry = refl; records = nowhere (outgoing c); kept = refl })

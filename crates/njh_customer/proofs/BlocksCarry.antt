@@ -58,9 +58,8 @@ sends_keep_records entry l n x y (moves.asks k f few at found e) = ap (records_n
 sends_keep_records entry l n x y (moves.goes_on k m place r at found e) = ap (records_numbered n) e
 sends_keep_records entry l n x y (moves.ends k m place at found e) = ap (records_numbered n) e
 
-gives_keep_records :
-    (entry : CustomerEntry) (l n : ℕ) (base : List (List Sender)) (x y : Filling) → GivesOne entry l base x y
-    → file_records n y.spool ≡ file_records n x.spool
+gives_keep_records : (entry : CustomerEntry) (l n : ℕ) (base : List (List Sender)) (x y : Filling)
+    → GivesOne entry l base x y → file_records n y.spool ≡ file_records n x.spool
 gives_keep_records entry l n base x y (sending.nothing e more items) = ap (records_numbered n) e
 gives_keep_records entry l n base x y (sending.a_record s i items) = sends_keep_records entry l n (out_of l base x)
     (out_of l base y) s
@@ -105,9 +104,8 @@ behind_still goes k n p x y past (stays at none) (asks h) = absurd (cc (sym h.be
 behind_still goes k n p x y past (stays at none) (sends h) =
     let next : next_of (sender_at k x.outlet) x.spool ≡ next_at n p None = ap (λ s. next_of s x.spool) at ∙ ap
     (next_at n p) (no_record n p x.spool past) in
-    ended (h.after ∙ ap (λ t. t.sender) next)
-    (ap (records_under (rcb_of k)) (h.item ∙ ap (λ t. x.block.items ++ data_item k t.stored ∷ []) next)
-    ∙ one_end k x.block.items none)
+    ended (h.after ∙ ap (λ t. t.sender) next) (ap (records_under (rcb_of k))
+    (h.item ∙ ap (λ t. x.block.items ++ data_item k t.stored ∷ []) next) ∙ one_end k x.block.items none)
 behind_still goes k n p x y past (ended at one) (left h) = ended (h.sender ∙ at) (h.items ∙ one)
 behind_still goes k n p x y past (ended at one) (gives_up h) = absurd (cc (sym h.before ∙ at))
 behind_still goes k n p x y past (ended at one) (asks h) = absurd (cc (sym h.before ∙ at))
@@ -139,11 +137,9 @@ NothingGoes = (goes : WholeFile → Bool) (x : Filling) → all_suspended x.outl
 
 module _ (in_order : CarriesInOrder) (quiet : IsQuiet) (each : SourcesMove) (fill : SourcesFill)
     (nothing_goes : NothingGoes) where
-  behind_all :
-      (entry : CustomerEntry) (l k n p : ℕ) (base : List (List Sender)) (inside : l < length base) (more : List Source)
-      (x : Filling)
-      → AreOfEight more → length (file_records n x.spool) ≤ p → Behind k n p x → EachDoes (goes_by entry l) k more x
-      → Behind k n p (after_sources (goes_by entry l) more x)
+  behind_all : (entry : CustomerEntry) (l k n p : ℕ) (base : List (List Sender)) (inside : l < length base)
+      (more : List Source) (x : Filling) → AreOfEight more → length (file_records n x.spool) ≤ p → Behind k n p x
+      → EachDoes (goes_by entry l) k more x → Behind k n p (after_sources (goes_by entry l) more x)
   unfolding after_sources
   behind_all entry l k n p base inside [] x few past behind does = behind
   behind_all entry l k n p base inside (source ∷ more) x few past behind does =
@@ -152,11 +148,9 @@ module _ (in_order : CarriesInOrder) (quiet : IsQuiet) (each : SourcesMove) (fil
       behind_all entry l k n p base inside more y few.1 (omega (arith, past, ap length same))
       (behind_still (goes_by entry l) k n p x y past behind does.0) does.1
 
-  behind_filled :
-      (entry : CustomerEntry) (l k n p : ℕ) (base : List (List Sender)) (x : Filling) → l < length base → k < 8
-      → k < length x.outlet.senders
-      → x.block.items ≡ [] → sender_at k x.outlet ≡ Sending n p → length (file_records n x.spool) ≤ p
-      → Behind k n p (filled_block (goes_by entry l) x)
+  behind_filled : (entry : CustomerEntry) (l k n p : ℕ) (base : List (List Sender)) (x : Filling) → l < length base
+      → k < 8 → k < length x.outlet.senders → x.block.items ≡ [] → sender_at k x.outlet ≡ Sending n p
+      → length (file_records n x.spool) ≤ p → Behind k n p (filled_block (goes_by entry l) x)
   behind_filled entry l k n p base x inside few in_line none at past = at_suspended
       (all_suspended x.outlet.peer_fcs) refl
     where

@@ -141,9 +141,8 @@ received_limits entry l kind r a s =
 
 with_streams : (l k : ℕ) (r : Receiver) (lines : List CustomerLine)
     → streams_to_hub (on_line l (with_receiver k r) lines) ≡ with_stream l k r (streams_to_hub lines)
-with_streams l k r lines = map-set (λ x. x.receivers) lines l (with_receiver k r (line_at l lines))
-    ∙ ap (λ rs. set (streams_to_hub lines) l (set rs k r))
-    (sym (get_or-map (λ x. x.receivers) lines l no_customer_line))
+with_streams l k r lines = map-set (λ x. x.receivers) lines l (with_receiver k r (line_at l lines)) ∙ ap
+    (λ rs. set (streams_to_hub lines) l (set rs k r)) (sym (get_or-map (λ x. x.receivers) lines l no_customer_line))
 
 -- the stream has moved, and nothing was said of it yet
 abbrev moved : ℕ → ℕ → Received → Customer → Customer
@@ -174,9 +173,8 @@ keeps_moved l k a c records line_there stream_there coherent =
       marks = coherent.marks ∙ sym (length-set c.lines l (with_receiver k done.receiver (line_at l c.lines)));
     }
 
-pub keeps_arrived :
-    (l k : ℕ) (a : Arrival) (c : Customer) → RecordsKeep → NothingUnties → l < length c.lines → k < 8 → IsCoherent c
-    → IsCoherent (after_stream_arrival l k a c)
+pub keeps_arrived : (l k : ℕ) (a : Arrival) (c : Customer) → RecordsKeep → NothingUnties → l < length c.lines → k < 8
+    → IsCoherent c → IsCoherent (after_stream_arrival l k a c)
 keeps_arrived l k a c records untied line_there stream_there coherent =
     let done = received_arrival c.entry l (kind_of k) (receiver_at k (line_at l c.lines)) a c.spool in
     let lines = on_line l (with_receiver k done.receiver) c.lines in

@@ -109,9 +109,8 @@ module _ (l : ℕ) (c : Customer) where
   }
 
   tried_or_over : (b : Bool) → ((session_on l c).tries == 5) ≡ b → l < length c.lines
-      → in_session (session_on l c).phase ≡ true
-      → (s : CustomerStep) → s ≡ by_parts l (try_nak (session_on l c)).session (try_nak (session_on l c)).verdict c
-      → IsDisregarded l c s
+      → in_session (session_on l c).phase ≡ true → (s : CustomerStep)
+      → s ≡ by_parts l (try_nak (session_on l c)).session (try_nak (session_on l c)).verdict c → IsDisregarded l c s
   tried_or_over true e there up s is = record {
     down = λ down. absurd (cc (sym up ∙ down));
     goes_on = λ few. absurd (few (eqb-true (session_on l c).tries 5 e));

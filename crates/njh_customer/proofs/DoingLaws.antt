@@ -48,9 +48,8 @@ use Rattle.njh_customer.proofs.StepWalks.{frame_holds, signal_holds}
 -- what a block carries of each stream's file
 abbrev pub BlocksCarry : Type 0
 BlocksCarry = (entry : CustomerEntry) (l k : ℕ) (base : List (List Sender)) (x : Filling) → l < length base → k < 8
-    → k < length x.outlet.senders → x.block.items ≡ []
-    → Carries l k (filled_block (goes_by entry l) x).block.items (out_of l base x)
-    (out_of l base (filled_block (goes_by entry l) x))
+    → k < length x.outlet.senders → x.block.items ≡ [] → Carries l k (filled_block (goes_by entry l) x).block.items
+    (out_of l base x) (out_of l base (filled_block (goes_by entry l) x))
 
 control_is : (line x : LineState) (which : Control) → IsNoNewBlock line (sending_of_control which x).frame
 control_is line x Enquiry = control Enquiry refl
@@ -206,14 +205,12 @@ module _ (carry : BlocksCarry) (commands : CommandsMoveFilesSo) where
       (line_at l c.lines)
   accepted_at l came c =
       let lines = on_line l (in_state (after_input came)) c.lines in
-      sym (get_or-map set_up lines l no_customer_line)
-      ∙ ap (λ ps. get_or ps l (set_up no_customer_line)) (map-set_same set_up c.lines l
-      (in_state (after_input came) (line_at l c.lines)) no_customer_line refl)
+      sym (get_or-map set_up lines l no_customer_line) ∙ ap (λ ps. get_or ps l (set_up no_customer_line))
+      (map-set_same set_up c.lines l (in_state (after_input came) (line_at l c.lines)) no_customer_line refl)
       ∙ get_or-map set_up c.lines l no_customer_line
 
-  accepted_judged :
-      (l : ℕ) (items : List Item) (came : Input) (c d : Customer) → Acting l items (accepted_on l came c) d
-      → Judged (goes_up_by l came c) l items c d
+  accepted_judged : (l : ℕ) (items : List Item) (came : Input) (c d : Customer)
+      → Acting l items (accepted_on l came c) d → Judged (goes_up_by l came c) l items c d
   accepted_judged l items came c d acting =
       let a = accepted_on l came c in
       record {
@@ -247,9 +244,8 @@ module _ (carry : BlocksCarry) (commands : CommandsMoveFilesSo) where
         lines = over_lines l true e ∙ length-set d.lines l (in_state after_end (line_at l d.lines)) ∙ judged.lines;
       }
 
-  behind_does :
-      (l : ℕ) (items : List Item) (ended : Bool) (v : Verdict) (c d : Customer) (up : Bool) → Judged up l items c d
-      → l < length d.lines → Does l items c (behind_records ended l v d)
+  behind_does : (l : ℕ) (items : List Item) (ended : Bool) (v : Verdict) (c d : Customer) (up : Bool)
+      → Judged up l items c d → l < length d.lines → Does l items c (behind_records ended l v d)
   behind_does l items true v c d up judged there = ended_does l items c d up judged
   behind_does l items false v c d up judged there = carried_does l items v c d up judged there
 

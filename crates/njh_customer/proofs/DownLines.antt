@@ -93,9 +93,8 @@ pub data StaysDown (l : ℕ) (c : Customer) (s : CustomerStep) : Type 0 where
 quiet_down : (l : ℕ) (c : Customer) → phase_on l c ≡ Down → phase_on l (carried_out l no_verdict c).after ≡ Down
 quiet_down l c down = set_down c.lines l (line_at l c.lines) down
 
-accepted_down : (l : ℕ) (came : Input) (c : Customer)
-    → (let x = (line_at l c.lines).state in (table_outcome x.config came x.session).session.phase ≡ Down)
-    → phase_on l (accepted_on l came c) ≡ Down
+accepted_down : (l : ℕ) (came : Input) (c : Customer) → (let x = (line_at l c.lines).state in
+    (table_outcome x.config came x.session).session.phase ≡ Down) → phase_on l (accepted_on l came c) ≡ Down
 accepted_down l came c down = set_down c.lines l (in_state (after_input came) (line_at l c.lines)) down
 
 module _ (stays_down : DownStaysDown) where

@@ -38,9 +38,8 @@ pub does_moves : (l : ℕ) (items : List Item) (c : Customer) (s : CustomerStep)
     → LeadsByMoves (Moves (with_raised_line does.up l c.entry) l items) (outgoing c) (outgoing s.after)
 does_moves l items c s does = leads_then (Moves entry l items) (outgoing c) does.acted (outgoing s.after)
     (leads_as (OneActs entry l items) (Moves entry l items) (outgoing c) does.acted
-    (λ u v acts. by_record acts) does.records)
-    (leads_then (Moves entry l items) does.acted does.answered (outgoing s.after) (at_answer does.answer)
-    (at_end does.end))
+    (λ u v acts. by_record acts) does.records) (leads_then (Moves entry l items) does.acted does.answered
+    (outgoing s.after) (at_answer does.answer) (at_end does.end))
   where
     entry : CustomerEntry
     entry = with_raised_line does.up l c.entry

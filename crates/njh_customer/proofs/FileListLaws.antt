@@ -148,9 +148,8 @@ found_one {X} p (y ∷ ys) x e = at_test (p y) refl e (found_one p ys x)
     at_test false passes e later = let rest = later e in (Contains-append_right (y ∷ []) ys x rest.0, rest.1)
 
 -- where no other has its number, what is there is found by it
-pub found_numbered :
-    {X : Type 0} (number : X → ℕ) (xs : List X) (x : X) (n : ℕ) → count_by (λ y. number y == n) xs ≤ 1 → Contains xs x
-    → number x ≡ n → find (λ y. number y == n) xs ≡ Some x
+pub found_numbered : {X : Type 0} (number : X → ℕ) (xs : List X) (x : X) (n : ℕ) → count_by (λ y. number y == n) xs ≤ 1
+    → Contains xs x → number x ≡ n → find (λ y. number y == n) xs ≡ Some x
 found_numbered number xs x n few at e =
     only_found (λ y. number y == n) xs at.0 x at.1 (eq-eqb (number (get_or xs at.0 x)) n (ap number at.2 ∙ e)) few
     ∙ ap Some at.2

@@ -35,11 +35,8 @@ FreeNumbers = (s : CustomerSpool) → has_file_room s ≡ true → is_number (ne
 free_count : (n : ℕ) (s : CustomerSpool) → is_number n s ≡ false → files_numbered n s ≡ 0
 free_count n s free =
     let none = or_parts (list_any (λ f. f.number == n) s.whole) (list_any (λ f. f.number == n) s.partial) free in
-    omega (
-      arith,
-      count_by_none (λ f. f.number == n) s.whole none.0,
-      count_by_none (λ f. f.number == n) s.partial none.1,
-    )
+    let fact = count_by_none (λ f. f.number == n) s.whole none.0 in
+    omega (arith, count_by_none (λ f. f.number == n) s.partial none.1)
 
 -- ---- spools
 
@@ -63,11 +60,9 @@ one_more m s free apart n = at_test (m == n) refl
 
 pub apart_arrived : (f : WholeFile) (s : CustomerSpool) → is_number f.number s ≡ false → AreApart s
     → AreApart (with_arrived f s)
-apart_arrived f s free apart = λ n. omega (
-  arith,
-  one_more f.number s free apart n,
-  sum_by_push (λ (g : WholeFile). cond {A = ℕ} (g.number == n) 1 0) s.whole f,
-)
+apart_arrived f s free apart = λ n.
+    let fact = one_more f.number s free apart n in
+    omega (arith, sum_by_push (λ (g : WholeFile). cond {A = ℕ} (g.number == n) 1 0) s.whole f)
 
 finished_apart : (n : ℕ) (s : CustomerSpool) → AreApart s → AreApart (with_finished n s)
 finished_apart n s = at_file (partial_numbered n s) refl
@@ -75,21 +70,17 @@ finished_apart n s = at_file (partial_numbered n s) refl
     at_file : (o : Option PartialFile) → partial_numbered n s ≡ o → AreApart s
         → AreApart (elim o [ None ↦ s | Some f ↦ with_arrived (as_whole f) (without_partial n s) ])
     at_file None found apart = apart
-    at_file (Some f) found apart = λ m. omega (
-      arith,
-      apart m,
-      found_less (counted (λ (g : PartialFile). g.number) m) (λ g. g.number == n) s.partial f found,
-      sum_by_push (counted (λ (g : WholeFile). g.number) m) s.whole (as_whole f),
-    )
+    at_file (Some f) found apart = λ m.
+        let fact = apart m in
+        let besides = found_less (counted (λ (g : PartialFile). g.number) m) (λ g. g.number == n) s.partial f found in
+        omega (arith, sum_by_push (counted (λ (g : WholeFile). g.number) m) s.whole (as_whole f))
 
 -- states change, and other nodes are named
 whole_apart : (s t : CustomerSpool) → numbers t.whole ≡ numbers s.whole → t.partial ≡ s.partial → AreApart s
     → AreApart t
-whole_apart s t whole partial = apart_fewer s t (λ n. omega (
-  arith,
-  same_sum (λ (f : WholeFile). f.number) (λ m. cond {A = ℕ} (m == n) 1 0) t.whole s.whole whole,
-  ap (λ (fs : List PartialFile). count_by (λ f. f.number == n) fs) partial,
-))
+whole_apart s t whole partial = apart_fewer s t (λ n.
+    let fact = same_sum (λ (f : WholeFile). f.number) (λ m. cond {A = ℕ} (m == n) 1 0) t.whole s.whole whole in
+    omega (arith, ap (λ (fs : List PartialFile). count_by (λ f. f.number == n) fs) partial))
 
 apart_restated : (s t : CustomerSpool) → IsRestated s t → AreApart s → AreApart t
 apart_restated s t restated = whole_apart s t (but_states t.whole s.whole restated.whole) restated.partial
@@ -98,17 +89,12 @@ pub apart_files : FreeNumbers → StaysInFiles AreApart (λ i. AreApart)
 apart_files free = record {
   arrivals = record {
     still = λ i s apart. apart;
-    without = λ n s. apart_fewer s (without_partial n s) (λ m. omega (
-      arith,
-      some_less (counted (λ (f : PartialFile). f.number) m) (λ f. not (f.number == n)) s.partial,
-    ));
+    without = λ n s. apart_fewer s (without_partial n s) (λ m.
+        omega (arith, some_less (counted (λ (f : PartialFile). f.number) m) (λ f. not (f.number == n)) s.partial));
     begun = λ rcb srcb kind s room apart n.
         let begun : PartialFile = record { number = next_number s; kind = kind; records = [] } in
-        omega (
-          arith,
-          one_more (next_number s) s (free s room) apart n,
-          sum_by_push (counted (λ (g : PartialFile). g.number) n) s.partial begun,
-        );
+        let fact = one_more (next_number s) s (free s room) apart n in
+        omega (arith, sum_by_push (counted (λ (g : PartialFile). g.number) n) s.partial begun);
     appended = λ rcb r n s room. apart_fewer s (with_appended n r s) (λ m. omega (
       arith,
       same_sum (λ (f : PartialFile). f.number) (λ k. cond {A = ℕ} (k == m) 1 0) (with_appended n r s).partial s.partial

@@ -18,9 +18,8 @@ use Rattle.njh_customer.proofs.SurvivingLaws.{survive_both, was_there}
 
 -- ---- records that have come
 
-more_come :
-    (j k : ℕ) (before : List PartialFile) (n : ℕ) (kind : Kind) (rs : List Stored) → j ≤ k → HasCome j before n kind rs
-    → HasCome k before n kind rs
+more_come : (j k : ℕ) (before : List PartialFile) (n : ℕ) (kind : Kind) (rs : List Stored) → j ≤ k
+    → HasCome j before n kind rs → HasCome k before n kind rs
 more_come j k before n kind rs within (few short) = few (omega arith)
 more_come j k before n kind rs within (goes_on f more at number same short is) = goes_on f more at number same
     (omega arith) is
@@ -75,12 +74,9 @@ grow_then j k x y z first second = record {
     counted : z.arrived < max_arrived → x.arrived + length (parts.second ++ second.new) ≤ z.arrived
     counted below =
         let later = second.counted below in
-        omega (
-          arith,
-          first.counted (omega (arith, later, below)),
-          length-append parts.second second.new,
-          no_more first.new parts.second parts.of_second,
-        )
+        let fact = first.counted (omega (arith, later, below)) in
+        let besides = length-append parts.second second.new in
+        omega (arith, no_more first.new parts.second parts.of_second)
 
     became_whole : (f : WholeFile) → Contains parts.second f ⊎ Contains second.new f
         → HasBecomeWhole (j + k) x.partial f

@@ -117,9 +117,8 @@ module _ (s : Session) where
       IsSo : Type 0
       IsSo = let x = by_count bcb fcs acted s in OnlyUp x.verdict x.session.phase
 
-      at_taken :
-          (b : Bool) → (bcb_type bcb == 1) ≡ false → is_repeat s.last_bcb bcb ≡ false → (bcb_type bcb == 2) ≡ false
-          → is_taken s.last_bcb (bcb_count bcb) ≡ b → IsSo
+      at_taken : (b : Bool) → (bcb_type bcb == 1) ≡ false → is_repeat s.last_bcb bcb ≡ false
+          → (bcb_type bcb == 2) ≡ false → is_taken s.last_bcb (bcb_count bcb) ≡ b → IsSo
       at_taken true e f g h = rw (e, f, g, h, by_count, count_verdict) (acts _)
       at_taken false e f g h = rw (e, f, g, h, by_count, count_verdict) (asks_nothing refl refl)
 
@@ -138,9 +137,8 @@ module _ (s : Session) where
 
   in_row : (down calling answered sent_i up : _) → (let x = cell s.phase down calling answered sent_i up in
       OnlyUp down.verdict down.session.phase → OnlyUp calling.verdict calling.session.phase
-      → OnlyUp answered.verdict answered.session.phase
-      → OnlyUp sent_i.verdict sent_i.session.phase → (s.phase ≡ Up → OnlyUp up.verdict up.session.phase)
-      → OnlyUp x.verdict x.session.phase)
+      → OnlyUp answered.verdict answered.session.phase → OnlyUp sent_i.verdict sent_i.session.phase
+      → (s.phase ≡ Up → OnlyUp up.verdict up.session.phase) → OnlyUp x.verdict x.session.phase)
   in_row down calling answered sent_i up d c a i u = at s.phase refl
     where
       at : (p : Phase) → s.phase ≡ p → (let x = cell p down calling answered sent_i up in
@@ -319,9 +317,8 @@ ended_rests l c rest = over_rests l (record c { lines = on_line l (in_state afte
 -- ---- what a line sends
 
 -- it rests still where nothing of this changed
-idle_still :
-    (x y : CustomerLine) → y.receivers ≡ x.receivers → y.senders ≡ x.senders → y.state.answers ≡ x.state.answers
-    → y.served ≡ x.served → IsIdle x → IsIdle y
+idle_still : (x y : CustomerLine) → y.receivers ≡ x.receivers → y.senders ≡ x.senders
+    → y.state.answers ≡ x.state.answers → y.served ≡ x.served → IsIdle x → IsIdle y
 idle_still x y receivers senders answers served idle = record {
   receivers = λ k. ap (λ rs. get_or rs k receiver.Idle) receivers ∙ idle.receivers k;
   senders = λ k. ap (λ ss. get_or ss k sender.Idle) senders ∙ idle.senders k;
@@ -341,9 +338,8 @@ reply_idle entry l (reply.SignOn kind) s x quiet idle = idle_still x _ refl refl
 reply_idle entry l (reply.Sequence expected) s x quiet idle = idle_still x _ refl refl refl refl idle
 reply_idle entry l (reply.Next or_ack0) s x quiet idle = absurd (cc quiet)
 
-replied_rests :
-    (l : ℕ) (r : LineReply) (c : Customer) → (is_next r ≡ true → is_up (phase_of (line_at l c.lines)) ≡ true)
-    → IdleUnlessUp c.lines → IdleUnlessUp (replied_to l r c).after.lines
+replied_rests : (l : ℕ) (r : LineReply) (c : Customer) → (is_next r ≡ true
+    → is_up (phase_of (line_at l c.lines)) ≡ true) → IdleUnlessUp c.lines → IdleUnlessUp (replied_to l r c).after.lines
 replied_rests l r c up rest = set_rests l sent c.lines (others l c.lines rest) (at (is_next r) refl)
   where
     x : CustomerLine

@@ -43,9 +43,8 @@ module _ (n : ℕ) (x y : Outgoing) where
       absurd (cc (sym (ap (any_numbered n) e ∙ list_any-append (λ g. g.number == n) x.files (f ∷ []) ∙ ap
       (λ b. b || any_numbered n (f ∷ [])) there) ∙ gone))
 
-record_leaves :
-    (entry : CustomerEntry) (l : ℕ) (items : List Item) (x y : Outgoing) (n : ℕ) (i : Item) → Contains items i
-    → Acts entry l i x y → has_file n x ≡ true → has_file n y ≡ false → Leaves entry l items n x
+record_leaves : (entry : CustomerEntry) (l : ℕ) (items : List Item) (x y : Outgoing) (n : ℕ) (i : Item)
+    → Contains items i → Acts entry l i x y → has_file n x ≡ true → has_file n y ≡ false → Leaves entry l items n x
 record_leaves entry l items x y n i at (moves.comes rcb srcb f is ready whole e) there gone = one_comes n x y f
     (ap (λ z. z.files) e) there gone
 record_leaves entry l items x y n i at (moves.permitted streams k m told before e) there gone = stayed n x y

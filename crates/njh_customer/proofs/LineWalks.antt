@@ -74,9 +74,8 @@ pub record StaysReceiving (l : ℕ) (I : List CustomerLine → Type 0) : Type 0 
   pub notes : (k : ℕ) (r : Receiver) (n : Option Notice) (lines : List CustomerLine) → I lines
       → I (on_line l (with_notice k r n) lines)
 
-pub arrived_so :
-    (l : ℕ) (I : List CustomerLine → Type 0) → StaysReceiving l I → (k : ℕ) (a : Arrival) (c : Customer) → I c.lines
-    → I (after_stream_arrival l k a c).lines
+pub arrived_so : (l : ℕ) (I : List CustomerLine → Type 0) → StaysReceiving l I → (k : ℕ) (a : Arrival) (c : Customer)
+    → I c.lines → I (after_stream_arrival l k a c).lines
 arrived_so l I keep k a c so =
     let done = received_arrival c.entry l (kind_of k) (receiver_at k (line_at l c.lines)) a c.spool in
     let lines = on_line l (with_receiver k done.receiver) c.lines in
@@ -92,9 +91,8 @@ pub record StaysOnLines (l : ℕ) (I : List CustomerLine → Type 0) : Type 0 wh
   pub sends : (k : ℕ) (s : Sender) (lines : List CustomerLine) → I lines → I (on_line l (with_sender k s) lines)
   pub gives_up : (n : ℕ) (lines : List CustomerLine) → I lines → I (without_sending lines n)
 
-pub record_on_lines :
-    (l : ℕ) (I : List CustomerLine → Type 0) → StaysOnLines l I → (i : Item) (c : Customer) → I c.lines
-    → I (after_record l i c).lines
+pub record_on_lines : (l : ℕ) (I : List CustomerLine → Type 0) → StaysOnLines l I → (i : Item) (c : Customer)
+    → I c.lines → I (after_record l i c).lines
 record_on_lines l I keep i c so = at i (after_record l i c) (record_does l c i)
   where
     waiting : StaysWaiting l I

@@ -112,9 +112,8 @@ tried_at_rest entry l fs = each_same at_rest (λ f. cond (may_go_again entry l f
 
 -- ---- lines that are down
 
-set_still_down :
-    (lines : List CustomerLine) (l m : ℕ) (x : CustomerLine) → phase_of x ≡ Down → phase_of (line_at m lines) ≡ Down
-    → phase_of (line_at m (set lines l x)) ≡ Down
+set_still_down : (lines : List CustomerLine) (l m : ℕ) (x : CustomerLine) → phase_of x ≡ Down
+    → phase_of (line_at m lines) ≡ Down → phase_of (line_at m (set lines l x)) ≡ Down
 set_still_down lines l m x down there = at (set_one lines l m x no_customer_line)
   where
     at : (line_at m (set lines l x) ≡ line_at m lines) ⊎ ((m ≡ l) × (line_at m (set lines l x) ≡ x))

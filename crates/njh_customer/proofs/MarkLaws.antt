@@ -103,16 +103,14 @@ module _ (keep : InputsKeepUp) (l : ℕ) (came : Input) (c : Customer) (marked :
           ∙ ups_kept d.lines (accepted_on l came c).lines kept_so ∙ accepted_ups
 
       at : (b : Bool) → b ≡ (verdict_on l came c).ended → IsMarked (session_over_where b l sent)
-      at true e = lowered d entry ∙ ap (set (ups c.lines) l) (sym (keeps.over (sym e)))
-          ∙ sym sent_ups ∙ sym (map-set_same is_line_up sent.lines l
-          (with_idle_streams (line_at l sent.lines)) no_customer_line refl)
+      at true e = lowered d entry ∙ ap (set (ups c.lines) l) (sym (keeps.over (sym e))) ∙ sym sent_ups ∙ sym
+          (map-set_same is_line_up sent.lines l (with_idle_streams (line_at l sent.lines)) no_customer_line refl)
       at false e = ap (λ (x : CustomerEntry). x.up) entry
           ∙ marks_on before after l c.entry (ups c.lines) marked has_mark (keeps.on (sym e)) ∙ sym sent_ups
 
   -- a record ended the session
-  ended_marked :
-      (d : Customer) → d.entry ≡ (accepted_on l came c).entry → kepts d.lines ≡ kepts (accepted_on l came c).lines
-      → IsMarked (session_ended l d)
+  ended_marked : (d : Customer) → d.entry ≡ (accepted_on l came c).entry
+      → kepts d.lines ≡ kepts (accepted_on l came c).lines → IsMarked (session_ended l d)
   ended_marked d entry kept_so =
       let xs = on_line l (in_state after_end) d.lines in
       lowered d entry ∙ sym (map-set_same is_line_up xs l (with_idle_streams (line_at l xs)) no_customer_line refl

@@ -178,10 +178,9 @@ NothingIsTied = (lines : List (List Receiver)) (s : CustomerSpool) → ((l k : �
     → s.partial ≡ [] → AreTied lines s
 
 -- a whole file that is put back
-put_back :
-    NothingUnties → (f : WholeFile) (c : Customer) → is_number f.number c.spool ≡ false → HasHeaders f.kind f.records
-    → (f.state ≡ Sending → ⊥)
-    → IsWithinQuota (with_arrived f c.spool) → IsInOrder c → IsInOrder (customer_with_last_file f c)
+put_back : NothingUnties → (f : WholeFile) (c : Customer) → is_number f.number c.spool ≡ false
+    → HasHeaders f.kind f.records → (f.state ≡ Sending → ⊥) → IsWithinQuota (with_arrived f c.spool) → IsInOrder c
+    → IsInOrder (customer_with_last_file f c)
 put_back untied f c free has waits within order =
     let apart = apart_arrived f c.spool free order.apart in
     record {

@@ -125,9 +125,8 @@ over_so l c =
 
 -- ---- moves, one after the other
 
-pub leads_as :
-    (M N : Outgoing → Outgoing → Type 0) (x z : Outgoing) → ((u v : Outgoing) → M u v → N u v) → LeadsByMoves M x z
-    → LeadsByMoves N x z
+pub leads_as : (M N : Outgoing → Outgoing → Type 0) (x z : Outgoing) → ((u v : Outgoing) → M u v → N u v)
+    → LeadsByMoves M x z → LeadsByMoves N x z
 leads_as M N _ _ each (nowhere x) = nowhere x
 leads_as M N _ _ each (onward x y z move later) = onward x y z (each x y move) (leads_as M N y z each later)
 

@@ -24,17 +24,6 @@ use Rattle.njh_customer.specs.code.Coherence.{IsCoherent}
 use Rattle.njh_customer.specs.declared.shared.Shared.{Shared}
 use Rattle.njh_customer.proofs.StepLaws.{Stays}
 
-pub next_ready : (id : LineId) (old new : Shared) (lines_old lines_new : List CustomerLine) (after : Customer)
-    → IsReady id old lines_old
-    → Leads id.customer old new lines_new after → Stays after (customer_of id.customer old lines_old)
-    → IsReady id new lines_new
-next_ready id old new lines_old lines_new after ready leads stays = record {
-  known = omega (arith, ap (λ t. length t.customers) leads.tables);
-  spooled = omega (arith, ap length leads.others, length-set old.spool id.customer (spool_at id.customer new.spool));
-  there = omega (arith, ap (λ c. length c.lines) leads.customer);
-  coherent = subst IsCoherent (sym leads.customer) stays.coherent;
-}
-
 -- what leaves a spool to others leaves it so twice
 pub others_twice : (old now new : List CustomerSpool) (c : ℕ) → now ≡ slice_set old c (spool_at c now)
     → new ≡ slice_set now c (spool_at c new) → new ≡ slice_set old c (spool_at c new)
@@ -42,10 +31,9 @@ others_twice old now new c first then =
     then ∙ ap (λ spools. slice_set spools c (spool_at c new)) first ∙ set-set old c (spool_at c now) (spool_at c new)
 
 -- the first record acts, and then the others
-pub one_acted :
-    (l : ℕ) (items rest : List Item) (item : Item) (ended : Bool) (c : Customer) → Some item ≡ slice_get items 0
-    → rest ≡ drop 1 items
-    → ended ≡ false → ended ≡ ends_session item → all_acted l rest (after_record l item c) ≡ all_acted l items c
+pub one_acted : (l : ℕ) (items rest : List Item) (item : Item) (ended : Bool) (c : Customer)
+    → Some item ≡ slice_get items 0 → rest ≡ drop 1 items → ended ≡ false → ended ≡ ends_session item
+    → all_acted l rest (after_record l item c) ≡ all_acted l items c
 one_acted l [] rest item ended c first others goes_on is = absurd (cc first)
 one_acted l (i ∷ is) rest item ended c first others goes_on ends =
     let same : item ≡ i = cc first in
@@ -56,9 +44,8 @@ one_acted l (i ∷ is) rest item ended c first others goes_on ends =
 pub moved_twice :
     (old now new : List CustomerSpool) (c : ℕ) (x : CustomerSpool) (f : CustomerSpool → CustomerSpool) → c < length old
     → now ≡ slice_set old c x → new ≡ slice_set now c (f (spool_at c now)) → new ≡ slice_set old c (f x)
-moved_twice old now new c x f range now_is new_is = new_is
-    ∙ ap₂ (λ m s. slice_set m c (f s)) now_is (ap (spool_at c) now_is ∙ get_or-set_same old c x no_spool range)
-    ∙ set-set old c x (f x)
+moved_twice old now new c x f range now_is new_is = new_is ∙ ap₂ (λ m s. slice_set m c (f s)) now_is
+    (ap (spool_at c) now_is ∙ get_or-set_same old c x no_spool range) ∙ set-set old c x (f x)
 
 -- ---- steps that may mark the customer's lines
 
@@ -96,19 +83,23 @@ as_brings c old new lines after leads = record {
 }
 
 pub next_brought : (id : LineId) (old new : Shared) (lines_old lines_new : List CustomerLine) (after : Customer)
-    → IsReady id old lines_old
-    → Brings id.customer old new lines_new after → Stays after (customer_of id.customer old lines_old)
-    → IsReady id new lines_new
+    → IsReady id old lines_old → Brings id.customer old new lines_new after
+    → Stays after (customer_of id.customer old lines_old) → IsReady id new lines_new
 next_brought id old new lines_old lines_new after ready brings stays = record {
-  known = omega (
-    arith,
-    ap (λ t. length t.customers) brings.entries,
-    length-set old.tables.customers id.customer (customer_at new.tables id.customer),
-  );
+  known =
+      let fact = ap (λ t. length t.customers) brings.entries in
+      omega (arith, length-set old.tables.customers id.customer (customer_at new.tables id.customer));
   spooled = omega (arith, ap length brings.others, length-set old.spool id.customer (spool_at id.customer new.spool));
   there = omega (arith, ap (λ c. length c.lines) brings.customer);
   coherent = subst IsCoherent (sym brings.customer) stays.coherent;
 }
+
+-- and so by one that leaves the tables
+pub next_ready : (id : LineId) (old new : Shared) (lines_old lines_new : List CustomerLine) (after : Customer)
+    → IsReady id old lines_old → Leads id.customer old new lines_new after
+    → Stays after (customer_of id.customer old lines_old) → IsReady id new lines_new
+next_ready id old new lines_old lines_new after ready leads =
+    next_brought id old new lines_old lines_new after ready (as_brings id.customer old new lines_new after leads)
 
 -- the files stay
 pub still_brings :
@@ -147,9 +138,8 @@ still_there id old new lines_old lines_new after there leads count = record {
 
 -- what brings on from where it was brought
 pub brought_on : (c : ℕ) (old now new : Shared) (lines_now lines_new : List CustomerLine) (between : Customer)
-    (then : Customer → Customer)
-    → Brings c old now lines_now between → Brings c now new lines_new (then (customer_of c now lines_now))
-    → Brings c old new lines_new (then between)
+    (then : Customer → Customer) → Brings c old now lines_now between
+    → Brings c now new lines_new (then (customer_of c now lines_now)) → Brings c old new lines_new (then between)
 brought_on c old now new lines_now lines_new between then first second = record {
   customer = second.customer ∙ ap then first.customer;
   others = others_twice old.spool now.spool new.spool c first.others second.others;
@@ -157,10 +147,9 @@ brought_on c old now new lines_now lines_new between then first second = record 
 }
 
 -- what sends a frame from where it was brought
-pub sent_behind :
-    (c : ℕ) (old now new : Shared) (lines_now lines_new : List CustomerLine) (frame : List ℕ) (between : Customer)
-    (then : Customer → CustomerStep)
-    → Brings c old now lines_now between → SendsStep c now new lines_new frame (then (customer_of c now lines_now))
+pub sent_behind : (c : ℕ) (old now new : Shared) (lines_now lines_new : List CustomerLine) (frame : List ℕ)
+    (between : Customer) (then : Customer → CustomerStep) → Brings c old now lines_now between
+    → SendsStep c now new lines_new frame (then (customer_of c now lines_now))
     → SendsStep c old new lines_new frame (then between)
 sent_behind c old now new lines_now lines_new frame between then first second = record {
   after = brought_on c old now new lines_now lines_new between (λ x. (then x).after) first second.after;
@@ -211,9 +200,8 @@ pub accepted_so :
 accepted_so id old now lines new came was_up now_up up there is was went goes files entry =
     let x = line_at id.number lines in
     let phase : is_up (line_at id.number new).state.session.phase ≡ is_up (after_input came x.state).session.phase =
-    ap (λ ls. is_up (line_at id.number ls).state.session.phase) is
-    ∙ ap (λ y. is_up y.state.session.phase) (get_or-set_same lines id.number
-    (in_state (after_input came) x) no_customer_line there) in
+    ap (λ ls. is_up (line_at id.number ls).state.session.phase) is ∙ ap (λ y. is_up y.state.session.phase)
+    (get_or-set_same lines id.number (in_state (after_input came) x) no_customer_line there) in
     ap₂ (λ e s. customer_with e (spool_at id.customer s) new)
     (entry ∙ ap (λ b. with_raised_line b id.number (entry_of (customer_at old.tables id.customer)))
     (goes ∙ ap₂ (λ n w. n && not w) (went ∙ phase) was)) files

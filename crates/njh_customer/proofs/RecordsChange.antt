@@ -91,9 +91,8 @@ module _ (by_records : (kind : Kind) (node : List ℕ) (records : List Stored)
             (by_records f.kind node f.records))
         at_change (inr (found, e)) = was_there (itself x.files g found)
 
-    one_came :
-        (i : Item) (rcb srcb : ℕ) (f : WholeFile) → Contains items i → i ≡ Data rcb srcb [] → f.state ≡ state.Ready
-        → is_whole f.records ≡ true → Contains x.files g ⊎ (f ≡ g) → FileMoves entry items x g
+    one_came : (i : Item) (rcb srcb : ℕ) (f : WholeFile) → Contains items i → i ≡ Data rcb srcb []
+        → f.state ≡ state.Ready → is_whole f.records ≡ true → Contains x.files g ⊎ (f ≡ g) → FileMoves entry items x g
     one_came i rcb srcb f at is ready whole (inl old) = was_there (itself x.files g old)
     one_came i rcb srcb f at is ready whole (inr new) =
         laws.comes i rcb srcb at is (ap (λ h. is_whole h.records) (sym new) ∙ whole)

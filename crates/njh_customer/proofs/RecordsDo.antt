@@ -151,8 +151,7 @@ module _ (l : ℕ) (I : Customer → Type 0) where
       at_end true behind = so
       at_end false behind = behind
 
-  pub acted_where_so :
-      (b : Bool) (items : List Item) → ((i : Item) → Contains items i → (c : Customer) → I c → I (after_record l i c))
-      → (c : Customer) → I c → I (acted_where b l items c).customer
+  pub acted_where_so : (b : Bool) (items : List Item) → ((i : Item) → Contains items i → (c : Customer) → I c
+      → I (after_record l i c)) → (c : Customer) → I c → I (acted_where b l items c).customer
   acted_where_so true items acted c so = all_so items acted c so
   acted_where_so false items acted c so = so

@@ -61,9 +61,8 @@ refused_restated (sender.EofSent n) s = marked_restated n Refused s
 refused_restated sender.Aborting s = as_it_is s
 
 -- or has it whole
-pub completed_so :
-    (I : CustomerSpool → Type 0) (s : CustomerSpool) → ((n : ℕ) → I (without_whole n s)) → I s → (x : Sender)
-    → I (after_completion x s).spool
+pub completed_so : (I : CustomerSpool → Type 0) (s : CustomerSpool) → ((n : ℕ) → I (without_whole n s)) → I s
+    → (x : Sender) → I (after_completion x s).spool
 completed_so I s without so sender.Idle = so
 completed_so I s without so (sender.Requested n) = so
 completed_so I s without so (sender.Sending n place) = so
@@ -97,9 +96,8 @@ ended_restated entry l xs s =
     (restated_where (may_go_again entry l) ready t (λ f. refl))
 
 -- the files that came in
-pub open_so :
-    (I : CustomerSpool → Type 0) → ((n : ℕ) (s : CustomerSpool) → I s → I (without_partial n s)) → (rs : List Receiver)
-    (s : CustomerSpool) → I s → I (without_all_open rs s)
+pub open_so : (I : CustomerSpool → Type 0) → ((n : ℕ) (s : CustomerSpool) → I s → I (without_partial n s))
+    → (rs : List Receiver) (s : CustomerSpool) → I s → I (without_all_open rs s)
 open_so I without [] s so = so
 open_so I without (r ∷ rs) s so = open_so I without rs (without_open r s) (one r)
   where

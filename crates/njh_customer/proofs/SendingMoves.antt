@@ -298,6 +298,5 @@ pub next_is : (l : ℕ) (or_ack0 : Bool) (c : Customer) → outgoing (replied_to
     ≡ out_of l (streams_from_hub c.lines) (next_block c.entry l c.spool (line_at l c.lines))
 next_is l or_ack0 c =
     let full = next_block c.entry l c.spool (line_at l c.lines) in
-    ap (of_parts full.spool.whole full.spool.arrived)
-    (map-set (λ y. y.senders) c.lines l (sending_of_reply c.entry l (reply.Next or_ack0) c.spool
-    (line_at l c.lines)).line)
+    ap (of_parts full.spool.whole full.spool.arrived) (map-set (λ y. y.senders) c.lines l
+    (sending_of_reply c.entry l (reply.Next or_ack0) c.spool (line_at l c.lines)).line)

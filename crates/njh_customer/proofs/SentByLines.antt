@@ -43,9 +43,8 @@ use Rattle.njh_customer.proofs.SentByRecords.{carried, changed_carries, onward_c
 use Rattle.njh_customer.proofs.StreamMoveLaws.{set_lines, set_streams, set_there, IsOne, moved_one}
 
 -- one stream moves, and is about the file that it was about
-one_moves :
-    (l k : ℕ) (s t : Sender) (x y : Outgoing) → sender_on l k x ≡ s → file_in t ≡ file_in s → y ≡ with_sender_on l k t x
-    → AreBeingSent x → AreBeingSent y
+one_moves : (l k : ℕ) (s t : Sender) (x y : Outgoing) → sender_on l k x ≡ s → file_in t ≡ file_in s
+    → y ≡ with_sender_on l k t x → AreBeingSent x → AreBeingSent y
 one_moves l k s t x y before same e =
     carried x y (subst (Carries x) (sym e) (onward_carries l k t x (same ∙ sym (ap (λ u. file_in u) before))))
 
@@ -198,9 +197,8 @@ pub sent_replied : (l : ℕ) (r : LineReply) (c : Customer) → l < length c.lin
 sent_replied l (reply.Next or_ack0) c there sent =
     let base = streams_from_hub c.lines in
     let full = next_block c.entry l c.spool (line_at l c.lines) in
-    subst AreBeingSent (sym (next_is l or_ack0 c))
-    (sent_by_all c.entry l (outgoing c) (out_of l base full) (omega (arith, there, length-map c.lines (λ x. x.senders)))
-    (next_leads l c there) sent)
+    subst AreBeingSent (sym (next_is l or_ack0 c)) (sent_by_all c.entry l (outgoing c) (out_of l base full)
+    (omega (arith, there, length-map c.lines (λ x. x.senders))) (next_leads l c there) sent)
 sent_replied l reply.Nothing c there sent = subst AreBeingSent (sym (reply_unmoved l reply.Nothing c refl)) sent
 sent_replied l (reply.Control which) c there sent = subst AreBeingSent
     (sym (reply_unmoved l (reply.Control which) c refl)) sent
@@ -253,9 +251,8 @@ all_ended_ones (s ∷ more) spool g at is =
     at_first others (inr (about, waits)) = absurd (cc (sym is ∙ waits))
 
 -- a file that no stream is about stays as it is
-unended_ones :
-    (senders : List Sender) (spool : CustomerSpool) (g : WholeFile) → Contains (all_ended senders spool).whole g
-    → NoneAbout g.number senders → Contains spool.whole g
+unended_ones : (senders : List Sender) (spool : CustomerSpool) (g : WholeFile)
+    → Contains (all_ended senders spool).whole g → NoneAbout g.number senders → Contains spool.whole g
 unended_ones [] spool g at none = at
 unended_ones (s ∷ more) spool g at none =
     at_first (one_ended s spool g (unended_ones more (spool_after_session s spool) g at (λ k. none (suc k))))
@@ -323,9 +320,8 @@ module _ (l : ℕ) (c : Customer) (line : l < length c.lines) (sent : AreBeingSe
       at_line : (b : Bool) → (m == l) ≡ b → length (streams_of m behind_end) ≡ length (streams_of m before_end)
       at_line true e =
           let same = eqb-true m l e in
-          ap (λ i. length (streams_of i behind_end)) same ∙ ap length line_now
-          ∙ length-replicate {A = Sender} (length (streams_of l before_end)) Idle
-          ∙ ap (λ i. length (streams_of i before_end)) (sym same)
+          ap (λ i. length (streams_of i behind_end)) same ∙ ap length line_now ∙ length-replicate {A = Sender}
+          (length (streams_of l before_end)) Idle ∙ ap (λ i. length (streams_of i before_end)) (sym same)
       at_line false e = ap length (other_line m (eqb-false m l e))
 
   -- a file that a stream is about was there as it is
@@ -364,9 +360,8 @@ module _ (l : ℕ) (c : Customer) (line : l < length c.lines) (sent : AreBeingSe
     lines = ap length streams_now ∙ length-set before_end.streams l idles;
     streams = over_streams;
     back = λ m k n about. (about_before m k n about).1;
-    there = λ m k n about there.
-        same_numbered n behind_end.files before_end.files (but_states behind_end.files before_end.files
-        (over_so l c).files) ∙ there;
+    there = λ m k n about there. same_numbered n behind_end.files before_end.files
+        (but_states behind_end.files before_end.files (over_so l c).files) ∙ there;
     same = λ m k n g about at is. over_same m k n g about is (from_tried g at);
     sent = λ g at is. (over_sent g is (from_tried g at)).0;
     on = λ g at is. over_on g (over_sent g is (from_tried g at)).1;
@@ -397,11 +392,10 @@ sent_routes routes c sent =
 
 pub sent_fresh : (entry : CustomerEntry) → AreBeingSent (outgoing (fresh_customer entry))
 sent_fresh entry = record {
-  eight = λ l there.
-      ap (λ (senders : List Sender). length senders) (get_or-map (λ y. y.senders) c.lines l no_customer_line)
-      ∙ All-map (λ (y : CustomerLine). length y.senders ≡ 8)
-      (λ line. idle_line (config_of entry line) line.streams) entry.lines
-      (λ i d h. refl) l no_customer_line (omega (arith, there, length-map c.lines (λ y. y.senders)));
+  eight = λ l there. ap (λ (senders : List Sender). length senders)
+      (get_or-map (λ y. y.senders) c.lines l no_customer_line) ∙ All-map (λ (y : CustomerLine). length y.senders ≡ 8)
+      (λ line. idle_line (config_of entry line) line.streams) entry.lines (λ i d h. refl) l no_customer_line
+      (omega (arith, there, length-map c.lines (λ y. y.senders)));
   there = λ l k n about. absurd (none_about l k n about);
   sending = λ l k n f about at same. absurd (none_about l k n about);
   apart = λ l k m j n first second. absurd (none_about l k n first);

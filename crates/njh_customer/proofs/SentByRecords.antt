@@ -260,9 +260,8 @@ changed_carries p change x numbers idle still are = record {
 
 -- by a command, of those that aren't being sent
 command_carries : (p : WholeFile → Bool) (change : WholeFile → WholeFile) (x : Outgoing)
-    → ((f : WholeFile) → (change f).number ≡ f.number)
-    → ((f : WholeFile) → is_sending f.state ≡ false → is_sending (change f).state ≡ false) → AreBeingSent x
-    → Carries x (with_changed p change x)
+    → ((f : WholeFile) → (change f).number ≡ f.number) → ((f : WholeFile) → is_sending f.state ≡ false
+    → is_sending (change f).state ≡ false) → AreBeingSent x → Carries x (with_changed p change x)
 command_carries p change x numbers idle =
     changed_carries (may_change p) change x numbers (λ f e. (both_are (p f) (is_sending f.state) e).1)
     (λ f e. idle f (both_are (p f) (is_sending f.state) e).1)

@@ -49,9 +49,8 @@ module _ (untied : NothingUnties) (ends : EndsTie) where
       stays_like untied (replied_to l r c).after c (record {
         entry = refl;
         lines = map-set_same shape c.lines l x.line no_customer_line same;
-        files = restated_harmless c.spool x.spool
-            (replied_so (IsRestated c.spool) (λ s t later first. restated_then c.spool s t first later) l r c
-            (as_it_is c.spool));
+        files = restated_harmless c.spool x.spool (replied_so (IsRestated c.spool)
+            (λ s t later first. restated_then c.spool s t first later) l r c (as_it_is c.spool));
       }) coherent
 
   -- ---- the end of a session

@@ -84,9 +84,8 @@ module _ (I : CustomerSpool → Type 0) (J : Item → CustomerSpool → Type 0) 
   closed_so true rcb srcb n s e so = keep.finished rcb srcb n s e so
   closed_so false rcb srcb n s e so = gone (Data rcb srcb []) n s so
 
-  pub received_so :
-      (entry : CustomerEntry) (l : ℕ) (kind : Kind) (r : Receiver) (a : Arrival) (i : Item) (s : CustomerSpool)
-      → Brings a i → I s → J i (received_arrival entry l kind r a s).spool
+  pub received_so : (entry : CustomerEntry) (l : ℕ) (kind : Kind) (r : Receiver) (a : Arrival) (i : Item)
+      (s : CustomerSpool) → Brings a i → I s → J i (received_arrival entry l kind r a s).spool
   received_so entry l kind receiver.Idle _ _ s (a_request rcb srcb) so = requested_so rcb srcb kind s so
   received_so entry l kind receiver.Idle _ _ s (some_data rcb srcb bytes) so = keep.still (Data rcb srcb bytes) s so
   received_so entry l kind receiver.Idle _ i s (an_abort rcb srcb) so = keep.still i s so
@@ -185,9 +184,8 @@ module _ (I : CustomerSpool → Type 0) (restated : (s t : CustomerSpool) → Is
       restated c.spool (replied_to l (reply.Next or_ack0) c).after.spool
       (filled_kept (goes_by c.entry l) first).files so
 
-  pub session_over_so :
-      ((n : ℕ) (s : CustomerSpool) → I s → I (without_partial n s)) → (l : ℕ) (c : Customer) → I c.spool
-      → I (session_over l c).spool
+  pub session_over_so : ((n : ℕ) (s : CustomerSpool) → I s → I (without_partial n s)) → (l : ℕ) (c : Customer)
+      → I c.spool → I (session_over l c).spool
   session_over_so without l c so =
       let x = line_at l c.lines in
       let t = tried_again c.entry l (all_ended x.senders c.spool) in

@@ -95,9 +95,8 @@ module _ (untied : NothingUnties) where
           entry = refl;
           lines =
               all_told_so l (IsSeen shape lines) (shape_waiting l lines) c.entry (sender_of n) done.replies lines refl
-              ∙ given_up_so (IsSeen shape c.lines)
-              (λ m xs so. each_same shape (with_senders_by (without_file m)) (λ x. refl) xs ∙ so) done.cancelled c.lines
-              refl;
+              ∙ given_up_so (IsSeen shape c.lines) (λ m xs so. each_same shape (with_senders_by (without_file m))
+              (λ x. refl) xs ∙ so) done.cancelled c.lines refl;
           files = record {
             partial = refl;
             limits = refl;

@@ -42,9 +42,8 @@ pub record HoldsOfSteps (l : ℕ) (c : Customer) (P : List Item → CustomerStep
   pub block : (b : Block) → l < length c.lines → P b.items (after_block l b c)
 
 -- a line that is there, or isn't
-where_there :
-    (l : ℕ) (c : Customer) (P : CustomerStep → Type 0) (x : CustomerStep) → P (silent c) → (l < length c.lines → P x)
-    → P (cond (nat_lt l (length c.lines)) x (silent c))
+where_there : (l : ℕ) (c : Customer) (P : CustomerStep → Type 0) (x : CustomerStep) → P (silent c)
+    → (l < length c.lines → P x) → P (cond (nat_lt l (length c.lines)) x (silent c))
 where_there l c P x none step = at (nat_lt l (length c.lines)) refl
   where
     at : (b : Bool) → nat_lt l (length c.lines) ≡ b → P (cond b x (silent c))

@@ -177,31 +177,27 @@ goes_on_then x y z first second = let parts = survive_both first.still first.new
       files = second.files ∙ ap (λ files. files ++ second.new) parts.both
           ∙ append_assoc parts.first parts.second second.new;
       survive = survive_then x.files first.still parts.first first.survive parts.of_first;
-      counted = omega (
-        arith,
-        first.counted,
-        second.counted,
-        length-append parts.second second.new,
-        no_more first.new parts.second parts.of_second,
-      );
+      counted =
+          let fact = first.counted in
+          let besides = second.counted in
+          let moreover = length-append parts.second second.new in
+          omega (arith, no_more first.new parts.second parts.of_second);
     }
 
 pub in_state_still : (s : State) (f : WholeFile) → IsStill f (record f { state = s })
 in_state_still s f = is_same f (record f { state = s }) refl refl refl
 
 -- those that pass a test change
-still_where :
-    (p : WholeFile → Bool) (change : WholeFile → WholeFile) → ((f : WholeFile) → IsStill f (change f)) → (f : WholeFile)
-    → IsStill f (cond (p f) (change f) f)
+still_where : (p : WholeFile → Bool) (change : WholeFile → WholeFile) → ((f : WholeFile) → IsStill f (change f))
+    → (f : WholeFile) → IsStill f (cond (p f) (change f) f)
 still_where p change each f = at_test (p f)
   where
     at_test : (b : Bool) → IsStill f (cond b (change f) f)
     at_test true = each f
     at_test false = itself f
 
-pub changed_still :
-    (p : WholeFile → Bool) (change : WholeFile → WholeFile) → ((f : WholeFile) → IsStill f (change f)) → (f : WholeFile)
-    → IsStill f (changed_file p change f)
+pub changed_still : (p : WholeFile → Bool) (change : WholeFile → WholeFile) → ((f : WholeFile) → IsStill f (change f))
+    → (f : WholeFile) → IsStill f (changed_file p change f)
 changed_still p change = still_where (may_change p) change
 
 pub marked_still : (n : ℕ) (s : State) (fs : List WholeFile) → Survive fs (with_file_state n s fs)
@@ -313,11 +309,9 @@ module _ (by_records : (kind : Kind) (node : List ℕ) (records : List Stored)
 pub first_files : FirstFilesSurvive
 first_files x y on =
     let k = length y.files - (y.arrived - x.arrived) in
-    let few : k ≤ length on.still = omega (
-      arith,
-      ap (λ (files : List WholeFile). length files) on.files,
-      length-append on.still on.new,
-    ) in
+    let few : k ≤ length on.still =
+    let fact = ap (λ (files : List WholeFile). length files) on.files in
+    omega (arith, length-append on.still on.new) in
     subst (Survive x.files) (sym (ap (take k) on.files ∙ take-append-le k on.still on.new few))
     (survive_front k x.files on.still on.survive)
 

@@ -56,20 +56,14 @@ within_general size place at bytes general inside =
 job_place : (bytes : List ℕ) (h : JobHeader) → job_header bytes ≡ Ok h → h.place + 8 ≤ length bytes
 job_place bytes h reads =
     let is = (header_law 96 64 job_fields bytes h).0 reads in
-    omega (
-      arith,
-      ap (λ (x : JobHeader). x.place) is.says,
-      within_general 96 is.section 88 bytes is.general (omega arith),
-    )
+    let fact = ap (λ (x : JobHeader). x.place) is.says in
+    omega (arith, within_general 96 is.section 88 bytes is.general (omega arith))
 
 data_set_place : (bytes : List ℕ) (h : DataSetHeader) → data_set_header bytes ≡ Ok h → h.place + 8 ≤ length bytes
 data_set_place bytes h reads =
     let is = (header_law 20 4 data_set_fields bytes h).0 reads in
-    omega (
-      arith,
-      ap (λ (x : DataSetHeader). x.place) is.says,
-      within_general 20 is.section 12 bytes is.general (omega arith),
-    )
+    let fact = ap (λ (x : DataSetHeader). x.place) is.says in
+    omega (arith, within_general 20 is.section 12 bytes is.general (omega arith))
 
 -- a name is eight bytes
 name_eight : (node : List ℕ) → is_name node ≡ true → length node ≡ 8
@@ -93,12 +87,10 @@ module _ (node : List ℕ) (eight : length node ≡ 8) where
       at_header : (h : Result JobHeader HeaderFault) → job_header r.bytes ≡ h
           → stored_size (elim h [ Ok h ↦ with_node_at h.place node r ∷ rs | Err e ↦ r ∷ rs ]) ≡ stored_size (r ∷ rs)
       at_header (Err fault) e = refl
-      at_header (Ok h) e = omega (
-        arith,
-        sum_by-cons size_of (with_node_at h.place node r) rs,
-        sum_by-cons size_of r rs,
-        written_size h.place r (job_place r.bytes h e),
-      )
+      at_header (Ok h) e =
+          let fact = sum_by-cons size_of (with_node_at h.place node r) rs in
+          let besides = sum_by-cons size_of r rs in
+          omega (arith, written_size h.place r (job_place r.bytes h e))
 
   data_set_size : (r : Stored) → size_of (with_data_set_node node r) ≡ size_of r
   data_set_size r = at_header (data_set_header r.bytes) refl
@@ -166,13 +158,11 @@ finished_within n s = at_file (partial_numbered n s) refl
     at_file None found within = within
     at_file (Some f) found within = record {
       blocks = omega (arith, found_less partial_cost p s.partial f found, sum_by_push whole_cost s.whole (as_whole f));
-      files = omega (
-        arith,
-        length-filter_both p (λ g. not (p g)) (λ g. refl) s.partial,
-        length-filter p s.partial,
-        find_counts p s.partial f found,
-        length-append s.whole (as_whole f ∷ []),
-      );
+      files =
+          let fact = length-filter_both p (λ g. not (p g)) (λ g. refl) s.partial in
+          let besides = length-filter p s.partial in
+          let moreover = find_counts p s.partial f found in
+          omega (arith, length-append s.whole (as_whole f ∷ []));
     }
 
 pub within_files : StaysInFiles IsWithinQuota (λ i. IsWithinQuota)
@@ -186,11 +176,9 @@ within_files = record {
         let begun : PartialFile = record { number = next_number s; kind = kind; records = [] } in
         record {
           blocks = omega (arith, sum_by_push partial_cost s.partial begun);
-          files = omega (
-            arith,
-            ltb-true (length s.whole + length s.partial) s.limit room,
-            length-append s.partial (begun ∷ []),
-          );
+          files =
+              let fact = ltb-true (length s.whole + length s.partial) s.limit room in
+              omega (arith, length-append s.partial (begun ∷ []));
         };
     appended = λ rcb r n s fits within. record {
       blocks = leb-true (used_blocks (with_appended n r s)) s.quota fits;

@@ -31,6 +31,5 @@ returns-clause-ready c =
     let came = input_value c.args.input.now in
     let old = customer_of id.customer c.args.self.now c.args.lines.now in
     next_brought id c.args.self.now (marked c) c.args.lines.now c.accept-verdict.new.self
-    (accepted_on id.number came old) c.requires.ready
-    (returns-clause-after c) (accepted_stays c.streams_stay_tied.ensures.untouched id.number came old
-    c.requires.ready.coherent)
+    (accepted_on id.number came old) c.requires.ready (returns-clause-after c)
+    (accepted_stays c.streams_stay_tied.ensures.untouched id.number came old c.requires.ready.coherent)
