@@ -8,7 +8,8 @@ use Rattle.njh_nmr.specs.Nodal.{Nodal, nodal_of, is_user_command, sender_of}
 use Rattle.njh_texts.specs.Texts.{node_unknown}
 use Rattle.njh_spool.specs.CustomerSpool.{CustomerSpool, PartialFile, WholeFile, without_partial, as_whole}
 use Rattle.njh_spool.specs.CustomerSpool.{partial_numbered, partial_records, one_more, with_arrived, with_finished}
-use Rattle.njh_spool.specs.declared.State.TheVariants.{Held, Ready}
+use Rattle.njh_spool.specs.CustomerSpool.{with_state}
+use Rattle.njh_spool.specs.declared.State.TheVariants.{Held, Ready, Refused}
 use Rattle.njh_table.specs.Entries.{route_of}
 use Rattle.njh_table.specs.declared.Route.TheVariants.{Here}
 use Rattle.njh_stream.specs.Receiving.{Arrival}
@@ -57,7 +58,7 @@ SameWhole s t = (t.whole ≡ s.whole) × (t.arrived ≡ s.arrived)
 
 -- no file has come whole, or one has
 data Filed (i : Item) (s t : CustomerSpool) : Type 0 where
-  none : SameWhole s t → Filed i s t
+  none_came : SameWhole s t → Filed i s t
   one : (rcb srcb : ℕ) (f : WholeFile) → i ≡ Data rcb srcb [] → f.state ≡ Ready → is_whole f.records ≡ true
       → t.whole ≡ s.whole ++ f ∷ [] → t.arrived ≡ one_more s.arrived → Filed i s t
 
@@ -67,17 +68,17 @@ finished_files rcb srcb n s t e same = at_file (partial_numbered n t) e
   where
     at_file : (o : Option PartialFile) → is_whole (elim o [ Some f ↦ f.records | None ↦ [] ]) ≡ true
         → Filed (Data rcb srcb []) s (elim o [ None ↦ t | Some f ↦ with_arrived (as_whole f) (without_partial n t) ])
-    at_file None e = none same
+    at_file None e = none_came same
     at_file (Some f) e =
         one rcb srcb (as_whole f) refl refl e (ap (λ (fs : List WholeFile). fs ++ as_whole f ∷ []) same.0)
         (ap one_more same.1)
 
 files_in_arrivals : (s : CustomerSpool) → StaysInArrivals (SameWhole s) (λ i t. Filed i s t)
 files_in_arrivals s = record {
-  still = λ i t same. none same;
+  still = λ i t same. none_came same;
   without = λ n t same. same;
-  begun = λ rcb srcb kind t room same. none same;
-  appended = λ rcb r n t room same. none same;
+  begun = λ rcb srcb kind t room same. none_came same;
+  appended = λ rcb r n t room same. none_came same;
   finished = λ rcb srcb n t whole same. finished_files rcb srcb n s t whole same;
 }
 
@@ -100,7 +101,7 @@ arrived_acts l k a i c brings =
         ∙ ap (λ n. of_parts files n (streams_from_hub d.lines)) came ∙ ap (of_parts files arrived) streams
 
     at_files : Filed i c.spool (after_stream_arrival l k a c).spool → Acted l i c (after_stream_arrival l k a c)
-    at_files (none same) = record { entry = refl; moves = inl (parts_are c.spool.whole c.spool.arrived same.0 same.1) }
+    at_files (none_came same) = record { entry = refl; moves = inl (parts_are c.spool.whole c.spool.arrived same.0 same.1) }
     at_files (one rcb srcb f came ready whole last more) = record {
       entry = refl;
       moves = inr (moves.comes rcb srcb f came ready whole
@@ -130,31 +131,23 @@ module _ (l k streams srcb : ℕ) (c : Customer) (names : stream_of streams srcb
   permitted_acts (sender.EofSent n) at = stays 0xa0 (sender.EofSent n) at
   permitted_acts sender.Aborting at = stays 0xa0 sender.Aborting at
 
+  refused_at :
+      (n : ℕ) (s after : Sender) → file_in s ≡ Some n → file_in after ≡ None → sender_on l k (outgoing c) ≡ s
+      → Acted l (Control 0xb0 srcb) c
+      (with_sender_outcome l k (record { sender = after; spool = with_state n Refused c.spool }) c)
+  refused_at n s after about none at = record {
+    entry = refl;
+    moves = inr (moves.refused streams k n after (record { srcb = srcb; is_control = refl; names = names })
+        (ap (λ y. file_in y) at ∙ about) none (sent_is l k after (with_state n Refused c.spool) c refl));
+  }
+
   refused_acts : (x : Sender) → sender_on l k (outgoing c) ≡ x
       → Acted l (Control 0xb0 srcb) c (with_sender_outcome l k (after_refusal x c.spool) c)
-  refused_acts sender.Idle at = stays 0xb0 sender.Idle at
-  refused_acts (sender.Requested n) at =
-      let sent = after_refusal (sender.Requested n) c.spool in
-      record {
-        entry = refl;
-        moves = inr (moves.refused streams k n sent.sender (record { srcb = srcb; is_control = refl; names = names })
-            (ap (λ y. file_in y) at) refl (sent_is l k sent.sender sent.spool c refl));
-      }
-  refused_acts (sender.Sending n place) at =
-      let sent = after_refusal (sender.Sending n place) c.spool in
-      record {
-        entry = refl;
-        moves = inr (moves.refused streams k n sent.sender (record { srcb = srcb; is_control = refl; names = names })
-            (ap (λ y. file_in y) at) refl (sent_is l k sent.sender sent.spool c refl));
-      }
-  refused_acts (sender.EofSent n) at =
-      let sent = after_refusal (sender.EofSent n) c.spool in
-      record {
-        entry = refl;
-        moves = inr (moves.refused streams k n sent.sender (record { srcb = srcb; is_control = refl; names = names })
-            (ap (λ y. file_in y) at) refl (sent_is l k sent.sender sent.spool c refl));
-      }
-  refused_acts sender.Aborting at = stays 0xb0 sender.Aborting at
+  refused_acts sender.Idle = stays 0xb0 sender.Idle
+  refused_acts (sender.Requested n) = refused_at n (sender.Requested n) sender.Idle refl refl
+  refused_acts (sender.Sending n place) = refused_at n (sender.Sending n place) sender.Aborting refl refl
+  refused_acts (sender.EofSent n) = refused_at n (sender.EofSent n) sender.Idle refl refl
+  refused_acts sender.Aborting = stays 0xb0 sender.Aborting
 
   completed_acts : (x : Sender) → sender_on l k (outgoing c) ≡ x
       → Acted l (Control 0xc0 srcb) c (with_sender_outcome l k (after_completion x c.spool) c)

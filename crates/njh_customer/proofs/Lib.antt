@@ -8,7 +8,6 @@ pub mod ReplyLaws
 pub mod CoherenceLaws
 pub mod StepLaws
 pub mod ReadyLaws
-pub mod FilledLaws
 pub mod SessionLaws
 pub mod OpenLaws
 pub mod TakingLaws
@@ -20,13 +19,11 @@ pub mod SendingMoves
 pub mod DoingLaws
 pub mod BlocksCarry
 pub mod EventMoves
-pub mod LeavingLaws
 pub mod StreamMoveLaws
 pub mod SurvivingLaws
 pub mod RecordsChange
 pub mod DisregardingLaws
 pub mod RoutesMoves
-pub mod KeepingLaws
 pub mod MarkLaws
 pub mod GrowingLaws
 pub mod PartialNumbers

@@ -1,23 +1,32 @@
 -- What changes of a customer's files no more than states of whole ones.
 use Rattle.std.proofs.Common.{◌≡◌, ℕ, ◌==◌, cond, List, [], ◌∷◌, All, map, Option, Some, None, refl, sym, subst, ◌∙◌}
-use Rattle.std.proofs.Common.{arith, Bool, not}
+use Rattle.std.proofs.Common.{arith, Bool, not, true, false}
 use Rattle.std.proofs.Math.ListN.{get_or-map}
 use Rattle.std.proofs.lemmas.List.{length-map}
 use Rattle.std.proofs.lemmas.List.Elements.{All-map, All-filter}
+use Rattle.std.specs.Prelude.{slice_get, option_map}
+use Rattle.njh_block.specs.Blocks.{all_suspended}
+use Rattle.njh_block.specs.Codes.{kind_of}
+use Rattle.njh_block.specs.Writing.{has_room}
 use Rattle.njh_header.specs.WholeFiles.{HasHeaders}
 use Rattle.njh_spool.specs.CustomerSpool.{CustomerSpool, WholeFile, with_state, without_partial, without_whole}
 use Rattle.njh_spool.specs.declared.State.{State}
-use Rattle.njh_spool.specs.declared.State.TheVariants.{Ready, Refused}
+use Rattle.njh_spool.specs.declared.State.TheVariants.{Ready, Refused, Sending}
 use Rattle.njh_table.specs.Entries.{CustomerEntry}
 use Rattle.njh_stream.specs.Holding.{has_lost_route, held_file, unrouted_held}
 use Rattle.njh_stream.specs.Receiving.{without_all_open, without_open}
 use Rattle.njh_stream.specs.Sending.{all_ended, file_in, may_go_again, ready, spool_after_session, tried_again}
-use Rattle.njh_stream.specs.Sending.{after_completion, after_refusal}
+use Rattle.njh_stream.specs.Sending.{after_completion, after_refusal, next_of}
 use Rattle.njh_stream.specs.WholeFiles.{HaveHeaders}
 use Rattle.njh_stream.specs.declared.receiver.Receiver.{Receiver}
 use Rattle.njh_stream.specs.declared.receiver.Receiver.TheVariants as receiver
 use Rattle.njh_stream.specs.declared.sender.Sender.{Sender}
 use Rattle.njh_stream.specs.declared.sender.Sender.TheVariants as sender
+use Rattle.njh_sched.specs.NextBlock.{Outlet, Candidate, Filling, Source, WaitingAnswer, StreamAbort, StreamRequest}
+use Rattle.njh_sched.specs.NextBlock.{WaitingMessage, StreamTurn, answering, abort_where, sender_at, asking, may_ask}
+use Rattle.njh_sched.specs.NextBlock.{oldest, request_of, telling, serving, next_served, candidate, added_where}
+use Rattle.njh_sched.specs.NextBlock.{after_candidate, after_source_where, after_source, after_sources, filled_where}
+use Rattle.njh_sched.specs.NextBlock.{filled_block, sources}
 use Rattle.njh_customer.specs.code.Coherence.{limits_of}
 use Rattle.njh_customer.proofs.FileListLaws.{changed_where}
 
@@ -140,3 +149,85 @@ pub completed_harmless : (x : Sender) (s : CustomerSpool) → IsHarmless s (afte
 completed_harmless x s = completed_so (IsHarmless s) s
     (λ n. record { partial = refl; limits = refl; headers = All-filter (λ f. not (f.number == n)) Reads s.whole })
     (restated_harmless s s (as_it_is s)) x
+
+-- ---- what fills a block
+
+pub record Kept (y x : Filling) : Type 0 where
+  pub fcs : y.block.fcs ≡ x.block.fcs
+  pub files : IsRestated x.spool y.spool
+
+-- a record that may come leaves all but states of whole files
+abbrev IsCalm : CustomerSpool → Option Candidate → Type 0
+IsCalm s None = Unit {0}
+IsCalm s (Some c) = IsRestated s c.spool
+
+calm_map : {A : Type 0} (s : CustomerSpool) (f : A → Candidate) (o : Option A) → ((x : A) → IsRestated s (f x).spool)
+    → IsCalm s (option_map f o)
+calm_map s f None each = tt
+calm_map s f (Some x) each = each x
+
+calm_abort : (x : Sender) (o : Outlet) (s : CustomerSpool) (k : ℕ) → IsCalm s (abort_where x o s k)
+calm_abort sender.Idle o s k = tt
+calm_abort (sender.Requested n) o s k = tt
+calm_abort (sender.Sending n place) o s k = tt
+calm_abort (sender.EofSent n) o s k = tt
+calm_abort sender.Aborting o s k = as_it_is s
+
+request_where : Bool → (WholeFile → Candidate) → Option WholeFile → Option Candidate
+request_where b f o = elim b [ false ↦ None | true ↦ option_map f o ]
+
+calm_request : (goes : WholeFile → Bool) (o : Outlet) (s : CustomerSpool) (k : ℕ) → IsCalm s (request_of goes o s k)
+unfolding request_where
+calm_request goes o s k = at_idle (may_ask o k)
+  where
+    at_idle : (b : Bool) → IsCalm s (request_where b (λ f. asking o s k f.number) (oldest goes (kind_of k) s))
+    at_idle false = tt
+    at_idle true = calm_map {A = WholeFile} s (λ f. asking o s k f.number) (oldest goes (kind_of k) s)
+        (λ f. marked_restated f.number Sending s)
+
+calm : (goes : WholeFile → Bool) (source : Source) (o : Outlet) (s : CustomerSpool)
+    → IsCalm s (candidate goes source o s)
+calm goes WaitingAnswer o s = calm_map s (answering o s) (slice_get o.answers 0) (λ a. as_it_is s)
+calm goes (StreamAbort k) o s = calm_abort (sender_at k o) o s k
+calm goes (StreamRequest k) o s = calm_request goes o s k
+calm goes WaitingMessage o s = calm_map s (telling o s) (slice_get o.messages 0) (λ m. as_it_is s)
+calm goes StreamTurn o s = calm_map s (λ k. serving o s k (next_of (sender_at k o) s)) (next_served o) (λ k. as_it_is s)
+
+same : (x : Filling) → Kept x x
+same x = record { fcs = refl; files = as_it_is x.spool }
+
+after_candidate_kept : (o : Option Candidate) (x : Filling) → IsCalm x.spool o → Kept (after_candidate o x) x
+after_candidate_kept None x h = same x
+after_candidate_kept (Some c) x h = at_room (has_room x.block c.item)
+  where
+    at_room : (b : Bool) → Kept (added_where b c x) x
+    at_room true = record { fcs = refl; files = h }
+    at_room false = record { fcs = refl; files = as_it_is x.spool }
+
+after_source_kept : (goes : WholeFile → Bool) (source : Source) (x : Filling) → Kept (after_source goes source x) x
+unfolding after_source
+after_source_kept goes source x = at_full x.full
+  where
+    at_full : (b : Bool) → Kept (after_source_where b goes source x) x
+    at_full true = same x
+    at_full false = after_candidate_kept (candidate goes source x.outlet x.spool) x (calm goes source x.outlet x.spool)
+
+after_sources_kept : (goes : WholeFile → Bool) (more : List Source) (x : Filling) → Kept (after_sources goes more x) x
+unfolding after_sources
+after_sources_kept goes [] x = same x
+after_sources_kept goes (source ∷ more) x =
+    let one = after_source_kept goes source x in
+    let y = after_source goes source x in
+    let rest = after_sources_kept goes more y in
+    record {
+      fcs = rest.fcs ∙ one.fcs;
+      files = restated_then x.spool y.spool (after_sources goes more y).spool one.files rest.files;
+    }
+
+pub filled_kept : (goes : WholeFile → Bool) (x : Filling) → Kept (filled_block goes x) x
+unfolding filled_block
+filled_kept goes x = at_suspended (all_suspended x.outlet.peer_fcs)
+  where
+    at_suspended : (b : Bool) → Kept (filled_where b goes x) x
+    at_suspended true = same x
+    at_suspended false = after_sources_kept goes (sources x.block.limit x.outlet) x

@@ -31,8 +31,7 @@ use Rattle.njh_customer.proofs.FileListLaws.{any_numbered, from_filter, same_num
 use Rattle.njh_customer.proofs.FileListLaws.{first_or_later, found_numbered, from_where, has_one, into_filter}
 use Rattle.njh_customer.proofs.FileListLaws.{passes_filter, any_there, changed_where}
 use Rattle.njh_customer.proofs.FileNumbers.{AreDistinct}
-use Rattle.njh_customer.proofs.LeavingLaws.{without_files_files}
-use Rattle.njh_customer.proofs.RecordsChange.{both_are}
+use Rattle.njh_customer.proofs.RecordsChange.{without_files_files, both_are}
 use Rattle.njh_customer.proofs.StreamMoveLaws.{each_lines, each_streams, set_lines, set_streams, set_where_about, IsOne}
 use Rattle.njh_customer.proofs.StreamMoveLaws.{StaysOrGivesUp, aborted_none, all_give_up, busy_one, each_at, moved_one}
 use Rattle.njh_customer.proofs.StreamMoveLaws.{was}

@@ -35,10 +35,9 @@ use Rattle.njh_customer.specs.Customer.{Customer, line_at, receiver_at, sender_a
 use Rattle.njh_customer.specs.NewRoutes.{customer_with_routes, entry_with}
 use Rattle.njh_customer.specs.Sending.{outlet_of, own_block}
 use Rattle.njh_customer.proofs.FileListLaws.{changed_where}
-use Rattle.njh_customer.proofs.FilledLaws.{filled_kept}
 use Rattle.njh_customer.proofs.RecordsDo as does
 use Rattle.njh_customer.proofs.RecordsDo.{Brings, a_request, an_abort, some_data, too_long, RecordDoes, record_does}
-use Rattle.njh_customer.proofs.Restated.{IsRestated, ended_restated, held_restated, open_so, completed_so}
+use Rattle.njh_customer.proofs.Restated.{filled_kept, IsRestated, ended_restated, held_restated, open_so, completed_so}
 use Rattle.njh_customer.proofs.Restated.{refused_restated}
 use Rattle.njh_customer.proofs.StepWalks.{StaysInSteps}
 

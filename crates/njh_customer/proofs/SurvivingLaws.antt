@@ -34,7 +34,7 @@ use Rattle.njh_customer.specs.Surviving.{IsRerouted, as_before, to_node, IsStill
 use Rattle.njh_customer.specs.Surviving.{FilesGoOn, FilesSurvive, EventsKeepFiles, TakesKeepFiles, FirstFilesSurvive}
 use Rattle.njh_customer.specs.Surviving.{FilesGoOnFurther, RunsKeepFiles, SurvivorsAreNumbered}
 use Rattle.njh_customer.proofs.FileListLaws.{first_or_later, found_numbered}
-use Rattle.njh_customer.proofs.LeavingLaws.{without_files_files}
+use Rattle.njh_customer.proofs.RecordsChange.{without_files_files}
 
 -- ---- a file that is still there
 

@@ -1,4 +1,4 @@
-use Rattle.njh_customer.proofs.KeepingLaws as laws
+use Rattle.njh_customer.proofs.EventMoves as laws
 use Rattle.njh_customer.proofs.laws.events_keep_entries.Goals as goal
 
 pub returns-clause-entry : goal.returns-clause-entry

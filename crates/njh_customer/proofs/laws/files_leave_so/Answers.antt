@@ -1,4 +1,4 @@
-use Rattle.njh_customer.proofs.LeavingLaws.{leaves_so, leaves_so_between}
+use Rattle.njh_customer.proofs.RecordsChange.{leaves_so, leaves_so_between}
 use Rattle.njh_customer.proofs.laws.files_leave_so.Goals as goal
 
 pub returns-clause-one : goal.returns-clause-one

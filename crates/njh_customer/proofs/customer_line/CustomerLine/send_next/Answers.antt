@@ -1,11 +1,11 @@
 -- Filling leaves the block's function control sequence.
 use Rattle.std.proofs.Common.{ap, ◌∙◌}
 use Rattle.njh_spool.specs.Spools.{spool_at}
-use Rattle.njh_stream.specs.Sending.{goes_by}
 use Rattle.njh_table.specs.TableFile.{customer_at, entry_of}
+use Rattle.njh_stream.specs.Sending.{goes_by}
 use Rattle.njh_sched.specs.NextBlock.{filling}
 use Rattle.njh_customer.specs.Sending.{outlet_of}
-use Rattle.njh_customer.proofs.FilledLaws.{filled_kept}
+use Rattle.njh_customer.proofs.Restated.{filled_kept}
 use Rattle.njh_customer.proofs.customer_line.CustomerLine.send_next.Goals as goal
 
 pub send_written-requires : goal.send_written-requires
