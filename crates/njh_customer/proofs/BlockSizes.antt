@@ -1,11 +1,11 @@
 -- How many records with data a block has at most: each takes three bytes of its text at least.
-use Rattle.std.proofs.Common.{ℕ, zero, suc, ◌+◌, ◌-◌, ◌*◌, ◌<◌, ◌≤◌, Bool, true, false, cond, ◌==◌, nat_le, nat_lt}
-use Rattle.std.proofs.Common.{List, [], ◌∷◌, length, take, drop, Option, Some, None, Result, Ok, Err, arith}
-use Rattle.std.proofs.Common.{if◌then◌else◌}
-use Rattle.std.proofs.lemmas.List.{length-drop}
-use Rattle.njh_record.specs.Spelling.{blanks, literal, added_bytes}
-use Rattle.njh_record.specs.Unspelled.{Front, OfItem, OfEnd, Bad, Cut, repeat_front, literal_front, front_of, Fault}
-use Rattle.njh_record.specs.Unspelled.{BadScb, Truncated, Unspelled, with_front, unspelled_within, record_at_front}
+use Rattle.std.proofs.Common.{ℕ, zero, suc, ◌+◌, ◌*◌, ◌<◌, ◌≤◌, Bool, true, false, cond, ◌==◌, nat_le, List, [], ◌∷◌}
+use Rattle.std.proofs.Common.{length, Option, Some, None, Result, Ok, Err, arith, ap}
+use Rattle.njh_record.proofs.Fronts.{front_leaves_less}
+use Rattle.njh_record.proofs.ReadingLaws.{by_steps, read_on}
+use Rattle.njh_record.specs.Spelling.{added_bytes}
+use Rattle.njh_record.specs.Unspelled.{Front, OfItem, OfEnd, Bad, Cut, Fault, Unspelled, with_front, record_at_front}
+use Rattle.njh_record.specs.code.Parts.{StandsFirst}
 use Rattle.njh_record.specs.declared.End.{End}
 use Rattle.njh_record.specs.declared.End.TheVariants.{Record, Abort}
 use Rattle.njh_block.specs.Blocks.{Item, Data, Aborted, Long, Block, form_of, after_control, item_of, First}
@@ -19,67 +19,24 @@ use Rattle.njh_customer.proofs.RecordsGrow.{data_in, data_count}
 
 -- ---- a spelling leaves less than there was
 
-abbrev FrontLeavesLess : ℕ → Front → Type 0
-FrontLeavesLess n (OfItem item rest) = length rest < n
-FrontLeavesLess n (OfEnd end rest) = length rest < n
-FrontLeavesLess n Bad = Unit {0}
-FrontLeavesLess n Cut = Unit {0}
+abbrev LeavesLess : List ℕ → Result Unspelled Fault → Type 0
+LeavesLess bytes (Ok r) = length r.rest < length bytes
+LeavesLess bytes (Err e) = Unit {0}
 
-either_front : (n : ℕ) (b : Bool) (x y : Front) → FrontLeavesLess n x → FrontLeavesLess n y
-    → FrontLeavesLess n (if b then x else y)
-either_front n true x y first second = first
-either_front n false x y first second = second
+behind_leaves : (front bytes rest : List ℕ) (r : Result Unspelled Fault) → length rest < length bytes → LeavesLess rest r
+    → LeavesLess bytes (with_front front r)
+behind_leaves front bytes rest (Ok r) less leaves = omega arith
+behind_leaves front bytes rest (Err e) less leaves = tt
 
-repeat_leaves : (n count : ℕ) (rest : List ℕ) → length rest < n → FrontLeavesLess n (repeat_front count rest)
-repeat_leaves n count [] less = tt
-repeat_leaves n count (byte ∷ rest) less = omega arith
-
-literal_leaves : (n count : ℕ) (rest : List ℕ) → length rest < n → FrontLeavesLess n (literal_front count rest)
-literal_leaves n count rest less =
-    either_front n (nat_le count (length rest)) (OfItem (literal (take count rest)) (drop count rest)) Cut
-    (omega (arith, length-drop count rest)) tt
-
-front_leaves : (bytes : List ℕ) → FrontLeavesLess (length bytes) (front_of bytes)
-front_leaves [] = tt
-front_leaves (scb ∷ rest) =
-    let n = length (scb ∷ rest) in
-    let less : length rest < n = omega arith in
-    let spelled = if nat_lt scb 0xC0 then repeat_front (scb - 0xA0) rest else literal_front (scb - 0xC0) rest in
-    let counted = if nat_lt scb 0xA0 then OfItem (blanks (scb - 0x80)) rest else spelled in
-    let item = if nat_lt scb 0x80 then Bad else counted in
-    let aborted = if scb == 0x40 then OfEnd Abort rest else item in
-    either_front n (scb == 0x00) (OfEnd Record rest) aborted less
-    (either_front n (scb == 0x40) (OfEnd Abort rest) item less (either_front n (nat_lt scb 0x80) Bad counted tt
-    (either_front n (nat_lt scb 0xA0) (OfItem (blanks (scb - 0x80)) rest) spelled less
-    (either_front n (nat_lt scb 0xC0) (repeat_front (scb - 0xA0) rest) (literal_front (scb - 0xC0) rest)
-    (repeat_leaves n (scb - 0xA0) rest less) (literal_leaves n (scb - 0xC0) rest less)))))
-
-abbrev LeavesLess : ℕ → Result Unspelled Fault → Type 0
-LeavesLess n (Ok r) = length r.rest < n
-LeavesLess n (Err e) = Unit {0}
-
-behind_leaves : (front : List ℕ) (m n : ℕ) (r : Result Unspelled Fault) → m < n → LeavesLess m r
-    → LeavesLess n (with_front front r)
-behind_leaves front m n (Ok r) less leaves = omega arith
-behind_leaves front m n (Err e) less leaves = tt
-
-within_leaves : (k : ℕ) (bytes : List ℕ) → LeavesLess (length bytes) (unspelled_within k bytes)
-within_leaves zero bytes = tt
-within_leaves (suc k) bytes = at_front (front_of bytes) (front_leaves bytes) (λ rest. within_leaves k rest)
-  where
-    at_front : (front : Front) → FrontLeavesLess (length bytes) front
-        → ((rest : List ℕ) → LeavesLess (length rest) (unspelled_within k rest))
-        → LeavesLess (length bytes) (elim front [
-          | OfItem item rest ↦ with_front (added_bytes item) (unspelled_within k rest)
-          | OfEnd end rest ↦ Ok (record { contents = []; end = end; rest = rest })
-          | Bad ↦ Err BadScb
-          | Cut ↦ Err Truncated
-        ])
-    at_front (OfItem item rest) less later =
-        behind_leaves (added_bytes item) (length rest) (length bytes) (unspelled_within k rest) less (later rest)
-    at_front (OfEnd end rest) less later = less
-    at_front Bad less later = tt
-    at_front Cut less later = tt
+step_leaves : (bytes : List ℕ) (front : Front) → StandsFirst bytes front
+    → ((rest : List ℕ) → length rest < length bytes → LeavesLess rest (record_at_front rest))
+    → LeavesLess bytes (read_on record_at_front front)
+step_leaves bytes (OfItem item rest) (counted, parts) again =
+    let less = front_leaves_less bytes rest item parts in
+    behind_leaves (added_bytes item) bytes rest (record_at_front rest) less (again rest less)
+step_leaves bytes (OfEnd end rest) parts again = omega (arith, ap (λ (bs : List ℕ). length bs) parts)
+step_leaves bytes Bad bad again = tt
+step_leaves bytes Cut cut again = tt
 
 -- ---- a record takes three bytes where it has data
 
@@ -102,10 +59,10 @@ one_item rcb srcb r = at_end r.end
     at_end Record = at_length (nat_le (length r.contents) 256)
     at_end Abort = omega arith
 
-spelled_takes : (rcb srcb n : ℕ) (r : Result Unspelled Fault) → LeavesLess n r
-    → TakesEnough (suc (suc n)) (record_of_spelling rcb srcb r)
-spelled_takes rcb srcb n (Ok r) less = omega (arith, one_item rcb srcb r)
-spelled_takes rcb srcb n (Err e) less = tt
+spelled_takes : (rcb srcb : ℕ) (bytes : List ℕ) (r : Result Unspelled Fault) → LeavesLess bytes r
+    → TakesEnough (suc (suc (length bytes))) (record_of_spelling rcb srcb r)
+spelled_takes rcb srcb bytes (Ok r) less = omega (arith, one_item rcb srcb r)
+spelled_takes rcb srcb bytes (Err e) less = tt
 
 control_leaves : (rest : List ℕ) → length (after_control rest) ≤ length rest
 control_leaves [] = omega arith
@@ -122,8 +79,8 @@ form_takes form.End rcb srcb rest = tt
 form_takes form.Bad rcb srcb rest = tt
 form_takes form.General rcb srcb rest = omega arith
 form_takes (form.Control c) rcb srcb rest = omega (arith, control_leaves rest)
-form_takes form.Spelled rcb srcb rest = spelled_takes rcb srcb (length rest) (record_at_front rest)
-    (within_leaves (length rest) rest)
+form_takes form.Spelled rcb srcb rest =
+    spelled_takes rcb srcb rest (record_at_front rest) (by_steps LeavesLess step_leaves rest)
 
 one_byte_takes : (f : Form) → TakesEnough 1 (record_of_one_byte f)
 one_byte_takes form.End = tt
