@@ -101,7 +101,11 @@ arrived_acts l k a i c brings =
         ∙ ap (λ n. of_parts files n (streams_from_hub d.lines)) came ∙ ap (of_parts files arrived) streams
 
     at_files : Filed i c.spool (after_stream_arrival l k a c).spool → Acted l i c (after_stream_arrival l k a c)
-    at_files (none_came same) = record { entry = refl; moves = inl (parts_are c.spool.whole c.spool.arrived same.0 same.1) }
+    at_files (none_came same) = record {
+      entry = refl;
+      moves = inl
+          (parts_are c.spool.whole c.spool.arrived same.0 same.1);
+    }
     at_files (one rcb srcb f came ready whole last more) = record {
       entry = refl;
       moves = inr (moves.comes rcb srcb f came ready whole
@@ -131,8 +135,7 @@ module _ (l k streams srcb : ℕ) (c : Customer) (names : stream_of streams srcb
   permitted_acts (sender.EofSent n) at = stays 0xa0 (sender.EofSent n) at
   permitted_acts sender.Aborting at = stays 0xa0 sender.Aborting at
 
-  refused_at :
-      (n : ℕ) (s after : Sender) → file_in s ≡ Some n → file_in after ≡ None → sender_on l k (outgoing c) ≡ s
+  refused_at : (n : ℕ) (s after : Sender) → file_in s ≡ Some n → file_in after ≡ None → sender_on l k (outgoing c) ≡ s
       → Acted l (Control 0xb0 srcb) c
       (with_sender_outcome l k (record { sender = after; spool = with_state n Refused c.spool }) c)
   refused_at n s after about none at = record {

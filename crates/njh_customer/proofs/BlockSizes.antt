@@ -23,8 +23,8 @@ abbrev LeavesLess : List ℕ → Result Unspelled Fault → Type 0
 LeavesLess bytes (Ok r) = length r.rest < length bytes
 LeavesLess bytes (Err e) = Unit {0}
 
-behind_leaves : (front bytes rest : List ℕ) (r : Result Unspelled Fault) → length rest < length bytes → LeavesLess rest r
-    → LeavesLess bytes (with_front front r)
+behind_leaves : (front bytes rest : List ℕ) (r : Result Unspelled Fault) → length rest < length bytes
+    → LeavesLess rest r → LeavesLess bytes (with_front front r)
 behind_leaves front bytes rest (Ok r) less leaves = omega arith
 behind_leaves front bytes rest (Err e) less leaves = tt
 

@@ -31,7 +31,7 @@ use Rattle.njh_customer.specs.Customer.{Customer, CustomerLine, no_customer_line
 use Rattle.njh_customer.specs.FrameEffects.{Carries, Ends, still_on, over_now, GoesOut, no_block, new_block, Does}
 use Rattle.njh_customer.specs.FrameEffects.{records_of_frame, IsNoNewBlock, nothing_sent, control, again, sign_on}
 use Rattle.njh_customer.specs.FrameEffects.{count, without_records}
-use Rattle.njh_customer.specs.Moves.{LeadsByMoves, nowhere, OneActs, Sends}
+use Rattle.njh_customer.specs.Moves.{LeadsByMoves, nowhere, OneActs}
 use Rattle.njh_customer.specs.OutgoingFiles.{Outgoing, outgoing, streams_from_hub, streams_of}
 use Rattle.njh_customer.specs.Sending.{sending_of_control, sending_of_no_block, next_block, own_block, sending_of_reply}
 use Rattle.njh_customer.specs.Sending.{with_outlet}
@@ -97,46 +97,24 @@ module _ (carry : BlocksCarry) (commands : CommandsMoveFilesSo) where
       → GoesOut c.entry l (line_at l c.lines).state (outgoing c) (outgoing (replied_to l (reply.Next or_ack0) c).after)
       (replied_to l (reply.Next or_ack0) c).frame
   next_goes_out l or_ack0 c there =
+      let line = (line_at l c.lines).state in
+      let first = filling_on l c in
+      let full = next_block c.entry l c.spool (line_at l c.lines) in
+      let x = (with_outlet full.outlet (line_at l c.lines)).state in
+      let base = streams_from_hub c.lines in
+      let inside : l < length base = omega (arith, length-map c.lines (λ x. x.senders)) in
+      let here : streams_of l (outgoing c) ≡ (line_at l c.lines).senders =
+      get_or-map (λ y. y.senders) c.lines l no_customer_line in
       subst (λ y. GoesOut c.entry l line (outgoing c) y (replied_to l (reply.Next or_ack0) c).frame)
       (sym (next_is l or_ack0 c))
       (written_so (λ sent. GoesOut c.entry l line (outgoing c) (out_of l base full) sent.frame) or_ack0 full.block x
-      (λ none. no_block (filled_with_none c.entry l base inside first none ∙ begins)
+      (λ none. no_block (filled_with_none c.entry l base inside first none ∙ next_begins l c)
       (empty_so (λ sent. IsNoNewBlock line sent.frame) or_ack0 full.block x (in_its_place line x or_ack0)
       (without_records full.block.bcb full.block.fcs
       (ap (λ items. text_bytes (text_of full.block.bcb full.block.fcs items)) none))))
-      (new_block full.block.bcb full.block.fcs full.block.items refl leads carries))
-    where
-      line : LineState
-      line = (line_at l c.lines).state
-
-      first : Filling
-      first = filling_on l c
-
-      full : Filling
-      full = next_block c.entry l c.spool (line_at l c.lines)
-
-      x : LineState
-      x = (with_outlet full.outlet (line_at l c.lines)).state
-
-      base : List (List Sender)
-      base = streams_from_hub c.lines
-
-      inside : l < length base
-      inside = omega (arith, length-map c.lines (λ x. x.senders))
-
-      begins : out_of l base first ≡ outgoing c
-      begins = next_begins l c
-
-      leads : LeadsByMoves (Sends c.entry l) (outgoing c) (out_of l base full)
-      leads = next_leads l c there
-
-      carries : (k : ℕ) → k < 8 → k < length (streams_of l (outgoing c))
-          → Carries l k full.block.items (outgoing c) (out_of l base full)
-      carries k few in_line = let here : streams_of l (outgoing c) ≡ (line_at l c.lines).senders = get_or-map
-          (λ y. y.senders) c.lines l no_customer_line in
-          let in_outlet : k < length first.outlet.senders = omega (arith, ap length here) in
-          subst (λ x. Carries l k full.block.items x (out_of l base full)) begins
-          (carry c.entry l k base first inside few in_outlet refl)
+      (new_block full.block.bcb full.block.fcs full.block.items refl (next_leads l c there) (λ k few in_line.
+      subst (λ x. Carries l k full.block.items x (out_of l base full)) (next_begins l c)
+      (carry c.entry l k base first inside few (omega (arith, ap length here)) refl))))
 
   reply_goes_out : (l : ℕ) (r : LineReply) (c : Customer) → l < length c.lines
       → GoesOut c.entry l (line_at l c.lines).state (outgoing c) (outgoing (replied_to l r c).after)

@@ -60,8 +60,7 @@ one_more m s free apart n = at_test (m == n) refl
 
 pub apart_arrived : (f : WholeFile) (s : CustomerSpool) → is_number f.number s ≡ false → AreApart s
     → AreApart (with_arrived f s)
-apart_arrived f s free apart = λ n.
-    let fact = one_more f.number s free apart n in
+apart_arrived f s free apart = λ n. let fact = one_more f.number s free apart n in
     omega (arith, sum_by_push (λ (g : WholeFile). cond {A = ℕ} (g.number == n) 1 0) s.whole f)
 
 finished_apart : (n : ℕ) (s : CustomerSpool) → AreApart s → AreApart (with_finished n s)
@@ -70,8 +69,7 @@ finished_apart n s = at_file (partial_numbered n s) refl
     at_file : (o : Option PartialFile) → partial_numbered n s ≡ o → AreApart s
         → AreApart (elim o [ None ↦ s | Some f ↦ with_arrived (as_whole f) (without_partial n s) ])
     at_file None found apart = apart
-    at_file (Some f) found apart = λ m.
-        let fact = apart m in
+    at_file (Some f) found apart = λ m. let fact = apart m in
         let besides = found_less (counted (λ (g : PartialFile). g.number) m) (λ g. g.number == n) s.partial f found in
         omega (arith, sum_by_push (counted (λ (g : WholeFile). g.number) m) s.whole (as_whole f))
 

@@ -89,6 +89,7 @@ module _ (untied : NothingUnties) where
   module _ (records : RecordsKeep) where
     command_stays : (n : Nodal) (c : Customer) → IsCoherent c → Stays (after_user_command n c) c
     command_stays n c coherent =
+        let l : ℕ = 0 in
         let done = message_outcome c.entry (sender_of n) n.message c.spool in
         let lines = fold without_sending c.lines done.cancelled in
         stays_like (after_user_command n c) c (record {
@@ -103,9 +104,6 @@ module _ (untied : NothingUnties) where
             headers = records.commands c.entry (sender_of n) n.message c.spool;
           };
         }) coherent
-      where
-        l : ℕ
-        l = 0
 
     arrived_stays : (l k : ℕ) (a : Arrival) (c : Customer) → l < length c.lines → k < 8 → IsCoherent c
         → Stays (after_stream_arrival l k a c) c
