@@ -1,35 +1,21 @@
 -- What a record that comes does to a customer's whole files and to its streams from the hub.
-use Rattle.std.proofs.Common.{◌≡◌, ℕ, true, not, ◌⊎◌, inl, inr, List, [], ◌∷◌, ◌++◌, fold, map, filter, Option, Some}
-use Rattle.std.proofs.Common.{None, Ok, refl, sym, ap, ◌∙◌, Bool, subst}
-use Rattle.std.specs.List.{Contains}
-use Rattle.njh_block.specs.Blocks.{Item, Data, Control, stream_of}
-use Rattle.njh_block.specs.Codes.{kind_of}
-use Rattle.njh_nmr.specs.Nodal.{Nodal, nodal_of, is_user_command, sender_of}
-use Rattle.njh_texts.specs.Texts.{node_unknown}
-use Rattle.njh_spool.specs.CustomerSpool.{CustomerSpool, PartialFile, WholeFile, without_partial, as_whole}
-use Rattle.njh_spool.specs.CustomerSpool.{partial_numbered, partial_records, one_more, with_arrived, with_finished}
-use Rattle.njh_spool.specs.CustomerSpool.{with_state}
-use Rattle.njh_spool.specs.declared.State.TheVariants.{Held, Ready, Refused}
-use Rattle.njh_table.specs.Entries.{route_of}
-use Rattle.njh_table.specs.declared.Route.TheVariants.{Here}
-use Rattle.njh_stream.specs.Receiving.{Arrival}
-use Rattle.njh_stream.specs.Sending.{file_in, after_grant, after_refusal, after_completion}
-use Rattle.njh_stream.specs.Transmissions.{is_whole}
-use Rattle.njh_stream.specs.declared.sender.Sender.{Sender}
+use Rattle.njh_customer.proofs.Words
+use Words.{ℕ, true, not, inl, inr, List, [], fold, map, filter, Option, Some, None, Ok, refl, sym, ap, Bool, subst}
+use Words.{Contains, Item, stream_of, kind_of, Nodal, nodal_of, is_user_command, sender_of, node_unknown, CustomerSpool}
+use Words.{PartialFile, WholeFile, without_partial, as_whole, partial_numbered, partial_records, one_more, with_arrived}
+use Words.{with_finished, with_state, Held, Ready, Refused, route_of, Here, Arrival, file_in, after_grant}
+use Words.{after_refusal, after_completion, is_whole, Sender, FilesMove, CommandsMoveFilesSo, stay, held, released}
+use Words.{rerouted, cancelled, CommandOutcome, changed_file, file_in_state, is_of_name, message_outcome}
+use Words.{with_new_destination, command_of, Command, after_stream_arrival, with_sender_outcome, without_sending}
+use Words.{with_outcome, after_user_command, after_record, acted_where, Customer, CustomerLine, line_at, receiver_at}
+use Words.{Acts, Commands, busy_numbers, LeadsByMoves, nowhere, onward, OneActs, outgoing, streams_from_hub, sender_on}
+use Words.{with_answer_on, with_waiting, with_message_to}
+use Rattle.std.proofs.Common.{◌≡◌, ◌⊎◌, ◌∷◌, ◌++◌, ◌∙◌}
+use Rattle.njh_block.specs.Blocks.{Data, Control}
 use Rattle.njh_stream.specs.declared.sender.Sender.TheVariants as sender
-use Rattle.njh_command.specs.CommandLaws.{FilesMove, CommandsMoveFilesSo, stay, held, released, rerouted, cancelled}
-use Rattle.njh_command.specs.Commands.{CommandOutcome, changed_file, file_in_state, is_of_name, message_outcome}
-use Rattle.njh_command.specs.Commands.{with_new_destination}
-use Rattle.njh_command.specs.Words.{command_of}
-use Rattle.njh_command.specs.declared.command.Command.{Command}
 use Rattle.njh_command.specs.declared.command.Command.TheVariants as commands
-use Rattle.njh_customer.specs.Acting.{after_stream_arrival, with_sender_outcome, without_sending, with_outcome}
-use Rattle.njh_customer.specs.Acting.{after_user_command, after_record, acted_where}
-use Rattle.njh_customer.specs.Customer.{Customer, CustomerLine, line_at, receiver_at, sender_at}
+use Rattle.njh_customer.specs.Customer.{sender_at}
 use Rattle.njh_customer.specs.Moves as moves
-use Rattle.njh_customer.specs.Moves.{Acts, Commands, busy_numbers, LeadsByMoves, nowhere, onward, OneActs}
-use Rattle.njh_customer.specs.OutgoingFiles.{outgoing, streams_from_hub, sender_on}
-use Rattle.njh_customer.specs.Waiting.{with_answer_on, with_waiting, with_message_to}
 use Rattle.njh_customer.proofs.LineWalks.{acted_keeps, kepts, StaysWaiting, all_told_so, answered_so, arrived_so}
 use Rattle.njh_customer.proofs.LineWalks.{told_so}
 use Rattle.njh_customer.proofs.OutgoingLaws.{all_given_up, leads_then, of_parts, same_stream, senders_receiving}

@@ -1,19 +1,13 @@
 -- How many records with data a block has at most: each takes three bytes of its text at least.
-use Rattle.std.proofs.Common.{ℕ, zero, suc, ◌+◌, ◌*◌, ◌<◌, ◌≤◌, Bool, true, false, cond, ◌==◌, nat_le, List, [], ◌∷◌}
-use Rattle.std.proofs.Common.{length, Option, Some, None, Result, Ok, Err, arith, ap}
-use Rattle.njh_record.proofs.Fronts.{front_leaves_less}
-use Rattle.njh_record.proofs.ReadingLaws.{by_steps, read_on}
-use Rattle.njh_record.specs.Spelling.{added_bytes}
-use Rattle.njh_record.specs.Unspelled.{Front, OfItem, OfEnd, Bad, Cut, Fault, Unspelled, with_front, record_at_front}
-use Rattle.njh_record.specs.code.Parts.{StandsFirst}
-use Rattle.njh_record.specs.declared.End.{End}
-use Rattle.njh_record.specs.declared.End.TheVariants.{Record, Abort}
-use Rattle.njh_block.specs.Blocks.{Item, Data, Aborted, Long, Block, form_of, after_control, item_of, First}
-use Rattle.njh_block.specs.Blocks.{record_of_spelling, record_of_one_byte, record_of_form, first_record, with_item}
-use Rattle.njh_block.specs.Blocks.{read_items, items_in, is_bcb, is_fcs, block_with, read_block}
-use Rattle.njh_block.specs.declared.fault.BlockFault.{BlockFault}
-use Rattle.njh_block.specs.declared.fault.BlockFault.TheVariants.{BadBcb, BadFcs}
-use Rattle.njh_block.specs.declared.rcb.Form.{Form}
+use Rattle.njh_customer.proofs.Words
+use Words.{ℕ, zero, suc, Bool, true, false, cond, nat_le, List, [], length, Option, Some, None, Result, Ok, Err, arith}
+use Words.{ap, front_leaves_less, by_steps, read_on, added_bytes, Front, OfItem, OfEnd, Bad, Cut, Fault, Unspelled}
+use Words.{with_front, record_at_front, StandsFirst, End, Record, Item, Aborted, form_of, after_control, item_of, First}
+use Words.{record_of_spelling, record_of_one_byte, record_of_form, first_record, with_item, read_items, items_in}
+use Words.{is_bcb, is_fcs, block_with, read_block, BlockFault, BadBcb, BadFcs, Form}
+use Rattle.std.proofs.Common.{◌+◌, ◌*◌, ◌<◌, ◌≤◌, ◌==◌, ◌∷◌}
+use Rattle.njh_record.specs.declared.End.TheVariants.{Abort}
+use Rattle.njh_block.specs.Blocks.{Data, Long, Block}
 use Rattle.njh_block.specs.declared.rcb.Form.TheVariants as form
 use Rattle.njh_customer.proofs.RecordsGrow.{data_in, data_count}
 

@@ -1,28 +1,18 @@
 -- What a block carries of each stream's file, wherever the stream stands.
-use Rattle.std.proofs.Common.{◌≡◌, ◌<◌, ◌≤◌, ℕ, ◌-◌, Bool, true, false, cond, ◌==◌, ◌⊎◌, inl, inr, List, [], ◌∷◌, ◌++◌}
-use Rattle.std.proofs.Common.{length, map, take, drop, get_or, find, Option, Some, None, slice_get, nat_le, refl, sym}
-use Rattle.std.proofs.Common.{ap, subst, ◌∙◌, arith, eq-eqb}
-use Rattle.std.proofs.lemmas.Bool.{leb-true, leb-false}
-use Rattle.std.proofs.lemmas.List.{drop_all, length-drop, length-take-le}
-use Rattle.std.proofs.lemmas.List.Elements.{filter-append}
-use Rattle.std.proofs.lemmas.Option.{slice_get_cases}
-use Rattle.njh_record.specs.Stored.{Stored}
-use Rattle.njh_block.specs.Blocks.{Item, all_suspended, rcb_of}
-use Rattle.njh_spool.specs.CustomerSpool.{CustomerSpool, WholeFile, whole_numbered}
-use Rattle.njh_spool.specs.declared.State.{State}
-use Rattle.njh_table.specs.Entries.{CustomerEntry}
-use Rattle.njh_stream.specs.Sending.{goes_by, next_at, next_of, record_at}
-use Rattle.njh_stream.specs.declared.sender.Sender.{Sender}
-use Rattle.njh_stream.specs.declared.sender.Sender.TheVariants.{Idle, Requested, Sending, EofSent, Aborting}
+use Rattle.njh_customer.proofs.Words
+use Words.{ℕ, Bool, true, false, cond, inl, inr, List, [], length, map, take, drop, get_or, find, Option, Some, None}
+use Words.{slice_get, nat_le, refl, sym, ap, subst, arith, eq-eqb, leb-true, leb-false, drop_all, length-drop}
+use Words.{length-take-le, filter-append, slice_get_cases, Stored, Item, all_suspended, rcb_of, CustomerSpool}
+use Words.{WholeFile, whole_numbered, State, CustomerEntry, goes_by, next_at, next_of, record_at, Sender, Requested}
+use Words.{EofSent, Aborting, end_of_file, file_records, record_item, records_of, EachDoes, left, gives_up, asks, sends}
+use Words.{is_under, records_under, Filling, Source, after_source, data_item, filled_block, sends_file, sources}
+use Words.{Carries, nothing, on_its_way, to_its_end, Sends, Outgoing, with_file_state, records_numbered}
+use Rattle.std.proofs.Common.{◌≡◌, ◌<◌, ◌≤◌, ◌-◌, ◌==◌, ◌⊎◌, ◌∷◌, ◌++◌, ◌∙◌}
+use Rattle.njh_stream.specs.declared.sender.Sender.TheVariants.{Idle, Sending}
 use Rattle.njh_sched.specs.Carrying as carrying
-use Rattle.njh_sched.specs.Carrying.{end_of_file, file_records, record_item, records_of}
-use Rattle.njh_sched.specs.Laws.{Does, EachDoes, left, gives_up, asks, sends, is_under, records_under}
-use Rattle.njh_sched.specs.NextBlock.{Filling, Source, after_source, after_sources, data_item, filled_block, sends_file}
-use Rattle.njh_sched.specs.NextBlock.{sender_at, sources}
-use Rattle.njh_customer.specs.FrameEffects.{Carries, nothing, on_its_way, to_its_end}
+use Rattle.njh_sched.specs.Laws.{Does}
+use Rattle.njh_sched.specs.NextBlock.{after_sources, sender_at}
 use Rattle.njh_customer.specs.Moves as moves
-use Rattle.njh_customer.specs.Moves.{Sends}
-use Rattle.njh_customer.specs.OutgoingFiles.{Outgoing, with_file_state, records_numbered}
 use Rattle.njh_customer.proofs.DoingLaws.{BlocksCarry}
 use Rattle.njh_customer.proofs.SendingMoves as sending
 use Rattle.njh_customer.proofs.SendingMoves.{AreOfEight, GivesOne, out_of, sources_eight, stream_now, gives}

@@ -1,33 +1,17 @@
 -- A customer stays coherent, whatever comes.
-use Rattle.std.proofs.Common.{◌≡◌, ℕ, ◌<◌, List, length, set, get_or, Option, Some, None, refl, sym, ap, subst, ◌∙◌}
-use Rattle.std.proofs.Common.{arith, map}
-use Rattle.std.proofs.Math.ListN.{get_or-map}
-use Rattle.std.proofs.lemmas.List.{map-set, length-map, length-set}
-use Rattle.std.proofs.lemmas.List.Elements.{All-set}
-use Rattle.std.proofs.lemmas.Simd.{map-map}
-use Rattle.std.specs.List.{All}
-use Rattle.std.specs.Option.{option_map}
-use Rattle.njh_record.specs.declared.Kind.{Kind}
+use Rattle.njh_customer.proofs.Words
+use Words.{ℕ, List, length, set, get_or, Option, Some, None, refl, sym, ap, subst, arith, map, All, option_map}
+use Words.{get_or-map, map-set, length-map, length-set, All-set, map-map, Kind, Item, Aborted, kind_of, CustomerSpool}
+use Words.{PartialFile, partial_numbered, without_partial, as_whole, with_arrived, with_finished, CustomerEntry}
+use Words.{answer_on, Arrival, Request, received_arrival, without_all_open, streams_at, stream_at, with_stream}
+use Words.{without_streams, HaveHeaders, Agrees, AreTied, Receiver, CommandsKeepHeaders, after_arrival}
+use Words.{after_stream_arrival, Customer, CustomerLine, no_customer_line, line_at, on_line, with_notice, receiver_at}
+use Words.{with_receiver, with_answer_on, with_notice_to, streams_to_hub, limits_of, HasStreams, IsCoherent}
+use Rattle.std.proofs.Common.{◌≡◌, ◌<◌, ◌∙◌}
 use Rattle.njh_block.specs.Blocks as block
-use Rattle.njh_block.specs.Blocks.{Item, Control, Aborted}
-use Rattle.njh_block.specs.Codes.{kind_of}
-use Rattle.njh_spool.specs.CustomerSpool.{CustomerSpool, PartialFile, partial_numbered, without_partial, as_whole}
-use Rattle.njh_spool.specs.CustomerSpool.{with_arrived, with_finished}
-use Rattle.njh_table.specs.Entries.{CustomerEntry}
-use Rattle.njh_stream.specs.Arrivals.{answer_on}
-use Rattle.njh_stream.specs.Receiving.{Arrival, Request, Data, Long, Abort, Received, received_arrival}
-use Rattle.njh_stream.specs.Receiving.{without_all_open}
-use Rattle.njh_stream.specs.Streams.{streams_at, stream_at, with_stream, without_streams}
-use Rattle.njh_stream.specs.WholeFiles.{HaveHeaders}
-use Rattle.njh_stream.specs.code.Agreement.{Agrees, AreTied}
-use Rattle.njh_stream.specs.declared.receiver.Receiver.{Receiver}
+use Rattle.njh_block.specs.Blocks.{Control}
+use Rattle.njh_stream.specs.Receiving.{Data, Long, Abort, Received}
 use Rattle.njh_stream.specs.declared.receiver.Receiver.TheVariants.{Idle}
-use Rattle.njh_command.specs.CommandLaws.{CommandsKeepHeaders}
-use Rattle.njh_customer.specs.Acting.{after_arrival, after_stream_arrival}
-use Rattle.njh_customer.specs.Customer.{Customer, CustomerLine, no_customer_line, line_at, on_line, with_notice}
-use Rattle.njh_customer.specs.Customer.{receiver_at, with_receiver}
-use Rattle.njh_customer.specs.Waiting.{with_answer_on, with_notice_to}
-use Rattle.njh_customer.specs.code.Coherence.{streams_to_hub, limits_of, HasStreams, IsCoherent}
 use Rattle.njh_customer.proofs.FileListLaws.{as_many}
 use Rattle.njh_customer.proofs.LineWalks.{IsSeen, answered_so, notified_so, on_line_seen, StaysWaiting, seen_waiting}
 use Rattle.njh_customer.proofs.RecordsDo.{a_request, an_abort, some_data, too_long, Brings}

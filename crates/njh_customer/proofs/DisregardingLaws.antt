@@ -1,26 +1,19 @@
 -- What a line disregards changes nothing but its session, or ends it.
-use Rattle.std.proofs.Common.{◌≡◌, ℕ, ◌+◌, ◌<◌, Bool, true, false, cond, ◌==◌, List, length, set, get_or, nat_lt, refl}
-use Rattle.std.proofs.Common.{sym, ap, subst, ◌∙◌, arith}
-use Rattle.std.proofs.lemmas.Bool.{eqb-true, eqb-false, ltb-true, ltb-false}
-use Rattle.std.proofs.lemmas.List.{get_or-set_same, set-get_or, set-set}
+use Rattle.njh_customer.proofs.Words
+use Words.{ℕ, Bool, true, false, cond, List, length, set, get_or, nat_lt, refl, sym, ap, subst, arith, eqb-true}
+use Words.{set-set, eqb-false, ltb-true, ltb-false, get_or-set_same, set-get_or, read_block, is_disregarded, Input}
+use Words.{cell, end, try_nak, with_reply, with_session, without_turn, in_session, Phase, Down, Calling, Answered}
+use Words.{SentI, Up, Config, Session, CustomerStep, goes_up, with_raised_line, silent, session_over, session_ended}
+use Words.{carried_out, after_line_input, text_read, Customer, CustomerLine, no_customer_line, line_at, on_line}
+use Words.{in_state, session_on, IsButSession, IsDisregarded, SpoiledIsDisregarded, BadBlocksAreDisregarded}
+use Words.{GarbledIsDisregarded}
+use Rattle.std.proofs.Common.{◌≡◌, ◌+◌, ◌<◌, ◌==◌, ◌∙◌}
 use Rattle.njh_bisync.specs.declared.frame.Control.TheVariants as control
-use Rattle.njh_block.specs.Blocks.{read_block}
-use Rattle.njh_line.specs.Laws.{is_disregarded}
 use Rattle.njh_line.specs.LineTable as input
-use Rattle.njh_line.specs.LineTable.{Input, table_outcome, cell, end, none, try_nak, with_reply}
-use Rattle.njh_line.specs.Lines.{with_session, without_turn}
-use Rattle.njh_line.specs.Sessions.{in_session}
-use Rattle.njh_line.specs.declared.Phase.{Phase}
-use Rattle.njh_line.specs.declared.Phase.TheVariants.{Down, Calling, Answered, SentI, Up}
-use Rattle.njh_line.specs.declared.config.Config.{Config}
-use Rattle.njh_line.specs.declared.session.Session.{Session}
+use Rattle.njh_line.specs.LineTable.{table_outcome, none}
 use Rattle.njh_line.specs.declared.verdict.LineReply.TheVariants as reply
 use Rattle.njh_line.specs.declared.verdict.Verdict.{Verdict}
-use Rattle.njh_customer.specs.Alone.{CustomerStep, goes_up, with_raised_line, silent, session_over, session_ended}
-use Rattle.njh_customer.specs.Alone.{carried_out, after_line_input, text_read, after_frame, after_signal}
-use Rattle.njh_customer.specs.Customer.{Customer, CustomerLine, no_customer_line, line_at, on_line, in_state}
-use Rattle.njh_customer.specs.Disregarding.{session_on, IsButSession, IsDisregarded, SpoiledIsDisregarded}
-use Rattle.njh_customer.specs.Disregarding.{BadBlocksAreDisregarded, GarbledIsDisregarded}
+use Rattle.njh_customer.specs.Alone.{after_frame, after_signal}
 
 -- by what the line table says, where the line goes up or doesn't
 abbrev by_mark : Bool → ℕ → Session → Verdict → Customer → CustomerStep

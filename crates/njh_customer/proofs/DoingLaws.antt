@@ -1,41 +1,22 @@
 -- What a frame or a signal on a line does to a customer's whole files and to its streams from the hub.
-use Rattle.std.proofs.Common.{◌≡◌, ℕ, ◌<◌, Bool, true, false, List, [], length, get_or, refl, sym, ap, subst, ◌∙◌}
-use Rattle.std.proofs.Common.{arith}
-use Rattle.std.proofs.Math.ListN.{get_or-map}
-use Rattle.std.proofs.Math.Seq.{map-set_same}
-use Rattle.std.proofs.lemmas.List.{length-map, length-set}
+use Rattle.njh_customer.proofs.Words
+use Words.{ℕ, Bool, true, false, List, [], length, get_or, refl, sym, ap, subst, arith, get_or-map, map-set_same}
+use Words.{length-map, length-set, text_bytes, Enquiry, Ack0, Nak, Item, text_of, CustomerEntry, goes_by, Sender}
+use Words.{Filling, filled_block, own_fcs, CommandsMoveFilesSo, Input, LineState, after_end, after_input, opening}
+use Words.{Config, LineReply, acted_where, silent, with_idle_streams, with_raised_line, goes_up_by, replied_to}
+use Words.{session_over, session_over_where, session_ended, carried_out, verdict_on, accepted_on, after_line_input}
+use Words.{block_input, behind_records, after_block, after_frame, after_signal, Customer, CustomerLine}
+use Words.{no_customer_line, line_at, on_line, in_state, Carries, Ends, still_on, over_now, GoesOut, no_block}
+use Words.{new_block, records_of_frame, IsNoNewBlock, nothing_sent, control, again, sign_on, count, without_records}
+use Words.{LeadsByMoves, nowhere, OneActs, Outgoing, outgoing, streams_from_hub, streams_of, sending_of_control}
+use Words.{sending_of_no_block, next_block, own_block, sending_of_reply, with_outlet, Signal}
+use Rattle.std.proofs.Common.{◌≡◌, ◌<◌, ◌∙◌}
 use Rattle.njh_bisync.specs.Frames.{Received}
-use Rattle.njh_bisync.specs.Written.{text_bytes}
 use Rattle.njh_bisync.specs.declared.frame.Control.{Control}
-use Rattle.njh_bisync.specs.declared.frame.Control.TheVariants.{Enquiry, Ack0, Nak}
-use Rattle.njh_block.specs.Blocks.{Block, Item, text_of}
-use Rattle.njh_table.specs.Entries.{CustomerEntry}
-use Rattle.njh_stream.specs.Sending.{goes_by}
-use Rattle.njh_stream.specs.declared.sender.Sender.{Sender}
-use Rattle.njh_sched.specs.NextBlock.{Filling, filled_block}
-use Rattle.njh_sched.specs.Tight.{own_fcs}
-use Rattle.njh_command.specs.CommandLaws.{CommandsMoveFilesSo}
-use Rattle.njh_line.specs.LineTable.{Input}
-use Rattle.njh_line.specs.Lines.{LineState, after_end, after_input}
-use Rattle.njh_line.specs.Openings.{opening}
-use Rattle.njh_line.specs.declared.config.Config.{Config}
-use Rattle.njh_line.specs.declared.verdict.LineReply.{LineReply}
+use Rattle.njh_block.specs.Blocks.{Block}
 use Rattle.njh_line.specs.declared.verdict.LineReply.TheVariants as reply
 use Rattle.njh_line.specs.declared.verdict.Verdict.{Verdict}
-use Rattle.njh_customer.specs.Acting.{acted_where}
-use Rattle.njh_customer.specs.Alone.{silent, with_idle_streams, with_raised_line, goes_up_by, replied_to, session_over}
-use Rattle.njh_customer.specs.Alone.{session_over_where, session_ended, carried_out, verdict_on, accepted_on}
-use Rattle.njh_customer.specs.Alone.{after_line_input, block_input, behind_records, after_block, after_frame}
-use Rattle.njh_customer.specs.Alone.{after_signal}
-use Rattle.njh_customer.specs.Customer.{Customer, CustomerLine, no_customer_line, line_at, on_line, in_state}
-use Rattle.njh_customer.specs.FrameEffects.{Carries, Ends, still_on, over_now, GoesOut, no_block, new_block, Does}
-use Rattle.njh_customer.specs.FrameEffects.{records_of_frame, IsNoNewBlock, nothing_sent, control, again, sign_on}
-use Rattle.njh_customer.specs.FrameEffects.{count, without_records}
-use Rattle.njh_customer.specs.Moves.{LeadsByMoves, nowhere, OneActs}
-use Rattle.njh_customer.specs.OutgoingFiles.{Outgoing, outgoing, streams_from_hub, streams_of}
-use Rattle.njh_customer.specs.Sending.{sending_of_control, sending_of_no_block, next_block, own_block, sending_of_reply}
-use Rattle.njh_customer.specs.Sending.{with_outlet}
-use Rattle.njh_customer.specs.declared.signal.Signal.{Signal}
+use Rattle.njh_customer.specs.FrameEffects.{Does}
 use Rattle.njh_customer.proofs.ActingMoves.{Acting, acting_where}
 use Rattle.njh_customer.proofs.LineWalks.{kept, kepts, lines_of}
 use Rattle.njh_customer.proofs.OutgoingLaws.{of_parts, on_line_senders, over_so, reply_unmoved}

@@ -1,24 +1,18 @@
 -- A line that is down: what comes on it brings no record, and nothing is sent for it but the answer to a call.
-use Rattle.std.proofs.Common.{◌≡◌, ℕ, zero, suc, true, List, [], ◌∷◌, set, refl, sym, subst}
+use Rattle.njh_customer.proofs.Words
+use Words.{ℕ, zero, suc, true, List, [], set, refl, sym, subst, DownStaysDown, LeavesDown, does_nothing, is_answered}
+use Words.{control_verdict, no_verdict, Input, table_outcome, LineState, after_end, after_input, Phase, Down}
+use Words.{acted_where, CustomerStep, with_idle_streams, replied_to, session_over_where, session_ended, carried_out}
+use Words.{verdict_on, accepted_on, after_line_input, block_input, behind_records, after_block, after_frame, Customer}
+use Words.{CustomerLine, line_at, on_line, in_state, FilesGrow, SignalsGrowFiles, next_block, with_outlet}
+use Rattle.std.proofs.Common.{◌≡◌, ◌∷◌}
 use Rattle.njh_bisync.specs.Frames.{Received}
 use Rattle.njh_bisync.specs.Written.{text_bytes}
 use Rattle.njh_bisync.specs.declared.frame.Control.{Control}
 use Rattle.njh_bisync.specs.declared.frame.Control.TheVariants as control
 use Rattle.njh_block.specs.Blocks.{Block}
-use Rattle.njh_line.specs.Answering.{DownStaysDown, LeavesDown, does_nothing, is_answered, control_verdict, no_verdict}
-use Rattle.njh_line.specs.LineTable.{Input, table_outcome}
-use Rattle.njh_line.specs.Lines.{LineState, after_end, after_input}
-use Rattle.njh_line.specs.declared.Phase.{Phase}
-use Rattle.njh_line.specs.declared.Phase.TheVariants.{Down}
 use Rattle.njh_line.specs.declared.verdict.LineReply.TheVariants as reply
 use Rattle.njh_line.specs.declared.verdict.Verdict.{Verdict}
-use Rattle.njh_customer.specs.Acting.{acted_where}
-use Rattle.njh_customer.specs.Alone.{CustomerStep, with_idle_streams, replied_to, session_over_where, session_ended}
-use Rattle.njh_customer.specs.Alone.{carried_out, verdict_on, accepted_on, after_line_input, block_input}
-use Rattle.njh_customer.specs.Alone.{behind_records, after_block, after_frame}
-use Rattle.njh_customer.specs.Customer.{Customer, CustomerLine, line_at, on_line, in_state}
-use Rattle.njh_customer.specs.Growing.{FilesGrow, SignalsGrowFiles}
-use Rattle.njh_customer.specs.Sending.{next_block, with_outlet}
 use Rattle.njh_customer.proofs.GrowingLaws.{then_quietly, unchanged}
 use Rattle.njh_customer.proofs.RecordsGrow.{reply_grows, over_grows, over_where_grows}
 use Rattle.njh_customer.proofs.ReplyLaws.{empty_so, written_so}

@@ -1,30 +1,16 @@
 -- All moves of a step, and of an event.
-use Rattle.std.proofs.Common.{◌≡◌, ℕ, Bool, true, false, List, [], ◌∷◌, ◌++◌, Option, Some, None, length, set, take}
-use Rattle.std.proofs.Common.{refl, sym, ap, subst, ◌∙◌, arith, get_or, set-set}
-use Rattle.std.proofs.lemmas.List.{set-get_or}
-use Rattle.std.proofs.lemmas.List.Elements.{Contains-append_left, Contains-append_right}
-use Rattle.std.specs.List.{Contains, cons_option}
-use Rattle.std.specs.Prelude.{flat_map}
-use Rattle.njh_bisync.specs.ByteSteps.{frames_after, rest_step}
+use Rattle.njh_customer.proofs.Words
+use Words.{ℕ, Bool, true, false, List, [], Option, Some, None, length, set, take, refl, sym, ap, subst, arith, get_or}
+use Words.{set-set, set-get_or, Contains-append_left, Contains-append_right, Contains, cons_option, flat_map}
+use Words.{frames_after, rest_step, Rest, Item, CustomerEntry, entry_marked, routes_checked, CustomerStep}
+use Words.{with_raised_line, after_signal, after_frame, Customer, line_at, with_marks, acted_on, bytes_run, Ends}
+use Words.{still_on, over_now, GoesOut, no_block, new_block, records_of_frame, followed_by, EventsKeepEntries}
+use Words.{EventsKeepFaults, EventsKeepLines, TakesKeepEntries, LeadsByMoves, nowhere, onward, Moves, MovesBy, Records}
+use Words.{by_record, by_sending, by_end, OneActs, Sends, EventsMoveSo, FramesDoSo, SignalsDoSo, TakesMoveSo, coming}
+use Words.{entry_with, Outgoing, outgoing, part_after_bytes, rest_on, OwnBytes, OwnSignal, OwnRoutes, Run, event_run}
+use Rattle.std.proofs.Common.{◌≡◌, ◌∷◌, ◌++◌, ◌∙◌}
 use Rattle.njh_bisync.specs.Frames.{Received}
-use Rattle.njh_bisync.specs.Reading.{Rest}
-use Rattle.njh_block.specs.Blocks.{Item}
-use Rattle.njh_table.specs.Entries.{CustomerEntry}
-use Rattle.njh_table.specs.Marks.{entry_marked}
-use Rattle.njh_table.specs.NewRoutes.{routes_checked}
-use Rattle.njh_customer.specs.Alone.{CustomerStep, with_raised_line, after_signal, after_frame}
-use Rattle.njh_customer.specs.Customer.{Customer, line_at, with_marks}
-use Rattle.njh_customer.specs.Feeding.{acted_on, bytes_run}
-use Rattle.njh_customer.specs.FrameEffects.{Does, Ends, still_on, over_now, GoesOut, no_block, new_block}
-use Rattle.njh_customer.specs.FrameEffects.{records_of_frame}
-use Rattle.njh_customer.specs.Laws.{followed_by, EventsKeepEntries, EventsKeepFaults, EventsKeepLines, TakesKeepEntries}
-use Rattle.njh_customer.specs.Moves.{LeadsByMoves, nowhere, onward, Moves, MovesBy, Records, by_record, by_sending}
-use Rattle.njh_customer.specs.Moves.{by_end, OneActs, Sends}
-use Rattle.njh_customer.specs.MovingLaws.{EventsMoveSo, FramesDoSo, SignalsDoSo, TakesMoveSo, coming}
-use Rattle.njh_customer.specs.NewRoutes.{entry_with}
-use Rattle.njh_customer.specs.OutgoingFiles.{Outgoing, outgoing}
-use Rattle.njh_customer.specs.Part.{part_after_bytes, rest_on}
-use Rattle.njh_customer.specs.Runs.{OwnBytes, OwnSignal, OwnRoutes, Run, event_run}
+use Rattle.njh_customer.specs.FrameEffects.{Does}
 use Rattle.njh_customer.proofs.OutgoingLaws.{leads_as, leads_then}
 use Rattle.njh_customer.proofs.PieceLaws.{no_bytes_do_nothing, steps_follow_bytes}
 use Rattle.njh_customer.proofs.RoutesMoves.{routes_move, routes_do, routes_keep_entry}

@@ -1,23 +1,11 @@
 -- Lists of whole files: which of them are there, by their numbers, after a change.
-use Rattle.std.proofs.Common.{◌≡◌, ◌<◌, ℕ, zero, suc, Bool, true, false, cond, not, ◌==◌, ◌||◌, ◌⊎◌, inl, inr, List, []}
-use Rattle.std.proofs.Common.{◌∷◌, length, map, filter, replicate, get_or, refl, sym, ap, ◌∙◌, arith, Some, ap₂, find}
-use Rattle.std.proofs.Common.{sum, ◌+◌, ◌≤◌, count_by, eq-eqb, subst, set}
-use Rattle.std.proofs.Math.ListN.{get_or-map}
-use Rattle.std.proofs.lemmas.Bool.{eqb-true}
-use Rattle.std.proofs.lemmas.List.{get_or_default, length-map}
-use Rattle.std.proofs.lemmas.List.Elements.{Contains-append_right, Contains-get_or, All-contains, filter_passes}
-use Rattle.std.proofs.lemmas.List.Filters.{sum_by-filter_both}
-use Rattle.std.proofs.lemmas.List.Folds.{list_any_at}
-use Rattle.std.proofs.lemmas.List.Sums.{sum-map, sum_by-cons}
-use Rattle.std.proofs.lemmas.Simd.{map-map}
-use Rattle.std.specs.List.{Contains, list_any}
-use Rattle.std.specs.Prelude.{sum_by}
-use Rattle.njh_spool.specs.CustomerSpool.{WholeFile}
-use Rattle.njh_spool.specs.declared.State.{State}
-use Rattle.njh_stream.proofs.OnlyOneLaws.{only_found}
-use Rattle.njh_stream.specs.Sending.{ready}
-use Rattle.njh_command.specs.Commands.{changed_file, may_change}
-use Rattle.njh_customer.specs.OutgoingFiles.{with_file_state}
+use Rattle.njh_customer.proofs.Words
+use Words.{ℕ, zero, suc, Bool, true, false, cond, not, inl, inr, List, [], length, map, filter, replicate, get_or, refl}
+use Words.{sym, ap, arith, Some, ap₂, find, sum, count_by, eq-eqb, subst, set, eqb-true, get_or-map, get_or_default}
+use Words.{length-map, Contains-append_right, Contains-get_or, All-contains, filter_passes, sum_by-filter_both}
+use Words.{list_any_at, sum-map, sum_by-cons, map-map, Contains, list_any, sum_by, WholeFile, State, only_found, ready}
+use Words.{changed_file, may_change, with_file_state}
+use Rattle.std.proofs.Common.{◌≡◌, ◌<◌, ◌==◌, ◌||◌, ◌⊎◌, ◌∷◌, ◌∙◌, ◌+◌, ◌≤◌}
 
 -- a list of copies holds nothing else
 pub copies : {A : Type 0} (n k : ℕ) (a : A) → get_or (replicate n a) k a ≡ a

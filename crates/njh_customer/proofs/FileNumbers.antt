@@ -1,19 +1,11 @@
 -- No two files of a customer have one number, whatever comes.
-use Rattle.std.proofs.Common.{◌≡◌, ◌≤◌, ℕ, ◌+◌, Bool, true, false, cond, not, ◌==◌, List, [], ◌∷◌, ◌++◌, map, filter}
-use Rattle.std.proofs.Common.{count_by, Option, Some, None, refl, ap, subst, arith}
-use Rattle.std.proofs.lemmas.Bool.{eqb-true, or_parts}
-use Rattle.std.proofs.lemmas.List.Sums.{sum_by_push}
-use Rattle.std.specs.List.{list_any}
-use Rattle.njh_spool.proofs.OnlyOne.{count_by_none}
-use Rattle.njh_spool.specs.CustomerSpool.{CustomerSpool, PartialFile, WholeFile, as_whole, has_file_room, is_number}
-use Rattle.njh_spool.specs.CustomerSpool.{next_number, partial_numbered, with_appended, with_arrived, with_finished}
-use Rattle.njh_spool.specs.CustomerSpool.{without_partial}
-use Rattle.njh_spool.specs.Spools.{files_numbered}
-use Rattle.njh_table.specs.Entries.{CustomerEntry, RouteEntry}
-use Rattle.njh_command.specs.Commands.{with_new_destination, changed_file}
-use Rattle.njh_customer.specs.Customer.{Customer, fresh_customer}
-use Rattle.njh_customer.specs.InOrder.{AreApart}
-use Rattle.njh_customer.specs.NewRoutes.{customer_with_routes}
+use Rattle.njh_customer.proofs.Words
+use Words.{ℕ, Bool, true, false, cond, not, List, [], map, filter, count_by, Option, Some, None, refl, ap, subst, arith}
+use Words.{eqb-true, or_parts, sum_by_push, list_any, count_by_none, CustomerSpool, PartialFile, WholeFile, as_whole}
+use Words.{has_file_room, is_number, next_number, partial_numbered, with_appended, with_arrived, with_finished}
+use Words.{without_partial, files_numbered, CustomerEntry, RouteEntry, with_new_destination, changed_file, Customer}
+use Words.{fresh_customer, AreApart, customer_with_routes}
+use Rattle.std.proofs.Common.{◌≡◌, ◌≤◌, ◌+◌, ◌==◌, ◌∷◌, ◌++◌}
 use Rattle.njh_customer.proofs.FileListLaws.{changed_numbers, changed_where, numbers, some_less, but_states, found_less}
 use Rattle.njh_customer.proofs.FileListLaws.{same_sum}
 use Rattle.njh_customer.proofs.Restated.{IsRestated}

@@ -1,17 +1,12 @@
 -- How a customer's files grow from one spool to another, and which become whole.
-use Rattle.std.proofs.Common.{◌≡◌, ◌<◌, ◌≤◌, ℕ, ◌+◌, not, ◌==◌, ◌⊎◌, inl, inr, List, [], ◌∷◌, ◌++◌, length, Option}
-use Rattle.std.proofs.Common.{Some, None, refl, sym, ap, subst, ◌∙◌, arith, length-append, append_assoc, append-nil}
-use Rattle.std.proofs.lemmas.List.Elements.{Contains-append_cases, Contains-push_cases}
-use Rattle.std.specs.List.{Contains}
-use Rattle.njh_record.specs.Stored.{Stored}
-use Rattle.njh_record.specs.declared.Kind.{Kind}
-use Rattle.njh_header.specs.Redirecting.{records_to_node}
-use Rattle.njh_spool.specs.CustomerSpool.{CustomerSpool, PartialFile, WholeFile, max_arrived, next_number}
-use Rattle.njh_spool.specs.CustomerSpool.{with_new_partial, with_appended, without_partial, as_whole, with_arrived}
-use Rattle.njh_spool.specs.CustomerSpool.{partial_numbered, with_finished}
-use Rattle.njh_customer.specs.Growing.{HasCome, few, goes_on, HasBecomeWhole, FilesGrow, FilesGrowFurther}
-use Rattle.njh_customer.specs.Growing.{ReroutesKeepCounts, ManyRecordsGoOn}
-use Rattle.njh_customer.specs.Surviving.{IsRerouted, as_before, to_node, IsStill, Survive}
+use Rattle.njh_customer.proofs.Words
+use Words.{ℕ, not, inl, inr, List, [], length, Option, Some, None, refl, sym, ap, subst, arith, length-append}
+use Words.{append_assoc, append-nil, Contains-append_cases, Contains-push_cases, Contains, Stored, Kind}
+use Words.{records_to_node, CustomerSpool, PartialFile, WholeFile, max_arrived, next_number, with_new_partial}
+use Words.{with_appended, without_partial, as_whole, with_arrived, partial_numbered, with_finished, HasCome, few}
+use Words.{goes_on, HasBecomeWhole, FilesGrow, FilesGrowFurther, ReroutesKeepCounts, ManyRecordsGoOn, IsRerouted}
+use Words.{as_before, to_node, IsStill, Survive}
+use Rattle.std.proofs.Common.{◌≡◌, ◌<◌, ◌≤◌, ◌+◌, ◌==◌, ◌⊎◌, ◌∷◌, ◌++◌, ◌∙◌}
 use Rattle.njh_customer.proofs.FileListLaws.{from_filter, WasOrIs, first_or_later, found_one, from_where}
 use Rattle.njh_customer.proofs.SurvivingLaws.{rerouted_then, same_files, survive_then, no_more, SurviveBoth}
 use Rattle.njh_customer.proofs.SurvivingLaws.{survive_both, was_there}

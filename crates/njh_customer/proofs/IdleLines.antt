@@ -1,53 +1,29 @@
 -- A line that isn't up has no stream about a file and no answer that waits, and SYSOUT 4 counts as served last.
-use Rattle.std.proofs.Common.{◌≡◌, ℕ, ◌+◌, ◌<◌, Bool, true, false, cond, ◌==◌, List, length, set, get_or, Option, Some}
-use Rattle.std.proofs.Common.{None, refl, sym, ap, subst, ◌∙◌, arith, nat_lt}
-use Rattle.std.proofs.Math.ListN.{get_or-map}
-use Rattle.std.proofs.Math.Seq.{map-set_same}
-use Rattle.std.proofs.lemmas.Bool.{eqb-true, eqb-false, ltb-false, ltb-true}
-use Rattle.std.proofs.lemmas.Grind.{get_or-set_at}
-use Rattle.std.proofs.lemmas.List.{get_or-set_same, get_or-set_other, length-map, length-set, get_or_past}
-use Rattle.std.proofs.lemmas.List.Elements.{All-map}
+use Rattle.njh_customer.proofs.Words
+use Words.{ℕ, Bool, true, false, cond, List, length, set, get_or, Option, Some, None, refl, sym, ap, subst, arith}
+use Words.{nat_lt, eqb-true, get_or-map, map-set_same, eqb-false, ltb-false, ltb-true, get_or-set_at, get_or-set_same}
+use Words.{get_or-set_other, length-map, length-set, get_or_past, All-map, Item, SignOn, CustomerSpool, CustomerEntry}
+use Words.{Role, file_in, Receiver, without_file, bcb_type, bcb_count, count_verdict, is_repeat, is_taken, is_up, Input}
+use Words.{cell, enquiry, ack0, hang_up, end, end_and_contact, try_with, try_again, try_nak, with_reply, contact, call}
+use Words.{i_block, next_or_turn, next_in_turn, by_count, signed_on, i_sign_on, j_sign_on, act, after_end, after_input}
+use Words.{with_answer, with_message, fitting, InputsKeepUp, KeepsUp, Phase, Down, Calling, Answered, SentI, Up, Config}
+use Words.{Initial, Response, Session, LineReply, without_sending, with_senders_by, all_acted, acted_where}
+use Words.{with_idle_streams, replied_to, session_over, session_over_where, session_ended, carried_out, verdict_on}
+use Words.{accepted_on, after_line_input, block_input, behind_records, after_frame, after_signal, Customer}
+use Words.{CustomerLine, no_customer_line, line_at, on_line, in_state, with_notice, with_receiver, with_sender}
+use Words.{config_of, fresh_customer, idle_line, receiver_at, IsIdle, IdleUnlessUp, phase_of, sending_of_reply}
+use Words.{with_waiting, Signal}
+use Rattle.std.proofs.Common.{◌≡◌, ◌+◌, ◌<◌, ◌==◌, ◌∙◌}
 use Rattle.njh_bisync.specs.Frames.{Received}
 use Rattle.njh_bisync.specs.declared.frame.Control.TheVariants as control
-use Rattle.njh_block.specs.Blocks.{Item}
-use Rattle.njh_header.specs.SignOns.{SignOn}
-use Rattle.njh_spool.specs.CustomerSpool.{CustomerSpool}
-use Rattle.njh_table.specs.Entries.{CustomerEntry}
-use Rattle.njh_table.specs.declared.Role.{Role}
 use Rattle.njh_table.specs.declared.Role.TheVariants as role
-use Rattle.njh_stream.specs.Sending.{file_in}
-use Rattle.njh_stream.specs.declared.receiver.Receiver.{Receiver}
 use Rattle.njh_stream.specs.declared.receiver.Receiver.TheVariants as receiver
 use Rattle.njh_stream.specs.declared.sender.Sender.TheVariants as sender
-use Rattle.njh_command.specs.Commands.{without_file}
-use Rattle.njh_line.specs.Counts.{bcb_type, bcb_count, count_verdict, is_repeat, is_taken}
-use Rattle.njh_line.specs.Laws.{is_up}
 use Rattle.njh_line.specs.LineTable as input
-use Rattle.njh_line.specs.LineTable.{Input, table_outcome, cell, none, enquiry, ack0, hang_up, end, end_and_contact}
-use Rattle.njh_line.specs.LineTable.{try_with, try_again, try_nak, with_reply, contact, call, i_block, next_or_turn}
-use Rattle.njh_line.specs.LineTable.{next_in_turn, by_count, signed_on, i_sign_on, j_sign_on, act}
-use Rattle.njh_line.specs.Lines.{after_end, after_input, with_answer, with_message}
-use Rattle.njh_line.specs.Openings.{fitting}
-use Rattle.njh_line.specs.Up.{InputsKeepUp, KeepsUp}
-use Rattle.njh_line.specs.declared.Phase.{Phase}
-use Rattle.njh_line.specs.declared.Phase.TheVariants.{Down, Calling, Answered, SentI, Up}
-use Rattle.njh_line.specs.declared.config.Config.{Config}
-use Rattle.njh_line.specs.declared.opening.Opening.TheVariants.{Initial, Response}
-use Rattle.njh_line.specs.declared.session.Session.{Session}
-use Rattle.njh_line.specs.declared.verdict.LineReply.{LineReply}
+use Rattle.njh_line.specs.LineTable.{table_outcome, none}
 use Rattle.njh_line.specs.declared.verdict.LineReply.TheVariants as reply
 use Rattle.njh_line.specs.declared.verdict.Verdict.{Verdict}
-use Rattle.njh_customer.specs.Acting.{without_sending, with_senders_by, all_acted, acted_where}
-use Rattle.njh_customer.specs.Alone.{with_idle_streams, replied_to, session_over, session_over_where, session_ended}
-use Rattle.njh_customer.specs.Alone.{carried_out, verdict_on, accepted_on, after_line_input, block_input}
-use Rattle.njh_customer.specs.Alone.{behind_records, after_frame, after_signal}
-use Rattle.njh_customer.specs.Customer.{Customer, CustomerLine, no_customer_line, line_at, on_line, in_state}
-use Rattle.njh_customer.specs.Customer.{with_notice, with_receiver, with_sender, config_of, fresh_customer, idle_line}
-use Rattle.njh_customer.specs.Customer.{receiver_at, sender_at}
-use Rattle.njh_customer.specs.InOrder.{IsIdle, IdleUnlessUp, phase_of}
-use Rattle.njh_customer.specs.Sending.{sending_of_reply}
-use Rattle.njh_customer.specs.Waiting.{with_waiting}
-use Rattle.njh_customer.specs.declared.signal.Signal.{Signal}
+use Rattle.njh_customer.specs.Customer.{sender_at}
 use Rattle.njh_customer.proofs.FileListLaws.{copies}
 use Rattle.njh_customer.proofs.LineWalks.{StaysOnLines, record_on_lines}
 use Rattle.njh_customer.proofs.RecordsDo.{acted_where_so}

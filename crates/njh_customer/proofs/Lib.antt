@@ -1,3 +1,4 @@
+pub mod Words
 pub mod FileListLaws
 pub mod Restated
 pub mod RecordsDo

@@ -1,28 +1,14 @@
 -- What is so of a customer's lines stays so, whatever waits on them and whatever a record changes of them.
-use Rattle.std.proofs.Common.{◌≡◌, ℕ, List, [], ◌∷◌, fold, map, Option, Some, None, option_map, ◌∙◌, length, refl}
-use Rattle.std.proofs.Math.Seq.{map-set_same}
-use Rattle.njh_ebcdic.specs.Users.{User}
-use Rattle.njh_block.specs.Blocks.{Item}
-use Rattle.njh_block.specs.Codes.{kind_of}
-use Rattle.njh_block.specs.declared.answer.Answer.{Answer}
-use Rattle.njh_nmr.specs.Nodal.{notice_record, sender_of}
-use Rattle.njh_texts.specs.Texts.{node_unknown}
-use Rattle.njh_table.specs.Entries.{CustomerEntry, route_of}
-use Rattle.njh_table.specs.declared.Route.{Route}
-use Rattle.njh_table.specs.declared.Route.TheVariants.{Here, Line, Unknown}
-use Rattle.njh_stream.specs.Arrivals.{answer_on}
-use Rattle.njh_stream.specs.Receiving.{Arrival, Notice, received_arrival}
-use Rattle.njh_stream.specs.Sending.{after_completion, after_grant, after_refusal}
-use Rattle.njh_stream.specs.declared.receiver.Receiver.{Receiver}
-use Rattle.njh_stream.specs.declared.sender.Sender.{Sender}
-use Rattle.njh_command.specs.Commands.{message_outcome, without_file}
-use Rattle.njh_line.specs.Lines.{with_answer, with_message}
-use Rattle.njh_line.specs.declared.Phase.{Phase}
-use Rattle.njh_line.specs.declared.config.Config.{Config}
-use Rattle.njh_customer.specs.Acting.{after_record, after_stream_arrival, without_sending, with_senders_by}
-use Rattle.njh_customer.specs.Customer.{Customer, CustomerLine, no_customer_line, line_at, on_line, in_state}
-use Rattle.njh_customer.specs.Customer.{with_notice, receiver_at, sender_at, with_receiver, with_sender}
-use Rattle.njh_customer.specs.Waiting.{all_said, goes, with_answer_on, with_message_to, with_notice_to, with_waiting}
+use Rattle.njh_customer.proofs.Words
+use Words.{ℕ, List, [], fold, map, Option, Some, None, option_map, length, refl, map-set_same, User, Item, kind_of}
+use Words.{Answer, notice_record, sender_of, node_unknown, CustomerEntry, route_of, Route, Here, Line, Unknown}
+use Words.{answer_on, Arrival, Notice, received_arrival, after_completion, after_grant, after_refusal, Receiver, Sender}
+use Words.{message_outcome, without_file, with_answer, with_message, Phase, Config, after_record, after_stream_arrival}
+use Words.{without_sending, with_senders_by, Customer, CustomerLine, no_customer_line, line_at, on_line, in_state}
+use Words.{with_notice, receiver_at, with_receiver, with_sender, all_said, goes, with_answer_on, with_message_to}
+use Words.{with_notice_to, with_waiting}
+use Rattle.std.proofs.Common.{◌≡◌, ◌∷◌, ◌∙◌}
+use Rattle.njh_customer.specs.Customer.{sender_at}
 use Rattle.njh_customer.proofs.FileListLaws.{as_many, each_same}
 use Rattle.njh_customer.proofs.RecordsDo as does
 use Rattle.njh_customer.proofs.RecordsDo.{RecordDoes, record_does}

@@ -1,41 +1,22 @@
 -- What a customer has when the session of each of its lines is lost, one after the other.
-use Rattle.std.proofs.Common.{◌≡◌, ℕ, zero, suc, ◌<◌, ◌≤◌, Bool, true, false, cond, ◌==◌, ◌&&◌, nat_lt, List, [], ◌∷◌}
-use Rattle.std.proofs.Common.{length, map, set, get_or, find, Option, Some, None, refl, sym, ap, subst, ◌∙◌, arith, inl}
-use Rattle.std.proofs.Common.{inr, ◌⊎◌}
-use Rattle.std.proofs.Math.ListN.{get_or-map}
-use Rattle.std.proofs.lemmas.Bool.{eq-eqb, eqb-true, ltb-true, ltb-false}
-use Rattle.std.proofs.lemmas.List.{length-set}
-use Rattle.std.proofs.lemmas.List.Elements.{Contains-append_right}
-use Rattle.std.specs.List.{Contains}
-use Rattle.njh_bisync.specs.Reading.{Rest, Nothing}
-use Rattle.njh_spool.specs.CustomerSpool.{CustomerSpool, PartialFile, WholeFile, partial_numbered}
-use Rattle.njh_spool.specs.declared.State.{State}
-use Rattle.njh_spool.specs.declared.State.TheVariants.{Ready, Held, Refused, Sending}
-use Rattle.njh_table.specs.Entries.{CustomerEntry}
-use Rattle.njh_stream.specs.Sending.{all_ended, file_in, goes_by, is_refused, may_go_again, ready, spool_after_session}
-use Rattle.njh_stream.specs.Sending.{tried_again}
-use Rattle.njh_stream.specs.Streams.{coming_file}
-use Rattle.njh_stream.specs.declared.sender.Sender.{Sender}
+use Rattle.njh_customer.proofs.Words
+use Words.{ℕ, zero, suc, Bool, true, false, cond, nat_lt, List, [], length, map, set, get_or, find, Option, Some, None}
+use Words.{refl, sym, ap, subst, arith, inl, inr, eq-eqb, eqb-true, get_or-map, ltb-true, ltb-false, length-set}
+use Words.{Contains-append_right, Contains, Rest, Nothing, CustomerSpool, PartialFile, WholeFile, partial_numbered}
+use Words.{State, Ready, Held, Refused, CustomerEntry, all_ended, file_in, goes_by, is_refused, may_go_again, ready}
+use Words.{spool_after_session, tried_again, coming_file, Sender, is_up, cell, end, hang_up, after_input, Phase, Down}
+use Words.{Calling, Answered, SentI, Up, Config, Session, silent, with_idle_streams, session_over, session_over_where}
+use Words.{replied_to, carried_out, verdict_on, accepted_on, after_line_input, Customer, CustomerLine, no_customer_line}
+use Words.{line_at, in_state, IsInOrder, IsIdle, StaysInOrder, LossesLeaveFiles, phase_of, at_rest, state_at_rest}
+use Words.{losses, after_losses, with_file_state, Part, rest_at, rest_on, OwnSignal, alone_run, event_run, Lost}
+use Rattle.std.proofs.Common.{◌≡◌, ◌<◌, ◌≤◌, ◌==◌, ◌&&◌, ◌∷◌, ◌∙◌, ◌⊎◌}
+use Rattle.njh_spool.specs.declared.State.TheVariants.{Sending}
 use Rattle.njh_stream.specs.declared.sender.Sender.TheVariants as sender
-use Rattle.njh_line.specs.Laws.{is_up}
 use Rattle.njh_line.specs.LineTable as input
-use Rattle.njh_line.specs.LineTable.{table_outcome, cell, end, hang_up, none}
-use Rattle.njh_line.specs.Lines.{after_input}
-use Rattle.njh_line.specs.declared.Phase.{Phase}
-use Rattle.njh_line.specs.declared.Phase.TheVariants.{Down, Calling, Answered, SentI, Up}
-use Rattle.njh_line.specs.declared.config.Config.{Config}
-use Rattle.njh_line.specs.declared.session.Session.{Session}
+use Rattle.njh_line.specs.LineTable.{table_outcome, none}
 use Rattle.njh_line.specs.declared.verdict.LineReply.TheVariants as reply
 use Rattle.njh_line.specs.declared.verdict.Verdict.{Verdict}
-use Rattle.njh_customer.specs.Alone.{silent, with_idle_streams, session_over, session_over_where, replied_to}
-use Rattle.njh_customer.specs.Alone.{carried_out, verdict_on, accepted_on, after_line_input, after_signal}
-use Rattle.njh_customer.specs.Customer.{Customer, CustomerLine, no_customer_line, line_at, in_state}
-use Rattle.njh_customer.specs.InOrder.{IsInOrder, IsIdle, StaysInOrder, LossesLeaveFiles, phase_of, at_rest}
-use Rattle.njh_customer.specs.InOrder.{state_at_rest, losses, after_losses}
-use Rattle.njh_customer.specs.OutgoingFiles.{with_file_state}
-use Rattle.njh_customer.specs.Part.{Part, rest_at, rest_on}
-use Rattle.njh_customer.specs.Runs.{OwnSignal, alone_run, event_run}
-use Rattle.njh_customer.specs.declared.signal.Signal.TheVariants.{Lost}
+use Rattle.njh_customer.specs.Alone.{after_signal}
 use Rattle.njh_customer.proofs.CoherenceLaws as coherence
 use Rattle.njh_customer.proofs.DownLines.{set_down}
 use Rattle.njh_customer.proofs.FileListLaws.{WasOrIs, each_same, from_where, set_one}

@@ -1,29 +1,14 @@
 -- The lines that are marked as up are those that are up.
-use Rattle.std.proofs.Common.{◌≡◌, ℕ, Bool, true, false, ◌&&◌, not, List, map, set, get_or, refl, sym, ap, ◌∙◌}
-use Rattle.std.proofs.Math.ListN.{get_or-map}
-use Rattle.std.proofs.Math.Seq.{map-set_same}
-use Rattle.std.proofs.lemmas.List.{map-set, set-get_or, set-set}
-use Rattle.std.proofs.lemmas.Simd.{map-map}
+use Rattle.njh_customer.proofs.Words
+use Words.{ℕ, Bool, true, false, not, List, map, set, get_or, refl, sym, ap, set-set, get_or-map, map-set_same, map-set}
+use Words.{set-get_or, map-map, CustomerEntry, Receiver, CommandsMoveFilesSo, is_up, Input, after_end, after_input}
+use Words.{InputsKeepUp, KeepsUp, Phase, Config, Acted, acted_where, with_idle_streams, with_raised_line, goes_up}
+use Words.{replied_to, session_over_where, session_ended, carried_out, verdict_on, accepted_on, after_line_input}
+use Words.{block_input, behind_records, after_block, Customer, CustomerLine, IsMarked, no_customer_line, line_at}
+use Words.{on_line, in_state, config_of, fresh_customer, idle_line, MarksAreRight, rest_on, sending_of_reply}
+use Rattle.std.proofs.Common.{◌≡◌, ◌&&◌, ◌∙◌}
 use Rattle.njh_block.specs.Blocks.{Block}
-use Rattle.njh_table.specs.Entries.{CustomerEntry}
-use Rattle.njh_stream.specs.declared.receiver.Receiver.{Receiver}
-use Rattle.njh_command.specs.CommandLaws.{CommandsMoveFilesSo}
-use Rattle.njh_line.specs.Laws.{is_up}
-use Rattle.njh_line.specs.LineTable.{Input}
-use Rattle.njh_line.specs.Lines.{after_end, after_input}
-use Rattle.njh_line.specs.Up.{InputsKeepUp, KeepsUp}
-use Rattle.njh_line.specs.declared.Phase.{Phase}
-use Rattle.njh_line.specs.declared.config.Config.{Config}
 use Rattle.njh_line.specs.declared.verdict.Verdict.{Verdict}
-use Rattle.njh_customer.specs.Acting.{Acted, acted_where}
-use Rattle.njh_customer.specs.Alone.{with_idle_streams, with_raised_line, goes_up, replied_to, session_over_where}
-use Rattle.njh_customer.specs.Alone.{session_ended, carried_out, verdict_on, accepted_on, after_line_input, block_input}
-use Rattle.njh_customer.specs.Alone.{behind_records, after_block}
-use Rattle.njh_customer.specs.Customer.{Customer, CustomerLine, IsMarked, no_customer_line, line_at, on_line, in_state}
-use Rattle.njh_customer.specs.Customer.{config_of, fresh_customer, idle_line}
-use Rattle.njh_customer.specs.Laws.{MarksAreRight}
-use Rattle.njh_customer.specs.Part.{rest_on}
-use Rattle.njh_customer.specs.Sending.{sending_of_reply}
 use Rattle.njh_customer.proofs.ActingMoves.{Acting, acting_where}
 use Rattle.njh_customer.proofs.LineWalks.{kept, kepts}
 use Rattle.njh_customer.proofs.ReplyLaws.{reply_lasting}

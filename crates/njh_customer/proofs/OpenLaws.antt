@@ -1,12 +1,8 @@
 -- A customer's lines that are opened.
-use Rattle.std.proofs.Common.{◌≡◌, ℕ, List, [], ◌∷◌, map, Some, refl, ap}
-use Rattle.std.proofs.lemmas.Bool.{false≢true}
-use Rattle.std.specs.Prelude.{IsTrue}
-use Rattle.njh_bisync.specs.Reading.{Rest, Nothing}
-use Rattle.njh_ebcdic.specs.Names.{is_name}
-use Rattle.njh_table.specs.Entries.{CustomerEntry}
-use Rattle.njh_table.specs.TableFile.{NamedLine}
-use Rattle.njh_customer.specs.Customer.{CustomerLine, config_of, password_in, idle_line}
+use Rattle.njh_customer.proofs.Words
+use Words.{ℕ, List, [], map, Some, refl, ap, false≢true, IsTrue, Rest, Nothing, is_name, CustomerEntry, NamedLine}
+use Words.{CustomerLine, config_of, password_in, idle_line}
+use Rattle.std.proofs.Common.{◌≡◌, ◌∷◌}
 
 pub password_in_name : (name : List ℕ) → IsTrue (is_name name) → password_in name ≡ Some name
 password_in_name [] h = absurd (false≢true h)

@@ -1,17 +1,10 @@
 -- A customer that was just opened is coherent.
-use Rattle.std.proofs.Common.{◌≡◌, ℕ, ◌≤◌, false, List, [], refl, sym, ◌∙◌}
-use Rattle.std.proofs.lemmas.List.{length-map}
-use Rattle.std.proofs.lemmas.List.Elements.{All-map, All-nil}
-use Rattle.std.specs.List.{All}
-use Rattle.njh_header.specs.WholeFiles.{HasHeaders}
-use Rattle.njh_spool.specs.CustomerSpool.{CustomerSpool, WholeFile, empty_spool}
-use Rattle.njh_table.specs.Entries.{CustomerEntry}
-use Rattle.njh_stream.specs.Streams.{stream_at}
-use Rattle.njh_stream.specs.code.Agreement.{AreTied}
-use Rattle.njh_stream.specs.declared.receiver.Receiver.{Receiver}
+use Rattle.njh_customer.proofs.Words
+use Words.{ℕ, false, List, [], refl, sym, All, length-map, All-map, All-nil, HasHeaders, CustomerSpool, WholeFile}
+use Words.{empty_spool, CustomerEntry, stream_at, AreTied, Receiver, config_of, fresh_customer, idle_line, IsCoherent}
+use Words.{HasStreams, streams_to_hub}
+use Rattle.std.proofs.Common.{◌≡◌, ◌≤◌, ◌∙◌}
 use Rattle.njh_stream.specs.declared.receiver.Receiver.TheVariants as receiver
-use Rattle.njh_customer.specs.Customer.{config_of, fresh_customer, idle_line}
-use Rattle.njh_customer.specs.code.Coherence.{IsCoherent, HasStreams, streams_to_hub}
 use Rattle.njh_customer.proofs.CoherenceLaws.{stream_is}
 use Rattle.njh_customer.proofs.IdleLines.{fresh_lines_idle, receivers_idle}
 

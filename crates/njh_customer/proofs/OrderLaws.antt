@@ -1,36 +1,17 @@
 -- A customer is in order when it is opened, and stays so whatever comes: the walk over the steps of which that is made.
-use Rattle.std.proofs.Common.{◌≡◌, ℕ, Bool, true, false, List, [], map, refl, sym, ap, subst, ◌∙◌}
-use Rattle.std.proofs.Math.Seq.{map-set_same}
-use Rattle.std.proofs.lemmas.List.Elements.{All-push}
-use Rattle.std.proofs.lemmas.Simd.{map-map}
+use Rattle.njh_customer.proofs.Words
+use Words.{ℕ, Bool, true, false, List, [], map, refl, sym, ap, subst, map-set_same, All-push, map-map, HasHeaders}
+use Words.{CustomerSpool, WholeFile, is_number, with_arrived, CustomerEntry, RouteEntry, stream_at, AreTied, Receiver}
+use Words.{CommandsMoveFilesSo, ReroutesNameNodes, LineState, after_end, after_input, InputsKeepUp, Phase, Config}
+use Words.{after_record, with_idle_streams, with_raised_line, goes_up_by, replied_to, session_over, accepted_on}
+use Words.{after_frame, after_signal, Customer, CustomerLine, no_customer_line, line_at, on_line, in_state, config_of}
+use Words.{fresh_customer, idle_line, AreApart, AreBeingSent, AreSetUp, IdleUnlessUp, IsInOrder, IsWithinQuota}
+use Words.{StaysInOrder, customer_with_last_file, customer_with_routes, outgoing, with_arrival, Part, OwnEvent}
+use Words.{event_run, sending_of_reply, IsCoherent, streams_to_hub, Signal}
+use Rattle.std.proofs.Common.{◌≡◌, ◌∙◌}
 use Rattle.njh_bisync.specs.Frames.{Received}
-use Rattle.njh_header.specs.WholeFiles.{HasHeaders}
-use Rattle.njh_spool.specs.CustomerSpool.{CustomerSpool, WholeFile, is_number, with_arrived}
 use Rattle.njh_spool.specs.declared.State.TheVariants.{Sending}
-use Rattle.njh_table.specs.Entries.{CustomerEntry, RouteEntry}
-use Rattle.njh_stream.specs.Streams.{stream_at}
-use Rattle.njh_stream.specs.code.Agreement.{AreTied}
-use Rattle.njh_stream.specs.declared.receiver.Receiver.{Receiver}
 use Rattle.njh_stream.specs.declared.receiver.Receiver.TheVariants as receiver
-use Rattle.njh_command.specs.CommandLaws.{CommandsMoveFilesSo, ReroutesNameNodes}
-use Rattle.njh_line.specs.Lines.{LineState, after_end, after_input}
-use Rattle.njh_line.specs.Up.{InputsKeepUp}
-use Rattle.njh_line.specs.declared.Phase.{Phase}
-use Rattle.njh_line.specs.declared.config.Config.{Config}
-use Rattle.njh_customer.specs.Acting.{after_record}
-use Rattle.njh_customer.specs.Alone.{with_idle_streams, with_raised_line, goes_up_by, replied_to, session_over}
-use Rattle.njh_customer.specs.Alone.{accepted_on, after_frame, after_signal}
-use Rattle.njh_customer.specs.Customer.{Customer, CustomerLine, no_customer_line, line_at, on_line, in_state, config_of}
-use Rattle.njh_customer.specs.Customer.{fresh_customer, idle_line}
-use Rattle.njh_customer.specs.InOrder.{AreApart, AreBeingSent, AreSetUp, IdleUnlessUp, IsInOrder, IsWithinQuota}
-use Rattle.njh_customer.specs.InOrder.{StaysInOrder, customer_with_last_file}
-use Rattle.njh_customer.specs.NewRoutes.{customer_with_routes}
-use Rattle.njh_customer.specs.OutgoingFiles.{outgoing, with_arrival}
-use Rattle.njh_customer.specs.Part.{Part}
-use Rattle.njh_customer.specs.Runs.{OwnEvent, event_run}
-use Rattle.njh_customer.specs.Sending.{sending_of_reply}
-use Rattle.njh_customer.specs.code.Coherence.{IsCoherent, streams_to_hub}
-use Rattle.njh_customer.specs.declared.signal.Signal.{Signal}
 use Rattle.njh_customer.proofs.ActingMoves.{acts_so}
 use Rattle.njh_customer.proofs.CoherenceLaws.{EndsTie, NothingUnties, RecordsKeep}
 use Rattle.njh_customer.proofs.FileNumbers.{FreeNumbers, apart_arrived, apart_files, apart_fresh, apart_routes}

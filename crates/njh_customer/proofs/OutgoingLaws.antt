@@ -1,25 +1,15 @@
 -- A customer's whole files and its streams from the hub, as its lines change.
-use Rattle.std.proofs.Common.{◌≡◌, ℕ, List, [], ◌∷◌, map, set, get_or, fold, refl, sym, ap, ◌∙◌, false, length}
-use Rattle.std.proofs.Common.{replicate}
-use Rattle.std.proofs.Math.ListN.{get_or-map}
-use Rattle.std.proofs.Math.Seq.{map-set_same}
-use Rattle.std.proofs.lemmas.List.{map-set, set-get_or}
-use Rattle.njh_spool.specs.CustomerSpool.{CustomerSpool, WholeFile}
-use Rattle.njh_stream.specs.Sending.{all_ended, ready, tried_again}
-use Rattle.njh_stream.specs.declared.sender.Sender.{Sender}
+use Rattle.njh_customer.proofs.Words
+use Words.{ℕ, List, [], map, set, get_or, fold, refl, sym, ap, false, length, replicate, get_or-map, map-set_same}
+use Words.{map-set, set-get_or, CustomerSpool, WholeFile, all_ended, ready, tried_again, Sender, without_file}
+use Words.{LineReply, without_sending, replied_to, with_idle_streams, session_over, Customer, CustomerLine}
+use Words.{no_customer_line, line_at, on_line, with_sender, nowhere, onward, without_files, Over, LeadsByMoves}
+use Words.{Outgoing, outgoing, streams_from_hub, sender_on, with_sender_on, with_files, sending_of_reply}
+use Rattle.std.proofs.Common.{◌≡◌, ◌∷◌, ◌∙◌}
 use Rattle.njh_stream.specs.declared.sender.Sender.TheVariants as sender
 use Rattle.njh_stream.specs.declared.sender.Sender.TheVariants.{Idle}
-use Rattle.njh_command.specs.Commands.{without_file}
-use Rattle.njh_line.specs.declared.verdict.LineReply.{LineReply}
 use Rattle.njh_line.specs.declared.verdict.LineReply.TheVariants as reply
-use Rattle.njh_customer.specs.Acting.{without_sending}
-use Rattle.njh_customer.specs.Alone.{replied_to, with_idle_streams, session_over}
-use Rattle.njh_customer.specs.Customer.{Customer, CustomerLine, no_customer_line, line_at, on_line, sender_at}
-use Rattle.njh_customer.specs.Customer.{with_sender}
-use Rattle.njh_customer.specs.Moves.{nowhere, onward, without_files, Over, LeadsByMoves}
-use Rattle.njh_customer.specs.OutgoingFiles.{Outgoing, outgoing, streams_from_hub, sender_on, with_sender_on}
-use Rattle.njh_customer.specs.OutgoingFiles.{with_files}
-use Rattle.njh_customer.specs.Sending.{sending_of_reply}
+use Rattle.njh_customer.specs.Customer.{sender_at}
 use Rattle.njh_customer.proofs.LineWalks.{StaysReceiving, on_line_seen, seen_receiving}
 use Rattle.njh_customer.proofs.ReplyLaws.{is_next}
 use Rattle.njh_customer.proofs.Restated.{ended_restated, without_open_same}

@@ -1,13 +1,10 @@
 -- A piece worked off step by step is the run over its bytes.
-use Rattle.std.proofs.Common.{◌≡◌, ℕ, suc, ◌+◌, ◌<◌, List, [], ◌∷◌, ◌++◌, length, take, set, refl, ap, sym, ◌∙◌, arith}
-use Rattle.std.proofs.Common.{append_assoc}
-use Rattle.std.proofs.lemmas.List.{get_or-set_same, length-set, set-set, set-get_or}
-use Rattle.njh_bisync.specs.Reading.{Rest, Nothing}
-use Rattle.njh_customer.specs.Customer.{Customer}
-use Rattle.njh_customer.specs.Feeding.{byte_step, Taking, or_later, take_step, LineRun, bytes_run, sent_on, sent_first}
-use Rattle.njh_customer.specs.Laws.{CutsAreLike, FirstBytesSendFirst, NoBytesDoNothing, StepsFollowBytes}
-use Rattle.njh_customer.specs.Part.{Part, rest_on}
-use Rattle.njh_customer.specs.Runs.{OwnEvent, Run, alone_run}
+use Rattle.njh_customer.proofs.Words
+use Words.{ℕ, suc, List, [], length, take, set, refl, ap, sym, arith, append_assoc, set-set, get_or-set_same}
+use Words.{length-set, set-get_or, Rest, Nothing, Customer, byte_step, Taking, or_later, take_step, LineRun, bytes_run}
+use Words.{sent_on, sent_first, CutsAreLike, FirstBytesSendFirst, NoBytesDoNothing, StepsFollowBytes, Part, rest_on}
+use Words.{OwnEvent, Run, alone_run}
+use Rattle.std.proofs.Common.{◌≡◌, ◌+◌, ◌<◌, ◌∷◌, ◌++◌, ◌∙◌}
 
 sent_first-assoc : (a b : List (ℕ × List ℕ)) (r : LineRun) → sent_first a (sent_first b r) ≡ sent_first (a ++ b) r
 sent_first-assoc a b r = ap (λ (s : List (ℕ × List ℕ)). record r { sent = s }) (sym (append_assoc a b r.sent))

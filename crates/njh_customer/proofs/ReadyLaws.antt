@@ -1,27 +1,16 @@
 -- A line is ready for what comes next.
-use Rattle.std.proofs.Common.{◌≡◌, ℕ, ◌<◌, Bool, false, ◌&&◌, not, List, [], ◌∷◌, length, drop, slice_get, slice_set}
-use Rattle.std.proofs.Common.{Some, sym, ap, ap₂, subst, ◌∙◌, arith}
-use Rattle.std.proofs.lemmas.List.{length-map, length-set, set-set, set-get_or, get_or-set_same}
-use Rattle.njh_block.specs.Blocks.{Block, Item}
-use Rattle.njh_spool.specs.CustomerSpool.{CustomerSpool}
-use Rattle.njh_spool.specs.Spools.{spool_at, no_spool}
-use Rattle.njh_table.specs.Entries.{CustomerEntry}
-use Rattle.njh_table.specs.Marks.{customer_marked, entry_marked, with_mark}
-use Rattle.njh_table.specs.TableFile.{NamedCustomer, TableFile, HasLine, customer_at, entry_of, no_customer}
-use Rattle.njh_table.specs.declared.LineId.{LineId}
-use Rattle.njh_line.specs.Laws.{is_up}
-use Rattle.njh_line.specs.LineTable.{Input}
-use Rattle.njh_line.specs.Lines.{after_input}
+use Rattle.njh_customer.proofs.Words
+use Words.{ℕ, Bool, false, not, List, [], length, drop, slice_get, slice_set, Some, sym, ap, ap₂, subst, arith, set-set}
+use Words.{length-map, length-set, set-get_or, get_or-set_same, Item, CustomerSpool, spool_at, no_spool, CustomerEntry}
+use Words.{customer_marked, entry_marked, with_mark, NamedCustomer, TableFile, HasLine, customer_at, entry_of}
+use Words.{no_customer, LineId, is_up, Input, after_input, after_record, acted_where, all_acted, ended_or, ends_session}
+use Words.{CustomerStep, accepted_on, behind_records, after_block, block_input, carried_out, goes_up_by}
+use Words.{after_line_input, with_raised_line, verdict_on, Customer, CustomerLine, customer_with, in_state, line_at}
+use Words.{no_customer_line, on_line, Brings, Leads, SendsStep, MakesStep, IsReady, IsThere, KeepsOtherEntries}
+use Words.{customer_of, with_customer, IsCoherent, Shared}
+use Rattle.std.proofs.Common.{◌≡◌, ◌<◌, ◌&&◌, ◌∷◌, ◌∙◌}
+use Rattle.njh_block.specs.Blocks.{Block}
 use Rattle.njh_line.specs.declared.verdict.Verdict.{Verdict}
-use Rattle.njh_customer.specs.Acting.{after_record, acted_where, all_acted, ended_or, ends_session}
-use Rattle.njh_customer.specs.Alone.{CustomerStep, accepted_on, behind_records, after_block, block_input, carried_out}
-use Rattle.njh_customer.specs.Alone.{goes_up_by, after_line_input, with_raised_line, verdict_on}
-use Rattle.njh_customer.specs.Customer.{Customer, CustomerLine, customer_with, in_state, line_at, no_customer_line}
-use Rattle.njh_customer.specs.Customer.{on_line}
-use Rattle.njh_customer.specs.CustomerSteps.{Brings, Leads, SendsStep, MakesStep, IsReady, IsThere, KeepsOtherEntries}
-use Rattle.njh_customer.specs.CustomerSteps.{customer_of, with_customer}
-use Rattle.njh_customer.specs.code.Coherence.{IsCoherent}
-use Rattle.njh_customer.specs.declared.shared.Shared.{Shared}
 use Rattle.njh_customer.proofs.StepLaws.{Stays}
 
 -- what leaves a spool to others leaves it so twice

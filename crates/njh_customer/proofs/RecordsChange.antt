@@ -1,39 +1,19 @@
 -- What becomes of the records of whole files.
-use Rattle.std.proofs.Common.{◌≡◌, ℕ, Bool, true, false, cond, not, ◌&&◌, ◌==◌, ◌⊎◌, inl, inr, List, [], ◌∷◌, ◌++◌, map}
-use Rattle.std.proofs.Common.{filter, None, refl, sym, ap, subst, ◌∙◌, ◌||◌}
-use Rattle.std.proofs.lemmas.Bool.{eqb-true}
-use Rattle.std.proofs.lemmas.List.Elements.{Contains-push_cases}
-use Rattle.std.proofs.lemmas.List.Folds.{list_any-append}
-use Rattle.std.specs.List.{Contains}
-use Rattle.njh_ebcdic.specs.Users.{User}
-use Rattle.njh_record.specs.Stored.{Stored}
-use Rattle.njh_record.specs.declared.Kind.{Kind}
-use Rattle.njh_block.specs.Blocks.{Item, Data}
-use Rattle.njh_header.specs.FileHeaders.{with_destination}
-use Rattle.njh_header.specs.FileNames.{FileName}
-use Rattle.njh_header.specs.Redirecting.{records_to_node}
-use Rattle.njh_spool.specs.CustomerSpool.{WholeFile}
+use Rattle.njh_customer.proofs.Words
+use Words.{ℕ, Bool, true, false, cond, not, inl, inr, List, [], map, filter, None, refl, sym, ap, subst, eqb-true}
+use Words.{Contains-push_cases, list_any-append, Contains, User, Stored, Kind, Item, with_destination, FileName}
+use Words.{records_to_node, WholeFile, Held, Ready, Refused, CustomerEntry, entry_marked, entries_of_routes, ready}
+use Words.{is_whole, EofSent, ReroutesNameNodes, changed_file, is_of_name, may_change, is_sending, with_new_destination}
+use Words.{file_in_state, without_file, no_file, Acts, Commands, Records, Routes, Moves, by_record, by_sending, by_end}
+use Words.{Sends, LeadsByMoves, nowhere, onward, MovesBy, without_files, FileMoves, RecordsChangeSo, Leaves, LeavesBy}
+use Words.{FilesLeaveSo, FilesLeaveSoBetween, entry_with, Outgoing, with_file_state, with_files, each_stream, has_file}
+use Rattle.std.proofs.Common.{◌≡◌, ◌&&◌, ◌==◌, ◌⊎◌, ◌∷◌, ◌++◌, ◌∙◌, ◌||◌}
+use Rattle.njh_block.specs.Blocks.{Data}
 use Rattle.njh_spool.specs.declared.State.TheVariants as state
-use Rattle.njh_spool.specs.declared.State.TheVariants.{Held, Ready, Refused, Sending}
-use Rattle.njh_table.specs.Entries.{CustomerEntry}
-use Rattle.njh_table.specs.Marks.{entry_marked}
-use Rattle.njh_table.specs.NewRoutes.{entries_of_routes}
-use Rattle.njh_stream.specs.Sending.{ready}
-use Rattle.njh_stream.specs.Transmissions.{is_whole}
-use Rattle.njh_stream.specs.declared.sender.Sender.TheVariants.{EofSent}
-use Rattle.njh_command.specs.CommandLaws.{ReroutesNameNodes}
-use Rattle.njh_command.specs.Commands.{changed_file, is_of_name, may_change, is_sending, with_new_destination}
-use Rattle.njh_command.specs.Commands.{file_in_state, without_file}
-use Rattle.njh_command.specs.Files.{no_file}
+use Rattle.njh_spool.specs.declared.State.TheVariants.{Sending}
 use Rattle.njh_command.specs.declared.command.Command.TheVariants as commands
 use Rattle.njh_customer.specs.Moves as moves
-use Rattle.njh_customer.specs.Moves.{Acts, Commands, Records, Routes, Moves, by_record, by_sending, by_end, Sends}
-use Rattle.njh_customer.specs.Moves.{LeadsByMoves, nowhere, onward, MovesBy, without_files}
 use Rattle.njh_customer.specs.MovingLaws as laws
-use Rattle.njh_customer.specs.MovingLaws.{FileMoves, RecordsChangeSo, Leaves, LeavesBy, FilesLeaveSo}
-use Rattle.njh_customer.specs.MovingLaws.{FilesLeaveSoBetween}
-use Rattle.njh_customer.specs.NewRoutes.{entry_with}
-use Rattle.njh_customer.specs.OutgoingFiles.{Outgoing, with_file_state, with_files, each_stream, has_file}
 use Rattle.njh_customer.proofs.FileListLaws.{from_filter, from_map, into_map, WasOrIs, from_where, any_numbered}
 use Rattle.njh_customer.proofs.FileListLaws.{changed_numbers, marked_numbers, numbers, one_gone, same_numbered}
 use Rattle.njh_customer.proofs.FileListLaws.{but_states}

@@ -1,25 +1,16 @@
 -- What a record that comes does to a customer: nothing, or one of a few small things.
-use Rattle.std.proofs.Common.{◌≡◌, ℕ, ◌==◌, Bool, true, false, cond, List, [], ◌∷◌, Option, Some, None, Result, Ok, Err}
-use Rattle.std.proofs.Common.{refl, sym, subst, arith}
-use Rattle.std.proofs.lemmas.Bool.{eqb-true}
-use Rattle.std.proofs.lemmas.List.Elements.{Contains-append_right}
-use Rattle.std.specs.List.{Contains}
-use Rattle.njh_block.specs.Blocks.{Item, Data, Aborted, Long, Control, General, stream_number, stream_of}
-use Rattle.njh_block.specs.declared.answer.Answer.{Answer}
-use Rattle.njh_nmr.specs.Nodal.{Nodal, nodal_of, is_user_command, cut_after_message}
-use Rattle.njh_nmr.specs.declared.fault.NmrFault.{NmrFault}
-use Rattle.njh_table.specs.Entries.{route_of}
-use Rattle.njh_table.specs.declared.Route.{Route}
-use Rattle.njh_table.specs.declared.Route.TheVariants.{Here, Line, Unknown}
+use Rattle.njh_customer.proofs.Words
+use Words.{ℕ, Bool, true, false, cond, List, [], Option, Some, None, Result, Ok, Err, refl, sym, subst, arith, eqb-true}
+use Words.{Contains-append_right, Contains, Item, Aborted, General, stream_number, stream_of, Answer, Nodal, nodal_of}
+use Words.{is_user_command, cut_after_message, NmrFault, route_of, Route, Here, Line, Unknown, Arrival}
+use Words.{after_completion, after_refusal, after_message, after_permission, after_record, after_stream_arrival}
+use Words.{after_stream_record, after_stream_request, after_unknown_node, after_user_command, Acted, acted_where}
+use Words.{all_acted, ended_or, ends_session, message_read, message_routed, peer_answered, refusal_of}
+use Words.{with_sender_outcome, Customer, line_at, with_answer_on, with_waiting}
+use Rattle.std.proofs.Common.{◌≡◌, ◌==◌, ◌∷◌}
+use Rattle.njh_block.specs.Blocks.{Data, Long, Control}
 use Rattle.njh_stream.specs.Receiving as receiving
-use Rattle.njh_stream.specs.Receiving.{Arrival}
-use Rattle.njh_stream.specs.Sending.{after_completion, after_refusal}
-use Rattle.njh_customer.specs.Acting.{after_message, after_permission, after_record, after_stream_arrival}
-use Rattle.njh_customer.specs.Acting.{after_stream_record, after_stream_request, after_unknown_node, after_user_command}
-use Rattle.njh_customer.specs.Acting.{Acted, acted_where, all_acted, ended_or, ends_session, message_read}
-use Rattle.njh_customer.specs.Acting.{message_routed, peer_answered, refusal_of, with_sender_outcome}
-use Rattle.njh_customer.specs.Customer.{Customer, line_at, sender_at}
-use Rattle.njh_customer.specs.Waiting.{with_answer_on, with_waiting}
+use Rattle.njh_customer.specs.Customer.{sender_at}
 
 -- a record brings an arrival for a stream
 pub data Brings : Arrival → Item → Type 0 where

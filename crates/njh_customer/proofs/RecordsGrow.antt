@@ -1,23 +1,12 @@
 -- What the records of a block do to a customer's files.
-use Rattle.std.proofs.Common.{◌≡◌, ℕ, ◌+◌, Bool, true, false, List, [], ◌∷◌, None, refl, arith, filter, map, Ok, Err}
-use Rattle.njh_record.specs.Stored.{Stored}
-use Rattle.njh_record.specs.declared.Kind.{Kind}
-use Rattle.njh_block.specs.Blocks.{Item, Data, Aborted, Long, Control, General}
-use Rattle.njh_header.specs.FileHeaders.{with_destination}
-use Rattle.njh_header.specs.Redirecting.{records_to_node}
-use Rattle.njh_spool.specs.CustomerSpool.{CustomerSpool, without_partial, with_appended, with_finished}
-use Rattle.njh_spool.specs.CustomerSpool.{with_new_partial}
-use Rattle.njh_table.specs.Keys.{Walked}
-use Rattle.njh_table.specs.NewRoutes.{entries_of_routes, routes_checked}
-use Rattle.njh_command.specs.CommandLaws.{CommandsMoveFilesSo, ReroutesNameNodes}
-use Rattle.njh_command.specs.Commands.{changed_file, with_new_destination}
-use Rattle.njh_line.specs.declared.verdict.LineReply.{LineReply}
-use Rattle.njh_customer.specs.Acting.{after_record, ends_session, Acted, ended_or, all_acted}
-use Rattle.njh_customer.specs.Alone.{replied_to, session_over, session_over_where}
-use Rattle.njh_customer.specs.Customer.{Customer}
-use Rattle.njh_customer.specs.Growing.{FilesGrow, RoutesGrowFiles}
-use Rattle.njh_customer.specs.NewRoutes.{taken_where}
-use Rattle.njh_customer.specs.Surviving.{Survive}
+use Rattle.njh_customer.proofs.Words
+use Words.{ℕ, Bool, true, false, List, [], None, refl, arith, filter, map, Ok, Err, Stored, Kind, Item, Aborted}
+use Words.{General, with_destination, records_to_node, CustomerSpool, without_partial, with_appended, with_finished}
+use Words.{with_new_partial, Walked, entries_of_routes, routes_checked, CommandsMoveFilesSo, ReroutesNameNodes}
+use Words.{changed_file, with_new_destination, LineReply, after_record, ends_session, Acted, ended_or, all_acted}
+use Words.{replied_to, session_over, session_over_where, Customer, FilesGrow, RoutesGrowFiles, taken_where, Survive}
+use Rattle.std.proofs.Common.{◌≡◌, ◌+◌, ◌∷◌}
+use Rattle.njh_block.specs.Blocks.{Data, Long, Control}
 use Rattle.njh_customer.proofs.GrowingLaws.{grow_then, grow_within, quietly_then, quiet, unchanged, without_grows}
 use Rattle.njh_customer.proofs.GrowingLaws.{begun_grows, appended_grows, finished_grows, then_quietly}
 use Rattle.njh_customer.proofs.Restated.{IsRestated}

@@ -1,20 +1,13 @@
 -- What a line sends leaves it set up as it was, as far as it was, and its streams to the hub as they are.
-use Rattle.std.proofs.Common.{Bool, List, [], refl, ℕ, ◌||◌, ◌∷◌, ◌≡◌, ap, false, true}
+use Rattle.njh_customer.proofs.Words
+use Words.{Bool, List, [], refl, ℕ, ap, false, true, Item, all_suspended, same_fcs, Writing, CustomerSpool}
+use Words.{CustomerEntry, Receiver, LineState, Phase, Config, LineReply, CustomerLine, next_block, sending_of_block}
+use Words.{sending_of_control, sending_of_empty, sending_of_no_block, sending_of_reply, sending_of_written, with_outlet}
+use Rattle.std.proofs.Common.{◌||◌, ◌∷◌, ◌≡◌}
 use Rattle.njh_bisync.specs.declared.frame.Control.{Control}
 use Rattle.njh_bisync.specs.declared.frame.Control.TheVariants as control
-use Rattle.njh_block.specs.Blocks.{Item, all_suspended, same_fcs}
-use Rattle.njh_block.specs.Writing.{Writing}
-use Rattle.njh_spool.specs.CustomerSpool.{CustomerSpool}
-use Rattle.njh_table.specs.Entries.{CustomerEntry}
-use Rattle.njh_stream.specs.declared.receiver.Receiver.{Receiver}
-use Rattle.njh_line.specs.Lines.{LineState}
-use Rattle.njh_line.specs.declared.Phase.{Phase}
-use Rattle.njh_line.specs.declared.config.Config.{Config}
-use Rattle.njh_line.specs.declared.verdict.LineReply.{LineReply}
 use Rattle.njh_line.specs.declared.verdict.LineReply.TheVariants as reply
-use Rattle.njh_customer.specs.Customer.{CustomerLine}
-use Rattle.njh_customer.specs.Sending.{next_block, sending_of_block, sending_of_control, sending_of_empty}
-use Rattle.njh_customer.specs.Sending.{sending_of_no_block, sending_of_reply, sending_of_written, with_outlet, Sending}
+use Rattle.njh_customer.specs.Sending.{Sending}
 
 -- whether the next block goes
 abbrev pub is_next : LineReply → Bool

@@ -1,23 +1,14 @@
 -- What has come of a line's next frame is of no more than a text may have.
-use Rattle.std.proofs.Common.{◌≡◌, ℕ, zero, suc, ◌==◌, nat_lt, Bool, true, false, if◌then◌else◌, List, [], ◌∷◌, ◌++◌}
-use Rattle.std.proofs.Common.{length, map, set, Option, Some, None, Ok, Err, refl, arith, length-append, inl, inr}
-use Rattle.std.proofs.Common.{subst, sym, ◌⊎◌}
-use Rattle.std.proofs.lemmas.Bool.{ltb-true}
-use Rattle.njh_bisync.specs.ByteSteps.{RestStep, on_to, ends, kept_with, rest_step}
+use Rattle.njh_customer.proofs.Words
+use Words.{ℕ, zero, suc, nat_lt, Bool, true, false, List, [], length, map, set, Option, Some, None, Ok, Err, refl}
+use Words.{arith, length-append, inl, inr, subst, sym, ltb-true, RestStep, on_to, ends, kept_with, IsShort}
+use Words.{text_or_spoiled, longest_text, Rest, Nothing, AfterSoh, AfterDle, InText, LineEntry, Walked, routes_checked}
+use Words.{Customer, byte_step, bytes_run, Taking, or_later, take_step, IsShortText, IsShortRest, OpenedHasShortRests}
+use Words.{EventsKeepShortRests, TakesKeepShortRests, taken_where, rest_at, rest_on, OwnBytes, OwnSignal, OwnRoutes}
+use Rattle.std.proofs.Common.{◌≡◌, ◌==◌, if◌then◌else◌, ◌∷◌, ◌++◌, ◌⊎◌}
+use Rattle.njh_bisync.specs.ByteSteps.{rest_step}
 use Rattle.njh_bisync.specs.Frames as frame
-use Rattle.njh_bisync.specs.Frames.{Received, IsShort, text_or_spoiled}
-use Rattle.njh_bisync.specs.Limits.{longest_text}
-use Rattle.njh_bisync.specs.Reading.{Rest, Nothing, AfterSoh, AfterDle, InText}
-use Rattle.njh_table.specs.Entries.{LineEntry}
-use Rattle.njh_table.specs.Keys.{Walked}
-use Rattle.njh_table.specs.NewRoutes.{routes_checked}
-use Rattle.njh_customer.specs.Customer.{Customer}
-use Rattle.njh_customer.specs.Feeding.{byte_step, bytes_run, Taking, or_later, take_step}
-use Rattle.njh_customer.specs.Growing.{IsShortText, IsShortRest, OpenedHasShortRests, EventsKeepShortRests}
-use Rattle.njh_customer.specs.Growing.{TakesKeepShortRests}
-use Rattle.njh_customer.specs.NewRoutes.{taken_where}
-use Rattle.njh_customer.specs.Part.{rest_at, rest_on}
-use Rattle.njh_customer.specs.Runs.{OwnBytes, OwnSignal, OwnRoutes}
+use Rattle.njh_bisync.specs.Frames.{Received}
 use Rattle.njh_customer.proofs.FileListLaws.{set_one}
 
 -- ---- a byte

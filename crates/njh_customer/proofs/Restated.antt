@@ -1,33 +1,18 @@
 -- What changes of a customer's files no more than states of whole ones.
-use Rattle.std.proofs.Common.{◌≡◌, ℕ, ◌==◌, cond, List, [], ◌∷◌, All, map, Option, Some, None, refl, sym, subst, ◌∙◌}
-use Rattle.std.proofs.Common.{arith, Bool, not, true, false}
-use Rattle.std.proofs.Math.ListN.{get_or-map}
-use Rattle.std.proofs.lemmas.List.{length-map}
-use Rattle.std.proofs.lemmas.List.Elements.{All-map, All-filter}
-use Rattle.std.specs.Prelude.{slice_get, option_map}
-use Rattle.njh_block.specs.Blocks.{all_suspended}
-use Rattle.njh_block.specs.Codes.{kind_of}
-use Rattle.njh_block.specs.Writing.{has_room}
-use Rattle.njh_header.specs.WholeFiles.{HasHeaders}
-use Rattle.njh_spool.specs.CustomerSpool.{CustomerSpool, WholeFile, with_state, without_partial, without_whole}
-use Rattle.njh_spool.specs.declared.State.{State}
-use Rattle.njh_spool.specs.declared.State.TheVariants.{Ready, Refused, Sending}
-use Rattle.njh_table.specs.Entries.{CustomerEntry}
-use Rattle.njh_stream.specs.Holding.{has_lost_route, held_file, unrouted_held}
-use Rattle.njh_stream.specs.Receiving.{without_all_open, without_open}
-use Rattle.njh_stream.specs.Sending.{all_ended, file_in, may_go_again, ready, spool_after_session, tried_again}
-use Rattle.njh_stream.specs.Sending.{after_completion, after_refusal, next_of}
-use Rattle.njh_stream.specs.WholeFiles.{HaveHeaders}
-use Rattle.njh_stream.specs.declared.receiver.Receiver.{Receiver}
+use Rattle.njh_customer.proofs.Words
+use Words.{ℕ, cond, List, [], All, map, Option, Some, None, refl, sym, subst, arith, Bool, not, true, false, slice_get}
+use Words.{option_map, get_or-map, length-map, All-map, All-filter, all_suspended, kind_of, has_room, HasHeaders}
+use Words.{CustomerSpool, WholeFile, with_state, without_partial, without_whole, State, Ready, Refused, CustomerEntry}
+use Words.{has_lost_route, held_file, unrouted_held, without_all_open, without_open, all_ended, file_in, may_go_again}
+use Words.{ready, spool_after_session, tried_again, after_completion, after_refusal, next_of, HaveHeaders, Receiver}
+use Words.{Sender, Outlet, Candidate, Filling, Source, WaitingAnswer, StreamAbort, StreamRequest, WaitingMessage}
+use Words.{StreamTurn, answering, abort_where, asking, may_ask, oldest, request_of, telling, serving, next_served}
+use Words.{candidate, added_where, after_candidate, after_source_where, filled_where, sources, limits_of}
+use Rattle.std.proofs.Common.{◌≡◌, ◌==◌, ◌∷◌, ◌∙◌}
+use Rattle.njh_spool.specs.declared.State.TheVariants.{Sending}
 use Rattle.njh_stream.specs.declared.receiver.Receiver.TheVariants as receiver
-use Rattle.njh_stream.specs.declared.sender.Sender.{Sender}
 use Rattle.njh_stream.specs.declared.sender.Sender.TheVariants as sender
-use Rattle.njh_sched.specs.NextBlock.{Outlet, Candidate, Filling, Source, WaitingAnswer, StreamAbort, StreamRequest}
-use Rattle.njh_sched.specs.NextBlock.{WaitingMessage, StreamTurn, answering, abort_where, sender_at, asking, may_ask}
-use Rattle.njh_sched.specs.NextBlock.{oldest, request_of, telling, serving, next_served, candidate, added_where}
-use Rattle.njh_sched.specs.NextBlock.{after_candidate, after_source_where, after_source, after_sources, filled_where}
-use Rattle.njh_sched.specs.NextBlock.{filled_block, sources}
-use Rattle.njh_customer.specs.code.Coherence.{limits_of}
+use Rattle.njh_sched.specs.NextBlock.{sender_at, after_source, after_sources, filled_block}
 use Rattle.njh_customer.proofs.FileListLaws.{changed_where}
 
 -- Of a customer's files only states of whole ones have changed.

@@ -1,25 +1,12 @@
 -- What new routes do to a customer.
-use Rattle.std.proofs.Common.{◌≡◌, cond, List, [], map, Ok, Err, refl, sym, ◌∙◌, inl, inr, ℕ, Bool, true, false, not}
-use Rattle.std.proofs.Common.{◌&&◌, ◌||◌, Option, Some, None}
-use Rattle.std.specs.List.{Contains}
-use Rattle.njh_ebcdic.specs.Names.{is_name}
-use Rattle.njh_ebcdic.specs.Users.{User}
-use Rattle.njh_header.specs.FileHeaders.{destination_of}
-use Rattle.njh_spool.specs.CustomerSpool.{WholeFile}
-use Rattle.njh_table.specs.Entries.{CustomerEntry, route_of}
-use Rattle.njh_table.specs.Keys.{Walked}
-use Rattle.njh_table.specs.NewRoutes.{NewRoute, routes_checked}
-use Rattle.njh_table.specs.declared.Route.{Route}
-use Rattle.njh_table.specs.declared.Route.TheVariants.{Here, Line, Unknown}
-use Rattle.njh_stream.specs.Holding.{has_lost_route, held_file, destination_unrouted, is_unknown}
-use Rattle.njh_stream.specs.Sending.{destination_goes_by, is_line}
-use Rattle.njh_customer.specs.Customer.{with_marks}
-use Rattle.njh_customer.specs.Moves.{LeadsByMoves, nowhere, onward, RoutesMove}
-use Rattle.njh_customer.specs.MovingLaws.{RoutesDo, RoutesDoSo, RoutesMoveFile, is_as_before, is_held}
-use Rattle.njh_customer.specs.NewRoutes.{entry_with, taken_where, routes_given, UnroutedFilesStay, customer_with_routes}
-use Rattle.njh_customer.specs.OutgoingFiles.{Outgoing, outgoing}
-use Rattle.njh_customer.specs.Part.{Part}
-use Rattle.njh_customer.specs.code.Coherence.{streams_to_hub, RoutesKeepCoherent}
+use Rattle.njh_customer.proofs.Words
+use Words.{cond, List, [], map, Ok, Err, refl, sym, inl, inr, ℕ, Bool, true, false, not, Option, Some, None, Contains}
+use Words.{is_name, User, destination_of, WholeFile, CustomerEntry, route_of, Walked, NewRoute, routes_checked, Route}
+use Words.{Here, Line, Unknown, has_lost_route, held_file, destination_unrouted, is_unknown, destination_goes_by}
+use Words.{is_line, with_marks, LeadsByMoves, nowhere, onward, RoutesMove, RoutesDo, RoutesDoSo, RoutesMoveFile}
+use Words.{is_as_before, is_held, entry_with, taken_where, routes_given, UnroutedFilesStay, customer_with_routes}
+use Words.{Outgoing, outgoing, Part, streams_to_hub, RoutesKeepCoherent}
+use Rattle.std.proofs.Common.{◌≡◌, ◌∙◌, ◌&&◌, ◌||◌}
 use Rattle.njh_customer.proofs.CoherenceLaws.{NothingUnties}
 use Rattle.njh_customer.proofs.FileListLaws.{numbers, WasOrIs, changed_where, from_where}
 use Rattle.njh_customer.proofs.Restated.{held_restated, restated_harmless}

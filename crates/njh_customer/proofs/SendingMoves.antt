@@ -1,35 +1,20 @@
 -- What goes out in a new block moves a line's streams, and what each stream's file has under its RCB.
-use Rattle.std.proofs.Common.{◌≡◌, ◌<◌, ℕ, zero, suc, ◌+◌, Bool, true, false, List, [], ◌∷◌, ◌++◌, length, set, get_or}
-use Rattle.std.proofs.Common.{◌%◌, ◌&&◌, replicate, arith, nat_lt, Option, Some, None, option_map, slice_get, refl, sym}
-use Rattle.std.proofs.Common.{ap, subst, ◌∙◌}
-use Rattle.std.proofs.lemmas.List.{append-nil, get_or-set_same, set-get_or, set-set, length-map, map-set}
-use Rattle.std.specs.List.{AllByRecursion}
-use Rattle.njh_record.specs.Stored.{Stored}
-use Rattle.njh_block.specs.Blocks.{Item, all_suspended, messages_on}
-use Rattle.njh_block.specs.Codes.{kind_of}
-use Rattle.njh_block.specs.Writing.{has_room}
-use Rattle.njh_block.specs.declared.answer.Answer.{Answer}
-use Rattle.njh_spool.specs.CustomerSpool.{WholeFile, whole_numbered}
-use Rattle.njh_table.specs.Entries.{CustomerEntry}
-use Rattle.njh_stream.specs.Sending.{goes_by, next_at, next_of, record_at}
-use Rattle.njh_stream.specs.declared.sender.Sender.{Sender}
-use Rattle.njh_stream.specs.declared.sender.Sender.TheVariants.{Idle, Requested, Sending, EofSent, Aborting}
-use Rattle.njh_sched.specs.Carrying.{records_of}
-use Rattle.njh_sched.specs.NextBlock.{Candidate, Filling, Source, WaitingAnswer, StreamAbort, StreamRequest}
-use Rattle.njh_sched.specs.NextBlock.{WaitingMessage, StreamTurn, abort_where, answering, asking, candidate, is_idle}
-use Rattle.njh_sched.specs.NextBlock.{may_ask, next_served, oldest, sender_at, serving, telling, added_where}
-use Rattle.njh_sched.specs.NextBlock.{after_candidate, after_source, after_source_where, after_sources, filled_block}
-use Rattle.njh_sched.specs.NextBlock.{Outlet, aborts, filled_where, messages_where, requests, sources, streams, turns}
-use Rattle.njh_sched.specs.NextBlock.{waiting_answers, waiting_messages, filling}
-use Rattle.njh_sched.specs.Tight.{own_fcs}
+use Rattle.njh_customer.proofs.Words
+use Words.{ℕ, zero, suc, Bool, true, false, List, [], length, set, get_or, replicate, arith, nat_lt, Option, Some, None}
+use Words.{option_map, slice_get, refl, sym, ap, subst, append-nil, set-set, get_or-set_same, set-get_or, length-map}
+use Words.{map-set, AllByRecursion, Stored, Item, all_suspended, messages_on, kind_of, has_room, Answer, WholeFile}
+use Words.{whole_numbered, CustomerEntry, goes_by, next_at, next_of, record_at, Sender, Requested, EofSent, Aborting}
+use Words.{records_of, Candidate, Filling, Source, WaitingAnswer, StreamAbort, StreamRequest, WaitingMessage}
+use Words.{StreamTurn, abort_where, answering, asking, candidate, is_idle, may_ask, next_served, oldest, serving}
+use Words.{telling, added_where, after_candidate, after_source_where, Outlet, aborts, filled_where, messages_where}
+use Words.{requests, sources, turns, waiting_answers, waiting_messages, filling, own_fcs, replied_to, Customer, line_at}
+use Words.{LeadsByMoves, nowhere, onward, Sends, Outgoing, record_numbered, sender_on, with_sender_on, outgoing}
+use Words.{streams_from_hub, next_block, outlet_of, own_block, sending_of_reply}
+use Rattle.std.proofs.Common.{◌≡◌, ◌<◌, ◌+◌, ◌∷◌, ◌++◌, ◌%◌, ◌&&◌, ◌∙◌}
+use Rattle.njh_stream.specs.declared.sender.Sender.TheVariants.{Idle, Sending}
+use Rattle.njh_sched.specs.NextBlock.{sender_at, after_source, after_sources, filled_block, streams}
 use Rattle.njh_line.specs.declared.verdict.LineReply.TheVariants as reply
-use Rattle.njh_customer.specs.Alone.{replied_to}
-use Rattle.njh_customer.specs.Customer.{Customer, line_at}
 use Rattle.njh_customer.specs.Moves as moves
-use Rattle.njh_customer.specs.Moves.{LeadsByMoves, nowhere, onward, Sends}
-use Rattle.njh_customer.specs.OutgoingFiles.{Outgoing, record_numbered, sender_on, with_sender_on, outgoing}
-use Rattle.njh_customer.specs.OutgoingFiles.{streams_from_hub}
-use Rattle.njh_customer.specs.Sending.{next_block, outlet_of, own_block, sending_of_reply}
 use Rattle.njh_customer.proofs.OutgoingLaws.{of_parts, own_again}
 
 -- ---- where the block's records come from

@@ -1,38 +1,21 @@
 -- What a line sends, the end of its session, and new routes leave it so: the files that are being sent are exactly those
 -- that a stream is about, each on one stream.
-use Rattle.std.proofs.Common.{◌≡◌, ℕ, zero, suc, ◌+◌, ◌<◌, Bool, true, false, ◌==◌, ◌&&◌, ◌⊎◌, inl, inr, List, [], ◌∷◌}
-use Rattle.std.proofs.Common.{length, set, get_or, replicate, find, Option, Some, None, refl, sym, ap, subst, ◌∙◌}
-use Rattle.std.proofs.Common.{arith}
-use Rattle.std.proofs.Math.ListN.{get_or-map}
-use Rattle.std.proofs.lemmas.Bool.{eqb-true, eqb-false}
-use Rattle.std.proofs.lemmas.List.{get_or-set_same, get_or-set_other, length-map, length-replicate, length-set}
-use Rattle.std.proofs.lemmas.List.Elements.{All-map}
-use Rattle.std.specs.List.{Contains}
-use Rattle.njh_block.specs.Codes.{kind_of}
-use Rattle.njh_header.specs.FileHeaders.{destination_of}
-use Rattle.njh_spool.specs.CustomerSpool.{CustomerSpool, WholeFile}
-use Rattle.njh_spool.specs.declared.State.{State}
+use Rattle.njh_customer.proofs.Words
+use Words.{ℕ, zero, suc, Bool, true, false, inl, inr, List, [], length, set, get_or, replicate, find, Option, Some}
+use Words.{None, refl, sym, ap, subst, arith, eqb-true, get_or-map, eqb-false, get_or-set_same, get_or-set_other}
+use Words.{length-map, length-replicate, length-set, All-map, Contains, kind_of, destination_of, CustomerSpool}
+use Words.{WholeFile, State, CustomerEntry, RouteEntry, destination_unrouted, has_lost_route, waits_in_state, held_file}
+use Words.{all_ended, file_in, goes_by, is_refused, may_go_again, ready, spool_after_session, tried_again, Sender}
+use Words.{Requested, EofSent, Aborting, is_ready, may_go, same_kind, is_sending, LineReply, replied_to, session_over}
+use Words.{Customer, CustomerLine, config_of, fresh_customer, idle_line, line_at, no_customer_line, AreBeingSent}
+use Words.{IsOnStream, IsAbout, LeadsByMoves, nowhere, onward, Sends, customer_with_routes, entry_with, Outgoing}
+use Words.{has_file, outgoing, sender_on, streams_from_hub, streams_of, with_file_state, with_files, with_sender_on}
+use Words.{next_block}
+use Rattle.std.proofs.Common.{◌≡◌, ◌+◌, ◌<◌, ◌==◌, ◌&&◌, ◌⊎◌, ◌∷◌, ◌∙◌}
 use Rattle.njh_spool.specs.declared.State.TheVariants as state
-use Rattle.njh_table.specs.Entries.{CustomerEntry, RouteEntry}
-use Rattle.njh_stream.specs.Holding.{destination_unrouted, has_lost_route, waits_in_state, held_file}
-use Rattle.njh_stream.specs.Sending.{all_ended, file_in, goes_by, is_refused, may_go_again, ready, spool_after_session}
-use Rattle.njh_stream.specs.Sending.{tried_again}
-use Rattle.njh_stream.specs.declared.sender.Sender.{Sender}
-use Rattle.njh_stream.specs.declared.sender.Sender.TheVariants.{Idle, Requested, Sending, EofSent, Aborting}
-use Rattle.njh_sched.specs.NextBlock.{is_ready, may_go, same_kind}
-use Rattle.njh_command.specs.Commands.{is_sending}
-use Rattle.njh_line.specs.declared.verdict.LineReply.{LineReply}
+use Rattle.njh_stream.specs.declared.sender.Sender.TheVariants.{Idle, Sending}
 use Rattle.njh_line.specs.declared.verdict.LineReply.TheVariants as reply
-use Rattle.njh_customer.specs.Alone.{replied_to, session_over}
-use Rattle.njh_customer.specs.Customer.{Customer, CustomerLine, config_of, fresh_customer, idle_line, line_at}
-use Rattle.njh_customer.specs.Customer.{no_customer_line}
-use Rattle.njh_customer.specs.InOrder.{AreBeingSent, IsOnStream, IsAbout}
 use Rattle.njh_customer.specs.Moves as moves
-use Rattle.njh_customer.specs.Moves.{LeadsByMoves, nowhere, onward, Sends}
-use Rattle.njh_customer.specs.NewRoutes.{customer_with_routes, entry_with}
-use Rattle.njh_customer.specs.OutgoingFiles.{Outgoing, has_file, outgoing, sender_on, streams_from_hub, streams_of}
-use Rattle.njh_customer.specs.OutgoingFiles.{with_file_state, with_files, with_sender_on}
-use Rattle.njh_customer.specs.Sending.{next_block}
 use Rattle.njh_customer.proofs.FileListLaws.{any_numbered, copies, marked_numbers, same_numbered, but_states, found_one}
 use Rattle.njh_customer.proofs.FileListLaws.{WasOrIs, any_there, from_where}
 use Rattle.njh_customer.proofs.IdleLines.{fresh_lines_idle, senders_idle}

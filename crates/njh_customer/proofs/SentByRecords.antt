@@ -1,31 +1,17 @@
 -- What a record that comes leaves of this: which files are being sent are those that a stream from the hub is about.
-use Rattle.std.proofs.Common.{◌≡◌, ◌≤◌, ℕ, Bool, true, false, cond, not, ◌&&◌, ◌==◌, ◌⊎◌, inl, inr, List, [], ◌∷◌, ◌++◌}
-use Rattle.std.proofs.Common.{length, map, filter, get_or, count_by, Option, Some, None, refl, sym, ap, subst, ◌∙◌}
-use Rattle.std.proofs.Common.{not-suc-le-zero, arith}
-use Rattle.std.proofs.lemmas.Bool.{eqb-true, eq-eqb, not-true, not_from_false, eqb-false}
-use Rattle.std.proofs.lemmas.List.Elements.{Contains-append_left, Contains-push_cases}
-use Rattle.std.proofs.lemmas.List.Sums.{sum_by_push}
-use Rattle.std.specs.List.{Contains}
-use Rattle.njh_block.specs.Blocks.{Item}
-use Rattle.njh_spool.specs.CustomerSpool.{WholeFile}
-use Rattle.njh_spool.specs.declared.State.{State}
+use Rattle.njh_customer.proofs.Words
+use Words.{ℕ, Bool, true, false, cond, not, inl, inr, List, [], length, map, filter, get_or, count_by, Option, Some}
+use Words.{None, refl, sym, ap, subst, not-suc-le-zero, arith, eqb-true, eq-eqb, not-true, not_from_false, eqb-false}
+use Words.{Contains-append_left, Contains-push_cases, sum_by_push, Contains, Item, WholeFile, State, CustomerEntry}
+use Words.{counted_at, file_in, Sender, CommandsMoveFilesSo, aborted_where, file_in_state, is_about, is_busy}
+use Words.{is_of_name, is_sending, may_change, state_after_reroute, with_new_destination, without_file, after_record}
+use Words.{Customer, AreBeingSent, IsAbout, Acts, busy_numbers, with_changed, without_cancelled, without_files}
+use Words.{Outgoing, each_stream, has_file, outgoing, sender_on, streams_of, with_arrival, with_file_state, with_files}
+use Words.{with_sender_on, without_numbered}
+use Rattle.std.proofs.Common.{◌≡◌, ◌≤◌, ◌&&◌, ◌==◌, ◌⊎◌, ◌∷◌, ◌++◌, ◌∙◌}
 use Rattle.njh_spool.specs.declared.State.TheVariants as state
-use Rattle.njh_table.specs.Entries.{CustomerEntry}
-use Rattle.njh_stream.proofs.OnlyOneLaws.{counted_at}
-use Rattle.njh_stream.specs.Sending.{file_in}
-use Rattle.njh_stream.specs.declared.sender.Sender.{Sender}
 use Rattle.njh_stream.specs.declared.sender.Sender.TheVariants.{Idle, Sending}
-use Rattle.njh_command.specs.CommandLaws.{CommandsMoveFilesSo}
-use Rattle.njh_command.specs.Commands.{aborted_where, file_in_state, is_about, is_busy, is_of_name, is_sending}
-use Rattle.njh_command.specs.Commands.{may_change, state_after_reroute, with_new_destination, without_file}
-use Rattle.njh_customer.specs.Acting.{after_record}
-use Rattle.njh_customer.specs.Customer.{Customer}
-use Rattle.njh_customer.specs.InOrder.{AreBeingSent, IsAbout}
 use Rattle.njh_customer.specs.Moves as moves
-use Rattle.njh_customer.specs.Moves.{Acts, busy_numbers, with_changed, without_cancelled, without_files}
-use Rattle.njh_customer.specs.OutgoingFiles.{Outgoing, each_stream, has_file, outgoing, sender_on, streams_of}
-use Rattle.njh_customer.specs.OutgoingFiles.{with_arrival, with_file_state, with_files, with_sender_on}
-use Rattle.njh_customer.specs.OutgoingFiles.{without_numbered}
 use Rattle.njh_customer.proofs.ActingMoves.{acts_so}
 use Rattle.njh_customer.proofs.FileListLaws.{any_numbered, from_filter, same_numbered, into_map, Has, WasOrIs}
 use Rattle.njh_customer.proofs.FileListLaws.{first_or_later, found_numbered, from_where, has_one, into_filter}

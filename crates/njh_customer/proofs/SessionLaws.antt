@@ -1,30 +1,15 @@
 -- What a line sends, the end of its session, and all that comes on it leave a customer coherent.
-use Rattle.std.proofs.Common.{ap, ◌≡◌, ℕ, ◌<◌, false, List, length, set, replicate, refl, sym, subst, ◌∙◌, arith}
-use Rattle.std.proofs.Math.ListN.{get_or-map}
-use Rattle.std.proofs.Math.Seq.{map-set_same}
-use Rattle.std.proofs.lemmas.List.{map-set, length-map, length-set, length-replicate}
-use Rattle.std.proofs.lemmas.List.Elements.{All-same, All-set}
+use Rattle.njh_customer.proofs.Words
+use Words.{ap, ℕ, false, List, length, set, replicate, refl, sym, subst, arith, get_or-map, map-set_same, map-set}
+use Words.{length-map, length-set, length-replicate, All-same, All-set, HasHeaders, without_all_open, all_ended}
+use Words.{tried_again, streams_at, AreTied, Receiver, Input, after_end, Phase, Config, LineReply, after_record}
+use Words.{replied_to, with_idle_streams, session_over, accepted_on, after_line_input, after_block, after_frame}
+use Words.{after_signal, Customer, no_customer_line, line_at, on_line, in_state, sending_of_reply, streams_to_hub}
+use Words.{HasStreams, IsCoherent, Signal}
+use Rattle.std.proofs.Common.{◌≡◌, ◌<◌, ◌∙◌}
 use Rattle.njh_bisync.specs.Frames.{Received}
 use Rattle.njh_block.specs.Blocks.{Block}
-use Rattle.njh_header.specs.WholeFiles.{HasHeaders}
-use Rattle.njh_stream.specs.Receiving.{without_all_open}
-use Rattle.njh_stream.specs.Sending.{all_ended, tried_again}
-use Rattle.njh_stream.specs.Streams.{streams_at}
-use Rattle.njh_stream.specs.code.Agreement.{AreTied}
-use Rattle.njh_stream.specs.declared.receiver.Receiver.{Receiver}
 use Rattle.njh_stream.specs.declared.receiver.Receiver.TheVariants as receiver
-use Rattle.njh_line.specs.LineTable.{Input}
-use Rattle.njh_line.specs.Lines.{after_end}
-use Rattle.njh_line.specs.declared.Phase.{Phase}
-use Rattle.njh_line.specs.declared.config.Config.{Config}
-use Rattle.njh_line.specs.declared.verdict.LineReply.{LineReply}
-use Rattle.njh_customer.specs.Acting.{after_record}
-use Rattle.njh_customer.specs.Alone.{replied_to, with_idle_streams, session_over, accepted_on, after_line_input}
-use Rattle.njh_customer.specs.Alone.{after_block, after_frame, after_signal}
-use Rattle.njh_customer.specs.Customer.{Customer, no_customer_line, line_at, on_line, in_state}
-use Rattle.njh_customer.specs.Sending.{sending_of_reply}
-use Rattle.njh_customer.specs.code.Coherence.{streams_to_hub, HasStreams, IsCoherent}
-use Rattle.njh_customer.specs.declared.signal.Signal.{Signal}
 use Rattle.njh_customer.proofs.CoherenceLaws.{EndsTie, NothingUnties, RecordsKeep, shape}
 use Rattle.njh_customer.proofs.LineWalks.{on_line_seen}
 use Rattle.njh_customer.proofs.ReplyLaws.{reply_lasting}

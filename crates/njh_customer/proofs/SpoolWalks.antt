@@ -1,39 +1,20 @@
 -- What is so of a customer's files stays so, whatever comes, where it does in each small step.
-use Rattle.std.proofs.Common.{◌≡◌, ℕ, Bool, true, false, ◌&&◌, ◌==◌, not, List, [], ◌∷◌, ◌++◌, filter, map, refl, sym}
-use Rattle.std.proofs.Common.{ap, subst, ◌∙◌}
-use Rattle.njh_ebcdic.specs.Names.{is_name}
-use Rattle.njh_ebcdic.specs.Users.{User}
-use Rattle.njh_record.specs.Stored.{Stored}
-use Rattle.njh_record.specs.declared.Kind.{Kind}
-use Rattle.njh_block.specs.Blocks.{Item, Control, Data}
-use Rattle.njh_block.specs.Codes.{kind_of}
-use Rattle.njh_nmr.specs.Nodal.{sender_of}
-use Rattle.njh_spool.specs.CustomerSpool.{CustomerSpool, WholeFile, has_block, has_file_room, has_room_for}
-use Rattle.njh_spool.specs.CustomerSpool.{partial_records, with_appended, with_finished, with_new_partial}
-use Rattle.njh_spool.specs.CustomerSpool.{without_partial}
-use Rattle.njh_spool.specs.declared.State.TheVariants.{Held, Ready}
-use Rattle.njh_table.specs.Entries.{CustomerEntry, RouteEntry}
-use Rattle.njh_stream.specs.Receiving.{Arrival, closed_by, received_arrival, received_request, requested_where}
-use Rattle.njh_stream.specs.Receiving.{stored_by}
-use Rattle.njh_stream.specs.Sending.{after_completion, after_refusal, all_ended, goes_by, ready, tried_again}
-use Rattle.njh_stream.specs.Transmissions.{Verdict, Taken, Cancelled, Fitting, is_whole, judged_coming, verdict_of}
-use Rattle.njh_stream.specs.Transmissions.{with_room}
-use Rattle.njh_stream.specs.declared.receiver.Receiver.{Receiver}
+use Rattle.njh_customer.proofs.Words
+use Words.{ℕ, Bool, true, false, not, List, [], filter, map, refl, sym, ap, subst, is_name, User, Stored, Kind, Item}
+use Words.{kind_of, sender_of, CustomerSpool, WholeFile, has_block, has_file_room, has_room_for, partial_records}
+use Words.{with_appended, with_finished, with_new_partial, without_partial, Held, Ready, CustomerEntry, RouteEntry}
+use Words.{Arrival, closed_by, received_arrival, received_request, requested_where, stored_by, after_completion}
+use Words.{after_refusal, all_ended, goes_by, ready, tried_again, Taken, Cancelled, Fitting, is_whole, judged_coming}
+use Words.{verdict_of, with_room, Receiver, Sender, filling, own_fcs, CommandsMoveFilesSo, FilesMove, ReroutesNameNodes}
+use Words.{stay, held, released, rerouted, cancelled, CommandOutcome, changed_file, file_in_state, is_of_name}
+use Words.{may_change, message_outcome, spool_after, with_new_destination, LineReply, after_record, replied_to}
+use Words.{session_over, Customer, line_at, receiver_at, customer_with_routes, entry_with, outlet_of, own_block}
+use Rattle.std.proofs.Common.{◌≡◌, ◌&&◌, ◌==◌, ◌∷◌, ◌++◌, ◌∙◌}
+use Rattle.njh_block.specs.Blocks.{Control, Data}
+use Rattle.njh_stream.specs.Transmissions.{Verdict}
 use Rattle.njh_stream.specs.declared.receiver.Receiver.TheVariants as receiver
-use Rattle.njh_stream.specs.declared.sender.Sender.{Sender}
-use Rattle.njh_sched.specs.NextBlock.{filling}
-use Rattle.njh_sched.specs.Tight.{own_fcs}
-use Rattle.njh_command.specs.CommandLaws.{CommandsMoveFilesSo, FilesMove, ReroutesNameNodes, stay, held, released}
-use Rattle.njh_command.specs.CommandLaws.{rerouted, cancelled}
-use Rattle.njh_command.specs.Commands.{CommandOutcome, changed_file, file_in_state, is_of_name, may_change}
-use Rattle.njh_command.specs.Commands.{message_outcome, spool_after, with_new_destination}
-use Rattle.njh_line.specs.declared.verdict.LineReply.{LineReply}
 use Rattle.njh_line.specs.declared.verdict.LineReply.TheVariants as reply
-use Rattle.njh_customer.specs.Acting.{after_record}
-use Rattle.njh_customer.specs.Alone.{replied_to, session_over}
-use Rattle.njh_customer.specs.Customer.{Customer, line_at, receiver_at, sender_at}
-use Rattle.njh_customer.specs.NewRoutes.{customer_with_routes, entry_with}
-use Rattle.njh_customer.specs.Sending.{outlet_of, own_block}
+use Rattle.njh_customer.specs.Customer.{sender_at}
 use Rattle.njh_customer.proofs.FileListLaws.{changed_where}
 use Rattle.njh_customer.proofs.RecordsDo as does
 use Rattle.njh_customer.proofs.RecordsDo.{Brings, a_request, an_abort, some_data, too_long, RecordDoes, record_does}

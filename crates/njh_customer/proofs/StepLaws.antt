@@ -1,27 +1,15 @@
 -- What the steps of a customer leave: it stays coherent, and has as many lines.
-use Rattle.std.proofs.Common.{◌≡◌, ℕ, ◌+◌, ◌%◌, ◌<◌, ◌≤◌, Bool, true, false, cond, ◌==◌, List, length, fold, Option}
-use Rattle.std.proofs.Common.{Some, None, refl, ◌∙◌, arith, nat_lt}
-use Rattle.std.proofs.lemmas.Bool.{ltb-true}
-use Rattle.std.proofs.lemmas.List.{length-set}
-use Rattle.std.specs.Option.{option_map}
-use Rattle.njh_block.specs.Blocks.{Item, stream_number, stream_of}
-use Rattle.njh_block.specs.Codes.{kind_of}
-use Rattle.njh_nmr.specs.Nodal.{Nodal, sender_of}
-use Rattle.njh_texts.specs.Texts.{node_unknown}
-use Rattle.njh_stream.specs.Arrivals.{answer_on}
-use Rattle.njh_stream.specs.Receiving.{Arrival, received_arrival}
-use Rattle.njh_stream.specs.Sending.{SenderOutcome, after_grant, after_refusal, after_completion}
-use Rattle.njh_stream.specs.declared.sender.Sender.{Sender}
-use Rattle.njh_command.specs.Commands.{message_outcome, without_file}
-use Rattle.njh_line.specs.LineTable.{Input}
-use Rattle.njh_line.specs.Lines.{after_input}
-use Rattle.njh_customer.specs.Acting.{after_stream_arrival, with_sender_outcome, without_sending, after_user_command}
-use Rattle.njh_customer.specs.Acting.{after_record, with_senders_by}
-use Rattle.njh_customer.specs.Alone.{accepted_on, goes_up_by, with_raised_line}
-use Rattle.njh_customer.specs.Customer.{Customer, CustomerLine, no_customer_line, line_at, on_line, in_state, sender_at}
-use Rattle.njh_customer.specs.Customer.{with_sender, with_notice, with_receiver, receiver_at}
-use Rattle.njh_customer.specs.Waiting.{with_answer_on, with_waiting, with_message_to, with_notice_to}
-use Rattle.njh_customer.specs.code.Coherence.{IsCoherent}
+use Rattle.njh_customer.proofs.Words
+use Words.{ℕ, Bool, true, false, cond, List, length, fold, Option, Some, None, refl, arith, nat_lt, option_map}
+use Words.{ltb-true, length-set, Item, stream_number, stream_of, kind_of, Nodal, sender_of, node_unknown, answer_on}
+use Words.{Arrival, received_arrival, SenderOutcome, after_grant, after_refusal, after_completion, Sender}
+use Words.{message_outcome, without_file, Input, after_input, after_stream_arrival, with_sender_outcome}
+use Words.{without_sending, after_user_command, after_record, with_senders_by, accepted_on, goes_up_by}
+use Words.{with_raised_line, Customer, CustomerLine, no_customer_line, line_at, on_line, in_state, with_sender}
+use Words.{with_notice, with_receiver, receiver_at, with_answer_on, with_waiting, with_message_to, with_notice_to}
+use Words.{IsCoherent}
+use Rattle.std.proofs.Common.{◌≡◌, ◌+◌, ◌%◌, ◌<◌, ◌≤◌, ◌==◌, ◌∙◌}
+use Rattle.njh_customer.specs.Customer.{sender_at}
 use Rattle.njh_customer.proofs.CoherenceLaws.{IsLike, NothingUnties, RecordsKeep, coherent_still, keeps_arrived, shape}
 use Rattle.njh_customer.proofs.CoherenceLaws.{shape_waiting, shapes}
 use Rattle.njh_customer.proofs.FileListLaws.{as_many, each_same}

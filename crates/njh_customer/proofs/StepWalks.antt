@@ -1,34 +1,20 @@
 -- What is so of a customer stays so, whatever comes, where it does in each small step.
-use Rattle.std.proofs.Common.{Bool, Err, List, None, Ok, Option, Result, Some, [], arith, cond, length, nat_lt, refl, ℕ}
-use Rattle.std.proofs.Common.{◌<◌, ◌∷◌, ◌≡◌, false, true}
-use Rattle.std.proofs.lemmas.Bool.{ltb-true}
-use Rattle.std.proofs.lemmas.List.{length-set}
-use Rattle.njh_bisync.specs.ByteSteps.{rest_step}
+use Rattle.njh_customer.proofs.Words
+use Words.{Bool, Err, List, None, Ok, Option, Result, Some, [], arith, cond, length, nat_lt, refl, ℕ, false, true}
+use Words.{ltb-true, length-set, rest_step, Rest, Item, read_block, BlockFault, RouteEntry, Walked, NewRoute}
+use Words.{entries_of_routes, routes_checked, Input, after_end, after_input, LineReply, acted_where, after_record}
+use Words.{CustomerStep, accepted_on, after_block, after_line_input, after_received, behind_records, block_input}
+use Words.{carried_out, replied_to, session_over, session_over_where, signal_input, silent, text_read, verdict_on}
+use Words.{Customer, in_state, line_at, on_line, or_later, Taking, acted_on, byte_step, bytes_run, take_step}
+use Words.{block_records, records_of_frame, customer_with_routes, routes_given, taken_where, Part, rest_on, OwnBytes}
+use Words.{OwnEvent, OwnRoutes, OwnSignal, event_run, sending_of_reply, Signal}
+use Rattle.std.proofs.Common.{◌<◌, ◌∷◌, ◌≡◌}
 use Rattle.njh_bisync.specs.Frames as frame
 use Rattle.njh_bisync.specs.Frames.{Received}
-use Rattle.njh_bisync.specs.Reading.{Rest}
-use Rattle.njh_block.specs.Blocks.{Block, Item, read_block}
-use Rattle.njh_block.specs.declared.fault.BlockFault.{BlockFault}
-use Rattle.njh_table.specs.Entries.{RouteEntry}
-use Rattle.njh_table.specs.Keys.{Walked}
-use Rattle.njh_table.specs.NewRoutes.{NewRoute, entries_of_routes, routes_checked}
+use Rattle.njh_block.specs.Blocks.{Block}
 use Rattle.njh_line.specs.LineTable as input
-use Rattle.njh_line.specs.LineTable.{Input}
-use Rattle.njh_line.specs.Lines.{after_end, after_input}
-use Rattle.njh_line.specs.declared.verdict.LineReply.{LineReply}
 use Rattle.njh_line.specs.declared.verdict.Verdict.{Verdict}
-use Rattle.njh_customer.specs.Acting.{acted_where, after_record}
-use Rattle.njh_customer.specs.Alone.{CustomerStep, accepted_on, after_block, after_frame, after_line_input}
-use Rattle.njh_customer.specs.Alone.{after_received, after_signal, behind_records, block_input, carried_out, replied_to}
-use Rattle.njh_customer.specs.Alone.{session_over, session_over_where, signal_input, silent, text_read, verdict_on}
-use Rattle.njh_customer.specs.Customer.{Customer, in_state, line_at, on_line}
-use Rattle.njh_customer.specs.Feeding.{or_later, Taking, acted_on, byte_step, bytes_run, take_step}
-use Rattle.njh_customer.specs.FrameEffects.{block_records, records_of_frame}
-use Rattle.njh_customer.specs.NewRoutes.{customer_with_routes, routes_given, taken_where}
-use Rattle.njh_customer.specs.Part.{Part, rest_on}
-use Rattle.njh_customer.specs.Runs.{OwnBytes, OwnEvent, OwnRoutes, OwnSignal, event_run}
-use Rattle.njh_customer.specs.Sending.{sending_of_reply}
-use Rattle.njh_customer.specs.declared.signal.Signal.{Signal}
+use Rattle.njh_customer.specs.Alone.{after_frame, after_signal}
 use Rattle.njh_customer.proofs.LineWalks.{acted_keeps, lines_of}
 use Rattle.njh_customer.proofs.RecordsDo.{acted_where_so}
 

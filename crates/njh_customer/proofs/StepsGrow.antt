@@ -1,27 +1,18 @@
 -- In a step by bytes of a line the records of one block act at most: a block whose records act is answered, or one of
 -- them ends the session, and then none acts before the line has answered a call.
-use Rattle.std.proofs.Common.{◌≡◌, ℕ, ◌<◌, ◌≤◌, ◌*◌, Bool, true, false, List, [], ◌∷◌, length, Option, Some, None}
-use Rattle.std.proofs.Common.{Result, Ok, Err, refl, sym, subst, arith}
-use Rattle.njh_bisync.specs.ByteSteps.{rest_step}
+use Rattle.njh_customer.proofs.Words
+use Words.{ℕ, Bool, true, false, List, [], length, Option, Some, None, Result, Ok, Err, refl, sym, subst, arith}
+use Words.{rest_step, IsShort, Rest, read_block, BlockFault, CustomerSpool, CommandsMoveFilesSo, ReroutesNameNodes}
+use Words.{ActingIsAnswered, DownStaysDown, Down, Acted, acted_where, all_acted, CustomerStep, replied_to}
+use Words.{session_ended, carried_out, verdict_on, accepted_on, block_input, behind_records, after_block, after_frame}
+use Words.{Customer, line_at, acted_on, Taking, or_later, take_step, block_records, records_of_frame, FilesGrow}
+use Words.{IsShortRest, TakesGrowFiles, rest_on}
+use Rattle.std.proofs.Common.{◌≡◌, ◌<◌, ◌≤◌, ◌*◌, ◌∷◌}
 use Rattle.njh_bisync.specs.Frames as frame
-use Rattle.njh_bisync.specs.Frames.{Received, IsShort}
-use Rattle.njh_bisync.specs.Reading.{Rest}
-use Rattle.njh_block.specs.Blocks.{Block, read_block}
-use Rattle.njh_block.specs.declared.fault.BlockFault.{BlockFault}
-use Rattle.njh_spool.specs.CustomerSpool.{CustomerSpool}
-use Rattle.njh_command.specs.CommandLaws.{CommandsMoveFilesSo, ReroutesNameNodes}
-use Rattle.njh_line.specs.Answering.{ActingIsAnswered, DownStaysDown}
-use Rattle.njh_line.specs.declared.Phase.TheVariants.{Down}
+use Rattle.njh_bisync.specs.Frames.{Received}
+use Rattle.njh_block.specs.Blocks.{Block}
 use Rattle.njh_line.specs.declared.verdict.LineReply.TheVariants as reply
 use Rattle.njh_line.specs.declared.verdict.Verdict.{Verdict}
-use Rattle.njh_customer.specs.Acting.{Acted, acted_where, all_acted}
-use Rattle.njh_customer.specs.Alone.{CustomerStep, replied_to, session_ended, carried_out, verdict_on, accepted_on}
-use Rattle.njh_customer.specs.Alone.{block_input, behind_records, after_block, after_frame}
-use Rattle.njh_customer.specs.Customer.{Customer, line_at}
-use Rattle.njh_customer.specs.Feeding.{acted_on, Taking, or_later, take_step}
-use Rattle.njh_customer.specs.FrameEffects.{block_records, records_of_frame}
-use Rattle.njh_customer.specs.Growing.{FilesGrow, IsShortRest, TakesGrowFiles}
-use Rattle.njh_customer.specs.Part.{rest_on}
 use Rattle.njh_customer.proofs.BlockSizes.{BlockIsFew, block_few}
 use Rattle.njh_customer.proofs.DownLines.{phase_on, IsSent, ended_down, next_sent, carried_grows, input_grows}
 use Rattle.njh_customer.proofs.DownLines.{ended_grows, StaysDown, answers_call, still_down, frame_down}

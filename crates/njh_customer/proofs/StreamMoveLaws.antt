@@ -1,34 +1,18 @@
 -- How a stream from the hub moves.
-use Rattle.std.proofs.Common.{◌≡◌, ℕ, ◌+◌, Bool, true, false, ◌⊎◌, inl, inr, List, [], ◌∷◌, length, map, set, get_or}
-use Rattle.std.proofs.Common.{replicate, filter, find, not, cond, ◌&&◌, Option, Some, None, ◌==◌, refl, sym, ap, subst}
-use Rattle.std.proofs.Common.{◌∙◌, arith, ◌<◌, ◌≤◌}
-use Rattle.std.proofs.Math.ListN.{get_or-map}
-use Rattle.std.proofs.lemmas.Bool.{eqb-true, cases_lt}
-use Rattle.std.proofs.lemmas.List.{get_or_past, get_or-set_same, length-map, length-set}
-use Rattle.std.proofs.lemmas.List.Elements.{Contains-append_right}
-use Rattle.std.specs.List.{Contains}
-use Rattle.njh_ebcdic.specs.Users.{User}
-use Rattle.njh_block.specs.Blocks.{Item}
-use Rattle.njh_block.specs.Codes.{kind_of}
-use Rattle.njh_header.specs.FileNames.{FileName}
-use Rattle.njh_spool.specs.CustomerSpool.{WholeFile}
+use Rattle.njh_customer.proofs.Words
+use Words.{ℕ, Bool, true, false, inl, inr, List, [], length, map, set, get_or, replicate, filter, find, not, cond}
+use Words.{Option, Some, None, refl, sym, ap, subst, arith, eqb-true, get_or-map, cases_lt, get_or_past}
+use Words.{get_or-set_same, length-map, length-set, Contains-append_right, Contains, User, Item, kind_of, FileName}
+use Words.{WholeFile, CustomerEntry, entry_marked, after_abort, file_in, goes_by, Sender, Requested, EofSent, Aborting}
+use Words.{may_go, aborted_where, is_of_name, is_about, is_busy, is_sending, without_file, Cancel, IsAbout, Acts}
+use Words.{Records, Routes, Moves, by_record, by_sending, by_end, Sends, Tells, Commands, Over, busy_numbers}
+use Words.{without_files, StreamMoves, StreamsMoveSo, IdleStreamsTakeFiles, IsMovedAlone, Outgoing, each_stream}
+use Words.{with_file_state, sender_on, streams_of, with_files, with_sender_on, without_numbered}
+use Rattle.std.proofs.Common.{◌≡◌, ◌+◌, ◌⊎◌, ◌∷◌, ◌&&◌, ◌==◌, ◌∙◌, ◌<◌, ◌≤◌}
 use Rattle.njh_spool.specs.declared.State.TheVariants as state
-use Rattle.njh_table.specs.Entries.{CustomerEntry}
-use Rattle.njh_table.specs.Marks.{entry_marked}
-use Rattle.njh_stream.specs.Sending.{after_abort, file_in, goes_by}
-use Rattle.njh_stream.specs.declared.sender.Sender.{Sender}
-use Rattle.njh_stream.specs.declared.sender.Sender.TheVariants.{Idle, Requested, Sending, EofSent, Aborting}
-use Rattle.njh_sched.specs.NextBlock.{may_go}
-use Rattle.njh_command.specs.Commands.{aborted_where, is_of_name, is_about, is_busy, is_sending, without_file}
-use Rattle.njh_command.specs.declared.command.Command.TheVariants.{Cancel}
-use Rattle.njh_customer.specs.InOrder.{IsAbout}
+use Rattle.njh_stream.specs.declared.sender.Sender.TheVariants.{Idle, Sending}
 use Rattle.njh_customer.specs.Moves as moves
-use Rattle.njh_customer.specs.Moves.{Acts, Records, Routes, Moves, by_record, by_sending, by_end, Sends, Tells}
-use Rattle.njh_customer.specs.Moves.{Commands, Over, busy_numbers, without_files}
 use Rattle.njh_customer.specs.MovingLaws as laws
-use Rattle.njh_customer.specs.MovingLaws.{StreamMoves, StreamsMoveSo, IdleStreamsTakeFiles, IsMovedAlone}
-use Rattle.njh_customer.specs.OutgoingFiles.{Outgoing, each_stream, with_file_state, sender_on, streams_of, with_files}
-use Rattle.njh_customer.specs.OutgoingFiles.{with_sender_on, without_numbered}
 use Rattle.njh_customer.proofs.FileListLaws.{copies, first_or_later, set_one}
 
 -- ---- which stream it is

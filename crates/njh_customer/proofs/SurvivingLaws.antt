@@ -1,38 +1,19 @@
 -- Which of a customer's whole files are still there after moves.
-use Rattle.std.proofs.Common.{◌≡◌, ◌<◌, ◌≤◌, ℕ, zero, suc, ◌-◌, Bool, true, false, cond, not, ◌==◌, ◌⊎◌, inl, inr, List}
-use Rattle.std.proofs.Common.{[], ◌∷◌, ◌++◌, length, map, filter, take, None, IsSomeAnd, refl, sym, ap, subst, ◌∙◌}
-use Rattle.std.proofs.Common.{arith, length-append, append_assoc, append-nil}
-use Rattle.std.proofs.lemmas.List.{take-append-le}
-use Rattle.std.proofs.lemmas.List.Elements.{Contains-append_right}
-use Rattle.std.specs.List.{Contains}
-use Rattle.njh_ebcdic.specs.Names.{is_name}
-use Rattle.njh_record.specs.Stored.{Stored}
-use Rattle.njh_record.specs.declared.Kind.{Kind}
-use Rattle.njh_header.specs.FileHeaders.{with_destination}
-use Rattle.njh_header.specs.Redirecting.{records_to_node}
-use Rattle.njh_spool.specs.CustomerSpool.{WholeFile, max_arrived}
-use Rattle.njh_spool.specs.declared.State.{State}
+use Rattle.njh_customer.proofs.Words
+use Words.{ℕ, zero, suc, Bool, true, false, cond, not, inl, inr, List, [], length, map, filter, take, None, IsSomeAnd}
+use Words.{refl, sym, ap, subst, arith, length-append, append_assoc, append-nil, take-append-le, Contains-append_right}
+use Words.{Contains, is_name, Stored, Kind, with_destination, records_to_node, WholeFile, max_arrived, State}
+use Words.{CustomerEntry, entry_marked, entries_of_routes, has_lost_route, held_file, ready, ReroutesNameNodes}
+use Words.{changed_file, file_in_state, is_of_name, may_change, without_file, with_new_destination, Acts, Coming}
+use Words.{Records, Routes, nowhere, onward, Moves, MovesBy, by_record, by_sending, by_end, Sends, without_files}
+use Words.{busy_numbers, with_changed, EventsMoveSo, TakesMoveSo, coming, entry_with, Outgoing, each_stream}
+use Words.{with_arrival, with_file_state, with_files, without_numbered, outgoing, part_after_bytes, OwnBytes, alone_run}
+use Words.{event_run, IsRerouted, as_before, to_node, IsStill, Survive, stays, leaves, FilesGoOn, FilesSurvive}
+use Words.{EventsKeepFiles, TakesKeepFiles, FirstFilesSurvive, FilesGoOnFurther, RunsKeepFiles, SurvivorsAreNumbered}
+use Rattle.std.proofs.Common.{◌≡◌, ◌<◌, ◌≤◌, ◌-◌, ◌==◌, ◌⊎◌, ◌∷◌, ◌++◌, ◌∙◌}
 use Rattle.njh_spool.specs.declared.State.TheVariants as state
-use Rattle.njh_table.specs.Entries.{CustomerEntry}
-use Rattle.njh_table.specs.Marks.{entry_marked}
-use Rattle.njh_table.specs.NewRoutes.{entries_of_routes}
-use Rattle.njh_stream.specs.Holding.{has_lost_route, held_file}
-use Rattle.njh_stream.specs.Sending.{ready}
-use Rattle.njh_command.specs.CommandLaws.{ReroutesNameNodes}
-use Rattle.njh_command.specs.Commands.{changed_file, file_in_state, is_of_name, may_change, without_file}
-use Rattle.njh_command.specs.Commands.{with_new_destination}
 use Rattle.njh_customer.specs.Moves as moves
-use Rattle.njh_customer.specs.Moves.{Acts, Coming, Records, Routes, nowhere, onward, Moves, MovesBy, by_record}
-use Rattle.njh_customer.specs.Moves.{by_sending, by_end, Sends, without_files, busy_numbers, with_changed}
-use Rattle.njh_customer.specs.MovingLaws.{EventsMoveSo, TakesMoveSo, coming}
-use Rattle.njh_customer.specs.NewRoutes.{entry_with}
-use Rattle.njh_customer.specs.OutgoingFiles.{Outgoing, each_stream, with_arrival, with_file_state, with_files}
-use Rattle.njh_customer.specs.OutgoingFiles.{without_numbered, outgoing}
-use Rattle.njh_customer.specs.Part.{part_after_bytes}
-use Rattle.njh_customer.specs.Runs.{OwnBytes, alone_run, event_run}
-use Rattle.njh_customer.specs.Surviving.{IsRerouted, as_before, to_node, IsStill, Survive, none, stays, leaves}
-use Rattle.njh_customer.specs.Surviving.{FilesGoOn, FilesSurvive, EventsKeepFiles, TakesKeepFiles, FirstFilesSurvive}
-use Rattle.njh_customer.specs.Surviving.{FilesGoOnFurther, RunsKeepFiles, SurvivorsAreNumbered}
+use Rattle.njh_customer.specs.Surviving.{none}
 use Rattle.njh_customer.proofs.FileListLaws.{first_or_later, found_numbered}
 use Rattle.njh_customer.proofs.RecordsChange.{without_files_files}
 

@@ -1,11 +1,9 @@
 -- One step by bytes of a line: what it takes of a piece, frame by frame.
-use Rattle.std.proofs.Common.{◌≡◌, ℕ, suc, ◌+◌, ◌<◌, ◌≤◌, List, [], ◌∷◌, length, drop, Option, Some, None, refl, ap}
-use Rattle.std.proofs.Common.{sym, ◌∙◌, arith, add_assoc}
-use Rattle.njh_bisync.specs.ByteSteps.{rest_step, stop_or, Fed, feed_outcome}
+use Rattle.njh_customer.proofs.Words
+use Words.{ℕ, suc, List, [], length, drop, Option, Some, None, refl, ap, sym, arith, add_assoc, rest_step, stop_or, Fed}
+use Words.{feed_outcome, Rest, Customer, acted_on, Taking, later_by, or_later, take_step}
+use Rattle.std.proofs.Common.{◌≡◌, ◌+◌, ◌<◌, ◌≤◌, ◌∷◌, ◌∙◌}
 use Rattle.njh_bisync.specs.Frames.{Received}
-use Rattle.njh_bisync.specs.Reading.{Rest}
-use Rattle.njh_customer.specs.Customer.{Customer}
-use Rattle.njh_customer.specs.Feeding.{acted_on, Taking, later_by, or_later, take_step}
 
 -- a feed takes no more than there is, and something where there is something
 pub record IsProgress (n len : ℕ) : Type 0 where

@@ -1,36 +1,15 @@
 -- A customer's files stay within its quota of blocks and its limit of files, whatever comes.
-use Rattle.std.proofs.Common.{◌≡◌, ◌≤◌, ℕ, ◌+◌, ◌/◌, Bool, true, false, cond, not, ◌==◌, ◌&&◌, List, [], ◌∷◌, ◌++◌}
-use Rattle.std.proofs.Common.{length, map, filter, Option, Some, None, Result, Ok, Err, refl, sym, ap, ◌∙◌, arith}
-use Rattle.std.proofs.Common.{eqb-true, length-append}
-use Rattle.std.proofs.lemmas.Bool.{leb-true, ltb-true}
-use Rattle.std.proofs.lemmas.List.{length-map}
-use Rattle.std.proofs.lemmas.List.Filters.{length-filter_both}
-use Rattle.std.proofs.lemmas.List.Sums.{sum_by-cons, sum_by_push, length-filter}
-use Rattle.std.proofs.lemmas.Simd.{map-map}
-use Rattle.std.specs.List.{flat_map}
-use Rattle.std.specs.Prelude.{sum_by}
-use Rattle.njh_ebcdic.specs.Names.{is_name}
-use Rattle.njh_record.specs.Stored.{Stored, has_srcb}
-use Rattle.njh_record.specs.declared.Kind.{Kind}
-use Rattle.njh_record.specs.declared.Kind.TheVariants.{In, Out}
-use Rattle.njh_header.proofs.HeadersLaw.{header_law}
-use Rattle.njh_header.specs.FileHeaders.{with_data_set_node, with_data_set_nodes, with_destination, with_job_node}
-use Rattle.njh_header.specs.FileHeaders.{with_node_at}
-use Rattle.njh_header.specs.Headers.{DataSetHeader, JobHeader, data_set_fields, data_set_header, job_fields, job_header}
-use Rattle.njh_header.specs.Sections.{HasGeneral}
-use Rattle.njh_header.specs.declared.fault.HeaderFault.{HeaderFault}
-use Rattle.njh_spool.proofs.CostLaws.{length-with_field}
-use Rattle.njh_spool.specs.CustomerSpool.{CustomerSpool, PartialFile, WholeFile, as_whole, cost, next_number}
-use Rattle.njh_spool.specs.CustomerSpool.{partial_numbered, stored_size, used_blocks, with_appended, with_arrived}
-use Rattle.njh_spool.specs.CustomerSpool.{with_finished, without_partial}
-use Rattle.njh_table.specs.Entries.{CustomerEntry, RouteEntry}
-use Rattle.njh_stream.proofs.ReceivingLaws.{find_counts}
-use Rattle.njh_stream.specs.Sending.{ready}
-use Rattle.njh_command.specs.Commands.{changed_file, may_change, with_new_destination}
-use Rattle.njh_customer.specs.Customer.{Customer, fresh_customer}
-use Rattle.njh_customer.specs.InOrder.{IsWithinQuota}
-use Rattle.njh_customer.specs.NewRoutes.{customer_with_routes}
-use Rattle.njh_customer.specs.code.Coherence.{limits_of}
+use Rattle.njh_customer.proofs.Words
+use Words.{ℕ, Bool, true, false, cond, not, List, [], length, map, filter, Option, Some, None, Result, Ok, Err, refl}
+use Words.{sym, ap, arith, eqb-true, length-append, leb-true, ltb-true, length-map, length-filter_both, sum_by-cons}
+use Words.{sum_by_push, length-filter, map-map, flat_map, sum_by, is_name, Stored, has_srcb, Kind, In, Out, header_law}
+use Words.{with_data_set_node, with_data_set_nodes, with_destination, with_job_node, with_node_at, DataSetHeader}
+use Words.{JobHeader, data_set_fields, data_set_header, job_fields, job_header, HasGeneral, HeaderFault}
+use Words.{length-with_field, CustomerSpool, PartialFile, WholeFile, as_whole, cost, next_number, partial_numbered}
+use Words.{stored_size, used_blocks, with_appended, with_arrived, with_finished, without_partial, CustomerEntry}
+use Words.{RouteEntry, find_counts, ready, changed_file, may_change, with_new_destination, Customer, fresh_customer}
+use Words.{IsWithinQuota, customer_with_routes, limits_of}
+use Rattle.std.proofs.Common.{◌≡◌, ◌≤◌, ◌+◌, ◌/◌, ◌==◌, ◌&&◌, ◌∷◌, ◌++◌, ◌∙◌}
 use Rattle.njh_customer.proofs.FileListLaws.{as_many, changed_where, found_less, same_sum, some_less}
 use Rattle.njh_customer.proofs.Restated.{IsRestated}
 use Rattle.njh_customer.proofs.SpoolWalks.{StaysInFiles, routes_so}

@@ -1,10 +1,7 @@
 -- The customer's files are led on three times.
-use Rattle.std.proofs.Common.{slice_set, ap, ◌∙◌}
-use Rattle.njh_spool.specs.Spools.{spool_at}
-use Rattle.njh_stream.specs.Receiving.{without_all_open}
-use Rattle.njh_stream.specs.Sending.{all_ended, tried_again}
-use Rattle.njh_table.specs.TableFile.{entry_of}
-use Rattle.njh_customer.specs.Alone.{spool_over}
+use Rattle.njh_customer.proofs.Words
+use Words.{slice_set, ap, spool_at, entry_of, without_all_open, all_ended, tried_again, spool_over}
+use Rattle.std.proofs.Common.{◌∙◌}
 use Rattle.njh_customer.proofs.ReadyLaws.{moved_twice}
 use Rattle.njh_customer.proofs.customer_line.CustomerLine.end_session.Goals as goal
 

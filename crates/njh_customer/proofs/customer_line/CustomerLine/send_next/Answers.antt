@@ -1,10 +1,7 @@
 -- Filling leaves the block's function control sequence.
-use Rattle.std.proofs.Common.{ap, ◌∙◌}
-use Rattle.njh_spool.specs.Spools.{spool_at}
-use Rattle.njh_table.specs.TableFile.{customer_at, entry_of}
-use Rattle.njh_stream.specs.Sending.{goes_by}
-use Rattle.njh_sched.specs.NextBlock.{filling}
-use Rattle.njh_customer.specs.Sending.{outlet_of}
+use Rattle.njh_customer.proofs.Words
+use Words.{ap, spool_at, customer_at, entry_of, goes_by, filling, outlet_of}
+use Rattle.std.proofs.Common.{◌∙◌}
 use Rattle.njh_customer.proofs.Restated.{filled_kept}
 use Rattle.njh_customer.proofs.customer_line.CustomerLine.send_next.Goals as goal
 

@@ -1,12 +1,7 @@
-use Rattle.std.proofs.Common.{◌≡◌, ◌<◌, List, [], ◌∷◌, ◌++◌, length, map, take, get_or, ap, sym, ◌∙◌, arith, rules}
-use Rattle.std.proofs.lemmas.List.{map_more, take_all}
-use Rattle.njh_bisync.specs.Reading.{Rest, Nothing}
-use Rattle.njh_table.specs.Entries.{LineEntry}
-use Rattle.njh_table.specs.Marks.{entry_unmarked}
-use Rattle.njh_table.specs.TableFile.{NamedLine, entry_of}
-use Rattle.njh_spool.specs.CustomerSpool.{empty_spool}
-use Rattle.njh_customer.specs.Customer.{CustomerLine, config_of, customer_with, idle_line}
-use Rattle.njh_customer.specs.Part.{Part}
+use Rattle.njh_customer.proofs.Words
+use Words.{List, [], length, map, take, get_or, ap, sym, arith, rules, map_more, take_all, Rest, Nothing, empty_spool}
+use Words.{LineEntry, entry_unmarked, NamedLine, entry_of, CustomerLine, config_of, customer_with, idle_line, Part}
+use Rattle.std.proofs.Common.{◌≡◌, ◌<◌, ◌∷◌, ◌++◌, ◌∙◌}
 use Rattle.njh_customer.proofs.OpenLaws.{rests_of_lines, states_of_lines}
 use Rattle.njh_customer.proofs.lines.Lines.open.Goals as goal
 

@@ -1,10 +1,7 @@
 -- One frame more was taken.
-use Rattle.std.proofs.Common.{◌≡◌, [], ◌∙◌, sym, rules, List, ℕ, ◌+◌, ◌<◌, length, set, ap, arith}
-use Rattle.std.proofs.lemmas.List.{set-set}
-use Rattle.njh_bisync.specs.Reading.{Rest}
-use Rattle.njh_customer.specs.Feeding.{or_later, take_step}
-use Rattle.njh_customer.specs.CustomerSteps.{customer_of}
-use Rattle.njh_customer.specs.Part.{rest_at}
+use Rattle.njh_customer.proofs.Words
+use Words.{[], sym, rules, List, ℕ, length, set, ap, arith, set-set, Rest, customer_of, or_later, take_step, rest_at}
+use Rattle.std.proofs.Common.{◌≡◌, ◌∙◌, ◌+◌, ◌<◌}
 use Rattle.njh_customer.proofs.ReadyLaws.{others_twice, retold_twice}
 use Rattle.njh_customer.proofs.TakingLaws.{takes_on}
 use Rattle.njh_customer.proofs.lines.Lines.take_bytes.Goals as goal

@@ -1,8 +1,6 @@
-use Rattle.std.proofs.Common.{◌≡◌, ◌+◌, ◌<◌, length, set, slice_set}
-use Rattle.njh_spool.specs.Spools.{spool_at}
-use Rattle.njh_customer.specs.Feeding.{take_step, or_later}
-use Rattle.njh_customer.specs.CustomerSteps.{IsReady, KeepsOtherEntries, customer_of}
-use Rattle.njh_customer.specs.Part.{rest_at}
+use Rattle.njh_customer.proofs.Words
+use Words.{length, set, slice_set, spool_at, IsReady, KeepsOtherEntries, customer_of, take_step, or_later, rest_at}
+use Rattle.std.proofs.Common.{◌≡◌, ◌+◌, ◌<◌}
 use Rattle.njh_customer.proofs.lines.Lines.take_bytes.Given as goal
 
 -- what is taken so far, and then the step by what is left, is the step by all

@@ -1,11 +1,8 @@
 -- A line's session and its mark are nothing that ties the customer's parts to each other.
-use Rattle.std.proofs.Common.{refl}
-use Rattle.njh_line.specs.LineTable.{input_value}
-use Rattle.njh_customer.specs.Alone.{accepted_on}
-use Rattle.njh_customer.specs.declared.shared.Shared.{Shared}
-use Rattle.njh_customer.specs.CustomerSteps.{customer_of}
-use Rattle.njh_customer.proofs.StepLaws.{accepted_stays}
+use Rattle.njh_customer.proofs.Words
+use Words.{refl, input_value, accepted_on, customer_of, Shared}
 use Rattle.njh_customer.proofs.ReadyLaws.{accepted_so, known_line, next_brought, still_brings}
+use Rattle.njh_customer.proofs.StepLaws.{accepted_stays}
 use Rattle.njh_customer.proofs.shared.Shared.accept.Goals as goal
 
 -- what all share with the mark

@@ -1,10 +1,7 @@
 -- The stream agrees with its file.
-use Rattle.std.proofs.Common.{ap, sym, subst, ◌∙◌}
-use Rattle.njh_block.specs.Codes.{kind_of}
-use Rattle.njh_spool.specs.Spools.{spool_at}
-use Rattle.njh_stream.specs.code.Agreement.{Agrees}
-use Rattle.njh_customer.specs.Customer.{receiver_at}
-use Rattle.njh_customer.specs.CustomerSteps.{customer_of}
+use Rattle.njh_customer.proofs.Words
+use Words.{ap, sym, subst, kind_of, spool_at, Agrees, receiver_at, customer_of}
+use Rattle.std.proofs.Common.{◌∙◌}
 use Rattle.njh_customer.proofs.CoherenceLaws.{agrees_there}
 use Rattle.njh_customer.proofs.shared.Shared.arrive.Goals as goal
 

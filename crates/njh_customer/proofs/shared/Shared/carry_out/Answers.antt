@@ -1,8 +1,6 @@
 -- Where the session ends, it does so behind what was sent.
-use Rattle.std.proofs.Common.{sym, subst}
-use Rattle.std.proofs.lemmas.List.{length-set}
-use Rattle.njh_customer.specs.Alone.{replied_to, session_over, session_over_where}
-use Rattle.njh_customer.specs.CustomerSteps.{Brings, customer_of}
+use Rattle.njh_customer.proofs.Words
+use Words.{sym, subst, length-set, replied_to, session_over, session_over_where, Brings, customer_of}
 use Rattle.njh_customer.proofs.ReadyLaws.{as_brings, brought_on, is_there, still_there}
 use Rattle.njh_customer.proofs.shared.Shared.carry_out.Goals as goal
 

@@ -1,13 +1,8 @@
 -- What the command leaves of the files, and who is told.
-use Rattle.std.proofs.Common.{◌≡◌, fold, refl, slice_set, ap, sym, ◌∙◌}
-use Rattle.std.proofs.lemmas.List.{get_or-set_same}
-use Rattle.njh_nmr.specs.Nodal.{sender_of}
-use Rattle.njh_spool.specs.Spools.{spool_at, no_spool}
-use Rattle.njh_table.specs.TableFile.{customer_at, entry_of}
-use Rattle.njh_command.specs.Commands.{CommandOutcome, message_outcome, spool_after}
-use Rattle.njh_customer.specs.Acting.{without_sending}
-use Rattle.njh_customer.specs.Customer.{customer_with}
-use Rattle.njh_customer.specs.Waiting.{all_said}
+use Rattle.njh_customer.proofs.Words
+use Words.{fold, refl, slice_set, ap, sym, get_or-set_same, sender_of, spool_at, no_spool, customer_at, entry_of}
+use Words.{CommandOutcome, message_outcome, spool_after, without_sending, customer_with, all_said}
+use Rattle.std.proofs.Common.{◌≡◌, ◌∙◌}
 use Rattle.njh_customer.proofs.shared.Shared.command.Goals as goal
 
 pub returns : goal.returns
