@@ -110,7 +110,8 @@ sent_steps free names commands =
 
 -- ---- all of it
 
--- what is so of the lines that aren't up holds between frames alone, and so has no part in the walk over a frame's steps
+-- what is so of the lines that aren't up holds between frames alone, and so has no part in the walk over a frame's
+-- steps
 in_order : (c : Customer) → IsCoherent c → AreSent c → IsWithinQuota c.spool → AreSetUp c → IdleUnlessUp c.lines
     → IsInOrder c
 in_order c coherent sent within lines idle =

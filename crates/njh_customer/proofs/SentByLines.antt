@@ -1,5 +1,5 @@
--- What a line sends, the end of its session, and new routes leave it so: the files that are being sent are exactly those
--- that a stream is about, each on one stream.
+-- What a line sends, the end of its session, and new routes leave it so: the files that are being sent are exactly
+-- those that a stream is about, each on one stream.
 use Rattle.njh_customer.proofs.Words
 use Words.{ℕ, zero, suc, Bool, true, false, inl, inr, List, [], length, set, get_or, replicate, find, Option, Some}
 use Words.{None, refl, sym, ap, subst, arith, eqb-true, get_or-map, eqb-false, get_or-set_same, get_or-set_other}

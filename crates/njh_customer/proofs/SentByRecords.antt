@@ -43,8 +43,8 @@ same_file n fs f g few at there is one = let both : Some f ≡ Some g =
 
 -- ---- what is so of every move
 
--- No stream is about a file that it wasn't about; a file that one is about is there still, as it was; and a file that is
--- being sent was there as it is, and the stream that was about it is so still.
+-- No stream is about a file that it wasn't about; a file that one is about is there still, as it was; and a file
+-- that is being sent was there as it is, and the stream that was about it is so still.
 pub record Carries (x y : Outgoing) : Type 0 where
   pub lines : length y.streams ≡ length x.streams
   pub streams : (l : ℕ) → length (streams_of l y) ≡ length (streams_of l x)
