@@ -7,5 +7,4 @@ pub mod OpeningLaws
 pub mod ReadingLaws
 pub mod Rows
 pub mod Runs
-pub mod SequenceLaws
 pub mod ReopeningLaws

@@ -2,7 +2,6 @@ pub mod Kept
 pub mod Lists
 pub mod Origin
 pub mod Reopened
-pub mod Sequences
 pub mod Shelf
 pub mod Standing
 pub mod Steps

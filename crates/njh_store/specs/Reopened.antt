@@ -1,11 +1,11 @@
 -- What an open of a spool file finds.
-use Rattle.std.specs.Prelude.{◌≡◌, ◌⊎◌, List}
+use Rattle.std.specs.Prelude.{◌≡◌, ◌⊎◌}
 use Rattle.sqlite.specs.Recovery.{Image}
 use Rattle.sqlite.specs.Tree.{Trees}
 use Rattle.sqlite.specs.Files.{HoldsDatabase, AreFoundIn}
 use Rattle.sqlite_catalog.specs.Listing.{IsSound}
 use Rattle.sqlite.specs.State.{State, HasCleanDisk, IsLive}
-use Rattle.njh_store.specs.Kept.{Spool, Whole, Holds, no_files, kept}
+use Rattle.njh_store.specs.Kept.{Holds, no_files}
 use Rattle.njh_store.specs.Steps.{IsIdle, Stays}
 use Rattle.njh_store.specs.Tables.{no_tables}
 
@@ -27,9 +27,3 @@ pub record BecomesSpool (old new : State) : Type 0 where
   pub idle : HasCleanDisk new → IsIdle new
   pub outcome : HasCleanDisk new
       → Stays old new ⊎ ((old.now.schema ≡ no_tables) × Holds no_files new.now.trees)
-
--- all whole files were read
-pub record IsLoaded (old new : State) (whole : List Whole) : Type 0 where
-  pub clean : HasCleanDisk new → HasCleanDisk old
-  pub stays : HasCleanDisk new → Stays old new
-  pub kept : HasCleanDisk new → (spool : Spool) → Holds spool old.now.trees → whole ≡ kept spool

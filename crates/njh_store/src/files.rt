@@ -1,6 +1,6 @@
 //! A spool file is opened on a disk, and let go of.
 
-ghost use Rattle.std.specs.Prelude.{◌≡◌, false, map, IfOk, IsTrue};
+ghost use Rattle.std.specs.Prelude.{◌≡◌, false, IfOk, IsTrue};
 ghost use Rattle.sqlite.specs.State.{HasCleanDisk, Opens};
 ghost use Rattle.sqlite.specs.Held.{state};
 ghost use Rattle.sqlite.specs.Files.{file_state, HoldsDatabase, IsOpened};
@@ -11,14 +11,13 @@ ghost use Rattle.sqlite_store.specs.FileStore as files;
 ghost use Rattle.sqlite_trees.specs.View.{IsClean};
 ghost use Rattle.sqlite.specs.Recovery.{Image};
 ghost use Rattle.sqlite.specs.Tree.{Trees};
-ghost use Rattle.njh_store.specs.Reopened.{BecomesSpool, IsLoaded, OpensFrom};
+ghost use Rattle.njh_store.specs.Reopened.{BecomesSpool, OpensFrom};
 ghost use Rattle.njh_store.specs.Origin.{IsFoundIn};
-ghost use Rattle.njh_store.specs.Kept.{Spool, Holds, whole_of, kept};
+ghost use Rattle.njh_store.specs.Kept.{Spool, Holds};
 ghost use Rattle.njh_store.specs.Standing.{Stands};
 ghost use Rattle.njh_store.specs.Shelf.{shown};
 ghost use Rattle.njh_store.specs.Steps.{IsIdle};
 
-use crate::kept::WholeFile;
 use crate::opening::{OpenFault, is_live, prepare};
 use crate::store::Store;
 use sqlite::{Alter, Connection, Error, FileFrom, FileStore, Files, Start};
@@ -64,23 +63,6 @@ fn spool_of<S: Alter + Drop>(alloc: Global, conn: Connection<S>) -> Result<Store
     }
 }
 
-/// A spool with all its whole files.
-fn loaded<S: Alter + Drop>(
-    alloc: Global,
-    store: Store<S>,
-) -> Result<(Store<S>, Vec<WholeFile>), OpenFault>
-    ensures { IfOk result (λ r. IsLoaded (shown S.Store store) (shown S.Store r.0) (map whole_of r.1.items)) }
-{
-    let mut store = store;
-    match store.load(alloc) {
-        Ok(whole) => Ok((store, whole)),
-        Err(error) => {
-            drop(store);
-            Err(OpenFault::Database(error))
-        }
-    }
-}
-
 impl<S: Start> Store<FileStore<FileFrom<S>>> {
     /// Opens the spool file at the path, or makes it, with a sum on each page. `Database` says why the file can't be
     /// opened: `CannotOpen`, `DatabaseBusy` where another program has it, `NotADatabase` or `DatabaseCorrupt` where it
@@ -100,24 +82,6 @@ impl<S: Start> Store<FileStore<FileFrom<S>>> {
     {
         let conn = connect(rt, path, start)?;
         spool_of(rt.alloc(), conn)
-    }
-}
-
-impl<S: Start> Store<FileStore<FileFrom<S>>> {
-    /// Opens the spool file and reads all whole files: those that were committed last before the program stopped.
-    pub fn restore(
-        rt: &HostRuntime,
-        path: &str,
-        start: S,
-    ) -> Result<(Store<FileStore<FileFrom<S>>>, Vec<WholeFile>), OpenFault>
-        ensures found { IfOk result (λ r. HasCleanDisk (file_state r.0.conn) → (spool : Spool) (db : Trees)
-            → HoldsDatabase (image_at S.Start) db → Holds spool db → map whole_of r.1.items ≡ kept spool) }
-        ensures stands { IfOk result (λ r. HasCleanDisk (file_state r.0.conn) → (spool : Spool) (db : Trees)
-            → HoldsDatabase (image_at S.Start) db → Holds spool db
-            → Stands (record { now = spool; kept = spool }) (file_state r.0.conn)) }
-    {
-        let store = Store::open(rt, path, start)?;
-        loaded(rt.alloc(), store)
     }
 }
 

@@ -8,7 +8,6 @@ mod making;
 mod opening;
 mod origin;
 mod reads;
-mod sequences;
 mod statements;
 mod store;
 mod tables;
@@ -20,6 +19,5 @@ pub use laws::{
 };
 pub use opening::OpenFault;
 pub use origin::Origin;
-pub use sequences::{Change, Stopped, apply, apply_all};
 pub use statements::only_the_last_commit;
 pub use store::Store;
