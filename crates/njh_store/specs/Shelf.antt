@@ -23,5 +23,5 @@ pub record IsUsable (s : State) : Type 0 where
   pub is_open : IsTrue s.is_open
   pub schema : s.now.schema ≡ spool_schema
 
-abbrev pub IsSafe : {S : Type 0} → Ghosts S → Held S → Bool → Type 0
-IsSafe g conn failed = failed ≡ false → HasCleanDisk (state g conn) → IsUsable (state g conn)
+pub record IsSafe {S : Type 0} (g : Ghosts S) (conn : Held S) (failed : Bool) : Type 0 where
+  pub safe : failed ≡ false → HasCleanDisk (state g conn) → IsUsable (state g conn)
