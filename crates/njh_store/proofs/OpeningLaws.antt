@@ -1,5 +1,5 @@
 -- What an open of a database gives.
-use Rattle.std.proofs.Common.{◌≡◌, inl, inr, sym, ap, subst, ◌∙◌}
+use Rattle.std.proofs.Common.{◌≡◌, IfOk, Ok, Result, inl, inr, sym, ap, subst, ◌∙◌}
 use Rattle.sqlite.specs.Effect.{Database}
 use Rattle.sqlite.specs.State.{State, HasCleanDisk, IsLive, Opens}
 use Rattle.sqlite.specs.Start.{FindsIn}
@@ -11,6 +11,9 @@ use Rattle.njh_store.specs.Reopened.{BecomesSpool, OpensFrom}
 use Rattle.njh_store.specs.Standing.{Stands}
 use Rattle.njh_store.specs.Steps.{IsIdle}
 use Rattle.njh_store.specs.Tables.{spool_schema}
+
+pub at_ok : {T E : Type 0} (P : T → Type 0) (r : Result T E) (x : T) → r ≡ Ok x → IfOk r P → P x
+at_ok P r x is h = subst (λ s. IfOk s P) is h
 
 module _ (image : Image) (was now : State) (opens : HasCleanDisk was → Opens was × IsLive was) (finds : HasCleanDisk was → FindsIn image was) (it : BecomesSpool was now) where
   pub opens_from : HasCleanDisk now → OpensFrom image now.now.trees

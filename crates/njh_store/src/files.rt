@@ -1,12 +1,11 @@
 //! A spool file is opened on a disk, and let go of.
 
 ghost use Rattle.std.specs.Prelude.{◌≡◌, false, IfOk, IsTrue};
-ghost use Rattle.sqlite.specs.State.{HasCleanDisk, Opens};
+ghost use Rattle.sqlite.specs.State.{HasCleanDisk, IsLive, Opens};
 ghost use Rattle.sqlite.specs.Held.{state};
 ghost use Rattle.sqlite.specs.Files.{file_state, HoldsDatabase, IsOpened};
 ghost use Rattle.sqlite.specs.Start.{FindsIn};
-ghost use Rattle.sqlite.specs.WalFiles.{image_at, outcomes};
-ghost use Rattle.sqlite_wal.specs.Reads.{AreClean};
+ghost use Rattle.sqlite.specs.WalFiles.{image_at};
 ghost use Rattle.sqlite_store.specs.FileStore as files;
 ghost use Rattle.sqlite_trees.specs.View.{IsClean};
 ghost use Rattle.sqlite.specs.Recovery.{Image};
@@ -20,7 +19,7 @@ ghost use Rattle.njh_store.specs.Steps.{IsIdle};
 
 use crate::opening::{OpenFault, is_live, prepare};
 use crate::store::Store;
-use sqlite::{Alter, Connection, Error, FileFrom, FileStore, Files, Start};
+use sqlite::{Alter, Connection, Error, FileFrom, FileStore, Start};
 use sqlite_disk::Disk;
 use std::alloc::Global;
 use std::rt::HostRuntime;
@@ -63,6 +62,28 @@ fn spool_of<S: Alter + Drop>(alloc: Global, conn: Connection<S>) -> Result<Store
     }
 }
 
+/// The spool of a database that was opened, where it was. It names no type of a store, since each call that does so and
+/// asks for `Alter` is proved at the price of all that the type's calls promise.
+fn opened<S: Alter + Drop>(
+    alloc: Global,
+    conn: Result<Connection<S>, Error>,
+) -> Result<Store<S>, OpenFault>
+    requires opened { IfOk conn (λ conn. HasCleanDisk (state S.Store conn)
+        → Opens (state S.Store conn) × IsLive (state S.Store conn)) }
+    ensures opened { (image : Image) → IfOk conn (λ conn. HasCleanDisk (state S.Store conn)
+        → FindsIn image (state S.Store conn)) → IfOk result (λ store. HasCleanDisk (shown S.Store store)
+        → OpensFrom image (shown S.Store store).now.trees) }
+    ensures idle { IfOk result (λ store. HasCleanDisk (shown S.Store store) → IsIdle (shown S.Store store)) }
+    ensures stands { (image : Image) → IfOk conn (λ conn. HasCleanDisk (state S.Store conn)
+        → FindsIn image (state S.Store conn)) → IfOk result (λ store. HasCleanDisk (shown S.Store store)
+        → (spool : Spool) → IsFoundIn image spool
+        → Stands (record { now = spool; kept = spool }) (shown S.Store store)) }
+    ensures works { IfOk result (λ store. store.failed ≡ false) }
+{
+    let conn = conn?;
+    spool_of(alloc, conn)
+}
+
 impl<S: Start> Store<FileStore<FileFrom<S>>> {
     /// Opens the spool file at the path, or makes it, with a sum on each page. `Database` says why the file can't be
     /// opened: `CannotOpen`, `DatabaseBusy` where another program has it, `NotADatabase` or `DatabaseCorrupt` where it
@@ -80,8 +101,7 @@ impl<S: Start> Store<FileStore<FileFrom<S>>> {
             → Stands (record { now = spool; kept = spool }) (file_state store.conn)) }
         ensures works { IfOk result (λ store. store.failed ≡ false) }
     {
-        let conn = connect(rt, path, start)?;
-        spool_of(rt.alloc(), conn)
+        opened(rt.alloc(), connect(rt, path, start))
     }
 }
 
@@ -102,15 +122,5 @@ impl<D: Disk + Drop> Store<FileStore<D>> {
             → Holds spool now }
     {
         self.into_left()
-    }
-
-    /// Leaves the last commit in the database file, and gives the files back. What waited is gone.
-    pub fn close(self) -> Result<Files<D>, (Error, FileStore<D>)>
-        ensures { IfOk result (λ files. AreClean D.Disk files.log files.db → (spool : Spool)
-            → Holds spool (file_state self.conn).committed.trees
-            → (left : Image) → outcomes D.Disk files.log files.db left → (now : Trees) → OpensFrom left now
-            → Holds spool now) }
-    {
-        self.into_conn().close_files()
     }
 }

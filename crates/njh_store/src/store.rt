@@ -3,6 +3,12 @@
 ghost use Rattle.std.specs.Prelude.{◌≡◌, ◌<◌, ◌≤◌, ◌^◌, true, false, map, IfOk, IsTrue, OnOk, OnErr};
 ghost use Rattle.sqlite.specs.State.{HasCleanDisk, Survives};
 ghost use Rattle.sqlite.specs.Held.{state};
+ghost use Rattle.sqlite.specs.Files.{file_state};
+ghost use Rattle.sqlite.specs.WalFiles.{outcomes};
+ghost use Rattle.sqlite.specs.Recovery.{Image};
+ghost use Rattle.sqlite.specs.Tree.{Trees};
+ghost use Rattle.sqlite_wal.specs.Reads.{AreClean};
+ghost use Rattle.njh_store.specs.Reopened.{OpensFrom};
 ghost use Rattle.sqlite_trees.specs.View.{IsClean};
 ghost use Rattle.njh_store.specs.Kept.{Spool, Holds, file_of, record_of, with_file, with_changed, with_record};
 ghost use Rattle.njh_store.specs.Kept.{without_file, without_records, whole_of, kept, entry_of, contents, contents_of};
@@ -12,7 +18,8 @@ ghost use Rattle.njh_store.specs.Steps.{Begins, Changes, Commits, Stays};
 
 use crate::kept::{KeptFile, KeptRecord, StoredFile, StoredRecord, WholeFile};
 use crate::{reads, statements};
-use sqlite::{Alter, Connection, Error, ErrorCode};
+use sqlite::{Alter, Connection, Error, ErrorCode, FileStore, Files};
+use sqlite_disk::Disk;
 use std::alloc::Global;
 use std::marker::Model;
 
@@ -48,6 +55,19 @@ impl<S: Alter + Drop> Store<S> {
         ensures { IsClean (S.Store.view result) → IsTrue (S.Store.view self.conn.store).is_numbered }
     {
         self.into_conn().into_store()
+    }
+}
+
+impl<D: Disk + Drop> Store<FileStore<D>> {
+    /// Leaves the last commit in the database file, and gives the files back. What waited is gone.
+    pub fn close(self) -> Result<Files<D>, (Error, FileStore<D>)>
+        ensures { IfOk result (λ files. AreClean D.Disk files.log files.db → (spool : Spool)
+            → Holds spool (file_state self.conn).committed.trees
+            → (left : Image) → outcomes D.Disk files.log files.db left → (now : Trees) → OpensFrom left now
+            → Holds spool now) }
+    {
+        let Store { conn, failed: _ } = self;
+        conn.close_files()
     }
 }
 
