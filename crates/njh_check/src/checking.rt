@@ -1,12 +1,15 @@
 //! Checks a table file and tells what it says.
 
-ghost use Rattle.std.specs.Prelude.{◌≡◌, ◌≤◌, ◌++◌, ◌∷◌, [], ℕ, List, Option, IfErr, IfOk, Err, length, option_map};
+ghost use Rattle.std.specs.Prelude.{◌≡◌, ◌≢◌, ◌≤◌, ◌++◌, ◌∷◌, [], ℕ, List, Option, IfErr, IfOk, OnOk, None, Err, length};
+ghost use Rattle.std.specs.Prelude.{MatchOption, option_map};
 ghost use Rattle.std.specs.Prelude.{string_bytes};
 ghost use Rattle.std.specs.Io.KnownBytes.{Appends};
 ghost use Rattle.njh_io.specs.Written.{AppendsBeginning};
 ghost use Rattle.njh_table.specs.declared.places.PlacedFault.{PlacedFault};
+ghost use Rattle.njh_table.specs.Walk.{walk_of};
 ghost use Rattle.njh_check.specs.Checks.{Tells, TellsFault};
 ghost use Rattle.njh_check.specs.FaultTexts.{IsFaultText, line_at, line_ends};
+ghost use Rattle.njh_check.specs.Reports.{report_of};
 
 use crate::fault::CheckFault;
 use crate::line::{fault_words, toml_words};
@@ -48,16 +51,39 @@ fn told_of(alloc: Global, text: &str, placed: PlacedFault) -> Result<String, Che
     }
 }
 
+/// A fault of a table file's contents; want of memory is none.
+fn fault_of_file(placed: PlacedFault) -> Result<PlacedFault, CheckFault>
+    ensures same { IfOk result (λ found. found ≡ placed) }
+    ensures file { OnOk result (placed.fault ≢ TableFault.Memory) }
+    ensures memory { IfErr result (λ fault. fault ≡ CheckFault.Memory) }
+{
+    match placed.fault {
+        TableFault::Memory => Err(CheckFault::Memory),
+        _ => Ok(placed),
+    }
+}
+
+/// The first fault of a table file; none where the tables are right.
+fn first_fault(alloc: Global, text: &str) -> Result<Option<PlacedFault>, CheckFault>
+    ensures first { IfOk result (λ found. MatchOption found (IfErr (walk_of text.now) (λ _. ⊥))
+        (λ placed. walk_of text.now ≡ Err placed)) }
+    ensures memory { IfErr result (λ fault. fault ≡ CheckFault.Memory) }
+{
+    match Tables::check(alloc, text) {
+        Ok(_) => Ok(None),
+        Err(placed) => Ok(Some(fault_of_file(placed)?)),
+    }
+}
+
 /// The text of the first fault of a table file, in one line of ASCII without its end; none where the tables are right.
 /// Want of memory is the only refusal. It reads a file with a fault twice.
 pub fn fault_text(alloc: Global, text: &str) -> Result<Option<String>, CheckFault>
     ensures told { IfOk result (λ found. TellsFault text.now (option_map string_bytes found)) }
     ensures memory { IfErr result (λ fault. fault ≡ CheckFault.Memory) }
 {
-    match Tables::check(alloc, text) {
-        Ok(_) => Ok(None),
-        Err(placed) if placed.fault == TableFault::Memory => Err(CheckFault::Memory),
-        Err(placed) => Ok(Some(told_of(alloc, text, placed)?)),
+    match first_fault(alloc, text)? {
+        None => Ok(None),
+        Some(placed) => Ok(Some(told_of(alloc, text, placed)?)),
     }
 }
 
@@ -79,10 +105,34 @@ fn outcome(alloc: Global, text: &str) -> Result<(Option<PlacedFault>, Vec<u8>), 
     ensures memory { IfErr result (λ fault. fault ≡ CheckFault.Memory) }
 {
     match Tables::check(alloc, text) {
-        Ok(tables) => Ok((None, report_of(alloc, &tables)?)),
-        Err(placed) if placed.fault == TableFault::Memory => Err(CheckFault::Memory),
-        Err(placed) => Ok((Some(placed), fault_line(alloc, text, placed)?)),
+        Ok(tables) => report_outcome(alloc, &tables),
+        Err(placed) => fault_outcome(alloc, text, placed),
     }
+}
+
+/// That of tables that are right.
+fn report_outcome(
+    alloc: Global,
+    tables: &Tables,
+) -> Result<(Option<PlacedFault>, Vec<u8>), CheckFault>
+    ensures told { IfOk result (λ outcome. (outcome.0 ≡ None) × (outcome.1.items ≡ report_of tables.now)) }
+    ensures memory { IfErr result (λ fault. fault ≡ CheckFault.Memory) }
+{
+    Ok((None, report_of(alloc, tables)?))
+}
+
+/// That of a table file with a fault.
+fn fault_outcome(
+    alloc: Global,
+    text: &str,
+    placed: PlacedFault,
+) -> Result<(Option<PlacedFault>, Vec<u8>), CheckFault>
+    requires { placed.fault ≢ TableFault.Memory → walk_of text.now ≡ Err placed }
+    ensures told { IfOk result (λ outcome. Tells text.now outcome.0 outcome.1.items) }
+    ensures memory { IfErr result (λ fault. fault ≡ CheckFault.Memory) }
+{
+    let found = fault_of_file(placed)?;
+    Ok((Some(found), fault_line(alloc, text, found)?))
 }
 
 /// Checks a table file, and writes the report of its tables, or the line of its first fault. Answers that fault, or

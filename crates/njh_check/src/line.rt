@@ -4,6 +4,7 @@ ghost use Rattle.std.specs.Prelude.{◌≡◌, ◌++◌, IfOk, codes, option_map
 ghost use Rattle.toml.specs.View.{table_view};
 ghost use Rattle.njh_check.specs.FaultTexts.{customer_words, fault_name, fault_words, key_words, part_words, text_at};
 ghost use Rattle.njh_check.specs.FaultTexts.{toml_words};
+ghost use Rattle.njh_check.specs.Words.{◌+++◌};
 
 use crate::elements::value_at;
 use crate::reasons::reason_words;
@@ -55,16 +56,28 @@ fn part_words(alloc: Global, document: &Table, part: Part) -> Result<String, All
         Part::File => String::from_str(alloc, "the file"),
         Part::Customer(customer) => customer_words(alloc, document, customer),
         Part::Line(customer, line) => {
-            let customer = customer_words(alloc, document, customer)?;
             let line = numbered(alloc, "line", line, text_at(document, part, Key::Name))?;
-            format!(in alloc; "{customer}, {line}")
+            with_customer(alloc, document, customer, line.as_str())
         }
         Part::Route(customer, route) => {
-            let customer = customer_words(alloc, document, customer)?;
             let route = numbered(alloc, "route", route, text_at(document, part, Key::Node))?;
-            format!(in alloc; "{customer}, {route}")
+            with_customer(alloc, document, customer, route.as_str())
         }
     }
+}
+
+/// A part of a customer, behind the customer.
+fn with_customer(
+    alloc: Global,
+    document: &Table,
+    customer: usize,
+    words: &str,
+) -> Result<String, AllocError>
+    ensures { IfOk result (λ told. string_bytes told
+        ≡ customer_words customer (table_view document.now) +++ codes ", " +++ words.now) }
+{
+    let customer = customer_words(alloc, document, customer)?;
+    format!(in alloc; "{customer}, {words}")
 }
 
 /// The key; one that is missing is told with the reason.

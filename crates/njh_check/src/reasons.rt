@@ -1,13 +1,13 @@
 //! What is wrong at a place of a table file.
 
-ghost use Rattle.std.specs.Prelude.{◌≡◌, ◌++◌, IfOk, option_map, string_bytes};
+ghost use Rattle.std.specs.Prelude.{◌≡◌, ◌++◌, IfOk, codes, option_map, string_bytes};
 ghost use Rattle.toml.specs.View.{items_view, table_view, view};
 ghost use Rattle.njh_table.specs.Keys.{number};
 ghost use Rattle.njh_table.specs.Limits.{max_quota};
 ghost use Rattle.njh_check.specs.Reasons.{bad_value_words, is_name_again, is_name_value, line_words, missing_words};
 ghost use Rattle.njh_check.specs.Reasons.{most_words, name_words, over_words, quota_in, quotas_in, quotas_of};
 ghost use Rattle.njh_check.specs.Reasons.{reason_words, wanted_words};
-ghost use Rattle.njh_check.specs.Words.{found_words};
+ghost use Rattle.njh_check.specs.Words.{◌+++◌, found_words};
 
 use crate::elements::find;
 use crate::words::found_words;
@@ -116,14 +116,21 @@ fn bad_value_words(
     ensures { IfOk result (λ words. string_bytes words
         ≡ bad_value_words part key (option_map (λ v. view v.now) value.entry)) }
 {
-    let found = found_words(alloc, value)?;
     let Some(key) = key else {
-        return format!(in alloc; "{found} isn't a table");
+        return told_of(alloc, value, " isn't a table");
     };
     if is_name_again(part, key, value) {
-        return format!(in alloc; "{found} is an earlier customer's name");
+        return told_of(alloc, value, " is an earlier customer's name");
     }
-    let wanted = wanted_words(part, key);
+    unwanted_words(alloc, value, wanted_words(part, key))
+}
+
+/// A value, and what is wanted in its place.
+fn unwanted_words(alloc: Global, value: Option<&Value>, wanted: &str) -> Result<String, AllocError>
+    ensures { IfOk result (λ words. string_bytes words
+        ≡ found_words (option_map (λ v. view v.now) value.entry) +++ codes " isn't " +++ wanted.now) }
+{
+    let found = found_words(alloc, value)?;
     format!(in alloc; "{found} isn't {wanted}")
 }
 
@@ -205,6 +212,19 @@ fn told_of(alloc: Global, value: Option<&Value>, how: &str) -> Result<String, Al
     format!(in alloc; "{found}{how}")
 }
 
+/// A capacity, and the sum of the quotas that it is less than.
+fn quota_over_words(
+    alloc: Global,
+    document: &Table,
+    value: Option<&Value>,
+) -> Result<String, AllocError>
+    ensures { IfOk result (λ words. string_bytes words
+        ≡ found_words (option_map (λ v. view v.now) value.entry) ++ over_words (quotas_in (table_view document.now))) }
+{
+    let over = over_words(alloc, quotas_in(document))?;
+    told_of(alloc, value, over.as_str())
+}
+
 /// What is wrong, by the fault, its place and what stands there.
 #[tactic(auto, unfolding(crate::specs::Reasons::reason_words))]
 pub(crate) fn reason_words(
@@ -229,10 +249,7 @@ pub(crate) fn reason_words(
             )
         }
         TableFault::UnknownLine => told_of(alloc, value, " is no line of this customer"),
-        TableFault::QuotaOver => {
-            let over = over_words(alloc, quotas_in(document))?;
-            told_of(alloc, value, over.as_str())
-        }
+        TableFault::QuotaOver => quota_over_words(alloc, document, value),
         TableFault::TooMany => String::from_str(alloc, most_words(placed.part)),
         TableFault::Memory => String::from_str(alloc, "memory was refused"),
     }
