@@ -1,8 +1,9 @@
 //! The arguments of the command line.
 
 ghost use Rattle.std.specs.Prelude.{◌≡◌, ◌≢◌, [], ◌∷◌, false, map, codes, IfOk, IfErr, OnOk};
-ghost use Rattle.clap.specs.Words.{app_of, fault_of, found_of, kind_of, rows_of, subcommand_of, subcommand_rows_of};
-ghost use Rattle.clap.specs.Words.{HasKind};
+ghost use Rattle.clap.specs.Words.{App, app_of, fault_of, found_of, kind_of, rows_of, subcommand_of, subcommand_rows_of};
+ghost use Rattle.clap.specs.Words.{HasKind, with_subcommand};
+ghost use Rattle.clap.specs.declared.builder.command.Command.TheViews.{out-Command};
 ghost use Rattle.njh_arguments.specs.Arguments.{AreRefusedBy, Asks, AsksFor, AsksIn, IsRefusalOf, IsUnasked, IsUnaskedBy};
 ghost use Rattle.njh_arguments.specs.Arguments.{bare_app, checking_app, decoding_app, encoding_app, program_app, replaying_app, serving_app};
 
@@ -120,7 +121,17 @@ fn request_by<'a, S: AsStr>(
 pub fn not_utf8(alloc: Global) -> Result<Error, AllocError>
     ensures { IfOk result (λ error. kind_of error ≡ ErrorKind.InvalidValue) }
 {
-    program_command(alloc)?.error(ErrorKind::InvalidValue, "an argument is not UTF-8")
+    let mut program = program_command(alloc)?;
+    let refusal = not_utf8_by(&mut program);
+    drop(program);
+    refusal
+}
+
+/// The program's refusal of arguments that are no UTF-8.
+fn not_utf8_by(program: &mut Command<'_>) -> Result<Error, AllocError>
+    ensures { IfOk result (λ error. kind_of error ≡ ErrorKind.InvalidValue) }
+{
+    program.error(ErrorKind::InvalidValue, "an argument is not UTF-8")
 }
 
 /// What `clap` reads in the arguments.
@@ -196,52 +207,73 @@ fn no_address(alloc: Global, program: &mut Command<'_>, text: &str) -> Result<Er
 fn program_command<'a>(alloc: Global) -> Result<Command<'a>, AllocError>
     ensures { IfOk result (λ command. app_of command ≡ program_app) }
 {
-    let files = files_command(alloc)?;
-    let program = checking_command(alloc)?;
-    program.subcommand(files)
+    with_subcommand(checking_command(alloc), files_command(alloc))
 }
 
 /// The program and its first five subcommands.
 fn checking_command<'a>(alloc: Global) -> Result<Command<'a>, AllocError>
     ensures { IfOk result (λ command. app_of command ≡ checking_app) }
 {
-    let check = check_command(alloc)?;
-    let program = encoding_command(alloc)?;
-    program.subcommand(check)
+    with_subcommand(encoding_command(alloc), check_command(alloc))
 }
 
 /// The program and its first four subcommands.
 fn encoding_command<'a>(alloc: Global) -> Result<Command<'a>, AllocError>
     ensures { IfOk result (λ command. app_of command ≡ encoding_app) }
 {
-    let program = decoding_command(alloc)?;
-    program.subcommand(encode_command(alloc))
+    with_subcommand(decoding_command(alloc), Ok(encode_command(alloc)))
 }
 
 /// The program and its first three subcommands.
 fn decoding_command<'a>(alloc: Global) -> Result<Command<'a>, AllocError>
     ensures { IfOk result (λ command. app_of command ≡ decoding_app) }
 {
-    let decode = decode_command(alloc)?;
-    let program = serving_command(alloc)?;
-    program.subcommand(decode)
+    with_subcommand(serving_command(alloc), decode_command(alloc))
 }
 
 /// The program and its first two subcommands.
 fn serving_command<'a>(alloc: Global) -> Result<Command<'a>, AllocError>
     ensures { IfOk result (λ command. app_of command ≡ serving_app) }
 {
-    let serve = serve_command(alloc)?;
-    let program = replaying_command(alloc)?;
-    program.subcommand(serve)
+    with_subcommand(replaying_command(alloc), serve_command(alloc))
 }
 
 /// The program and its first subcommand.
 fn replaying_command<'a>(alloc: Global) -> Result<Command<'a>, AllocError>
     ensures { IfOk result (λ command. app_of command ≡ replaying_app) }
 {
-    let replay = replay_command(alloc)?;
-    bare_command(alloc).subcommand(replay)
+    with_subcommand(Ok(bare_command(alloc)), replay_command(alloc))
+}
+
+/// The program with one more subcommand, unless memory was refused for either.
+fn with_subcommand<'a>(
+    program: Result<Command<'a>, AllocError>,
+    subcommand: Result<Command<'a>, AllocError>,
+) -> Result<Command<'a>, AllocError>
+    ensures { (app sub : App) → IfOk program.entry (λ c. app_of c ≡ app)
+        → IfOk subcommand.entry (λ c. app_of c ≡ sub)
+        → IfOk subcommand.entry (λ c. (out-Command c).has_globals ≡ false)
+        → IfOk result (λ c. app_of c ≡ with_subcommand app sub.top) }
+{
+    match subcommand {
+        Ok(subcommand) => with_whole(program, subcommand),
+        Err(refused) => Err(refused),
+    }
+}
+
+/// The program with one more subcommand, unless memory was refused for the program.
+fn with_whole<'a>(
+    program: Result<Command<'a>, AllocError>,
+    subcommand: Command<'a>,
+) -> Result<Command<'a>, AllocError>
+    ensures { (app sub : App) → IfOk program.entry (λ c. app_of c ≡ app) → app_of subcommand.entry ≡ sub
+        → (out-Command subcommand.entry).has_globals ≡ false
+        → IfOk result (λ c. app_of c ≡ with_subcommand app sub.top) }
+{
+    match program {
+        Ok(program) => program.subcommand(subcommand),
+        Err(refused) => Err(refused),
+    }
 }
 
 /// The program without its subcommands, one of which is to be named.

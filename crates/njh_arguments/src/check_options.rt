@@ -6,7 +6,7 @@ ghost use Rattle.clap.specs.declared.builder.command.Command.TheViews.{out-Comma
 ghost use Rattle.njh_arguments.specs.Arguments.{AsksFor, IsUnasked, check_app, script_rule};
 
 use crate::arguments::{Request, Task};
-use crate::options::tables_option;
+use crate::options::{tables_option, with_option};
 use crate::serve_options::Unasked;
 use clap::{Arg, ArgAction, ArgMatches, Command};
 use std::alloc::{AllocError, Global};
@@ -55,9 +55,9 @@ pub(crate) fn check_command<'a>(alloc: Global) -> Result<Command<'a>, AllocError
     ensures app { IfOk result (λ command. app_of command ≡ check_app) }
     ensures local { IfOk result (λ command. (out-Command command).has_globals ≡ false) }
 {
-    bare_check(alloc)
-        .arg(tables_option(alloc))?
-        .arg(script_option(alloc))
+    let bare = Ok(bare_check(alloc));
+    let checking = with_option(bare, tables_option(alloc));
+    with_option(checking, script_option(alloc))
 }
 
 /// `check` without its options.

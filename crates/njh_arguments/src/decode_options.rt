@@ -6,7 +6,7 @@ ghost use Rattle.clap.specs.declared.builder.command.Command.TheViews.{out-Comma
 ghost use Rattle.njh_arguments.specs.Arguments.{AsksFor, decode_app};
 
 use crate::arguments::{Request, Task};
-use crate::options::{flag, is_set};
+use crate::options::{flag, is_set, with_option};
 use clap::{ArgMatches, Command};
 use std::alloc::{AllocError, Global};
 
@@ -36,7 +36,7 @@ pub(crate) fn decode_command<'a>(alloc: Global) -> Result<Command<'a>, AllocErro
         "hex",
         "Prints each line of bytes as it stands before its words, and the bytes of compressed records beside them",
     );
-    bare_decode(alloc).arg(hex)
+    with_option(Ok(bare_decode(alloc)), hex)
 }
 
 /// `decode` without its option.

@@ -7,7 +7,7 @@ ghost use Rattle.njh_arguments.specs.Arguments.{AsksFor, CountsTurns, IsUnasked,
 ghost use Rattle.njh_arguments.specs.Arguments.{exporting_app, listing_app, number_rule};
 
 use crate::arguments::Request;
-use crate::options::{flag, is_set, spool_option};
+use crate::options::{flag, is_set, spool_option, with_option};
 use crate::serve_options::Unasked;
 use clap::builder::ValueParser;
 use clap::{Arg, ArgAction, ArgMatches, Command};
@@ -59,13 +59,12 @@ pub(crate) fn files_command<'a>(alloc: Global) -> Result<Command<'a>, AllocError
     ensures app { IfOk result (λ command. app_of command ≡ files_app) }
     ensures local { IfOk result (λ command. (out-Command command).has_globals ≡ false) }
 {
-    let exporting = exporting_command(alloc)?;
     let raw = flag(
         alloc,
         "raw",
         "With --export: the bytes of all records, one after the other",
     );
-    exporting.arg(raw)
+    with_option(exporting_command(alloc), raw)
 }
 
 /// `files`, with its spool file, its customer, and a file's name and number.
@@ -73,8 +72,8 @@ fn exporting_command<'a>(alloc: Global) -> Result<Command<'a>, AllocError>
     ensures app { IfOk result (λ command. app_of command ≡ exporting_app) }
     ensures local { IfOk result (λ command. (out-Command command).has_globals ≡ false) }
 {
-    let listing = listing_command(alloc)?;
-    listing.arg(export_option(alloc))?.arg(number_option(alloc))
+    let exporting = with_option(listing_command(alloc), export_option(alloc));
+    with_option(exporting, number_option(alloc))
 }
 
 /// `files`, with its spool file and its customer.
@@ -83,7 +82,8 @@ fn listing_command<'a>(alloc: Global) -> Result<Command<'a>, AllocError>
     ensures local { IfOk result (λ command. (out-Command command).has_globals ≡ false) }
 {
     let spool = spool_option(alloc, "The spool file").required(true);
-    bare_files(alloc).arg(spool)?.arg(customer_option(alloc))
+    let listing = with_option(Ok(bare_files(alloc)), spool);
+    with_option(listing, customer_option(alloc))
 }
 
 /// `files` without its options.

@@ -1,11 +1,29 @@
 //! Options that several subcommands have.
 
-ghost use Rattle.std.specs.Prelude.{◌≡◌, false};
-ghost use Rattle.clap.specs.Words.{found_of, rows_of, rule_of};
+ghost use Rattle.std.specs.Prelude.{◌≡◌, false, IfOk};
+ghost use Rattle.clap.specs.Words.{App, Rule, app_of, found_of, rows_of, rule_of, with_rule};
+ghost use Rattle.clap.specs.declared.builder.command.Command.TheViews.{out-Command};
 ghost use Rattle.njh_arguments.specs.Arguments.{IsFlag, flag_rule, spool_rule, tables_rule};
 
-use clap::{Arg, ArgAction, ArgMatches};
-use std::alloc::Global;
+use clap::{Arg, ArgAction, ArgMatches, Command};
+use std::alloc::{AllocError, Global};
+
+/// A subcommand with one more option, unless memory was refused for it.
+pub(crate) fn with_option<'a>(
+    command: Result<Command<'a>, AllocError>,
+    option: Arg<'a>,
+) -> Result<Command<'a>, AllocError>
+    requires { option.global ≡ false }
+    ensures app { (app : App) (rule : Rule) → IfOk command.entry (λ c. app_of c ≡ app)
+        → rule_of option.entry ≡ rule → IfOk result (λ c. app_of c ≡ with_rule app rule) }
+    ensures local { IfOk command.entry (λ c. (out-Command c).has_globals ≡ false)
+        → IfOk result (λ c. (out-Command c).has_globals ≡ false) }
+{
+    match command {
+        Ok(command) => command.arg(option),
+        Err(refused) => Err(refused),
+    }
+}
 
 /// `--tables F`.
 pub(crate) fn tables_option<'a>(alloc: Global) -> Arg<'a>

@@ -6,7 +6,7 @@ ghost use Rattle.clap.specs.declared.builder.command.Command.TheViews.{out-Comma
 ghost use Rattle.njh_arguments.specs.Arguments.{AsksFor, replay_app};
 
 use crate::arguments::{Request, Task};
-use crate::options::{flag, is_set, tables_option};
+use crate::options::{flag, is_set, tables_option, with_option};
 use clap::{ArgMatches, Command};
 use std::alloc::{AllocError, Global};
 
@@ -39,7 +39,9 @@ pub(crate) fn replay_command<'a>(alloc: Global) -> Result<Command<'a>, AllocErro
         "decode",
         "Prints each frame in words, as decode does, when the run is over",
     );
-    bare_replay(alloc).arg(tables_option(alloc))?.arg(in_words)
+    let bare = Ok(bare_replay(alloc));
+    let replaying = with_option(bare, tables_option(alloc));
+    with_option(replaying, in_words)
 }
 
 /// `replay` without its options.

@@ -7,7 +7,7 @@ ghost use Rattle.njh_arguments.specs.Arguments.{AsksFor, CountsTurns, IsUnasked,
 ghost use Rattle.njh_arguments.specs.Arguments.{listen_rule, listening_app, serve_app, turns_rule};
 
 use crate::arguments::Request;
-use crate::options::{flag, is_set, spool_option, tables_option};
+use crate::options::{flag, is_set, spool_option, tables_option, with_option};
 use clap::builder::ValueParser;
 use clap::{Arg, ArgAction, ArgMatches, Command};
 use std::alloc::{AllocError, Global};
@@ -84,12 +84,11 @@ pub(crate) fn serve_command<'a>(alloc: Global) -> Result<Command<'a>, AllocError
     ensures app { IfOk result (λ command. app_of command ≡ serve_app) }
     ensures local { IfOk result (λ command. (out-Command command).has_globals ≡ false) }
 {
-    let listening = listening_command(alloc)?;
     let spool = spool_option(
         alloc,
         "Keeps whole files in this file, and opens the hub with those that are there",
     );
-    listening.arg(spool)
+    with_option(listening_command(alloc), spool)
 }
 
 /// `serve`, with its tables, turns, address and quiet.
@@ -97,10 +96,8 @@ fn listening_command<'a>(alloc: Global) -> Result<Command<'a>, AllocError>
     ensures app { IfOk result (λ command. app_of command ≡ listening_app) }
     ensures local { IfOk result (λ command. (out-Command command).has_globals ≡ false) }
 {
-    let bounded = bounded_command(alloc)?;
-    bounded
-        .arg(listen_option(alloc))?
-        .arg(flag(alloc, "quiet", "No log on standard error"))
+    let listening = with_option(bounded_command(alloc), listen_option(alloc));
+    with_option(listening, flag(alloc, "quiet", "No log on standard error"))
 }
 
 /// `serve`, with its tables and turns.
@@ -109,7 +106,8 @@ fn bounded_command<'a>(alloc: Global) -> Result<Command<'a>, AllocError>
     ensures local { IfOk result (λ command. (out-Command command).has_globals ≡ false) }
 {
     let tables = tables_option(alloc).required(true);
-    bare_serve(alloc).arg(tables)?.arg(turns_option(alloc))
+    let bounded = with_option(Ok(bare_serve(alloc)), tables);
+    with_option(bounded, turns_option(alloc))
 }
 
 /// `serve` without its options.

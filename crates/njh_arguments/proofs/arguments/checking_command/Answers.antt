@@ -1,12 +1,6 @@
-use Rattle.std.proofs.Common.{◌∙◌, ap, ap₂}
-use Rattle.std.proofs.lemmas.Result.{IfOk-weaker}
-use Rattle.clap.specs.Words.{App, with_subcommand}
+use Rattle.njh_arguments.specs.Arguments.{check_app, encoding_app}
 use Rattle.njh_arguments.proofs.arguments.checking_command.Goals as goal
 
 pub returns : goal.returns
 returns c =
-    let check_is = c.in_ok-check.ensures.app in
-    IfOk-weaker c.subcommand.result _ _
-    (λ command added. added.shape c.in_ok-check.ensures.local
-    ∙ ap₂ with_subcommand c.in_ok-program.ensures (ap (λ (a : App). a.top) check_is))
-    c.subcommand.ensures
+    c.with_subcommand.ensures encoding_app check_app c.encoding_command.ensures c.check_command.ensures.app c.check_command.ensures.local

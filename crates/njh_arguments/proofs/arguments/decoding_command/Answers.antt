@@ -1,12 +1,6 @@
-use Rattle.std.proofs.Common.{◌∙◌, ap, ap₂}
-use Rattle.std.proofs.lemmas.Result.{IfOk-weaker}
-use Rattle.clap.specs.Words.{App, with_subcommand}
+use Rattle.njh_arguments.specs.Arguments.{decode_app, serving_app}
 use Rattle.njh_arguments.proofs.arguments.decoding_command.Goals as goal
 
 pub returns : goal.returns
 returns c =
-    let decode_is = c.in_ok-decode.ensures.app in
-    IfOk-weaker c.subcommand.result _ _
-    (λ command added. added.shape c.in_ok-decode.ensures.local
-    ∙ ap₂ with_subcommand c.in_ok-program.ensures (ap (λ (a : App). a.top) decode_is))
-    c.subcommand.ensures
+    c.with_subcommand.ensures serving_app decode_app c.serving_command.ensures c.decode_command.ensures.app c.decode_command.ensures.local

@@ -1,12 +1,6 @@
-use Rattle.std.proofs.Common.{◌∙◌, ap, ap₂}
-use Rattle.std.proofs.lemmas.Result.{IfOk-weaker}
-use Rattle.clap.specs.Words.{App, with_subcommand}
+use Rattle.njh_arguments.specs.Arguments.{checking_app, files_app}
 use Rattle.njh_arguments.proofs.arguments.program_command.Goals as goal
 
 pub returns : goal.returns
 returns c =
-    let files_is = c.in_ok-files.ensures.app in
-    IfOk-weaker c.subcommand.result _ _
-    (λ command added. added.shape c.in_ok-files.ensures.local
-    ∙ ap₂ with_subcommand c.in_ok-program.ensures (ap (λ (a : App). a.top) files_is))
-    c.subcommand.ensures
+    c.with_subcommand.ensures checking_app files_app c.checking_command.ensures c.files_command.ensures.app c.files_command.ensures.local

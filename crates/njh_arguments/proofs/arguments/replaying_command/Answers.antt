@@ -1,12 +1,7 @@
-use Rattle.std.proofs.Common.{◌∙◌, ap, ap₂}
-use Rattle.std.proofs.lemmas.Result.{IfOk-weaker}
-use Rattle.clap.specs.Words.{App, with_subcommand}
+use Rattle.njh_arguments.specs.Arguments.{bare_app, replay_app}
 use Rattle.njh_arguments.proofs.arguments.replaying_command.Goals as goal
 
 pub returns : goal.returns
 returns c =
-    let replay_is = c.in_ok-replay.ensures.app in
-    IfOk-weaker c.subcommand.result _ _
-    (λ command added. added.shape c.in_ok-replay.ensures.local
-    ∙ ap₂ with_subcommand c.bare_command.ensures (ap (λ (a : App). a.top) replay_is))
-    c.subcommand.ensures
+    c.with_subcommand.ensures bare_app replay_app c.bare_command.ensures c.replay_command.ensures.app
+    c.replay_command.ensures.local
