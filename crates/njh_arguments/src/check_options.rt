@@ -6,9 +6,9 @@ ghost use Rattle.clap.specs.declared.builder.command.Command.TheViews.{out-Comma
 ghost use Rattle.njh_arguments.specs.Arguments.{AsksFor, IsUnasked, check_app, script_rule};
 
 use crate::arguments::{Request, Task};
-use crate::options::{tables_option, with_option};
+use crate::options::{described_command, tables_option, valued_option, with_option};
 use crate::serve_options::Unasked;
-use clap::{Arg, ArgAction, ArgMatches, Command};
+use clap::{Arg, ArgMatches, Command};
 use std::alloc::{AllocError, Global};
 
 /// What the help of `check` ends with.
@@ -65,9 +65,12 @@ fn bare_check<'a>(alloc: Global) -> Command<'a>
     ensures app { app_of result ≡ new_app (codes "check") }
     ensures local { (out-Command result).has_globals ≡ false }
 {
-    Command::new(alloc, "check")
-        .about("Says what a table file has or its first fault, or whether a script is right")
-        .after_help(CHECK_EXAMPLE)
+    described_command(
+        alloc,
+        "check",
+        "Says what a table file has or its first fault, or whether a script is right",
+        CHECK_EXAMPLE,
+    )
 }
 
 /// `--script F`.
@@ -75,9 +78,10 @@ fn script_option<'a>(alloc: Global) -> Arg<'a>
     ensures rule { rule_of result ≡ script_rule }
     ensures local { result.global ≡ false }
 {
-    Arg::new(alloc, "script")
-        .long("script")
-        .value_name("F")
-        .help("The script that is checked in place of the tables")
-        .action(ArgAction::Set)
+    valued_option(
+        alloc,
+        "script",
+        "F",
+        "The script that is checked in place of the tables",
+    )
 }

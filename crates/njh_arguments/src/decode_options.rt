@@ -6,7 +6,7 @@ ghost use Rattle.clap.specs.declared.builder.command.Command.TheViews.{out-Comma
 ghost use Rattle.njh_arguments.specs.Arguments.{AsksFor, decode_app};
 
 use crate::arguments::{Request, Task};
-use crate::options::{flag, is_set, with_option};
+use crate::options::{described_command, flag, is_set, with_option};
 use clap::{ArgMatches, Command};
 use std::alloc::{AllocError, Global};
 
@@ -44,7 +44,10 @@ fn bare_decode<'a>(alloc: Global) -> Command<'a>
     ensures app { app_of result ≡ new_app (codes "decode") }
     ensures local { (out-Command result).has_globals ≡ false }
 {
-    Command::new(alloc, "decode")
-        .about("Says in words what the frames of a trace on standard input say")
-        .after_help(DECODE_EXAMPLE)
+    described_command(
+        alloc,
+        "decode",
+        "Says in words what the frames of a trace on standard input say",
+        DECODE_EXAMPLE,
+    )
 }

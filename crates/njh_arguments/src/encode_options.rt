@@ -5,6 +5,7 @@ ghost use Rattle.clap.specs.Words.{app_of};
 ghost use Rattle.clap.specs.declared.builder.command.Command.TheViews.{out-Command};
 ghost use Rattle.njh_arguments.specs.Arguments.{encode_app};
 
+use crate::options::described_command;
 use clap::Command;
 use std::alloc::Global;
 
@@ -24,7 +25,10 @@ pub(crate) fn encode_command<'a>(alloc: Global) -> Command<'a>
     ensures app { app_of result ≡ encode_app }
     ensures local { (out-Command result).has_globals ≡ false }
 {
-    Command::new(alloc, "encode")
-        .about("Makes lines of a script of lines in words on standard input")
-        .after_help(ENCODE_EXAMPLE)
+    described_command(
+        alloc,
+        "encode",
+        "Makes lines of a script of lines in words on standard input",
+        ENCODE_EXAMPLE,
+    )
 }

@@ -7,7 +7,7 @@ ghost use Rattle.njh_arguments.specs.Arguments.{AsksFor, CountsTurns, IsUnasked,
 ghost use Rattle.njh_arguments.specs.Arguments.{exporting_app, listing_app, number_rule};
 
 use crate::arguments::Request;
-use crate::options::{flag, is_set, spool_option, with_option};
+use crate::options::{described_command, flag, is_set, spool_option, valued_option, with_option};
 use crate::serve_options::Unasked;
 use clap::builder::ValueParser;
 use clap::{Arg, ArgAction, ArgMatches, Command};
@@ -91,9 +91,12 @@ fn bare_files<'a>(alloc: Global) -> Command<'a>
     ensures app { app_of result ≡ new_app (codes "files") }
     ensures local { (out-Command result).has_globals ≡ false }
 {
-    Command::new(alloc, "files")
-        .about("Prints the whole files that a spool file holds, or a file's records")
-        .after_help(FILES_EXAMPLE)
+    described_command(
+        alloc,
+        "files",
+        "Prints the whole files that a spool file holds, or a file's records",
+        FILES_EXAMPLE,
+    )
 }
 
 /// `--customer NAME`.
@@ -101,11 +104,12 @@ fn customer_option<'a>(alloc: Global) -> Arg<'a>
     ensures rule { rule_of result ≡ customer_rule }
     ensures local { result.global ≡ false }
 {
-    Arg::new(alloc, "customer")
-        .long("customer")
-        .value_name("NAME")
-        .help("The files of this customer alone")
-        .action(ArgAction::Set)
+    valued_option(
+        alloc,
+        "customer",
+        "NAME",
+        "The files of this customer alone",
+    )
 }
 
 /// `--export NAME`.
@@ -113,13 +117,12 @@ fn export_option<'a>(alloc: Global) -> Arg<'a>
     ensures rule { rule_of result ≡ export_rule }
     ensures local { result.global ≡ false }
 {
-    Arg::new(alloc, "export")
-        .long("export")
-        .value_name("NAME")
-        .help(
-            "Writes the data of the file of this name, as LYON.42, in characters, a line a record",
-        )
-        .action(ArgAction::Set)
+    valued_option(
+        alloc,
+        "export",
+        "NAME",
+        "Writes the data of the file of this name, as LYON.42, in characters, a line a record",
+    )
 }
 
 /// `--number N`.

@@ -1,7 +1,8 @@
 //! Options that several subcommands have.
 
-ghost use Rattle.std.specs.Prelude.{◌≡◌, false, IfOk};
-ghost use Rattle.clap.specs.Words.{App, Rule, app_of, found_of, rows_of, rule_of, with_rule};
+ghost use Rattle.std.specs.Prelude.{◌≡◌, false, IfOk, Some};
+ghost use Rattle.clap.specs.Words.{App, Rule, app_of, found_of, new_app, new_rule, rows_of, rule_of, with_rule};
+ghost use Rattle.clap.specs.declared.builder.ArgAction.TheVariants.{Set};
 ghost use Rattle.clap.specs.declared.builder.command.Command.TheViews.{out-Command};
 ghost use Rattle.njh_arguments.specs.Arguments.{IsFlag, flag_rule, spool_rule, tables_rule};
 
@@ -25,16 +26,48 @@ pub(crate) fn with_option<'a>(
     }
 }
 
+/// A subcommand without options, with what its help says of it and ends with.
+pub(crate) fn described_command<'a>(
+    alloc: Global,
+    name: &'a str,
+    about: &'a str,
+    example: &'a str,
+) -> Command<'a>
+    ensures app { app_of result ≡ new_app name.now }
+    ensures local { (out-Command result).has_globals ≡ false }
+{
+    Command::new(alloc, name).about(about).after_help(example)
+}
+
+/// An option that takes a value, as `--tables F`.
+pub(crate) fn valued_option<'a>(
+    alloc: Global,
+    name: &'a str,
+    value: &'a str,
+    help: &'a str,
+) -> Arg<'a>
+    ensures rule { rule_of result
+        ≡ record (new_rule name.now) { long = Some name.now; value_names = 1; action = Some Set } }
+    ensures local { result.global ≡ false }
+{
+    Arg::new(alloc, name)
+        .long(name)
+        .value_name(value)
+        .help(help)
+        .action(ArgAction::Set)
+}
+
 /// `--tables F`.
 pub(crate) fn tables_option<'a>(alloc: Global) -> Arg<'a>
     ensures rule { rule_of result ≡ tables_rule }
     ensures local { result.global ≡ false }
 {
-    Arg::new(alloc, "tables")
-        .long("tables")
-        .value_name("F")
-        .help("The table file; replay has built-in tables where none is named")
-        .action(ArgAction::Set)
+    valued_option(
+        alloc,
+        "tables",
+        "F",
+        "The table file; replay has built-in tables where none is named",
+    )
 }
 
 /// `--spool FILE`.
@@ -42,11 +75,7 @@ pub(crate) fn spool_option<'a>(alloc: Global, help: &'a str) -> Arg<'a>
     ensures rule { rule_of result ≡ spool_rule }
     ensures local { result.global ≡ false }
 {
-    Arg::new(alloc, "spool")
-        .long("spool")
-        .value_name("FILE")
-        .help(help)
-        .action(ArgAction::Set)
+    valued_option(alloc, "spool", "FILE", help)
 }
 
 /// A flag, as `--quiet`.

@@ -6,7 +6,7 @@ ghost use Rattle.clap.specs.declared.builder.command.Command.TheViews.{out-Comma
 ghost use Rattle.njh_arguments.specs.Arguments.{AsksFor, replay_app};
 
 use crate::arguments::{Request, Task};
-use crate::options::{flag, is_set, tables_option, with_option};
+use crate::options::{described_command, flag, is_set, tables_option, with_option};
 use clap::{ArgMatches, Command};
 use std::alloc::{AllocError, Global};
 
@@ -49,9 +49,10 @@ fn bare_replay<'a>(alloc: Global) -> Command<'a>
     ensures app { app_of result ≡ new_app (codes "replay") }
     ensures local { (out-Command result).has_globals ≡ false }
 {
-    Command::new(alloc, "replay")
-        .about(
-            "Runs a script of events from standard input, and prints the frames that the hub sends and the files that it then has",
-        )
-        .after_help(REPLAY_EXAMPLE)
+    described_command(
+        alloc,
+        "replay",
+        "Runs a script of events from standard input, and prints the frames that the hub sends and the files that it then has",
+        REPLAY_EXAMPLE,
+    )
 }

@@ -7,7 +7,9 @@ ghost use Rattle.njh_arguments.specs.Arguments.{AsksFor, CountsTurns, IsUnasked,
 ghost use Rattle.njh_arguments.specs.Arguments.{listen_rule, listening_app, serve_app, turns_rule};
 
 use crate::arguments::Request;
-use crate::options::{flag, is_set, spool_option, tables_option, with_option};
+use crate::options::{
+    described_command, flag, is_set, spool_option, tables_option, valued_option, with_option,
+};
 use clap::builder::ValueParser;
 use clap::{Arg, ArgAction, ArgMatches, Command};
 use std::alloc::{AllocError, Global};
@@ -115,11 +117,12 @@ fn bare_serve<'a>(alloc: Global) -> Command<'a>
     ensures app { app_of result ≡ new_app (codes "serve") }
     ensures local { (out-Command result).has_globals ≡ false }
 {
-    Command::new(alloc, "serve")
-        .about(
-            "Serves the lines that have a port or a peer on sockets of this machine, until it is ended",
-        )
-        .after_help(SERVE_EXAMPLE)
+    described_command(
+        alloc,
+        "serve",
+        "Serves the lines that have a port or a peer on sockets of this machine, until it is ended",
+        SERVE_EXAMPLE,
+    )
 }
 
 /// `--turns N`.
@@ -140,10 +143,11 @@ fn listen_option<'a>(alloc: Global) -> Arg<'a>
     ensures rule { rule_of result ≡ listen_rule }
     ensures local { result.global ≡ false }
 {
-    Arg::new(alloc, "listen")
-        .long("listen")
-        .value_name("ADDRESS")
-        .help("The IP address on whose ports the lines listen")
-        .action(ArgAction::Set)
-        .default_value("127.0.0.1")
+    valued_option(
+        alloc,
+        "listen",
+        "ADDRESS",
+        "The IP address on whose ports the lines listen",
+    )
+    .default_value("127.0.0.1")
 }
