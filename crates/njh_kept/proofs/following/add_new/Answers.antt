@@ -1,4 +1,4 @@
-use Rattle.std.proofs.Common.{rules, ◌≡◌, ◌<◌, length, get_or, ap, ◌∙◌, arith}
+use Rattle.std.proofs.Common.{◌≡◌, ◌<◌, length, get_or, ap, ◌∙◌, arith}
 use Rattle.std.proofs.lemmas.List.{get_or_default, take_all}
 use Rattle.sqlite.specs.State.{HasCleanDisk}
 use Rattle.sqlite.proofs.StateLemmas.{survives_then}
@@ -8,7 +8,7 @@ use Rattle.njh_hub.specs.WholeHub.{part}
 use Rattle.njh_store.specs.Shelf.{shown}
 use Rattle.njh_kept.specs.code.Following.{memory_of}
 use Rattle.njh_kept.proofs.FollowingLaws.{goes_nowhere}
-use Rattle.njh_kept.proofs.LeadingLaws.{leads_nothing, leads_weaker}
+use Rattle.njh_kept.proofs.LeadingLaws.{leads_nothing, leads_weaker, survives_both, survives_here}
 use Rattle.njh_kept.proofs.NewFilesLaws.{added_further, any_file, hub_file_at, is_at}
 use Rattle.njh_kept.proofs.QuietLaws.{quiet_changed, quiet_same, quiet_then}
 use Rattle.njh_kept.proofs.following.add_new.Goals as goal
@@ -18,7 +18,7 @@ new-init g c =
     let at = shown g.S.Store c.args.writer.now.store in
     let m = memory_of c.args.writer.now c.args.own.now in
     record {
-      crash = search rules;
+      crash = survives_here at (λ _. ⊥);
       led = λ numbered clean. leads_nothing _ at (λ s files has given. (files, given.0, goes_nowhere m s files has));
       quiet = quiet_same c.args.writer.now;
     }
@@ -62,3 +62,6 @@ returns-clause-led g c numbered clean =
 
 pub returns-clause-quiet : goal.returns-clause-quiet
 returns-clause-quiet g c = c.new.invariant.quiet
+
+pub returns-in_err-add_one-clause-crash : goal.returns-in_err-add_one-clause-crash
+returns-in_err-add_one-clause-crash g c = survives_both _ _ _ c.new.invariant.crash c.add_one.ensures.crash

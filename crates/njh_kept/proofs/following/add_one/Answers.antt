@@ -10,6 +10,7 @@ use Rattle.njh_kept.specs.code.Leading.{Leads}
 use Rattle.njh_kept.specs.code.Memory.{numbers_of}
 use Rattle.njh_kept.specs.code.Mirrored.{FitsHub}
 use Rattle.njh_kept.proofs.HandLaws.{add_leads}
+use Rattle.njh_kept.proofs.LeadingLaws.{survives_both}
 use Rattle.njh_kept.proofs.following.add_one.Goals as goal
 
 pub returns-clause-led : goal.returns-clause-led
@@ -35,3 +36,9 @@ returns-clause-led g c f hub_file clean =
     add_leads m m1 f place.key place.written m2 summary old mid mid2 new hub_file.summary_is hub_file.headers fits hand finish
     (subst (λ x. AddsRow place.key summary f x m2 mid2 new) same row))
     (c.add_row.ensures.added f hub_file clean)
+
+pub returns-in_err-finish_records-clause-crash : goal.returns-in_err-finish_records-clause-crash
+returns-in_err-finish_records-clause-crash g c = survives_both _ _ _ c.place_for.ensures.crash c.finish_records.ensures.crash
+
+pub returns-clause-crash : goal.returns-clause-crash
+returns-clause-crash g c = survives_both _ _ _ c.place_for.ensures.crash (survives_both _ _ _ c.finish_records.ensures.crash c.add_row.ensures.crash)

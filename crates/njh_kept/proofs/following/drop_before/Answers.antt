@@ -1,4 +1,4 @@
-use Rattle.std.proofs.Common.{rules, ◌≡◌, ◌<◌, length, get_or, Some, sym, ap, subst, ◌∙◌, arith}
+use Rattle.std.proofs.Common.{◌≡◌, ◌<◌, length, get_or, Some, sym, ap, subst, ◌∙◌, arith}
 use Rattle.std.proofs.lemmas.List.{get_or-map, length-map}
 use Rattle.std.proofs.lemmas.List.Edits.{length-remove}
 use Rattle.sqlite.specs.State.{HasCleanDisk}
@@ -8,7 +8,7 @@ use Rattle.njh_kept.specs.code.Following.{memory_of}
 use Rattle.njh_kept.specs.code.Memory.{whole_of}
 use Rattle.njh_kept.specs.code.Walking.{IsWalkedTo}
 use Rattle.njh_kept.proofs.FollowingLaws.{goes_nowhere, goes_then}
-use Rattle.njh_kept.proofs.LeadingLaws.{leads_nothing, leads_then, leads_weaker}
+use Rattle.njh_kept.proofs.LeadingLaws.{leads_nothing, leads_then, leads_weaker, survives_both, survives_here}
 use Rattle.njh_kept.proofs.WalkedLaws.{is_another, is_that, passed_here, reached_at_end, reached_here}
 use Rattle.njh_kept.proofs.QuietLaws.{quiet_changed, quiet_same}
 use Rattle.njh_kept.proofs.following.drop_before.Goals.{then-place-len-via-then-place-len, then-place-len-via-else-place-len+then-eq}
@@ -19,7 +19,7 @@ whole-init g c =
     let at = shown g.S.Store c.args.writer.now.store in
     let m = memory_of c.args.writer.now c.args.own.now in
     record {
-      crash = search rules;
+      crash = survives_here at (λ _. ⊥);
       led = λ still next clean. leads_nothing _ at (λ s files has walk. (files, walk, goes_nowhere m s files has));
       fewer = omega arith;
       quiet = quiet_same c.args.writer.now;
@@ -101,3 +101,6 @@ returns-then-place-len-clause-quiet g c = c.whole.invariant.quiet
 
 pub returns-clause-quiet : goal.returns-clause-quiet
 returns-clause-quiet g c = c.whole.invariant.quiet
+
+pub returns-in_err-drop_at-clause-crash : goal.returns-in_err-drop_at-clause-crash
+returns-in_err-drop_at-clause-crash g c = survives_both _ _ _ c.whole.invariant.crash c.drop_at.ensures.crash

@@ -5,6 +5,7 @@ use Rattle.njh_store.specs.Shelf.{shown}
 use Rattle.njh_kept.specs.code.Following.{memory_of}
 use Rattle.njh_kept.proofs.NewFilesLaws.{first_survive, followed_all}
 use Rattle.njh_kept.proofs.QuietLaws.{quiet_then}
+use Rattle.njh_kept.proofs.LeadingLaws.{survives_both}
 use Rattle.njh_kept.proofs.following.follow.Goals as goal
 
 pub returns-clause-led : goal.returns-clause-led
@@ -30,3 +31,9 @@ returns-clause-led g c numbered clean =
 
 pub returns-clause-quiet : goal.returns-clause-quiet
 returns-clause-quiet g c = quiet_then c.args.writer.now c.follow_old.new.writer c.add_new.new.writer c.in_ok-follow_old.ensures.quiet c.in_ok-add_new.ensures.quiet
+
+pub returns-in_err-add_new-clause-crash : goal.returns-in_err-add_new-clause-crash
+returns-in_err-add_new-clause-crash g c = survives_both _ _ _ c.follow_old.ensures.crash c.add_new.ensures.crash
+
+pub returns-clause-crash : goal.returns-clause-crash
+returns-clause-crash g c = survives_both _ _ _ c.follow_old.ensures.crash c.add_new.ensures.crash

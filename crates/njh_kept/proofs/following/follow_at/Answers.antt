@@ -9,6 +9,7 @@ use Rattle.njh_store.specs.Shelf.{shown}
 use Rattle.njh_kept.specs.code.Following.{memory_of}
 use Rattle.njh_kept.proofs.NewFilesLaws.{hub_file_at, walked_on}
 use Rattle.njh_kept.proofs.QuietLaws.{quiet_then}
+use Rattle.njh_kept.proofs.LeadingLaws.{survives_both}
 use Rattle.njh_kept.proofs.following.follow_at.Goals as goal
 
 pub returns-clause-led : goal.returns-clause-led
@@ -35,3 +36,6 @@ returns-clause-led g c still f numbered here next clean =
 pub returns-clause-quiet : goal.returns-clause-quiet
 returns-clause-quiet g c =
     ok_then c.follow_one.result _ _ (quiet_then c.args.writer.now c.drop_before.new.writer c.follow_one.new.writer c.in_ok-drop_before.ensures.quiet) c.follow_one.ensures.quiet
+
+pub returns-clause-crash : goal.returns-clause-crash
+returns-clause-crash g c = survives_both _ _ _ c.drop_before.ensures.crash c.follow_one.ensures.crash

@@ -1,4 +1,4 @@
-use Rattle.std.proofs.Common.{rules, ◌≡◌, ◌+◌, ◌<◌, ◌≤◌, None, length, get_or, take, refl, sym, ap, subst, arith}
+use Rattle.std.proofs.Common.{◌≡◌, ◌+◌, ◌<◌, ◌≤◌, None, length, get_or, take, refl, sym, ap, subst, arith}
 use Rattle.std.proofs.lemmas.List.{length-take-le}
 use Rattle.sqlite.specs.State.{HasCleanDisk}
 use Rattle.sqlite.proofs.StateLemmas.{survives_then}
@@ -8,7 +8,7 @@ use Rattle.njh_store.specs.Shelf.{shown}
 use Rattle.njh_kept.specs.code.Following.{IsAt, IsReached, LeadsFiles, memory_of}
 use Rattle.njh_kept.specs.code.Walking.{IsWalkedTo}
 use Rattle.njh_kept.proofs.FollowingLaws.{goes_nowhere}
-use Rattle.njh_kept.proofs.LeadingLaws.{leads_nothing}
+use Rattle.njh_kept.proofs.LeadingLaws.{leads_nothing, survives_both, survives_here}
 use Rattle.njh_kept.proofs.NewFilesLaws.{any_file, is_at, is_at_of_first, walked_further, walked_to_end}
 use Rattle.njh_kept.proofs.WalkLaws.{walk_begins}
 use Rattle.njh_kept.proofs.QuietLaws.{quiet_same, quiet_then}
@@ -20,7 +20,7 @@ old-init g c =
     let m = memory_of c.args.writer.now c.args.own.now in
     let still = take c.args.old (part c.args.customer c.args.hub.now).customer.spool.whole in
     record {
-      crash = search rules;
+      crash = survives_here at (λ _. ⊥);
       place = refl;
       led = λ numbered clean. leads_nothing _ at (λ s files has given. (files, walk_begins still files given.0 given.1, goes_nowhere m s files has));
       quiet = quiet_same c.args.writer.now;
@@ -77,3 +77,9 @@ returns-clause-led g c numbered clean =
 pub returns-clause-quiet : goal.returns-clause-quiet
 returns-clause-quiet g c =
     ok_then c.drop_before.result _ _ (quiet_then c.args.writer.now c.old.writer c.drop_before.new.writer c.old.invariant.quiet) c.drop_before.ensures.quiet
+
+pub returns-in_err-follow_at-clause-crash : goal.returns-in_err-follow_at-clause-crash
+returns-in_err-follow_at-clause-crash g c = survives_both _ _ _ c.old.invariant.crash c.follow_at.ensures.crash
+
+pub returns-clause-crash : goal.returns-clause-crash
+returns-clause-crash g c = survives_both _ _ _ c.old.invariant.crash c.drop_before.ensures.crash

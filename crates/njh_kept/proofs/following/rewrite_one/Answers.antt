@@ -7,7 +7,7 @@ use Rattle.njh_store.specs.Shelf.{shown}
 use Rattle.njh_kept.specs.code.Alike.{Rewrites}
 use Rattle.njh_kept.specs.code.Following.{GoesTo, memory_of}
 use Rattle.njh_kept.specs.code.Memory.{numbers_of, whole_of}
-use Rattle.njh_kept.proofs.LeadingLaws.{leads_by, leads_then}
+use Rattle.njh_kept.proofs.LeadingLaws.{leads_by, leads_then, survives_both}
 use Rattle.njh_kept.proofs.StillLaws.{memory_changed, now_rewritten, rewritten_goes}
 use Rattle.njh_kept.proofs.following.rewrite_one.Goals as goal
 
@@ -44,3 +44,9 @@ returns-clause-led g c f hub_file kept kept_is one clean =
           (rewritten_goes m i k there is f summary hub_file.summary_is hub_file.headers s files has before (λ said. one (ap (λ x. x.destination) same ∙ said)) t changed.row
           (subst (λ rs. Rewrites k.key rs s t) hub_file.records_are writes) changed.is_row)),
     ))
+
+pub returns-in_err-change_row-clause-crash : goal.returns-in_err-change_row-clause-crash
+returns-in_err-change_row-clause-crash g c = survives_both _ _ _ c.rewrite_headers.ensures.crash c.change_row.ensures.crash
+
+pub returns-clause-crash : goal.returns-clause-crash
+returns-clause-crash g c = survives_both _ _ _ c.rewrite_headers.ensures.crash c.change_row.ensures.crash

@@ -99,3 +99,9 @@ returns-in_default-next-clause-others g c = c.places.invariant.others
 
 pub returns-in_default-next-clause-crash : goal.returns-in_default-next-clause-crash
 returns-in_default-next-clause-crash g c = c.places.invariant.crash
+
+pub returns-in_err-add_record-clause-crash : goal.returns-in_err-add_record-clause-crash
+returns-in_err-add_record-clause-crash g c = survives_both _ _ _ c.places.invariant.crash c.add_record.ensures.crash
+
+pub returns-in_err-replace_record-clause-crash : goal.returns-in_err-replace_record-clause-crash
+returns-in_err-replace_record-clause-crash g c = survives_both _ _ _ c.places.invariant.crash c.replace_record.ensures.crash

@@ -4,6 +4,7 @@ use Rattle.sqlite.specs.State.{HasCleanDisk}
 use Rattle.njh_store.specs.Kept.{Holds}
 use Rattle.njh_store.specs.Shelf.{shown}
 use Rattle.njh_kept.proofs.OpeningLaws.{Finds, come_back, if_err, if_ok, on_ok, opens, tells}
+use Rattle.njh_kept.proofs.LeadingLaws.{survives_both}
 use Rattle.njh_kept.proofs.opening.open_from.Goals as goal
 
 pub returns-clause-hub : goal.returns-clause-hub
@@ -47,3 +48,6 @@ returns-clause-refused g c clean =
       files_are = c.in-Ok.ensures.files early spool held;
     } in
     tells f fault (stops spool moved)) c.fill.result (c.fill.ensures.refused clean)
+
+pub returns-clause-crash : goal.returns-clause-crash
+returns-clause-crash g c = survives_both _ _ _ c.find.ensures.crash c.fill.ensures.crash

@@ -4,6 +4,7 @@ use Rattle.sqlite.proofs.StateLemmas.{survives_then}
 use Rattle.njh_hub.specs.WholeHub.{part}
 use Rattle.njh_store.specs.Shelf.{shown}
 use Rattle.njh_kept.proofs.PortionLaws.{keeps_then}
+use Rattle.njh_kept.proofs.LeadingLaws.{survives_both}
 use Rattle.njh_kept.proofs.portions.keep_of_line.Goals.{in-Open+in_ok-keep_portion, in_default}
 use Rattle.njh_kept.proofs.portions.keep_of_line.Goals as goal
 
@@ -25,3 +26,6 @@ streams-preserved g c =
           })
       | in_default w ↦ rw (w.writer-is, w.own-is) so_far
     ]
+
+pub returns-in_err-keep_portion-clause-crash : goal.returns-in_err-keep_portion-clause-crash
+returns-in_err-keep_portion-clause-crash g c = survives_both _ _ _ c.streams.invariant.crash c.keep_portion.ensures.crash

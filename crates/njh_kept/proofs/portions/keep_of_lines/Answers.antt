@@ -4,6 +4,7 @@ use Rattle.sqlite.proofs.StateLemmas.{survives_then}
 use Rattle.njh_hub.specs.WholeHub.{part}
 use Rattle.njh_store.specs.Shelf.{shown}
 use Rattle.njh_kept.proofs.PortionLaws.{keeps_then}
+use Rattle.njh_kept.proofs.LeadingLaws.{survives_both}
 use Rattle.njh_kept.proofs.portions.keep_of_lines.Goals as goal
 
 pub lines-preserved : goal.lines-preserved
@@ -20,3 +21,6 @@ lines-preserved g c =
           keeps_then g.S.Store now c.args.writer.now c.lines.writer c.keep_of_line.new.writer c.args.own.now c.lines.own c.keep_of_line.new.own early so_far.kept
           c.in_ok-keep_of_line.ensures.kept;
     }
+
+pub returns-in_err-keep_of_line-clause-crash : goal.returns-in_err-keep_of_line-clause-crash
+returns-in_err-keep_of_line-clause-crash g c = survives_both _ _ _ c.lines.invariant.crash c.keep_of_line.ensures.crash

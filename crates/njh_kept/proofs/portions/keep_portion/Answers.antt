@@ -4,6 +4,7 @@ use Rattle.njh_hub.specs.WholeHub.{part}
 use Rattle.njh_store.proofs.ReadingLaws.{ok_then}
 use Rattle.njh_store.specs.Shelf.{shown}
 use Rattle.njh_kept.proofs.PortionLaws.{keeps_with_taken}
+use Rattle.njh_kept.proofs.LeadingLaws.{survives_both}
 use Rattle.njh_kept.proofs.portions.keep_portion.Goals as goal
 
 pub returns-in_ok-key-in-None-clause-kept : goal.returns-in_ok-key-in-None-clause-kept
@@ -17,3 +18,6 @@ returns-in_ok-key-in-None-clause-kept g c =
     keeps_with_taken g.S.Store now c.args.writer.now c.take_key.new.self c.begin.new.writer c.args.own.now c.begin.new.own c.in_ok-key-in-None.key early c.in_ok-key-in-None.ensures.taken
     c.take_key.ensures.others c.in_ok-key-in-None.ensures.emptied kept)
     c.begin.ensures.kept
+
+pub returns-in_ok-key-in-None-clause-crash : goal.returns-in_ok-key-in-None-clause-crash
+returns-in_ok-key-in-None-clause-crash g c = survives_both _ _ _ c.take_key.ensures.crash c.begin.ensures.crash

@@ -5,6 +5,7 @@ use Rattle.njh_store.proofs.ReadingLaws.{ok_then}
 use Rattle.njh_store.specs.Shelf.{shown}
 use Rattle.njh_kept.specs.code.Memory.{own_of}
 use Rattle.njh_kept.proofs.PortionLaws.{closed_are_seen, keeps_one_swept, keeps_then}
+use Rattle.njh_kept.proofs.LeadingLaws.{survives_both}
 use Rattle.njh_kept.proofs.portions.keep_portions.Goals as goal
 
 pub returns-clause-kept : goal.returns-clause-kept
@@ -26,3 +27,9 @@ returns-clause-seen g c closed =
     let now = (part c.args.customer c.args.hub.now).customer.spool in
     let seen = c.in_ok-drop_given_up.ensures.seen now (c.in_ok-keep_of_lines.ensures.kept.seen (closed_are_seen g.S.Store now (own_of c.args.own.now) closed)) in
     ok_then c.sweep.result _ _ (λ swept. seen) (keeps_one_swept g.S.Store now c.drop_given_up.new.writer c.sweep.new.self c.drop_given_up.new.own c.sweep.ensures.others c.sweep.result c.sweep.ensures.none c.sweep.ensures.dropped c.sweep.ensures.left)
+
+pub returns-in_err-drop_given_up-clause-crash : goal.returns-in_err-drop_given_up-clause-crash
+returns-in_err-drop_given_up-clause-crash g c = survives_both _ _ _ c.keep_of_lines.ensures.crash c.drop_given_up.ensures.crash
+
+pub returns-clause-crash : goal.returns-clause-crash
+returns-clause-crash g c = survives_both _ _ _ c.keep_of_lines.ensures.crash (survives_both _ _ _ c.drop_given_up.ensures.crash c.sweep.ensures.crash)

@@ -8,7 +8,7 @@ use Rattle.njh_store.specs.Shelf.{shown}
 use Rattle.njh_kept.specs.Opened.{is_name_of}
 use Rattle.njh_kept.specs.code.Memory.{own_of}
 use Rattle.njh_kept.specs.code.Opening.{AreRemembered, IsOwnOf, Remembering, entries, files_at, name_at}
-use Rattle.njh_kept.proofs.LeadingLaws.{leads_nothing, leads_then}
+use Rattle.njh_kept.proofs.LeadingLaws.{leads_nothing, leads_then, survives_here}
 use Rattle.njh_kept.proofs.OpeningCustomers.{none_remembered, one_more_remembered}
 use Rattle.njh_kept.proofs.PartlyLaws.{all_push}
 use Rattle.njh_kept.proofs.remembering.remember_all.Goals as goal
@@ -20,7 +20,7 @@ names-init g c =
     let hub = c.args.hub.now in
     let none : c.in_ok-customers.customers.items ≡ [] = search rules in
     record {
-      crash = search rules;
+      crash = survives_here at (λ _. ⊥);
       writer = refl;
       names = ap (map (λ own. own.name)) none;
       texts = subst (AllByRecursion (λ own. is_name_of (string_bytes own.text) own.name ≡ true)) (sym none) tt;

@@ -9,14 +9,14 @@ use Rattle.njh_kept.specs.Opened.{is_name_of}
 use Rattle.njh_kept.specs.code.Leading.{Leads}
 use Rattle.njh_kept.specs.code.Memory.{whole_of}
 use Rattle.njh_kept.specs.code.Opening.{Reads, entries, owned_of}
-use Rattle.njh_kept.proofs.LeadingLaws.{leads_nothing, leads_then}
+use Rattle.njh_kept.proofs.LeadingLaws.{leads_nothing, leads_then, survives_both, survives_here}
 use Rattle.njh_kept.proofs.remembering.remember_files.Goals as goal
 
 pub files-init : goal.files-init
 files-init g c =
     let at = shown g.S.Store c.args.writer.now.store in
     record {
-      crash = search rules;
+      crash = survives_here at (λ _. ⊥);
       writer = refl;
       others = refl;
       led = λ text found clean. leads_nothing _ at (λ s from is. is);
@@ -62,3 +62,6 @@ returns-clause-led g c text found clean =
     subst
     (λ xs. Leads (Reads own.name spool (map whole_of own.whole.items) (map whole_of c.files.own.whole.items) (owned_of own.name (entries files)) (owned_of own.name (entries xs))) old new)
     end (c.files.invariant.led text found clean)
+
+pub returns-in_err-remember_if_own-clause-crash : goal.returns-in_err-remember_if_own-clause-crash
+returns-in_err-remember_if_own-clause-crash g c = survives_both _ _ _ c.files.invariant.crash c.remember_if_own.ensures.crash

@@ -5,6 +5,7 @@ use Rattle.sqlite.proofs.StateLemmas.{survives_then}
 use Rattle.njh_store.specs.Kept.{Holds}
 use Rattle.njh_store.specs.Shelf.{shown}
 use Rattle.njh_kept.proofs.StepLaws.{hub_more, none_more, stays_then}
+use Rattle.njh_kept.proofs.LeadingLaws.{survives_both}
 use Rattle.njh_kept.proofs.restoring.restore_all.Goals as goal
 
 pub files-preserved : goal.files-preserved
@@ -35,3 +36,6 @@ returns-in-Err-clause-lines g c = λ d. c.restore_one.ensures.lines d ∙ c.file
 
 pub returns-clause-lines : goal.returns-clause-lines
 returns-clause-lines g c = c.files.invariant.lines
+
+pub returns-in-Err-clause-crash : goal.returns-in-Err-clause-crash
+returns-in-Err-clause-crash g c = survives_both _ _ _ c.files.invariant.crash c.restore_one.ensures.crash

@@ -11,6 +11,7 @@ use Rattle.njh_kept.specs.code.Memory.{own_of}
 use Rattle.njh_kept.specs.code.Partly.{AllClosed, AllUpToDate, KeepsPartly}
 use Rattle.njh_kept.proofs.GrowthLaws.{numbered_of_sound}
 use Rattle.njh_kept.proofs.OneStepLaws.{step_leads}
+use Rattle.njh_kept.proofs.LeadingLaws.{survives_both}
 use Rattle.njh_kept.proofs.step.keep_step.Goals as goal
 
 pub returns-clause-led : goal.returns-clause-led
@@ -37,3 +38,6 @@ returns-clause-led g c sound headers clean = by c.keep_portions.result c.keep_po
         (c.in_ok-follow.ensures.led (numbered_of_sound now.customer.spool sound) mid) c.in_ok-follow.ensures.arrived (kept.led clean) seen
         (ap (λ (o : OwnFiles). string_bytes o.text) kept.others) (ap (λ (o : OwnFiles). o.name) kept.others) (ap (λ (o : OwnFiles). o.arrived) kept.others)
         (λ unchanged. let q = c.in_ok-follow.ensures.quiet (sym (ap (λ x. x.is_changed) kept.numbers) ∙ unchanged) in (q.0, ap (λ st. shown g.S.Store st) q.1))
+
+pub returns-clause-crash : goal.returns-clause-crash
+returns-clause-crash g c = survives_both _ _ _ c.follow.ensures.crash c.keep_portions.ensures.crash

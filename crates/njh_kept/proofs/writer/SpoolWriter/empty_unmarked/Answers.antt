@@ -4,6 +4,7 @@ use Rattle.sqlite.proofs.StateLemmas.{survives_then}
 use Rattle.njh_store.specs.Shelf.{shown}
 use Rattle.njh_kept.specs.declared.writer.SpoolWriter.{SpoolWriter}
 use Rattle.njh_kept.proofs.WriterLaws.{emptied_more, free_more, marked_below, marked_more}
+use Rattle.njh_kept.proofs.LeadingLaws.{survives_both}
 use Rattle.njh_kept.proofs.writer.SpoolWriter.empty_unmarked.Goals.{then-not-is_marked+in_ok-empty_key, else-not-is_marked}
 use Rattle.njh_kept.proofs.writer.SpoolWriter.empty_unmarked.Goals as goal
 
@@ -35,3 +36,6 @@ keys-preserved g c =
             others = so_far.others;
           })
     ]
+
+pub returns-in_err-empty_key-clause-crash : goal.returns-in_err-empty_key-clause-crash
+returns-in_err-empty_key-clause-crash g c = survives_both _ _ _ c.keys.invariant.crash c.empty_key.ensures.crash

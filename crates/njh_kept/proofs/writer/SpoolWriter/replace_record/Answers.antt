@@ -3,6 +3,7 @@ use Rattle.sqlite.specs.State.{HasCleanDisk}
 use Rattle.njh_store.specs.Kept.{record_of, with_record, without_records}
 use Rattle.njh_store.specs.Shelf.{shown}
 use Rattle.njh_store.proofs.ReadingLaws.{changes_then, ok_then}
+use Rattle.njh_kept.proofs.LeadingLaws.{survives_both}
 use Rattle.njh_kept.proofs.writer.SpoolWriter.replace_record.Goals as goal
 
 -- the record that stood there leaves, and then the new one comes
@@ -15,3 +16,6 @@ returns-clause-changed g c clean =
     let early : HasCleanDisk mid = omega (arith, c.add_record.ensures.crash.clean) in
     ok_then c.add_record.result _ _ (λ added. changes_then (without_records kept.key kept.place (kept.place + 1)) (with_record (record_of kept)) old mid new (c.in_ok-drop_records.ensures.changed early) added)
     (c.add_record.ensures.changed clean)
+
+pub returns-clause-crash : goal.returns-clause-crash
+returns-clause-crash g c = survives_both _ _ _ c.drop_records.ensures.crash c.add_record.ensures.crash
