@@ -56,3 +56,7 @@ survives_here at P = record {
 -- neither of two calls commits
 pub survives_both : (old mid new : State) → Survives old mid (λ _. ⊥) → Survives mid new (λ _. ⊥) → Survives old new (λ _. ⊥)
 survives_both old mid new one more = survives_then old mid new (λ _. ⊥) (λ _. ⊥) (λ _. ⊥) (λ clean db none. none) (λ clean db none. none) one more
+
+-- of two calls, whatever they commit
+pub survives_any : (old mid new : State) (P Q : Trees → Type 0) → Survives old mid P → Survives mid new Q → Survives old new (λ _. Unit {0})
+survives_any old mid new P Q one more = survives_then old mid new P Q (λ _. Unit {0}) (λ clean db may. tt) (λ clean db may. tt) one more

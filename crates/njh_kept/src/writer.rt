@@ -8,7 +8,7 @@ ghost use Rattle.njh_store.specs.Kept.{without_records};
 ghost use Rattle.njh_store.specs.Shelf.{shown};
 ghost use Rattle.njh_store.specs.Standing.{Standing, Stands};
 ghost use Rattle.njh_store.specs.Steps.{Changes, Commits};
-ghost use Rattle.njh_kept.specs.code.Writing.{IsTaken, freed_by, is_due, left_of, sweep_of, with_replaced};
+ghost use Rattle.njh_kept.specs.code.Writing.{IsTaken, behind_of, freed_by, is_due, left_of, sweep_of, with_replaced};
 ghost use Rattle.njh_kept.specs.code.Writing.{AreBelow, below, emptied_at, free_at, id_behind, is_marked, key_behind};
 ghost use Rattle.njh_kept.specs.code.Writing.{marked_by, shows_kept, shows_now, unmarked, without_keys, without_swept};
 
@@ -237,21 +237,10 @@ impl<S: Alter + Drop> SpoolWriter<S> {
         let Some(sweep) = self.sweeps.pop() else {
             return Ok(());
         };
-        let Sweep { key, next, end } = sweep;
-        let first = next.min(PLACES);
-        let behind = (first + SWEPT_AT_ONCE).min(end).min(PLACES);
-        self.store.drop_records(key, first, behind)?;
+        let first = sweep.next.min(PLACES);
+        self.store.drop_records(sweep.key, first, behind_of(sweep))?;
         self.waiting = self.waiting.saturating_add(SWEPT_AT_ONCE);
-        if behind < end {
-            self.sweeps.push(Sweep {
-                key,
-                next: behind,
-                end,
-            })?;
-        } else {
-            self.free_keys.push(key)?;
-        }
-        Ok(())
+        keep_rest(&mut self.sweeps, &mut self.free_keys, sweep)
     }
 
     /// Commits what waits, where whole files changed or much waits.
@@ -268,6 +257,22 @@ impl<S: Alter + Drop> SpoolWriter<S> {
         if !self.is_changed && self.waiting < WAITING {
             return Ok(());
         }
+        self.commit()
+    }
+
+    /// Commits what waits.
+    fn commit(&mut self) -> Result<(), Error>
+        ensures kept { HasCleanDisk (shown S.Store self.new.store) → OnOk result (Commits
+            (shown S.Store self.old.store) (shown S.Store self.new.store)) }
+        ensures done { OnOk result ((self.new.waiting ≡ 0) × (self.new.is_changed ≡ false)) }
+        ensures others { self.new ≡ record self.old {
+          store = self.new.store;
+          waiting = self.new.waiting;
+          is_changed = self.new.is_changed;
+        } }
+        ensures crash { Survives (shown S.Store self.old.store) (shown S.Store self.new.store) (λ trees. trees ≡
+            (shown S.Store self.old.store).now.trees) }
+    {
         self.store.commit()?;
         self.is_changed = false;
         self.waiting = 0;
@@ -313,10 +318,7 @@ impl<S: Alter + Drop> SpoolWriter<S> {
     {
         self.go_behind(files);
         self.empty_others(files)?;
-        self.store.commit()?;
-        self.is_changed = false;
-        self.waiting = 0;
-        Ok(())
+        self.commit()
     }
 
     /// The next numbers are behind those of these files.
@@ -385,6 +387,29 @@ impl<S: Alter + Drop> SpoolWriter<S> {
         }
         Ok(())
     }
+}
+
+/// The place behind those records of a file that has left which are dropped at once.
+fn behind_of(sweep: Sweep) -> u32
+    ensures { result ≡ behind_of sweep }
+{
+    let first = sweep.next.min(PLACES);
+    (first + SWEPT_AT_ONCE).min(sweep.end).min(PLACES)
+}
+
+/// Has the records dropped later that are left of a file that has left. Where none is, its number is free.
+fn keep_rest(sweeps: &mut Vec<Sweep>, free_keys: &mut Vec<u32>, sweep: Sweep) -> Result<(), Error>
+    ensures left { OnOk result (sweeps.new.items ≡ sweeps.old.items ++ left_of sweep) }
+    ensures freed { OnOk result (free_keys.new.items ≡ free_keys.old.items ++ freed_by sweep) }
+{
+    let Sweep { key, end, .. } = sweep;
+    let next = behind_of(sweep);
+    if next < end {
+        sweeps.push(Sweep { key, next, end })?;
+    } else {
+        free_keys.push(key)?;
+    }
+    Ok(())
 }
 
 /// Whether a number has a mark.

@@ -1,6 +1,7 @@
 use Rattle.std.proofs.Common.{◌≡◌, ◌++◌, [], length, map, sym, ap, subst, ◌∙◌, arith}
 use Rattle.std.proofs.lemmas.List.{length-map}
-use Rattle.sqlite.specs.State.{HasCleanDisk, State}
+use Rattle.sqlite.specs.State.{HasCleanDisk, State, Survives}
+use Rattle.std.specs.Prelude.{⊤}
 use Rattle.sqlite.specs.Effect.{Database}
 use Rattle.njh_store.specs.Kept.{Holds}
 use Rattle.njh_store.specs.Shelf.{shown}
@@ -12,6 +13,7 @@ use Rattle.njh_kept.specs.code.Writing.{emptied_at, free_at, key_behind, without
 use Rattle.njh_kept.specs.declared.writer.SpoolWriter.{SpoolWriter}
 use Rattle.njh_kept.proofs.OpeningBegun.{has_begun}
 use Rattle.njh_kept.proofs.RowLaws.{is_ordered}
+use Rattle.njh_kept.proofs.LeadingLaws.{survives_any}
 use Rattle.njh_kept.proofs.beginning.begin.Goals as goal
 
 pub returns-clause-begun : goal.returns-clause-begun
@@ -53,3 +55,20 @@ returns-clause-begun g c clean s stands distinct found reads =
     has_begun files names hub owns s.now led.0 w id key (subst AreFilesApart same_files c.in_ok-check_numbers.ensures.0) (sym (ap have_low_ids same_files) ∙ c.in_ok-check_numbers.ensures.1) rows distinct long all sweeps free numbers.1 numbers.0 in
     let moved : Stands (record s { now = led.0 }) third = subst (λ (x : State). Stands (record s { now = led.0 }) x) (sym same) led.1 in
     (without_keys (emptied_at files (key_behind key files)) led.0, begun, c.in_ok-begin_numbers.ensures.begun clean (record s { now = led.0 }) moved)
+
+pub returns-in_err-owns-clause-crash : goal.returns-in_err-owns-clause-crash
+returns-in_err-owns-clause-crash g c = survives_any _ _ _ _ _ c.files.ensures.crash c.remember_all.ensures.crash
+
+pub returns-in_err-begin_numbers-clause-crash : goal.returns-in_err-begin_numbers-clause-crash
+returns-in_err-begin_numbers-clause-crash g c =
+    let same = ap (λ (x : SpoolWriter g.row.S.Denot). shown g.S.Store x.store) c.forget_numbers.ensures.others in
+    survives_any _ _ _ _ _ c.files.ensures.crash
+    (survives_any _ _ _ _ _ c.remember_all.ensures.crash
+    (subst (λ (x : State). Survives x (shown g.S.Store c.begin_numbers.new.self.store) (λ _. ⊤)) same c.begin_numbers.ensures.crash))
+
+pub returns-clause-crash : goal.returns-clause-crash
+returns-clause-crash g c =
+    let same = ap (λ (x : SpoolWriter g.row.S.Denot). shown g.S.Store x.store) c.forget_numbers.ensures.others in
+    survives_any _ _ _ _ _ c.files.ensures.crash
+    (survives_any _ _ _ _ _ c.remember_all.ensures.crash
+    (subst (λ (x : State). Survives x (shown g.S.Store c.begin_numbers.new.self.store) (λ _. ⊤)) same c.begin_numbers.ensures.crash))

@@ -8,9 +8,10 @@ use Rattle.njh_store.specs.Shelf.{shown}
 use Rattle.njh_kept.specs.Opened.{is_name_of}
 use Rattle.njh_kept.specs.code.Memory.{own_of}
 use Rattle.njh_kept.specs.code.Opening.{AreRemembered, IsOwnOf, Remembering, entries, files_at, name_at}
-use Rattle.njh_kept.proofs.LeadingLaws.{leads_nothing, leads_then, survives_here}
+use Rattle.njh_kept.proofs.LeadingLaws.{leads_nothing, leads_then, survives_here, survives_both}
 use Rattle.njh_kept.proofs.OpeningCustomers.{none_remembered, one_more_remembered}
 use Rattle.njh_kept.proofs.PartlyLaws.{all_push}
+use Rattle.njh_kept.specs.declared.writer.SpoolWriter.{SpoolWriter}
 use Rattle.njh_kept.proofs.remembering.remember_all.Goals as goal
 
 pub names-init : goal.names-init
@@ -49,7 +50,9 @@ names-preserved g c =
     (let a = length-map items own_of in let b = length-map items (λ own. own.name) in let d = ap length so_far.names in let e = length-take place names in omega (arith, a, b, d, e, low)) in
     record {
       crash = survives_then old mid new _ _ (λ _. ⊥) (λ _ db none. none) (λ _ db none. none) so_far.crash c.remember_customer.ensures.crash;
-      writer = search rules;
+      writer =
+          c.remember_customer.ensures.others
+          ∙ ap (λ (x : SpoolWriter g.row.S.Denot). record x { store = c.remember_customer.new.writer.store; is_changed = c.remember_customer.new.writer.is_changed }) so_far.writer;
       names =
           ap (map (λ own. own.name)) pushed ∙ map-append (λ own. own.name) items (own ∷ [])
           ∙ (λ i. so_far.names i ++ (c.in_ok-own.ensures.own.name_is ∙ c.index-names-place.is) i ∷ []) ∙ sym (take_more names place c.index-names-place.result low);
@@ -69,3 +72,21 @@ names-preserved g c =
           (one_more_remembered names hub (entries c.args.files.now) (map own_of items) (own_of own) s t u rows distinct reads (omega (arith, long, low)) whose
           (first ordered rows distinct reads) next));
     }
+
+pub returns-in_err-own-clause-crash : goal.returns-in_err-own-clause-crash
+returns-in_err-own-clause-crash g c = survives_both _ _ _ c.names.invariant.crash c.remember_customer.ensures.crash
+
+pub returns-in_err-own-clause-others : goal.returns-in_err-own-clause-others
+returns-in_err-own-clause-others g c =
+    c.remember_customer.ensures.others
+    ∙ ap (λ (x : SpoolWriter g.row.S.Denot). record x { store = c.remember_customer.new.writer.store; is_changed = c.remember_customer.new.writer.is_changed })
+    c.names.invariant.writer
+
+pub returns-in_err-push-clause-crash : goal.returns-in_err-push-clause-crash
+returns-in_err-push-clause-crash g c = survives_both _ _ _ c.names.invariant.crash c.remember_customer.ensures.crash
+
+pub returns-in_err-push-clause-others : goal.returns-in_err-push-clause-others
+returns-in_err-push-clause-others g c =
+    c.remember_customer.ensures.others
+    ∙ ap (λ (x : SpoolWriter g.row.S.Denot). record x { store = c.remember_customer.new.writer.store; is_changed = c.remember_customer.new.writer.is_changed })
+    c.names.invariant.writer
