@@ -1,6 +1,6 @@
 //! Opens the spool file of a path.
 
-ghost use Rattle.std.specs.Prelude.{IfErr, IfOk};
+ghost use Rattle.std.specs.Prelude.{◌≡◌, IfErr, IfOk};
 ghost use Rattle.sqlite.specs.Files.{file_state};
 ghost use Rattle.sqlite.specs.State.{HasCleanDisk};
 ghost use Rattle.sqlite.specs.WalFiles.{image_at};
@@ -119,16 +119,36 @@ fn open_store<S: Start>(
     }
 }
 
+/// A spool file that is open, if the modes of its files were set.
+fn where_set<S: Alter + Drop>(
+    store: Store<S>,
+    set: Result<(), FilesFault>,
+) -> Result<Store<S>, FilesFault>
+    requires { IfErr set IsOfSpool }
+    ensures same { IfOk result (λ kept. kept ≡ store) }
+    ensures refused { IfErr result IsOfSpool }
+{
+    match set {
+        Ok(()) => Ok(store),
+        Err(fault) => {
+            drop(store);
+            Err(fault)
+        }
+    }
+}
+
 impl SpoolFiles for HostRuntime {
     type Kept = FileStore<FileFrom<Unknown>>;
 
     type From = Unknown;
 
     fn open_spool(&self, path: &str) -> Result<Store<FileStore<FileFrom<Unknown>>>, FilesFault> {
-        make_empty(self, path)?;
-        let store = open_store(self, path, Unknown)?;
-        match set_modes(self, path) {
-            Ok(()) => Ok(store),
+        match make_empty(self, path) {
+            Ok(()) => {}
+            Err(fault) => return Err(fault),
+        }
+        match open_store(self, path, Unknown) {
+            Ok(store) => where_set(store, set_modes(self, path)),
             Err(fault) => Err(fault),
         }
     }
