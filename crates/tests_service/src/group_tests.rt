@@ -3,7 +3,6 @@
 use crate::listening_tests::CONTACT;
 use crate::play::play;
 use crate::world::{Act, at};
-use std::alloc::Global;
 use std::io;
 use std::io::Write;
 use std::test::Fail;
@@ -14,14 +13,13 @@ const CUSTOMERS: u16 = 4;
 /// How many lines each has.
 const EACH: u16 = 10;
 
-/// Tables of forty lines: the line at place P is P of its customer, which is P / 10, and listens at port P + 1.
-fn tables(alloc: Global) -> io::Result<Vec<u8>> {
-    let mut text = Vec::new(alloc);
-    writeln!(text, "capacity = 400")?;
+/// Adds tables of forty lines: the line at place P is P of its customer, which is P / 10, and listens at port P + 1.
+fn add_tables(text: &mut Vec<u8>) -> io::Result<()> {
+    text.extend_from_slice(b"capacity = 400\n")?;
     for customer in 0..CUSTOMERS {
-        add_customer(&mut text, customer)?;
+        add_customer(text, customer)?;
     }
-    Ok(text)
+    Ok(())
 }
 
 /// Adds a customer and its lines.
@@ -31,15 +29,19 @@ fn add_customer(text: &mut Vec<u8>, customer: u16) -> io::Result<()> {
         "[[customer]]\nname = \"C{customer}\"\nhub = \"BUREAU\"\nquota = 100\nfiles = 8"
     )?;
     for number in 0..EACH {
-        let place = customer.saturating_mul(EACH).saturating_add(number);
-        let port = place.saturating_add(1);
-        writeln!(
-            *text,
-            "[[customer.line]]\nname = \"p{place}\"\nnode = \"LYON\"\nrole = \"answer\""
-        )?;
-        writeln!(*text, "block = 1024\nstreams = 4\nport = {port}")?;
+        add_line(text, customer.saturating_mul(EACH).saturating_add(number))?;
     }
     Ok(())
+}
+
+/// Adds the line at a place.
+fn add_line(text: &mut Vec<u8>, place: u16) -> io::Result<()> {
+    let port = place.saturating_add(1);
+    writeln!(
+        *text,
+        "[[customer.line]]\nname = \"p{place}\"\nnode = \"LYON\"\nrole = \"answer\"\n\
+        block = 1024\nstreams = 4\nport = {port}"
+    )
 }
 
 /// Peers of the first and the last line of each group are told, answered, asked again at the tick 2.5 seconds later, and
@@ -92,7 +94,8 @@ fn lines_at_the_edges(rt: HostRuntime) -> Result<(), Fail> {
 1970-01-01T00:00:04Z C3 p32: closed
 1970-01-01T00:00:04Z C3 p39: closed
 ";
-    let tables = tables(rt.alloc())?;
+    let mut tables = Vec::new(rt.alloc());
+    add_tables(&mut tables)?;
     let tables = str::from_utf8(&tables).unwrap_or("no text");
     play(&rt, rt.alloc(), tables, &acts, 5400, wanted)
 }

@@ -2,15 +2,12 @@
 //! text that either sent last, and after a frame that was lost each way.
 
 use crate::joint::Joint;
-use crate::joint_network::{JointConnection, JointLog, JointNetwork};
-use njh_hub::KeepsNothing;
-use njh_serve::{Service, Station, service_on};
-use njh_service::{Exchange, Log, NoSource, Revision};
+use crate::joint_network::{JointLog, JointNetwork};
+use crate::serving::{Player, Rounds, serve};
+use njh_serve::Station;
+use njh_service::{Log, Revision};
 use njh_table::Tables;
-use njh_wire::LineWire;
-use std::alloc::Global;
-use std::io;
-use std::io::Write;
+use std::alloc::{AllocError, Global};
 use std::net::{IpAddr, Ipv4Addr};
 use std::process::Abort;
 use std::test::Fail;
@@ -41,6 +38,18 @@ const MESSAGE: &[u8] =
     \x00\x10\x26\x10\x02\x80\x8f\xcf\x9a\x80\xc8\x20\x77\x00\x02\xc8\xe4\xc2\xc2\x84\xc5\x00\
     \xd7\xc1\xe4\xd3\x84\xc4\xd3\xe8\xd6\xd5\x84\xc3\x00\xc8\xc9\x00\x00\x10\x26";
 
+/// What the tables of the first hub have of their own: its name, the other one's, its line to LYON, and that line where
+/// it isn't the one to the other hub.
+const FIRST: [&str; 4] = [
+    "HUBA",
+    "HUBB",
+    "p1",
+    r#", { name = "p1", node = "LYON", role = "answer", block = 1024, streams = 4, port = 1 }"#,
+];
+
+/// The same of the second hub.
+const SECOND: [&str; 4] = ["HUBB", "HUBA", "j1", ""];
+
 /// Who does what. The hubs are 0 and 1.
 #[derive(Clone, Copy)]
 struct Case {
@@ -56,118 +65,137 @@ struct Case {
     texts: Option<[u32; 2]>,
 }
 
-/// A hub of two, and what serves its lines.
-type Joined<'a> = Service<
-    LineWire<JointConnection<'a>>,
-    Exchange<JointNetwork<'a>, JointLog<'a>, NoSource>,
->;
+/// The tables of a hub.
+fn tables_of(alloc: Global, number: usize, case: Case) -> Result<Tables, Fail> {
+    let text = text_of(alloc, number, case)?;
+    Ok(Tables::read(alloc, &text)?)
+}
 
-/// The table of a hub. Its line to the other hub comes first; the first hub has a line to LYON too.
-fn table_of(alloc: Global, number: usize, case: Case) -> io::Result<Vec<u8>> {
-    let mut text = Vec::new(alloc);
-    let (hub, other) = if number == 0 {
-        ("HUBA", "HUBB")
-    } else {
-        ("HUBB", "HUBA")
-    };
-    let role = if case.calls == number {
-        "call"
-    } else {
-        "answer"
-    };
-    let way = if case.dials == number {
+/// The text of its tables. Its line to the other hub comes first.
+fn text_of(alloc: Global, number: usize, case: Case) -> Result<String, AllocError> {
+    let [hub, other, lyons, further] = own_of(number);
+    let role = role_of(case.calls == number);
+    let way = way_of(case.dials == number);
+    format!(in alloc;
+        r#"
+capacity = 100
+[[customer]]
+name = "ACME"
+hub = "{hub}"
+quota = 100
+files = 8
+line = [{{ name = "j1", node = "{other}", role = "{role}", block = 1024, streams = 4, {way} }}{further}]
+route = [{{ node = "{other}", line = "j1" }}, {{ node = "LYON", line = "{lyons}" }}]
+"#
+    )
+}
+
+/// What the tables of a hub have of their own.
+fn own_of(number: usize) -> [&'static str; 4] {
+    if number == 0 { FIRST } else { SECOND }
+}
+
+fn role_of(calls: bool) -> &'static str {
+    if calls { "call" } else { "answer" }
+}
+
+fn way_of(dials: bool) -> &'static str {
+    if dials {
         "connect = \"10.0.0.1:9000\""
     } else {
         "port = 9000"
-    };
-    writeln!(text, "capacity = 100\n[[customer]]\nname = \"ACME\"")?;
-    writeln!(text, "hub = \"{hub}\"\nquota = 100\nfiles = 8")?;
-    add_line(&mut text, "j1", other, role, way)?;
-    if number == 0 {
-        add_line(&mut text, "p1", "LYON", "answer", "port = 1")?;
     }
-    add_route(&mut text, other, "j1")?;
-    let lyons = if number == 0 { "p1" } else { "j1" };
-    add_route(&mut text, "LYON", lyons)?;
-    Ok(text)
-}
-
-/// Adds a line to a table.
-fn add_line(text: &mut Vec<u8>, name: &str, node: &str, role: &str, way: &str) -> io::Result<()> {
-    writeln!(
-        *text,
-        "[[customer.line]]\nname = \"{name}\"\nnode = \"{node}\""
-    )?;
-    writeln!(*text, "role = \"{role}\"\nblock = 1024\nstreams = 4\n{way}")
-}
-
-/// Adds a route to a table.
-fn add_route(text: &mut Vec<u8>, node: &str, line: &str) -> io::Result<()> {
-    writeln!(
-        *text,
-        "[[customer.route]]\nnode = \"{node}\"\nline = \"{line}\""
-    )
 }
 
 /// Joins two hubs for an hour.
 fn join<R: Abort>(rt: &R, alloc: Global, case: Case) -> Result<(), Fail> {
     let joint = Joint::new(alloc);
-    {
-        let first = table_of(alloc, 0, case)?;
-        let second = table_of(alloc, 1, case)?;
-        serve(alloc, &joint, [text_of(&first), text_of(&second)], case)?;
-    }
+    join_by(rt, alloc, &joint, case)
+}
+
+/// Joins two hubs by a line for an hour, and looks what came of it.
+fn join_by<R: Abort>(rt: &R, alloc: Global, joint: &Joint, case: Case) -> Result<(), Fail> {
+    let mut first = First { alloc, joint, case };
+    serve_one(alloc, joint, 0, case, &mut first)?;
     assert!(rt; joint.now() >= HOUR, "it spins at {}", joint.now());
     for number in 0..2 {
-        // It connects once and its session goes up, and nothing else.
-        assert_eq!(rt;
-            joint.told(number, " j1: ", "session up with"),
-            (2, 1),
-            "hub {number}"
-        );
-        let (frames, texts) = joint.sent(number);
-        assert!(rt; frames > 1000, "hub {number} sent {frames} frames");
-        if let Some(wanted) = case.texts {
-            assert_eq!(rt; texts, wanted[number], "the texts of hub {number}");
-        }
+        look(rt, joint, number, case);
     }
     Ok(())
 }
 
-fn text_of(bytes: &[u8]) -> &str {
-    str::from_utf8(bytes).unwrap_or("no text")
+/// Looks what came of a hub: it connects once and its session goes up, and nothing else.
+fn look<R: Abort>(rt: &R, joint: &Joint, number: usize, case: Case) {
+    assert_eq!(rt;
+        joint.told(number, " j1: ", "session up with"),
+        (2, 1),
+        "hub {number}"
+    );
+    let (frames, texts) = joint.sent(number);
+    assert!(rt; frames > 1000, "hub {number} sent {frames} frames");
+    if let Some(wanted) = case.texts {
+        assert_eq!(rt;
+            Some(&texts),
+            wanted.get(number),
+            "the texts of hub {number}"
+        );
+    }
 }
 
-/// Serves both hubs up to the end.
-fn serve(alloc: Global, joint: &Joint, tables: [&str; 2], case: Case) -> Result<(), Fail> {
-    let mut first = hub_on(alloc, joint, 0, tables[0])?;
-    let mut second = hub_on(alloc, joint, 1, tables[1])?;
-    go_on(joint, &mut first, &mut second, case);
-    Ok(())
-}
-
-/// A hub.
-fn hub_on<'a>(
+/// Serves a hub while somebody plays.
+fn serve_one<P: Player>(
     alloc: Global,
-    joint: &'a Joint,
+    joint: &Joint,
     number: usize,
-    tables: &str,
-) -> Result<Joined<'a>, Fail> {
-    let tables = Tables::read(alloc, tables)?;
+    case: Case,
+    player: &mut P,
+) -> Result<(), Fail> {
+    let tables = tables_of(alloc, number, case)?;
     let station = Station {
         network: JointNetwork { joint, end: number },
         address: IpAddr::V4(Ipv4Addr::new(10, 0, 0, 1)),
         log: Log::new(Some(JointLog { joint, end: number })),
         revision: Revision::none(alloc),
     };
-    match service_on(alloc, &mut KeepsNothing, tables, station, true) {
-        Ok(service) => Ok(service),
-        Err(fault) => Err(Fail::from(fault)),
+    serve(alloc, tables, station, player)
+}
+
+/// Plays on the first hub: serves the second one beside it.
+#[derive(Drop)]
+struct First<'a> {
+    alloc: Global,
+    joint: &'a Joint,
+    case: Case,
+}
+
+impl Player for First<'_> {
+    fn play<H: Rounds>(&mut self, hub: &mut H) -> Result<(), Fail> {
+        let mut both = Both {
+            first: hub,
+            joint: self.joint,
+            case: self.case,
+        };
+        serve_one(self.alloc, self.joint, 1, self.case, &mut both)
+    }
+}
+
+/// Plays on both hubs.
+#[derive(Drop)]
+struct Both<'a, F> {
+    first: &'a mut F,
+    joint: &'a Joint,
+    case: Case,
+}
+
+impl<F: Rounds> Player for Both<'_, F> {
+    fn play<H: Rounds>(&mut self, hub: &mut H) -> Result<(), Fail> {
+        go_on(self.joint, self.first, hub, self.case);
+        Ok(())
     }
 }
 
 /// Rounds of both hubs in turn up to the end of the hour, with what happens meanwhile.
-fn go_on<'a>(joint: &Joint, first: &mut Joined<'a>, second: &mut Joined<'a>, case: Case) {
+fn go_on<F: Rounds, S: Rounds>(joint: &Joint, first: &mut F, second: &mut S, case: Case) {
     let mut script = case.script;
     let mut lost = [false; 2];
     for _ in 0..STEPS {
@@ -189,8 +217,8 @@ fn go_on<'a>(joint: &Joint, first: &mut Joined<'a>, second: &mut Joined<'a>, cas
                 joint.lose(number);
             }
         }
-        let _ran = first.run(&mut KeepsNothing, Some(1));
-        let _ran = second.run(&mut KeepsNothing, Some(1));
+        first.round();
+        second.round();
         joint.pass();
     }
 }

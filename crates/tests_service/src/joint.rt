@@ -196,11 +196,7 @@ impl Joint {
         let Ok(mut coming) = self.end(number).coming.try_borrow_mut() else {
             return 0;
         };
-        let count = coming.len().min(into.len());
-        into[..count].copy_from_slice(&coming[..count]);
-        let left = coming.len() - count;
-        coming.copy_within(count.., 0);
-        coming.truncate(left);
+        let count = take_front(&mut coming, into);
         self.moves.set(self.moves.get() || count > 0);
         count
     }
@@ -236,16 +232,33 @@ impl Joint {
         let Ok(log) = self.end(number).log.try_borrow() else {
             return (0, 0);
         };
-        let mut with_this = 0usize;
-        let mut with_both = 0usize;
-        for line in str::from_utf8(&log).unwrap_or("").lines() {
-            if line.contains(this) {
-                with_this = with_this.saturating_add(1);
-                if line.contains(that) {
-                    with_both = with_both.saturating_add(1);
-                }
+        count_lines(&log, this, that)
+    }
+}
+
+/// Moves bytes from the front of what came into a buffer, and answers how many.
+fn take_front(coming: &mut Vec<u8>, into: &mut [u8]) -> usize
+    ensures { result ≤ length into.new }
+{
+    let count = coming.len().min(into.len());
+    into[..count].copy_from_slice(&coming[..count]);
+    let left = coming.len() - count;
+    coming.copy_within(count.., 0);
+    coming.truncate(left);
+    count
+}
+
+/// How many lines of a text have this, and how many also that.
+fn count_lines(text: &[u8], this: &str, that: &str) -> (usize, usize) {
+    let mut with_this = 0usize;
+    let mut with_both = 0usize;
+    for line in str::from_utf8(text).unwrap_or("").lines() {
+        if line.contains(this) {
+            with_this = with_this.saturating_add(1);
+            if line.contains(that) {
+                with_both = with_both.saturating_add(1);
             }
         }
-        (with_this, with_both)
     }
+    (with_this, with_both)
 }

@@ -32,4 +32,6 @@ mod memory_network;
 #[cfg(test)]
 mod play;
 #[cfg(test)]
+mod serving;
+#[cfg(test)]
 mod world;

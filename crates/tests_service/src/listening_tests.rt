@@ -3,6 +3,7 @@
 
 use crate::play::{add_text, play};
 use crate::world::{Act, Happens, at};
+use std::alloc::AllocError;
 use std::test::Fail;
 
 /// A line of each of two customers.
@@ -98,20 +99,25 @@ fn five_tries_of_a_peer_that_answers(rt: HostRuntime) -> Result<(), Fail> {
         at(7000, 0, nak),
     ];
     let mut wanted = Vec::new(rt.alloc());
+    add_tries(&mut wanted)?;
+    let wanted = str::from_utf8(&wanted).unwrap_or("no text");
+    play(&rt, rt.alloc(), TABLES, &acts, 7500, wanted)
+}
+
+/// Adds what is seen of five tries of a peer that answers each.
+fn add_tries(wanted: &mut Vec<u8>) -> Result<(), AllocError> {
     wanted.extend_from_slice(
         b"1970-01-01T00:00:01Z ACME a1: connected from 10.0.0.0:5000\n1000 to 0: 1070\n",
     )?;
-    add_text(&mut wanted, 1050, RESPONSE);
+    add_text(wanted, 1050, RESPONSE);
     wanted.extend_from_slice(b"1970-01-01T00:00:01Z ACME a1: session up with LYON\n")?;
     for moment in [2000, 3000, 4000, 5000, 6000] {
-        add_text(&mut wanted, moment, RESPONSE);
+        add_text(wanted, moment, RESPONSE);
     }
     wanted.extend_from_slice(
         b"1970-01-01T00:00:07Z ACME a1: session down: five tries in a row, NAK came last\n\
         1970-01-01T00:00:07Z ACME a1: closed\n",
-    )?;
-    let wanted = str::from_utf8(&wanted).unwrap_or("no text");
-    play(&rt, rt.alloc(), TABLES, &acts, 7500, wanted)
+    )
 }
 
 /// Who connects to a busy line waits until its peer has said nothing for ten seconds.
@@ -237,26 +243,30 @@ fn answer_that_fails(rt: HostRuntime) -> Result<(), Fail> {
 fn silence_beside_a_busy_line(rt: HostRuntime) -> Result<(), Fail> {
     let mut acts = Vec::new(rt.alloc());
     let mut wanted = Vec::new(rt.alloc());
-    for happens in [
+    add_beside(&mut acts, &mut wanted)?;
+    let wanted = str::from_utf8(&wanted).unwrap_or("no text");
+    play(&rt, rt.alloc(), TABLES, &acts, 6500, wanted)
+}
+
+/// Adds what happens on a silent line and a busy one, and what is seen of them.
+fn add_beside(acts: &mut Vec<Happens>, wanted: &mut Vec<u8>) -> Result<(), AllocError> {
+    acts.extend_from_slice(&[
         at(1000, 0, Act::Connects(1)),
         at(1000, 0, CONTACT),
         at(1000, 1, Act::Connects(2)),
-    ] {
-        acts.push(happens)?;
-    }
+    ])?;
     wanted.extend_from_slice(
         b"1970-01-01T00:00:01Z ACME a1: connected from 10.0.0.0:5000\n\
         1970-01-01T00:00:01Z BOLT b1: connected from 10.0.0.1:5000\n1000 to 0: 1070\n",
     )?;
     for moment in 1001..6500u64 {
         if moment == 3500 || moment == 6000 {
-            add_text(&mut wanted, moment, " to 0: 3d\n");
+            add_text(wanted, moment, " to 0: 3d\n");
         }
         if moment % 37 == 0 {
             acts.push(at(moment, 1, CONTACT))?;
-            add_text(&mut wanted, moment, " to 1: 1070\n");
+            add_text(wanted, moment, " to 1: 1070\n");
         }
     }
-    let wanted = str::from_utf8(&wanted).unwrap_or("no text");
-    play(&rt, rt.alloc(), TABLES, &acts, 6500, wanted)
+    Ok(())
 }

@@ -1,8 +1,8 @@
 //! A service over sockets of this machine, turn by turn beside its peers.
 
+use crate::serving::{Player, Rounds, serve};
 use mio::net::TcpStream;
-use njh_hub::{Attendant, KeepsNothing, Wire};
-use njh_serve::{MioNetwork, Service, Station, service_on};
+use njh_serve::{MioNetwork, Station};
 use njh_service::{Log, Revision};
 use njh_table::Tables;
 use std::io;
@@ -52,55 +52,57 @@ fn closes_stalls_and_connects_again(rt: HostRuntime) -> Result<(), Fail> {
         log: Log::new(Some(io::sink())),
         revision: Revision::none(rt.alloc()),
     };
-    match service_on(rt.alloc(), &mut KeepsNothing, tables, station, true) {
-        Ok(mut service) => try_lines(&rt, &mut service),
-        Err(fault) => Err(Fail::from(fault)),
+    serve(rt.alloc(), tables, station, &mut Peers { rt: &rt })
+}
+
+/// Plays the peers, on sockets of this machine.
+#[derive(Drop)]
+struct Peers<'a, R> {
+    rt: &'a R,
+}
+
+impl<R: Net + Abort> Player for Peers<'_, R> {
+    fn play<H: Rounds>(&mut self, hub: &mut H) -> Result<(), Fail> {
+        try_lines(self.rt, hub)
     }
 }
 
 /// All that is tried, in its order.
-fn try_lines<W: Wire + Drop, A: Attendant<W> + Drop, R: Net + Abort>(
-    rt: &R,
-    service: &mut Service<W, A>,
-) -> Result<(), Fail> {
-    assert!(rt; is_refused(rt, service)?, "127.0.0.2");
+fn try_lines<H: Rounds, R: Net + Abort>(rt: &R, hub: &mut H) -> Result<(), Fail> {
+    assert!(rt; is_refused(rt, hub)?, "127.0.0.2");
     let mut other = connect(rt, 1, 27522)?;
-    assert!(rt; is_answered(service, &mut other)?, "the other line");
-    assert!(rt; comes_and_goes(rt, service)?, "the first peer");
-    assert!(rt; is_answered(service, &mut other)?, "the other line, then");
-    assert!(rt; stalls(rt, service, &mut other)?, "a peer that stalls");
-    assert!(rt; comes_and_goes(rt, service)?, "the next peer");
+    assert!(rt; is_answered(hub, &mut other)?, "the other line");
+    assert!(rt; comes_and_goes(rt, hub)?, "the first peer");
+    assert!(rt; is_answered(hub, &mut other)?, "the other line, then");
+    assert!(rt; stalls(rt, hub, &mut other)?, "a peer that stalls");
+    assert!(rt; comes_and_goes(rt, hub)?, "the next peer");
     Ok(())
 }
 
 /// A connection to an address of this machine that is begun.
 fn connect<R: Net>(rt: &R, last: u8, port: u16) -> io::Result<TcpStream> {
-    TcpStream::connect(
-        rt,
-        SocketAddr::new(IpAddr::V4(Ipv4Addr::new(127, 0, 0, last)), port),
-    )
+    TcpStream::connect(rt, address_of(last, port))
+}
+
+/// An address of this machine.
+fn address_of(last: u8, port: u16) -> SocketAddr {
+    SocketAddr::new(Ipv4Addr::new(127, 0, 0, last).into(), port)
 }
 
 /// A peer of the first line makes contact, and closes. Says whether it was answered.
-fn comes_and_goes<W: Wire + Drop, A: Attendant<W> + Drop, R: Net>(
-    rt: &R,
-    service: &mut Service<W, A>,
-) -> io::Result<bool> {
+fn comes_and_goes<H: Rounds, R: Net>(rt: &R, hub: &mut H) -> io::Result<bool> {
     let mut peer = connect(rt, 1, 27521)?;
-    is_answered(service, &mut peer)
+    is_answered(hub, &mut peer)
 }
 
 /// Whether nobody listens at another address of this machine.
-fn is_refused<W: Wire + Drop, A: Attendant<W> + Drop, R: Net>(
-    rt: &R,
-    service: &mut Service<W, A>,
-) -> io::Result<bool> {
+fn is_refused<H: Rounds, R: Net>(rt: &R, hub: &mut H) -> io::Result<bool> {
     let peer = match connect(rt, 2, 27521) {
         Ok(peer) => peer,
         Err(error) => return Ok(error.kind() == ErrorKind::ConnectionRefused),
     };
     for _ in 0..TURNS {
-        let _ran = service.run(&mut KeepsNothing, Some(1));
+        hub.round();
         if let Some(error) = peer.take_error()? {
             return Ok(error.kind() == ErrorKind::ConnectionRefused);
         }
@@ -112,14 +114,11 @@ fn is_refused<W: Wire + Drop, A: Attendant<W> + Drop, R: Net>(
 }
 
 /// A peer makes contact. Says whether it is answered.
-fn is_answered<W: Wire + Drop, A: Attendant<W> + Drop>(
-    service: &mut Service<W, A>,
-    peer: &mut TcpStream,
-) -> io::Result<bool> {
+fn is_answered<H: Rounds>(hub: &mut H, peer: &mut TcpStream) -> io::Result<bool> {
     let mut is_sent = false;
     for _ in 0..TURNS {
         is_sent = is_sent || is_taken(peer, CONTACT)?;
-        let _ran = service.run(&mut KeepsNothing, Some(1));
+        hub.round();
         if let Some(answer) = heard(peer)? {
             return Ok(answer == ANSWER);
         }
@@ -157,18 +156,14 @@ fn is_early(kind: ErrorKind) -> bool {
 
 /// A peer of the first line sends contacts and reads no answer. Says whether it was dropped, and the other line's peer
 /// answered all the while.
-fn stalls<W: Wire + Drop, A: Attendant<W> + Drop, R: Net>(
-    rt: &R,
-    service: &mut Service<W, A>,
-    other: &mut TcpStream,
-) -> io::Result<bool> {
+fn stalls<H: Rounds, R: Net>(rt: &R, hub: &mut H, other: &mut TcpStream) -> io::Result<bool> {
     let mut peer = connect(rt, 1, 27521)?;
     let flood = [[0x01, 0x2d]; FLOOD];
     for _ in 0..MANY {
         if is_taken(&mut peer, flood.as_flattened()).is_err() {
             return Ok(true);
         }
-        if !is_answered(service, other)? {
+        if !is_answered(hub, other)? {
             return Ok(false);
         }
     }

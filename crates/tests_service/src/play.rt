@@ -1,14 +1,12 @@
 //! Plays what happens on a service of its own.
 
-use crate::memory_connection::MemoryConnection;
 use crate::memory_log::MemoryLog;
 use crate::memory_network::MemoryNetwork;
+use crate::serving::{Player, Rounds, serve};
 use crate::world::{Happens, World};
-use njh_hub::KeepsNothing;
-use njh_serve::{Service, Station, service_on};
-use njh_service::{Exchange, Log, NoSource, Revision};
+use njh_serve::Station;
+use njh_service::{Log, Revision};
 use njh_table::Tables;
-use njh_wire::LineWire;
 use std::alloc::Global;
 use std::io::Write;
 use std::net::{IpAddr, Ipv4Addr};
@@ -18,12 +16,6 @@ use std::test::Fail;
 /// How many rounds a second of a service may take, where each of its lines is due ten times and something happens fifty
 /// times.
 const ROUNDS: u64 = 100;
-
-/// The service of a world.
-type Playing<'a> = Service<
-    LineWire<MemoryConnection<'a>>,
-    Exchange<MemoryNetwork<'a>, MemoryLog<'a>, NoSource>,
->;
 
 /// Plays what happens up to a moment on a service of these tables, and compares what is seen.
 pub fn play<R: Abort>(
@@ -35,15 +27,15 @@ pub fn play<R: Abort>(
     wanted: &str,
 ) -> Result<(), Fail> {
     let world = World::new(alloc, acts);
-    serve(alloc, &world, tables, end)?;
+    play_in(alloc, &world, tables, end)?;
     assert!(rt; world.now() >= end, "it spins at {}", world.now());
     let seen = world.into_seen();
     assert_eq!(rt; str::from_utf8(&seen).unwrap_or("no text"), wanted);
     Ok(())
 }
 
-/// Serves the lines of tables up to a moment.
-fn serve<'a>(alloc: Global, world: &'a World<'a>, tables: &str, end: u64) -> Result<(), Fail> {
+/// Serves the lines of tables in a world up to a moment.
+fn play_in<'a>(alloc: Global, world: &'a World<'a>, tables: &str, end: u64) -> Result<(), Fail> {
     let tables = Tables::read(alloc, tables)?;
     let station = Station {
         network: MemoryNetwork { world },
@@ -51,20 +43,26 @@ fn serve<'a>(alloc: Global, world: &'a World<'a>, tables: &str, end: u64) -> Res
         log: Log::new(Some(MemoryLog { world })),
         revision: Revision::none(alloc),
     };
-    match service_on(alloc, &mut KeepsNothing, tables, station, true) {
-        Ok(mut service) => go_on(&mut service, world, end),
-        Err(fault) => return Err(Fail::from(fault)),
-    }
-    Ok(())
+    serve(alloc, tables, station, &mut Until { world, end })
 }
 
-/// Rounds of a service up to a moment, but no more than it may take.
-fn go_on<'a>(service: &mut Playing<'a>, world: &World<'_>, end: u64) {
-    for _ in 0..end.saturating_mul(ROUNDS) / 1000 {
-        if world.now() >= end {
-            return;
+/// Plays what happens in a world up to a moment.
+#[derive(Drop)]
+struct Until<'a> {
+    world: &'a World<'a>,
+    end: u64,
+}
+
+impl Player for Until<'_> {
+    /// Rounds up to the moment, but no more than there may be.
+    fn play<H: Rounds>(&mut self, hub: &mut H) -> Result<(), Fail> {
+        for _ in 0..self.end.saturating_mul(ROUNDS) / 1000 {
+            if self.world.now() >= self.end {
+                return Ok(());
+            }
+            hub.round();
         }
-        let _ran = service.run(&mut KeepsNothing, Some(1));
+        Ok(())
     }
 }
 

@@ -332,21 +332,15 @@ impl<'a> World<'a> {
 
     /// The hub sent bytes to a peer.
     pub fn see_sent(&self, number: usize, bytes: &[u8]) {
-        let now = self.now.get();
         if let Ok(mut seen) = self.seen.try_borrow_mut() {
-            let _begun = write!(*seen, "{now} to {number}: ").is_ok();
-            for byte in bytes {
-                let _kept = write!(*seen, "{byte:02x}").is_ok();
-            }
-            let _ended = seen.push(b'\n').is_ok();
+            add_sent(&mut seen, self.now.get(), number, bytes);
         }
     }
 
     /// The hub dialled a port.
     pub fn see_dial(&self, port: u16) {
-        let now = self.now.get();
         if let Ok(mut seen) = self.seen.try_borrow_mut() {
-            let _kept = writeln!(*seen, "{now} dial {port}").is_ok();
+            add_dial(&mut seen, self.now.get(), port);
         }
     }
 
@@ -361,4 +355,18 @@ impl<'a> World<'a> {
     pub fn into_seen(self) -> Vec<u8> {
         self.seen.into_inner()
     }
+}
+
+/// Adds that bytes were sent to a peer.
+fn add_sent(seen: &mut Vec<u8>, now: u64, number: usize, bytes: &[u8]) {
+    let _begun = write!(*seen, "{now} to {number}: ").is_ok();
+    for byte in bytes {
+        let _kept = write!(*seen, "{byte:02x}").is_ok();
+    }
+    let _ended = seen.push(b'\n').is_ok();
+}
+
+/// Adds that a port was dialled.
+fn add_dial(seen: &mut Vec<u8>, now: u64, port: u16) {
+    let _kept = writeln!(*seen, "{now} dial {port}").is_ok();
 }

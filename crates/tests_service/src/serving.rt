@@ -1,0 +1,41 @@
+//! A service that is made, lent and dropped in one place, over whatever network: nothing else names its type.
+
+use njh_hub::{Attendant, KeepsNothing, Wire};
+use njh_serve::{Service, Station, service_on};
+use njh_service::NoSource;
+use njh_table::Tables;
+use njh_wire::Network;
+use std::alloc::Global;
+use std::io::Write;
+use std::test::Fail;
+
+/// What runs in rounds.
+pub trait Rounds {
+    /// Runs a round.
+    fn round(&mut self);
+}
+
+impl<W: Wire + Drop, A: Attendant<W> + Drop> Rounds for Service<W, A> {
+    fn round(&mut self) {
+        let _ran = self.run(&mut KeepsNothing, Some(1));
+    }
+}
+
+/// Who plays on a hub that is served.
+pub trait Player {
+    /// Plays, round by round.
+    fn play<H: Rounds>(&mut self, hub: &mut H) -> Result<(), Fail>;
+}
+
+/// Serves the lines of tables while somebody plays.
+pub fn serve<N: Network + Drop, L: Write + Drop, P: Player>(
+    alloc: Global,
+    tables: Tables,
+    station: Station<N, L, NoSource>,
+    player: &mut P,
+) -> Result<(), Fail> {
+    match service_on(alloc, &mut KeepsNothing, tables, station, true) {
+        Ok(mut service) => player.play(&mut service),
+        Err(fault) => Err(Fail::from(fault)),
+    }
+}
