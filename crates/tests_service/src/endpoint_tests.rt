@@ -1,6 +1,6 @@
 //! Which lines of tables are served.
 
-use njh_serve::{Site, endpoints_of};
+use njh_serve::{Endpoint, Site, endpoints_of};
 use njh_table::{LineId, Tables};
 use std::alloc::Global;
 use std::process::Abort;
@@ -38,13 +38,25 @@ fn lines_with_ports(rt: HostRuntime) -> Result<(), Fail> {
 
 fn look<R: Abort>(rt: &R, alloc: Global, tables: &Tables) -> Result<(), Fail> {
     let endpoints = endpoints_of(alloc, tables)?;
-    assert_eq!(rt; endpoints.len(), 2);
-    let (first, second) = (endpoints[0], endpoints[1]);
-    let (customer, number) = (0, 0);
-    assert_eq!(rt; first.line, LineId { customer, number });
-    assert!(rt; matches!(first.site, Site::Port(2)));
-    let (customer, number) = (1, 1);
-    assert_eq!(rt; second.line, LineId { customer, number });
-    assert!(rt; matches!(second.site, Site::Port(7)));
+    compare(rt, &endpoints);
     Ok(())
+}
+
+fn compare<R: Abort>(rt: &R, endpoints: &[Endpoint]) {
+    assert_eq!(rt; endpoints.len(), 2);
+    compare_one(rt, endpoints[0], 0, 2);
+    compare_one(rt, endpoints[1], 1, 7);
+}
+
+/// Of either customer it is the line of the customer's own number.
+fn compare_one<R: Abort>(rt: &R, endpoint: Endpoint, number: u16, port: u16) {
+    let wanted = LineId {
+        customer: number,
+        number,
+    };
+    assert_eq!(rt; endpoint.line, wanted);
+    match endpoint.site {
+        Site::Port(found) => assert_eq!(rt; found, port),
+        Site::Peer(_) => assert!(rt; false, "a peer in place of port {port}"),
+    }
 }

@@ -126,9 +126,10 @@ fn join_by<R: Abort>(rt: &R, alloc: Global, joint: &Joint, case: Case) -> Result
 
 /// Looks what came of a hub: it connects once and its session goes up, and nothing else.
 fn look<R: Abort>(rt: &R, joint: &Joint, number: usize, case: Case) {
+    assert_eq!(rt; joint.told(number, " j1: "), 2, "hub {number}");
     assert_eq!(rt;
-        joint.told(number, " j1: ", "session up with"),
-        (2, 1),
+        joint.told(number, " j1: session up with "),
+        1,
         "hub {number}"
     );
     let (frames, texts) = joint.sent(number);

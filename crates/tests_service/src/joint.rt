@@ -227,12 +227,12 @@ impl Joint {
         (end.frames.get(), end.texts.get())
     }
 
-    /// How many lines of a hub's log have this, and how many also that.
-    pub fn told(&self, number: usize, this: &str, that: &str) -> (usize, usize) {
-        let Ok(log) = self.end(number).log.try_borrow() else {
-            return (0, 0);
-        };
-        count_lines(&log, this, that)
+    /// How many lines of a hub's log have this.
+    pub fn told(&self, number: usize, this: &str) -> usize {
+        match self.end(number).log.try_borrow() {
+            Ok(log) => count_lines(str::from_utf8(&log).unwrap_or(""), this),
+            Err(_) => 0,
+        }
     }
 }
 
@@ -248,17 +248,11 @@ fn take_front(coming: &mut Vec<u8>, into: &mut [u8]) -> usize
     count
 }
 
-/// How many lines of a text have this, and how many also that.
-fn count_lines(text: &[u8], this: &str, that: &str) -> (usize, usize) {
-    let mut with_this = 0usize;
-    let mut with_both = 0usize;
-    for line in str::from_utf8(text).unwrap_or("").lines() {
-        if line.contains(this) {
-            with_this = with_this.saturating_add(1);
-            if line.contains(that) {
-                with_both = with_both.saturating_add(1);
-            }
-        }
+/// How many lines of a text have this.
+fn count_lines(text: &str, this: &str) -> usize {
+    let mut count = 0usize;
+    for line in text.lines() {
+        count = count.saturating_add(usize::from(line.contains(this)));
     }
-    (with_this, with_both)
+    count
 }
