@@ -19,7 +19,7 @@ ELSEWHERE = {"RT_JOBS", "version", "logic", "memcpy", "memmove", "memset", "ratt
 
 def sources():
     for path in sorted(ROOT.rglob("*")):
-        if path.suffix in KINDS and "out" not in path.parts and ".git" not in path.parts:
+        if path.suffix in KINDS and not {"out", ".git", "docs"} & set(path.relative_to(ROOT).parts):
             yield path, path.read_text(encoding="utf-8")
 
 
