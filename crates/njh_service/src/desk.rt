@@ -230,6 +230,8 @@ impl<N: Network + Drop, L: Write + Drop> Desk<N, L> {
             self.tell_end(label, end);
         }
         label.lost = false;
+        // That the session before used up its tries ends its own connection, and not this one.
+        label.in_session = false;
         self.tell_connected(label, event);
     }
 

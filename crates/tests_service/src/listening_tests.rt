@@ -138,6 +138,35 @@ fn another_takes_the_place_after_ten_seconds(rt: HostRuntime) -> Result<(), Fail
     play(&rt, rt.alloc(), TABLES, &acts, 15_500, wanted)
 }
 
+/// Who takes the place of a peer that was asked five times and is not yet given up keeps it.
+#[test]
+fn another_takes_the_place_after_five_tries(rt: HostRuntime) -> Result<(), Fail> {
+    let acts = [
+        at(1000, 0, Act::Connects(1)),
+        at(1000, 0, CONTACT),
+        at(1050, 0, SIGN_ON),
+        at(14_000, 1, Act::Connects(1)),
+        at(14_050, 1, CONTACT),
+    ];
+    let wanted = "\
+1970-01-01T00:00:01Z ACME a1: connected from 10.0.0.0:5000
+1000 to 0: 1070
+1050 to 0: 1002a08fcff0d129c2e4d9c5c1e4404001000000000000040040404040404040404040404040404040\
+0000000000001026
+1970-01-01T00:00:01Z ACME a1: session up with LYON
+3550 to 0: 3d
+6050 to 0: 3d
+8550 to 0: 3d
+11050 to 0: 3d
+13550 to 0: 3d
+1970-01-01T00:00:14Z ACME a1: failed: replaced by another connection
+1970-01-01T00:00:14Z ACME a1: connected from 10.0.0.1:5000
+1970-01-01T00:00:14Z ACME a1: session down: the peer ended it
+14050 to 1: 1070
+";
+    play(&rt, rt.alloc(), TABLES, &acts, 14_500, wanted)
+}
+
 /// A peer that takes half an answer and no more is dropped a second later, and who waits gets in; the other line
 /// answers at once.
 #[test]
