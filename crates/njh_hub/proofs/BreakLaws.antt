@@ -4,7 +4,7 @@ use Rattle.std.proofs.Common.{Result, Ok, ap, sym, subst, ◌∙◌, ⊎_elim, a
 use Rattle.std.specs.Prelude.{OnErr}
 use Rattle.std.proofs.lemmas.Bool.{cases_eq}
 use Rattle.std.proofs.lemmas.List.{length-append, get_or_read, get_or-set_same, get_or-set_other}
-use Rattle.njh_restore.specs.Restoring.{KeptFile}
+use Rattle.njh_spool.specs.Restoring.{KeptFile}
 use Rattle.njh_table.specs.declared.LineId.{LineId}
 use Rattle.njh_table.specs.declared.new_routes.GivenRoute.{GivenRoute}
 use Rattle.njh_table.specs.NewRoutes.{new_routes_of, routes_checked, entries_of_routes}

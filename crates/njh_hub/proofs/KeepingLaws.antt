@@ -2,7 +2,7 @@
 use Rattle.std.proofs.Common.{◌≡◌, ℕ, ◌<◌, ◌≤◌, List, [], length, set, Result, Ok, Err, ap, ◌∙◌, arith, inl}
 use Rattle.std.specs.Prelude.{OnOk, OnErr}
 use Rattle.std.proofs.lemmas.List.{get_or-map, length-set}
-use Rattle.njh_restore.specs.Restoring.{KeptFile}
+use Rattle.njh_spool.specs.Restoring.{KeptFile}
 use Rattle.njh_hub.specs.Keeping.{IsSettled, LeavesEither, LeavesNoMore, LeavesOnly, Follows, Keeps, KeptIsOwn}
 use Rattle.njh_hub.specs.Keeping.{kept_files, kept_of}
 use Rattle.njh_hub.specs.Sent.{IsCounted}

@@ -9,9 +9,9 @@ use Rattle.njh_record.specs.Stored.{Stored}
 use Rattle.njh_record.specs.declared.Kind.{Kind}
 use Rattle.njh_spool.specs.CustomerSpool.{CustomerSpool, WholeFile}
 use Rattle.njh_spool.specs.Spools as spools
-use Rattle.njh_restore.specs.Restoring.{KeptFile, has_headers, limits_fault, restore_fault, state_back, with_restored}
-use Rattle.njh_restore.specs.declared.fault.RestoreFault.{RestoreFault}
-use Rattle.njh_restore.specs.declared.fault.RestoreFault.TheVariants.{BadHeader}
+use Rattle.njh_spool.specs.Restoring.{KeptFile, has_headers, limits_fault, restore_fault, state_back, with_restored}
+use Rattle.njh_spool.specs.declared.restoring.fault.RestoreFault.{RestoreFault}
+use Rattle.njh_spool.specs.declared.restoring.fault.RestoreFault.TheVariants.{BadHeader}
 use Rattle.njh_spool.specs.CustomerSpool.{next_number}
 use Rattle.njh_stream.specs.Holding.{unrouted_held}
 use Rattle.njh_stream.specs.code.Agreement.{AreTied}

@@ -5,8 +5,8 @@ use Rattle.njh_table.specs.Entries.{RouteEntry}
 use Rattle.njh_customer.specs.NewRoutes.{part_after_routes}
 use Rattle.njh_customer.specs.Part.{part_after_bytes, part_after_signal}
 use Rattle.njh_customer.specs.declared.signal.Signal.{Signal}
-pub use Rattle.njh_restore.specs.Restoring.{KeptFile}
-use Rattle.njh_restore.specs.Restoring.{kept}
+pub use Rattle.njh_spool.specs.Restoring.{KeptFile}
+use Rattle.njh_spool.specs.Restoring.{kept}
 use Rattle.njh_spool.specs.CustomerSpool.{WholeFile}
 use Rattle.njh_spool.specs.declared.State.{State}
 use Rattle.njh_spool.specs.declared.State.TheVariants.{Ready, Held, Refused, Sending}

@@ -1,5 +1,5 @@
 -- A customer that a whole file comes back to.
-use Rattle.njh_restore.specs.Restoring.{KeptFile, with_restored}
+use Rattle.njh_spool.specs.Restoring.{KeptFile, with_restored}
 use Rattle.njh_stream.specs.Holding.{unrouted_held}
 use Rattle.njh_customer.specs.Customer.{Customer}
 use Rattle.njh_customer.specs.Part.{Part}

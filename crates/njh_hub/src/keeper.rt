@@ -19,7 +19,7 @@ pub struct KeepFault;
 /// only where the count of failures rose, or stands at its greatest value; else it stays.
 pub trait Keeper {
     ghost use Rattle.std.specs.Prelude.{ℕ, List};
-    ghost use Rattle.njh_restore.specs.Restoring.{KeptFile};
+    ghost use Rattle.njh_spool.specs.Restoring.{KeptFile};
     ghost use Rattle.njh_hub.specs.WholeHub.{Part};
 
     /// What a crash at this moment may leave: of each customer, by its number, what is kept of its whole files, in

@@ -39,7 +39,7 @@ pub use laws::{
     two_lists_are_like,
 };
 pub use njh_customer::{Signal, cuts_are_like};
-pub use njh_restore::RestoreFault;
+pub use njh_spool::RestoreFault;
 pub use rounds::Rounds;
 pub use serve::serve_turns;
 pub use service::attend;

@@ -6,7 +6,7 @@ use Rattle.njh_customer.specs.Growing.{HasShortRests, IsShortRest}
 use Rattle.njh_customer.specs.Part.{rest_at}
 use Rattle.njh_hub.specs.Restored.{part_with_file}
 use Rattle.njh_hub.specs.WholeHub.{Part, no_entry, no_part, part_at_open}
-use Rattle.njh_restore.specs.Restoring.{KeptFile}
+use Rattle.njh_spool.specs.Restoring.{KeptFile}
 use Rattle.njh_store.specs.Kept.{Spool, Whole}
 use Rattle.njh_table.specs.Accepted.{AreDistinct}
 use Rattle.njh_table.specs.Entries.{LineEntry}

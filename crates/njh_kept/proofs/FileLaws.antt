@@ -5,8 +5,8 @@ use Rattle.std.specs.List.{AllByRecursion}
 use Rattle.std.proofs.lemmas.List.Elements.{All-from_recursion}
 use Rattle.std.proofs.lemmas.Bool.Decides.{nat_tests}
 use Rattle.njh_record.specs.declared.Kind.{Kind}
-use Rattle.njh_restore.specs.Restoring.{KeptFile, restore_fault}
-use Rattle.njh_restore.specs.declared.fault.RestoreFault.{RestoreFault}
+use Rattle.njh_spool.specs.Restoring.{KeptFile, restore_fault}
+use Rattle.njh_spool.specs.declared.restoring.fault.RestoreFault.{RestoreFault}
 use Rattle.njh_hub.specs.WholeHub.{Part}
 use Rattle.njh_store.specs.Kept.{File, contents_of}
 use Rattle.njh_store.specs.declared.kept.StoredRecord.{StoredRecord}

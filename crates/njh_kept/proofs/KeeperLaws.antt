@@ -4,7 +4,7 @@ use Rattle.sqlite.specs.State.{Survives}
 use Rattle.sqlite.specs.Effect.{Database}
 use Rattle.sqlite.specs.Store.{Ghosts}
 use Rattle.sqlite.specs.Tree.{Trees}
-use Rattle.njh_restore.specs.Restoring.{KeptFile}
+use Rattle.njh_spool.specs.Restoring.{KeptFile}
 use Rattle.njh_store.specs.Kept.{Holds, Spool}
 use Rattle.njh_store.specs.Shelf.{shown}
 use Rattle.njh_store.specs.Standing.{Standing, Stands}

@@ -7,7 +7,7 @@ use Rattle.sqlite.specs.Effect.{Database}
 use Rattle.sqlite.specs.State.{HasCleanDisk, State}
 use Rattle.sqlite.specs.Store.{Ghosts}
 use Rattle.njh_customer.specs.Growing.{HasShortRests}
-use Rattle.njh_restore.specs.Restoring.{KeptFile}
+use Rattle.njh_spool.specs.Restoring.{KeptFile}
 use Rattle.njh_spool.specs.CustomerSpool.{CustomerSpool, has_file_room, is_number, next_number}
 use Rattle.njh_spool.specs.Spools.{IsSound}
 use Rattle.njh_stream.specs.WholeFiles.{HaveHeaders}

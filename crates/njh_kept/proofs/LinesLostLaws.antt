@@ -27,9 +27,9 @@ use Rattle.njh_stream.specs.Holding.{destination_unrouted, has_lost_route, held_
 use Rattle.njh_stream.specs.Sending as sending
 use Rattle.njh_stream.specs.declared.receiver.Receiver.TheVariants as receiver
 use Rattle.njh_stream.specs.declared.sender.Sender.TheVariants as sender
-use Rattle.njh_restore.specs.Restoring.{KeptFile, has_blocks_for, has_headers, kept, limits_fault, restore_fault, state_back}
-use Rattle.njh_restore.specs.declared.fault.RestoreFault.{RestoreFault}
-use Rattle.njh_restore.specs.declared.fault.RestoreFault.TheVariants.{BadHeader, FilesOver, QuotaOver}
+use Rattle.njh_spool.specs.Restoring.{KeptFile, has_blocks_for, has_headers, kept, limits_fault, restore_fault, state_back}
+use Rattle.njh_spool.specs.declared.restoring.fault.RestoreFault.{RestoreFault}
+use Rattle.njh_spool.specs.declared.restoring.fault.RestoreFault.TheVariants.{BadHeader, FilesOver, QuotaOver}
 use Rattle.njh_table.specs.Entries.{CustomerEntry, LineEntry, RouteEntry}
 use Rattle.njh_table.specs.Marks.{entry_unmarked}
 use Rattle.njh_table.specs.Keys.{Walked}

@@ -7,7 +7,7 @@ use Rattle.njh_header.specs.FileHeaders.{destination_of}
 use Rattle.njh_record.specs.Stored.{Stored}
 use Rattle.njh_record.specs.declared.Kind.{Kind}
 use Rattle.njh_spool.specs.declared.State.TheVariants.{Ready, Held}
-use Rattle.njh_restore.specs.Restoring.{KeptFile, state_back}
+use Rattle.njh_spool.specs.Restoring.{KeptFile, state_back}
 use Rattle.njh_spool.specs.CustomerSpool.{WholeFile, next_number}
 use Rattle.njh_stream.specs.Holding.{destination_unrouted, has_lost_route, held_file, waits_in_state}
 use Rattle.njh_table.specs.Entries.{CustomerEntry}

@@ -7,9 +7,9 @@ use Rattle.std.proofs.lemmas.Bool.{cases_Bool, eqb-false, eqb-true}
 use Rattle.std.proofs.lemmas.List.{get_or-map, length-map}
 use Rattle.std.specs.Option.{option_or}
 use Rattle.njh_record.specs.Stored.{Stored}
-use Rattle.njh_restore.specs.Restoring.{KeptFile, has_blocks_for, has_headers, restore_fault, state_back}
-use Rattle.njh_restore.specs.declared.fault.RestoreFault.{RestoreFault}
-use Rattle.njh_restore.specs.declared.fault.RestoreFault.TheVariants.{QuotaOver, FilesOver, BadHeader}
+use Rattle.njh_spool.specs.Restoring.{KeptFile, has_blocks_for, has_headers, restore_fault, state_back}
+use Rattle.njh_spool.specs.declared.restoring.fault.RestoreFault.{RestoreFault}
+use Rattle.njh_spool.specs.declared.restoring.fault.RestoreFault.TheVariants.{QuotaOver, FilesOver, BadHeader}
 use Rattle.njh_spool.specs.CustomerSpool.{CustomerSpool, PartialFile, WholeFile, has_file_room, is_number, next_number, partial_numbered}
 use Rattle.njh_stream.specs.Holding.{has_lost_route, held_file}
 use Rattle.njh_stream.specs.SpoolFiles.{records_in}

@@ -2,7 +2,7 @@
 use Rattle.std.proofs.Common.{◌≡◌, ℕ, List, [], ◌∷◌, map, Some, refl, sym, ap, ◌∙◌}
 use Rattle.std.specs.List.{AllByRecursion, AllZip}
 use Rattle.njh_store.specs.Kept.{File, Spool, Whole, contents, records_of, whole_in}
-use Rattle.njh_restore.specs.Restoring.{KeptFile}
+use Rattle.njh_spool.specs.Restoring.{KeptFile}
 use Rattle.njh_kept.specs.Opened.{file_in, own_files}
 use Rattle.njh_kept.specs.code.Mirrored.{ReadsAs, own_rows}
 use Rattle.njh_kept.proofs.NumberedLaws.{all_weaker}

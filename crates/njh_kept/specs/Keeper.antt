@@ -11,7 +11,7 @@ use Rattle.njh_hub.specs.WholeHub.{Part, SameLines, part_at_open}
 use Rattle.njh_store.specs.Kept.{Spool, Holds, kept}
 use Rattle.njh_store.specs.Shelf.{Shelf, shelf_code, shown}
 use Rattle.njh_store.specs.Standing.{Standing, Stands}
-use Rattle.njh_restore.specs.Restoring.{KeptFile}
+use Rattle.njh_spool.specs.Restoring.{KeptFile}
 use Rattle.njh_table.specs.TableFile.{TableFile}
 use Rattle.njh_table.specs.Accepted.{AreDistinct}
 use Rattle.njh_kept.specs.Opened.{AllAreBack, file_in, hub_opened, is_name_of, own_files}

@@ -6,7 +6,7 @@ use Rattle.njh_ebcdic.specs.Reading.{name_of_text}
 use Rattle.njh_record.specs.Stored.{Stored}
 use Rattle.njh_record.specs.declared.Kind.{Kind}
 use Rattle.njh_record.specs.declared.Kind.TheVariants.{In, Out}
-use Rattle.njh_restore.specs.Restoring.{KeptFile, restore_fault}
+use Rattle.njh_spool.specs.Restoring.{KeptFile, restore_fault}
 use Rattle.njh_table.specs.Entries.{CustomerEntry}
 use Rattle.njh_table.specs.TableFile.{TableFile, customer_at, entry_of}
 use Rattle.njh_hub.specs.Restored.{part_with_file}

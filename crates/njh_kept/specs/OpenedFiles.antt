@@ -3,7 +3,7 @@ use Rattle.std.specs.Prelude.{◌≡◌, ◌||◌, if◌then◌else◌, List, []
 use Rattle.njh_header.specs.FileHeaders.{destination_of}
 use Rattle.njh_record.specs.Stored.{Stored}
 use Rattle.njh_record.specs.declared.Kind.{Kind}
-use Rattle.njh_restore.specs.Restoring.{KeptFile}
+use Rattle.njh_spool.specs.Restoring.{KeptFile}
 use Rattle.njh_spool.specs.CustomerSpool.{WholeFile}
 use Rattle.njh_spool.specs.declared.State.{State}
 use Rattle.njh_spool.specs.declared.State.TheVariants.{Ready, Held}

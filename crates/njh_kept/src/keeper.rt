@@ -7,7 +7,7 @@ ghost use Rattle.njh_customer.specs.Growing.{HasShortRests};
 ghost use Rattle.njh_hub.specs.Keeping.{LeadsHub};
 ghost use Rattle.njh_hub.specs.Sent.{IsCounted};
 ghost use Rattle.njh_hub.specs.WholeHub.{Part, part};
-ghost use Rattle.njh_restore.specs.Restoring.{KeptFile};
+ghost use Rattle.njh_spool.specs.Restoring.{KeptFile};
 ghost use Rattle.njh_spool.specs.Spools.{IsSound};
 ghost use Rattle.njh_store.specs.Kept.{Spool, Holds};
 ghost use Rattle.njh_store.specs.Origin.{StandsAsFound};

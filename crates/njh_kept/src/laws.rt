@@ -8,7 +8,7 @@ ghost use Rattle.njh_kept.specs.LinesLost.{LeftAsLinesLost, OpenedAsLinesLost};
 ghost use Rattle.njh_kept.specs.OpenedFiles.{HasOpened};
 ghost use Rattle.njh_kept.specs.Keeper.{IsSettledFrom, Keeping, MayLeave, left_in};
 ghost use Rattle.njh_hub.specs.Keeping.{LeavesOnly};
-ghost use Rattle.njh_restore.specs.Restoring.{KeptFile};
+ghost use Rattle.njh_spool.specs.Restoring.{KeptFile};
 ghost use Rattle.njh_store.specs.Kept.{File, Spool, Whole, with_file};
 ghost use Rattle.njh_store.specs.Shelf.{shown};
 ghost use Rattle.njh_store.specs.Standing.{Standing, Stands};

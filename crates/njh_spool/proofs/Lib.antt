@@ -1,3 +1,4 @@
+pub mod AppendAllLaws
 pub mod BeginLaws
 pub mod CallFinds
 pub mod CallLaws
@@ -15,6 +16,7 @@ pub mod ChainWrites
 pub mod CostLaws
 pub mod CountLaws
 pub mod FileLaws
+pub mod GrowingLaws
 pub mod HeaderLaws
 pub mod IndexLaws
 pub mod KeptLaws
@@ -29,6 +31,7 @@ pub mod QuotaLaws
 pub mod ReadLaws
 pub mod ReaderLaws
 pub mod RecordLaws
+pub mod RestoringLaws
 pub mod RewriteLaws
 pub mod RowLaws
 pub mod SummaryLaws

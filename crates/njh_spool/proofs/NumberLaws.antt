@@ -2,12 +2,13 @@
 use Rattle.std.proofs.Common.{◌≡◌, ℕ, zero, suc, ◌+◌, ◌<◌, ◌≤◌, Bool, true, false, eqb, List, [], ◌∷◌, ◌++◌, length}
 use Rattle.std.proofs.Common.{map, refl, sym, ap, ◌∙◌, inl, inr, arith, length-append}
 use Rattle.std.specs.List.{list_any}
-use Rattle.std.proofs.lemmas.Bool.{cases_eq, cases_lt}
+use Rattle.std.proofs.lemmas.Bool.{cases_eq, cases_lt, ltb-true}
 use Rattle.std.proofs.lemmas.Bool.Decides.{nat_tests}
 use Rattle.std.proofs.lemmas.List.{length-map}
 use Rattle.std.proofs.lemmas.List.Folds.{list_any-append}
 use Rattle.std.proofs.lemmas.Map.Steps.{le-length_from_below}
-use Rattle.njh_spool.specs.CustomerSpool.{CustomerSpool, WholeFile, PartialFile, is_number, least_from, next_number}
+use Rattle.njh_spool.specs.CustomerSpool.{CustomerSpool, WholeFile, PartialFile, has_file_room, is_number, least_from}
+use Rattle.njh_spool.specs.CustomerSpool.{next_number}
 
 -- what a search for the least free number finds, from n on and among so many
 pub record IsLeastFrom (k n least : ℕ) (s : CustomerSpool) : Type 0 where
@@ -88,3 +89,7 @@ next_number-below s room =
 
 pub next_number-free : (s : CustomerSpool) → length s.whole + length s.partial < s.limit → is_number (next_number s) s ≡ false
 next_number-free s room = (least_from_is s.limit 0 s).free (omega (arith, next_number-below s room))
+
+-- no file has it, where the customer may have one file more
+pub next_number-fresh : (s : CustomerSpool) → has_file_room s ≡ true → is_number (next_number s) s ≡ false
+next_number-fresh s room = next_number-free s (ltb-true (length s.whole + length s.partial) s.limit room)

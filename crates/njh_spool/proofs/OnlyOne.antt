@@ -44,11 +44,6 @@ module _ {X : Type 0} (p : X → Bool) where
       ]
 
   -- where it finds one element
-  pub count_by_one : (xs ys : List X) (x : X) → p x ≡ true → count_by p (xs ++ x ∷ ys) ≡ count_by p xs + count_by p ys + 1
-  count_by_one xs ys x passes =
-      let here : ◌≡◌ {A = ℕ} (cond (p x) 1 0) 1 = rw passes refl in
-      omega (arith, sum_by-append (λ y. cond (p y) 1 0) xs (x ∷ ys), sum_by-cons (λ y. cond (p y) 1 0) x ys)
-
   pub filter_one : (xs ys : List X) (x : X) → p x ≡ true → list_any p xs ≡ false → list_any p ys ≡ false →
       filter (λ y. not (p y)) (xs ++ x ∷ ys) ≡ xs ++ ys
   filter_one xs ys x passes before after =

@@ -1,7 +1,7 @@
 //! A whole file that was kept elsewhere comes back to its customer.
 
 ghost use Rattle.std.specs.Prelude.{◌≡◌, ◌<◌, length, slice_set, MatchOption, IsOk, OnOk, OnErr, Err};
-ghost use Rattle.njh_restore.specs.Restoring.{kept, restore_fault};
+ghost use Rattle.njh_spool.specs.Restoring.{kept, restore_fault};
 ghost use Rattle.njh_hub.specs.Restored.{part_with_file};
 ghost use Rattle.njh_hub.specs.WholeHub.{part};
 
@@ -9,7 +9,7 @@ use crate::hub::Hub;
 use njh_customer::routes_keep_coherent;
 use njh_header::FileRecords;
 use njh_record::Kind;
-use njh_restore::{RestoreFault, restore};
+use njh_spool::{RestoreFault, restore};
 use njh_stream::{hold_unrouted, streams_stay_tied};
 
 impl Hub {

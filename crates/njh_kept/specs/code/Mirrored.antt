@@ -3,7 +3,7 @@ use Rattle.std.specs.Prelude.{◌≡◌, ◌≢◌, ℕ, ◌+◌, ◌<◌, ◌�
 use Rattle.std.specs.List.{AllByRecursion}
 use Rattle.njh_record.specs.Stored.{Stored}
 use Rattle.njh_store.specs.Kept.{File, Record, Spool, Rise, IsNumbered, contents, records_of}
-use Rattle.njh_restore.specs.Restoring.{KeptFile}
+use Rattle.njh_spool.specs.Restoring.{KeptFile}
 use Rattle.njh_kept.specs.Opened.{Contents, file_in, is_own}
 
 -- what stands in a spool file stands under rising numbers, and each record under that of its file and place

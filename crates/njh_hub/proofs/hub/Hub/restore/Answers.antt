@@ -1,6 +1,6 @@
 use Rattle.std.proofs.Common.{◌≡◌, ◌<◌, ◌∙◌, true, false, List, MatchOption, Result, Ok, Err, length, ap, slice_set, subst, sym, arith}
-use Rattle.njh_restore.specs.Restoring.{kept, restore_fault}
-use Rattle.njh_restore.specs.declared.fault.RestoreFault.{RestoreFault}
+use Rattle.njh_spool.specs.Restoring.{kept, restore_fault}
+use Rattle.njh_spool.specs.declared.restoring.fault.RestoreFault.{RestoreFault}
 use Rattle.njh_spool.specs.CustomerSpool.{CustomerSpool}
 use Rattle.njh_spool.specs.Spools as spools
 use Rattle.njh_hub.specs.Restored.{part_with_file}

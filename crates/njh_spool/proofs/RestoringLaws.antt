@@ -13,12 +13,13 @@ use Rattle.njh_spool.specs.declared.State.TheVariants.{Held}
 use Rattle.njh_spool.specs.Spools.{spool_at, no_spool, begin_fault, fault_unless}
 use Rattle.njh_spool.specs.declared.SpoolFault.{SpoolFault}
 use Rattle.njh_spool.specs.declared.SpoolFault.TheVariants.{QuotaFull, TooManyFiles}
-use Rattle.njh_restore.specs.declared.fault.RestoreFault.{RestoreFault}
-use Rattle.njh_restore.specs.declared.fault.RestoreFault.TheVariants.{QuotaOver, FilesOver}
-use Rattle.njh_restore.specs.Restoring.{has_blocks_for, kept, limits_fault, with_restored}
-use Rattle.njh_restore.specs.code.Growing.{limit_of, with_begun, with_more, IsGrownInPart}
-use Rattle.njh_restore.proofs.GrowingLaws.{begun-blocks, begun-dropped, begun-finished, begun-more, begun-there}
-use Rattle.njh_restore.proofs.GrowingLaws.{finished-held, some-blocks}
+use Rattle.njh_spool.specs.declared.restoring.fault.RestoreFault.{RestoreFault}
+use Rattle.njh_spool.specs.declared.restoring.fault.RestoreFault.TheVariants.{QuotaOver, FilesOver}
+use Rattle.njh_spool.specs.Restoring.{has_blocks_for, kept, limits_fault, with_restored}
+use Rattle.njh_spool.specs.code.Growing.{limit_of, with_begun, with_more, IsGrownInPart}
+use Rattle.njh_spool.proofs.GrowingLaws.{begun-blocks, begun-dropped, begun-finished, begun-more, begun-there}
+use Rattle.njh_spool.proofs.GrowingLaws.{finished-held, some-blocks}
+use Rattle.njh_spool.proofs.NumberLaws.{next_number-fresh}
 
 -- ---- the limits
 
@@ -69,8 +70,10 @@ module _ (c : ℕ) (kind : Kind) (rs : List Stored) (old : List CustomerSpool) (
   abbrev pub HasBegun : List CustomerSpool → Type 0
   HasBegun x = x ≡ slice_set old c (with_new_partial kind own)
 
-  module _ (room : has_file_room own ≡ true) (fresh : is_number (next_number own) own ≡ false)
-      (id : ℕ) (number : id ≡ next_number own) (x : List CustomerSpool) (begun : HasBegun x) where
+  module _ (room : has_file_room own ≡ true) (id : ℕ) (number : id ≡ next_number own) (x : List CustomerSpool) (begun : HasBegun x) where
+    fresh : is_number (next_number own) own ≡ false
+    fresh = next_number-fresh own room
+
     now : spool_at c x ≡ with_new_partial kind own
     now = ap (spool_at c) begun ∙ get_or-set_same old c (with_new_partial kind own) no_spool range
 
@@ -139,8 +142,10 @@ pub had_room : {A : Type 0} (rs : List Stored) (s : CustomerSpool) (r : Result A
 had_room rs s r x told is = limits_none (has_file_room s) (has_blocks_for rs s) r x told is
 
 module _ (c : ℕ) (kind : Kind) (rs : List Stored) (old : List CustomerSpool) (range : c < length old)
-    (fresh : is_number (next_number (spool_at c old)) (spool_at c old) ≡ false)
-    (id : ℕ) (number : id ≡ next_number (spool_at c old)) where
+    (room : has_file_room (spool_at c old) ≡ true) (id : ℕ) (number : id ≡ next_number (spool_at c old)) where
+  new_number : is_number (next_number (spool_at c old)) (spool_at c old) ≡ false
+  new_number = next_number-fresh (spool_at c old) room
+
   pub finished : (y z : List CustomerSpool) → y ≡ slice_set old c (with_begun kind rs (spool_at c old))
       → z ≡ slice_set y c (with_finished id (spool_at c y)) → z ≡ slice_set old c (with_restored (kept kind false rs) (spool_at c old))
   finished y z begun e =
@@ -149,7 +154,7 @@ module _ (c : ℕ) (kind : Kind) (rs : List Stored) (old : List CustomerSpool) (
       let here : spool_at c y ≡ with_begun kind rs own =
       ap (spool_at c) begun ∙ get_or-set_same old c (with_begun kind rs own) no_spool range in
       let done : with_finished id (spool_at c y) ≡ whole =
-      ap (with_finished id) here ∙ ap (λ (n : ℕ). with_finished n (with_begun kind rs own)) number ∙ begun-finished kind own fresh rs in
+      ap (with_finished id) here ∙ ap (λ (n : ℕ). with_finished n (with_begun kind rs own)) number ∙ begun-finished kind own new_number rs in
       e ∙ ap (slice_set y c) done ∙ ap (λ (ss : List CustomerSpool). slice_set ss c whole) begun
       ∙ set-set old c (with_begun kind rs own) whole
 
@@ -161,5 +166,5 @@ module _ (c : ℕ) (kind : Kind) (rs : List Stored) (old : List CustomerSpool) (
       let held = with_restored (kept kind true rs) own in
       let here : spool_at c z ≡ whole = ap (spool_at c) whole_now ∙ get_or-set_same old c whole no_spool range in
       let done : with_state id Held (spool_at c z) ≡ held =
-      ap (with_state id Held) here ∙ ap (λ (n : ℕ). with_state n Held whole) number ∙ finished-held kind own fresh rs in
+      ap (with_state id Held) here ∙ ap (λ (n : ℕ). with_state n Held whole) number ∙ finished-held kind own new_number rs in
       e ∙ ap (slice_set z c) done ∙ ap (λ (ss : List CustomerSpool). slice_set ss c held) whole_now ∙ set-set old c whole held

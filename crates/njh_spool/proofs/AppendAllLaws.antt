@@ -12,8 +12,8 @@ use Rattle.njh_spool.specs.CustomerSpool.{CustomerSpool, has_room_for, partial_n
 use Rattle.njh_spool.specs.Spools.{spool_at, no_spool, append_fault, fault_unless}
 use Rattle.njh_spool.specs.declared.SpoolFault.{SpoolFault}
 use Rattle.njh_spool.specs.declared.SpoolFault.TheVariants.{QuotaFull, NoSuchFile}
-use Rattle.njh_restore.specs.code.Growing.{with_more}
-use Rattle.njh_restore.proofs.GrowingLaws.{more-none, more-appended, more-there, more-blocks}
+use Rattle.njh_spool.specs.code.Growing.{with_more}
+use Rattle.njh_spool.proofs.GrowingLaws.{more-none, more-appended, more-there, more-blocks}
 
 -- a refusal by a result
 pub on_err : {A E : Type 0} {P : Type 0} (r : Result A E) → is_err r ≡ true → OnErr r P → P

@@ -1,16 +1,20 @@
-//! A whole file is put back.
+//! A whole file that was kept elsewhere is put back.
 
-ghost use Rattle.std.specs.Prelude.{◌≡◌, ◌<◌, ◌≤◌, length, slice_set, take, MatchOption, IfOk, OnOk, OnErr, IsOk, IsSome, Err};
+mod fault;
+
+ghost use Rattle.std.specs.Prelude.{◌≡◌, ◌<◌, ◌≤◌, length, slice_set, MatchOption, IfOk, OnOk, OnErr, IsOk, IsSome, Err};
 ghost use Rattle.std.specs.Bool.{OnTrue, OnFalse};
 ghost use Rattle.njh_spool.specs.CustomerSpool.{next_number, partial_numbered, used_blocks};
 ghost use Rattle.njh_spool.specs.Spools.{spool_at};
-ghost use Rattle.njh_restore.specs.Restoring.{has_headers, kept, limits_fault, restore_fault, with_restored};
-ghost use Rattle.njh_restore.specs.code.Growing.{limit_of, with_begun, with_more, IsGrownInPart};
+ghost use Rattle.njh_spool.specs.Restoring.{has_headers, kept, limits_fault, restore_fault, with_restored};
+ghost use Rattle.njh_spool.specs.code.Growing.{limit_of, with_begun, with_more, IsGrownInPart};
 
-use crate::fault::RestoreFault;
+use crate::file_id::FileId;
+use crate::spool::Spool;
+use crate::{SpoolFault, State};
+pub use fault::RestoreFault;
 use njh_header::{FileRecords, destination_of, name_of, owner_of};
 use njh_record::{Kind, Record};
-use njh_spool::{FileId, Spool, SpoolFault, State, next_number_is_least};
 
 /// Puts a whole file back, last in its customer's order of arrival and under the least number that no file of the
 /// customer has. One that was Held is Held again, and any other is Ready.
@@ -34,7 +38,6 @@ pub fn restore<F: FileRecords>(
         return Err(RestoreFault::BadHeader);
     }
     let id = begin_whole(spool, customer, kind, file)?;
-    next_number_is_least();
     spool.finish(customer, id).ok();
     if held {
         spool.set_state(customer, id, State::Held).ok();
@@ -65,7 +68,6 @@ fn begin_whole<F: FileRecords>(
         (with_begun kind (F.records file.now) (spool_at customer spool.old))) }
     ensures err { OnErr result (spool.new ≡ spool.old) }
 {
-    next_number_is_least();
     let id = match spool.begin(customer, kind) {
         Ok(id) => id,
         Err(fault) => return Err(limit_of(fault)),

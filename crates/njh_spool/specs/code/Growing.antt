@@ -6,8 +6,8 @@ use Rattle.njh_spool.specs.CustomerSpool.{CustomerSpool, PartialFile, next_numbe
 use Rattle.njh_spool.specs.Spools.{spool_at}
 use Rattle.njh_spool.specs.declared.SpoolFault.{SpoolFault}
 use Rattle.njh_spool.specs.declared.SpoolFault.TheVariants.{QuotaFull, TooManyFiles, NoSuchFile, Memory}
-use Rattle.njh_restore.specs.declared.fault.RestoreFault.{RestoreFault}
-use Rattle.njh_restore.specs.declared.fault.RestoreFault.TheVariants.{QuotaOver, FilesOver}
+use Rattle.njh_spool.specs.declared.restoring.fault.RestoreFault.{RestoreFault}
+use Rattle.njh_spool.specs.declared.restoring.fault.RestoreFault.TheVariants.{QuotaOver, FilesOver}
 
 -- the partial file of a number has these records more
 abbrev pub grown : ℕ → List Stored → PartialFile → PartialFile

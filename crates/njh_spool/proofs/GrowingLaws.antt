@@ -1,8 +1,9 @@
 -- A new partial file that takes records, and becomes a whole one or is dropped.
-use Rattle.std.proofs.Common.{◌≡◌, ℕ, ◌+◌, ◌<◌, ◌≤◌, Bool, true, false, cond, not, ◌||◌, ◌==◌, List, [], ◌∷◌, ◌++◌, length}
-use Rattle.std.proofs.Common.{map, filter, find, take, drop, sum_by, Option, Some, None, IsSome, is_some, refl, ap, ◌∙◌}
-use Rattle.std.proofs.Common.{arith, append_assoc, append-nil, true≢false, eq-eqb}
+use Rattle.std.proofs.Common.{◌≡◌, ℕ, ◌+◌, ◌<◌, ◌≤◌, Bool, true, false, cond, ◌==◌, List, [], ◌∷◌, ◌++◌, length}
+use Rattle.std.proofs.Common.{map, find, take, drop, sum_by, Option, Some, None, IsSome, is_some, refl, ap, ◌∙◌}
+use Rattle.std.proofs.Common.{arith, append_assoc, append-nil, eq-eqb}
 use Rattle.std.specs.List.{list_any}
+use Rattle.std.proofs.lemmas.Bool.{or_parts}
 use Rattle.std.proofs.lemmas.List.{take-append-drop}
 use Rattle.std.proofs.lemmas.List.Sums.{sum_by-cons, sum_by-append}
 use Rattle.njh_record.specs.Stored.{Stored}
@@ -11,44 +12,9 @@ use Rattle.njh_spool.specs.CustomerSpool.{CustomerSpool, PartialFile, WholeFile,
 use Rattle.njh_spool.specs.CustomerSpool.{next_number, with_new_partial, with_appended, partial_numbered, without_partial}
 use Rattle.njh_spool.specs.CustomerSpool.{with_finished, with_state, with_arrived, as_whole, one_more}
 use Rattle.njh_spool.specs.declared.State.TheVariants.{Ready, Held}
-use Rattle.njh_restore.specs.Restoring.{kept, with_restored}
-use Rattle.njh_restore.specs.code.Growing.{grown, with_more, with_begun}
-
--- ---- lists in which nothing passes a test
-
-or_parts : (a b : Bool) → (a || b) ≡ false → (a ≡ false) × (b ≡ false)
-or_parts true b e = absurd (true≢false e)
-or_parts false b e = (refl, e)
-
-module _ {X : Type 0} (p : X → Bool) where
-  none_changed : (change : X → X) (xs : List X) → list_any p xs ≡ false → map (λ x. cond (p x) (change x) x) xs ≡ xs
-  none_changed change [] none = refl
-  none_changed change (x ∷ xs) none =
-      let parts = or_parts (p x) (list_any p xs) none in
-      ap (λ b. cond b (change x) x ∷ map (λ x. cond (p x) (change x) x) xs) parts.0
-      ∙ ap (λ more. x ∷ more) (none_changed change xs parts.1)
-
-  -- but the last
-  last_changed : (change : X → X) (xs : List X) (y : X) → list_any p xs ≡ false → p y ≡ true
-      → map (λ x. cond (p x) (change x) x) (xs ++ y ∷ []) ≡ xs ++ change y ∷ []
-  last_changed change [] y none is = ap (λ b. cond b (change y) y ∷ []) is
-  last_changed change (x ∷ xs) y none is =
-      let parts = or_parts (p x) (list_any p xs) none in
-      ap (λ b. cond b (change x) x ∷ map (λ x. cond (p x) (change x) x) (xs ++ y ∷ [])) parts.0
-      ∙ ap (λ more. x ∷ more) (last_changed change xs y parts.1 is)
-
-  last_dropped : (xs : List X) (y : X) → list_any p xs ≡ false → p y ≡ true → filter (λ x. not (p x)) (xs ++ y ∷ []) ≡ xs
-  last_dropped [] y none is = ap (λ b. cond (not b) (y ∷ []) []) is
-  last_dropped (x ∷ xs) y none is =
-      let parts = or_parts (p x) (list_any p xs) none in
-      ap (λ b. cond (not b) (x ∷ filter (λ x. not (p x)) (xs ++ y ∷ [])) (filter (λ x. not (p x)) (xs ++ y ∷ []))) parts.0
-      ∙ ap (λ more. x ∷ more) (last_dropped xs y parts.1 is)
-
-  last_found : (xs : List X) (y : X) → list_any p xs ≡ false → p y ≡ true → find p (xs ++ y ∷ []) ≡ Some y
-  last_found [] y none is = ap (λ b. cond b (Some y) None) is
-  last_found (x ∷ xs) y none is =
-      let parts = or_parts (p x) (list_any p xs) none in
-      ap (λ b. cond b (Some x) (find p (xs ++ y ∷ []))) parts.0 ∙ last_found xs y parts.1 is
+use Rattle.njh_spool.specs.Restoring.{kept, with_restored}
+use Rattle.njh_spool.specs.code.Growing.{grown, with_more, with_begun}
+use Rattle.njh_spool.proofs.OnlyOne.{filter_one, find_one, map_one}
 
 -- ---- a partial file grows
 
@@ -163,15 +129,15 @@ module _ (kind : Kind) (s : CustomerSpool) (fresh : is_number (next_number s) s 
   pub begun-more : (rs : List Stored) → with_more (next_number s) rs (with_new_partial kind s) ≡ with_begun kind rs s
   begun-more rs =
       ap (λ (fs : List PartialFile). record s { partial = fs })
-      (last_changed (λ f. f.number == next_number s) (λ f. record f { records = f.records ++ rs }) s.partial (new []) no_partial itself)
+      (map_one (λ f. f.number == next_number s) (λ f. record f { records = f.records ++ rs }) s.partial [] (new []) itself no_partial refl)
 
   pub begun-there : (rs : List Stored) → partial_numbered (next_number s) (with_begun kind rs s) ≡ Some (new rs)
-  begun-there rs = last_found (λ f. f.number == next_number s) s.partial (new rs) no_partial itself
+  begun-there rs = find_one (λ f. f.number == next_number s) s.partial [] (new rs) itself no_partial
 
   pub begun-dropped : (rs : List Stored) → without_partial (next_number s) (with_begun kind rs s) ≡ s
   begun-dropped rs =
       ap (λ (fs : List PartialFile). record s { partial = fs })
-      (last_dropped (λ f. f.number == next_number s) s.partial (new rs) no_partial itself)
+      (filter_one (λ f. f.number == next_number s) s.partial [] (new rs) itself no_partial refl ∙ append-nil s.partial)
 
   pub begun-finished : (rs : List Stored) → with_finished (next_number s) (with_begun kind rs s) ≡ with_restored (kept kind false rs) s
   begun-finished rs =
@@ -185,8 +151,8 @@ module _ (kind : Kind) (s : CustomerSpool) (fresh : is_number (next_number s) s 
       → with_state (next_number s) Held (with_restored (kept kind false rs) s) ≡ with_restored (kept kind true rs) s
   finished-held rs =
       ap (λ (fs : List WholeFile). record s { whole = fs; arrived = one_more s.arrived })
-      (last_changed (λ f. f.number == next_number s) (λ f. record f { state = Held }) s.whole
-      (record { number = next_number s; kind = kind; records = rs; state = Ready }) no_whole itself)
+      (map_one (λ f. f.number == next_number s) (λ f. record f { state = Held }) s.whole []
+      (record { number = next_number s; kind = kind; records = rs; state = Ready }) itself no_whole refl)
 
 pub begun-blocks : (kind : Kind) (rs : List Stored) (s : CustomerSpool) → used_blocks (with_begun kind rs s) ≡ used_blocks s + cost rs
 begun-blocks kind rs s =

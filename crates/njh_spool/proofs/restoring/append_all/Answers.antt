@@ -1,8 +1,8 @@
 use Rattle.std.proofs.Common.{◌≡◌, Some, sym, ap, ◌∙◌, arith}
 use Rattle.std.specs.Prelude.{slice_get}
 use Rattle.njh_record.specs.Stored.{Stored}
-use Rattle.njh_restore.proofs.AppendLaws.{at_start, at_end, within_at_end, still_range, one_more, refused, on_err, on_ok}
-use Rattle.njh_restore.proofs.restoring.append_all.Goals as goal
+use Rattle.njh_spool.proofs.AppendAllLaws.{at_start, at_end, within_at_end, still_range, one_more, refused, on_err, on_ok}
+use Rattle.njh_spool.proofs.restoring.append_all.Goals as goal
 
 pub loop-n-init : goal.loop-n-init
 loop-n-init g c = at_start c.args.customer c.args.id (g.F.FileRecords.records c.args.file.now) c.args.spool.now

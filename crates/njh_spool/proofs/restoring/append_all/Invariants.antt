@@ -1,7 +1,7 @@
 use Rattle.std.proofs.Common.{◌≡◌, slice_set, take}
 use Rattle.njh_spool.specs.Spools.{spool_at}
-use Rattle.njh_restore.specs.code.Growing.{with_more}
-use Rattle.njh_restore.proofs.restoring.append_all.Given as goal
+use Rattle.njh_spool.specs.code.Growing.{with_more}
+use Rattle.njh_spool.proofs.restoring.append_all.Given as goal
 
 -- the records so far are in the file
 abbrev pub invariant-loop-n : goal.invariant-loop-n

@@ -1,3 +1,0 @@
-pub mod GrowingLaws
-pub mod AppendLaws
-pub mod BeginLaws

@@ -1,2 +1,0 @@
-pub mod Restoring
-pub mod code

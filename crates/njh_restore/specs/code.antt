@@ -1,2 +1,0 @@
--- What only bodies and proofs speak of.
-pub mod Growing
