@@ -1,6 +1,7 @@
 -- Record after record is put in a partial file.
-use Rattle.std.proofs.Common.{◌≡◌, ℕ, ◌+◌, ◌<◌, ◌≤◌, Bool, true, false, List, [], ◌∷◌, ◌++◌, length, take, slice_set, Some}
-use Rattle.std.proofs.Common.{Result, Ok, Err, IsOk, IsSome, MatchOption, OnOk, OnErr, is_err, refl, sym, ap, subst, ◌∙◌, arith}
+use Rattle.std.proofs.Common.{◌≡◌, ℕ, ◌+◌, ◌<◌, ◌≤◌, Bool, true, false, List, [], ◌∷◌, ◌++◌, length, take, slice_set}
+use Rattle.std.proofs.Common.{Some, Result, Ok, Err, IsOk, IsSome, MatchOption, OnOk, OnErr, is_err, refl, sym, ap}
+use Rattle.std.proofs.Common.{subst, ◌∙◌, arith}
 use Rattle.std.specs.Prelude.{slice_get, is_some}
 use Rattle.std.specs.Option.{option_or}
 use Rattle.std.proofs.Math.Seq.{take-length}
@@ -42,7 +43,13 @@ module _ (c n : ℕ) (rs : List Stored) (old : List CustomerSpool) where
 
   module _ (k : ℕ) (x : List CustomerSpool) (range : c < length old) (so_far : Holds k x) where
     pub still_range : c < length x
-    still_range = omega (arith, range, ap (λ (ss : List CustomerSpool). length ss) so_far, length-set old c (with_more n (take k rs) (spool_at c old)))
+    still_range =
+        omega (
+          arith,
+          range,
+          ap (λ (ss : List CustomerSpool). length ss) so_far,
+          length-set old c (with_more n (take k rs) (spool_at c old)),
+        )
 
     pub there_now : spool_at c x ≡ with_more n (take k rs) (spool_at c old)
     there_now = ap (spool_at c) so_far ∙ get_or-set_same old c (with_more n (take k rs) (spool_at c old)) no_spool range
@@ -69,19 +76,26 @@ module _ (c n : ℕ) (rs : List Stored) (old : List CustomerSpool) where
           → (spool_at c old).quota < used_blocks (with_more n rs (spool_at c old))
       refused result there told failed =
           let some : is_some (partial_numbered n (spool_at c x)) ≡ true =
-          ap (λ (s : CustomerSpool). is_some (partial_numbered n s)) there_now ∙ more-there n (take k rs) (spool_at c old) there in
-          let full = no_room result (is_some (partial_numbered n (spool_at c x))) (has_room_for n r (spool_at c x)) some told failed in
+          ap (λ (s : CustomerSpool). is_some (partial_numbered n s)) there_now
+          ∙ more-there n (take k rs) (spool_at c old) there in
+          let full =
+          no_room result (is_some (partial_numbered n (spool_at c x))) (has_room_for n r (spool_at c x)) some told
+          failed in
           let over = leb-false (used_blocks (with_appended n r (spool_at c x))) (spool_at c x).quota full in
           let quota : (spool_at c x).quota ≡ (spool_at c old).quota = ap (λ (s : CustomerSpool). s.quota) there_now in
           omega (arith, over, quota, ap used_blocks with_it, more-blocks n (k + 1) rs (spool_at c old))
 
-  pub at_end : (k : ℕ) (x : List CustomerSpool) → k ≡ length rs → Holds k x → x ≡ slice_set old c (with_more n rs (spool_at c old))
+  pub at_end : (k : ℕ) (x : List CustomerSpool) → k ≡ length rs → Holds k x
+      → x ≡ slice_set old c (with_more n rs (spool_at c old))
   at_end k x all so_far =
-      so_far ∙ ap (λ (xs : List Stored). slice_set old c (with_more n xs (spool_at c old))) (ap (λ i. take i rs) all ∙ take-length rs)
+      so_far ∙ ap (λ (xs : List Stored). slice_set old c (with_more n xs (spool_at c old)))
+      (ap (λ i. take i rs) all ∙ take-length rs)
 
   pub within_at_end : (k : ℕ) (x : List CustomerSpool) → c < length old → k ≡ length rs → Holds k x
-      → used_blocks (spool_at c x) ≤ (spool_at c x).quota → used_blocks (with_more n rs (spool_at c old)) ≤ (spool_at c old).quota
+      → used_blocks (spool_at c x) ≤ (spool_at c x).quota
+      → used_blocks (with_more n rs (spool_at c old)) ≤ (spool_at c old).quota
   within_at_end k x range all so_far within =
       subst (λ (s : CustomerSpool). used_blocks s ≤ s.quota)
-      (there_now k x range so_far ∙ ap (λ (xs : List Stored). with_more n xs (spool_at c old)) (ap (λ i. take i rs) all ∙ take-length rs))
+      (there_now k x range so_far
+      ∙ ap (λ (xs : List Stored). with_more n xs (spool_at c old)) (ap (λ i. take i rs) all ∙ take-length rs))
       within

@@ -27,5 +27,6 @@ lies_in_one_file blocks chains capacity customers chained many key there =
       small = omega arith;
       once = ap (λ at. times_at blocks chains at key) (place_is one.chain) ∙ one.once;
       others = λ c n known small other.
-          one.others (place_of c n) (omega (arith, known, small, many)) (λ same. other (same_file c n one.chain small same));
+          one.others (place_of c n) (omega (arith, known, small, many))
+          (λ same. other (same_file c n one.chain small same));
     }

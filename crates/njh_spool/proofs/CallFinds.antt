@@ -56,7 +56,8 @@ not_free-whole (Whole state) e = refl
 
 few_records : (records : List Stored) → length records ≤ stored_size records
 few_records [] = omega arith
-few_records (r ∷ records) = omega (arith, few_records records, sum_by-cons (λ (x : Stored). 3 + length x.bytes) r records)
+few_records (r ∷ records) =
+    omega (arith, few_records records, sum_by-cons (λ (x : Stored). 3 + length x.bytes) r records)
 
 module _ (here : Call) where
   open here use {customer as c, number as n, kept, spool.{store, slots, customers.{items as customers}}}
@@ -105,7 +106,9 @@ module _ (here : Call) where
       let no = whole.has_no_whole own files n has.own other in
       record {
         none = ap (whole_numbered n) has.part ∙ no.none;
-        removes = stays customers (contents slots store.chains) c (without_whole n (spool_at c spools)) (has.part ∙ sym no.removes
+        removes =
+            stays customers (contents slots store.chains) c (without_whole n (spool_at c spools))
+            (has.part ∙ sym no.removes
             ∙ ap (without_whole n) (sym has.part));
         changes = λ change. stays customers (contents slots store.chains) c (on_file n change (spool_at c spools))
             (has.part ∙ sym (no.changes change) ∙ ap (on_file n change) (sym has.part));
@@ -115,18 +118,23 @@ module _ (here : Call) where
   chain_is small = sym (at_is store.chains empty_chain c n small)
 
   -- what a call finds
-  pub finds_partial : is_partial slot.stage ≡ true → partial_numbered n (spool_at c spools) ≡ Some (partial_file files n)
-  finds_partial there = ap (partial_numbered n) has.part ∙ partial.partial_is own files n has.own (stage_of slot.stage there)
+  pub finds_partial : is_partial slot.stage ≡ true
+      → partial_numbered n (spool_at c spools) ≡ Some (partial_file files n)
+  finds_partial there = ap (partial_numbered n) has.part
+      ∙ partial.partial_is own files n has.own (stage_of slot.stage there)
 
   pub finds_whole : is_whole_stage slot.stage ≡ true → whole_numbered n (spool_at c spools) ≡ Some (whole_file files n)
-  finds_whole there = ap (whole_numbered n) has.part ∙ whole.whole_is own files n has.own there (not_partial_of slot.stage there)
+  finds_whole there = ap (whole_numbered n) has.part
+      ∙ whole.whole_is own files n has.own there (not_partial_of slot.stage there)
 
   -- the record that a call on a whole file names
   pub record_fits : (value : List CustomerSpool) (k place : ℕ) → spools ≡ value → is_whole_stage slot.stage ≡ true →
-      ForSome (whole_numbered n (spool_at c value)) (λ f. IsSomeAnd (slice_get f.records k) (λ r. place + 8 ≤ length r.bytes)) →
+      ForSome (whole_numbered n (spool_at c value)) (λ f.
+      IsSomeAnd (slice_get f.records k) (λ r. place + 8 ≤ length r.bytes)) →
       IsSomeAnd (slice_get (files n).records k) (λ r. place + 8 ≤ length r.bytes)
   record_fits value k place view there fits =
-      fits (whole_file files n) (ap (λ (all : List CustomerSpool). whole_numbered n (spool_at c all)) (sym view) ∙ finds_whole there)
+      fits (whole_file files n) (ap (λ (all : List CustomerSpool). whole_numbered n (spool_at c all)) (sym view)
+      ∙ finds_whole there)
 
   pub record_within : (k : ℕ) (P : Stored → Type 0) → IsSomeAnd (slice_get (files n).records k) P → k < slot.count
   record_within k P fits = omega (arith, within_some (files n).records k P fits, length-unpacked slot.count chain.bytes)
@@ -157,7 +165,8 @@ module _ (here : Call) where
   enough_partial there = partial.covered own files n has.own (stage_of slot.stage there)
 
   pub whole_few : is_partial slot.stage ≡ true → length own.whole < 1024
-  whole_few there = omega (arith, partial.few_whole own files n has.own (stage_of slot.stage there), has.own.sound.files_limit)
+  whole_few there =
+      omega (arith, partial.few_whole own files n has.own (stage_of slot.stage there), has.own.sound.files_limit)
 
   pub enough_whole : is_whole_stage slot.stage ≡ true → cost (files n).records ≤ own.used
   enough_whole there = whole.covered own files n has.own there (not_partial_of slot.stage there)
@@ -165,10 +174,16 @@ module _ (here : Call) where
   longer_is : (r : Stored) → blocks_of (chain.bytes ++ packed_record r) ≡ cost ((files n).records ++ r ∷ [])
   longer_is r =
       let size : length (chain.bytes ++ packed_record r) ≡ stored_size (files n).records + (3 + length r.bytes) =
-      omega (arith, length-append chain.bytes (packed_record r), length-packed_record r, size_is slot chain (kept.files c n)) in
+      omega (
+        arith,
+        length-append chain.bytes (packed_record r),
+        length-packed_record r,
+        size_is slot chain (kept.files c n),
+      ) in
       ap (λ (k : ℕ). (k + 251) / 252) size ∙ sym (cost_push (files n).records r)
 
-  pub append_full : (r : Stored) → is_partial slot.stage ≡ true → own.quota < own.used - blocks_of chain.bytes + blocks_of
+  pub append_full : (r : Stored) → is_partial slot.stage ≡ true
+      → own.quota < own.used - blocks_of chain.bytes + blocks_of
       (chain.bytes ++ packed_record r) → append_fault n r (spool_at c spools) ≡ Some QuotaFull
   append_full r there over =
       ap (append_fault n r) has.part ∙ partial.append_fault-full own files n has.own (stage_of slot.stage there) r

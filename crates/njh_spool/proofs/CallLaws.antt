@@ -76,13 +76,15 @@ module _ (here : Call) where
 
   -- a call that leaves the customer's file with this slot and this chain, and the customer with these lists
   goes : (call : CustomerSpool → CustomerSpool) (slot' : FileSlot) (chain' : Chain) (own' : CustomerFiles) → n < 1024 →
-      own'.quota ≡ own.quota → blocks_of chain'.bytes + own.used ≡ blocks_of chain.bytes + own'.used → IsFile slot' chain' →
+      own'.quota ≡ own.quota → blocks_of chain'.bytes + own.used ≡ blocks_of chain.bytes + own'.used
+      → IsFile slot' chain' →
       KeepsHeaders slot' chain' → IsOwn own' (put files n (content slot' chain')) ×
       (spool_of own' (put files n (content slot' chain')) ≡ call
       (spool_of own files)) → MovesTo here (with_chain (1024 * c + n) chain' store) (set slots (1024 * c + n) slot')
       (set customers c own') call
   goes call slot' chain' own' small quota blocks file headers owns =
-      moves store slots customers c n slot' chain' own' kept has small (call (spool_at c spools)) quota blocks file headers
+      moves store slots customers c n slot' chain' own' kept has small (call (spool_at c spools)) quota blocks file
+      headers
       (owns.0, owns.1 ∙ ap call (sym has.part))
 
   -- a slot without a whole file keeps nothing
@@ -110,11 +112,14 @@ module _ (here : Call) where
       let left : own'.used ≡ own.used - cost (files n).records = ap (λ (o : CustomerFiles). o.used) now in
       goes (without_partial n) slot' empty_chain own' small (ap (λ (o : CustomerFiles). o.quota) owns)
       (omega (arith, left, enough, blocks_are)) (empty_file slot' [] (ap (λ (x : FileSlot). x.count) free)
-      (ap (λ (x : FileSlot). x.places) free)) (keeps_none slot' empty_chain (ap (λ (x : FileSlot). is_whole_stage x.stage) free))
-      (partial.abandons own files n has.own stage (content slot' empty_chain) own' (ap (λ (x : FileSlot). x.stage) free) now)
+      (ap (λ (x : FileSlot). x.places) free)) (keeps_none slot' empty_chain
+      (ap (λ (x : FileSlot). is_whole_stage x.stage) free))
+      (partial.abandons own files n has.own stage (content slot' empty_chain) own' (ap (λ (x : FileSlot). x.stage) free)
+      now)
 
   pub removes : (slot' : FileSlot) (own' : CustomerFiles) → is_whole_stage slot.stage ≡ true → slot' ≡ free_slot →
-      own' ≡ record own { used = own.used - blocks_of chain.bytes; whole = filter (λ m. not (eqb m n)) own.whole } → n < 1024 →
+      own' ≡ record own { used = own.used - blocks_of chain.bytes; whole = filter (λ m. not (eqb m n)) own.whole }
+      → n < 1024 →
       MovesTo here (with_chain (1024 * c + n) empty_chain store) (set slots (1024 * c + n) slot') (set customers c own')
       (without_whole n)
   removes slot' own' there free owns small =
@@ -125,8 +130,10 @@ module _ (here : Call) where
       let left : own'.used ≡ own.used - cost (files n).records = ap (λ (o : CustomerFiles). o.used) now in
       goes (without_whole n) slot' empty_chain own' small (ap (λ (o : CustomerFiles). o.quota) owns)
       (omega (arith, left, enough, blocks_are)) (empty_file slot' [] (ap (λ (x : FileSlot). x.count) free)
-      (ap (λ (x : FileSlot). x.places) free)) (keeps_none slot' empty_chain (ap (λ (x : FileSlot). is_whole_stage x.stage) free))
-      (whole.removes own files n has.own there other (content slot' empty_chain) own' (ap (λ (x : FileSlot). x.stage) free) now)
+      (ap (λ (x : FileSlot). x.places) free)) (keeps_none slot' empty_chain
+      (ap (λ (x : FileSlot). is_whole_stage x.stage) free))
+      (whole.removes own files n has.own there other (content slot' empty_chain) own'
+      (ap (λ (x : FileSlot). x.stage) free) now)
 
   -- the file has another stage, and is not free
   restaged : (stage : Stage) (headers : KeptHeaders) → is_free stage ≡ false → IsFile
@@ -176,20 +183,25 @@ module _ (here : Call) where
       refl refl)))
 
   -- it is read on from elsewhere
-  pub reads_on : (kept' : KeptPlaces) → is_free slot.stage ≡ false → ArePlaces (files n).records chain.keys kept' → n < 1024 →
+  pub reads_on : (kept' : KeptPlaces) → is_free slot.stage ≡ false → ArePlaces (files n).records chain.keys kept'
+      → n < 1024 →
       MovesTo here store (set slots (1024 * c + n) (record slot { places = kept' })) customers (λ s. s)
   reads_on kept' used' places small =
       let slot' : FileSlot = record slot { places = kept' } in
       let file = kept.files c n in
-      subst (λ (os : List CustomerFiles). MovesTo here store (set slots (1024 * c + n) slot') os (λ s. s)) customers_same
+      subst (λ (os : List CustomerFiles). MovesTo here store (set slots (1024 * c + n) slot') os (λ s. s))
+      customers_same
       (subst (λ (t : StoreValue). MovesTo here t (set slots (1024 * c + n) slot') (set customers c own) (λ s. s))
       (store_same small)
       (goes (λ (s : CustomerSpool). s) slot' chain own small refl refl
       (record { bytes = file.bytes; short = file.short; free = file.free; small = file.small; places = places })
-      (kept.headers c n)
-      (subst (λ (fs : ℕ → Content). IsOwn own fs) (sym (put_again files n)) has.own, ap (spool_of own) (put_again files n))))
+      (kept.headers c n) (
+        subst (λ (fs : ℕ → Content). IsOwn own fs) (sym (put_again files n)) has.own,
+        ap (spool_of own) (put_again files n),
+      )))
 
-  pub begins : (kind : Kind) (slot' : FileSlot) (own' : CustomerFiles) → length own.whole + length own.partial < own.limit →
+  pub begins : (kind : Kind) (slot' : FileSlot) (own' : CustomerFiles)
+      → length own.whole + length own.partial < own.limit →
       n ≡ next_number (spool_of own files) → is_free slot.stage ≡ true → slot' ≡ record free_slot {
         stage = Partial;
         kind =
@@ -213,7 +225,8 @@ module _ (here : Call) where
       (begin.begins own files has.own n kind (content slot' chain) own' room next free same owns))
 
   -- one record more
-  pub appends : (r : Stored) (keys : List ℕ) (blocks : ℕ) → is_partial slot.stage ≡ true → IsShort r → take (length chain.keys)
+  pub appends : (r : Stored) (keys : List ℕ) (blocks : ℕ) → is_partial slot.stage ≡ true → IsShort r
+      → take (length chain.keys)
       keys ≡ chain.keys → blocks ≡ own.used - blocks_of chain.bytes + blocks_of (chain.bytes ++ packed_record r) →
       blocks ≤ own.quota → n < 1024 → MovesTo here (with_chain (1024 * c + n)
       (record { keys = keys; bytes = chain.bytes ++ packed_record r }) store)
@@ -231,7 +244,8 @@ module _ (here : Call) where
       let records = appended-records slot chain keys r file short front in
       let longer : blocks_of (chain.bytes ++ packed_record r) ≡ cost ((files n).records ++ r ∷ []) =
       ap (λ (size : ℕ). (size + 251) / 252) (size_is slot' chain' made ∙ ap stored_size records) in
-      goes (with_appended n r) slot' chain' (record own { used = blocks }) small refl (omega (arith, enough, blocks_are)) made
+      goes (with_appended n r) slot' chain' (record own { used = blocks }) small refl
+      (omega (arith, enough, blocks_are)) made
       (keeps_none slot' chain' (ap is_whole_stage stage))
       (partial.appends own files n has.own stage r (content slot' chain') (record own { used = blocks }) blocks
       (ap (λ (rs : List Stored). record { stage = slot.stage; kind = slot.kind; records = rs }) records) refl
@@ -264,7 +278,8 @@ module _ (here : Call) where
     bytes : with_field at new chain.bytes ≡ packed_bytes changed
     bytes =
         ap (λ (i : ℕ). with_field i new chain.bytes) is ∙ ap (with_field (stored_size (take k records) + 3 + place) new)
-        (kept.files c n).bytes ∙ packed-at_index k place new records (omega (arith, length-unpacked slot.count chain.bytes)) fits
+        (kept.files c n).bytes
+        ∙ packed-at_index k place new records (omega (arith, length-unpacked slot.count chain.bytes)) fits
 
     counted : slot.count ≡ length changed
     counted = omega (
@@ -278,7 +293,8 @@ module _ (here : Call) where
     short = short-at_index k place new records fits (kept.files c n).short
 
     size : length (with_field at new chain.bytes) ≡ length chain.bytes
-    size = ap length bytes ∙ length-packed changed ∙ stored_size-rewritten k place new records fits ∙ sym (size_is slot chain
+    size = ap length bytes ∙ length-packed changed ∙ stored_size-rewritten k place new records fits
+        ∙ sym (size_is slot chain
         (kept.files c n))
 
     now : unpacked_records slot.count (with_field at new chain.bytes) ≡ changed
@@ -303,7 +319,8 @@ module _ (here : Call) where
           | inl before ↦ again before
           | inr behind ↦
               let was = kept.headers c n there in
-              let far : header_count slot.kind records ≤ k = omega (arith, behind, ap (λ (h : KeptHeaders). h.count) was) in
+              let far : header_count slot.kind records ≤ k =
+              omega (arith, behind, ap (λ (h : KeptHeaders). h.count) was) in
               same behind ∙ was ∙ sym (kept_headers-behind slot.kind k (rewritten_record place new) records far)
               ∙ ap (kept_headers slot.kind) (sym now)
         ]
@@ -317,8 +334,10 @@ module _ (here : Call) where
         let same_content : content slot' chain' ≡ record { stage = slot.stage; kind = slot.kind; records = changed } =
         ap (λ (rs : List Stored). record { stage = slot.stage; kind = slot.kind; records = rs }) now in
         let other = not_partial_of slot.stage there in
-        let blocks : blocks_of (with_field at new chain.bytes) ≡ blocks_of chain.bytes = ap (λ (k' : ℕ). (k' + 251) / 252) size in
-        let costs : cost (content slot' chain').records ≡ cost records = ap (λ (x : Content). cost x.records) same_content
+        let blocks : blocks_of (with_field at new chain.bytes) ≡ blocks_of chain.bytes =
+        ap (λ (k' : ℕ). (k' + 251) / 252) size in
+        let costs : cost (content slot' chain').records ≡ cost records =
+        ap (λ (x : Content). cost x.records) same_content
         ∙ cost-rewritten k place new records fits in
         let file_same : whole_from n (content slot' chain') ≡ record (whole_file files n) { records = changed } =
         ap (whole_from n) same_content in
@@ -327,5 +346,6 @@ module _ (here : Call) where
         (goes (with_rewritten_bytes n k place new) slot' chain' own small refl (omega (arith, blocks)) (made headers)
         (keeps headers again same)
         (whole.changes own files n has.own there other
-        (λ x. record x { records = at_index k (rewritten_record place new) x.records }) (content slot' chain') there other
+        (λ x. record x { records = at_index k (rewritten_record place new) x.records }) (content slot' chain') there
+        other
         file_same costs))

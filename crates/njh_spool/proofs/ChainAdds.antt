@@ -25,7 +25,8 @@ use Rattle.njh_spool.proofs.ChainPuts.{slab_len-with_value}
 abbrev pub block_with : List ℕ → ℕ → Block
 block_with bytes next = record { bytes = bytes ++ replicate (252 - length bytes) 0; next = next }
 
-length-block_with : (bytes : List ℕ) → length bytes ≤ 252 → length (bytes ++ replicate {A = ℕ} (252 - length bytes) 0) ≡ 252
+length-block_with : (bytes : List ℕ) → length bytes ≤ 252
+    → length (bytes ++ replicate {A = ℕ} (252 - length bytes) 0) ≡ 252
 length-block_with bytes short = omega (
   arith,
   length-append bytes (replicate {A = ℕ} (252 - length bytes) 0),
@@ -34,8 +35,10 @@ length-block_with bytes short = omega (
 
 -- a block is put in a vacant place
 module _ (s t1 : Slab Block) (k : ℕ) (bytes : List ℕ) (short : length bytes ≤ 252) (vacant : get s k ≡ None)
-    (updates : Updates s t1 k (Some (block_with bytes 0))) (more : slab_len t1 ≡ slab_len s + 1) (room : t1.capacity ≡ s.capacity)
-    (chains : List ChainEnds) (i capacity : ℕ) (ends : ChainEnds) (chained : IsChained s chains capacity) (within : i < length chains)
+    (updates : Updates s t1 k (Some (block_with bytes 0))) (more : slab_len t1 ≡ slab_len s + 1)
+    (room : t1.capacity ≡ s.capacity)
+    (chains : List ChainEnds) (i capacity : ℕ) (ends : ChainEnds) (chained : IsChained s chains capacity)
+    (within : i < length chains)
     (is : get_or chains i ends ≡ ends) (some : 0 < length bytes) where
   none_before : blocks_at s k ≡ 0
   none_before = ap blocks_in vacant
@@ -97,7 +100,8 @@ module _ (s t1 : Slab Block) (k : ℕ) (bytes : List ℕ) (short : length bytes 
         let held : data_of t1 (k ∷ []) ≡ bytes ++ pad = flat_map-cons (data_at t1) k [] ∙ append-nil (data_at t1 k)
         ∙ ap data_in updates.changed in
         ap (λ (ks : List ℕ). record { keys = ks; bytes = take (length bytes) (data_of t1 ks) }) one_key
-        ∙ ap (λ (bs : List ℕ). record { keys = k ∷ []; bytes = bs }) (ap (take (length bytes)) held ∙ take_at bytes pad (length bytes) refl)
+        ∙ ap (λ (bs : List ℕ). record { keys = k ∷ []; bytes = bs })
+        (ap (take (length bytes)) held ∙ take_at bytes pad (length bytes) refl)
 
   -- a block after the chain's last
   module _ (filled : ends.len ≡ 252 * blocks_for ends.len) (any : 0 < ends.len) where
@@ -111,7 +115,9 @@ module _ (s t1 : Slab Block) (k : ℕ) (bytes : List ℕ) (short : length bytes 
     longer = record { head = ends.head; last = k; len = ends.len + length bytes }
 
     last_one : blocks_at s ends.last ≡ 1
-    last_one = block_here s chains i capacity ends chained within is ends.last (last_lies s chains i capacity ends chained within is any)
+    last_one =
+        block_here s chains i capacity ends chained within is ends.last
+        (last_lies s chains i capacity ends chained within is any)
 
     last_apart : ends.last ≢ k
     last_apart same = omega (arith, last_one, none_before, ap (blocks_at s) same)
@@ -146,15 +152,18 @@ module _ (s t1 : Slab Block) (k : ℕ) (bytes : List ℕ) (short : length bytes 
         ]
 
     in_chain : (j : ℕ) → 0 < times_in j (keys_of s ends) → j ≢ k
-    in_chain j h same = omega (arith, block_here s chains i capacity ends chained within is j h, none_before, ap (blocks_at s) same)
+    in_chain j h same =
+        omega (arith, block_here s chains i capacity ends chained within is j h, none_before, ap (blocks_at s) same)
 
     keys_longer : keys_of t longer ≡ keys_of s ends ++ k ∷ []
     keys_longer =
         let m = blocks_for ends.len - 1 in
         let one : blocks_for ends.len ≡ suc m = omega arith in
-        let two : blocks_for (ends.len + length bytes) ≡ suc (suc m) = blocks_for_is (ends.len + length bytes) (suc (suc m))
+        let two : blocks_for (ends.len + length bytes) ≡ suc (suc m) =
+        blocks_for_is (ends.len + length bytes) (suc (suc m))
         (omega arith) (omega arith) in
-        let last = ap (λ n. get_or (keys_from s n ends.head) m 0) (sym one) ∙ last_here s chains i capacity ends chained within is any in
+        let last = ap (λ n. get_or (keys_from s n ends.head) m 0) (sym one)
+        ∙ last_here s chains i capacity ends chained within is any in
         let times = λ (j : ℕ). ap (λ n. times_in j (keys_from s n ends.head)) one in
         ap (λ n. keys_from t n ends.head) two
         ∙ keys_from-linked s t m ends.head ends.last k last
@@ -163,8 +172,10 @@ module _ (s t1 : Slab Block) (k : ℕ) (bytes : List ℕ) (short : length bytes 
         (λ j before h. ap link_in (at_other j (in_chain j (omega (arith, times j))) before))
         ∙ ap (λ n. keys_from s n ends.head ++ k ∷ []) (sym one)
 
-    times_longer : (key : ℕ) → times_in key (keys_of t longer) ≡ times_in key (keys_of s ends) + cond {A = ℕ} (eqb k key) 1 0
-    times_longer key = ap (times_in key) keys_longer ∙ sum_by_push (λ x. cond {A = ℕ} (eqb x key) 1 0) (keys_of s ends) k
+    times_longer : (key : ℕ)
+        → times_in key (keys_of t longer) ≡ times_in key (keys_of s ends) + cond {A = ℕ} (eqb k key) 1 0
+    times_longer key = ap (times_in key) keys_longer
+        ∙ sum_by_push (λ x. cond {A = ℕ} (eqb x key) 1 0) (keys_of s ends) k
 
     pub moves_next : Moves s t ends longer
     moves_next =
@@ -207,25 +218,37 @@ module _ (s t1 : Slab Block) (k : ℕ) (bytes : List ℕ) (short : length bytes 
               ];
           last = λ h.
               let count : blocks_for (ends.len + length bytes) - 1 ≡ blocks_for ends.len =
-              omega (arith, blocks_for_is (ends.len + length bytes) (blocks_for ends.len + 1) (omega arith) (omega arith)) in
+              omega (
+                arith,
+                blocks_for_is (ends.len + length bytes) (blocks_for ends.len + 1) (omega arith)
+                    (omega arith),
+              ) in
               ap (λ n. get_or (keys_of t longer) n 0) count
               ∙ ap (λ ks. get_or ks (blocks_for ends.len) 0) keys_longer
-              ∙ get_or_push (keys_of s ends) k 0 (blocks_for ends.len) (length-keys_from s (blocks_for ends.len) ends.head);
+              ∙ get_or_push (keys_of s ends) k 0 (blocks_for ends.len)
+              (length-keys_from s (blocks_for ends.len) ends.head);
           capacity = room;
         }
 
-    pub chain_next : chain_of t longer ≡ record { keys = keys_of s ends ++ k ∷ []; bytes = (chain_of s ends).bytes ++ bytes }
+    pub chain_next : chain_of t longer ≡ record {
+      keys = keys_of s ends ++ k ∷ [];
+      bytes = (chain_of s ends).bytes
+          ++ bytes;
+    }
     chain_next =
         let pad = replicate {A = ℕ} (252 - length bytes) 0 in
         let old = data_of s (keys_of s ends) in
         let long : length old ≡ ends.len = omega (arith, length_data s chains i capacity ends chained within is) in
         let front = data_of-same s t (keys_of s ends) (λ j h. data_same j (in_chain j h)) in
-        let back : data_of t (k ∷ []) ≡ bytes ++ pad = flat_map-cons (data_at t) k [] ∙ append-nil (data_at t k) ∙ ap data_in at_new in
+        let back : data_of t (k ∷ []) ≡ bytes ++ pad = flat_map-cons (data_at t) k [] ∙ append-nil (data_at t k)
+        ∙ ap data_in at_new in
         let held : data_of t (keys_of s ends ++ k ∷ []) ≡ old ++ (bytes ++ pad) =
-        flat_map-append (data_at t) (keys_of s ends) (k ∷ []) ∙ ap (λ xs. xs ++ data_of t (k ∷ [])) front ∙ ap (λ xs. old ++ xs) back in
+        flat_map-append (data_at t) (keys_of s ends) (k ∷ []) ∙ ap (λ xs. xs ++ data_of t (k ∷ [])) front
+        ∙ ap (λ xs. old ++ xs) back in
         let taken : take (ends.len + length bytes) (old ++ (bytes ++ pad)) ≡ take ends.len old ++ bytes =
         take-right ends.len (length bytes) old (bytes ++ pad) long
         ∙ ap (λ xs. old ++ xs) (take_at bytes pad (length bytes) refl)
         ∙ ap (λ xs. xs ++ bytes) (sym (take_all ends.len old (omega arith))) in
         ap (λ (ks : List ℕ). record { keys = ks; bytes = take (ends.len + length bytes) (data_of t ks) }) keys_longer
-        ∙ ap (λ (bs : List ℕ). record { keys = keys_of s ends ++ k ∷ []; bytes = bs }) (ap (take (ends.len + length bytes)) held ∙ taken)
+        ∙ ap (λ (bs : List ℕ). record { keys = keys_of s ends ++ k ∷ []; bytes = bs })
+        (ap (take (ends.len + length bytes)) held ∙ taken)

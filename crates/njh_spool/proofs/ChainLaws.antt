@@ -34,7 +34,8 @@ blocks_for_is size blocks fits least = omega arith
 pub blocks_for-bounds : (size : ℕ) → (size ≤ 252 * blocks_for size) × (252 * blocks_for size < size + 252)
 blocks_for-bounds size = (omega arith, omega arith)
 
-module _ (s : Slab Block) (chains : List ChainEnds) (i capacity : ℕ) (ends : ChainEnds) (chained : IsChained s chains capacity)
+module _ (s : Slab Block) (chains : List ChainEnds) (i capacity : ℕ) (ends : ChainEnds)
+    (chained : IsChained s chains capacity)
     (within : i < length chains) (is : get_or chains i ends ≡ ends) where
   lies : (key : ℕ) → times_in key (keys_of s ends) ≤ blocks_at s key
   lies key =
@@ -55,14 +56,17 @@ module _ (s : Slab Block) (chains : List ChainEnds) (i capacity : ℕ) (ends : C
   full_here key h = omega (arith, block_here key h, chained.full key)
 
   pub length_data : length (data_of s (keys_of s ends)) ≡ 252 * blocks_for ends.len
-  length_data = omega (arith, length-data_of s (keys_of s ends) full_here, length-keys_from s (blocks_for ends.len) ends.head)
+  length_data =
+      omega (arith, length-data_of s (keys_of s ends) full_here, length-keys_from s (blocks_for ends.len) ends.head)
 
   pub length_bytes : length (chain_of s ends).bytes ≡ ends.len
-  length_bytes = omega (arith, length-take ends.len (data_of s (keys_of s ends)), length_data, (blocks_for-bounds ends.len).0)
+  length_bytes =
+      omega (arith, length-take ends.len (data_of s (keys_of s ends)), length_data, (blocks_for-bounds ends.len).0)
 
   pub chain_is : (store : StoreValue) → record { capacity = capacity; chains = chains_of s chains } ≡ store →
       chain_at i store ≡ chain_of s ends
-  chain_is store view = ap (chain_at i) (sym view) ∙ get_or-map (chain_of s) chains i ends empty_chain within ∙ ap (chain_of s) is
+  chain_is store view = ap (chain_at i) (sym view) ∙ get_or-map (chain_of s) chains i ends empty_chain within
+      ∙ ap (chain_of s) is
 
   -- seen in the store's value
   module _ (store : StoreValue) (view : record { capacity = capacity; chains = chains_of s chains } ≡ store) where
@@ -95,10 +99,12 @@ module _ (s : Slab Block) (chains : List ChainEnds) (i capacity : ℕ) (ends : C
 
   pub last_lies : 0 < ends.len → 0 < times_in ends.last (keys_of s ends)
   last_lies some =
-      let at = times_at (keys_of s ends) (blocks_for ends.len - 1) (omega (arith, length-keys_from s (blocks_for ends.len) ends.head)) in
+      let at = times_at (keys_of s ends) (blocks_for ends.len - 1)
+      (omega (arith, length-keys_from s (blocks_for ends.len) ends.head)) in
       rw (last_here some) at at
 
-  pub key_lies : (b key : ℕ) → b < blocks_for ends.len → get_or (keys_of s ends) b 0 ≡ key → 0 < times_in key (keys_of s ends)
+  pub key_lies : (b key : ℕ) → b < blocks_for ends.len → get_or (keys_of s ends) b 0 ≡ key
+      → 0 < times_in key (keys_of s ends)
   key_lies b key inside at =
       let h = times_at (keys_of s ends) b (omega (arith, length-keys_from s (blocks_for ends.len) ends.head)) in
       rw at at h
@@ -122,17 +128,21 @@ sized s chains capacity chained = λ k d within.
     let is : get_or chains k ends ≡ ends = get_or_default chains k ends empty_ends inside in
     let bytes = length_bytes s chains k capacity ends chained inside is in
     let keys = length-keys_from s (blocks_for ends.len) ends.head in
-    let found : get_or (chains_of s chains) k d ≡ chain_of s ends = get_or-map (chain_of s) chains k empty_ends d inside in
+    let found : get_or (chains_of s chains) k d ≡ chain_of s ends =
+    get_or-map (chain_of s) chains k empty_ends d inside in
     ap (λ (chain : Chain). length chain.keys) found ∙ keys ∙ ap blocks_for (sym bytes)
     ∙ ap (λ (chain : Chain). blocks_of chain.bytes) (sym found)
 
 sum_by-map : {X Y : Type 0} (f : Y → ℕ) (g : X → Y) (xs : List X) → sum_by f (map g xs) ≡ sum_by (λ x. f (g x)) xs
 sum_by-map f g [] = refl
-sum_by-map f g (x ∷ xs) = omega (arith, sum_by-cons f (g x) (map g xs), sum_by-cons (λ y. f (g y)) x xs, sum_by-map f g xs)
+sum_by-map f g (x ∷ xs) =
+    omega (arith, sum_by-cons f (g x) (map g xs), sum_by-cons (λ y. f (g y)) x xs, sum_by-map f g xs)
 
 -- the strings take as many blocks as the slab has
-pub used_is : (s : Slab Block) (chains : List ChainEnds) (capacity : ℕ) (store : StoreValue) → IsChained s chains capacity →
-    record { capacity = capacity; chains = chains_of s chains } ≡ store → (blocks_used store ≡ slab_len s) × (store.capacity ≡ capacity)
+pub used_is : (s : Slab Block) (chains : List ChainEnds) (capacity : ℕ) (store : StoreValue)
+    → IsChained s chains capacity →
+    record { capacity = capacity; chains = chains_of s chains } ≡ store → (blocks_used store ≡ slab_len s)
+    × (store.capacity ≡ capacity)
 used_is s chains capacity store chained view =
     let sum = sum_by-map (λ (chain : Chain). blocks_of chain.bytes) (chain_of s) chains in
     let same = sum_by-same (λ ends. blocks_of (chain_of s ends).bytes) (λ ends. blocks_for ends.len) chains empty_ends
@@ -145,18 +155,26 @@ used_is s chains capacity store chained view =
 pub apart : (s : Slab Block) (chains : List ChainEnds) (capacity : ℕ) → IsChained s chains capacity → (key : ℕ) →
     sum_by (λ (chain : Chain). count_by (λ k. eqb k key) chain.keys) (chains_of s chains) ≤ 1
 apart s chains capacity chained key =
-    omega (arith, sum_by-map (λ (chain : Chain). times_in key chain.keys) (chain_of s) chains, chained.once key, blocks_in-le (get s key))
+    omega (
+      arith,
+      sum_by-map (λ (chain : Chain). times_in key chain.keys) (chain_of s) chains,
+      chained.once key,
+      blocks_in-le (get s key),
+    )
 
 -- of chains with no byte yet
-pub chains_of-empty : (s : Slab Block) (count : ℕ) → chains_of s (replicate count empty_ends) ≡ replicate count empty_chain
+pub chains_of-empty : (s : Slab Block) (count : ℕ)
+    → chains_of s (replicate count empty_ends) ≡ replicate count empty_chain
 chains_of-empty s zero = refl
 chains_of-empty s (suc count) = ap (λ chains. empty_chain ∷ chains) (chains_of-empty s count)
 
 pub sized_chains : (s : Slab Block) (chains : List ChainEnds) (capacity : ℕ) → IsChained s chains capacity →
     All (λ ends. length (keys_of s ends) ≡ blocks_for ends.len) chains
-sized_chains s chains capacity chained = λ k d within. length-keys_from s (blocks_for (get_or chains k d).len) (get_or chains k d).head
+sized_chains s chains capacity chained =
+    λ k d within. length-keys_from s (blocks_for (get_or chains k d).len) (get_or chains k d).head
 
-one_of : {X : Type 0} (f : X → ℕ) (xs : List X) (d : X) → sum_by f xs ≡ 1 → (i : ℕ) × (i < length xs) × (f (get_or xs i d) ≡ 1)
+one_of : {X : Type 0} (f : X → ℕ) (xs : List X) (d : X) → sum_by f xs ≡ 1 → (i : ℕ) × (i < length xs)
+    × (f (get_or xs i d) ≡ 1)
 one_of f [] d one = absurd (omega arith)
 one_of f (x ∷ xs) d one =
     elim (cases_lt 0 (f x)) [
@@ -176,5 +194,10 @@ lies_in_one s chains capacity chained key has =
       chain = found.0;
       within = found.1;
       once = found.2;
-      others = λ other inside differ. omega (arith, sum_by-two count chains found.0 other empty_ends found.1 inside differ, found.2);
+      others = λ other inside differ. omega (
+        arith,
+        sum_by-two count chains found.0 other empty_ends found.1 inside
+            differ,
+        found.2,
+      );
     }

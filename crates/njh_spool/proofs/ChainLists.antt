@@ -30,7 +30,8 @@ sum_by-same f g (x ∷ xs) d same =
 
 -- one element is another, and the others count for as much as before
 pub sum_by-but : {X : Type 0} (f g : X → ℕ) (xs : List X) (i : ℕ) (y d : X) → i < length xs →
-    ((j : ℕ) → j < length xs → j ≢ i → f (get_or xs j d) ≡ g (get_or xs j d)) → sum_by f (set xs i y) + g (get_or xs i d) ≡
+    ((j : ℕ) → j < length xs → j ≢ i → f (get_or xs j d) ≡ g (get_or xs j d))
+    → sum_by f (set xs i y) + g (get_or xs i d) ≡
     sum_by g xs + f y
 sum_by-but f g [] i y d within same = absurd (omega arith)
 sum_by-but f g (x ∷ xs) zero y d within same =
@@ -50,7 +51,8 @@ map-same f g (x ∷ xs) d same =
     cc
 
 pub map-but : {X Y : Type 0} (f g : X → Y) (xs : List X) (i : ℕ) (y d : X) →
-    ((j : ℕ) → j < length xs → j ≢ i → f (get_or xs j d) ≡ g (get_or xs j d)) → map f (set xs i y) ≡ set (map g xs) i (f y)
+    ((j : ℕ) → j < length xs → j ≢ i → f (get_or xs j d) ≡ g (get_or xs j d))
+    → map f (set xs i y) ≡ set (map g xs) i (f y)
 map-but f g [] i y d same = refl
 map-but f g (x ∷ xs) zero y d same =
     let rest = map-same f g xs d (λ j h. same (suc j) (omega arith) (omega arith)) in
@@ -61,7 +63,8 @@ map-but f g (x ∷ xs) (suc i) y d same =
     cc
 
 -- a field of the first list
-pub with_field-left : (p : ℕ) (new xs ys : List ℕ) → p + length new ≤ length xs → with_field p new (xs ++ ys) ≡ with_field p new xs ++ ys
+pub with_field-left : (p : ℕ) (new xs ys : List ℕ) → p + length new ≤ length xs
+    → with_field p new (xs ++ ys) ≡ with_field p new xs ++ ys
 with_field-left p new xs ys fits =
     let front = take-append-le p xs ys (omega arith) in
     let back = drop-append-le (p + length new) xs ys (omega arith) in
@@ -74,7 +77,8 @@ pub take-right : {X : Type 0} (n p : ℕ) (xs ys : List X) → length xs ≡ n �
 take-right n p xs ys long = same_lists _ _ (search (rules, places)) (λ i d h. grind (arith, places))
 
 -- a field of the second list
-pub with_field-right : (n p : ℕ) (new xs ys : List ℕ) → length xs ≡ n → with_field (n + p) new (xs ++ ys) ≡ xs ++ with_field p new ys
+pub with_field-right : (n p : ℕ) (new xs ys : List ℕ) → length xs ≡ n → with_field (n + p) new (xs ++ ys) ≡ xs
+    ++ with_field p new ys
 with_field-right n p new xs ys long =
     let front = take-right n p xs ys long in
     let sum : n + p + length new ≡ n + (p + length new) = omega arith in
@@ -84,7 +88,8 @@ with_field-right n p new xs ys long =
 
 pub field-left : (p n : ℕ) (xs ys : List ℕ) → p + n ≤ length xs → field p n (xs ++ ys) ≡ field p n xs
 field-left p n xs ys fits =
-    ap (take n) (drop-append-le p xs ys (omega arith)) ∙ take-append-le n (drop p xs) ys (omega (arith, length-drop p xs))
+    ap (take n) (drop-append-le p xs ys (omega arith))
+    ∙ take-append-le n (drop p xs) ys (omega (arith, length-drop p xs))
 
 pub field-take : (p n size : ℕ) (xs : List ℕ) → p + n ≤ size → field p n (take size xs) ≡ field p n xs
 field-take p n size xs fits = same_lists _ _ (search (rules, places)) (λ i d h. grind (arith, places))

@@ -101,7 +101,9 @@ module _ (on : OnChain) where
           (sym (ap (λ (keys : List ℕ). slice_get keys b) keys_on) ∙ found)
 
       pub key_has : ContainsKey s key
-      key_has = has_here s chains i capacity ends chained within is key (key_lies s chains i capacity ends chained within is b key few key_at)
+      key_has =
+          has_here s chains i capacity ends chained within is key
+          (key_lies s chains i capacity ends chained within is b key few key_at)
 
       -- bytes of the string that lie in the block
       pub part_is : (at place n : ℕ) (block : Block) → get s key ≡ Some block → 252 * b + at ≡ place → at + n ≤ 252 →
@@ -109,7 +111,8 @@ module _ (on : OnChain) where
       part_is at place n block held begins fits_here inside_too =
           let size = len_on in
           ap (λ (o : Option Block). field at n (data_in o)) (sym held)
-          ∙ sym (field-data_of s (keys_of s ends) b key at n long key_at (full_here s chains i capacity ends chained within is) fits_here)
+          ∙ sym (field-data_of s (keys_of s ends) b key at n long key_at
+          (full_here s chains i capacity ends chained within is) fits_here)
           ∙ ap (λ p. field p n (data_of s (keys_of s ends))) begins
           ∙ sym (field-take place n ends.len (data_of s (keys_of s ends)) (omega arith))
           ∙ ap (field place n) (sym (bytes_is s chains i capacity ends chained within is store view))
@@ -121,5 +124,6 @@ module _ (on : OnChain) where
           let size = len_on in
           let after : b + 1 < blocks_for ends.len = omega arith in
           ap (λ (keys : List ℕ). slice_get keys (b + 1)) keys_on
-          ∙ slice_get-get_or (keys_of s ends) (b + 1) 0 (omega (arith, length-keys_from s (blocks_for ends.len) ends.head))
+          ∙ slice_get-get_or (keys_of s ends) (b + 1) 0
+          (omega (arith, length-keys_from s (blocks_for ends.len) ends.head))
           ∙ ap Some (keys_from-next s (blocks_for ends.len) ends.head b after ∙ ap (next_at s) key_at ∙ ap link_in at)

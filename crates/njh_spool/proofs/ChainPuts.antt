@@ -22,7 +22,8 @@ counts_one : (o : Option Block) → IsSome o → cond {A = ℕ} (is_some o) 1 0 
 counts_one (Some block) has = refl
 counts_one None has = search rules
 
-pub slab_len-with_value : (s : Slab Block) (key : ℕ) (block : Block) → ContainsKey s key → slab_len (with_value s key block) ≡ slab_len s
+pub slab_len-with_value : (s : Slab Block) (key : ℕ) (block : Block) → ContainsKey s key
+    → slab_len (with_value s key block) ≡ slab_len s
 slab_len-with_value s key block has =
     let sum = sum_by-set (λ (o : Option Block). cond {A = ℕ} (is_some o) 1 0) s.slots key (Some block) None
     (ContainsKey-within s key has) in
@@ -43,7 +44,8 @@ length-with_field place new bytes fits =
 -- bytes written within a string, or at its end
 pub take-with_field : (size place : ℕ) (new bytes : List ℕ) → place + length new ≤ size → size ≤ length bytes →
     take size (with_field place new bytes) ≡ with_field place new (take size bytes)
-take-with_field size place new bytes fits within = same_lists _ _ (search (rules, places)) (λ i d h. grind (arith, places))
+take-with_field size place new bytes fits within =
+    same_lists _ _ (search (rules, places)) (λ i d h. grind (arith, places))
 
 pub take-with_field_end : (size : ℕ) (new bytes : List ℕ) → size ≤ length bytes → take (size + length new)
     (with_field size new bytes) ≡ take size bytes ++ new
@@ -51,7 +53,8 @@ take-with_field_end size new bytes within =
     take_at (take size bytes ++ new) (drop (size + length new) bytes) (size + length new)
     (omega (arith, length-append (take size bytes) new, length-take size bytes))
 
-module _ (s : Slab Block) (chains : List ChainEnds) (i capacity : ℕ) (ends : ChainEnds) (chained : IsChained s chains capacity)
+module _ (s : Slab Block) (chains : List ChainEnds) (i capacity : ℕ) (ends : ChainEnds)
+    (chained : IsChained s chains capacity)
     (within : i < length chains) (is : get_or chains i ends ≡ ends) (key b place len : ℕ) (bytes : List ℕ)
     (inside : b < blocks_for ends.len) (at : get_or (keys_of s ends) b 0 ≡ key) (fits : place + length bytes ≤ 252)
     (count : blocks_for len ≡ blocks_for ends.len) where
@@ -65,7 +68,9 @@ module _ (s : Slab Block) (chains : List ChainEnds) (i capacity : ℕ) (ends : C
   t = with_value s key written
 
   pub has_key : ContainsKey s key
-  has_key = has_here s chains i capacity ends chained within is key (key_lies s chains i capacity ends chained within is b key inside at)
+  has_key =
+      has_here s chains i capacity ends chained within is key
+      (key_lies s chains i capacity ends chained within is b key inside at)
 
   found : get t key ≡ Some written
   found = (Updates-with_value s key written has_key).changed
@@ -74,10 +79,13 @@ module _ (s : Slab Block) (chains : List ChainEnds) (i capacity : ℕ) (ends : C
   others = (Updates-with_value s key written has_key).others
 
   one_block : blocks_at s key ≡ 1
-  one_block = block_here s chains i capacity ends chained within is key (key_lies s chains i capacity ends chained within is b key inside at)
+  one_block =
+      block_here s chains i capacity ends chained within is key
+      (key_lies s chains i capacity ends chained within is b key inside at)
 
   long : length (data_at s key) ≡ 252
-  long = full_here s chains i capacity ends chained within is key (key_lies s chains i capacity ends chained within is b key inside at)
+  long = full_here s chains i capacity ends chained within is key
+      (key_lies s chains i capacity ends chained within is b key inside at)
 
   next_same : (k : ℕ) → next_at t k ≡ next_at s k
   next_same k =
@@ -107,7 +115,8 @@ module _ (s : Slab Block) (chains : List ChainEnds) (i capacity : ℕ) (ends : C
       ]
 
   keys_same : keys_of t new ≡ keys_of s ends
-  keys_same = ap (λ n. keys_from t n ends.head) count ∙ keys_from-same s t (blocks_for ends.len) ends.head (λ k h. next_same k)
+  keys_same = ap (λ n. keys_from t n ends.head) count
+      ∙ keys_from-same s t (blocks_for ends.len) ends.head (λ k h. next_same k)
 
   pub moves_put : Moves s t ends new
   moves_put =
@@ -123,7 +132,8 @@ module _ (s : Slab Block) (chains : List ChainEnds) (i capacity : ℕ) (ends : C
         once = λ k. omega (arith, blocks_same k, ap (times_in k) keys_same);
         counted = omega (arith, slab_len-with_value s key written has_key);
         full = full;
-        last = λ some. ap (λ n. get_or (keys_of t new) (n - 1) 0) count ∙ ap (λ ks. get_or ks (blocks_for ends.len - 1) 0)
+        last = λ some. ap (λ n. get_or (keys_of t new) (n - 1) 0) count
+            ∙ ap (λ ks. get_or ks (blocks_for ends.len - 1) 0)
             keys_same ∙ last_here s chains i capacity ends chained within is (omega arith);
         capacity = refl;
       }
@@ -149,23 +159,33 @@ module _ (s : Slab Block) (chains : List ChainEnds) (i capacity : ℕ) (ends : C
       let size = length_data s chains i capacity ends chained within is in
       chain_put
       ∙ ap (λ (n : ℕ). record { keys = keys_of s ends; bytes = take n (with_field (252 * b + place) bytes old) }) longer
-      ∙ ap (λ (p : ℕ). record { keys = keys_of s ends; bytes = take (ends.len + length bytes) (with_field p bytes old) }) end
+      ∙ ap (λ (p : ℕ). record {
+        keys = keys_of s ends;
+        bytes =
+            take (ends.len + length bytes) (with_field p bytes old);
+      }) end
       ∙ ap (λ (bs : List ℕ). record { keys = keys_of s ends; bytes = bs })
       (take-with_field_end ends.len bytes old (omega (arith, blocks_for-bounds ends.len)))
 
   -- within the string
   pub chain_overwritten : 252 * b + place + length bytes ≤ ends.len → len ≡ ends.len →
-      chain_of t new ≡ record { keys = (chain_of s ends).keys; bytes = with_field (252 * b + place) bytes (chain_of s ends).bytes }
+      chain_of t new ≡ record {
+        keys = (chain_of s ends).keys;
+        bytes =
+            with_field (252 * b + place) bytes (chain_of s ends).bytes;
+      }
   chain_overwritten fits_string same =
       let old = data_of s (keys_of s ends) in
       let size = length_data s chains i capacity ends chained within is in
       chain_put
       ∙ ap (λ (n : ℕ). record { keys = keys_of s ends; bytes = take n (with_field (252 * b + place) bytes old) }) same
-      ∙ ap (λ (bs : List ℕ). record { keys = keys_of s ends; bytes = bs }) (take-with_field ends.len (252 * b + place) bytes old
+      ∙ ap (λ (bs : List ℕ). record { keys = keys_of s ends; bytes = bs })
+      (take-with_field ends.len (252 * b + place) bytes old
       fits_string (omega (arith, blocks_for-bounds ends.len)))
 
 -- where bytes go that the last block has room for
 pub end_in_last : (size more : ℕ) → 0 < more → size + more ≤ 252 * blocks_for size →
     (252 * (blocks_for size - 1) + size % 252 ≡ size) × (size % 252 + more ≤ 252) × (0 < size) ×
     (blocks_for (size + more) ≡ blocks_for size)
-end_in_last size more some room = (omega arith, omega arith, omega arith, blocks_for_is (size + more) (blocks_for size) room (omega arith))
+end_in_last size more some room =
+    (omega arith, omega arith, omega arith, blocks_for_is (size + more) (blocks_for size) room (omega arith))

@@ -31,10 +31,12 @@ rest_of size xs ys long =
           ∙ drop_at xs (take (size - 252) ys) 252 long
       | inr few ↦
           let none : size - 252 ≡ 0 = omega arith in
-          drop_all 252 (take size (xs ++ ys)) (omega (arith, length-take size (xs ++ ys))) ∙ sym (ap (λ n. take n ys) none)
+          drop_all 252 (take size (xs ++ ys)) (omega (arith, length-take size (xs ++ ys)))
+          ∙ sym (ap (λ n. take n ys) none)
     ]
 
-module _ (s t : Slab Block) (chains : List ChainEnds) (i capacity : ℕ) (ends : ChainEnds) (chained : IsChained s chains capacity)
+module _ (s t : Slab Block) (chains : List ChainEnds) (i capacity : ℕ) (ends : ChainEnds)
+    (chained : IsChained s chains capacity)
     (within : i < length chains) (is : get_or chains i ends ≡ ends) (any : 0 < ends.len) where
   pub head_lies : 0 < times_in ends.head (keys_of s ends)
   head_lies = key_lies s chains i capacity ends chained within is 0 ends.head (omega arith)
@@ -76,7 +78,8 @@ module _ (s t : Slab Block) (chains : List ChainEnds) (i capacity : ℕ) (ends :
     keys_shorter : keys_of t shorter ≡ rest
     keys_shorter =
         ap (λ x. keys_from t (blocks_for (ends.len - 252)) x) (sym (ap link_in found))
-        ∙ keys_from-same s t (blocks_for (ends.len - 252)) (next_at s ends.head) (λ k h. ap link_in (updates.others k (in_rest k h)))
+        ∙ keys_from-same s t (blocks_for (ends.len - 252)) (next_at s ends.head)
+        (λ k h. ap link_in (updates.others k (in_rest k h)))
 
     pub moves_rest : Moves s t ends shorter
     moves_rest =
@@ -102,7 +105,8 @@ module _ (s t : Slab Block) (chains : List ChainEnds) (i capacity : ℕ) (ends :
                     let other = one_other ends.head key (λ e. differ (sym e)) in
                     omega (arith, times_first key)
               ];
-          counted = omega (arith, blocks_for_is ends.len (suc (blocks_for (ends.len - 252))) (omega arith) (omega arith));
+          counted =
+              omega (arith, blocks_for_is ends.len (suc (blocks_for (ends.len - 252))) (omega arith) (omega arith));
           full = λ key.
               elim (cases_eq key ends.head) [
                 | inl here ↦
@@ -127,12 +131,17 @@ module _ (s t : Slab Block) (chains : List ChainEnds) (i capacity : ℕ) (ends :
           capacity = room;
         }
 
-    pub chain_rest : chain_of t shorter ≡ record { keys = drop 1 (keys_of s ends); bytes = drop 252 (chain_of s ends).bytes }
+    pub chain_rest : chain_of t shorter ≡ record {
+      keys = drop 1 (keys_of s ends);
+      bytes =
+          drop 252 (chain_of s ends).bytes;
+    }
     chain_rest =
         let long = full_here s chains i capacity ends chained within is ends.head head_lies in
         let kept = data_of-same s t rest (λ k h. ap data_in (updates.others k (in_rest k h))) in
         let all = ap (data_of s) keys_first ∙ flat_map-cons (data_at s) ends.head rest in
-        let back = ap (λ xs. drop 252 (take ends.len xs)) all ∙ rest_of ends.len (data_at s ends.head) (data_of s rest) long in
+        let back = ap (λ xs. drop 252 (take ends.len xs)) all
+        ∙ rest_of ends.len (data_at s ends.head) (data_of s rest) long in
         ap (λ (ks : List ℕ). record { keys = ks; bytes = take (ends.len - 252) (data_of t ks) }) keys_shorter
         ∙ ap (λ (bs : List ℕ). record { keys = rest; bytes = bs }) (ap (take (ends.len - 252)) kept ∙ sym back)
         ∙ ap (λ (ks : List ℕ). record { keys = drop 1 ks; bytes = drop 252 (chain_of s ends).bytes }) (sym keys_first)

@@ -20,11 +20,13 @@ with_chain-twice chain first second store = ap (λ (chains : List Chain). record
 pub record Only (chain : ℕ) (old now : StoreValue) : Type 0 where
   pub is : now ≡ with_chain chain (chain_at chain now) old
 
-pub Only-within : (chain : ℕ) (old now : StoreValue) → Only chain old now → chain < length old.chains → chain < length now.chains
+pub Only-within : (chain : ℕ) (old now : StoreValue) → Only chain old now → chain < length old.chains
+    → chain < length now.chains
 Only-within chain old now only within =
     omega (arith, ap (λ (x : StoreValue). length x.chains) only.is, length-set old.chains chain (chain_at chain now))
 
-pub Only-then : (chain : ℕ) (old now later : StoreValue) (changed : Chain) → Only chain old now → chain < length old.chains →
+pub Only-then : (chain : ℕ) (old now later : StoreValue) (changed : Chain) → Only chain old now
+    → chain < length old.chains →
     later ≡ with_chain chain changed now → Only chain old later
 Only-then chain old now later changed only within is =
     let here : chain_at chain later ≡ changed = ap (chain_at chain) is ∙ chain_at-with_chain chain changed now
@@ -37,16 +39,19 @@ Only-then chain old now later changed only within is =
           ∙ ap (λ (x : Chain). with_chain chain x old) (sym here);
     }
 
-pub Only-chain : (chain : ℕ) (now later : StoreValue) (changed : Chain) → chain < length now.chains → later ≡ with_chain chain changed
+pub Only-chain : (chain : ℕ) (now later : StoreValue) (changed : Chain) → chain < length now.chains
+    → later ≡ with_chain chain changed
     now → chain_at chain later ≡ changed
 Only-chain chain now later changed within is = ap (chain_at chain) is ∙ chain_at-with_chain chain changed now within
 
 pub with_field-two : (place : ℕ) (first second bytes : List ℕ) → place + length first + length second ≤ length bytes →
     with_field (place + length first) second (with_field place first bytes) ≡ with_field place (first ++ second) bytes
-with_field-two place first second bytes within = same_lists _ _ (search (rules, places)) (λ i d h. grind (arith, places))
+with_field-two place first second bytes within =
+    same_lists _ _ (search (rules, places)) (λ i d h. grind (arith, places))
 
 -- a string that is written over twice
-pub with_bytes-two : (chain place : ℕ) (first second all : List ℕ) (store mid : StoreValue) → chain < length store.chains →
+pub with_bytes-two : (chain place : ℕ) (first second all : List ℕ) (store mid : StoreValue)
+    → chain < length store.chains →
     mid ≡ with_bytes chain (with_field place first (chain_at chain store).bytes) store → first ++ second ≡ all →
     place + length first + length second ≤ length (chain_at chain store).bytes →
     with_bytes chain (with_field (place + length first) second (chain_at chain mid).bytes) mid ≡ with_bytes chain
@@ -55,8 +60,16 @@ with_bytes-two chain place first second all store mid within is both fits =
     let bytes = (chain_at chain store).bytes in
     let keys = (chain_at chain store).keys in
     let changed = Only-chain chain store mid (record { keys = keys; bytes = with_field place first bytes }) within is in
-    ap (λ (c : Chain). with_chain chain (record { keys = c.keys; bytes = with_field (place + length first) second c.bytes }) mid) changed
-    ∙ ap (with_chain chain (record { keys = keys; bytes = with_field (place + length first) second (with_field place first bytes) })) is
+    ap (λ (c : Chain). with_chain chain (record {
+      keys = c.keys;
+      bytes =
+          with_field (place + length first) second c.bytes;
+    }) mid) changed
+    ∙ ap (with_chain chain (record {
+      keys = keys;
+      bytes =
+          with_field (place + length first) second (with_field place first bytes);
+    })) is
     ∙ with_chain-twice chain (record { keys = keys; bytes = with_field place first bytes })
     (record { keys = keys; bytes = with_field (place + length first) second (with_field place first bytes) }) store
     ∙ ap (λ (bs : List ℕ). with_bytes chain bs store) (with_field-two place first second bytes fits
@@ -64,8 +77,10 @@ with_bytes-two chain place first second all store mid within is both fits =
 
 -- the blocks in use with another string
 pub blocks_used-with_chain : (chain : ℕ) (changed : Chain) (store : StoreValue) → chain < length store.chains →
-    blocks_used (with_chain chain changed store) + blocks_of (chain_at chain store).bytes ≡ blocks_used store + blocks_of changed.bytes
-blocks_used-with_chain chain changed store within = sum_by-set (λ (x : Chain). blocks_of x.bytes) store.chains chain changed empty_chain within
+    blocks_used (with_chain chain changed store) + blocks_of (chain_at chain store).bytes ≡ blocks_used
+    store + blocks_of changed.bytes
+blocks_used-with_chain chain changed store within =
+    sum_by-set (λ (x : Chain). blocks_of x.bytes) store.chains chain changed empty_chain within
 
 -- a string grows by these bytes, of which the last are still to come
 pub record Appends (chain : ℕ) (bytes left : List ℕ) (old now : StoreValue) : Type 0 where
@@ -74,8 +89,10 @@ pub record Appends (chain : ℕ) (bytes left : List ℕ) (old now : StoreValue) 
   pub keys : take (length (chain_at chain old).keys) (chain_at chain now).keys ≡ (chain_at chain old).keys
   pub filled : 0 < length left → length (chain_at chain now).bytes ≡ 252 * blocks_of (chain_at chain now).bytes
 
-pub Appends-then : (chain : ℕ) (bytes left part after : List ℕ) (old now later : StoreValue) → Appends chain bytes left old now →
-    chain < length old.chains → Grows chain part now later → part ++ after ≡ left → (0 < length after → length part ≡ 252) →
+pub Appends-then : (chain : ℕ) (bytes left part after : List ℕ) (old now later : StoreValue)
+    → Appends chain bytes left old now →
+    chain < length old.chains → Grows chain part now later → part ++ after ≡ left
+    → (0 < length after → length part ≡ 252) →
     Appends chain bytes after old later
 Appends-then chain bytes left part after old now later appends within grows split whole =
     let changed : Chain = record { keys = (chain_at chain later).keys; bytes = (chain_at chain now).bytes ++ part } in
@@ -110,7 +127,8 @@ fewer_blocks chain first second store within =
     omega (
       arith,
       blocks_used-with_chain chain (record { keys = changed.keys; bytes = changed.bytes ++ first }) store within,
-      blocks_used-with_chain chain (record { keys = changed.keys; bytes = changed.bytes ++ (first ++ second) }) store within,
+      blocks_used-with_chain chain (record { keys = changed.keys; bytes = changed.bytes ++ (first ++ second) }) store
+          within,
       length-append changed.bytes first,
       length-append changed.bytes (first ++ second),
       length-append first second,
@@ -131,7 +149,8 @@ module _ (chain : ℕ) (first second : List ℕ) (old now : StoreValue) (within 
   pub grown_capacity : now.capacity ≡ old.capacity
   grown_capacity = ap (λ (x : StoreValue). x.capacity) grows.after
 
-  pub grown_blocks : blocks_used (with_bytes chain ((chain_at chain now).bytes ++ second) now) ≡ blocks_used (with_bytes chain
+  pub grown_blocks : blocks_used (with_bytes chain ((chain_at chain now).bytes ++ second) now) ≡ blocks_used
+      (with_bytes chain
       ((chain_at chain old).bytes ++ (first ++ second)) old)
   grown_blocks =
       let bytes = ap (λ (c : Chain). length (c.bytes ++ second)) grown_is in
@@ -143,9 +162,14 @@ module _ (chain : ℕ) (first second : List ℕ) (old now : StoreValue) (within 
         size,
         bytes,
         blocks_used-with_chain chain grown old within,
-        blocks_used-with_chain chain (record { keys = (chain_at chain now).keys; bytes = (chain_at chain now).bytes ++ second }) now grown_within,
+        blocks_used-with_chain chain (record {
+          keys = (chain_at chain now).keys;
+          bytes = (chain_at chain now).bytes
+              ++ second;
+        }) now grown_within,
         blocks_used-with_chain chain
-            (record { keys = (chain_at chain old).keys; bytes = (chain_at chain old).bytes ++ (first ++ second) }) old within,
+            (record { keys = (chain_at chain old).keys; bytes = (chain_at chain old).bytes ++ (first ++ second) }) old
+            within,
         length-append ((chain_at chain old).bytes ++ first) second,
         length-append (chain_at chain old).bytes first,
         length-append (chain_at chain old).bytes (first ++ second),
@@ -164,7 +188,8 @@ module _ (chain : ℕ) (first second : List ℕ) (old now : StoreValue) (within 
         after =
             more.after
             ∙ ap (λ (xs : List ℕ). with_chain chain (record { keys = keys; bytes = xs }) now) bytes
-            ∙ ap (with_chain chain (record { keys = keys; bytes = (chain_at chain old).bytes ++ (first ++ second) })) grows.after
+            ∙ ap (with_chain chain (record { keys = keys; bytes = (chain_at chain old).bytes ++ (first ++ second) }))
+            grows.after
             ∙ with_chain-twice chain grown
             (record { keys = keys; bytes = (chain_at chain old).bytes ++ (first ++ second) }) old;
         keys =

@@ -20,7 +20,8 @@ use Rattle.njh_spool.proofs.ChainPlaces.{OnChain, len_on, keys_on, few, key_at}
 
 -- a block with other bytes
 abbrev pub put_in : Slab Block → ℕ → ℕ → List ℕ → Slab Block
-put_in s key place bytes = with_value s key (record { bytes = with_field place bytes (data_at s key); next = next_at s key })
+put_in s key place bytes =
+    with_value s key (record { bytes = with_field place bytes (data_at s key); next = next_at s key })
 
 module _ (on : OnChain) where
   open on use {chain as i, ends, chained, within, is, view, value as store}
@@ -33,7 +34,8 @@ module _ (on : OnChain) where
   old = chain_is s chains i capacity ends chained within is store view
 
   -- bytes in what the last block has left
-  module _ (bytes : List ℕ) (some : 0 < length bytes) (room : length (chain_at i store).bytes + length bytes ≤ 252 * blocks_of
+  module _ (bytes : List ℕ) (some : 0 < length bytes) (room : length (chain_at i store).bytes + length
+      bytes ≤ 252 * blocks_of
       (chain_at i store).bytes) where
     places : (252 * (blocks_for ends.len - 1) + ends.len % 252 ≡ ends.len) × (ends.len % 252 + length bytes ≤ 252) ×
         (0 < ends.len) × (blocks_for (ends.len + length bytes) ≡ blocks_for ends.len)
@@ -58,7 +60,8 @@ module _ (on : OnChain) where
     pub extended : IsChained (put_in s ends.last (ends.len % 252) bytes)
         (set chains i (record { head = ends.head; last = ends.last; len = ends.len + length bytes })) capacity
     extended =
-        let block : Block = record { bytes = with_field (ends.len % 252) bytes (data_at s ends.last); next = next_at s ends.last } in
+        let block : Block =
+        record { bytes = with_field (ends.len % 252) bytes (data_at s ends.last); next = next_at s ends.last } in
         chained_moved s _ chains i capacity ends _ chained within is
         (moves_put s chains i capacity ends chained within is ends.last (blocks_for ends.len - 1) (ends.len % 252)
         (ends.len + length bytes) bytes inside at_last places.1 places.3)
@@ -103,22 +106,27 @@ module _ (on : OnChain) where
         (moves_put s chains i capacity ends chained within is key b at ends.len bytes near here fits refl)
         (omega (arith, slab_len-with_value s key block has, chained.within)))
 
-    pub view_overwritten : record { capacity = capacity; chains = chains_of (put_in s key at bytes) chains } ≡ with_bytes i
+    pub view_overwritten : record { capacity = capacity; chains = chains_of (put_in s key at bytes) chains }
+        ≡ with_bytes i
         (with_field place bytes (chain_at i store).bytes) store
     view_overwritten =
         let same : set chains i ends ≡ chains = ap (set chains i) (sym is) ∙ set-get_or chains i ends in
-        ap (λ (xs : List ChainEnds). record { capacity = capacity; chains = chains_of (put_in s key at bytes) xs }) (sym same)
+        ap (λ (xs : List ChainEnds). record { capacity = capacity; chains = chains_of (put_in s key at bytes) xs })
+        (sym same)
         ∙ view_moved s _ chains i capacity ends _ chained within is
         (moves_put s chains i capacity ends chained within is key b at ends.len bytes near here fits refl)
         store view
         ∙ ap (λ (x : Chain). with_chain i x store)
-        (chain_overwritten s chains i capacity ends chained within is key b at ends.len bytes near here fits refl (omega (arith, size)) refl
-        ∙ ap (λ (p : ℕ). record { keys = (chain_of s ends).keys; bytes = with_field p bytes (chain_of s ends).bytes }) sum
+        (chain_overwritten s chains i capacity ends chained within is key b at ends.len bytes near here fits refl
+        (omega (arith, size)) refl
+        ∙ ap (λ (p : ℕ). record { keys = (chain_of s ends).keys; bytes = with_field p bytes (chain_of s ends).bytes })
+        sum
         ∙ ap (λ (x : Chain). record { keys = x.keys; bytes = with_field place bytes x.bytes }) (sym old))
 
   -- a block's bytes behind the others
   module _ (t1 : Slab Block) (k : ℕ) (bytes : List ℕ) (some : 0 < length bytes) (short : length bytes ≤ 252)
-      (vacant : get s k ≡ None) (updates : Updates s t1 k (Some (block_with bytes 0))) (more : slab_len t1 ≡ slab_len s + 1)
+      (vacant : get s k ≡ None) (updates : Updates s t1 k (Some (block_with bytes 0)))
+      (more : slab_len t1 ≡ slab_len s + 1)
       (room : t1.capacity ≡ s.capacity) (free : slab_len s < capacity) where
     module _ (empty : ends.len ≡ 0) where
       pub begun : IsChained t1 (set chains i (record { head = k; last = k; len = length bytes })) capacity
@@ -134,14 +142,17 @@ module _ (on : OnChain) where
                 chains_of t1 (set chains i (record { head = k; last = k; len = length bytes }));
           })
       grows_begun held =
-          let now = view_moved s t1 chains i capacity ends _ chained within is (moves_first s t1 k bytes short vacant updates
+          let now =
+          view_moved s t1 chains i capacity ends _ chained within is (moves_first s t1 k bytes short vacant updates
           more room chains i capacity ends chained within is some empty) store view in
-          let chain = chain_first s t1 k bytes short vacant updates more room chains i capacity ends chained within is some empty in
+          let chain =
+          chain_first s t1 k bytes short vacant updates more room chains i capacity ends chained within is some empty in
           let no_bytes = nil_from_length (chain_at i store).bytes (omega (arith, size)) in
           let keys = keys_on on in
           let no_keys = nil_from_length (chain_at i store).keys
           (omega (arith, ap length keys, length-keys_from s (blocks_for ends.len) ends.head)) in
-          grows_from i bytes store _ (record { keys = k ∷ []; bytes = bytes }) held (now ∙ ap (λ (x : Chain). with_chain i x store) chain)
+          grows_from i bytes store _ (record { keys = k ∷ []; bytes = bytes }) held
+          (now ∙ ap (λ (x : Chain). with_chain i x store) chain)
           (ap (λ (xs : List ℕ). xs ++ bytes) (sym no_bytes))
           (ap (λ (ks : List ℕ). take (length ks) (k ∷ [])) no_keys ∙ sym no_keys)
 
@@ -150,30 +161,41 @@ module _ (on : OnChain) where
       linked_to = with_value t1 ends.last (record { bytes = data_at t1 ends.last; next = k })
 
       pub has_last_block : ContainsKey t1 ends.last
-      has_last_block = has_last s t1 k bytes short vacant updates more room chains i capacity ends chained within is some filled any
+      has_last_block =
+          has_last s t1 k bytes short vacant updates more room chains i capacity ends chained within is some filled any
 
       pub fits_longer : ends.len + length bytes < 2 ^ 32
       fits_longer = omega (arith, count_within s chains i capacity ends chained within is, chained.small)
 
-      pub linked : IsChained linked_to (set chains i (record { head = ends.head; last = k; len = ends.len + length bytes })) capacity
+      pub linked : IsChained linked_to (set chains i (record
+          { head = ends.head; last = k; len = ends.len + length bytes })) capacity
       linked =
           let block : Block = record { bytes = data_at t1 ends.last; next = k } in
           chained_moved s _ chains i capacity ends _ chained within is
-          (moves_next s t1 k bytes short vacant updates more room chains i capacity ends chained within is some filled any)
+          (moves_next s t1 k bytes short vacant updates more room chains i capacity ends chained within is some filled
+          any)
           (omega (arith, slab_len-with_value t1 ends.last block has_last_block))
 
       pub grows_linked : i < length store.chains →
           Grows i bytes store (record {
             capacity = capacity;
             chains =
-                chains_of linked_to (set chains i (record { head = ends.head; last = k; len = ends.len + length bytes }));
+                chains_of linked_to (set chains i (record
+                { head = ends.head; last = k; len = ends.len + length bytes }));
           })
       grows_linked held =
-          let now = view_moved s _ chains i capacity ends _ chained within is (moves_next s t1 k bytes short vacant updates more
+          let now =
+          view_moved s _ chains i capacity ends _ chained within is (moves_next s t1 k bytes short vacant updates more
           room chains i capacity ends chained within is some filled any) store view in
-          let chain = chain_next s t1 k bytes short vacant updates more room chains i capacity ends chained within is some filled any in
+          let chain =
+          chain_next s t1 k bytes short vacant updates more room chains i capacity ends chained within is some filled
+          any in
           let keys = keys_on on in
-          grows_from i bytes store _ (record { keys = keys_of s ends ++ k ∷ []; bytes = (chain_of s ends).bytes ++ bytes }) held
+          grows_from i bytes store _ (record {
+            keys = keys_of s ends ++ k ∷ [];
+            bytes = (chain_of s ends).bytes
+                ++ bytes;
+          }) held
           (now ∙ ap (λ (x : Chain). with_chain i x store) chain)
           (ap (λ (x : Chain). x.bytes ++ bytes) (sym old))
           (ap (λ (ks : List ℕ). take (length ks) (keys_of s ends ++ k ∷ [])) keys ∙ take_at (keys_of s ends) (k ∷ [])

@@ -8,7 +8,8 @@ use Rattle.njh_record.specs.Stored.{Stored}
 use Rattle.njh_spool.specs.CustomerSpool.{stored_size, cost, at_index, rewritten_record}
 
 -- one record more
-pub cost_push : (records : List Stored) (r : Stored) → cost (records ++ r ∷ []) ≡ (stored_size records + (3 + length r.bytes) + 251) / 252
+pub cost_push : (records : List Stored) (r : Stored)
+    → cost (records ++ r ∷ []) ≡ (stored_size records + (3 + length r.bytes) + 251) / 252
 cost_push records r = ap (λ (n : ℕ). (n + 251) / 252) (sum_by_push (λ (x : Stored). 3 + length x.bytes) records r)
 
 -- bytes written over others leave the length
@@ -25,7 +26,8 @@ length-with_field place new bytes fits =
     )
 
 pub stored_size-rewritten : (k place : ℕ) (new : List ℕ) (records : List Stored) → IsSomeAnd (slice_get records k)
-    (λ r. place + length new ≤ length r.bytes) → stored_size (at_index k (rewritten_record place new) records) ≡ stored_size records
+    (λ r. place + length new ≤ length r.bytes)
+    → stored_size (at_index k (rewritten_record place new) records) ≡ stored_size records
 stored_size-rewritten k place new [] within = refl
 stored_size-rewritten zero place new (r ∷ records) within =
     omega (
@@ -45,4 +47,5 @@ stored_size-rewritten (suc k) place new (r ∷ records) within =
 
 pub cost-rewritten : (k place : ℕ) (new : List ℕ) (records : List Stored) → IsSomeAnd (slice_get records k)
     (λ r. place + length new ≤ length r.bytes) → cost (at_index k (rewritten_record place new) records) ≡ cost records
-cost-rewritten k place new records within = ap (λ (n : ℕ). (n + 251) / 252) (stored_size-rewritten k place new records within)
+cost-rewritten k place new records within =
+    ap (λ (n : ℕ). (n + 251) / 252) (stored_size-rewritten k place new records within)

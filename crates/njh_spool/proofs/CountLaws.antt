@@ -30,7 +30,8 @@ none_more n x xs other =
     omega (arith, sum_by-cons (λ k. cond {A = ℕ} (eqb k n) 1 0) x xs)
 
 -- what differs at one number alone
-pub map_off : {X : Type 0} (n : ℕ) (f g : ℕ → X) (xs : List ℕ) → ((m : ℕ) → m ≢ n → f m ≡ g m) → count_by (is_at n) xs ≡ 0 →
+pub map_off : {X : Type 0} (n : ℕ) (f g : ℕ → X) (xs : List ℕ) → ((m : ℕ) → m ≢ n → f m ≡ g m)
+    → count_by (is_at n) xs ≡ 0 →
     map f xs ≡ map g xs
 map_off n f g [] same none = refl
 map_off n f g (x ∷ xs) same none =
@@ -84,7 +85,8 @@ gone n g (x ∷ xs) once =
           let left : filter (λ m. not (eqb m n)) (x ∷ xs) ≡ xs = rw (eq-eqb x n here) (filter_none (is_at n) xs none) in
           omega (arith, ap (sum_by g) left, sum_by-cons g x xs, ap g here)
       | inr other ↦
-          let left : filter (λ m. not (eqb m n)) (x ∷ xs) ≡ x ∷ filter (λ m. not (eqb m n)) xs = rw (ne_eqb x n other) refl in
+          let left : filter (λ m. not (eqb m n)) (x ∷ xs) ≡ x ∷ filter (λ m. not (eqb m n)) xs =
+          rw (ne_eqb x n other) refl in
           omega (
             arith,
             ap (sum_by g) left,
@@ -97,7 +99,8 @@ gone n g (x ∷ xs) once =
 pub taken : (n : ℕ) (xs : List ℕ) → count_by (is_at n) xs ≡ 1 → Turns n true false xs (filter (λ m. not (eqb m n)) xs)
 taken n xs once = record { sums = λ g. omega (arith, gone n g xs once) }
 
-pub taken-none : (n : ℕ) (xs : List ℕ) → count_by (is_at n) xs ≡ 1 → count_by (is_at n) (filter (λ m. not (eqb m n)) xs) ≡ 0
+pub taken-none : (n : ℕ) (xs : List ℕ) → count_by (is_at n) xs ≡ 1
+    → count_by (is_at n) (filter (λ m. not (eqb m n)) xs) ≡ 0
 taken-none n xs once =
     let here : ◌≡◌ {A = ℕ} (cond (eqb n n) 1 0) 1 = rw (eq-eqb n n refl) refl in
     omega (arith, gone n (λ k. cond {A = ℕ} (eqb k n) 1 0) xs once)
@@ -144,6 +147,7 @@ module _ {X : Type 0} (n : ℕ) (p : X → Bool) (f : ℕ → X) (is : (m : ℕ)
         | inr other ↦ let fails = is x ∙ other in rw (fails, other) (ap (λ (ys : List X). f x ∷ ys) (filter_at xs))
       ]
 
-pub map_both : {X : Type 0} (h : X → X) (f f' : ℕ → X) (xs : List ℕ) → ((m : ℕ) → h (f m) ≡ f' m) → map h (map f xs) ≡ map f' xs
+pub map_both : {X : Type 0} (h : X → X) (f f' : ℕ → X) (xs : List ℕ) → ((m : ℕ) → h (f m) ≡ f' m)
+    → map h (map f xs) ≡ map f' xs
 map_both h f f' [] same = refl
 map_both h f f' (x ∷ xs) same = rw (same x, map_both h f f' xs same) refl

@@ -20,12 +20,15 @@ use Rattle.njh_spool.proofs.PackingLaws.{unpacked-packed}
 pub records_are : (records : List Stored) (count : ℕ) (bytes : List ℕ) → All IsShort records → count ≡ length records →
     bytes ≡ packed_bytes records → unpacked_records count bytes ≡ records
 records_are records count bytes short counted is =
-    ap (λ (n : ℕ). unpacked_records n bytes) counted ∙ ap (unpacked_records (length records)) (is ∙ sym (append-nil (packed_bytes records)))
+    ap (λ (n : ℕ). unpacked_records n bytes) counted
+    ∙ ap (unpacked_records (length records)) (is ∙ sym (append-nil (packed_bytes records)))
     ∙ unpacked-packed records [] short
 
 -- a file of these records
-pub file_of : (records : List Stored) (slot : FileSlot) (chain : Chain) → All IsShort records → slot.count ≡ length records →
-    chain.bytes ≡ packed_bytes records → (is_free slot.stage ≡ true → slot.count ≡ 0) → length chain.bytes ≤ 252 * 65535 →
+pub file_of : (records : List Stored) (slot : FileSlot) (chain : Chain) → All IsShort records
+    → slot.count ≡ length records →
+    chain.bytes ≡ packed_bytes records → (is_free slot.stage ≡ true → slot.count ≡ 0) → length chain.bytes ≤ 252 * 65535
+    →
     ArePlaces records chain.keys slot.places → IsFile slot chain
 file_of records slot chain short counted is free small places =
     let same = records_are records slot.count chain.bytes short counted is in
@@ -40,7 +43,8 @@ file_of records slot chain short counted is free small places =
 first_is : (records : List Stored) (keys : List ℕ) → IsPlace records keys first_place
 first_is records keys = record { before = omega arith; place = refl; block = λ above. absurd (omega arith) }
 
-pub first_are : (records : List Stored) (keys : List ℕ) (kept : KeptPlaces) → kept ≡ first_places → ArePlaces records keys kept
+pub first_are : (records : List Stored) (keys : List ℕ) (kept : KeptPlaces) → kept ≡ first_places
+    → ArePlaces records keys kept
 first_are records keys kept is =
     subst (λ (x : KeptPlaces). ArePlaces records keys x) (sym is)
     (record { last = first_is records keys; next = first_is records keys })
@@ -62,12 +66,14 @@ slice_get-front (suc n) i [] key found = found
 slice_get-front (suc n) zero (x ∷ xs) key found = found
 slice_get-front (suc n) (suc i) (x ∷ xs) key found = slice_get-front n i xs key found
 
-pub block-grown : (keys keys' : List ℕ) (block : ChainBlock) → take (length keys) keys' ≡ keys → IsBlockOf keys block → IsBlockOf keys' block
+pub block-grown : (keys keys' : List ℕ) (block : ChainBlock) → take (length keys) keys' ≡ keys → IsBlockOf keys block
+    → IsBlockOf keys' block
 block-grown keys keys' block front is = λ above. slice_get-front (length keys) block.index keys' block.key
     (ap (λ (ks : List ℕ). slice_get ks block.index) front ∙ is above)
 
 -- a place stays one where a record more is put last
-place-grown : (records : List Stored) (r : Stored) (keys keys' : List ℕ) (at : RecordPlace) → take (length keys) keys' ≡ keys →
+place-grown : (records : List Stored) (r : Stored) (keys keys' : List ℕ) (at : RecordPlace)
+    → take (length keys) keys' ≡ keys →
     IsPlace records keys at → IsPlace (records ++ r ∷ []) keys' at
 place-grown records r keys keys' at front is =
     record {
@@ -104,7 +110,8 @@ module _ (slot : FileSlot) (chain : Chain) (keys : List ℕ) (r : Stored) (file 
   pub appended-records : unpacked_records (slot.count + 1) (chain.bytes ++ packed_record r) ≡ longer
   appended-records = records_are longer (slot.count + 1) (chain.bytes ++ packed_record r) all_short counted bytes_are
 
-  pub appended-file : is_free slot.stage ≡ false → length (chain.bytes ++ packed_record r) ≤ 252 * 65535 → IsFile slot' chain'
+  pub appended-file : is_free slot.stage ≡ false → length (chain.bytes ++ packed_record r) ≤ 252 * 65535
+      → IsFile slot' chain'
   appended-file used small =
       file_of longer slot' chain' all_short counted bytes_are
       (λ free. absurd (let clash : false ≡ true = sym used ∙ free in cc)) small (record {
@@ -112,5 +119,6 @@ module _ (slot : FileSlot) (chain : Chain) (keys : List ℕ) (r : Stored) (file 
         next = place-grown records r chain.keys keys slot.places.next front file.places.next;
       })
 
-pub size_is : (slot : FileSlot) (chain : Chain) → IsFile slot chain → length chain.bytes ≡ stored_size (unpacked_records slot.count chain.bytes)
+pub size_is : (slot : FileSlot) (chain : Chain) → IsFile slot chain
+    → length chain.bytes ≡ stored_size (unpacked_records slot.count chain.bytes)
 size_is slot chain file = ap length file.bytes ∙ length-packed (unpacked_records slot.count chain.bytes)

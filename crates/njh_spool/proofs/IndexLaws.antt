@@ -15,10 +15,12 @@ at xs d c n = cond (ltb n 1024) (get_or xs (1024 * c + n) d) d
 pub at_is : {X : Type 0} (xs : List X) (d : X) (c n : ℕ) → n < 1024 → at xs d c n ≡ get_or xs (1024 * c + n) d
 at_is xs d c n small = rw (lt-ltb n 1024 small) refl
 
-at_same : {X : Type 0} (xs : List X) (x d : X) (c n : ℕ) → n < 1024 → 1024 * c + n < length xs → at (set xs (1024 * c + n) x) d c n ≡ x
+at_same : {X : Type 0} (xs : List X) (x d : X) (c n : ℕ) → n < 1024 → 1024 * c + n < length xs
+    → at (set xs (1024 * c + n) x) d c n ≡ x
 at_same xs x d c n small within = rw (lt-ltb n 1024 small) (get_or-set_same xs (1024 * c + n) x d within)
 
-at_other : {X : Type 0} (xs : List X) (x d : X) (c n e m : ℕ) → n < 1024 → (e ≢ c) ⊎ (m ≢ n) → at (set xs (1024 * c + n) x) d e
+at_other : {X : Type 0} (xs : List X) (x d : X) (c n e m : ℕ) → n < 1024 → (e ≢ c) ⊎ (m ≢ n)
+    → at (set xs (1024 * c + n) x) d e
     m ≡ at xs d e m
 at_other xs x d c n e m small apart =
     elim (cases_lt m 1024) [

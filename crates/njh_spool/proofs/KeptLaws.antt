@@ -40,7 +40,8 @@ spools_from-moved zero k (other ∷ more) files files' own within same =
 spools_from-moved (suc i) k (other ∷ more) files files' own within same =
     let next : k + 1 + i ≡ k + suc i = omega arith in
     let first = ap (spool_of other) (same k (λ e. omega arith)) in
-    let rest = spools_from-moved i (k + 1) more files files' own (omega arith) (λ e apart. same e (λ is. apart (is ∙ sym next))) in
+    let rest =
+    spools_from-moved i (k + 1) more files files' own (omega arith) (λ e apart. same e (λ is. apart (is ∙ sym next))) in
     let there = ap (λ (j : ℕ). spool_of own (files' j)) next in
     ap (λ (s : CustomerSpool). s ∷ spools_from (k + 1) (set more i own) files') first
     ∙ ap (λ (ss : List CustomerSpool). spool_of other (files k) ∷ ss)
@@ -54,7 +55,8 @@ length-spools_from k (own ∷ more) files = ap suc (length-spools_from (k + 1) m
 spools_from-at : (i k : ℕ) (customers : List CustomerFiles) (files : ℕ → ℕ → Content) → i < length customers →
     get_or (spools_from k customers files) i no_spool ≡ spool_of (own_of customers i) (files (k + i))
 spools_from-at i k [] files within = absurd (omega arith)
-spools_from-at zero k (own ∷ more) files within = let here : k + zero ≡ k = omega arith in ap (λ (j : ℕ). spool_of own (files j)) (sym here)
+spools_from-at zero k (own ∷ more) files within = let here : k + zero ≡ k = omega arith in
+    ap (λ (j : ℕ). spool_of own (files j)) (sym here)
 spools_from-at (suc i) k (own ∷ more) files within =
     let next : k + 1 + i ≡ k + suc i = omega arith in
     spools_from-at i (k + 1) more files (omega arith) ∙ ap (λ (j : ℕ). spool_of (own_of more i) (files j)) next
@@ -70,13 +72,15 @@ pub record HasOwn (store : StoreValue) (slots : List FileSlot) (customers : List
   pub slot_within : (n : ℕ) → n < 1024 → 1024 * c + n < length slots
   pub chain_within : (n : ℕ) → n < 1024 → 1024 * c + n < length store.chains
   pub own : IsOwn (own_of customers c) (contents slots store.chains c)
-  pub part : spool_at c (spools_of customers (contents slots store.chains)) ≡ spool_of (own_of customers c) (contents slots store.chains c)
+  pub part : spool_at c (spools_of customers (contents slots store.chains)) ≡ spool_of (own_of customers c)
+      (contents slots store.chains c)
 
 row_within : (c n all : ℕ) → c < all → n < 1024 → 1024 * c + n < 1024 * all
 row_within c n all within small = omega arith
 
 pub has_own : (store : StoreValue) (slots : List FileSlot) (customers : List CustomerFiles) (c : ℕ) →
-    IsKept store slots customers → c < length (spools_of customers (contents slots store.chains)) → HasOwn store slots customers c
+    IsKept store slots customers → c < length (spools_of customers (contents slots store.chains))
+    → HasOwn store slots customers c
 has_own store slots customers c kept inside =
     let within : c < length customers = omega (arith, length-spools_from 0 customers (contents slots store.chains)) in
     record {
@@ -91,7 +95,8 @@ has_own store slots customers c kept inside =
 pub record Moves (store : StoreValue) (slots : List FileSlot) (customers : List CustomerFiles) (store' : StoreValue)
     (slots' : List FileSlot) (customers' : List CustomerFiles) (c : ℕ) (s : CustomerSpool) : Type 0 where
   pub kept : IsKept store' slots' customers'
-  pub spools : spools_of customers' (contents slots' store'.chains) ≡ set (spools_of customers (contents slots store.chains)) c s
+  pub spools : spools_of customers' (contents slots' store'.chains) ≡ set
+      (spools_of customers (contents slots store.chains)) c s
 
 module _ (store : StoreValue) (slots : List FileSlot) (customers : List CustomerFiles) (c n : ℕ) (slot : FileSlot)
     (chain : Chain) (own : CustomerFiles) (kept : IsKept store slots customers) (has : HasOwn store slots customers c)
@@ -115,10 +120,13 @@ module _ (store : StoreValue) (slots : List FileSlot) (customers : List Customer
   files_now = contents-same slots store.chains c n slot chain small (has.slot_within n small) (has.chain_within n small)
 
   files_other : (e : ℕ) → e ≢ c → contents slots' store'.chains e ≡ contents slots store.chains e
-  files_other e apart = contents-other slots store.chains c n slot chain small (has.slot_within n small) (has.chain_within n small) e apart
+  files_other e apart =
+      contents-other slots store.chains c n slot chain small (has.slot_within n small) (has.chain_within n small) e
+      apart
 
   -- what holds of every slot and its chain
-  of_all : (Holds : FileSlot → Chain → Type 0) → Holds slot chain → ((e m : ℕ) → Holds (slot_of slots e m) (chain_of store.chains e m)) →
+  of_all : (Holds : FileSlot → Chain → Type 0) → Holds slot chain
+      → ((e m : ℕ) → Holds (slot_of slots e m) (chain_of store.chains e m)) →
       (e m : ℕ) → Holds (slot_of slots' e m) (chain_of store'.chains e m)
   of_all Holds here rest e m =
       let slot_within = has.slot_within n small in
@@ -138,23 +146,28 @@ module _ (store : StoreValue) (slots : List FileSlot) (customers : List Customer
                   subst (λ (x : Chain). Holds (slot_of slots' e m) x)
                   (sym (chain-other slots store.chains c n slot chain small slot_within chain_within e m (inr other)))
                   (subst (λ (x : FileSlot). Holds x (chain_of store.chains e m))
-                  (sym (slot-other slots store.chains c n slot chain small slot_within chain_within e m (inr other))) (rest e m))
+                  (sym (slot-other slots store.chains c n slot chain small slot_within chain_within e m (inr other)))
+                  (rest e m))
             ]
         | inr other ↦
             subst (λ (x : Chain). Holds (slot_of slots' e m) x)
             (sym (chain-other slots store.chains c n slot chain small slot_within chain_within e m (inl other)))
             (subst (λ (x : FileSlot). Holds x (chain_of store.chains e m))
-            (sym (slot-other slots store.chains c n slot chain small slot_within chain_within e m (inl other))) (rest e m))
+            (sym (slot-other slots store.chains c n slot chain small slot_within chain_within e m (inl other)))
+            (rest e m))
       ]
 
-  pub moves : (s : CustomerSpool) → own.quota ≡ (own_of customers c).quota → blocks_of chain.bytes + (own_of customers c).used ≡
+  pub moves : (s : CustomerSpool) → own.quota ≡ (own_of customers c).quota
+      → blocks_of chain.bytes + (own_of customers c).used ≡
       blocks_of (chain_of store.chains c n).bytes + own.used → IsFile slot chain → KeepsHeaders slot chain →
       IsOwn own (put (contents slots store.chains c) n (content slot chain)) ×
-      (spool_of own (put (contents slots store.chains c) n (content slot chain)) ≡ s) → Moves store slots customers store'
+      (spool_of own (put (contents slots store.chains c) n (content slot chain)) ≡ s)
+      → Moves store slots customers store'
       slots' customers' c s
   moves s quota blocks file headers owns =
       let old_chain = at_is store.chains empty_chain c n small in
-      let chain_sum = sum_by-set (λ (x : Chain). blocks_of x.bytes) store.chains place chain empty_chain (has.chain_within n small) in
+      let chain_sum =
+      sum_by-set (λ (x : Chain). blocks_of x.bytes) store.chains place chain empty_chain (has.chain_within n small) in
       let used_sum = sum_by-set (λ (o : CustomerFiles). o.used) customers c own no_files has.within in
       let quota_sum = sum_by-set (λ (o : CustomerFiles). o.quota) customers c own no_files has.within in
       let old_blocks = ap (λ (x : Chain). blocks_of x.bytes) old_chain in
@@ -168,13 +181,16 @@ module _ (store : StoreValue) (slots : List FileSlot) (customers : List Customer
           own = λ e within.
               elim (cases_eq e c) [
                 | inl same ↦
-                    let here : IsOwn (own_of customers' c) (contents slots' store'.chains c) = rw (own_same, files_now) owns.0 in
+                    let here : IsOwn (own_of customers' c) (contents slots' store'.chains c) =
+                    rw (own_same, files_now) owns.0 in
                     subst (λ (d : ℕ). IsOwn (own_of customers' d) (contents slots' store'.chains d)) (sym same) here
                 | inr other ↦
-                    let there : own_of customers' e ≡ own_of customers e = get_or-set_other customers c e own no_files other in
+                    let there : own_of customers' e ≡ own_of customers e =
+                    get_or-set_other customers c e own no_files other in
                     let within_old : e < length customers = omega (arith, length-set customers c own) in
                     subst (λ (files : ℕ → Content). IsOwn (own_of customers' e) files) (sym (files_other e other))
-                    (subst (λ (o : CustomerFiles). IsOwn o (contents slots store.chains e)) (sym there) (kept.own e within_old))
+                    (subst (λ (o : CustomerFiles). IsOwn o (contents slots store.chains e)) (sym there)
+                    (kept.own e within_old))
               ];
           files = of_all IsFile file kept.files;
           headers = of_all KeepsHeaders headers kept.headers;
@@ -184,14 +200,16 @@ module _ (store : StoreValue) (slots : List FileSlot) (customers : List Customer
             (λ e apart. files_other e (λ is. apart (is ∙ sym (zero-add c))))
             ∙ ap (λ (j : ℕ). set (spools_of customers (contents slots store.chains)) c
             (spool_of own (contents slots' store'.chains j))) (zero-add c)
-            ∙ ap (λ (files : ℕ → Content). set (spools_of customers (contents slots store.chains)) c (spool_of own files)) files_now
+            ∙ ap (λ (files : ℕ → Content). set (spools_of customers (contents slots store.chains)) c
+            (spool_of own files)) files_now
             ∙ ap (λ (t : CustomerSpool). set (spools_of customers (contents slots store.chains)) c t) owns.1;
       }
 
 -- a spool that stays as it is
 pub stays : (customers : List CustomerFiles) (files : ℕ → ℕ → Content) (c : ℕ) (s : CustomerSpool) →
     spool_at c (spools_of customers files) ≡ s → spools_of customers files ≡ set (spools_of customers files) c s
-stays customers files c s is = sym (set-get_or (spools_of customers files) c no_spool) ∙ ap (set (spools_of customers files) c) is
+stays customers files c s is = sym (set-get_or (spools_of customers files) c no_spool)
+    ∙ ap (set (spools_of customers files) c) is
 
 -- a customer's lists as they are read
 pub own_is : (customers : List CustomerFiles) (c i : ℕ) (own : CustomerFiles) → c < length customers → i ≡ c →
@@ -201,14 +219,16 @@ own_is customers c i own within same is =
 
 -- what the customers use and may use, added
 sum_used : (k : ℕ) (customers : List CustomerFiles) (files : ℕ → ℕ → Content) →
-    ((i : ℕ) → i < length customers → (own_of customers i).used ≡ used_blocks (spool_of (own_of customers i) (files (k + i)))) →
+    ((i : ℕ) → i < length customers
+    → (own_of customers i).used ≡ used_blocks (spool_of (own_of customers i) (files (k + i)))) →
     sum_by used_blocks (spools_from k customers files) ≡ sum_by (λ (o : CustomerFiles). o.used) customers
 sum_used k [] files counted = refl
 sum_used k (own ∷ more) files counted =
     let here : k + zero ≡ k = omega arith in
     let first = counted zero (omega arith) ∙ ap (λ (j : ℕ). used_blocks (spool_of own (files j))) here in
     let rest = sum_used (k + 1) more files (λ i within. counted (suc i) (omega arith)
-    ∙ ap (λ (j : ℕ). used_blocks (spool_of (own_of more i) (files j))) (let e : k + suc i ≡ k + 1 + i = omega arith in e)) in
+    ∙ ap (λ (j : ℕ). used_blocks (spool_of (own_of more i) (files j)))
+    (let e : k + suc i ≡ k + 1 + i = omega arith in e)) in
     omega (
       arith,
       sum_by-cons used_blocks (spool_of own (files k)) (spools_from (k + 1) more files),
@@ -228,7 +248,8 @@ sum_quota k (own ∷ more) files =
       sum_by-cons (λ (o : CustomerFiles). o.quota) own more,
     )
 
-module _ (store : StoreValue) (slots : List FileSlot) (customers : List CustomerFiles) (kept : IsKept store slots customers) where
+module _ (store : StoreValue) (slots : List FileSlot) (customers : List CustomerFiles)
+    (kept : IsKept store slots customers) where
   abbrev all : List CustomerSpool
   all = spools_of customers (contents slots store.chains)
 
@@ -244,4 +265,5 @@ module _ (store : StoreValue) (slots : List FileSlot) (customers : List Customer
   pub used_all : sum_by used_blocks all ≡ blocks_used store
   used_all =
       sum_used 0 customers (contents slots store.chains) (λ i within. (kept.own i within).counted
-      ∙ ap (λ (j : ℕ). used_blocks (spool_of (own_of customers i) (contents slots store.chains j))) (sym (zero-add i))) ∙ sym kept.blocks
+      ∙ ap (λ (j : ℕ). used_blocks (spool_of (own_of customers i) (contents slots store.chains j))) (sym (zero-add i)))
+      ∙ sym kept.blocks

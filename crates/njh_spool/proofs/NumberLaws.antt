@@ -17,7 +17,8 @@ pub record IsLeastFrom (k n least : ℕ) (s : CustomerSpool) : Type 0 where
   pub taken : (m : ℕ) → n ≤ m → m < least → is_number m s ≡ true
   pub free : least < n + k → is_number least s ≡ false
 
-step : (k n : ℕ) (s : CustomerSpool) (found : Bool) → is_number n s ≡ found → IsLeastFrom k (n + 1) (least_from k (n + 1) s) s →
+step : (k n : ℕ) (s : CustomerSpool) (found : Bool) → is_number n s ≡ found
+    → IsLeastFrom k (n + 1) (least_from k (n + 1) s) s →
     IsLeastFrom (suc k) n (elim found [ true ↦ least_from k (n + 1) s | false ↦ n ]) s
 step k n s true is rest =
     record {
@@ -50,13 +51,17 @@ least_from_is (suc k) n s = step k n s (is_number n s) refl (least_from_is k (n 
 pub numbers : CustomerSpool → List ℕ
 numbers s = map (λ f. f.number) s.whole ++ map (λ f. f.number) s.partial
 
-same_whole : (n : ℕ) (fs : List WholeFile) → list_any (λ f. eqb f.number n) fs ≡ list_any (eqb n) (map (λ f. f.number) fs)
+same_whole : (n : ℕ) (fs : List WholeFile)
+    → list_any (λ f. eqb f.number n) fs ≡ list_any (eqb n) (map (λ f. f.number) fs)
 same_whole n [] = refl
-same_whole n (f ∷ fs) = let flipped : eqb f.number n ≡ eqb n f.number = grind (arith, nat_tests) in rw (flipped, same_whole n fs) refl
+same_whole n (f ∷ fs) = let flipped : eqb f.number n ≡ eqb n f.number = grind (arith, nat_tests) in
+    rw (flipped, same_whole n fs) refl
 
-same_partial : (n : ℕ) (fs : List PartialFile) → list_any (λ f. eqb f.number n) fs ≡ list_any (eqb n) (map (λ f. f.number) fs)
+same_partial : (n : ℕ) (fs : List PartialFile)
+    → list_any (λ f. eqb f.number n) fs ≡ list_any (eqb n) (map (λ f. f.number) fs)
 same_partial n [] = refl
-same_partial n (f ∷ fs) = let flipped : eqb f.number n ≡ eqb n f.number = grind (arith, nat_tests) in rw (flipped, same_partial n fs) refl
+same_partial n (f ∷ fs) = let flipped : eqb f.number n ≡ eqb n f.number = grind (arith, nat_tests) in
+    rw (flipped, same_partial n fs) refl
 
 is_number-numbers : (n : ℕ) (s : CustomerSpool) → is_number n s ≡ list_any (eqb n) (numbers s)
 unfolding numbers
@@ -87,7 +92,8 @@ next_number-below s room =
           ))
     ]
 
-pub next_number-free : (s : CustomerSpool) → length s.whole + length s.partial < s.limit → is_number (next_number s) s ≡ false
+pub next_number-free : (s : CustomerSpool) → length s.whole + length s.partial < s.limit
+    → is_number (next_number s) s ≡ false
 next_number-free s room = (least_from_is s.limit 0 s).free (omega (arith, next_number-below s room))
 
 -- no file has it, where the customer may have one file more

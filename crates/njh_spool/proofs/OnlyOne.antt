@@ -1,11 +1,11 @@
 -- Lists in which a test finds nothing, or one element.
-use Rattle.std.proofs.Common.{◌≡◌, ℕ, ◌+◌, Bool, true, false, cond, not, List, [], ◌∷◌, ◌++◌, map, filter, find}
+use Rattle.std.proofs.Common.{◌≡◌, ℕ, Bool, true, false, cond, not, List, [], ◌∷◌, ◌++◌, map, filter, find}
 use Rattle.std.proofs.Common.{count_by, Some, None, refl, ap, inl, inr, arith}
 use Rattle.std.specs.List.{list_any}
 use Rattle.std.proofs.lemmas.Bool.{cases_Bool, or_parts}
 use Rattle.std.proofs.lemmas.List.Elements.{filter-append}
 use Rattle.std.proofs.lemmas.List.{map-append}
-use Rattle.std.proofs.lemmas.List.Sums.{sum_by-cons, sum_by-append}
+use Rattle.std.proofs.lemmas.List.Sums.{sum_by-cons}
 
 module _ {X : Type 0} (p : X → Bool) where
   -- where the test finds nothing
@@ -40,7 +40,8 @@ module _ {X : Type 0} (p : X → Bool) where
       let counted = sum_by-cons (λ y. cond (p y) 1 0) x xs in
       elim (cases_Bool (p x)) [
         | inl passes ↦ let here : ◌≡◌ {A = ℕ} (cond (p x) 1 0) 1 = rw passes refl in absurd (omega arith)
-        | inr other ↦ let here : ◌≡◌ {A = ℕ} (cond (p x) 1 0) 0 = rw other refl in rw other (list_any-from_count xs (omega arith))
+        | inr other ↦ let here : ◌≡◌ {A = ℕ} (cond (p x) 1 0) 0 = rw other refl in
+            rw other (list_any-from_count xs (omega arith))
       ]
 
   -- where it finds one element

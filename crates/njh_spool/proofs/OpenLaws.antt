@@ -24,7 +24,8 @@ opened q = record { quota = q.blocks; limit = q.files; used = 0; arrived = 0; wh
 abbrev pub spool_for : Quota → CustomerSpool
 spool_for q = empty_spool q.blocks q.files
 
-pub spools_from-opened : (c : ℕ) (quotas : List Quota) (files : ℕ → ℕ → Content) → spools_from c (map opened quotas) files ≡ map
+pub spools_from-opened : (c : ℕ) (quotas : List Quota) (files : ℕ → ℕ → Content)
+    → spools_from c (map opened quotas) files ≡ map
     spool_for quotas
 spools_from-opened c [] files = refl
 spools_from-opened c (q ∷ quotas) files = ap (λ (spools : List CustomerSpool). spool_for q ∷ spools)
@@ -88,7 +89,8 @@ empty_file : IsFile free_slot empty_chain
 empty_file = file_of [] free_slot empty_chain (λ k d within. absurd (omega arith)) refl refl (λ _. refl) (omega arith)
     (first_are [] [] free_slot.places refl)
 
-own_opened : (q : Quota) (files : ℕ → Content) → ((n : ℕ) → (files n).stage ≡ Free) → IsWithinLimits q → IsOwn (opened q) files
+own_opened : (q : Quota) (files : ℕ → Content) → ((n : ℕ) → (files n).stage ≡ Free) → IsWithinLimits q
+    → IsOwn (opened q) files
 own_opened q files free limits =
     record {
       counted = omega arith;
@@ -107,7 +109,8 @@ kept_opened store slots quotas many few limits all slots_are store_is =
     let capacity = ap (λ (s : StoreValue). s.capacity) store_is in
     let sums = sum_by-opened quotas in
     let stage : (c n : ℕ) → (contents slots store.chains c n).stage ≡ Free =
-    λ c n. ap (λ (ss : List FileSlot). (slot_of ss c n).stage) slots_are ∙ ap (λ (s : FileSlot). s.stage) (slot_is many c n) in
+    λ c n. ap (λ (ss : List FileSlot). (slot_of ss c n).stage) slots_are
+    ∙ ap (λ (s : FileSlot). s.stage) (slot_is many c n) in
     record {
       few = omega (arith, count);
       all_slots = omega (arith, count, ap length slots_are, length-replicate many free_slot);
@@ -117,12 +120,14 @@ kept_opened store slots quotas many few limits all slots_are store_is =
       own = λ c within.
           let inside : c < length quotas = omega (arith, count) in
           let q = get_or quotas c (record { blocks = 0; files = 0 }) in
-          let is : own_of (map opened quotas) c ≡ opened q = get_or-map opened quotas c (record { blocks = 0; files = 0 })
+          let is : own_of (map opened quotas) c ≡ opened q =
+          get_or-map opened quotas c (record { blocks = 0; files = 0 })
           no_files inside in
           subst (λ (o : CustomerFiles). IsOwn o (contents slots store.chains c)) (sym is)
           (own_opened q (contents slots store.chains c) (stage c) (limits c (record { blocks = 0; files = 0 }) inside));
       files = λ c n.
-          subst (λ (x : Chain). IsFile (slot_of slots c n) x) (sym (ap (λ (xs : List Chain). chain_of xs c n) chains ∙ chain_is many c n))
+          subst (λ (x : Chain). IsFile (slot_of slots c n) x)
+          (sym (ap (λ (xs : List Chain). chain_of xs c n) chains ∙ chain_is many c n))
           (subst (λ (s : FileSlot). IsFile s empty_chain) (sym (ap (λ (ss : List FileSlot). slot_of ss c n) slots_are
           ∙ slot_is many c n)) empty_file);
       headers = λ c n whole. absurd (let clash : false ≡ true = sym (ap is_whole_stage (stage c n)) ∙ whole in cc);

@@ -33,7 +33,8 @@ abbrev pub spool_with : CustomerFiles → List WholeFile → List PartialFile �
 spool_with own whole partial =
     record { quota = own.quota; limit = own.limit; whole = whole; partial = partial; arrived = own.arrived }
 
-by_stage : (stage : Stage) (k : ℕ) → cond (is_whole_stage stage) k 0 + cond (is_partial stage) k 0 ≡ cond (is_free stage) 0 k
+by_stage : (stage : Stage) (k : ℕ)
+    → cond (is_whole_stage stage) k 0 + cond (is_partial stage) k 0 ≡ cond (is_free stage) 0 k
 by_stage Free k = refl
 by_stage Partial k = omega arith
 by_stage (Whole state) k = omega arith
@@ -80,13 +81,15 @@ turned test files n x s s' xs ys was now once turns m =
           let before : ◌≡◌ {A = ℕ} (cond (test (files m).stage) 1 0) (cond (test s) 1 0) = rw (same, was) refl in
           let after : ◌≡◌ {A = ℕ} (cond (test (put files n x m).stage) 1 0) (cond (test s') 1 0) =
           rw (same, eq-eqb n n refl, now) refl in
-          let sums' : count_by (is_at m) ys + cond (test s) 1 0 ≡ count_by (is_at m) xs + cond (test s') 1 0 = rw one at sums in
+          let sums' : count_by (is_at m) ys + cond (test s) 1 0 ≡ count_by (is_at m) xs + cond (test s') 1 0 =
+          rw one at sums in
           omega (arith, once m)
       | inr other ↦
           let none : eqb n m ≡ false = ne_eqb n m (λ e. other (sym e)) in
           let after : ◌≡◌ {A = ℕ} (cond (test (put files n x m).stage) 1 0) (cond (test (files m).stage) 1 0) =
           rw (ne_eqb m n other) refl in
-          let sums' : count_by (is_at m) ys + cond (test s) 0 0 ≡ count_by (is_at m) xs + cond (test s') 0 0 = rw none at sums in
+          let sums' : count_by (is_at m) ys + cond (test s) 0 0 ≡ count_by (is_at m) xs + cond (test s') 0 0 =
+          rw none at sums in
           omega (arith, once m, no_more (test s), no_more (test s'))
     ]
 
@@ -118,14 +121,21 @@ module _ (own : CustomerFiles) (files : ℕ → Content) (is : IsOwn own files) 
   fits = omega (arith, is.counted, is.sound.within_quota)
 
   pub few : length own.whole + length own.partial ≤ own.limit
-  few = omega (arith, is.sound.within_limit, length-map own.whole (whole_file files), length-map own.partial (partial_file files))
+  few = omega (
+    arith,
+    is.sound.within_limit,
+    length-map own.whole (whole_file files),
+    length-map own.partial (partial_file files),
+  )
 
   -- one file is another, and the lists and what is used are as it says
   pub changed : (own' : CustomerFiles) (n : ℕ) (x : Content) (s s' : Stage) → (files n).stage ≡ s → x.stage ≡ s' →
       Turns n (is_whole_stage s) (is_whole_stage s') own.whole own'.whole →
-      Turns n (is_partial s) (is_partial s') own.partial own'.partial → own'.quota ≡ own.quota → own'.limit ≡ own.limit →
+      Turns n (is_partial s) (is_partial s') own.partial own'.partial → own'.quota ≡ own.quota → own'.limit ≡ own.limit
+      →
       own'.used + cond (is_free s) 0 (cost (files n).records) ≡ own.used + cond (is_free s') 0 (cost x.records) →
-      own'.used ≤ own.quota → length own'.whole + length own'.partial ≤ own.limit → n < own.limit → IsOwn own' (put files n x)
+      own'.used ≤ own.quota → length own'.whole + length own'.partial ≤ own.limit → n < own.limit
+      → IsOwn own' (put files n x)
   changed own' n x s s' was now whole partial quota limit used fits few below =
       let new = put files n x in
       let whole_once = turned is_whole_stage files n x s s' own.whole own'.whole was now is.whole_once whole in
@@ -160,12 +170,18 @@ module _ (own : CustomerFiles) (files : ℕ → Content) (is : IsOwn own files) 
         counted = blocks;
         sound = record {
           within_quota = omega arith;
-          within_limit = omega (arith, length-map own'.whole (whole_file new), length-map own'.partial (partial_file new));
+          within_limit =
+              omega (arith, length-map own'.whole (whole_file new), length-map own'.partial (partial_file new));
           apart = λ m. omega (arith, count m, one_most (is_free (new m).stage));
           numbered = λ m high.
               let other : m ≢ n = λ same. omega arith in
               let same = ap (λ (y : Content). cond {A = ℕ} (is_free y.stage) 0 1) (put_off files n x m other) in
-              omega (arith, count m, count_is own files m (is.whole_once m) (is.partial_once m), is.sound.numbered m (omega arith));
+              omega (
+                arith,
+                count m,
+                count_is own files m (is.whole_once m) (is.partial_once m),
+                is.sound.numbered m (omega arith),
+              );
           quota_limit = omega (arith, is.sound.quota_limit);
           files_limit = omega (arith, is.sound.files_limit);
         };

@@ -24,7 +24,8 @@ length-packed (r ∷ records) =
           (λ (x : Stored). 3 + length x.bytes) r records,
     )
 
-pub packed-append : (records others : List Stored) → packed_bytes (records ++ others) ≡ packed_bytes records ++ packed_bytes others
+pub packed-append : (records others : List Stored) → packed_bytes (records ++ others) ≡ packed_bytes records
+    ++ packed_bytes others
 packed-append [] others = refl
 packed-append (r ∷ records) others = rw (packed-append records others, append_assoc) refl
 
@@ -46,10 +47,13 @@ first_record_is r rest short =
     ap (λ (n : ℕ). take n (r.bytes ++ rest)) size ∙ take_at r.bytes rest (length r.bytes) refl in
     ap (λ (xs : List ℕ). record r { bytes = xs }) bytes
 
-pub rest_is : (r : Stored) (rest : List ℕ) → IsShort r → drop (3 + number_at 1 (packed_record r ++ rest)) (packed_record r ++ rest) ≡ rest
+pub rest_is : (r : Stored) (rest : List ℕ) → IsShort r
+    → drop (3 + number_at 1 (packed_record r ++ rest)) (packed_record r ++ rest) ≡ rest
 rest_is r rest short =
-    let size : 3 + number_at 1 (packed_record r ++ rest) ≡ length (packed_record r) = omega (arith, first_is r rest short) in
-    ap (λ (n : ℕ). drop n (packed_record r ++ rest)) size ∙ drop_at (packed_record r) rest (length (packed_record r)) refl
+    let size : 3 + number_at 1 (packed_record r ++ rest) ≡ length (packed_record r) =
+    omega (arith, first_is r rest short) in
+    ap (λ (n : ℕ). drop n (packed_record r ++ rest)) size
+    ∙ drop_at (packed_record r) rest (length (packed_record r)) refl
 
 -- what is packed is unpacked again, whatever follows
 pub unpacked-packed : (records : List Stored) (rest : List ℕ) → All IsShort records → unpacked_records (length records)
@@ -62,7 +66,8 @@ unpacked-packed (r ∷ records) rest short =
     let after = rest_is r (packed_bytes records ++ rest) head in
     let others = unpacked-packed records rest (All-tail IsShort r records short) in
     ap (λ (xs : List ℕ). unpacked_records (suc (length records)) xs) whole
-    ∙ ap (λ (x : Stored). x ∷ unpacked_records (length records) (drop (3 + number_at 1 (packed_record r ++ (packed_bytes records ++ rest)))
+    ∙ ap (λ (x : Stored). x ∷ unpacked_records (length records)
+    (drop (3 + number_at 1 (packed_record r ++ (packed_bytes records ++ rest)))
     (packed_record r ++ (packed_bytes records ++ rest)))) first
     ∙ ap (λ (xs : List ℕ). r ∷ unpacked_records (length records) xs) after
     ∙ ap (λ (xs : List Stored). r ∷ xs) others

@@ -26,7 +26,8 @@ removed_is {X = X} p (x ∷ xs) (suc i) d within passes once =
     ] in
     rw other (ap (λ (ys : List X). x ∷ ys) (removed_is p xs i d (omega arith) passes (omega arith)))
 
-pub slice_get-map : {X : Type 0} (f : ℕ → X) (ns : List ℕ) (i : ℕ) → i < length ns → slice_get (map f ns) i ≡ Some (f (get_or ns i 0))
+pub slice_get-map : {X : Type 0} (f : ℕ → X) (ns : List ℕ) (i : ℕ) → i < length ns
+    → slice_get (map f ns) i ≡ Some (f (get_or ns i 0))
 slice_get-map f [] i within = absurd (omega arith)
 slice_get-map f (n ∷ ns) zero within = refl
 slice_get-map f (n ∷ ns) (suc i) within = slice_get-map f ns i (omega arith)

@@ -9,7 +9,8 @@ use Rattle.njh_spool.specs.Spools.{no_spool}
 abbrev pub IsWithin : CustomerSpool → Type 0
 IsWithin s = used_blocks s ≤ s.quota
 
-sum_by-used : (spools : List CustomerSpool) → All IsWithin spools → sum_by used_blocks spools ≤ sum_by (λ (s : CustomerSpool). s.quota) spools
+sum_by-used : (spools : List CustomerSpool) → All IsWithin spools
+    → sum_by used_blocks spools ≤ sum_by (λ (s : CustomerSpool). s.quota) spools
 sum_by-used [] within_all = omega arith
 sum_by-used (s ∷ spools) within_all =
     omega (
@@ -23,7 +24,8 @@ sum_by-used (s ∷ spools) within_all =
 
 -- what a customer's quota leaves it, all quotas together leave
 pub room_left : (spools : List CustomerSpool) (c blocks : ℕ) → All IsWithin spools → c < length spools →
-    used_blocks (get_or spools c no_spool) + blocks ≤ (get_or spools c no_spool).quota → sum_by used_blocks spools + blocks ≤ sum_by
+    used_blocks (get_or spools c no_spool) + blocks ≤ (get_or spools c no_spool).quota
+    → sum_by used_blocks spools + blocks ≤ sum_by
     (λ (s : CustomerSpool). s.quota) spools
 room_left [] c blocks within_all within room = absurd (omega arith)
 room_left (s ∷ spools) zero blocks within_all within room =

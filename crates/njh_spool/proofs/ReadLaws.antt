@@ -29,7 +29,8 @@ kind_of w p = option_or (option_map (λ f. f.kind) w) (option_map (λ f. f.kind)
 records_of : Option WholeFile → Option PartialFile → Option (List Stored)
 records_of w p = option_or (option_map (λ f. f.records) w) (option_map (λ f. f.records) p)
 
-file_by_stage : (own : CustomerFiles) (files : ℕ → Content) (n : ℕ) (stage : Stage) → IsOwn own files → (files n).stage ≡ stage
+file_by_stage : (own : CustomerFiles) (files : ℕ → Content) (n : ℕ) (stage : Stage) → IsOwn own files
+    → (files n).stage ≡ stage
     → is_free stage ≡ false → HasFile own files n
 unfolding kind_of records_of
 file_by_stage own files n Free is same there = absurd (let clash : true ≡ false = there in cc)
@@ -49,7 +50,8 @@ file_by_stage own files n (Whole state) is same there =
       records = ap (λ w. records_of w (partial_numbered n s)) found;
     }
 
-pub has_file : (own : CustomerFiles) (files : ℕ → Content) (n : ℕ) → IsOwn own files → is_free (files n).stage ≡ false → HasFile own files n
+pub has_file : (own : CustomerFiles) (files : ℕ → Content) (n : ℕ) → IsOwn own files → is_free (files n).stage ≡ false
+    → HasFile own files n
 has_file own files n is there = file_by_stage own files n (files n).stage is refl there
 
 pub not_partial_free : (stage : Stage) → is_free stage ≡ true → is_partial stage ≡ false
@@ -72,7 +74,8 @@ whole_not_partial Free e = refl
 whole_not_partial Partial e = cc
 whole_not_partial (Whole state) e = refl
 
-pub has_no_file : (own : CustomerFiles) (files : ℕ → Content) (n : ℕ) → IsOwn own files → is_free (files n).stage ≡ true →
+pub has_no_file : (own : CustomerFiles) (files : ℕ → Content) (n : ℕ) → IsOwn own files → is_free (files n).stage ≡ true
+    →
     HasNoFile own files n
 unfolding kind_of records_of
 has_no_file own files n is free =

@@ -14,9 +14,11 @@ use Rattle.njh_spool.specs.code.Slots.{IsPlace}
 use Rattle.njh_spool.proofs.CostLaws.{length-with_field}
 use Rattle.njh_spool.proofs.PackingLaws.{length-packed_record}
 
-with_field-behind : (front bytes new : List ℕ) (place : ℕ) → with_field (length front + place) new (front ++ bytes) ≡ front
+with_field-behind : (front bytes new : List ℕ) (place : ℕ)
+    → with_field (length front + place) new (front ++ bytes) ≡ front
     ++ with_field place new bytes
-with_field-behind [] bytes new place = ap (λ (n : ℕ). with_field n new bytes) (let e : 0 + place ≡ place = omega arith in e)
+with_field-behind [] bytes new place =
+    ap (λ (n : ℕ). with_field n new bytes) (let e : 0 + place ≡ place = omega arith in e)
 with_field-behind (x ∷ front) bytes new place =
     let start : suc (length front) + place ≡ suc (length front + place) = omega arith in
     let end : suc (length front + place) + length new ≡ suc (length front + place + length new) = omega arith in
@@ -43,12 +45,14 @@ packed_rewritten r new place fits =
 
 pub packed-at_index : (k place : ℕ) (new : List ℕ) (records : List Stored) → k < length records →
     IsSomeAnd (slice_get records k) (λ r. place + length new ≤ length r.bytes) →
-    with_field (stored_size (take k records) + 3 + place) new (packed_bytes records) ≡ packed_bytes (at_index k (rewritten_record place new) records)
+    with_field (stored_size (take k records) + 3 + place) new (packed_bytes records) ≡ packed_bytes
+    (at_index k (rewritten_record place new) records)
 packed-at_index k place new [] within fits = absurd (omega arith)
 packed-at_index zero place new (r ∷ records) within fits =
     let start : stored_size [] + 3 + place ≡ 3 + place = omega arith in
     ap (λ (n : ℕ). with_field n new (packed_record r ++ packed_bytes records)) start
-    ∙ with_field-front (packed_record r) (packed_bytes records) new (3 + place) (omega (arith, length-packed_record r, fits))
+    ∙ with_field-front (packed_record r) (packed_bytes records) new (3 + place)
+    (omega (arith, length-packed_record r, fits))
     ∙ ap (λ (xs : List ℕ). xs ++ packed_bytes records) (sym (packed_rewritten r new place fits))
 packed-at_index (suc k) place new (r ∷ records) within fits =
     let before = sum_by-cons (λ (x : Stored). 3 + length x.bytes) r (take k records) in
@@ -67,7 +71,8 @@ All-cons P x xs here rest =
     ] within
 
 pub short-at_index : (k place : ℕ) (new : List ℕ) (records : List Stored) → IsSomeAnd (slice_get records k)
-    (λ r. place + length new ≤ length r.bytes) → All IsShort records → All IsShort (at_index k (rewritten_record place new) records)
+    (λ r. place + length new ≤ length r.bytes) → All IsShort records
+    → All IsShort (at_index k (rewritten_record place new) records)
 short-at_index k place new [] fits short = short
 short-at_index zero place new (r ∷ records) fits short =
     let head : IsShort (rewritten_record place new r) = omega (
@@ -81,14 +86,16 @@ short-at_index (suc k) place new (r ∷ records) fits short =
     All-cons IsShort r (at_index k (rewritten_record place new) records) (All-head IsShort r records short)
     (short-at_index k place new records fits (All-tail IsShort r records short))
 
-pub length-at_index : (k : ℕ) (f : Stored → Stored) (records : List Stored) → length (at_index k f records) ≡ length records
+pub length-at_index : (k : ℕ) (f : Stored → Stored) (records : List Stored)
+    → length (at_index k f records) ≡ length records
 length-at_index k f [] = refl
 length-at_index zero f (r ∷ records) = refl
 length-at_index (suc k) f (r ∷ records) = ap suc (length-at_index k f records)
 
 -- the places of all records are as they were
 places-at_index : (j k place : ℕ) (new : List ℕ) (records : List Stored) → IsSomeAnd (slice_get records k)
-    (λ r. place + length new ≤ length r.bytes) → stored_size (take j (at_index k (rewritten_record place new) records)) ≡
+    (λ r. place + length new ≤ length r.bytes)
+    → stored_size (take j (at_index k (rewritten_record place new) records)) ≡
     stored_size (take j records)
 places-at_index j k place new [] fits = refl
 places-at_index zero k place new (r ∷ records) fits = refl

@@ -12,7 +12,8 @@ use Rattle.njh_spool.specs.code.Slots.{free_slot}
 use Rattle.njh_spool.specs.code.SlotRows.{row_of, slots_in, IsWholeRow}
 
 -- one more slot is written
-pub row_of-more : (written : List FileSlot) (room : ℕ) → length written < room → row_of (written ++ free_slot ∷ []) room ≡ row_of written room
+pub row_of-more : (written : List FileSlot) (room : ℕ) → length written < room
+    → row_of (written ++ free_slot ∷ []) room ≡ row_of written room
 row_of-more written room fits =
     let left : room - length (written ++ free_slot ∷ []) ≡ room - (length written + 1) =
     ap (λ (n : ℕ). room - n) (length-append written (free_slot ∷ [])) in
@@ -26,7 +27,8 @@ get_or-free zero i = refl
 get_or-free (suc n) zero = refl
 get_or-free (suc n) (suc i) = get_or-free n i
 
-pub row_of-set : (written : List FileSlot) (room n : ℕ) (slot : FileSlot) → n < length written → row_of (set written n slot) room ≡ set
+pub row_of-set : (written : List FileSlot) (room n : ℕ) (slot : FileSlot) → n < length written
+    → row_of (set written n slot) room ≡ set
     (row_of written room) n slot
 row_of-set written room n slot within =
     ap (λ (k : ℕ). set written n slot ++ replicate (room - k) free_slot) (length-set written n slot)
@@ -48,7 +50,8 @@ length-slots_in (row ∷ rows) whole = omega (
   length-slots_in rows (rest_whole row rows whole),
 )
 
-get_or-slots_in : (rows : List (List FileSlot)) (c n : ℕ) (d : List FileSlot) → All IsWholeRow rows → c < length rows → n < 1024 →
+get_or-slots_in : (rows : List (List FileSlot)) (c n : ℕ) (d : List FileSlot) → All IsWholeRow rows → c < length rows
+    → n < 1024 →
     get_or (slots_in rows) (1024 * c + n) free_slot ≡ get_or (get_or rows c d) n free_slot
 get_or-slots_in [] c n d whole within small = absurd (omega arith)
 get_or-slots_in (row ∷ rows) zero n d whole within small =
@@ -72,7 +75,8 @@ slot_in_row rows c n d whole within =
     ]
 
 pub slots_in-set : (rows : List (List FileSlot)) (c n : ℕ) (slot : FileSlot) (d : List FileSlot) → All IsWholeRow rows →
-    c < length rows → n < 1024 → slots_in (set rows c (set (get_or rows c d) n slot)) ≡ set (slots_in rows) (1024 * c + n) slot
+    c < length rows → n < 1024
+    → slots_in (set rows c (set (get_or rows c d) n slot)) ≡ set (slots_in rows) (1024 * c + n) slot
 slots_in-set [] c n slot d whole within small = absurd (omega arith)
 slots_in-set (row ∷ rows) zero n slot d whole within small =
     let place : 1024 * zero + n ≡ n = omega arith in
@@ -87,9 +91,11 @@ slots_in-set (row ∷ rows) (suc c) n slot d whole within small =
     ∙ sym (set-append_right row (slots_in rows) (length row) (1024 * suc c + n) slot refl behind)
 
 -- rows in which no file is
-pub slots_in-free : (count room : ℕ) → slots_in (replicate count (replicate room free_slot)) ≡ replicate (room * count) free_slot
+pub slots_in-free : (count room : ℕ)
+    → slots_in (replicate count (replicate room free_slot)) ≡ replicate (room * count) free_slot
 slots_in-free zero room = ap (λ (n : ℕ). replicate n free_slot) (let e : 0 ≡ room * 0 = omega arith in e)
 slots_in-free (suc count) room =
     ap (λ (slots : List FileSlot). replicate room free_slot ++ slots) (slots_in-free count room)
     ∙ replicate-append-replicate room (room * count) free_slot
-    ∙ ap (λ (n : ℕ). replicate n free_slot) (let e : room + room * count ≡ room * suc count = omega (arith, mul-suc room count) in e)
+    ∙ ap (λ (n : ℕ). replicate n free_slot) (let e : room + room * count ≡ room * suc count =
+    omega (arith, mul-suc room count) in e)

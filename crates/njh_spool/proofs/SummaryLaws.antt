@@ -25,12 +25,15 @@ slot_summary n slot =
 
 -- a file of a list of numbers is counted there
 listed : (files : ℕ → Content) (numbers : List ℕ) (i n : ℕ) → IsSomeAnd (slice_get (map (whole_file files) numbers) i)
-    (λ f. n ≡ f.number) → (1 ≤ count_by (λ m. eqb m n) numbers) × (slice_get (map (whole_file files) numbers) i ≡ Some (whole_file files n))
+    (λ f. n ≡ f.number) → (1 ≤ count_by (λ m. eqb m n) numbers)
+    × (slice_get (map (whole_file files) numbers) i ≡ Some (whole_file files n))
 listed files [] i n at = absurd (search at)
 listed files (m ∷ numbers) zero n at =
     let same : n ≡ m = search at in
-    let one : ◌≡◌ {A = ℕ} (cond (eqb m n) 1 0) 1 = rw (eq-eqb m n (sym same)) refl in
-    (omega (arith, one, sum_by-cons (λ k. cond {A = ℕ} (eqb k n) 1 0) m numbers), ap (λ (k : ℕ). Some (whole_file files k)) (sym same))
+    let one : ◌≡◌ {A = ℕ} (cond (eqb m n) 1 0) 1 = rw (eq-eqb m n (sym same)) refl in (
+      omega (arith, one, sum_by-cons (λ k. cond {A = ℕ} (eqb k n) 1 0) m numbers),
+      ap (λ (k : ℕ). Some (whole_file files k)) (sym same),
+    )
 listed files (m ∷ numbers) (suc i) n at =
     let rest = listed files numbers i n at in
     (omega (arith, rest.0, sum_by-cons (λ k. cond {A = ℕ} (eqb k n) 1 0) m numbers), rest.1)
@@ -56,7 +59,8 @@ pub summary_is : (here : Call) (i : ℕ) →
 summary_is here i at =
     let own = has here in
     let there = listed (files_at here) (own_at here).whole i here.number (rw own.part at at) in
-    let whole = stage_of_one (is_whole_stage (slot_at here).stage) (count_by (λ m. eqb m here.number) (own_at here).whole)
+    let whole =
+    stage_of_one (is_whole_stage (slot_at here).stage) (count_by (λ m. eqb m here.number) (own_at here).whole)
     (own.own.whole_once here.number) there.0 in
     ap (λ (s : CustomerSpool). option_map summary (slice_get s.whole i)) own.part ∙ ap (option_map summary) there.1
     ∙ ap Some (summary_numbered here whole)

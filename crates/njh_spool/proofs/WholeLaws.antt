@@ -10,7 +10,8 @@ use Rattle.njh_spool.specs.code.Slots.{Content, is_partial, is_whole_stage, is_f
 use Rattle.njh_spool.specs.code.Slots.{spool_of, IsOwn}
 use Rattle.njh_spool.proofs.OnlyOne.{filter_none, map_none, find_none}
 use Rattle.njh_spool.proofs.IndexLaws.{put}
-use Rattle.njh_spool.proofs.CountLaws.{is_at, map_off, stays, taken, taken-none, lengths, any_at, find_at, filter_at, map_both}
+use Rattle.njh_spool.proofs.CountLaws.{is_at, map_off, stays, taken, taken-none, lengths, any_at, find_at, filter_at}
+use Rattle.njh_spool.proofs.CountLaws.{map_both}
 use Rattle.njh_spool.proofs.OwnLaws.{is_whole_at, whole_from, partial_from, costs, spool_with, put_off, used_is}
 use Rattle.njh_spool.proofs.OwnLaws as laws
 
@@ -19,7 +20,8 @@ whole_stage Free e = cc
 whole_stage Partial e = cc
 whole_stage (Whole state) e = refl
 
-module _ (own : CustomerFiles) (files : ℕ → Content) (n : ℕ) (is : IsOwn own files) (stage : is_whole_stage (files n).stage ≡ true)
+module _ (own : CustomerFiles) (files : ℕ → Content) (n : ℕ) (is : IsOwn own files)
+    (stage : is_whole_stage (files n).stage ≡ true)
     (other : is_partial (files n).stage ≡ false) where
   once : count_by (is_at n) own.whole ≡ 1
   once = is.whole_once n ∙ ap (λ (b : Bool). cond {A = ℕ} b 1 0) stage
@@ -61,7 +63,8 @@ module _ (own : CustomerFiles) (files : ℕ → Content) (n : ℕ) (is : IsOwn o
       ∙ sym (filter_at n (is_whole_at n) (whole_file files) (λ m. refl) own.whole) in
       subst (λ (o : CustomerFiles). IsOwn o (put files n x) × (spool_of o (put files n x) ≡
       without_whole n (spool_of own files))) (sym owns) (
-        laws.changed own files is then n x (Whole (state_of (files n).stage)) Free was free gone (stays n false own.partial)
+        laws.changed own files is then n x (Whole (state_of (files n).stage)) Free was free gone
+            (stays n false own.partial)
             refl refl (omega (arith, covered)) (omega (arith, laws.fits own files is))
             (omega (arith, lengths gone, laws.few own files is)) below,
         ap (λ (fs : List WholeFile). spool_with own fs (map (partial_file (put files n x)) own.partial)) rest_kept
@@ -69,8 +72,10 @@ module _ (own : CustomerFiles) (files : ℕ → Content) (n : ℕ) (is : IsOwn o
       )
 
   -- the file is another, of as many blocks
-  pub changes : (change : WholeFile → WholeFile) (x : Content) → is_whole_stage x.stage ≡ true → is_partial x.stage ≡ false →
-      whole_from n x ≡ change (whole_file files n) → cost x.records ≡ cost (files n).records → IsOwn own (put files n x) ×
+  pub changes : (change : WholeFile → WholeFile) (x : Content) → is_whole_stage x.stage ≡ true
+      → is_partial x.stage ≡ false →
+      whole_from n x ≡ change (whole_file files n) → cost x.records ≡ cost (files n).records → IsOwn own (put files n x)
+      ×
       (spool_of own (put files n x) ≡ on_file n change (spool_of own files))
   changes change x now not_yet same blocks =
       let at_file = λ (f : WholeFile). cond (eqb f.number n) (change f) f in
@@ -81,7 +86,8 @@ module _ (own : CustomerFiles) (files : ℕ → Content) (n : ℕ) (is : IsOwn o
         | inr apart ↦ rw (ne_eqb m n apart) refl
       ]) in (
         laws.changed own files is own n x (Whole (state_of (files n).stage)) (Whole (state_of x.stage)) was
-            (whole_stage x.stage now) (stays n true own.whole) (stays n false own.partial) refl refl (omega (arith, blocks))
+            (whole_stage x.stage now) (stays n true own.whole) (stays n false own.partial) refl refl
+            (omega (arith, blocks))
             (laws.fits own files is) (laws.few own files is) below,
         ap (λ (fs : List WholeFile). spool_with own fs (map (partial_file (put files n x)) own.partial)) (sym whole_now)
             ∙ ap (spool_with own (on_file n change (spool_of own files)).whole) (partial_kept x),
@@ -93,7 +99,8 @@ pub record HasNoWhole (own : CustomerFiles) (files : ℕ → Content) (n : ℕ) 
   pub removes : without_whole n (spool_of own files) ≡ spool_of own files
   pub changes : (change : WholeFile → WholeFile) → on_file n change (spool_of own files) ≡ spool_of own files
 
-pub has_no_whole : (own : CustomerFiles) (files : ℕ → Content) (n : ℕ) → IsOwn own files → is_whole_stage (files n).stage ≡ false →
+pub has_no_whole : (own : CustomerFiles) (files : ℕ → Content) (n : ℕ) → IsOwn own files
+    → is_whole_stage (files n).stage ≡ false →
     HasNoWhole own files n
 has_no_whole own files n is missing =
     let s = spool_of own files in
@@ -102,5 +109,7 @@ has_no_whole own files n is missing =
     record {
       none = find_none (is_whole_at n) s.whole empty;
       removes = ap (λ (whole : List WholeFile). record s { whole = whole }) (filter_none (is_whole_at n) s.whole empty);
-      changes = λ change. ap (λ (whole : List WholeFile). record s { whole = whole }) (map_none (is_whole_at n) change s.whole empty);
+      changes =
+          λ change. ap (λ (whole : List WholeFile). record s { whole = whole })
+          (map_none (is_whole_at n) change s.whole empty);
     }

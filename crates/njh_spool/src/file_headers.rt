@@ -73,8 +73,8 @@ fn read_job_header(records: &mut RecordReader<'_>) -> Option<JobHeader>
     }
 }
 
-/// The first data set header of a file of so many records, which are read from the first on, and how many were read for
-/// it.
+/// The first data set header of a file of so many records, which are read from the first on, and
+/// how many were read for it.
 fn read_data_set_header(records: &mut RecordReader<'_>, count: u32) -> (Option<DataSetHeader>, u32)
     requires { length records.old ≡ count }
     ensures header { result.0 ≡ data_set_header_of records.old }
@@ -130,8 +130,8 @@ fn execution_by(job: &Option<JobHeader>) -> Option<Destination>
     }
 }
 
-/// What the headers of a file say of it: its first record and, where it is output, those up to its first data set
-/// header.
+/// What the headers of a file say of it: its first record and, where it is output, those up to its
+/// first data set header.
 pub fn read_headers(store: &Store, at: u32, slot: &FileSlot) -> KeptHeaders
     requires range { at < length store.now.chains }
     requires file { IsFile slot.now (chain_at at store.now) }
@@ -154,8 +154,8 @@ pub fn read_headers(store: &Store, at: u32, slot: &FileSlot) -> KeptHeaders
     }
 }
 
-/// What the headers of a file say of it when its n-th record was rewritten: they are read again, where it is one of
-/// them.
+/// What the headers of a file say of it when its n-th record was rewritten: they are read again,
+/// where it is one of them.
 pub fn headers_behind(store: &Store, at: u32, slot: &FileSlot, n: u32) -> KeptHeaders
     requires range { at < length store.now.chains }
     requires file { IsFile slot.now (chain_at at store.now) }

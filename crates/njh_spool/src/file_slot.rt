@@ -32,7 +32,8 @@ pub struct KeptPlaces {
     pub next: RecordPlace,
 }
 
-/// A file's kind and stage, how many records it has, where it is read on, and, where it is whole, what its headers say.
+/// A file's kind and stage, how many records it has, where it is read on, and, where it is whole,
+/// what its headers say.
 #[derive(Clone, Copy)]
 pub struct FileSlot {
     pub stage: Stage,

@@ -31,7 +31,8 @@ impl Model for FileSlots {
 }
 
 impl FileSlots {
-    /// Slots in which no file is, for so many customers. It takes all the memory that they ever have.
+    /// Slots in which no file is, for so many customers. It takes all the memory that they ever
+    /// have.
     pub fn open(alloc: Global, customers: u32) -> Result<Self, AllocError>
         ensures { IfOk result (λ slots. slots ≡ replicate (max_files * customers) free_slot) }
     {

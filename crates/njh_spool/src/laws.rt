@@ -11,15 +11,16 @@ pub fn cost_is_least()
     ensures { (records : List Stored) (blocks : ℕ) → (stored_size records ≤ 252 * blocks) ↔ (cost records ≤ blocks) }
 {}
 
-/// Where a customer may have one file more, the next number is the least that none of its files has.
+/// Where a customer may have one file more, the next number is the least that none of its files
+/// has.
 pub fn next_number_is_least()
     ensures free { (s : CustomerSpool) → has_file_room s ≡ true → is_number (next_number s) s ≡ false }
     ensures least { (s : CustomerSpool) (n : ℕ) → n < next_number s → is_number n s ≡ true }
     ensures below { (s : CustomerSpool) → has_file_room s ≡ true → next_number s < s.limit }
 {}
 
-/// Where the quotas add to at most the capacity, there is room for what a customer's quota leaves it, whatever the
-/// others hold.
+/// Where the quotas add to at most the capacity, there is room for what a customer's quota leaves
+/// it, whatever the others hold.
 pub fn quotas_leave_room()
     ensures { (spools : List CustomerSpool) (capacity c blocks : ℕ) → All (λ s. used_blocks s ≤ s.quota) spools
         → sum_by (λ s. s.quota) spools ≤ capacity → c < length spools

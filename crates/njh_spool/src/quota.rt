@@ -5,7 +5,8 @@ ghost use Rattle.njh_spool.specs.Quotas.{IsWithinLimits};
 
 use njh_table::{MAX_FILES, MAX_QUOTA};
 
-/// How many blocks a customer's files may take together, and how many files it may have, partial ones among them.
+/// How many blocks a customer's files may take together, and how many files it may have, partial
+/// ones among them.
 #[derive(Clone, Copy, Debug, PartialEq, Eq)]
 pub struct Quota {
     pub blocks: u32,

@@ -73,7 +73,8 @@ fn place_behind(
     }
 }
 
-/// Where the n-th record begins, looked for from the last of the places that the slot keeps that isn't behind it.
+/// Where the n-th record begins, looked for from the last of the places that the slot keeps that
+/// isn't behind it.
 pub fn place_of_record(store: &Store, at: u32, slot: &FileSlot, n: u32) -> RecordPlace
     requires range { at < length store.now.chains }
     requires file { IsFile slot.now (chain_at at store.now) }
@@ -99,7 +100,8 @@ pub fn place_of_record(store: &Store, at: u32, slot: &FileSlot, n: u32) -> Recor
     place
 }
 
-/// Puts the bytes of the record at a place into `into`, and gives its SRCB and where the next record begins.
+/// Puts the bytes of the record at a place into `into`, and gives its SRCB and where the next
+/// record begins.
 pub fn read_record(
     store: &Store,
     at: u32,

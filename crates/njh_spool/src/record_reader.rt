@@ -12,8 +12,8 @@ use crate::store::Store;
 use njh_record::Record;
 use std::marker::Model;
 
-/// Reads a file's records from the first to the last, at the cost of their bytes. A contract sees the records that are
-/// left.
+/// Reads a file's records from the first to the last, at the cost of their bytes. A contract sees
+/// the records that are left.
 #[derive(Drop)]
 pub struct RecordReader<'a> {
     store: &'a Store,
@@ -51,7 +51,8 @@ impl<'a> RecordReader<'a> {
         }
     }
 
-    /// Puts the next record's bytes into `into` and gives its SRCB. Where none is left it gives none, and `into` stays.
+    /// Puts the next record's bytes into `into` and gives its SRCB. Where none is left it gives
+    /// none, and `into` stays.
     pub fn next(&mut self, into: &mut Record) -> Option<u8>
         ensures first { option_map (λ srcb. record { srcb = srcb; bytes = into.new.items }) result
             ≡ slice_get self.old 0 }

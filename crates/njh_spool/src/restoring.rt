@@ -2,7 +2,8 @@
 
 mod fault;
 
-ghost use Rattle.std.specs.Prelude.{◌≡◌, ◌<◌, ◌≤◌, length, slice_set, MatchOption, IfOk, OnOk, OnErr, IsOk, IsSome, Err};
+ghost use Rattle.std.specs.Prelude.{◌≡◌, ◌<◌, ◌≤◌, length, slice_set, Err};
+ghost use Rattle.std.specs.Prelude.{MatchOption, IfOk, OnOk, OnErr, IsOk, IsSome};
 ghost use Rattle.std.specs.Bool.{OnTrue, OnFalse};
 ghost use Rattle.njh_spool.specs.CustomerSpool.{next_number, partial_numbered, used_blocks};
 ghost use Rattle.njh_spool.specs.Spools.{spool_at};
@@ -16,8 +17,8 @@ pub use fault::RestoreFault;
 use njh_header::{FileRecords, destination_of, name_of, owner_of};
 use njh_record::{Kind, Record};
 
-/// Puts a whole file back, last in its customer's order of arrival and under the least number that no file of the
-/// customer has. One that was Held is Held again, and any other is Ready.
+/// Puts a whole file back, last in its customer's order of arrival and under the least number that
+/// no file of the customer has. One that was Held is Held again, and any other is Ready.
 ///
 /// `BadHeader` comes first; then `FilesOver`; then `QuotaOver`. After each the spool is as it was.
 pub fn restore<F: FileRecords>(
@@ -90,7 +91,8 @@ fn limit_of(fault: SpoolFault) -> RestoreFault
     }
 }
 
-/// Puts all records of a file last in a partial file, as long as the customer's quota has room. Says whether all had.
+/// Puts all records of a file last in a partial file, as long as the customer's quota has room.
+/// Says whether all had.
 fn append_all<F: FileRecords>(spool: &mut Spool, customer: u16, id: FileId, file: &F) -> bool
     requires range { customer < length spool.old }
     requires there { IsSome (partial_numbered id (spool_at customer spool.old)) }

@@ -11,8 +11,8 @@ use njh_record::Kind;
 use std::alloc::{AllocError, Global};
 use std::marker::Model;
 
-/// A slot for each number that a file may have. Room for them all is reserved; a slot is written when its number or one
-/// behind it is first used.
+/// A slot for each number that a file may have. Room for them all is reserved; a slot is written
+/// when its number or one behind it is first used.
 #[derive(Drop)]
 pub struct SlotRow {
     /// Those that are written.
@@ -41,7 +41,8 @@ fn push_free(slots: &mut Vec<FileSlot>)
     ensures slots { slots.new.items ≡ slots.old.items ++ free_slot ∷ [] }
     ensures room { vec_capacity slots.new ≡ vec_capacity slots.old }
 {
-    // Field by field, since the check does not follow the options of a slot that a function made into the list.
+    // Field by field, since the check does not follow the options of a slot that a function made
+    // into the list.
     slots.push_reserved(FileSlot {
         stage: Stage::Free,
         kind: Kind::In,

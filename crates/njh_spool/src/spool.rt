@@ -60,7 +60,8 @@ fn blocks_of_all(quotas: &[Quota]) -> u32
 }
 
 impl Spool {
-    /// A spool without files, with these quotas in the customers' order. It takes all the memory that it ever has.
+    /// A spool without files, with these quotas in the customers' order. It takes all the memory
+    /// that it ever has.
     pub fn open(alloc: Global, quotas: &[Quota]) -> Result<Self, SpoolFault>
         requires some { 0 < length quotas.now }
         requires few { length quotas.now ≤ max_customers }
@@ -102,8 +103,8 @@ impl Spool {
         self.customers[usize::from(customer)].whole.len() as u32
     }
 
-    /// How many files of a customer have become whole so far, those that have left again too. The count stays at the
-    /// greatest `u64`.
+    /// How many files of a customer have become whole so far, those that have left again too. The
+    /// count stays at the greatest `u64`.
     pub fn arrived(&self, customer: u16) -> u64
         requires { customer < length self.now }
         ensures { result ≡ (spool_at customer self.now).arrived }
@@ -124,7 +125,8 @@ impl Spool {
         )
     }
 
-    /// What is known of a customer's whole file without a look at its records, by its index in order of arrival.
+    /// What is known of a customer's whole file without a look at its records, by its index in
+    /// order of arrival.
     pub fn summary_at(&self, customer: u16, index: u32) -> FileSummary
         requires range { customer < length self.now }
         requires index_range { index < length (spool_at customer self.now).whole }
@@ -134,8 +136,8 @@ impl Spool {
         slot_at(&self.slots, customer, id).summary(id)
     }
 
-    /// What holds of a customer's files after every call: their blocks are within its quota, they are no more than its
-    /// limit, and no two of them have one number.
+    /// What holds of a customer's files after every call: their blocks are within its quota, they
+    /// are no more than its limit, and no two of them have one number.
     pub fn quota_holds(&self, customer: u16)
         requires { customer < length self.now }
         ensures blocks { used_blocks (spool_at customer self.now) ≤ (spool_at customer self.now).quota }

@@ -70,7 +70,8 @@ impl Store {
         self.chains[chain as usize].len
     }
 
-    /// A chain has as many blocks as its string needs, and no block lies in two chains or twice in one.
+    /// A chain has as many blocks as its string needs, and no block lies in two chains or twice in
+    /// one.
     pub fn blocks_lie_once(&self)
         ensures sized { All (λ chain. length chain.keys ≡ blocks_of chain.bytes) self.now.chains }
         ensures apart { (key : ℕ) → sum_by (λ chain. count_by (λ k. k == key) chain.keys) self.now.chains ≤ 1 }
@@ -116,7 +117,8 @@ impl Store {
         }
     }
 
-    /// Writes eight bytes over those from a place on of a chain's string, looked for from a block on.
+    /// Writes eight bytes over those from a place on of a chain's string, looked for from a block
+    /// on.
     pub fn overwrite(&mut self, chain: u32, from: ChainBlock, place: u32, bytes: [u8; 8])
         requires chain { chain < length self.old.chains }
         requires block { IsBlockOf (chain_at chain self.old).keys from }
@@ -132,8 +134,9 @@ impl Store {
         self.put_rest(chain, block, place + first.len(), second);
     }
 
-    /// Puts `n` bytes from a place on of a chain's string into `into`. They are looked for from a block on, where it
-    /// isn't behind them, and else from the first block on. Gives a block to read on from.
+    /// Puts `n` bytes from a place on of a chain's string into `into`. They are looked for from a
+    /// block on, where it isn't behind them, and else from the first block on. Gives a block to
+    /// read on from.
     pub fn read(
         &self,
         chain: u32,

@@ -11,7 +11,8 @@ pub enum RestoreFault {
     /// The customer has as many files as it may have.
     #[error("O2 FilesOver")]
     FilesOver,
-    /// A header of the file doesn't read, so it has no name, no owner or no destination (IBM SC23-0070).
+    /// A header of the file doesn't read, so it has no name, no owner or no destination (IBM
+    /// SC23-0070).
     #[error("O3 BadHeader")]
     BadHeader,
 }

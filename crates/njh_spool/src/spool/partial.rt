@@ -29,8 +29,8 @@ pub(super) fn blocks_for(size: u32) -> u32
 impl Spool {
     /// A new partial file without records, of the least number that no file of the customer has.
     ///
-    /// S2 where the customer's files, whole and partial, are as many as it may have; else S1 where it has no block
-    /// left.
+    /// S2 where the customer's files, whole and partial, are as many as it may have; else S1 where
+    /// it has no block left.
     pub fn begin(&mut self, customer: u16, kind: Kind) -> Result<FileId, SpoolFault>
         requires { customer < length self.old }
         ensures fault { MatchOption (begin_fault (spool_at customer self.old))
@@ -57,8 +57,8 @@ impl Spool {
 
     /// Puts a record last in a partial file.
     ///
-    /// S3 where the number is no partial file's; else S1 where the customer's files would take more blocks than its
-    /// quota.
+    /// S3 where the number is no partial file's; else S1 where the customer's files would take more
+    /// blocks than its quota.
     pub fn append(
         &mut self,
         customer: u16,

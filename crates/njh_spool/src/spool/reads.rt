@@ -39,7 +39,8 @@ impl Spool {
         Ok(slot.count)
     }
 
-    /// The records of a file, whole or partial, from the first on. S3 where the number is no file's.
+    /// The records of a file, whole or partial, from the first on. S3 where the number is no
+    /// file's.
     pub fn read_all(&self, customer: u16, id: FileId) -> Result<RecordReader<'_>, SpoolFault>
         requires { customer < length self.now }
         ensures { result ≡ or_no_file (records_numbered id (spool_at customer self.now)) }
@@ -51,7 +52,8 @@ impl Spool {
         Ok(RecordReader::of(&self.store, place(customer, id), slot))
     }
 
-    /// Puts the n-th record's bytes into `into` and gives its SRCB. S3 where the number is no file's.
+    /// Puts the n-th record's bytes into `into` and gives its SRCB. S3 where the number is no
+    /// file's.
     pub fn record_at(
         &self,
         customer: u16,
@@ -77,9 +79,10 @@ impl Spool {
         Ok(srcb)
     }
 
-    /// As `record_at`, and keeps in the file's slot where the record begins and where the one behind it does: reading
-    /// it again, as where it had no room in a block, or the one behind it costs no walk over the file, so reading a
-    /// file from its first record to its last costs the file's bytes. S3 where the number is no file's.
+    /// As `record_at`, and keeps in the file's slot where the record begins and where the one
+    /// behind it does: reading it again, as where it had no room in a block, or the one behind it
+    /// costs no walk over the file, so reading a file from its first record to its last costs the
+    /// file's bytes. S3 where the number is no file's.
     pub fn read_on(
         &mut self,
         customer: u16,

@@ -40,8 +40,9 @@ fn pass_record(store: &Store, at: u32, slot: &FileSlot, from: RecordPlace) -> (u
 }
 
 impl Spool {
-    /// The SRCB of the n-th record. As `read_on` it keeps in the file's slot where the record and the one behind it
-    /// begin, but it goes past the record's bytes. S3 where the number is no file's.
+    /// The SRCB of the n-th record. As `read_on` it keeps in the file's slot where the record and
+    /// the one behind it begin, but it goes past the record's bytes. S3 where the number is no
+    /// file's.
     pub fn srcb_on(&mut self, customer: u16, id: FileId, n: u32) -> Result<u8, SpoolFault>
         requires range { customer < length self.old }
         requires within { ForSome (records_numbered id (spool_at customer self.old)) (λ records. n < length records) }

@@ -45,8 +45,8 @@ impl Spool {
         }
     }
 
-    /// What the headers of a whole file say of it, without a look at its records. S3 where the number is no whole
-    /// file's.
+    /// What the headers of a whole file say of it, without a look at its records. S3 where the
+    /// number is no whole file's.
     pub fn headers(&self, customer: u16, id: FileId) -> Result<FileHeaders, SpoolFault>
         requires { customer < length self.now }
         ensures { result ≡ or_no_file (option_map (λ f. headers_of f.kind f.records)
@@ -55,7 +55,8 @@ impl Spool {
         Ok(self.summary(customer, id)?.headers)
     }
 
-    /// What is known of a whole file without a look at its records. S3 where the number is no whole file's.
+    /// What is known of a whole file without a look at its records. S3 where the number is no whole
+    /// file's.
     pub fn summary(&self, customer: u16, id: FileId) -> Result<FileSummary, SpoolFault>
         requires { customer < length self.now }
         ensures { result ≡ or_no_file (option_map summary (whole_numbered id (spool_at customer self.now))) }
@@ -67,7 +68,8 @@ impl Spool {
         Ok(slot.summary(id))
     }
 
-    /// How many blocks a whole file takes, without a look at its records. S3 where the number is no whole file's.
+    /// How many blocks a whole file takes, without a look at its records. S3 where the number is no
+    /// whole file's.
     pub fn blocks(&self, customer: u16, id: FileId) -> Result<u32, SpoolFault>
         requires { customer < length self.now }
         ensures { result ≡ or_no_file (option_map (λ f. cost f.records)
@@ -100,8 +102,8 @@ impl Spool {
         Ok(())
     }
 
-    /// Writes eight bytes over those from a place on of the n-th record. Where that is one of the file's headers, what
-    /// they say is read again.
+    /// Writes eight bytes over those from a place on of the n-th record. Where that is one of the
+    /// file's headers, what they say is read again.
     ///
     /// S3 where the number is no whole file's.
     pub fn rewrite(

@@ -1,6 +1,7 @@
 //! Where a block of a chain lies.
 
-/// A block of a chain by its index, from 0 on, and its key. The first block is found without its key.
+/// A block of a chain by its index, from 0 on, and its key. The first block is found without its
+/// key.
 #[derive(Clone, Copy)]
 pub struct ChainBlock {
     pub index: u32,

@@ -9,8 +9,9 @@ ghost use Rattle.njh_spool.specs.code.ChainedBlocks.{keys_of, LiesInOne, IsChain
 ghost use Rattle.njh_spool.specs.declared.store.block.Block.{Block};
 ghost use Rattle.njh_spool.specs.declared.store.chain_ends.ChainEnds.{ChainEnds};
 
-/// In every store each block that isn't vacant lies once in exactly one chain, and a chain has as many
-/// blocks as its string needs. Where the chains are those of customers' numbers, that is one file of one customer.
+/// In every store each block that isn't vacant lies once in exactly one chain, and a chain has as
+/// many blocks as its string needs. Where the chains are those of customers' numbers, that is one
+/// file of one customer.
 pub fn each_block_lies_once()
     ensures one { (blocks : Slab Block) (chains : List ChainEnds) (capacity : ℕ) → IsChained blocks chains capacity
         → (key : ℕ) → ContainsKey blocks key → LiesInOne blocks chains key }

@@ -40,7 +40,8 @@ impl Store {
         }
     }
 
-    /// A block where a place lies or that ends there, looked for from a block on, where this isn't behind it.
+    /// A block where a place lies or that ends there, looked for from a block on, where this isn't
+    /// behind it.
     pub(super) fn seek(&self, chain: u32, from: ChainBlock, place: usize) -> ChainBlock
         requires chain { chain < length self.now.chains }
         requires block { IsBlockOf (chain_at chain self.now).keys from }

@@ -5,18 +5,22 @@ use Rattle.njh_spool.proofs.record_places.place_behind.Goals as goal
 
 pub overflow_add-result-2 : goal.overflow_add-result-2
 overflow_add-result-2 c =
-    let r = in_file c.args.slot.now (chain_at c.args.at c.args.store.now) c.args.from.record_index c.requires.file c.requires.more in
+    let r = in_file c.args.slot.now (chain_at c.args.at c.args.store.now) c.args.from.record_index c.requires.file
+    c.requires.more in
     omega (arith, r.2.within, c.requires.place.place, c.requires.file.small)
 
 pub overflow_add-result-3 : goal.overflow_add-result-3
 overflow_add-result-3 c =
-    let r = in_file c.args.slot.now (chain_at c.args.at c.args.store.now) c.args.from.record_index c.requires.file c.requires.more in
+    let r = in_file c.args.slot.now (chain_at c.args.at c.args.store.now) c.args.from.record_index c.requires.file
+    c.requires.more in
     let head = rw r.1.found at c.read_head-head.ensures.head in
     omega (arith, r.2.within, c.requires.place.place, c.requires.file.small, head.1, c.from.ensures)
 
 pub returns-clause-place : goal.returns-clause-place
 returns-clause-place c =
-    let r = in_file c.args.slot.now (chain_at c.args.at c.args.store.now) c.args.from.record_index c.requires.file c.requires.more in
+    let r = in_file c.args.slot.now (chain_at c.args.at c.args.store.now) c.args.from.record_index c.requires.file
+    c.requires.more in
     let head = rw r.1.found at c.read_head-head.ensures.head in
-    next_place c.args.slot.now (chain_at c.args.at c.args.store.now) c.args.from r.0 c.from.result c.read_head-head.result.block
+    next_place c.args.slot.now (chain_at c.args.at c.args.store.now) c.args.from r.0 c.from.result
+    c.read_head-head.result.block
     c.requires.place r.1 c.requires.more (head.1 ∙ sym c.from.ensures) c.read_head-head.ensures.block

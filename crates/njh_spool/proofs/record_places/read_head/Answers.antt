@@ -13,13 +13,18 @@ use Rattle.njh_spool.proofs.record_places.read_head.Goals.{After-read-block}
 
 pub read-block-requires-clause-within : goal.read-block-requires-clause-within
 read-block-requires-clause-within c =
-    let r = in_file c.args.slot.now (chain_at c.args.at c.args.store.now) c.args.from.record_index c.requires.file c.requires.more in
+    let r = in_file c.args.slot.now (chain_at c.args.at c.args.store.now) c.args.from.record_index c.requires.file
+    c.requires.more in
     omega (arith, r.2.within, c.requires.place.place)
 
-there : (c : After-read-block) → (r : Stored) × IsAt (unpacked_records c.args.slot.now.count (chain_at c.args.at c.args.store.now).bytes)
+there : (c : After-read-block) → (r : Stored)
+    × IsAt (unpacked_records c.args.slot.now.count (chain_at c.args.at c.args.store.now).bytes)
     c.args.from.record_index r × LiesAt (chain_at c.args.at c.args.store.now).bytes
-    (stored_size (take c.args.from.record_index (unpacked_records c.args.slot.now.count (chain_at c.args.at c.args.store.now).bytes))) r
-there c = in_file c.args.slot.now (chain_at c.args.at c.args.store.now) c.args.from.record_index c.requires.file c.requires.more
+    (stored_size (take c.args.from.record_index (unpacked_records c.args.slot.now.count
+    (chain_at c.args.at c.args.store.now).bytes))) r
+there c =
+    in_file c.args.slot.now (chain_at c.args.at c.args.store.now) c.args.from.record_index c.requires.file
+    c.requires.more
 
 head_is : (c : After-read-block) → c.read-block.new.into.items ≡ (there c).0.srcb ∷ two_bytes (length (there c).0.bytes)
 head_is c = c.read-block.ensures.bytes ∙ ap (λ (n : ℕ). field n 3 (chain_at c.args.at c.args.store.now).bytes)
@@ -29,7 +34,8 @@ pub bounds-deref-0 : goal.bounds-deref-0
 bounds-deref-0 c = rw (c.deref.ensures.0, head_is (goal.at.bounds-deref-0 c).After-read-block) (omega arith)
 
 pub slice_bounds-read_u16-count : goal.slice_bounds-read_u16-count
-slice_bounds-read_u16-count c = rw (c.deref-2.ensures.0, head_is (goal.at.slice_bounds-read_u16-count c).After-read-block) (omega arith)
+slice_bounds-read_u16-count c =
+    rw (c.deref-2.ensures.0, head_is (goal.at.slice_bounds-read_u16-count c).After-read-block) (omega arith)
 
 pub slice_bounds-read_u16-start : goal.slice_bounds-read_u16-start
 slice_bounds-read_u16-start c =
@@ -46,9 +52,11 @@ pub returns-clause-head : goal.returns-clause-head
 returns-clause-head c =
     let step = (goal.at.returns-clause-head c).After-read-block in
     let r = there step in
-    let first : slice_index c.deref.result.now 0 ≡ r.0.srcb = ap (λ (xs : List ℕ). slice_index xs 0) (c.deref.ensures.0 ∙ head_is step) in
+    let first : slice_index c.deref.result.now 0 ≡ r.0.srcb =
+    ap (λ (xs : List ℕ). slice_index xs 0) (c.deref.ensures.0 ∙ head_is step) in
     let number : c.read_u16.result ≡ length r.0.bytes =
     c.read_u16.ensures ∙ ap (λ (xs : List ℕ). big_number 2 (take (length xs - 1) (drop 1 xs))) (c.deref-2.ensures.0
-    ∙ head_is step) ∙ sym (number_back (length r.0.bytes) (length r.0.bytes / 256 % 256) (length r.0.bytes % 256) r.1.short
+    ∙ head_is step)
+    ∙ sym (number_back (length r.0.bytes) (length r.0.bytes / 256 % 256) (length r.0.bytes % 256) r.1.short
     refl refl) in
     rw r.1.found (sym first, sym number)

@@ -3,7 +3,8 @@ use Rattle.njh_spool.specs.Spools.{spool_at}
 use Rattle.njh_spool.specs.declared.restoring.fault.RestoreFault.TheVariants.{QuotaOver}
 use Rattle.njh_spool.specs.Restoring.{limits_fault}
 use Rattle.njh_spool.specs.code.Growing.{limit_of}
-use Rattle.njh_spool.proofs.RestoringLaws.{begin_refused, dropped, fits, has_room, is_whole, match_none, match_some, over, there}
+use Rattle.njh_spool.proofs.RestoringLaws.{begin_refused, dropped, fits, has_room, is_whole, match_none, match_some}
+use Rattle.njh_spool.proofs.RestoringLaws.{over, there}
 use Rattle.njh_spool.proofs.restoring.begin_whole.Goals as goal
 
 pub returns-in-Err-clause-fault : goal.returns-in-Err-clause-fault
@@ -11,7 +12,8 @@ returns-in-Err-clause-fault g c =
     let rs = g.F.FileRecords.records c.args.file.now in
     let s = spool_at c.args.customer c.args.spool.now in
     match_some _ _ (limits_fault rs s) (limit_of c.in-Err.fault)
-    (begin_refused rs s c.begin.result c.in-Err.fault c.requires.some c.begin.ensures.fault c.in-Err.is) (ap Err c.limit_of.ensures)
+    (begin_refused rs s c.begin.result c.in-Err.fault c.requires.some c.begin.ensures.fault c.in-Err.is)
+    (ap Err c.limit_of.ensures)
 
 pub append_all-requires-clause-there : goal.append_all-requires-clause-there
 append_all-requires-clause-there g c =
@@ -36,7 +38,8 @@ returns-then-append_all-clause-ok g c =
     let s = spool_at c.args.customer c.args.spool.now in
     let room = has_room s c.begin.result c.in-Ok.id c.begin.ensures.fault c.in-Ok.is in
     is_whole c.args.customer c.args.kind rs c.args.spool.now c.requires.range room
-    c.in-Ok.id c.in-Ok.ensures.number c.begin.new.self c.in-Ok.ensures.ok c.append_all.new.spool c.if-append_all.ensures.all
+    c.in-Ok.id c.in-Ok.ensures.number c.begin.new.self c.in-Ok.ensures.ok c.append_all.new.spool
+    c.if-append_all.ensures.all
 
 pub returns-clause-fault : goal.returns-clause-fault
 returns-clause-fault g c =
@@ -45,7 +48,8 @@ returns-clause-fault g c =
     let room = has_room s c.begin.result c.in-Ok.id c.begin.ensures.fault c.in-Ok.is in
     match_some _ _ (limits_fault rs s) QuotaOver
     (over c.args.customer c.args.kind rs c.args.spool.now c.requires.range room
-    c.in-Ok.id c.in-Ok.ensures.number c.begin.new.self c.in-Ok.ensures.ok c.append_all.new.spool c.if-append_all.ensures.part)
+    c.in-Ok.id c.in-Ok.ensures.number c.begin.new.self c.in-Ok.ensures.ok c.append_all.new.spool
+    c.if-append_all.ensures.part)
     refl
 
 pub returns-clause-err : goal.returns-clause-err

@@ -11,7 +11,15 @@ loop-slots-preserved c =
     let room = vec_capacity c.loop-slots.slots in (
       ap (λ (slots : List FileSlot). row_of slots (vec_capacity c.push_free.new.slots)) c.push_free.ensures.slots
           ∙ ap (λ (k : ℕ). row_of (written ++ free_slot ∷ []) k) c.push_free.ensures.room
-          ∙ row_of-more written room (omega (arith, c.len.ensures, c.from.ensures, c.loop-slots-test.true, c.requires, c.loop-slots.invariant.1, c.loop-slots.slots.ok.0))
+          ∙ row_of-more written room (omega (
+            arith,
+            c.len.ensures,
+            c.from.ensures,
+            c.loop-slots-test.true,
+            c.requires,
+            c.loop-slots.invariant.1,
+            c.loop-slots.slots.ok.0,
+          ))
           ∙ c.loop-slots.invariant.0,
       c.push_free.ensures.room ∙ c.loop-slots.invariant.1,
     )

@@ -21,7 +21,8 @@ pub slot_at-slot-requires : goal.slot_at-slot-requires
 slot_at-slot-requires c = finds.row_fits
     (call_on c.self.inside c.args.customer c.args.id c.self.invariant (rw c.self.view_is c.requires.range))
 
-stage_is : (c : After-is_partial) → is_partial (slot_of c.self.inside.slots c.args.customer c.args.id).stage ≡ c.is_partial.result
+stage_is : (c : After-is_partial)
+    → is_partial (slot_of c.self.inside.slots c.args.customer c.args.id).stage ≡ c.is_partial.result
 stage_is c = ap (λ (x : FileSlot). is_partial x.stage)
     (sym (c.slot_at-slot.ensures))
     ∙ sym c.is_partial.ensures
@@ -122,7 +123,8 @@ overflow_add-used c =
     )
 
 now_used : (c : After-blocks_for-2) → c.index_mut-own.result.now.used - c.blocks_for.result + c.blocks_for-2.result ≡
-    (own_of c.self.inside.customers.items c.args.customer).used - blocks_of (chain_of c.self.inside.store.chains c.args.customer
+    (own_of c.self.inside.customers.items c.args.customer).used - blocks_of
+    (chain_of c.self.inside.store.chains c.args.customer
     c.args.id).bytes + blocks_of ((chain_of c.self.inside.store.chains c.args.customer c.args.id).bytes
     ++ packed_record (record { srcb = c.args.srcb; bytes = c.args.bytes.now }))
 now_used c =
@@ -149,7 +151,8 @@ append_both-requires-clause-room c =
     let first = (goal.at.append_both-requires-clause-room c).After-blocks_for in
     let quota = ap (λ (o : CustomerFiles). o.quota) (own_same first) in
     let small = finds.small_partial here (there_is first) in
-    let bytes : c.head_of.result ++ c.args.bytes.now ≡ packed_record (record { srcb = c.args.srcb; bytes = c.args.bytes.now }) =
+    let bytes : c.head_of.result
+    ++ c.args.bytes.now ≡ packed_record (record { srcb = c.args.srcb; bytes = c.args.bytes.now }) =
     c.head_of.ensures in
     let room = finds.room here (record { srcb = c.args.srcb; bytes = c.args.bytes.now })
     (chain_of_file here).keys (there_is first) small
@@ -167,8 +170,10 @@ overflow_add-slot c =
     omega (arith, count, finds.count_small here)
 
 moved : (c : After-append_both) → MovesTo (call_on c.self.inside c.args.customer c.args.id c.self.invariant
-    (rw c.self.view_is c.requires.range)) c.append_both.new.self (set c.self.inside.slots (1024 * c.args.customer + c.args.id)
-    (record c.slot_at-slot.result { count = c.slot_at-slot.result.count + 1 })) (set c.self.inside.customers.items c.from.result
+    (rw c.self.view_is c.requires.range)) c.append_both.new.self
+    (set c.self.inside.slots (1024 * c.args.customer + c.args.id)
+    (record c.slot_at-slot.result { count = c.slot_at-slot.result.count + 1 }))
+    (set c.self.inside.customers.items c.from.result
     (record c.index_mut-own.result.now {
       used = c.index_mut-own.result.now.used - c.blocks_for.result +
           c.blocks_for-2.result;
@@ -181,7 +186,8 @@ moved c =
     let small = finds.small_partial here there in
     let chain = chain_same first in
     let same = c.slot_at-slot.ensures in
-    let bytes : c.head_of.result ++ c.args.bytes.now ≡ packed_record (record { srcb = c.args.srcb; bytes = c.args.bytes.now }) =
+    let bytes : c.head_of.result
+    ++ c.args.bytes.now ≡ packed_record (record { srcb = c.args.srcb; bytes = c.args.bytes.now }) =
     c.head_of.ensures in
     let quota = ap (λ (o : CustomerFiles). o.quota) (own_same first) in
     let keys = (chain_at c.place-at.result c.append_both.new.self).keys in
@@ -194,7 +200,8 @@ moved c =
     let store : c.append_both.new.self ≡ after =
     c.append_both.ensures.after
     ∙ ap (λ (xs : List ℕ). with_chain c.place-at.result
-    (record { keys = keys; bytes = (chain_at c.place-at.result c.self.inside.store).bytes ++ xs }) c.self.inside.store) bytes
+    (record { keys = keys; bytes = (chain_at c.place-at.result c.self.inside.store).bytes ++ xs }) c.self.inside.store)
+    bytes
     ∙ ap (λ (x : Chain). with_chain c.place-at.result
     (record { keys = keys; bytes = x.bytes ++ packed_record r }) c.self.inside.store) chain
     ∙ ap (λ (i : ℕ). with_chain i longer c.self.inside.store) c.place-at.ensures in
@@ -211,7 +218,8 @@ moved c =
     (record (slot_at here) { count = (slot_at here).count + 1 }))
     (set c.self.inside.customers.items c.args.customer (record o { used = blocks }))
     (with_appended c.args.id r)) (sym (own_same first))
-    (call.appends here r keys blocks there c.requires.short front (now_used at) (omega (arith, quota, c.if-used-own.false)) small)))
+    (call.appends here r keys blocks there c.requires.short front (now_used at)
+    (omega (arith, quota, c.if-used-own.false)) small)))
 
 pub invariant_of-self-2 : goal.invariant_of-self-2
 invariant_of-self-2 c = rw c.set.ensures (moved (goal.at.invariant_of-self-2 c).After-append_both).kept

@@ -17,7 +17,8 @@ index_mut-own-requires c =
     let here = call_on c.self.inside c.args.customer 0 c.self.invariant (rw c.self.view_is c.requires) in
     omega (arith, (finds.has here).within, c.from.ensures, c.self.inside.customers.ok.0)
 
-own_same : (c : After-index_mut-own) → c.index_mut-own.result.now ≡ (own_of c.self.inside.customers.items c.args.customer)
+own_same : (c : After-index_mut-own)
+    → c.index_mut-own.result.now ≡ (own_of c.self.inside.customers.items c.args.customer)
 own_same c =
     let here = call_on c.self.inside c.args.customer 0 c.self.invariant (rw c.self.view_is c.requires) in
     own_is c.self.inside.customers.items c.args.customer c.from.result c.index_mut-own.result.now
@@ -27,7 +28,8 @@ own_same c =
 -- how many files the customer has
 record Few (c : After-index_mut-own) : Type 0 where
   whole : length c.index_mut-own.result.now.whole ≡ length (own_of c.self.inside.customers.items c.args.customer).whole
-  partial : length c.index_mut-own.result.now.partial ≡ length (own_of c.self.inside.customers.items c.args.customer).partial
+  partial : length c.index_mut-own.result.now.partial ≡ length
+      (own_of c.self.inside.customers.items c.args.customer).partial
   limit : c.index_mut-own.result.now.limit ≡ (own_of c.self.inside.customers.items c.args.customer).limit
   bound : length (own_of c.self.inside.customers.items c.args.customer).whole + length
       (own_of c.self.inside.customers.items c.args.customer).partial ≤ 1024
@@ -127,7 +129,8 @@ set-requires-clause-number c =
     omega (arith, c.free_number-number.ensures.below, c.of-id.ensures, n.limit, n.limit_bound)
 
 next_is : (c : After-free_number-number) → length (own_of c.self.inside.customers.items c.args.customer).whole + length
-    (own_of c.self.inside.customers.items c.args.customer).partial < (own_of c.self.inside.customers.items c.args.customer).limit
+    (own_of c.self.inside.customers.items c.args.customer).partial
+    < (own_of c.self.inside.customers.items c.args.customer).limit
     → c.free_number-number.result ≡ next_number (spool_of (own_of c.self.inside.customers.items c.args.customer)
     (contents c.self.inside.slots c.self.inside.store.chains c.args.customer))
 next_is c room =
@@ -138,7 +141,8 @@ next_is c room =
     (λ m below. (c.free_number-number.ensures.least m below))
 
 moved : (c : After-set) → length (own_of c.self.inside.customers.items c.args.customer).whole + length
-    (own_of c.self.inside.customers.items c.args.customer).partial < (own_of c.self.inside.customers.items c.args.customer).limit
+    (own_of c.self.inside.customers.items c.args.customer).partial
+    < (own_of c.self.inside.customers.items c.args.customer).limit
     → MovesTo (call_on c.self.inside c.args.customer c.free_number-number.result c.self.invariant
     (rw c.self.view_is c.requires)) c.self.inside.store c.set.new.self (set c.self.inside.customers.items c.from.result
     (record c.index_mut-own.result.now { partial = c.push.new.self })) (with_new_partial c.args.kind)

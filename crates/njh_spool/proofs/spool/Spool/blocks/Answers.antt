@@ -11,7 +11,8 @@ pub slot_at-requires : goal.slot_at-requires
 slot_at-requires c = finds.row_fits
     (call_on c.self.inside c.args.customer c.args.id c.self.invariant (rw c.self.view_is c.requires))
 
-stage_is : (c : After-is_whole) → is_whole_stage (slot_of c.self.inside.slots c.args.customer c.args.id).stage ≡ c.is_whole.result
+stage_is : (c : After-is_whole)
+    → is_whole_stage (slot_of c.self.inside.slots c.args.customer c.args.id).stage ≡ c.is_whole.result
 stage_is c = ap (λ (x : FileSlot). is_whole_stage x.stage) (sym c.slot_at.ensures) ∙ sym c.is_whole.ensures
 
 pub returns-then-not-is_whole : goal.returns-then-not-is_whole

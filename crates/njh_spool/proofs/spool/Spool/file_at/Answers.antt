@@ -19,19 +19,23 @@ pub at-requires : goal.at-requires
 at-requires c =
     let here = call_on c.self.inside c.args.customer 0 c.self.invariant (rw c.self.view_is c.requires.range) in
     let has = finds.has here in
-    let own = own_is c.self.inside.customers.items c.args.customer c.from.result c.index.result.now has.within c.from.ensures
+    let own =
+    own_is c.self.inside.customers.items c.args.customer c.from.result c.index.result.now has.within c.from.ensures
     c.index.ensures in
     let lists = ap (λ (o : CustomerFiles). length o.whole) own in
-    let many = ap (λ (s : CustomerSpool). length s.whole) (ap (spool_at c.args.customer) (sym c.self.view_is) ∙ has.part) in
+    let many =
+    ap (λ (s : CustomerSpool). length s.whole) (ap (spool_at c.args.customer) (sym c.self.view_is) ∙ has.part) in
     omega (arith, lists, many, c.requires.index_range, length-map (own_at here).whole (whole_file (files_at here)))
 
 pub returns : goal.returns
 returns c =
     let here = call_on c.self.inside c.args.customer 0 c.self.invariant (rw c.self.view_is c.requires.range) in
     let has = finds.has here in
-    let own = own_is c.self.inside.customers.items c.args.customer c.from.result c.index.result.now has.within c.from.ensures
+    let own =
+    own_is c.self.inside.customers.items c.args.customer c.from.result c.index.result.now has.within c.from.ensures
     c.index.ensures in
-    let many = ap (λ (s : CustomerSpool). length s.whole) (ap (spool_at c.args.customer) (sym c.self.view_is) ∙ has.part) in
+    let many =
+    ap (λ (s : CustomerSpool). length s.whole) (ap (spool_at c.args.customer) (sym c.self.view_is) ∙ has.part) in
     let numbers = (own_at here).whole in
     let within : c.args.index < length numbers =
     omega (arith, many, c.requires.index_range, length-map numbers (whole_file (files_at here))) in

@@ -16,7 +16,8 @@ pub overflow_cast-result : goal.overflow_cast-result
 overflow_cast-result c =
     let here = call_on c.self.inside c.args.customer 0 c.self.invariant (rw c.self.view_is c.requires) in
     let has = finds.has here in
-    let own = own_is c.self.inside.customers.items c.args.customer c.from.result c.index.result.now has.within c.from.ensures
+    let own =
+    own_is c.self.inside.customers.items c.args.customer c.from.result c.index.result.now has.within c.from.ensures
     c.index.ensures in
     let lists = ap (λ (o : CustomerFiles). length o.whole) own in
     omega (
@@ -34,7 +35,8 @@ pub returns : goal.returns
 returns c =
     let here = call_on c.self.inside c.args.customer 0 c.self.invariant (rw c.self.view_is c.requires) in
     let has = finds.has here in
-    let own = own_is c.self.inside.customers.items c.args.customer c.from.result c.index.result.now has.within c.from.ensures
+    let own =
+    own_is c.self.inside.customers.items c.args.customer c.from.result c.index.result.now has.within c.from.ensures
     c.index.ensures in
     rw (← c.self.view_is, has.part) (c.len.ensures ∙ ap (λ (o : CustomerFiles). length o.whole) own
     ∙ sym (length-map (own_at here).whole

@@ -36,7 +36,8 @@ pub read_headers-slot-requires-clause-file : goal.read_headers-slot-requires-cla
 read_headers-slot-requires-clause-file c = file_is (goal.at.read_headers-slot-requires-clause-file c).After-place-at
     c.if-not-is_partial.false
 
-stage_is : (c : After-is_partial) → is_partial (slot_of c.self.inside.slots c.args.customer c.args.id).stage ≡ c.is_partial.result
+stage_is : (c : After-is_partial)
+    → is_partial (slot_of c.self.inside.slots c.args.customer c.args.id).stage ≡ c.is_partial.result
 stage_is c = ap (λ (x : FileSlot). is_partial x.stage)
     (sym (c.slot_at-slot.ensures))
     ∙ sym c.is_partial.ensures
@@ -53,10 +54,12 @@ returns-then-not-is_partial-clause-after c =
     let here = call_on c.self.inside c.args.customer c.args.id c.self.invariant (rw c.self.view_is c.requires) in
     let none = finds.finds_no_partial here
     (stage_is (goal.at.returns-then-not-is_partial-clause-after c).After-is_partial ∙ c.if-not-is_partial.true) in
-    subst (λ (old : List CustomerSpool). old ≡ set old c.args.customer (with_finished c.args.id (spool_at c.args.customer old)))
+    subst (λ (old : List CustomerSpool). old ≡ set old c.args.customer
+    (with_finished c.args.id (spool_at c.args.customer old)))
     c.self.view_is none.finishes
 
-own_same : (c : After-index_mut-own) → c.index_mut-own.result.now ≡ (own_of c.self.inside.customers.items c.args.customer)
+own_same : (c : After-index_mut-own)
+    → c.index_mut-own.result.now ≡ (own_of c.self.inside.customers.items c.args.customer)
 own_same c =
     let here = call_on c.self.inside c.args.customer c.args.id c.self.invariant (rw c.self.view_is c.requires) in
     own_is c.self.inside.customers.items c.args.customer c.from.result c.index_mut-own.result.now
@@ -84,7 +87,8 @@ moved : (c : After-set) → MovesTo (call_on c.self.inside c.args.customer c.arg
 moved c =
     let here = call_on c.self.inside c.args.customer c.args.id c.self.invariant (rw c.self.view_is c.requires) in
     let same = c.slot_at-slot.ensures in
-    let there = ap (λ (x : FileSlot). is_partial x.stage) (sym same) ∙ sym c.is_partial.ensures ∙ c.if-not-is_partial.false in
+    let there = ap (λ (x : FileSlot). is_partial x.stage) (sym same) ∙ sym c.is_partial.ensures
+    ∙ c.if-not-is_partial.false in
     let small = finds.small_partial here there in
     let own = own_is c.self.inside.customers.items c.args.customer c.from.result c.index_mut-own.result.now
     (finds.has here).within
@@ -127,8 +131,10 @@ moved c =
     (record c.slot_at-slot.result { stage = Whole Ready; headers = c.read_headers-slot.result })
     (now c) c.set.new.self
     c.from.result (with_finished c.args.id) refl c.set.ensures c.from.ensures
-    (subst (λ (x : FileSlot). MovesTo here c.self.inside.store (set c.self.inside.slots (1024 * c.args.customer + c.args.id)
-    (record x { stage = Whole Ready; headers = c.read_headers-slot.result })) (set c.self.inside.customers.items c.args.customer
+    (subst (λ (x : FileSlot). MovesTo here c.self.inside.store
+    (set c.self.inside.slots (1024 * c.args.customer + c.args.id)
+    (record x { stage = Whole Ready; headers = c.read_headers-slot.result }))
+    (set c.self.inside.customers.items c.args.customer
     (now c))
     (with_finished c.args.id)) (sym same)
     (call.finishes here (now c) c.read_headers-slot.result said there owns small))

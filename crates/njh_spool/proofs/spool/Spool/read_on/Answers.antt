@@ -25,7 +25,8 @@ slot_at-slot-requires c = finds.row_fits
 same_slot : (c : After-is_free) → c.slot_at-slot.result ≡ slot_of c.self.inside.slots c.args.customer c.args.id
 same_slot c = c.slot_at-slot.ensures
 
-stage_is : (c : After-is_free) → is_free (slot_of c.self.inside.slots c.args.customer c.args.id).stage ≡ c.is_free.result
+stage_is : (c : After-is_free)
+    → is_free (slot_of c.self.inside.slots c.args.customer c.args.id).stage ≡ c.is_free.result
 stage_is c = ap (λ (x : FileSlot). is_free x.stage) (sym (same_slot c)) ∙ sym c.is_free.ensures
 
 records_now : (c : After-is_free) → c.is_free.result ≡ false → records_numbered c.args.id
@@ -108,10 +109,12 @@ moved c =
     (chain_of_file here).keys (kept c) =
     subst (λ (x : Chain). ArePlaces (unpacked_records (slot_at here).count x.bytes) x.keys
     (kept c)) chain
-    (subst (λ (x : FileSlot). ArePlaces (unpacked_records x.count (chain_at c.place-at.result c.self.inside.store).bytes)
+    (subst (λ (x : FileSlot). ArePlaces (unpacked_records x.count
+    (chain_at c.place-at.result c.self.inside.store).bytes)
     (chain_at c.place-at.result c.self.inside.store).keys (kept c)) same
     (record { last = c.place_of_record-begins.ensures.place; next = c.read_record-srcb.ensures.place })) in
-    subst (λ (xs : List FileSlot). MovesTo here c.self.inside.store xs c.self.inside.customers.items (λ s. s)) (sym c.set.ensures)
+    subst (λ (xs : List FileSlot). MovesTo here c.self.inside.store xs c.self.inside.customers.items (λ s. s))
+    (sym c.set.ensures)
     (subst (λ (x : FileSlot). MovesTo here c.self.inside.store
     (set c.self.inside.slots (1024 * c.args.customer + c.args.id) (record x { places = kept c }))
     c.self.inside.customers.items (λ s. s)) (sym same)

@@ -17,7 +17,8 @@ pub slot_at-requires : goal.slot_at-requires
 slot_at-requires c = finds.row_fits
     (call_on c.self.inside c.args.customer c.args.id c.self.invariant (rw c.self.view_is c.requires))
 
-stage_is : (c : After-is_whole) → is_whole_stage (slot_of c.self.inside.slots c.args.customer c.args.id).stage ≡ c.is_whole.result
+stage_is : (c : After-is_whole)
+    → is_whole_stage (slot_of c.self.inside.slots c.args.customer c.args.id).stage ≡ c.is_whole.result
 stage_is c = ap (λ (x : FileSlot). is_whole_stage x.stage)
     (sym (c.slot_at.ensures))
     ∙ sym c.is_whole.ensures
@@ -36,7 +37,8 @@ returns-then-not-is_whole-clause-after c =
     (stage_is (goal.at.returns-then-not-is_whole-clause-after c).After-is_whole ∙ c.if-not-is_whole.true) in
     rw (← c.self.view_is) none.removes
 
-own_same : (c : After-index_mut-own) → c.index_mut-own.result.now ≡ (own_of c.self.inside.customers.items c.args.customer)
+own_same : (c : After-index_mut-own)
+    → c.index_mut-own.result.now ≡ (own_of c.self.inside.customers.items c.args.customer)
 own_same c =
     let here = call_on c.self.inside c.args.customer c.args.id c.self.invariant (rw c.self.view_is c.requires) in
     own_is c.self.inside.customers.items c.args.customer c.from.result c.index_mut-own.result.now
@@ -55,7 +57,11 @@ overflow_sub-left c =
 
 -- what the customer has then
 abbrev now : After-set → CustomerFiles
-now c = record c.index_mut-own.result.now { used = c.index_mut-own.result.now.used - c.blocks_for.result; whole = c.remove.new.self }
+now c = record c.index_mut-own.result.now {
+  used = c.index_mut-own.result.now.used - c.blocks_for.result;
+  whole =
+      c.remove.new.self;
+}
 
 moved : (c : After-set) → MovesTo (call_on c.self.inside c.args.customer c.args.id c.self.invariant
     (rw c.self.view_is c.requires)) c.clear.new.self c.set.new.self (set c.self.inside.customers.items c.from.result
@@ -71,8 +77,10 @@ moved c =
     c.from.ensures c.index_mut-own.ensures.value in
     let chain = ap (λ (i : ℕ). chain_at i c.self.inside.store) c.place-at.ensures ∙ finds.chain_is here small in
     let size : c.blocks_for.result ≡ blocks_of (chain_of_file here).bytes =
-    c.blocks_for.ensures ∙ ap (λ (k : ℕ). (k + 251) / 252) (c.len.ensures.bytes ∙ ap (λ (x : Chain). length x.bytes) chain) in
-    let list = c.remove.ensures ∙ ap (λ (k : ℕ). filter (λ m. not (eqb m k)) c.index_mut-own.result.now.whole) c.number.ensures in
+    c.blocks_for.ensures
+    ∙ ap (λ (k : ℕ). (k + 251) / 252) (c.len.ensures.bytes ∙ ap (λ (x : Chain). length x.bytes) chain) in
+    let list = c.remove.ensures
+    ∙ ap (λ (k : ℕ). filter (λ m. not (eqb m k)) c.index_mut-own.result.now.whole) c.number.ensures in
     let owns =
     ap (λ (xs : List ℕ). record c.index_mut-own.result.now {
       used = c.index_mut-own.result.now.used - c.blocks_for.result;

@@ -23,7 +23,8 @@ pub slot_at-slot-requires : goal.slot_at-slot-requires
 slot_at-slot-requires c = finds.row_fits
     (call_on c.self.inside c.args.customer c.args.id c.self.invariant (rw c.self.view_is c.requires.range))
 
-stage_is : (c : After-is_whole) → is_whole_stage (slot_of c.self.inside.slots c.args.customer c.args.id).stage ≡ c.is_whole.result
+stage_is : (c : After-is_whole)
+    → is_whole_stage (slot_of c.self.inside.slots c.args.customer c.args.id).stage ≡ c.is_whole.result
 stage_is c = ap (λ (x : FileSlot). is_whole_stage x.stage)
     (sym (c.slot_at-slot.ensures))
     ∙ sym c.is_whole.ensures
@@ -47,7 +48,8 @@ pub place_of_record-begins-requires-clause-within : goal.place_of_record-begins-
 place_of_record-begins-requires-clause-within c =
     let here = call_on c.self.inside c.args.customer c.args.id c.self.invariant (rw c.self.view_is c.requires.range) in
     let same = c.slot_at-slot.ensures in
-    let there = ap (λ (x : FileSlot). is_whole_stage x.stage) (sym same) ∙ sym c.is_whole.ensures ∙ c.if-not-is_whole.false in
+    let there = ap (λ (x : FileSlot). is_whole_stage x.stage) (sym same) ∙ sym c.is_whole.ensures
+    ∙ c.if-not-is_whole.false in
     let inner : IsSomeAnd (slice_get (unpacked_records (slot_at here).count (chain_of_file here).bytes) c.args.n)
     (λ r. c.args.place + 8 ≤ length r.bytes) =
     finds.record_fits here c.args.self.now c.args.n c.args.place c.self.view_is there c.requires.within in
@@ -57,7 +59,8 @@ place_of_record-begins-requires-clause-within c =
 
 -- the bytes go into the file
 record Goes (c : After-place_of_record-begins) : Type 0 where
-  chain : chain_at c.place-at.result c.self.inside.store ≡ (chain_of c.self.inside.store.chains c.args.customer c.args.id)
+  chain : chain_at c.place-at.result c.self.inside.store
+      ≡ (chain_of c.self.inside.store.chains c.args.customer c.args.id)
   within : c.place_of_record-begins.result.place + 3 + c.args.place + 8 ≤ length
       (chain_of c.self.inside.store.chains c.args.customer c.args.id).bytes
   bound : length (chain_of c.self.inside.store.chains c.args.customer c.args.id).bytes ≤ 252 * 65535
@@ -66,7 +69,8 @@ goes : (c : After-place_of_record-begins) → Goes c
 goes c =
     let here = call_on c.self.inside c.args.customer c.args.id c.self.invariant (rw c.self.view_is c.requires.range) in
     let same = c.slot_at-slot.ensures in
-    let there = ap (λ (x : FileSlot). is_whole_stage x.stage) (sym same) ∙ sym c.is_whole.ensures ∙ c.if-not-is_whole.false in
+    let there = ap (λ (x : FileSlot). is_whole_stage x.stage) (sym same) ∙ sym c.is_whole.ensures
+    ∙ c.if-not-is_whole.false in
     let inner : IsSomeAnd (slice_get (unpacked_records (slot_at here).count (chain_of_file here).bytes) c.args.n)
     (λ r. c.args.place + 8 ≤ length r.bytes) =
     finds.record_fits here c.args.self.now c.args.n c.args.place c.self.view_is there c.requires.within in
@@ -76,7 +80,8 @@ goes c =
     let begins = finds.record_begins here c.slot_at-slot.result (chain_at c.place-at.result c.self.inside.store)
     c.place_of_record-begins.result c.args.n same chain c.place_of_record-begins.ensures.place
     c.place_of_record-begins.ensures.index in
-    let r = in_file (slot_at here) (chain_of_file here) c.args.n (c.self.invariant.files c.args.customer c.args.id) counted in
+    let r = in_file (slot_at here) (chain_of_file here) c.args.n (c.self.invariant.files c.args.customer c.args.id)
+    counted in
     let eight = rw r.1.found at inner in
     record {
       chain = chain;
@@ -110,7 +115,8 @@ chain_then store customer id at bytes =
     }
 
 -- the facts of the record that is rewritten, in the terms of the laws
-record Rewrites (store : StoreValue) (slots : List FileSlot) (slot : FileSlot) (customer id n at place index : ℕ) (bytes : List ℕ)
+record Rewrites (store : StoreValue) (slots : List FileSlot) (slot : FileSlot) (customer id n at place index : ℕ)
+    (bytes : List ℕ)
     (store' : StoreValue) : Type 0 where
   same : slot ≡ slot_of slots customer id
   there : is_whole_stage (slot_of slots customer id).stage ≡ true
@@ -118,19 +124,23 @@ record Rewrites (store : StoreValue) (slots : List FileSlot) (slot : FileSlot) (
   counted : n < (slot_of slots customer id).count
   begins : at ≡ stored_size (take n (unpacked_records (slot_of slots customer id).count
       (chain_of store.chains customer id).bytes)) + 3 + place
-  fits : IsSomeAnd (slice_get (unpacked_records (slot_of slots customer id).count (chain_of store.chains customer id).bytes) n)
+  fits : IsSomeAnd (slice_get (unpacked_records (slot_of slots customer id).count
+      (chain_of store.chains customer id).bytes) n)
       (λ r. place + length bytes ≤ length r.bytes)
   after : store' ≡ with_chain (1024 * customer + id) (chain_then store customer id at bytes) store
   chain : chain_at index store' ≡ chain_then store customer id at bytes
   inside : index < length store'.chains
 
-rewrites : (c : After-overwrite) → Rewrites c.self.inside.store c.self.inside.slots c.slot_at-slot.result c.args.customer
-    c.args.id c.args.n (c.place_of_record-begins.result.place + (3 + c.args.place)) c.args.place c.place-at.result c.args.bytes
+rewrites : (c : After-overwrite)
+    → Rewrites c.self.inside.store c.self.inside.slots c.slot_at-slot.result c.args.customer
+    c.args.id c.args.n (c.place_of_record-begins.result.place + (3 + c.args.place)) c.args.place c.place-at.result
+    c.args.bytes
     c.overwrite.new.self
 rewrites c =
     let here = call_on c.self.inside c.args.customer c.args.id c.self.invariant (rw c.self.view_is c.requires.range) in
     let same = c.slot_at-slot.ensures in
-    let there = ap (λ (x : FileSlot). is_whole_stage x.stage) (sym same) ∙ sym c.is_whole.ensures ∙ c.if-not-is_whole.false in
+    let there = ap (λ (x : FileSlot). is_whole_stage x.stage) (sym same) ∙ sym c.is_whole.ensures
+    ∙ c.if-not-is_whole.false in
     let inner : IsSomeAnd (slice_get (unpacked_records (slot_at here).count (chain_of_file here).bytes) c.args.n)
     (λ r. c.args.place + 8 ≤ length r.bytes) =
     finds.record_fits here c.args.self.now c.args.n c.args.place c.self.view_is there c.requires.within in
@@ -141,14 +151,16 @@ rewrites c =
     c.place_of_record-begins.result c.args.n same chain c.place_of_record-begins.ensures.place
     c.place_of_record-begins.ensures.index in
     let eight : 8 ≡ length c.args.bytes = omega arith in
-    let fits = subst (λ (size : ℕ). IsSomeAnd (slice_get (unpacked_records (slot_at here).count (chain_of_file here).bytes)
+    let fits =
+    subst (λ (size : ℕ). IsSomeAnd (slice_get (unpacked_records (slot_at here).count (chain_of_file here).bytes)
     c.args.n) (λ r. c.args.place + size ≤ length r.bytes)) eight inner in
     let at = c.place_of_record-begins.result.place + (3 + c.args.place) in
     let index = 1024 * c.args.customer + c.args.id in
     let then = chain_then c.self.inside.store c.args.customer c.args.id at c.args.bytes in
     let store : c.overwrite.new.self ≡ with_chain index then c.self.inside.store =
     c.overwrite.ensures
-    ∙ ap (λ (x : Chain). with_chain c.place-at.result (record { keys = x.keys; bytes = with_field at c.args.bytes x.bytes })
+    ∙ ap (λ (x : Chain). with_chain c.place-at.result (record
+    { keys = x.keys; bytes = with_field at c.args.bytes x.bytes })
     c.self.inside.store) chain
     ∙ ap (λ (i : ℕ). with_chain i then c.self.inside.store) c.place-at.ensures in
     let has = finds.has here in
@@ -184,7 +196,8 @@ headers_behind-slot-requires-clause-file c =
     is.counted is.fits)
 
 moved : (c : After-set) → Rewrites c.self.inside.store c.self.inside.slots c.slot_at-slot.result c.args.customer
-    c.args.id c.args.n (c.place_of_record-begins.result.place + (3 + c.args.place)) c.args.place c.place-at.result c.args.bytes
+    c.args.id c.args.n (c.place_of_record-begins.result.place + (3 + c.args.place)) c.args.place c.place-at.result
+    c.args.bytes
     c.overwrite.new.self → MovesTo (call_on c.self.inside c.args.customer c.args.id c.self.invariant
     (rw c.self.view_is c.requires.range)) c.overwrite.new.self c.set.new.self c.self.inside.customers.items
     (with_rewritten_bytes c.args.id c.args.n c.args.place c.args.bytes)
@@ -207,7 +220,8 @@ moved c is =
     ∙ ap (λ (x : FileSlot). x.headers) is.same in
     subst (λ (xs : List FileSlot). MovesTo here c.overwrite.new.self xs c.self.inside.customers.items rewritten)
     (sym c.set.ensures)
-    (subst (λ (x : FileSlot). MovesTo here c.overwrite.new.self (set c.self.inside.slots (1024 * c.args.customer + c.args.id)
+    (subst (λ (x : FileSlot). MovesTo here c.overwrite.new.self
+    (set c.self.inside.slots (1024 * c.args.customer + c.args.id)
     (record x { headers = c.headers_behind-slot.result })) c.self.inside.customers.items rewritten) (sym is.same)
     (subst (λ (t : StoreValue). MovesTo here t (set c.self.inside.slots (1024 * c.args.customer + c.args.id)
     (record slot { headers = c.headers_behind-slot.result })) c.self.inside.customers.items rewritten) (sym is.after)
@@ -226,6 +240,8 @@ returns-clause-answer c =
 
 pub returns-clause-after : goal.returns-clause-after
 returns-clause-after c =
-    (moved (goal.at.returns-clause-after c).After-set (rewrites (goal.at.returns-clause-after c).After-overwrite)).spools
-    ∙ ap (λ (old : List CustomerSpool). set old c.args.customer (with_rewritten_bytes c.args.id c.args.n c.args.place c.args.bytes
+    (moved (goal.at.returns-clause-after c).After-set (rewrites
+    (goal.at.returns-clause-after c).After-overwrite)).spools
+    ∙ ap (λ (old : List CustomerSpool). set old c.args.customer
+    (with_rewritten_bytes c.args.id c.args.n c.args.place c.args.bytes
     (spool_at c.args.customer old))) c.self.view_is

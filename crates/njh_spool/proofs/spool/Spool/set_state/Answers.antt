@@ -14,7 +14,8 @@ pub slot_at-slot-requires : goal.slot_at-slot-requires
 slot_at-slot-requires c = finds.row_fits
     (call_on c.self.inside c.args.customer c.args.id c.self.invariant (rw c.self.view_is c.requires))
 
-stage_is : (c : After-is_whole) → is_whole_stage (slot_of c.self.inside.slots c.args.customer c.args.id).stage ≡ c.is_whole.result
+stage_is : (c : After-is_whole)
+    → is_whole_stage (slot_of c.self.inside.slots c.args.customer c.args.id).stage ≡ c.is_whole.result
 stage_is c = ap (λ (x : FileSlot). is_whole_stage x.stage)
     (sym (c.slot_at-slot.ensures))
     ∙ sym c.is_whole.ensures
@@ -43,7 +44,8 @@ moved c =
     ∙ sym c.is_whole.ensures ∙ c.if-not-is_whole.false in
     subst (λ (xs : List FileSlot). MovesTo here c.self.inside.store xs c.self.inside.customers.items
     (with_state c.args.id c.args.state)) (sym c.set.ensures)
-    (subst (λ (x : FileSlot). MovesTo here c.self.inside.store (set c.self.inside.slots (1024 * c.args.customer + c.args.id)
+    (subst (λ (x : FileSlot). MovesTo here c.self.inside.store
+    (set c.self.inside.slots (1024 * c.args.customer + c.args.id)
     (record x { stage = Whole c.args.state })) c.self.inside.customers.items (with_state c.args.id c.args.state))
     (sym (c.slot_at-slot.ensures))
     (call.restates here c.args.state there

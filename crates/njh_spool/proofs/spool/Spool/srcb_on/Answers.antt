@@ -1,4 +1,5 @@
-use Rattle.std.proofs.Common.{◌≡◌, ℕ, ◌<◌, ◌+◌, ◌*◌, false, List, set, Option, Some, Result, refl, sym, ap, subst, ◌∙◌, arith}
+use Rattle.std.proofs.Common.{◌≡◌, ℕ, ◌<◌, ◌+◌, ◌*◌, false, List, set, Option, Some, Result, refl, sym, ap, subst, ◌∙◌}
+use Rattle.std.proofs.Common.{arith}
 use Rattle.njh_spool.specs.declared.file_slot.FileSlot.{FileSlot}
 use Rattle.njh_spool.specs.declared.file_slot.KeptPlaces.{KeptPlaces}
 use Rattle.njh_spool.specs.code.Chains.{Chain, chain_at}
@@ -26,7 +27,8 @@ slot_at-slot-requires c = finds.row_fits
 same_slot : (c : After-is_free) → c.slot_at-slot.result ≡ slot_of c.self.inside.slots c.args.customer c.args.id
 same_slot c = c.slot_at-slot.ensures
 
-stage_is : (c : After-is_free) → is_free (slot_of c.self.inside.slots c.args.customer c.args.id).stage ≡ c.is_free.result
+stage_is : (c : After-is_free)
+    → is_free (slot_of c.self.inside.slots c.args.customer c.args.id).stage ≡ c.is_free.result
 stage_is c = ap (λ (x : FileSlot). is_free x.stage) (sym (same_slot c)) ∙ sym c.is_free.ensures
 
 records_now : (c : After-is_free) → c.is_free.result ≡ false → records_numbered c.args.id
@@ -84,7 +86,8 @@ returns-clause-srcb c =
     let found = c.pass_record-srcb.ensures.srcb in
     let index = c.place_of_record-begins.ensures.index in
     sym (
-    ap (λ (o : Option (List Stored)). or_no_file (option_map (λ (r : Stored). r.srcb) (option_and_then (λ (records : List Stored).
+    ap (λ (o : Option (List Stored)). or_no_file (option_map (λ (r : Stored). r.srcb)
+    (option_and_then (λ (records : List Stored).
     slice_get records c.args.n) o))) (records_now step c.if-is_free.false)
     ∙ ap (λ (x : FileSlot). srcb_in (unpacked_records x.count
     (chain_of c.self.inside.store.chains c.args.customer c.args.id).bytes)
@@ -111,10 +114,12 @@ moved c =
     (chain_of_file here).keys (kept c) =
     subst (λ (x : Chain). ArePlaces (unpacked_records (slot_at here).count x.bytes) x.keys
     (kept c)) chain
-    (subst (λ (x : FileSlot). ArePlaces (unpacked_records x.count (chain_at c.place-at.result c.self.inside.store).bytes)
+    (subst (λ (x : FileSlot). ArePlaces (unpacked_records x.count
+    (chain_at c.place-at.result c.self.inside.store).bytes)
     (chain_at c.place-at.result c.self.inside.store).keys (kept c)) same
     (record { last = c.place_of_record-begins.ensures.place; next = c.pass_record-srcb.ensures.place })) in
-    subst (λ (xs : List FileSlot). MovesTo here c.self.inside.store xs c.self.inside.customers.items (λ s. s)) (sym c.set.ensures)
+    subst (λ (xs : List FileSlot). MovesTo here c.self.inside.store xs c.self.inside.customers.items (λ s. s))
+    (sym c.set.ensures)
     (subst (λ (x : FileSlot). MovesTo here c.self.inside.store
     (set c.self.inside.slots (1024 * c.args.customer + c.args.id) (record x { places = kept c }))
     c.self.inside.customers.items (λ s. s)) (sym same)

@@ -14,7 +14,8 @@ slot_at-slot-requires c = finds.row_fits
 same_slot : (c : After-is_whole) → c.slot_at-slot.result ≡ slot_of c.self.inside.slots c.args.customer c.args.id
 same_slot c = c.slot_at-slot.ensures
 
-stage_is : (c : After-is_whole) → is_whole_stage (slot_of c.self.inside.slots c.args.customer c.args.id).stage ≡ c.is_whole.result
+stage_is : (c : After-is_whole)
+    → is_whole_stage (slot_of c.self.inside.slots c.args.customer c.args.id).stage ≡ c.is_whole.result
 stage_is c = ap (λ (x : FileSlot). is_whole_stage x.stage) (sym (same_slot c)) ∙ sym c.is_whole.ensures
 
 pub returns-then-not-is_whole : goal.returns-then-not-is_whole

@@ -14,6 +14,7 @@ pub returns : goal.returns
 returns c =
     let here = call_on c.self.inside c.args.customer 0 c.self.invariant (rw c.self.view_is c.requires) in
     let has = finds.has here in
-    let own = own_is c.self.inside.customers.items c.args.customer c.from.result c.index.result.now has.within c.from.ensures
+    let own =
+    own_is c.self.inside.customers.items c.args.customer c.from.result c.index.result.now has.within c.from.ensures
     c.index.ensures in
     rw (← c.self.view_is, has.part) (ap (λ (o : CustomerFiles). o.used) own ∙ has.own.counted)

@@ -8,7 +8,8 @@ use Rattle.njh_spool.proofs.store.Store.add_first.Goals as goal
 
 pub insert_reserved-key-requires : goal.insert_reserved-key-requires
 insert_reserved-key-requires c =
-    let used = used_is c.self.inside.blocks c.self.inside.chains.items c.self.inside.capacity c.args.self.now c.self.invariant
+    let used =
+    used_is c.self.inside.blocks c.self.inside.chains.items c.self.inside.capacity c.args.self.now c.self.invariant
     c.self.view_is in
     omega (arith, used.0, used.1, c.requires.room, c.self.invariant.room)
 
@@ -19,7 +20,8 @@ invariant_of-self c =
     c.insert_reserved-key.result (Some b))
     c.of.ensures c.insert_reserved-key.ensures.updates in
     let used = used_on on in
-    let free : slab_len c.self.inside.blocks < c.self.inside.capacity = omega (arith, used.0, used.1, c.requires.room) in
+    let free : slab_len c.self.inside.blocks < c.self.inside.capacity =
+    omega (arith, used.0, used.1, c.requires.room) in
     let empty : on.ends.len ≡ 0 = omega (arith, len_on on, c.requires.empty) in
     begun on
     c.insert_reserved-key.new.self c.insert_reserved-key.result c.args.bytes.now c.requires.some c.requires.short
@@ -33,7 +35,8 @@ returns c =
     c.insert_reserved-key.result (Some b))
     c.of.ensures c.insert_reserved-key.ensures.updates in
     let used = used_on on in
-    let free : slab_len c.self.inside.blocks < c.self.inside.capacity = omega (arith, used.0, used.1, c.requires.room) in
+    let free : slab_len c.self.inside.blocks < c.self.inside.capacity =
+    omega (arith, used.0, used.1, c.requires.room) in
     let empty : on.ends.len ≡ 0 = omega (arith, len_on on, c.requires.empty) in
     grows_begun on
     c.insert_reserved-key.new.self c.insert_reserved-key.result c.args.bytes.now c.requires.some c.requires.short

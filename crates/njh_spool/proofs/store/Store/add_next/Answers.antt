@@ -9,7 +9,8 @@ use Rattle.njh_spool.proofs.store.Store.add_next.Goals as goal
 
 pub insert_reserved-key-requires : goal.insert_reserved-key-requires
 insert_reserved-key-requires c =
-    let used = used_is c.self.inside.blocks c.self.inside.chains.items c.self.inside.capacity c.args.self.now c.self.invariant
+    let used =
+    used_is c.self.inside.blocks c.self.inside.chains.items c.self.inside.capacity c.args.self.now c.self.invariant
     c.self.view_is in
     omega (arith, used.0, used.1, c.requires.room, c.self.invariant.room)
 
@@ -22,7 +23,8 @@ link-requires c =
     c.insert_reserved-key.result (Some b))
     c.of.ensures c.insert_reserved-key.ensures.updates in
     let used = used_on on in
-    let free : slab_len c.self.inside.blocks < c.self.inside.capacity = omega (arith, used.0, used.1, c.requires.room) in
+    let free : slab_len c.self.inside.blocks < c.self.inside.capacity =
+    omega (arith, used.0, used.1, c.requires.room) in
     let size = len_on on in
     let filled : on.ends.len ≡ 252 * blocks_for on.ends.len = omega (arith, size, c.requires.filled) in
     let any : 0 < on.ends.len = omega (arith, size, c.requires.more) in
@@ -40,7 +42,8 @@ overflow_add-old c =
     c.insert_reserved-key.result (Some b))
     c.of.ensures c.insert_reserved-key.ensures.updates in
     let used = used_on on in
-    let free : slab_len c.self.inside.blocks < c.self.inside.capacity = omega (arith, used.0, used.1, c.requires.room) in
+    let free : slab_len c.self.inside.blocks < c.self.inside.capacity =
+    omega (arith, used.0, used.1, c.requires.room) in
     let size = len_on on in
     let filled : on.ends.len ≡ 252 * blocks_for on.ends.len = omega (arith, size, c.requires.filled) in
     let any : 0 < on.ends.len = omega (arith, size, c.requires.more) in
@@ -59,7 +62,8 @@ invariant_of-self c =
     c.insert_reserved-key.result (Some b))
     c.of.ensures c.insert_reserved-key.ensures.updates in
     let used = used_on on in
-    let free : slab_len c.self.inside.blocks < c.self.inside.capacity = omega (arith, used.0, used.1, c.requires.room) in
+    let free : slab_len c.self.inside.blocks < c.self.inside.capacity =
+    omega (arith, used.0, used.1, c.requires.room) in
     let size = len_on on in
     let filled : on.ends.len ≡ 252 * blocks_for on.ends.len = omega (arith, size, c.requires.filled) in
     let any : 0 < on.ends.len = omega (arith, size, c.requires.more) in
@@ -77,7 +81,8 @@ returns c =
     c.insert_reserved-key.result (Some b))
     c.of.ensures c.insert_reserved-key.ensures.updates in
     let used = used_on on in
-    let free : slab_len c.self.inside.blocks < c.self.inside.capacity = omega (arith, used.0, used.1, c.requires.room) in
+    let free : slab_len c.self.inside.blocks < c.self.inside.capacity =
+    omega (arith, used.0, used.1, c.requires.room) in
     let size = len_on on in
     let filled : on.ends.len ≡ 252 * blocks_for on.ends.len = omega (arith, size, c.requires.filled) in
     let any : 0 < on.ends.len = omega (arith, size, c.requires.more) in

@@ -16,4 +16,5 @@ loop-self-smaller c =
 
 pub loop-self-preserved : goal.loop-self-preserved
 loop-self-preserved c =
-    Only-then c.args.chain c.args.self.now c.loop-self.self c.remove_first.new.self _ c.loop-self.invariant c.requires c.remove_first.ensures
+    Only-then c.args.chain c.args.self.now c.loop-self.self c.remove_first.new.self _ c.loop-self.invariant c.requires
+    c.remove_first.ensures

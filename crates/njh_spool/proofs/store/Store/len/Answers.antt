@@ -6,12 +6,14 @@ use Rattle.njh_spool.proofs.store.Store.len.Goals as goal
 
 pub returns-clause-bytes : goal.returns-clause-bytes
 returns-clause-bytes c =
-    let on = on_ends c.self.inside c.args.self.now c.args.chain c.index.result.now c.self.invariant c.self.view_is c.requires
+    let on = on_ends c.self.inside c.args.self.now c.args.chain c.index.result.now c.self.invariant c.self.view_is
+    c.requires
     (sym c.index.ensures) in
     sym (len_on on)
 
 pub returns-clause-blocks : goal.returns-clause-blocks
 returns-clause-blocks c =
-    let on = on_ends c.self.inside c.args.self.now c.args.chain c.index.result.now c.self.invariant c.self.view_is c.requires
+    let on = on_ends c.self.inside c.args.self.now c.args.chain c.index.result.now c.self.invariant c.self.view_is
+    c.requires
     (sym c.index.ensures) in
     ap length (keys_on on) ∙ length-keys_from c.self.inside.blocks (blocks_for on.ends.len) on.ends.head

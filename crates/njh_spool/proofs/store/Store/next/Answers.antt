@@ -18,4 +18,5 @@ pub returns-clause-block : goal.returns-clause-block
 returns-clause-block c =
     let on = on_chain c.self.inside c.args.self.now c.args.chain c.self.invariant c.self.view_is c.requires.chain in
     λ later. next_key on
-    c.args.block.index (omega arith) c.key_of-key.result c.key_of-key.ensures c.index.result.now c.index.ensures c.requires.within
+    c.args.block.index (omega arith) c.key_of-key.result c.key_of-key.ensures c.index.result.now c.index.ensures
+    c.requires.within

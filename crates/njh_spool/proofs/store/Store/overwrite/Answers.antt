@@ -7,6 +7,8 @@ pub returns : goal.returns
 returns c =
     let first = c.split_at.result.0.now in
     let second = c.split_at.result.1.now in
-    let both : first ++ second ≡ c.args.bytes = rw (c.split_at.ensures.front, c.split_at.ensures.back) (take-append-drop _ _) in
-    c.put_rest.ensures ∙ with_bytes-two c.args.chain c.args.place first second c.args.bytes c.args.self.now c.put_part.new.self
+    let both : first ++ second ≡ c.args.bytes =
+    rw (c.split_at.ensures.front, c.split_at.ensures.back) (take-append-drop _ _) in
+    c.put_rest.ensures
+    ∙ with_bytes-two c.args.chain c.args.place first second c.args.bytes c.args.self.now c.put_part.new.self
     c.requires.chain c.put_part.ensures both (omega (arith, c.split_at.ensures.front_len, c.split_at.ensures.back_len))

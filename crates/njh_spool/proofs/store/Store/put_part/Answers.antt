@@ -13,7 +13,8 @@ put-requires-clause-block c =
 pub invariant_of-self : goal.invariant_of-self
 invariant_of-self c =
     let on = on_chain c.self.inside c.args.self.now c.args.chain c.self.invariant c.self.view_is c.requires.chain in
-    rw c.put.ensures (overwritten on c.args.block.index c.key_of-key.result (c.args.place - c.args.block.index * 252) c.args.place
+    rw c.put.ensures (overwritten on c.args.block.index c.key_of-key.result (c.args.place - c.args.block.index * 252)
+    c.args.place
     c.args.bytes.now c.key_of-key.ensures (omega arith) (omega arith) c.requires.some c.requires.within)
 
 pub returns : goal.returns

@@ -34,9 +34,11 @@ invariant_of-self c =
           c.args.self.now c.self.view_is,
     ) in
     let gone = c.remove-first.ensures in
-    let moves = moves_rest blocks c.remove-first.new.self chains c.args.chain capacity ends c.self.invariant within is any
+    let moves =
+    moves_rest blocks c.remove-first.new.self chains c.args.chain capacity ends c.self.invariant within is any
     c.remove-first.result gone.value gone.updates gone.len gone.capacity in
-    rw c.saturating_sub.ensures (chained_moved blocks c.remove-first.new.self chains c.args.chain capacity ends _ c.self.invariant
+    rw c.saturating_sub.ensures (chained_moved blocks c.remove-first.new.self chains c.args.chain capacity ends _
+    c.self.invariant
     within is moves (omega (arith, gone.len, c.self.invariant.within)))
 
 pub returns : goal.returns
@@ -48,14 +50,18 @@ returns c =
     let ends = c.index-old.result.now in
     let is = sym c.index-old.ensures in
     let store = c.args.self.now in
-    let any : 0 < ends.len = omega (arith, len_is blocks chains c.args.chain capacity ends c.self.invariant within is store c.self.view_is) in
+    let any : 0 < ends.len =
+    omega (arith, len_is blocks chains c.args.chain capacity ends c.self.invariant within is store c.self.view_is) in
     let gone = c.remove-first.ensures in
-    let moves = moves_rest blocks c.remove-first.new.self chains c.args.chain capacity ends c.self.invariant within is any
+    let moves =
+    moves_rest blocks c.remove-first.new.self chains c.args.chain capacity ends c.self.invariant within is any
     c.remove-first.result gone.value gone.updates gone.len gone.capacity in
-    let chain = chain_rest blocks c.remove-first.new.self chains c.args.chain capacity ends c.self.invariant within is any
+    let chain =
+    chain_rest blocks c.remove-first.new.self chains c.args.chain capacity ends c.self.invariant within is any
     c.remove-first.result gone.value gone.updates gone.len gone.capacity in
     let old = chain_is blocks chains c.args.chain capacity ends c.self.invariant within is store c.self.view_is in
     rw c.saturating_sub.ensures
-    (view_moved blocks c.remove-first.new.self chains c.args.chain capacity ends _ c.self.invariant within is moves store c.self.view_is
+    (view_moved blocks c.remove-first.new.self chains c.args.chain capacity ends _ c.self.invariant within is moves
+    store c.self.view_is
     ∙ ap (λ (x : Chain). with_chain c.args.chain x store)
     (chain ∙ ap (λ (x : Chain). record { keys = drop 1 x.keys; bytes = drop 252 x.bytes }) (sym old)))

@@ -4,7 +4,8 @@ use Rattle.njh_spool.proofs.store.Store.room_in_last.Goals as goal
 
 pub returns : goal.returns
 returns c =
-    let on = on_ends c.self.inside c.args.self.now c.args.chain c.index.result.now c.self.invariant c.self.view_is c.requires
+    let on = on_ends c.self.inside c.args.self.now c.args.chain c.index.result.now c.self.invariant c.self.view_is
+    c.requires
     (sym c.index.ensures) in
     let size = len_on on in
     omega (arith, c.div_ceil.ensures)
