@@ -111,9 +111,10 @@ impl Spool {
         }
         let at = place(customer, id);
         slot.headers = read_headers(&self.store, at, &slot);
+        let number = id.number();
         let own = &mut self.customers[usize::from(customer)];
-        own.partial.remove(id.number());
-        own.whole.push(id.number());
+        own.partial.remove(number);
+        own.whole.push(number);
         own.arrived = own.arrived.saturating_add(1);
         slot.stage = Stage::Whole(State::Ready);
         self.slots.set(customer, id, slot);
@@ -134,8 +135,7 @@ impl Spool {
         }
         let at = place(customer, id);
         let own = &mut self.customers[usize::from(customer)];
-        let left = own.used - blocks_for(self.store.len(at));
-        own.used = left;
+        own.used -= blocks_for(self.store.len(at));
         own.partial.remove(id.number());
         self.store.clear(at);
         self.slots

@@ -93,8 +93,7 @@ impl Spool {
         }
         let at = place(customer, id);
         let own = &mut self.customers[usize::from(customer)];
-        let left = own.used - blocks_for(self.store.len(at));
-        own.used = left;
+        own.used -= blocks_for(self.store.len(at));
         own.whole.remove(id.number());
         self.store.clear(at);
         self.slots

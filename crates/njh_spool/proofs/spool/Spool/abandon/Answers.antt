@@ -45,11 +45,11 @@ own_same c =
     (finds.has here).within c.from.ensures
     c.index_mut-own.ensures.value
 
-pub overflow_sub-left : goal.overflow_sub-left
-overflow_sub-left c =
+pub overflow_sub-own : goal.overflow_sub-own
+overflow_sub-own c =
     let here = call_on c.self.inside c.args.customer c.args.id c.self.invariant (rw c.self.view_is c.requires) in
-    let there = stage_is (goal.at.overflow_sub-left c).After-is_partial ∙ c.if-not-is_partial.false in
-    let own = ap (λ (o : CustomerFiles). o.used) (own_same (goal.at.overflow_sub-left c).After-index_mut-own) in
+    let there = stage_is (goal.at.overflow_sub-own c).After-is_partial ∙ c.if-not-is_partial.false in
+    let own = ap (λ (o : CustomerFiles). o.used) (own_same (goal.at.overflow_sub-own c).After-index_mut-own) in
     let chain = ap (λ (i : ℕ). chain_at i c.self.inside.store) c.place-at.ensures ∙ finds.chain_is here
     (finds.small_partial here there) in
     let size = c.len.ensures.bytes ∙ ap (λ (x : Chain). length x.bytes) chain in

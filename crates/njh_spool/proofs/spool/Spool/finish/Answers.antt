@@ -101,8 +101,8 @@ moved c =
     ∙ ap (λ (x : Chain). kept_headers (slot_at here).kind
     (unpacked_records (slot_at here).count x.bytes)) chain in
     let list = c.remove.ensures ∙ ap (λ (k : ℕ). filter (λ m. not (eqb m k)) c.index_mut-own.result.now.partial)
-    c.number.ensures in
-    let longer = c.push.ensures ∙ ap (λ (k : ℕ). c.index_mut-own.result.now.whole ++ k ∷ []) c.number-2.ensures in
+    c.number-number.ensures in
+    let longer = c.push.ensures ∙ ap (λ (k : ℕ). c.index_mut-own.result.now.whole ++ k ∷ []) c.number-number.ensures in
     let owns =
     ap (λ (xs : List ℕ). record c.index_mut-own.result.now {
       whole = c.push.new.self;
