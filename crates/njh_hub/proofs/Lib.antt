@@ -14,6 +14,7 @@ pub mod RoundLaws
 pub mod OwnWires
 pub mod SetRoutesLaws
 pub mod ServiceLaws
+pub mod ServedLaws
 pub mod OwnRoutes
 pub mod KeepingLaws
 pub mod BreakLaws

@@ -1,7 +1,7 @@
 -- Rounds of turns: one turn more, and one round more.
 use Rattle.std.proofs.Common.{◌≡◌, ℕ, ◌<◌, ◌≤◌, List, [], ◌∷◌, ◌++◌, length, set, get_or, refl, ap, sym, subst, ◌∙◌}
 use Rattle.std.proofs.Common.{⊎_elim, arith, append_assoc, append-nil}
-use Rattle.std.specs.Prelude.{All, ◌⊎◌, None, IsSome}
+use Rattle.std.specs.Prelude.{◌⊎◌, None, IsSome}
 use Rattle.std.specs.List.{flat_map}
 use Rattle.std.proofs.lemmas.Bool.{cases_lt}
 use Rattle.std.proofs.lemmas.Grind.{flat_map-append}
@@ -16,7 +16,6 @@ use Rattle.njh_hub.specs.WholeHub.{Part, HubRun, hub_run}
 use Rattle.njh_hub.specs.Wires.{Pending, Failed, WireAct}
 use Rattle.njh_hub.specs.Turns.{Turn, IsTurn, Placed, HadTurn, HadTurns, HasFault, IsRound, no_line_id, no_turn}
 use Rattle.njh_hub.specs.Turns.{quiet_after, turn_events, round_events, quiets_after, turn_at, placed_acts, placed_stop}
-use Rattle.njh_hub.specs.Turns.{all_events, all_quiets, turns_of}
 use Rattle.njh_hub.proofs.RunningLaws.{counted_from, hub_run-append}
 use Rattle.njh_hub.proofs.TurnLaws.{counted_on}
 
@@ -221,32 +220,6 @@ round_none passed count lines parts quiets wires = record {
 
 -- ---- one round more
 
-pub all_quiets-more : (quiets : List ℕ) (rounds : List (List Turn)) (round : List Turn) →
-    all_quiets quiets (rounds ++ round ∷ []) ≡ quiets_after (all_quiets quiets rounds) round
-all_quiets-more quiets [] round = refl
-all_quiets-more quiets (r ∷ rounds) round = all_quiets-more (quiets_after quiets r) rounds round
-
-pub all_events-more : (lines : List LineId) (quiets : List ℕ) (rounds : List (List Turn)) (round : List Turn) →
-    all_events lines quiets (rounds ++ round ∷ [])
-    ≡ all_events lines quiets rounds ++ round_events lines (all_quiets quiets rounds) round
-all_events-more lines quiets [] round = append-nil (round_events lines quiets round)
-all_events-more lines quiets (r ∷ rounds) round =
-    ap (λ (es : List Event). round_events lines quiets r ++ es) (all_events-more lines (quiets_after quiets r) rounds round)
-    ∙ sym (append_assoc (round_events lines quiets r) (all_events lines (quiets_after quiets r) rounds)
-    (round_events lines (all_quiets (quiets_after quiets r) rounds) round))
-
-pub turns_of-more : (parts : List Part) (lines : List LineId) (quiets : List ℕ) (i : ℕ) (rounds : List (List Turn)) (round : List Turn) →
-    turns_of parts lines quiets i (rounds ++ round ∷ [])
-    ≡ turns_of parts lines quiets i rounds
-    ++ turn_at (hub_run parts (all_events lines quiets rounds)).parts lines (all_quiets quiets rounds) i round ∷ []
-turns_of-more parts lines quiets i [] round = refl
-turns_of-more parts lines quiets i (r ∷ rounds) round =
-    let first = round_events lines quiets r in
-    let quieter = quiets_after quiets r in
-    ap (λ (ps : List Placed). turn_at parts lines quiets i r ∷ ps) (turns_of-more (hub_run parts first).parts lines quieter i rounds round)
-    ∙ ap (λ (ps : List Part). turns_of parts lines quiets i (r ∷ rounds) ++ turn_at ps lines (all_quiets quieter rounds) i round ∷ [])
-    (sym (ap (λ (h : HubRun). h.parts) (hub_run-append parts first (all_events lines quieter rounds))))
-
 pub had_more : {S : Type 0} (passed : S → S → List WireAct → Type 0) (count : S → ℕ) (turns : List Placed) (p : Placed) (a b c : S) →
     ((a b c : S) (xs ys : List WireAct) → passed a b xs → passed b c ys → passed a c (xs ++ ys)) →
     HadTurns passed count turns a b → HadTurn passed count p b c → HadTurns passed count (turns ++ p ∷ []) a c
@@ -261,57 +234,4 @@ had_more {S} passed count turns p a b c more h t =
       counted = All-push (λ q. HasFault q.turn → IsCounted (count a) (count c)) turns p
           (λ k d within fault. counted_on (count a) (count b) (count c) h.counts t.counts (h.counted k d within fault))
           (λ fault. counted_from (count a) (count b) (count c) h.counts (t.counted fault));
-    }
-
--- So many rounds are over.
-pub record AreOver {S : Type 0} (passed : S → S → List WireAct → Type 0) (count : S → ℕ) (lines : List LineId) (parts : List Part)
-    (quiets : List ℕ) (wires : List S) (rounds : List (List Turn)) (now : List Part) (now_quiets : List ℕ) (now_wires : List S) :
-    Type 0 where
-  pub each : All (λ round. length round ≡ length lines) rounds
-  pub hub : now ≡ (hub_run parts (all_events lines quiets rounds)).parts
-  pub calm : now_quiets ≡ all_quiets quiets rounds
-  pub had : (i : ℕ) (d : S) → i < length lines →
-      HadTurns passed count (turns_of parts lines quiets i rounds) (get_or wires i d) (get_or now_wires i d)
-
-pub over_none : {S : Type 0} (passed : S → S → List WireAct → Type 0) (count : S → ℕ) (lines : List LineId) (parts : List Part)
-    (quiets : List ℕ) (wires : List S) → ((s : S) → passed s s []) → AreOver passed count lines parts quiets wires [] parts quiets wires
-over_none passed count lines parts quiets wires none = record {
-  each = λ k d never. absurd (omega (arith, never));
-  hub = refl;
-  calm = refl;
-  had = λ i d within. record {
-    acts = none (get_or wires i d);
-    stops = λ k e never. absurd (omega (arith, never));
-    counts = omega arith;
-    counted = λ k e never. absurd (omega (arith, never));
-  };
-}
-
-pub over_more : {S : Type 0} (passed : S → S → List WireAct → Type 0) (count : S → ℕ) (lines : List LineId) (parts : List Part)
-    (quiets : List ℕ) (wires : List S) (rounds : List (List Turn)) (now : List Part) (now_quiets : List ℕ) (now_wires : List S)
-    (round : List Turn) (new : List Part) (new_quiets : List ℕ) (new_wires : List S) →
-    ((a b c : S) (xs ys : List WireAct) → passed a b xs → passed b c ys → passed a c (xs ++ ys)) →
-    AreOver passed count lines parts quiets wires rounds now now_quiets now_wires → length round ≡ length lines →
-    IsRound passed count lines now now_quiets now_wires round new new_quiets new_wires →
-    AreOver passed count lines parts quiets wires (rounds ++ round ∷ []) new new_quiets new_wires
-over_more {S} passed count lines parts quiets wires rounds now now_quiets now_wires round new new_quiets new_wires more h whole r =
-    let before = all_events lines quiets rounds in
-    let quieter = all_quiets quiets rounds in
-    record {
-      each = All-push (λ round. length round ≡ length lines) rounds round h.each whole;
-      hub = r.hub ∙ ap (λ (ps : List Part). (hub_run ps (round_events lines now_quiets round)).parts) h.hub
-          ∙ ap (λ (qs : List ℕ). (hub_run (hub_run parts before).parts (round_events lines qs round)).parts) h.calm
-          ∙ sym (ap (λ (x : HubRun). x.parts) (hub_run-append parts before (round_events lines quieter round)))
-          ∙ sym (ap (λ (es : List Event). (hub_run parts es).parts) (all_events-more lines quiets rounds round));
-      calm = r.calm ∙ ap (λ (qs : List ℕ). quiets_after qs round) h.calm ∙ sym (all_quiets-more quiets rounds round);
-      had = λ i d within.
-          let P : Placed → Type 0 = λ p. HadTurn passed count p (get_or now_wires i d) (get_or new_wires i d) in
-          let place : turn_at now lines now_quiets i round ≡ turn_at (hub_run parts before).parts lines quieter i round =
-          ap (λ (ps : List Part). turn_at ps lines now_quiets i round) h.hub
-          ∙ ap (λ (qs : List ℕ). turn_at (hub_run parts before).parts lines qs i round) h.calm in
-          let Q : List Placed → Type 0 = λ ps. HadTurns passed count ps (get_or wires i d) (get_or new_wires i d) in
-          subst Q (sym (turns_of-more parts lines quiets i rounds round))
-          (had_more passed count (turns_of parts lines quiets i rounds) (turn_at (hub_run parts before).parts lines quieter i round)
-          (get_or wires i d) (get_or now_wires i d) (get_or new_wires i d) more (h.had i d within)
-          (subst P place (r.had i d (omega (arith, whole, within)))));
     }

@@ -134,18 +134,18 @@ pub record RoutesBreak {K : Type 0} (may_leave : K → List (List KeptFile) → 
   pub hub : new ≡ (hub_run parts (Routes given.0 given.1 ∷ [])).parts
   pub left : LeavesEither may_leave new_keeper parts new
 
--- A service of fewer rounds than there were to be. Then the keeper failed: where a customer was given routes, and
--- nothing passed on any wire after that; or in a round.
+-- A service of fewer rounds than there were to be. Then the keeper failed: where a customer was given routes that the
+-- attendant brought, and nothing passed on any wire after that; or in a round.
 pub record ServiceBreaks {S K : Type 0} (passed : S → S → List WireAct → Type 0) (count : S → ℕ)
-    (withheld : S → S → Type 0) (may_leave : K → List (List KeptFile) → Type 0) (lines : List LineId) (turns : ℕ)
-    (parts : List Part) (quiets : List ℕ) (wires : List S) (new : List Part) (new_wires : List S)
-    (new_keeper : K) : Type 0 where
+    (withheld : S → S → Type 0) (may_leave : K → List (List KeptFile) → Type 0) (brings : Type 0)
+    (lines : List LineId) (turns : ℕ) (parts : List Part) (quiets : List ℕ) (wires : List S) (new : List Part)
+    (new_wires : List S) (new_keeper : K) : Type 0 where
   pub rounds : ℕ
   pub fewer : rounds < turns
   pub mid : List Part
   pub mid_quiets : List ℕ
   pub mid_wires : List S
-  pub before : IsAttended passed count lines rounds parts quiets wires mid mid_quiets mid_wires
-  pub breaks : ((given : ℕ × List GivenRoute) × RoutesBreak may_leave mid given new new_keeper
+  pub before : IsAttended passed count brings lines rounds parts quiets wires mid mid_quiets mid_wires
+  pub breaks : (brings × (given : ℕ × List GivenRoute) × RoutesBreak may_leave mid given new new_keeper
       × (new_wires ≡ mid_wires))
       ⊎ RoundBreaks passed count withheld may_leave lines mid mid_quiets mid_wires new new_wires new_keeper

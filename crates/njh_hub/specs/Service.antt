@@ -43,6 +43,11 @@ abbrev pub IsPossible : List Part → Happening → Type 0
 IsPossible parts (Round turns) = ⊤
 IsPossible parts (NewRoutes c routes) = IsNamed parts (Routes c routes)
 
+-- new routes come only where somebody may bring some
+abbrev pub IsBrought : Type 0 → Happening → Type 0
+IsBrought brings (Round turns) = ⊤
+IsBrought brings (NewRoutes c routes) = brings
+
 -- ---- a story: what happens, one after the other
 
 abbrev pub service_events : List LineId → List ℕ → List Happening → List Event
@@ -73,15 +78,15 @@ ArePossible parts lines quiets (happening ∷ story) = IsPossible parts happenin
     (happening_quiets quiets happening) story
 
 -- A service of so many rounds: each wire had one turn in each, in their order, and nothing else passed on it; the hub
--- was told of these turns, of new routes that it could give, and of nothing else.
-pub record IsAttended {S : Type 0} (passed : S → S → List WireAct → Type 0) (count : S → ℕ) (lines : List LineId)
-    (turns : ℕ)
-    (parts : List Part) (quiets : List ℕ) (wires : List S) (new : List Part) (new_quiets : List ℕ)
-    (new_wires : List S) : Type 0 where
+-- was told of these turns, of new routes that it could give and that the attendant may bring, and of nothing else.
+pub record IsAttended {S : Type 0} (passed : S → S → List WireAct → Type 0) (count : S → ℕ) (brings : Type 0)
+    (lines : List LineId) (turns : ℕ) (parts : List Part) (quiets : List ℕ) (wires : List S) (new : List Part)
+    (new_quiets : List ℕ) (new_wires : List S) : Type 0 where
   pub story : List Happening
   pub many : length (service_rounds story) ≡ turns
   pub each : All (λ round. length round ≡ length lines) (service_rounds story)
   pub possible : ArePossible parts lines quiets story
+  pub brought : All (IsBrought brings) story
   pub hub : new ≡ (hub_run parts (service_events lines quiets story)).parts
   pub calm : new_quiets ≡ service_quiets quiets story
   pub had : (i : ℕ) (d : S) → i < length lines →

@@ -1,5 +1,6 @@
 //! Who stands beside the rounds of a service.
 
+ghost use Rattle.std.specs.Prelude.{IsSome};
 ghost use Rattle.njh_hub.specs.Service.{AreStill};
 
 use crate::fault::HubFault;
@@ -19,12 +20,18 @@ pub struct NewRoutes {
 /// Sees to the wires before and after each round of a service, says which of them are visited in it, and brings new
 /// routes. Nothing is read or written by it: it may let out what was written. The hub is told of the routes alone.
 pub trait Attendant<W: Wire> {
+    ghost use Rattle.std.specs.Prelude.{⊤};
+
+    /// It may bring new routes. One that says nothing of it may.
+    ghost brings: { Type 0 } = { ⊤ };
+
     /// Comes before each round, as the wait for what the wires have.
     fn before(&mut self, wires: &mut [W])
         ensures { AreStill W.passed W.count wires.old wires.new };
 
     /// New routes, where a customer is to have some. It is asked once before each round.
-    fn new_routes(&mut self) -> Option<NewRoutes>;
+    fn new_routes(&mut self) -> Option<NewRoutes>
+        ensures brought { IsSome result → brings };
 
     /// What came of the routes that it brought: those of `Hub::set_routes`.
     fn routes_given(&mut self, customer: u16, answer: Result<(), HubFault>);

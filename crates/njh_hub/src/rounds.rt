@@ -1,9 +1,9 @@
 //! Rounds of turns: each wire of some lines has one in each.
 
-ghost use Rattle.std.specs.Prelude.{◌≡◌, ◌<◌, List, length, All, IfOk, OnOk, OnErr, Err};
-ghost use Rattle.njh_hub.specs.Breaks.{AreWithheld, RoundBreaks, RoundStops};
+ghost use Rattle.std.specs.Prelude.{◌≡◌, ◌<◌, List, length, slice_index_or, slice_set, All, IfOk, OnOk, OnErr, Err};
+ghost use Rattle.njh_hub.specs.Breaks.{AreWithheld, BrokenTurn, RoundBreaks, RoundStops, TurnBreaks};
 ghost use Rattle.njh_hub.specs.Keeping.{Follows, IsSettled, Keeps};
-ghost use Rattle.njh_hub.specs.Turns.{Turn, IsRound, no_quiets};
+ghost use Rattle.njh_hub.specs.Turns.{Turn, IsRound, IsTurn, no_line_id, no_quiets, quiet_after};
 ghost use Rattle.njh_hub.specs.WholeHub.{HasLine, SameLines};
 
 use crate::attendant::Attendant;
@@ -58,36 +58,8 @@ impl Rounds {
     }
 
     /// One turn of each wire, in the order of the lines, and then what the turns made of the files is kept; up to a
-    /// fault of the keeper. No byte goes out. Takes no memory.
-    pub fn take<W: Wire, K: Keeper>(
-        &mut self,
-        hub: &mut Hub,
-        keeper: &mut K,
-        wires: &mut [W],
-    ) -> Result<(), KeepFault>
-        requires same { length wires.old ≡ length self.old.lines }
-        requires known { All (HasLine hub.old) self.old.lines }
-        requires settled { IsSettled K.may_leave K.knows keeper.old hub.old }
-        ensures round { OnOk result ((round : List Turn) × (length round ≡ length self.old.lines) ×
-            IsRound W.passed W.count self.old.lines hub.old self.old.quiets wires.old round
-            hub.new self.new.quiets wires.new) }
-        ensures breaks { OnErr result (RoundBreaks W.passed W.count W.withheld K.may_leave self.old.lines hub.old
-            self.old.quiets wires.old hub.new wires.new keeper.new) }
-        ensures keeps { Keeps K.may_leave K.knows K.count keeper.old result hub.new keeper.new }
-        ensures same { self.new.lines ≡ self.old.lines }
-        ensures lines { SameLines hub.old hub.new }
-    {
-        keep_round(
-            hub,
-            keeper,
-            wires,
-            &self.lines,
-            &mut self.quiets,
-            &mut self.room,
-        )
-    }
-
-    /// The same, where only those wires are visited that are due. Any other has the turn of an answer `Pending`.
+    /// fault of the keeper. Only those wires are visited that are due: any other has the turn of an answer `Pending`.
+    /// No byte goes out. Takes no memory.
     pub fn take_due<W: Wire, K: Keeper, A: Attendant<W>>(
         &mut self,
         hub: &mut Hub,
@@ -107,151 +79,75 @@ impl Rounds {
         ensures same { self.new.lines ≡ self.old.lines }
         ensures lines { SameLines hub.old hub.new }
     {
-        let due = Due {
-            lines: &self.lines,
-            attendant,
-        };
-        keep_due(hub, keeper, wires, due, &mut self.quiets, &mut self.room)
-    }
-}
-
-/// Lines, and who says which of their wires are visited.
-struct Due<'a, A> {
-    lines: &'a [LineId],
-    attendant: &'a A,
-}
-
-// It is lent, so an attendant that isn't `Drop` does as well.
-impl<'a, A> Drop for Due<'a, A> {
-    fn drop(self) {
-        let Due {
-            lines: _,
-            attendant: _,
-        } = self;
-    }
-}
-
-/// One turn of each wire, in their order, and then what the turns made of the files is kept.
-fn keep_round<W: Wire, K: Keeper>(
-    hub: &mut Hub,
-    keeper: &mut K,
-    wires: &mut [W],
-    lines: &[LineId],
-    quiets: &mut [u8],
-    room: &mut TurnRoom,
-) -> Result<(), KeepFault>
-    requires same { length wires.old ≡ length lines.now }
-    requires counts { length quiets.old ≡ length lines.now }
-    requires known { All (HasLine hub.old) lines.now }
-    requires settled { IsSettled K.may_leave K.knows keeper.old hub.old }
-    requires few { All (λ quiet. quiet < 10) quiets.old }
-    ensures round { OnOk result ((round : List Turn) × (length round ≡ length lines.now) ×
-        IsRound W.passed W.count lines.now hub.old quiets.old wires.old round hub.new quiets.new wires.new) }
-    ensures breaks { OnErr result (RoundBreaks W.passed W.count W.withheld K.may_leave lines.now hub.old quiets.old
-        wires.old hub.new wires.new keeper.new) }
-    ensures keeps { Keeps K.may_leave K.knows K.count keeper.old result hub.new keeper.new }
-    ensures few { All (λ quiet. quiet < 10) quiets.new }
-    ensures lines { SameLines hub.old hub.new }
-{
-    match serve_round(hub, keeper, wires, lines, quiets, room) {
-        Ok(()) => {}
-        Err(fault) => return Err(fault),
-    }
-    keeper.settle()
-}
-
-/// One turn of each wire that is due, in their order, and then what the turns made of the files is kept.
-fn keep_due<W: Wire, K: Keeper, A: Attendant<W>>(
-    hub: &mut Hub,
-    keeper: &mut K,
-    wires: &mut [W],
-    due: Due<'_, A>,
-    quiets: &mut [u8],
-    room: &mut TurnRoom,
-) -> Result<(), KeepFault>
-    requires same { length wires.old ≡ length due.lines.now }
-    requires counts { length quiets.old ≡ length due.lines.now }
-    requires known { All (HasLine hub.old) due.lines.now }
-    requires settled { IsSettled K.may_leave K.knows keeper.old hub.old }
-    requires few { All (λ quiet. quiet < 10) quiets.old }
-    ensures round { OnOk result ((round : List Turn) × (length round ≡ length due.entry.lines.now) ×
-        IsRound W.passed W.count due.entry.lines.now hub.old quiets.old wires.old round hub.new quiets.new wires.new) }
-    ensures breaks { OnErr result (RoundBreaks W.passed W.count W.withheld K.may_leave due.entry.lines.now hub.old quiets.old
-        wires.old hub.new wires.new keeper.new) }
-    ensures keeps { Keeps K.may_leave K.knows K.count keeper.old result hub.new keeper.new }
-    ensures few { All (λ quiet. quiet < 10) quiets.new }
-    ensures lines { SameLines hub.old hub.new }
-{
-    match serve_due(hub, keeper, wires, due, quiets, room) {
-        Ok(()) => {}
-        Err(fault) => return Err(fault),
-    }
-    keeper.settle()
-}
-
-/// One turn of each wire, in their order.
-fn serve_round<W: Wire, K: Keeper>(
-    hub: &mut Hub,
-    keeper: &mut K,
-    wires: &mut [W],
-    lines: &[LineId],
-    quiets: &mut [u8],
-    room: &mut TurnRoom,
-) -> Result<(), KeepFault>
-    requires same { length wires.old ≡ length lines.now }
-    requires counts { length quiets.old ≡ length lines.now }
-    requires known { All (HasLine hub.old) lines.now }
-    requires follows { K.knows keeper.old hub.old }
-    requires few { All (λ quiet. quiet < 10) quiets.old }
-    ensures round { OnOk result ((round : List Turn) × (length round ≡ length lines.now) ×
-        IsRound W.passed W.count lines.now hub.old quiets.old wires.old round hub.new quiets.new wires.new) }
-    ensures stops { OnErr result (RoundStops W.passed W.count lines.now hub.old quiets.old wires.old hub.new
-        wires.new) }
-    ensures follows { Follows K.may_leave K.knows K.count keeper.old result hub.new keeper.new }
-    ensures withheld { AreWithheld W.withheld wires.old wires.new }
-    ensures few { All (λ quiet. quiet < 10) quiets.new }
-    ensures lines { SameLines hub.old hub.new }
-{
-    for i in 0..lines.len() {
-        match wire_turn(hub, keeper, lines[i], &mut wires[i], quiets[i], room) {
-            Ok(quiet) => quiets[i] = quiet,
+        match self.visit(hub, keeper, wires, attendant) {
+            Ok(()) => {}
             Err(fault) => return Err(fault),
         }
+        keeper.settle()
     }
-    Ok(())
-}
 
-/// One turn of each wire, in their order, where only those are visited that are due.
-fn serve_due<W: Wire, K: Keeper, A: Attendant<W>>(
-    hub: &mut Hub,
-    keeper: &mut K,
-    wires: &mut [W],
-    due: Due<'_, A>,
-    quiets: &mut [u8],
-    room: &mut TurnRoom,
-) -> Result<(), KeepFault>
-    requires same { length wires.old ≡ length due.lines.now }
-    requires counts { length quiets.old ≡ length due.lines.now }
-    requires known { All (HasLine hub.old) due.lines.now }
-    requires follows { K.knows keeper.old hub.old }
-    requires few { All (λ quiet. quiet < 10) quiets.old }
-    ensures round { OnOk result ((round : List Turn) × (length round ≡ length due.entry.lines.now) ×
-        IsRound W.passed W.count due.entry.lines.now hub.old quiets.old wires.old round hub.new quiets.new wires.new) }
-    ensures stops { OnErr result (RoundStops W.passed W.count due.entry.lines.now hub.old quiets.old wires.old hub.new
-        wires.new) }
-    ensures follows { Follows K.may_leave K.knows K.count keeper.old result hub.new keeper.new }
-    ensures withheld { AreWithheld W.withheld wires.old wires.new }
-    ensures few { All (λ quiet. quiet < 10) quiets.new }
-    ensures lines { SameLines hub.old hub.new }
-{
-    for i in 0..due.lines.len() {
-        if !due.attendant.is_due(i) {
-            continue;
+    /// One turn of each wire that is due, in the order of the lines.
+    fn visit<W: Wire, K: Keeper, A: Attendant<W>>(
+        &mut self,
+        hub: &mut Hub,
+        keeper: &mut K,
+        wires: &mut [W],
+        attendant: &A,
+    ) -> Result<(), KeepFault>
+        requires same { length wires.old ≡ length self.old.lines }
+        requires known { All (HasLine hub.old) self.old.lines }
+        requires follows { K.knows keeper.old hub.old }
+        ensures round { OnOk result ((round : List Turn) × (length round ≡ length self.old.lines) ×
+            IsRound W.passed W.count self.old.lines hub.old self.old.quiets wires.old round
+            hub.new self.new.quiets wires.new) }
+        ensures stops { OnErr result (RoundStops W.passed W.count self.old.lines hub.old self.old.quiets wires.old
+            hub.new wires.new) }
+        ensures follows { Follows K.may_leave K.knows K.count keeper.old result hub.new keeper.new }
+        ensures withheld { AreWithheld W.withheld wires.old wires.new }
+        ensures same { self.new.lines ≡ self.old.lines }
+        ensures lines { SameLines hub.old hub.new }
+    {
+        for i in 0..self.lines.len() {
+            if !attendant.is_due(i) {
+                continue;
+            }
+            match self.take_turn(i, hub, keeper, &mut wires[i]) {
+                Ok(()) => {}
+                Err(fault) => return Err(fault),
+            }
         }
-        match wire_turn(hub, keeper, due.lines[i], &mut wires[i], quiets[i], room) {
-            Ok(quiet) => quiets[i] = quiet,
+        Ok(())
+    }
+
+    /// The turn of the wire of the line at this place.
+    fn take_turn<W: Wire, K: Keeper>(
+        &mut self,
+        place: usize,
+        hub: &mut Hub,
+        keeper: &mut K,
+        wire: &mut W,
+    ) -> Result<(), KeepFault>
+        requires within { place < length self.old.lines }
+        requires known { HasLine hub.old (slice_index_or self.old.lines place no_line_id) }
+        requires follows { K.knows keeper.old hub.old }
+        ensures turn { OnOk result ((turn : Turn)
+            × IsTurn W.passed W.count hub.old (slice_index_or self.old.lines place no_line_id)
+            (slice_index_or self.old.quiets place 0) turn wire.old hub.new wire.new
+            × (self.new.quiets ≡ slice_set self.old.quiets place
+            (quiet_after (slice_index_or self.old.quiets place 0) turn.heard))) }
+        ensures breaks { OnErr result ((turn : BrokenTurn)
+            × TurnBreaks W.passed W.count hub.old (slice_index_or self.old.lines place no_line_id)
+            (slice_index_or self.old.quiets place 0) turn wire.old hub.new wire.new) }
+        ensures follows { Follows K.may_leave K.knows K.count keeper.old result hub.new keeper.new }
+        ensures withheld { W.withheld wire.old wire.new }
+        ensures same { self.new.lines ≡ self.old.lines }
+        ensures lines { SameLines hub.old hub.new }
+    {
+        let (line, quiet) = (self.lines[place], self.quiets[place]);
+        match wire_turn(hub, keeper, line, wire, quiet, &mut self.room) {
+            Ok(quiets) => self.quiets[place] = quiets,
             Err(fault) => return Err(fault),
         }
+        Ok(())
     }
-    Ok(())
 }

@@ -1,16 +1,18 @@
 //! Turns of all wires of a hub.
 
-ghost use Rattle.std.specs.Prelude.{◌≡◌, ◌≢◌, length, OnOk, OnErr, IfErr, Err, All};
+ghost use Rattle.std.specs.Prelude.{◌≡◌, ◌≢◌, length, OnOk, IfErr, Err, All};
 ghost use Rattle.njh_hub.specs.Breaks.{TurnsBreak};
-ghost use Rattle.njh_hub.specs.Keeping.{IsSettled, Keeps};
+ghost use Rattle.njh_hub.specs.Keeping.{IsSettled};
 ghost use Rattle.njh_hub.specs.Sent.{IsCounted};
-ghost use Rattle.njh_hub.specs.Turns.{IsServed, no_quiets};
+ghost use Rattle.njh_hub.specs.Turns.{IsServed};
 ghost use Rattle.njh_hub.specs.WholeHub.{HasLine, SameLines};
 
-use crate::fault::TurnsFault;
+use crate::attendant::{Attendant, NewRoutes};
+use crate::fault::{HubFault, TurnsFault};
 use crate::hub::Hub;
-use crate::keeper::{KeepFault, Keeper};
+use crate::keeper::Keeper;
 use crate::rounds::Rounds;
+use crate::service::attend;
 use crate::wire::Wire;
 use njh_table::LineId;
 use std::alloc::Global;
@@ -39,43 +41,38 @@ pub fn serve_turns<W: Wire, K: Keeper>(
     ensures memory { result ≡ Err TurnsFault.Memory → (hub.new ≡ hub.old) × (wires.new ≡ wires.old)
         × (keeper.new ≡ keeper.old) }
     ensures breaks { IfErr result (λ fault. fault ≢ TurnsFault.Memory → IsCounted (K.count keeper.old)
-        (K.count keeper.new) × TurnsBreak W.passed W.count W.withheld K.may_leave lines.now turns hub.old wires.old hub.new
-        wires.new keeper.new) }
+        (K.count keeper.new) × TurnsBreak W.passed W.count W.withheld K.may_leave lines.now turns hub.old wires.old
+        hub.new wires.new keeper.new) }
 {
     let mut rounds = match Rounds::new(alloc, lines) {
         Ok(rounds) => rounds,
         Err(_) => return Err(TurnsFault::Memory),
     };
-    match serve_rounds(hub, keeper, wires, turns, &mut rounds) {
+    let turns = u64::from(turns);
+    match attend(hub, keeper, wires, &mut rounds, &mut EveryWire, turns) {
         Ok(()) => Ok(()),
         Err(fault) => Err(TurnsFault::Keeper(fault)),
     }
 }
 
-/// So many rounds, the first of which finds no quiets.
-fn serve_rounds<W: Wire, K: Keeper>(
-    hub: &mut Hub,
-    keeper: &mut K,
-    wires: &mut [W],
-    turns: u32,
-    rounds: &mut Rounds,
-) -> Result<(), KeepFault>
-    requires same { length wires.old ≡ length rounds.old.lines }
-    requires known { All (HasLine hub.old) rounds.old.lines }
-    requires settled { IsSettled K.may_leave K.knows keeper.old hub.old }
-    requires calm { rounds.old.quiets ≡ no_quiets rounds.old.lines }
-    ensures served { OnOk result (IsServed W.passed W.count rounds.old.lines turns hub.old wires.old hub.new
-        wires.new) }
-    ensures breaks { OnErr result (TurnsBreak W.passed W.count W.withheld K.may_leave rounds.old.lines turns hub.old wires.old
-        hub.new wires.new keeper.new) }
-    ensures keeps { Keeps K.may_leave K.knows K.count keeper.old result hub.new keeper.new }
-    ensures lines { SameLines hub.old hub.new }
-{
-    for turn in 0..turns {
-        match rounds.take(hub, keeper, wires) {
-            Ok(()) => {}
-            Err(fault) => return Err(fault),
-        }
+/// Calls every wire due, brings no routes and does nothing else.
+#[derive(Drop)]
+struct EveryWire;
+
+impl<W: Wire> Attendant<W> for EveryWire {
+    ghost brings = { ⊥ };
+
+    fn before(&mut self, _wires: &mut [W]) {}
+
+    fn new_routes(&mut self) -> Option<NewRoutes> {
+        None
     }
-    Ok(())
+
+    fn routes_given(&mut self, _customer: u16, _answer: Result<(), HubFault>) {}
+
+    fn is_due(&self, _place: usize) -> bool {
+        true
+    }
+
+    fn after(&mut self, _hub: &Hub, _wires: &mut [W]) {}
 }

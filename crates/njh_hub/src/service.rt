@@ -1,6 +1,6 @@
 //! A service: rounds of turns, with an attendant between them.
 
-ghost use Rattle.std.specs.Prelude.{◌≡◌, ◌<◌, ℕ, List, length, Option, OnOk, OnErr, All};
+ghost use Rattle.std.specs.Prelude.{◌≡◌, ◌<◌, ℕ, List, length, Option, IsSome, OnOk, OnErr, All};
 ghost use Rattle.njh_table.specs.declared.new_routes.GivenRoute.{GivenRoute};
 ghost use Rattle.njh_hub.specs.Breaks.{RoutesBreak, ServiceBreaks};
 ghost use Rattle.njh_hub.specs.Keeping.{IsSettled, Keeps};
@@ -30,10 +30,10 @@ pub fn attend<W: Wire, K: Keeper, A: Attendant<W>>(
     requires same { length wires.old ≡ length rounds.old.lines }
     requires known { All (HasLine hub.old) rounds.old.lines }
     requires settled { IsSettled K.may_leave K.knows keeper.old hub.old }
-    ensures attended { OnOk result (IsAttended W.passed W.count rounds.old.lines turns hub.old rounds.old.quiets
-        wires.old hub.new rounds.new.quiets wires.new) }
-    ensures breaks { OnErr result (ServiceBreaks W.passed W.count W.withheld K.may_leave rounds.old.lines turns hub.old
-        rounds.old.quiets wires.old hub.new wires.new keeper.new) }
+    ensures attended { OnOk result (IsAttended W.passed W.count A.brings rounds.old.lines turns hub.old
+        rounds.old.quiets wires.old hub.new rounds.new.quiets wires.new) }
+    ensures breaks { OnErr result (ServiceBreaks W.passed W.count W.withheld K.may_leave A.brings rounds.old.lines turns
+        hub.old rounds.old.quiets wires.old hub.new wires.new keeper.new) }
     ensures keeps { Keeps K.may_leave K.knows K.count keeper.old result hub.new keeper.new }
     ensures same { rounds.new.lines ≡ rounds.old.lines }
     ensures lines { SameLines hub.old hub.new }
@@ -60,8 +60,9 @@ fn give_routes<W: Wire, K: Keeper, A: Attendant<W>>(
     attendant: &mut A,
 ) -> Result<(), KeepFault>
     requires settled { IsSettled K.may_leave K.knows keeper.old hub.old }
-    ensures given { OnOk result ((given : Option (ℕ × List GivenRoute)) × IsGiven hub.old given hub.new) }
-    ensures breaks { OnErr result ((given : ℕ × List GivenRoute)
+    ensures given { OnOk result ((given : Option (ℕ × List GivenRoute)) × IsGiven hub.old given hub.new
+        × (IsSome given → A.brings)) }
+    ensures breaks { OnErr result (A.brings × (given : ℕ × List GivenRoute)
         × RoutesBreak K.may_leave hub.old given hub.new keeper.new) }
     ensures keeps { Keeps K.may_leave K.knows K.count keeper.old result hub.new keeper.new }
     ensures lines { SameLines hub.old hub.new }

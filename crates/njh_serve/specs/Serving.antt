@@ -27,17 +27,18 @@ turn_count (Some turns) = turns
 
 -- So many turns of the lines were taken, each line on its own wire, and the hub was told of these, of new routes and of
 -- nothing else.
-pub record HasServed {W : Type 0} (passed : W → W → List WireAct → Type 0) (count : W → ℕ) (turns : ℕ)
-    (old new : Served W) : Type 0 where
-  pub attended : IsAttended passed count old.lines turns old.hub old.quiets old.wires new.hub new.quiets new.wires
+pub record HasServed {W : Type 0} (passed : W → W → List WireAct → Type 0) (count : W → ℕ) (brings : Type 0)
+    (turns : ℕ) (old new : Served W) : Type 0 where
+  pub attended : IsAttended passed count brings old.lines turns old.hub old.quiets old.wires new.hub new.quiets
+      new.wires
   pub lines : new.lines ≡ old.lines
 
 -- Such a service that the keeper's fault broke off.
 pub record IsBrokenOff {W K : Type 0} (passed : W → W → List WireAct → Type 0) (count : W → ℕ)
-    (withheld : W → W → Type 0) (may_leave : K → List (List KeptFile) → Type 0) (turns : ℕ) (old new : Served W)
-    (new_keeper : K) : Type 0 where
-  pub breaks : ServiceBreaks passed count withheld may_leave old.lines turns old.hub old.quiets old.wires new.hub
-      new.wires new_keeper
+    (withheld : W → W → Type 0) (may_leave : K → List (List KeptFile) → Type 0) (brings : Type 0) (turns : ℕ)
+    (old new : Served W) (new_keeper : K) : Type 0 where
+  pub breaks : ServiceBreaks passed count withheld may_leave brings old.lines turns old.hub old.quiets old.wires
+      new.hub new.wires new_keeper
   pub lines : new.lines ≡ old.lines
 
 -- A service that was just opened: a hub that was opened so, and these lines of it, no two on one port.

@@ -9,7 +9,8 @@ use Rattle.njh_hub.proofs.service.attend.Given as goal
 abbrev pub invariant-loop-turn : goal.invariant-loop-turn
 invariant-loop-turn g l = record {
   story : (story : List Happening) × (length (service_rounds story) ≡ l.turn) ×
-      IsAt g.W.Wire.passed g.W.Wire.count l.fn.rounds.lines l.fn.hub l.fn.rounds.quiets l.fn.wires story l.hub l.rounds.quiets l.wires;
+      IsAt g.W.Wire.passed g.W.Wire.count g.A.Attendant.brings l.fn.rounds.lines l.fn.hub l.fn.rounds.quiets l.fn.wires
+      story l.hub l.rounds.quiets l.wires;
   lines : l.rounds.lines ≡ l.fn.rounds.lines;
   same : SameLines l.fn.hub l.hub;
   settled : IsSettled g.K.Keeper.may_leave g.K.Keeper.knows l.keeper l.hub;
