@@ -63,7 +63,8 @@ pub fn sessions_begin_afresh()
         → ((table_outcome line input s).session.tries ≡ 0) × ((table_outcome line input s).session.last_bcb ≡ None) }
 {}
 
-/// A line that is up stays so until its session ends, and then it isn't.
+/// A line that is up stays so until its session ends, and then it isn't. Records act, and the next
+/// block goes, only on a line that is up then.
 pub fn inputs_keep_up()
     ensures { InputsKeepUp }
 {}
