@@ -6,7 +6,8 @@ use Words.{customer_marked, entry_marked, with_mark, NamedCustomer, TableFile, H
 use Words.{no_customer, LineId, is_up, Input, after_input, after_record, acted_where, all_acted, ended_or, ends_session}
 use Words.{CustomerStep, accepted_on, behind_records, after_block, block_input, carried_out, goes_up_by}
 use Words.{after_line_input, with_raised_line, verdict_on, Customer, CustomerLine, customer_with, in_state, line_at}
-use Words.{no_customer_line, on_line, Brings, Leads, SendsStep, MakesStep, IsReady, IsThere, KeepsOtherEntries}
+use Words.{no_customer_line, on_line, ChangesMarks, ChangesFiles, StepSends, LeavesReady}
+use Words.{IsReady, IsThere, KeepsOtherEntries}
 use Words.{customer_of, with_customer, IsCoherent, Shared}
 use Rattle.std.proofs.Common.{◌≡◌, ◌<◌, ◌&&◌, ◌∷◌, ◌∙◌}
 use Rattle.njh_block.specs.Blocks.{Block}
@@ -63,18 +64,18 @@ retold_marked tables new id up there is = subst (KeepsOtherEntries id.customer t
     (retold_by tables id.customer (customer_marked id.number up (customer_at tables id.customer)) there)
 
 -- a step that leaves the tables
-pub as_brings : (c : ℕ) (old new : Shared) (lines : List CustomerLine) (after : Customer) → Leads c old new lines after
-    → Brings c old new lines after
-as_brings c old new lines after leads = record {
+pub also_marks : (c : ℕ) (old new : Shared) (lines : List CustomerLine) (after : Customer)
+    → ChangesFiles c old new lines after → ChangesMarks c old new lines after
+also_marks c old new lines after leads = record {
   customer = leads.customer;
   others = leads.others;
   entries = subst (KeepsOtherEntries c old.tables) (sym leads.tables) (retold_same old.tables c);
 }
 
-pub next_brought : (id : LineId) (old new : Shared) (lines_old lines_new : List CustomerLine) (after : Customer)
-    → IsReady id old lines_old → Brings id.customer old new lines_new after
+pub next_marked : (id : LineId) (old new : Shared) (lines_old lines_new : List CustomerLine) (after : Customer)
+    → IsReady id old lines_old → ChangesMarks id.customer old new lines_new after
     → Stays after (customer_of id.customer old lines_old) → IsReady id new lines_new
-next_brought id old new lines_old lines_new after ready brings stays = record {
+next_marked id old new lines_old lines_new after ready brings stays = record {
   known =
       let fact = ap (λ t. length t.customers) brings.entries in
       omega (arith, length-set old.tables.customers id.customer (customer_at new.tables id.customer));
@@ -85,16 +86,16 @@ next_brought id old new lines_old lines_new after ready brings stays = record {
 
 -- and so by one that leaves the tables
 pub next_ready : (id : LineId) (old new : Shared) (lines_old lines_new : List CustomerLine) (after : Customer)
-    → IsReady id old lines_old → Leads id.customer old new lines_new after
+    → IsReady id old lines_old → ChangesFiles id.customer old new lines_new after
     → Stays after (customer_of id.customer old lines_old) → IsReady id new lines_new
 next_ready id old new lines_old lines_new after ready leads =
-    next_brought id old new lines_old lines_new after ready (as_brings id.customer old new lines_new after leads)
+    next_marked id old new lines_old lines_new after ready (also_marks id.customer old new lines_new after leads)
 
 -- the files stay
-pub still_brings :
+pub marks_alone :
     (c : ℕ) (old new : Shared) (lines : List CustomerLine) (after : Customer) → customer_of c new lines ≡ after
-    → new.spool ≡ old.spool → KeepsOtherEntries c old.tables new.tables → Brings c old new lines after
-still_brings c old new lines after customer files entries = record {
+    → new.spool ≡ old.spool → KeepsOtherEntries c old.tables new.tables → ChangesMarks c old new lines after
+marks_alone c old new lines after customer files entries = record {
   customer = customer;
   others = files ∙ sym (ap (λ s. slice_set old.spool c (spool_at c s)) files ∙ set-get_or old.spool c no_spool);
   entries = entries;
@@ -116,8 +117,8 @@ is_there id shared lines ready = record {
 
 -- it is still there behind a step that leaves the tables
 pub still_there : (id : LineId) (old new : Shared) (lines_old lines_new : List CustomerLine) (after : Customer)
-    → IsThere id old lines_old
-    → Leads id.customer old new lines_new after → length after.lines ≡ length lines_old → IsThere id new lines_new
+    → IsThere id old lines_old → ChangesFiles id.customer old new lines_new after
+    → length after.lines ≡ length lines_old → IsThere id new lines_new
 still_there id old new lines_old lines_new after there leads count = record {
   known = omega (arith, ap (λ t. length t.customers) leads.tables);
   line = subst (λ t. HasLine t id) (sym leads.tables) there.line;
@@ -126,10 +127,11 @@ still_there id old new lines_old lines_new after there leads count = record {
 }
 
 -- what brings on from where it was brought
-pub brought_on : (c : ℕ) (old now new : Shared) (lines_now lines_new : List CustomerLine) (between : Customer)
-    (then : Customer → Customer) → Brings c old now lines_now between
-    → Brings c now new lines_new (then (customer_of c now lines_now)) → Brings c old new lines_new (then between)
-brought_on c old now new lines_now lines_new between then first second = record {
+pub changed_on : (c : ℕ) (old now new : Shared) (lines_now lines_new : List CustomerLine) (between : Customer)
+    (then : Customer → Customer) → ChangesMarks c old now lines_now between
+    → ChangesMarks c now new lines_new (then (customer_of c now lines_now))
+    → ChangesMarks c old new lines_new (then between)
+changed_on c old now new lines_now lines_new between then first second = record {
   customer = second.customer ∙ ap then first.customer;
   others = others_twice old.spool now.spool new.spool c first.others second.others;
   entries = retold_twice old.tables now.tables new.tables c first.entries second.entries;
@@ -137,32 +139,32 @@ brought_on c old now new lines_now lines_new between then first second = record 
 
 -- what sends a frame from where it was brought
 pub sent_behind : (c : ℕ) (old now new : Shared) (lines_now lines_new : List CustomerLine) (frame : List ℕ)
-    (between : Customer) (then : Customer → CustomerStep) → Brings c old now lines_now between
-    → SendsStep c now new lines_new frame (then (customer_of c now lines_now))
-    → SendsStep c old new lines_new frame (then between)
+    (between : Customer) (then : Customer → CustomerStep) → ChangesMarks c old now lines_now between
+    → StepSends c now new lines_new frame (then (customer_of c now lines_now))
+    → StepSends c old new lines_new frame (then between)
 sent_behind c old now new lines_now lines_new frame between then first second = record {
-  after = brought_on c old now new lines_now lines_new between (λ x. (then x).after) first second.after;
+  after = changed_on c old now new lines_now lines_new between (λ x. (then x).after) first second.after;
   frame = second.frame ∙ ap (λ x. (then x).frame) first.customer;
 }
 
 -- a step that leaves the customer coherent, with as many lines
 pub made_by : (id : LineId) (old : Shared) (before : List CustomerLine) (new : Shared) (lines : List CustomerLine)
-    (frame : List ℕ) (step : CustomerStep) → IsReady id old before → SendsStep id.customer old new lines frame step
-    → Stays step.after (customer_of id.customer old before) → MakesStep id old before new lines frame step
+    (frame : List ℕ) (step : CustomerStep) → IsReady id old before → StepSends id.customer old new lines frame step
+    → Stays step.after (customer_of id.customer old before) → LeavesReady id old before new lines frame step
 made_by id old before new lines frame step ready sends stays = record {
   after = sends.after;
   frame = sends.frame;
-  ready = next_brought id old new before lines step.after ready sends.after stays;
+  ready = next_marked id old new before lines step.after ready sends.after stays;
   count = ap (λ c. length c.lines) sends.after.customer ∙ stays.lines;
 }
 
 -- a mark behind what a step led to
 pub marked_behind : (id : LineId) (up : Bool) (old now new : Shared) (lines : List CustomerLine) (after : Customer)
-    → Leads id.customer old now lines after
+    → ChangesFiles id.customer old now lines after
     → id.customer < length old.tables.customers → new.tables ≡ with_mark id up now.tables → new.spool ≡ now.spool
     → entry_of (customer_at (with_mark id up old.tables) id.customer) ≡ entry_marked id.number up
     (entry_of (customer_at old.tables id.customer))
-    → Brings id.customer old new lines (record after { entry = entry_marked id.number up after.entry })
+    → ChangesMarks id.customer old new lines (record after { entry = entry_marked id.number up after.entry })
 marked_behind id up old now new lines after leads there is files own =
     let marked : new.tables ≡ with_mark id up old.tables = is ∙ ap (with_mark id up) leads.tables in
     let mark : Customer → Customer = λ d. record d { entry = entry_marked id.number up d.entry } in
@@ -201,15 +203,16 @@ accepted_so id old now lines new came was_up now_up up there is was went goes fi
 pub sent_by_verdict :
     (id : LineId) (old accepted new : Shared) (lines lines_accepted lines_new : List CustomerLine) (frame : List ℕ)
     (came : Input) (v : Verdict) → v ≡ verdict_on id.number came (customer_of id.customer old lines)
-    → Brings id.customer old accepted lines_accepted (accepted_on id.number came (customer_of id.customer old lines))
-    → SendsStep id.customer accepted new lines_new frame (carried_out id.number v
+    → ChangesMarks id.customer old accepted lines_accepted
+    (accepted_on id.number came (customer_of id.customer old lines))
+    → StepSends id.customer accepted new lines_new frame (carried_out id.number v
     (customer_of id.customer accepted lines_accepted))
-    → SendsStep id.customer old new lines_new frame (after_line_input id.number came
+    → StepSends id.customer old new lines_new frame (after_line_input id.number came
     (customer_of id.customer old lines))
 sent_by_verdict id old accepted new lines lines_accepted lines_new frame came v verdict first behind =
     let l = id.number in
     let d = accepted_on l came (customer_of id.customer old lines) in
-    subst (λ w. SendsStep id.customer old new lines_new frame (carried_out l w d)) verdict
+    subst (λ w. StepSends id.customer old new lines_new frame (carried_out l w d)) verdict
     (sent_behind id.customer old accepted new lines_accepted lines_new frame d (carried_out l v) first behind)
 
 -- behind a block's records, by what the customer was when these came
@@ -220,14 +223,14 @@ behind_block l items v d = let a = acted_where v.acts l items d in behind_record
 pub sent_by_block : (ended : Bool) (id : LineId) (old accepted now new : Shared)
     (lines lines_accepted lines_now lines_new : List CustomerLine) (frame : List ℕ)
     (b : Block) (v : Verdict) → v ≡ verdict_on id.number (block_input b) (customer_of id.customer old lines)
-    → Brings id.customer old accepted lines_accepted (accepted_on id.number (block_input b)
+    → ChangesMarks id.customer old accepted lines_accepted (accepted_on id.number (block_input b)
     (customer_of id.customer old lines))
     → ended ≡ (acted_where v.acts id.number b.items (customer_of id.customer accepted lines_accepted)).ended
-    → Leads id.customer accepted now lines_now (acted_where v.acts id.number b.items
+    → ChangesFiles id.customer accepted now lines_now (acted_where v.acts id.number b.items
     (customer_of id.customer accepted lines_accepted)).customer
-    → SendsStep id.customer now new lines_new frame (behind_records ended id.number v
+    → StepSends id.customer now new lines_new frame (behind_records ended id.number v
     (customer_of id.customer now lines_now))
-    → SendsStep id.customer old new lines_new frame (after_block id.number b (customer_of id.customer old lines))
+    → StepSends id.customer old new lines_new frame (after_block id.number b (customer_of id.customer old lines))
 sent_by_block ended id old accepted now new lines lines_accepted lines_now lines_new frame b v verdict first is_ended
     acted behind =
     let l = id.number in
@@ -235,9 +238,9 @@ sent_by_block ended id old accepted now new lines lines_accepted lines_now lines
     let d = accepted_on l (block_input b) (customer_of n old lines) in
     let a = acted_where v.acts l b.items (customer_of n accepted lines_accepted) in
     let later = sent_behind n accepted now new lines_now lines_new frame a.customer (behind_records ended l v)
-    (as_brings n accepted now lines_now a.customer acted) behind in
-    let ends : SendsStep n accepted new lines_new frame (behind_block l b.items v
+    (also_marks n accepted now lines_now a.customer acted) behind in
+    let ends : StepSends n accepted new lines_new frame (behind_block l b.items v
     (customer_of n accepted lines_accepted)) =
-    subst (λ e. SendsStep n accepted new lines_new frame (behind_records e l v a.customer)) is_ended later in
-    subst (λ w. SendsStep n old new lines_new frame (behind_block l b.items w d)) verdict
+    subst (λ e. StepSends n accepted new lines_new frame (behind_records e l v a.customer)) is_ended later in
+    subst (λ w. StepSends n old new lines_new frame (behind_block l b.items w d)) verdict
     (sent_behind n old accepted new lines_accepted lines_new frame d (behind_block l b.items v) first ends)

@@ -156,8 +156,9 @@ pub use Rattle.njh_customer.specs.Alone.{with_idle_streams, with_raised_line}
 pub use Rattle.njh_customer.specs.Customer.{Customer, CustomerLine, IsMarked, config_of, customer_with, fresh_customer}
 pub use Rattle.njh_customer.specs.Customer.{idle_line, in_state, line_at, no_customer_line, on_line, password_in}
 pub use Rattle.njh_customer.specs.Customer.{receiver_at, with_marks, with_notice, with_receiver, with_sender}
-pub use Rattle.njh_customer.specs.CustomerSteps.{Brings, IsReady, IsThere, KeepsOtherEntries, Leads, MakesStep}
-pub use Rattle.njh_customer.specs.CustomerSteps.{SendsStep, customer_of, with_customer}
+pub use Rattle.njh_customer.specs.CustomerSteps.{ChangesMarks, IsReady, IsThere, KeepsOtherEntries}
+pub use Rattle.njh_customer.specs.CustomerSteps.{ChangesFiles, LeavesReady}
+pub use Rattle.njh_customer.specs.CustomerSteps.{StepSends, customer_of, with_customer}
 pub use Rattle.njh_customer.specs.Disregarding.{BadBlocksAreDisregarded, GarbledIsDisregarded, IsButSession}
 pub use Rattle.njh_customer.specs.Disregarding.{IsDisregarded, SpoiledIsDisregarded, session_on}
 pub use Rattle.njh_customer.specs.Feeding.{LineRun, Taking, acted_on, byte_step, bytes_run, later_by, or_later}

@@ -2,10 +2,10 @@
 use Rattle.std.specs.Prelude.{ℕ, Bool, true, false, List, [], ◌∷◌, fold, map, Option, Some, None, Result, Ok, Err, ◌==◌}
 use Rattle.std.specs.Prelude.{◌||◌, cond}
 use Rattle.std.specs.Option.{option_map}
-use Rattle.njh_block.specs.Blocks.{Item, Data, Aborted, Long, Control, General, stream_number, stream_of}
+use Rattle.njh_block.specs.Blocks.{Item, Data, Aborted, Long, Control, General, control_byte, stream_number, stream_of}
 use Rattle.njh_block.specs.Codes.{kind_of}
 use Rattle.njh_block.specs.declared.answer.Answer.{Answer}
-use Rattle.njh_block.specs.declared.rcb.ControlRcb.TheVariants.{Refusal}
+use Rattle.njh_block.specs.declared.rcb.ControlRcb.TheVariants.{Completion, Permission, Refusal, Request, SequenceError}
 use Rattle.njh_texts.specs.Texts.{node_unknown}
 use Rattle.njh_nmr.specs.declared.fault.NmrFault.{NmrFault}
 use Rattle.njh_nmr.specs.Nodal.{Nodal, nodal_of, is_user_command, cut_after_message, sender_of}
@@ -52,12 +52,14 @@ abbrev pub after_permission : ℕ → ℕ → Customer → Customer
 after_permission l k c =
     record c { lines = on_line l (with_sender k (after_grant (sender_at k (line_at l c.lines)))) c.lines }
 
--- A0, B0 and C0 of the peer
+-- the peer's answer to a stream: permission, refusal or completion
 abbrev pub after_peer_answer : ℕ → ℕ → ℕ → Customer → Customer
 after_peer_answer l rcb k c =
-    cond (rcb == 0xa0) (after_permission l k c)
-    (cond (rcb == 0xb0) (with_sender_outcome l k (after_refusal (sender_at k (line_at l c.lines)) c.spool) c)
-    (cond (rcb == 0xc0) (with_sender_outcome l k (after_completion (sender_at k (line_at l c.lines)) c.spool) c) c))
+    cond (rcb == control_byte Permission) (after_permission l k c)
+    (cond (rcb == control_byte Refusal)
+    (with_sender_outcome l k (after_refusal (sender_at k (line_at l c.lines)) c.spool) c)
+    (cond (rcb == control_byte Completion)
+    (with_sender_outcome l k (after_completion (sender_at k (line_at l c.lines)) c.spool) c) c))
 
 -- ---- control records
 
@@ -78,7 +80,7 @@ peer_answered l rcb (Some k) c = after_peer_answer l rcb k c
 abbrev pub after_control_record : ℕ → ℕ → ℕ → Customer → Customer
 after_control_record l rcb srcb c =
     let stream = stream_of (line_at l c.lines).streams srcb in
-    cond (rcb == 0x90) (after_stream_request l srcb stream c) (peer_answered l rcb stream c)
+    cond (rcb == control_byte Request) (after_stream_request l srcb stream c) (peer_answered l rcb stream c)
 
 -- ---- nodal messages
 
@@ -136,9 +138,9 @@ after_record l (Long rcb srcb) c = after_stream_record l (stream_of (line_at l c
 after_record l (Control rcb srcb) c = after_control_record l rcb srcb c
 after_record l (General srcb rest) c = c
 
--- a count that the peer didn't expect (E0), and of the general records the sign-ons I, J and K and the sign-off B
+-- a count that the peer didn't expect, and of the general records the sign-ons I, J and K and the sign-off B
 abbrev pub ends_session : Item → Bool
-ends_session (Control rcb srcb) = rcb == 0xe0
+ends_session (Control rcb srcb) = rcb == control_byte SequenceError
 ends_session (General srcb rest) = (srcb == 0xc9) || ((srcb == 0xd1) || ((srcb == 0xc2) || (srcb == 0xd2)))
 ends_session _ = false
 

@@ -43,13 +43,20 @@ pub record IsReady (id : LineId) (shared : Shared) (lines : List CustomerLine) :
   pub there : id.number < length lines
   pub coherent : IsCoherent (customer_of id.customer shared lines)
 
--- ---- where a step leads
+-- ---- what a step changes
 
--- The customer is led to what it is after, and the others' files stay. The tables stay too.
-pub record Leads (c : ℕ) (old new : Shared) (lines : List CustomerLine) (after : Customer) : Type 0 where
+-- The customer is what it is after. Of what all share its files alone may have changed: the others' stay, and so do the
+-- tables.
+pub record ChangesFiles (c : ℕ) (old new : Shared) (lines : List CustomerLine) (after : Customer) : Type 0 where
   pub customer : customer_of c new lines ≡ after
   pub others : new.spool ≡ slice_set old.spool c (spool_at c new.spool)
   pub tables : new.tables ≡ old.tables
+
+-- It is what it is after, and its marks may have changed too: the others' entries and files stay.
+pub record ChangesMarks (c : ℕ) (old new : Shared) (lines : List CustomerLine) (after : Customer) : Type 0 where
+  pub customer : customer_of c new lines ≡ after
+  pub others : new.spool ≡ slice_set old.spool c (spool_at c new.spool)
+  pub entries : KeepsOtherEntries c old.tables new.tables
 
 -- One of its lines sends something.
 pub record LineSends (c : ℕ) (old new : Shared) (line : CustomerLine) (out : List ℕ) (sent : LineSent) : Type 0 where
@@ -58,35 +65,29 @@ pub record LineSends (c : ℕ) (old new : Shared) (line : CustomerLine) (out : L
   pub frame : out ≡ sent.frame
   pub tables : new.tables ≡ old.tables
 
--- It is brought to what it is after, its marks among it, and the others' entries and files stay.
-pub record Brings (c : ℕ) (old new : Shared) (lines : List CustomerLine) (after : Customer) : Type 0 where
-  pub customer : customer_of c new lines ≡ after
-  pub others : new.spool ≡ slice_set old.spool c (spool_at c new.spool)
-  pub entries : KeepsOtherEntries c old.tables new.tables
-
--- Records led it so, one of which ended the session or didn't, and its line is ready for more.
-pub record LeadsOn (id : LineId) (old new : Shared) (lines : List CustomerLine) (ended : Bool)
+-- Records acted, one of which ended the session or didn't: they change files, and the line is ready for more.
+pub record RecordsAct (id : LineId) (old new : Shared) (lines : List CustomerLine) (ended : Bool)
     (acted : Acted) : Type 0 where
   pub is_ended : ended ≡ acted.ended
-  pub after : Leads id.customer old new lines acted.customer
+  pub after : ChangesFiles id.customer old new lines acted.customer
   pub ready : IsReady id new lines
 
--- It is brought to what it is after a step, and the step's frame is sent.
-pub record SendsStep (c : ℕ) (old new : Shared) (lines : List CustomerLine) (out : List ℕ) (step : CustomerStep)
+-- A step changes files and marks, and its frame is sent.
+pub record StepSends (c : ℕ) (old new : Shared) (lines : List CustomerLine) (out : List ℕ) (step : CustomerStep)
     : Type 0 where
-  pub after : Brings c old new lines step.after
+  pub after : ChangesMarks c old new lines step.after
   pub frame : out ≡ step.frame
 
--- So it is, its line is ready for more, and it has as many lines.
-pub record MakesStep (id : LineId) (old : Shared) (before : List CustomerLine) (new : Shared)
+-- And it leaves the line ready for more, among as many lines.
+pub record LeavesReady (id : LineId) (old : Shared) (before : List CustomerLine) (new : Shared)
     (lines : List CustomerLine) (out : List ℕ) (step : CustomerStep) : Type 0 where
-  pub after : Brings id.customer old new lines step.after
+  pub after : ChangesMarks id.customer old new lines step.after
   pub frame : out ≡ step.frame
   pub ready : IsReady id new lines
   pub count : length lines ≡ length before
 
--- So is its part of a hub.
-pub record PartMakes (id : LineId) (old : Shared) (before : Lines) (new : Shared) (lines : Lines) (out : List ℕ)
+-- So does a step of the customer's part of a hub.
+pub record PartLeavesReady (id : LineId) (old : Shared) (before : Lines) (new : Shared) (lines : Lines) (out : List ℕ)
     (after : Part) (sent : List ℕ) : Type 0 where
   pub part : part_of id.customer new lines ≡ after
   pub others : new.spool ≡ slice_set old.spool id.customer (spool_at id.customer new.spool)
@@ -95,29 +96,34 @@ pub record PartMakes (id : LineId) (old : Shared) (before : Lines) (new : Shared
   pub ready : IsReady id new lines.lines
   pub count : length lines.lines ≡ length before.lines
 
--- ---- the same of a step that the definitions give: from these lines of what was shared to those of what is
+-- ---- the same by a step that the definitions give: from these lines of what was shared to those of what is
 
--- what one record does
-abbrev pub Acts : LineId → Shared → List CustomerLine → Shared → List CustomerLine → (Customer → Customer) → Type 0
-Acts id old before new lines step = Leads id.customer old new lines (step (customer_of id.customer old before))
+-- what one record does, and the end of a session before its mark is taken away
+abbrev pub ChangesFilesBy : LineId → Shared → List CustomerLine → Shared → List CustomerLine → (Customer → Customer)
+    → Type 0
+ChangesFilesBy id old before new lines step =
+    ChangesFiles id.customer old new lines (step (customer_of id.customer old before))
 
 -- what records do
-abbrev pub ActsOn : LineId → Shared → List CustomerLine → Shared → List CustomerLine → Bool → (Customer → Acted)
+abbrev pub RecordsActBy : LineId → Shared → List CustomerLine → Shared → List CustomerLine → Bool → (Customer → Acted)
     → Type 0
-ActsOn id old before new lines ended step = LeadsOn id old new lines ended (step (customer_of id.customer old before))
+RecordsActBy id old before new lines ended step =
+    RecordsAct id old new lines ended (step (customer_of id.customer old before))
 
 -- what may mark a line
-abbrev pub Marks : LineId → Shared → List CustomerLine → Shared → List CustomerLine → (Customer → Customer) → Type 0
-Marks id old before new lines step = Brings id.customer old new lines (step (customer_of id.customer old before))
+abbrev pub ChangesMarksBy : LineId → Shared → List CustomerLine → Shared → List CustomerLine → (Customer → Customer)
+    → Type 0
+ChangesMarksBy id old before new lines step =
+    ChangesMarks id.customer old new lines (step (customer_of id.customer old before))
 
 -- what sends a frame
-abbrev pub Sends : LineId → Shared → List CustomerLine → Shared → List CustomerLine → List ℕ → (Customer → CustomerStep)
-    → Type 0
-Sends id old before new lines out step =
-    SendsStep id.customer old new lines out (step (customer_of id.customer old before))
+abbrev pub StepSendsBy : LineId → Shared → List CustomerLine → Shared → List CustomerLine → List ℕ
+    → (Customer → CustomerStep) → Type 0
+StepSendsBy id old before new lines out step =
+    StepSends id.customer old new lines out (step (customer_of id.customer old before))
 
 -- a whole step
-abbrev pub Makes : LineId → Shared → List CustomerLine → Shared → List CustomerLine → List ℕ → (Customer → CustomerStep)
-    → Type 0
-Makes id old before new lines out step =
-    MakesStep id old before new lines out (step (customer_of id.customer old before))
+abbrev pub LeavesReadyBy : LineId → Shared → List CustomerLine → Shared → List CustomerLine → List ℕ
+    → (Customer → CustomerStep) → Type 0
+LeavesReadyBy id old before new lines out step =
+    LeavesReady id old before new lines out (step (customer_of id.customer old before))

@@ -22,7 +22,7 @@ use njh_table::{LineId, NamedCustomer, Route};
 use njh_texts::node_unknown;
 
 impl Shared {
-    ghost use Rattle.njh_customer.specs.CustomerSteps.{Acts, ActsOn, IsReady};
+    ghost use Rattle.njh_customer.specs.CustomerSteps.{ChangesFilesBy, IsReady, RecordsActBy};
 
     /// The records of a block act in their order, up to one that ends the session. Says whether one did.
     pub(crate) fn all_act(
@@ -32,7 +32,7 @@ impl Shared {
         lines: &mut CustomerLines,
     ) -> bool
         requires ready { IsReady id self.old lines.old }
-        ensures { ActsOn id self.old lines.old self.new lines.new result
+        ensures { RecordsActBy id self.old lines.old self.new lines.new result
             (acting.all_acted id.number block.entry.items) }
     {
         streams_stay_tied();
@@ -53,7 +53,7 @@ impl Shared {
     fn act(&mut self, id: LineId, item: Item<'_>, bytes: &[u8], lines: &mut CustomerLines)
         requires ready { IsReady id self.old lines.old }
         requires short { length bytes.now ≤ 256 }
-        ensures { Acts id self.old lines.old self.new lines.new
+        ensures { ChangesFilesBy id self.old lines.old self.new lines.new
             (acting.after_record id.number (given_item bytes.now item.entry)) }
     {
         match item {
@@ -90,7 +90,7 @@ impl Shared {
     )
         requires ready { IsReady id self.old lines.old }
         requires short { IsShort (arrival_of arrival) }
-        ensures { Acts id self.old lines.old self.new lines.new
+        ensures { ChangesFilesBy id self.old lines.old self.new lines.new
             (acting.after_stream_record id.number stream (arrival_of arrival.entry)) }
     {
         if let Some(stream) = stream {
@@ -106,7 +106,7 @@ impl Shared {
     /// A control record that the peer sends: a request, or the answer to one of the hub's.
     fn take_control(&mut self, id: LineId, rcb: ControlRcb, named: Rcb, lines: &mut CustomerLines)
         requires ready { IsReady id self.old lines.old }
-        ensures { Acts id self.old lines.old self.new lines.new
+        ensures { ChangesFilesBy id self.old lines.old self.new lines.new
             (acting.after_control_record id.number (control_byte rcb) named.byte) }
     {
         let stream = lines.stream(id.number, named);
@@ -133,7 +133,7 @@ impl Shared {
         lines: &mut CustomerLines,
     )
         requires ready { IsReady id self.old lines.old }
-        ensures { Acts id self.old lines.old self.new lines.new
+        ensures { ChangesFilesBy id self.old lines.old self.new lines.new
             (acting.after_stream_request id.number named.byte stream) }
     {
         match stream {
@@ -151,7 +151,7 @@ impl Shared {
         lines: &mut CustomerLines,
     )
         requires ready { IsReady id self.old lines.old }
-        ensures { Acts id self.old lines.old self.new lines.new
+        ensures { ChangesFilesBy id self.old lines.old self.new lines.new
             (acting.after_peer_answer id.number (control_byte rcb) stream) }
     {
         let mut sender = lines.line(id.number).sender(stream);
@@ -175,7 +175,8 @@ impl Shared {
     /// A nodal message: it is for the hub, goes on to another line, or has a node that nobody has.
     fn take_message(&mut self, id: LineId, bytes: &[u8], lines: &mut CustomerLines)
         requires ready { IsReady id self.old lines.old }
-        ensures { Acts id self.old lines.old self.new lines.new (acting.after_message id.number bytes.now) }
+        ensures { ChangesFilesBy id self.old lines.old self.new lines.new
+            (acting.after_message id.number bytes.now) }
     {
         match Nmr::read(bytes) {
             Ok(message) => {
@@ -190,7 +191,8 @@ impl Shared {
     fn route_message(&mut self, id: LineId, message: &Nmr, route: Route, lines: &mut CustomerLines)
         requires ready { IsReady id self.old lines.old }
         ensures { (bytes : List ℕ) → record_of message.now ≡ cut_after_message bytes →
-            Acts id self.old lines.old self.new lines.new (acting.message_routed id.number message.now bytes route) }
+            ChangesFilesBy id self.old lines.old self.new lines.new
+            (acting.message_routed id.number message.now bytes route) }
     {
         match route {
             Route::Here => {
@@ -214,7 +216,8 @@ impl Shared {
     /// A command of a user to the hub: the user is replied to.
     fn command(&mut self, id: LineId, message: &Nmr, lines: &mut CustomerLines)
         requires ready { IsReady id self.old lines.old }
-        ensures { Acts id self.old lines.old self.new lines.new (acting.after_user_command message.now) }
+        ensures { ChangesFilesBy id self.old lines.old self.new lines.new
+            (acting.after_user_command message.now) }
     {
         let node = message.origin();
         let user = message.user();

@@ -23,7 +23,8 @@ use njh_table::{LineId, Tables, marks_change_one_entry};
 
 impl Shared {
     ghost use Rattle.njh_customer.specs.Acting.{acted_where};
-    ghost use Rattle.njh_customer.specs.CustomerSteps.{ActsOn, IsReady, IsThere, Makes, Marks, Sends, customer_of};
+    ghost use Rattle.njh_customer.specs.CustomerSteps.{ChangesMarksBy, IsReady, IsThere, LeavesReadyBy};
+    ghost use Rattle.njh_customer.specs.CustomerSteps.{RecordsActBy, StepSendsBy, customer_of};
 
     /// A frame comes on a line, where one is whole. The line is ready for more.
     #[tactic(auto, unfolding(crate::specs::Alone::after_frame))]
@@ -35,7 +36,7 @@ impl Shared {
         out: &mut FrameBuffer,
     )
         requires ready { IsReady id self.old lines.old }
-        ensures { Makes id self.old lines.old self.new lines.new out.new
+        ensures { LeavesReadyBy id self.old lines.old self.new lines.new out.new
             (acted_on id.number (option_map received_of frame.entry)) }
     {
         match frame {
@@ -62,7 +63,8 @@ impl Shared {
         out: &mut FrameBuffer,
     )
         requires ready { IsReady id self.old lines.old }
-        ensures { Makes id self.old lines.old self.new lines.new out.new (alone.after_signal id.number signal) }
+        ensures { LeavesReadyBy id self.old lines.old self.new lines.new out.new
+            (alone.after_signal id.number signal) }
     {
         // Lent out of an `Option`: the borrow checker's proof of a lent `Input` must have met that type.
         let input = Some(signal_input(signal));
@@ -80,7 +82,7 @@ impl Shared {
         out: &mut FrameBuffer,
     )
         requires ready { IsReady id self.old lines.old }
-        ensures { Makes id self.old lines.old self.new lines.new out.new
+        ensures { LeavesReadyBy id self.old lines.old self.new lines.new out.new
             (alone.after_line_input id.number (input_value input.now)) }
     {
         streams_stay_tied();
@@ -97,7 +99,8 @@ impl Shared {
         out: &mut FrameBuffer,
     )
         requires ready { IsReady id self.old lines.old }
-        ensures { Makes id self.old lines.old self.new lines.new out.new (alone.after_block id.number read.entry) }
+        ensures { LeavesReadyBy id self.old lines.old self.new lines.new out.new
+            (alone.after_block id.number read.entry) }
     {
         streams_stay_tied();
         whole_files_have_headers();
@@ -121,7 +124,7 @@ impl Shared {
         requires ready { IsReady id self.old lines.old }
         ensures verdict { result
             ≡ alone.verdict_on id.number (input_value input.now) (customer_of id.customer self.old lines.old) }
-        ensures after { Marks id self.old lines.old self.new lines.new
+        ensures after { ChangesMarksBy id self.old lines.old self.new lines.new
             (alone.accepted_on id.number (input_value input.now)) }
         ensures ready { IsReady id self.new lines.new }
     {
@@ -142,7 +145,7 @@ impl Shared {
         lines: &mut CustomerLines,
     ) -> bool
         requires ready { IsReady id self.old lines.old }
-        ensures { ActsOn id self.old lines.old self.new lines.new result
+        ensures { RecordsActBy id self.old lines.old self.new lines.new result
             (acted_where acts id.number read.entry.items) }
     {
         if acts && !read.is_empty() {
@@ -161,7 +164,8 @@ impl Shared {
         out: &mut FrameBuffer,
     )
         requires ready { IsReady id self.old lines.old }
-        ensures { Sends id self.old lines.old self.new lines.new out.new (alone.carried_out id.number verdict) }
+        ensures { StepSendsBy id self.old lines.old self.new lines.new out.new
+            (alone.carried_out id.number verdict) }
     {
         lines.send_reply(id, verdict.reply, self, out);
         if verdict.ended {
@@ -172,7 +176,8 @@ impl Shared {
     /// A record ended the session.
     fn end_session(&mut self, id: LineId, lines: &mut CustomerLines)
         requires ready { IsReady id self.old lines.old }
-        ensures { Marks id self.old lines.old self.new lines.new (alone.session_ended id.number) }
+        ensures { ChangesMarksBy id self.old lines.old self.new lines.new
+            (alone.session_ended id.number) }
     {
         lines.end(id.number);
         self.close_session(id, lines);
@@ -181,7 +186,8 @@ impl Shared {
     /// The end of a line's session, and behind it the line counts as not up.
     fn close_session(&mut self, id: LineId, lines: &mut CustomerLines)
         requires there { IsThere id self.old lines.old }
-        ensures { Marks id self.old lines.old self.new lines.new (alone.session_over id.number) }
+        ensures { ChangesMarksBy id self.old lines.old self.new lines.new
+            (alone.session_over id.number) }
     {
         marks_change_one_entry();
         lines.end_session(id, self);

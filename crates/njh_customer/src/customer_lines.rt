@@ -12,7 +12,8 @@ ghost use Rattle.njh_customer.specs.Alone.{replied_to, session_closed};
 ghost use Rattle.njh_line.specs.LineTable.{table_outcome, input_value};
 ghost use Rattle.njh_line.specs.Laws.{is_up};
 ghost use Rattle.njh_line.specs.Lines.{after_end, after_input};
-ghost use Rattle.njh_customer.specs.CustomerSteps.{Acts, IsReady, IsThere, Leads, customer_of};
+ghost use Rattle.njh_customer.specs.CustomerSteps.{ChangesFiles, ChangesFilesBy, IsReady, IsThere};
+ghost use Rattle.njh_customer.specs.CustomerSteps.{customer_of};
 ghost use Rattle.njh_customer.specs.Customer.{in_state, line_at, with_notice, on_line, receiver_at, with_receiver};
 ghost use Rattle.njh_customer.specs.Customer.{sender_at, with_sender};
 ghost use Rattle.njh_customer.specs.Waiting.{all_said, with_answer_on, goes, with_notice_to, with_message_to};
@@ -140,7 +141,7 @@ impl CustomerLines {
         out: &mut FrameBuffer,
     )
         requires ready { IsReady id shared.old self.old }
-        ensures after { Leads id.customer shared.old shared.new self.new
+        ensures after { ChangesFiles id.customer shared.old shared.new self.new
             (replied_to id.number reply (customer_of id.customer shared.old self.old)).after }
         ensures frame { out.new ≡ (replied_to id.number reply (customer_of id.customer shared.old self.old)).frame }
     {
@@ -151,7 +152,7 @@ impl CustomerLines {
     /// gone.
     pub(crate) fn end_session(&mut self, id: LineId, shared: &mut Shared)
         requires there { IsThere id shared.old self.old }
-        ensures { Acts id shared.old self.old shared.new self.new (session_closed id.number) }
+        ensures { ChangesFilesBy id shared.old self.old shared.new self.new (session_closed id.number) }
     {
         self.lines[usize::from(id.number)].end_session(id, &shared.tables, &mut shared.spool);
     }

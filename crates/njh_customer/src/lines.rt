@@ -7,7 +7,8 @@ ghost use Rattle.njh_table.specs.Marks.{entry_unmarked};
 ghost use Rattle.njh_table.specs.TableFile.{entry_of, password_bytes};
 ghost use Rattle.njh_customer.specs.Customer.{config_of, line_at, password_in};
 ghost use Rattle.njh_customer.specs.Feeding.{acted_on};
-ghost use Rattle.njh_customer.specs.CustomerSteps.{IsReady, Makes, PartMakes, part_of};
+ghost use Rattle.njh_customer.specs.CustomerSteps.{IsReady, LeavesReadyBy, PartLeavesReady};
+ghost use Rattle.njh_customer.specs.CustomerSteps.{part_of};
 ghost use Rattle.njh_customer.specs.Part.{rest_at};
 
 use crate::customer_line::CustomerLine;
@@ -132,7 +133,7 @@ impl Lines {
         ensures progress { 0 < length piece.now → 0 < result }
         ensures few { result ≤ length piece.now }
         ensures step { let t = part_after_bytes (part_of id.customer shared.old self.old) id.number piece.now in
-            PartMakes id shared.old self.old shared.new self.new out.new t.after t.frame }
+            PartLeavesReady id shared.old self.old shared.new self.new out.new t.after t.frame }
     {
         out.clear();
         let mut left = piece;
@@ -162,7 +163,7 @@ impl Lines {
         ensures rest { rest_at id.number self.new.rests
             ≡ (feed_outcome (rest_at id.number self.old.rests) piece.now).rest }
         ensures rests { self.new.rests ≡ slice_set self.old.rests id.number (rest_at id.number self.new.rests) }
-        ensures step { Makes id shared.old self.old.lines shared.new self.new.lines out.new
+        ensures step { LeavesReadyBy id shared.old self.old.lines shared.new self.new.lines out.new
             (acted_on id.number (feed_outcome (rest_at id.number self.old.rests) piece.now).frame) }
     {
         let (taken, frame) = self.deframers[usize::from(id.number)].feed(piece);
@@ -181,7 +182,7 @@ impl Lines {
     )
         requires ready { IsReady id shared.old self.old.lines }
         ensures { let t = part_after_signal (part_of id.customer shared.old self.old) id.number signal in
-            PartMakes id shared.old self.old shared.new self.new out.new t.after t.frame }
+            PartLeavesReady id shared.old self.old shared.new self.new out.new t.after t.frame }
     {
         self.deframers[usize::from(id.number)].reset();
         shared.take_signal(id, signal, &mut self.lines, out);

@@ -1,7 +1,7 @@
 -- Where the session ends, it does so behind what was sent.
 use Rattle.njh_customer.proofs.Words
-use Words.{sym, subst, length-set, replied_to, session_over, session_over_where, Brings, customer_of}
-use Rattle.njh_customer.proofs.ReadyLaws.{as_brings, brought_on, is_there, still_there}
+use Words.{sym, subst, length-set, replied_to, session_over, session_over_where, ChangesMarks, customer_of}
+use Rattle.njh_customer.proofs.ReadyLaws.{also_marks, changed_on, is_there, still_there}
 use Rattle.njh_customer.proofs.shared.Shared.carry_out.Goals as goal
 
 pub close_session-requires : goal.close_session-requires
@@ -21,11 +21,11 @@ returns-then-verdict c =
     let old = customer_of id.customer c.args.self.now c.args.lines.now in
     let replied = (replied_to id.number c.args.verdict.reply old).after in
     record {
-      after = subst (λ b. Brings id.customer c.args.self.now c.close_session.new.self c.close_session.new.lines
+      after = subst (λ b. ChangesMarks id.customer c.args.self.now c.close_session.new.self c.close_session.new.lines
           (session_over_where b id.number replied)) (sym c.if-verdict.true)
-          (brought_on id.customer c.args.self.now c.send_reply.new.shared c.close_session.new.self c.send_reply.new.self
+          (changed_on id.customer c.args.self.now c.send_reply.new.shared c.close_session.new.self c.send_reply.new.self
           c.close_session.new.lines replied (session_over id.number)
-          (as_brings id.customer c.args.self.now c.send_reply.new.shared c.send_reply.new.self replied
+          (also_marks id.customer c.args.self.now c.send_reply.new.shared c.send_reply.new.self replied
           c.send_reply.ensures.after) c.close_session.ensures);
       frame = c.send_reply.ensures.frame;
     }
@@ -36,9 +36,9 @@ returns-else-verdict c =
     let old = customer_of id.customer c.args.self.now c.args.lines.now in
     let replied = (replied_to id.number c.args.verdict.reply old).after in
     record {
-      after = subst (λ b. Brings id.customer c.args.self.now c.send_reply.new.shared c.send_reply.new.self
+      after = subst (λ b. ChangesMarks id.customer c.args.self.now c.send_reply.new.shared c.send_reply.new.self
           (session_over_where b id.number replied)) (sym c.if-verdict.false)
-          (as_brings id.customer c.args.self.now c.send_reply.new.shared c.send_reply.new.self replied
+          (also_marks id.customer c.args.self.now c.send_reply.new.shared c.send_reply.new.self replied
           c.send_reply.ensures.after);
       frame = c.send_reply.ensures.frame;
     }

@@ -3,7 +3,7 @@ use Rattle.std.proofs.Common.{◌≡◌, true, false, sym, subst, ap, ◌∙◌,
 use Rattle.njh_line.specs.LineTable.{Block}
 use Rattle.njh_line.specs.Openings.{shown_first}
 use Rattle.njh_customer.specs.Alone.{accepted_on, after_block, block_input, verdict_on}
-use Rattle.njh_customer.specs.CustomerSteps.{Brings, customer_of}
+use Rattle.njh_customer.specs.CustomerSteps.{ChangesMarks, customer_of}
 use Rattle.njh_customer.proofs.CoherenceLaws.{RecordsKeep}
 use Rattle.njh_customer.proofs.ReadyLaws.{made_by, sent_by_block}
 use Rattle.njh_customer.proofs.SessionLaws.{block_stays}
@@ -28,8 +28,9 @@ returns-then-act_where c =
     c.args.lines.now accepted.new.lines
     c.act_where.new.lines c.end_session.new.lines c.clear.new.self c.args.read accepted.result
     (accepted.ensures.verdict ∙ ap (λ i. verdict_on id.number i old) input)
-    (subst (λ i. Brings id.customer c.args.self.now accepted.new.self accepted.new.lines (accepted_on id.number i old))
-    input accepted.ensures.after) (sym c.if-act_where.true ∙ c.act_where.ensures.is_ended) c.act_where.ensures.after
+    (subst (λ i. ChangesMarks id.customer c.args.self.now accepted.new.self accepted.new.lines
+    (accepted_on id.number i old)) input accepted.ensures.after)
+    (sym c.if-act_where.true ∙ c.act_where.ensures.is_ended) c.act_where.ensures.after
     (record { after = c.end_session.ensures; frame = c.clear.ensures }))
     (block_stays law.untouched law.ended records id.number c.args.read old c.requires.ready.there
     c.requires.ready.coherent)
@@ -52,8 +53,8 @@ returns-else-act_where c =
     (sent_by_block false id c.args.self.now accepted.new.self c.act_where.new.self c.carry_out.new.self c.args.lines.now
     accepted.new.lines c.act_where.new.lines c.carry_out.new.lines c.carry_out.new.out c.args.read accepted.result
     (accepted.ensures.verdict ∙ ap (λ i. verdict_on id.number i old) input)
-    (subst (λ i. Brings id.customer c.args.self.now accepted.new.self accepted.new.lines (accepted_on id.number i old))
-    input accepted.ensures.after)
+    (subst (λ i. ChangesMarks id.customer c.args.self.now accepted.new.self accepted.new.lines
+    (accepted_on id.number i old)) input accepted.ensures.after)
     (sym c.if-act_where.false ∙ c.act_where.ensures.is_ended) c.act_where.ensures.after c.carry_out.ensures)
     (block_stays law.untouched law.ended records id.number c.args.read old c.requires.ready.there
     c.requires.ready.coherent)
