@@ -10,23 +10,25 @@ use Words.{with_new_destination, command_of, Command, after_stream_arrival, with
 use Words.{with_outcome, after_user_command, after_record, acted_where, Customer, CustomerLine, line_at, receiver_at}
 use Words.{Acts, Commands, busy_numbers, LeadsByMoves, nowhere, onward, OneActs, outgoing, streams_from_hub, sender_on}
 use Words.{with_answer_on, with_waiting, with_message_to}
-use Rattle.std.proofs.Common.{◌≡◌, ◌⊎◌, ◌∷◌, ◌++◌, ◌∙◌}
-use Rattle.njh_block.specs.Blocks.{Data, Control}
+use Rattle.{std.proofs.Common.{◌≡◌, ◌⊎◌, ◌∷◌, ◌++◌, ◌∙◌}, njh_block.specs.Blocks.{Data, Control}}
+use Rattle.njh_customer.{specs.Customer.sender_at, proofs.LineWalks.{acted_keeps, kepts, StaysWaiting, all_told_so}}
+use Rattle.njh_customer.proofs.{LineWalks.{answered_so, arrived_so, told_so}, OutgoingLaws.{all_given_up, leads_then}}
+use Rattle.njh_customer.proofs.OutgoingLaws.{of_parts, same_stream, senders_receiving, sent_is, stream_is}
+use Rattle.njh_customer.proofs.{RecordsDo.{RecordDoes, record_does, Brings, acted_where_so}, SpoolWalks.StaysInArrivals}
+use Rattle.njh_customer.proofs.SpoolWalks.{received_so}
 use Rattle.njh_stream.specs.declared.sender.Sender.TheVariants as sender
 use Rattle.njh_command.specs.declared.command.Command.TheVariants as commands
-use Rattle.njh_customer.specs.Customer.{sender_at}
 use Rattle.njh_customer.specs.Moves as moves
-use Rattle.njh_customer.proofs.LineWalks.{acted_keeps, kepts, StaysWaiting, all_told_so, answered_so, arrived_so}
-use Rattle.njh_customer.proofs.LineWalks.{told_so}
-use Rattle.njh_customer.proofs.OutgoingLaws.{all_given_up, leads_then, of_parts, same_stream, senders_receiving}
-use Rattle.njh_customer.proofs.OutgoingLaws.{sent_is, stream_is}
 use Rattle.njh_customer.proofs.RecordsDo as does
-use Rattle.njh_customer.proofs.RecordsDo.{RecordDoes, record_does, Brings, acted_where_so}
-use Rattle.njh_customer.proofs.SpoolWalks.{StaysInArrivals, received_so}
 
 pub record Acted (l : ℕ) (i : Item) (c d : Customer) : Type 0 where
   pub entry : d.entry ≡ c.entry
   pub moves : (outgoing d ≡ outgoing c) ⊎ Acts c.entry l i (outgoing c) (outgoing d)
+
+-- by a move
+did : {l : ℕ} {i : Item} {c d : Customer} → d.entry ≡ c.entry → Acts c.entry l i (outgoing c) (outgoing d)
+    → Acted l i c d
+did entry acts = record { entry = entry; moves = inr acts }
 
 unmoved : (l : ℕ) (i : Item) (c : Customer) → Acted l i c c
 unmoved l i c = record { entry = refl; moves = inl refl }
@@ -87,16 +89,10 @@ arrived_acts l k a i c brings =
         ∙ ap (λ n. of_parts files n (streams_from_hub d.lines)) came ∙ ap (of_parts files arrived) streams
 
     at_files : Filed i c.spool (after_stream_arrival l k a c).spool → Acted l i c (after_stream_arrival l k a c)
-    at_files (none_came same) = record {
-      entry = refl;
-      moves = inl
-          (parts_are c.spool.whole c.spool.arrived same.0 same.1);
-    }
-    at_files (one rcb srcb f came ready whole last more) = record {
-      entry = refl;
-      moves = inr (moves.comes rcb srcb f came ready whole
-          (parts_are (c.spool.whole ++ f ∷ []) (one_more c.spool.arrived) last more));
-    }
+    at_files (none_came same) =
+        record { entry = refl; moves = inl (parts_are c.spool.whole c.spool.arrived same.0 same.1) }
+    at_files (one rcb srcb f came ready whole last more) = did refl (moves.comes rcb srcb f came ready whole
+        (parts_are (c.spool.whole ++ f ∷ []) (one_more c.spool.arrived) last more))
 
 -- ---- streams from the hub
 
@@ -104,53 +100,37 @@ module _ (l k streams srcb : ℕ) (c : Customer) (names : stream_of streams srcb
   -- nothing moves
   stays : (answer : ℕ) (x : Sender) → sender_on l k (outgoing c) ≡ x
       → Acted l (Control answer srcb) c (with_sender_outcome l k (record { sender = x; spool = c.spool }) c)
-  stays answer x at = record {
-    entry = refl;
-    moves = inl (sent_is l k x c.spool c refl ∙ same_stream l k x (outgoing c) at);
-  }
+  stays answer x at =
+      record { entry = refl; moves = inl (sent_is l k x c.spool c refl ∙ same_stream l k x (outgoing c) at) }
 
   permitted_acts : (x : Sender) → sender_on l k (outgoing c) ≡ x
       → Acted l (Control 0xa0 srcb) c (with_sender_outcome l k (record { sender = after_grant x; spool = c.spool }) c)
-  permitted_acts sender.Idle at = stays 0xa0 sender.Idle at
-  permitted_acts (sender.Requested n) at = record {
-    entry = refl;
-    moves = inr (moves.permitted streams k n (record { srcb = srcb; is_control = refl; names = names }) at
-        (sent_is l k (sender.Sending n 0) c.spool c refl));
-  }
-  permitted_acts (sender.Sending n place) at = stays 0xa0 (sender.Sending n place) at
-  permitted_acts (sender.EofSent n) at = stays 0xa0 (sender.EofSent n) at
-  permitted_acts sender.Aborting at = stays 0xa0 sender.Aborting at
+  permitted_acts (sender.Requested n) at =
+      did refl (moves.permitted streams k n (record { srcb = srcb; is_control = refl; names = names }) at
+      (sent_is l k (sender.Sending n 0) c.spool c refl))
+  permitted_acts x at = stays 0xa0 x at
 
   refused_at : (n : ℕ) (s after : Sender) → file_in s ≡ Some n → file_in after ≡ None → sender_on l k (outgoing c) ≡ s
       → Acted l (Control 0xb0 srcb) c
       (with_sender_outcome l k (record { sender = after; spool = with_state n Refused c.spool }) c)
-  refused_at n s after about none at = record {
-    entry = refl;
-    moves = inr (moves.refused streams k n after (record { srcb = srcb; is_control = refl; names = names })
-        (ap (λ y. file_in y) at ∙ about) none (sent_is l k after (with_state n Refused c.spool) c refl));
-  }
+  refused_at n s after about none at =
+      did refl (moves.refused streams k n after (record { srcb = srcb; is_control = refl; names = names })
+      (ap (λ y. file_in y) at ∙ about) none (sent_is l k after (with_state n Refused c.spool) c refl))
 
   refused_acts : (x : Sender) → sender_on l k (outgoing c) ≡ x
       → Acted l (Control 0xb0 srcb) c (with_sender_outcome l k (after_refusal x c.spool) c)
-  refused_acts sender.Idle = stays 0xb0 sender.Idle
   refused_acts (sender.Requested n) = refused_at n (sender.Requested n) sender.Idle refl refl
   refused_acts (sender.Sending n place) = refused_at n (sender.Sending n place) sender.Aborting refl refl
   refused_acts (sender.EofSent n) = refused_at n (sender.EofSent n) sender.Idle refl refl
-  refused_acts sender.Aborting = stays 0xb0 sender.Aborting
+  refused_acts x = stays 0xb0 x
 
   completed_acts : (x : Sender) → sender_on l k (outgoing c) ≡ x
       → Acted l (Control 0xc0 srcb) c (with_sender_outcome l k (after_completion x c.spool) c)
-  completed_acts sender.Idle at = stays 0xc0 sender.Idle at
-  completed_acts (sender.Requested n) at = stays 0xc0 (sender.Requested n) at
-  completed_acts (sender.Sending n place) at = stays 0xc0 (sender.Sending n place) at
   completed_acts (sender.EofSent n) at =
       let sent = after_completion (sender.EofSent n) c.spool in
-      record {
-        entry = refl;
-        moves = inr (moves.completed streams k n (record { srcb = srcb; is_control = refl; names = names }) at
-            (sent_is l k sent.sender sent.spool c refl));
-      }
-  completed_acts sender.Aborting at = stays 0xc0 sender.Aborting at
+      did refl (moves.completed streams k n (record { srcb = srcb; is_control = refl; names = names }) at
+      (sent_is l k sent.sender sent.spool c refl))
+  completed_acts x at = stays 0xc0 x at
 
 -- ---- messages
 
@@ -182,35 +162,22 @@ module _ (l : ℕ) (i : Item) (c : Customer) (n : Nodal) where
   moved_acts done given (stay left quiet) = record { entry = refl; moves = inl (left_so done c.spool.whole left quiet) }
   moved_acts done given (held name says left quiet) =
       let files = map (changed_file (is_of_name (sender_of n) name) (file_in_state Held)) c.spool.whole in
-      record {
-        entry = refl;
-        moves = inr (moves.holds (sender_of n) name (given (commands.Hold name) says) (left_so done files left quiet));
-      }
+      did refl (moves.holds (sender_of n) name (given (commands.Hold name) says) (left_so done files left quiet))
   moved_acts done given (released name says left quiet) =
       let files = map (changed_file (is_of_name (sender_of n) name) (file_in_state Ready)) c.spool.whole in
-      record {
-        entry = refl;
-        moves = inr (moves.releases (sender_of n) name (given (commands.Release name) says)
-            (left_so done files left quiet));
-      }
+      did refl (moves.releases (sender_of n) name (given (commands.Release name) says) (left_so done files left quiet))
   moved_acts done given (rerouted name node line says route left quiet) =
       let files = map (changed_file (is_of_name (sender_of n) name) (with_new_destination node)) c.spool.whole in
-      record {
-        entry = refl;
-        moves = inr (moves.reroutes (sender_of n) name node line (given (commands.Reroute name node) says) route
-            (left_so done files left quiet));
-      }
+      did refl (moves.reroutes (sender_of n) name node line (given (commands.Reroute name node) says) route
+      (left_so done files left quiet))
   moved_acts done given (cancelled name says left numbers) =
       let p = is_of_name (sender_of n) name in
       let kept = filter (λ f. not (p f)) c.spool.whole in
-      record {
-        entry = refl;
-        moves = inr (moves.cancels (sender_of n) name (given (commands.Cancel name) says)
-            (ap (λ fs. of_parts fs c.spool.arrived (streams_from_hub (with_outcome n done c).lines)) left
-            ∙ ap (of_parts kept c.spool.arrived) (told done)
-            ∙ ap (λ ns. of_parts kept c.spool.arrived (streams_from_hub (fold without_sending c.lines ns))) numbers
-            ∙ sym (all_given_up (busy_numbers p c.spool.whole) kept c.spool.arrived c.lines)));
-      }
+      did refl (moves.cancels (sender_of n) name (given (commands.Cancel name) says)
+      (ap (λ fs. of_parts fs c.spool.arrived (streams_from_hub (with_outcome n done c).lines)) left
+      ∙ ap (of_parts kept c.spool.arrived) (told done)
+      ∙ ap (λ ns. of_parts kept c.spool.arrived (streams_from_hub (fold without_sending c.lines ns))) numbers
+      ∙ sym (all_given_up (busy_numbers p c.spool.whole) kept c.spool.arrived c.lines)))
 
   command_acts : CommandsMoveFilesSo → (srcb : ℕ) (bytes : List ℕ) → i ≡ Data 0x9a srcb bytes → nodal_of bytes ≡ Ok n
       → route_of c.entry n.to ≡ Here → is_user_command n ≡ true → Acted l i c (after_user_command n c)
@@ -267,18 +234,17 @@ pub record Acting (l : ℕ) (items : List Item) (c d : Customer) : Type 0 where
 
 one_acts : (l : ℕ) (items : List Item) (i : Item) (c d e : Customer) → Contains items i → Acting l items c d
     → Acted l i d e → kepts e.lines ≡ kepts d.lines → Acting l items c e
-one_acts l items i c d e there acting did keeps = record {
-  entry = did.entry ∙ acting.entry;
-  records = leads_then (OneActs c.entry l items) (outgoing c) (outgoing d) (outgoing e) acting.records
-      (at_move did.moves);
-  kept = keeps ∙ acting.kept;
-}
-  where
-    at_move : (outgoing e ≡ outgoing d) ⊎ Acts d.entry l i (outgoing d) (outgoing e)
-        → LeadsByMoves (OneActs c.entry l items) (outgoing d) (outgoing e)
-    at_move (inl same) = subst (LeadsByMoves (OneActs c.entry l items) (outgoing d)) (sym same) (nowhere (outgoing d))
-    at_move (inr acts) = onward (outgoing d) (outgoing e) (outgoing e)
-        (i, there, subst (λ entry. Acts entry l i (outgoing d) (outgoing e)) acting.entry acts) (nowhere (outgoing e))
+one_acts l items i c d e there acting acted keeps =
+    let move : LeadsByMoves (OneActs c.entry l items) (outgoing d) (outgoing e) = elim (acted.moves) [
+      | inl same ↦ subst (LeadsByMoves (OneActs c.entry l items) (outgoing d)) (sym same) (nowhere (outgoing d))
+      | inr acts ↦ onward (outgoing d) (outgoing e) (outgoing e)
+          (i, there, subst (λ entry. Acts entry l i (outgoing d) (outgoing e)) acting.entry acts) (nowhere (outgoing e))
+    ] in
+    record {
+      entry = acted.entry ∙ acting.entry;
+      records = leads_then (OneActs c.entry l items) (outgoing c) (outgoing d) (outgoing e) acting.records move;
+      kept = keeps ∙ acting.kept;
+    }
 
 pub acting_where : CommandsMoveFilesSo → (b : Bool) (l : ℕ) (items : List Item) (c : Customer)
     → Acting l items c (acted_where b l items c).customer

@@ -1,15 +1,13 @@
 -- How many records with data a block has at most: each takes three bytes of its text at least.
 use Rattle.njh_customer.proofs.Words
-use Words.{ℕ, zero, suc, Bool, true, false, cond, nat_le, List, [], length, Option, Some, None, Result, Ok, Err, arith}
-use Words.{ap, front_leaves_less, by_steps, read_on, added_bytes, Front, OfItem, OfEnd, Bad, Cut, Fault, Unspelled}
+use Words.{cond_both, ℕ, zero, suc, cond, nat_le, List, [], length, Option, Some, None, Result, Ok, Err, arith, ap}
+use Words.{front_leaves_less, by_steps, read_on, added_bytes, Front, OfItem, OfEnd, Bad, Cut, Fault, Unspelled}
 use Words.{with_front, record_at_front, StandsFirst, End, Record, Item, Aborted, form_of, after_control, item_of, First}
 use Words.{record_of_spelling, record_of_one_byte, record_of_form, first_record, with_item, read_items, items_in}
 use Words.{is_bcb, is_fcs, block_with, read_block, BlockFault, BadBcb, BadFcs, Form}
-use Rattle.std.proofs.Common.{◌+◌, ◌*◌, ◌<◌, ◌≤◌, ◌==◌, ◌∷◌}
-use Rattle.njh_record.specs.declared.End.TheVariants.{Abort}
-use Rattle.njh_block.specs.Blocks.{Data, Long, Block}
+use Rattle.{std.proofs.Common.{◌+◌, ◌*◌, ◌<◌, ◌≤◌, ◌==◌, ◌∷◌}, njh_record.specs.declared.End.TheVariants.Abort}
+use Rattle.{njh_block.specs.Blocks.{Data, Long, Block}, njh_customer.proofs.GrowingLaws.{data_in, data_count}}
 use Rattle.njh_block.specs.declared.rcb.Form.TheVariants as form
-use Rattle.njh_customer.proofs.RecordsGrow.{data_in, data_count}
 
 -- ---- a spelling leaves less than there was
 
@@ -42,15 +40,12 @@ TakesEnough n (Err e) = Unit {0}
 one_item : (rcb srcb : ℕ) (r : Unspelled) → data_in (item_of rcb srcb r) ≤ 1
 one_item rcb srcb r = at_end r.end
   where
-    at_length : (b : Bool) → data_in (cond b (Data rcb srcb r.contents) (Long rcb srcb)) ≤ 1
-    at_length true = omega arith
-    at_length false = omega arith
-
     at_end : (e : End) → data_in (elim e [
       | Record ↦ cond (nat_le (length r.contents) 256) (Data rcb srcb r.contents) (Long rcb srcb)
       | Abort ↦ Aborted rcb srcb
     ]) ≤ 1
-    at_end Record = at_length (nat_le (length r.contents) 256)
+    at_end Record = cond_both (nat_le (length r.contents) 256) (Data rcb srcb r.contents) (Long rcb srcb)
+        (λ i. data_in i ≤ 1) (λ _. omega arith) (λ _. omega arith)
     at_end Abort = omega arith
 
 spelled_takes : (rcb srcb : ℕ) (bytes : List ℕ) (r : Result Unspelled Fault) → LeavesLess bytes r
@@ -61,11 +56,8 @@ spelled_takes rcb srcb bytes (Err e) less = tt
 control_leaves : (rest : List ℕ) → length (after_control rest) ≤ length rest
 control_leaves [] = omega arith
 control_leaves (b ∷ []) = omega arith
-control_leaves (b ∷ c ∷ rest) = at_zero (b == 0)
-  where
-    at_zero : (z : Bool) → length (cond z (c ∷ rest) (b ∷ c ∷ rest)) ≤ length (b ∷ c ∷ rest)
-    at_zero true = omega arith
-    at_zero false = omega arith
+control_leaves (b ∷ c ∷ rest) = cond_both (b == 0) (c ∷ rest) (b ∷ c ∷ rest)
+    (λ bs. length bs ≤ length (b ∷ c ∷ rest)) (λ _. omega arith) (λ _. omega arith)
 
 form_takes : (f : Form) (rcb srcb : ℕ) (rest : List ℕ) → TakesEnough (suc (suc (length rest)))
     (record_of_form f rcb srcb rest)
@@ -78,10 +70,7 @@ form_takes form.Spelled rcb srcb rest =
 
 one_byte_takes : (f : Form) → TakesEnough 1 (record_of_one_byte f)
 one_byte_takes form.End = tt
-one_byte_takes form.Bad = tt
-one_byte_takes form.General = tt
-one_byte_takes (form.Control c) = tt
-one_byte_takes form.Spelled = tt
+one_byte_takes _ = tt
 
 first_takes : (bytes : List ℕ) → TakesEnough (length bytes) (first_record bytes)
 first_takes [] = tt
@@ -122,11 +111,6 @@ with_few : (bcb : ℕ) (fcs : ℕ × ℕ) (m n : ℕ) (r : Result (List Item) Bl
 with_few bcb fcs m n (Ok items) less few = omega arith
 with_few bcb fcs m n (Err e) less few = tt
 
-either_block : (n : ℕ) (b : Bool) (x y : Result Block BlockFault) → BlockIsFew n x → BlockIsFew n y
-    → BlockIsFew n (cond b x y)
-either_block n true x y first second = first
-either_block n false x y first second = second
-
 pub block_few : (text : List ℕ) → BlockIsFew (length text) (read_block text)
 block_few [] = tt
 block_few (b ∷ []) = tt
@@ -134,6 +118,7 @@ block_few (b ∷ f ∷ []) = tt
 block_few (b ∷ f ∷ g ∷ rest) =
     let n = length (b ∷ f ∷ g ∷ rest) in
     let found = block_with b (f, g) (items_in rest) in
-    either_block n (is_bcb b) (cond (is_fcs (f, g)) found (Err BadFcs)) (Err BadBcb)
-    (either_block n (is_fcs (f, g)) found (Err BadFcs)
-    (with_few b (f, g) (length rest) n (items_in rest) (omega arith) (items_few (length rest) rest)) tt) tt
+    cond_both (is_bcb b) (cond (is_fcs (f, g)) found (Err BadFcs)) (Err BadBcb) (BlockIsFew n)
+    (λ _. cond_both (is_fcs (f, g)) found (Err BadFcs) (BlockIsFew n)
+    (λ _. with_few b (f, g) (length rest) n (items_in rest) (omega arith) (items_few (length rest) rest)) (λ _. tt))
+    (λ _. tt)

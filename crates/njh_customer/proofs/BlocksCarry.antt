@@ -3,19 +3,17 @@ use Rattle.njh_customer.proofs.Words
 use Words.{ℕ, Bool, true, false, cond, inl, inr, List, [], length, map, take, drop, get_or, find, Option, Some, None}
 use Words.{slice_get, nat_le, refl, sym, ap, subst, arith, eq-eqb, leb-true, leb-false, drop_all, length-drop}
 use Words.{length-take-le, filter-append, slice_get_cases, Stored, Item, all_suspended, rcb_of, CustomerSpool}
-use Words.{WholeFile, whole_numbered, State, CustomerEntry, goes_by, next_at, next_of, record_at, Sender, Requested}
-use Words.{EofSent, Aborting, end_of_file, file_records, record_item, records_of, EachDoes, left, gives_up, asks, sends}
-use Words.{is_under, records_under, Filling, Source, after_source, data_item, filled_block, sends_file, sources}
-use Words.{Carries, nothing, on_its_way, to_its_end, Sends, Outgoing, with_file_state, records_numbered}
+use Words.{WholeFile, whole_numbered, State, CustomerEntry, goes_by, next_at, next_of, record_at, Sender, EofSent}
+use Words.{end_of_file, file_records, record_item, records_of, EachDoes, left, gives_up, asks, sends, is_under}
+use Words.{records_under, Filling, Source, after_source, data_item, filled_block, sends_file, sources, Carries, nothing}
+use Words.{on_its_way, to_its_end, Sends, Outgoing, with_file_state, records_numbered}
 use Rattle.std.proofs.Common.{◌≡◌, ◌<◌, ◌≤◌, ◌-◌, ◌==◌, ◌⊎◌, ◌∷◌, ◌++◌, ◌∙◌}
-use Rattle.njh_stream.specs.declared.sender.Sender.TheVariants.{Idle, Sending}
-use Rattle.njh_sched.specs.Carrying as carrying
-use Rattle.njh_sched.specs.Laws.{Does}
-use Rattle.njh_sched.specs.NextBlock.{after_sources, sender_at}
-use Rattle.njh_customer.specs.Moves as moves
-use Rattle.njh_customer.proofs.DoingLaws.{BlocksCarry}
-use Rattle.njh_customer.proofs.SendingMoves as sending
+use Rattle.{njh_stream.specs.declared.sender.Sender.TheVariants.Sending, njh_sched.specs.Laws.Does}
+use Rattle.{njh_sched.specs.NextBlock.{after_sources, sender_at}, njh_customer.proofs.DoingLaws.BlocksCarry}
 use Rattle.njh_customer.proofs.SendingMoves.{AreOfEight, GivesOne, out_of, sources_eight, stream_now, gives}
+use Rattle.njh_sched.specs.Carrying as carrying
+use Rattle.njh_customer.specs.Moves as moves
+use Rattle.njh_customer.proofs.SendingMoves as sending
 
 -- ---- no record that goes out changes a file's records
 
@@ -204,8 +202,5 @@ module _ (in_order : CarriesInOrder) (quiet : IsQuiet) (each : SourcesMove) (fil
 
       at_sender : (s : Sender) → sender_at k x.outlet ≡ s → Carries l k y.block.items (out_of l base x)
           (out_of l base y)
-      at_sender Idle at = still Idle at refl
-      at_sender (Requested n) at = still (Requested n) at refl
       at_sender (Sending n p) at = at_place n p at (nat_le p (length (file_records n x.spool))) refl
-      at_sender (EofSent n) at = still (EofSent n) at refl
-      at_sender Aborting at = still Aborting at refl
+      at_sender s at = still s at refl

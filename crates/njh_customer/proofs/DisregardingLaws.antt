@@ -1,26 +1,21 @@
 -- What a line disregards changes nothing but its session, or ends it.
 use Rattle.njh_customer.proofs.Words
-use Words.{ℕ, Bool, true, false, cond, List, length, set, get_or, nat_lt, refl, sym, ap, subst, arith, eqb-true}
-use Words.{set-set, eqb-false, ltb-true, ltb-false, get_or-set_same, set-get_or, read_block, is_disregarded, Input}
-use Words.{cell, end, try_nak, with_reply, with_session, without_turn, in_session, Phase, Down, Calling, Answered}
-use Words.{SentI, Up, Config, Session, CustomerStep, goes_up, with_raised_line, silent, session_over, session_ended}
-use Words.{carried_out, after_line_input, text_read, Customer, CustomerLine, no_customer_line, line_at, on_line}
-use Words.{in_state, session_on, IsButSession, IsDisregarded, SpoiledIsDisregarded, BadBlocksAreDisregarded}
-use Words.{GarbledIsDisregarded}
-use Rattle.std.proofs.Common.{◌≡◌, ◌+◌, ◌<◌, ◌==◌, ◌∙◌}
+use Words.{cond_both, ℕ, Bool, true, false, cond, List, length, set, get_or, nat_lt, refl, sym, ap, subst, arith}
+use Words.{eqb-true, set-set, eqb-false, ltb-true, ltb-false, get_or-set_same, set-get_or, read_block, is_disregarded}
+use Words.{Input, cell, end, try_nak, with_reply, with_session, without_turn, in_session, Phase, Down, Calling, Config}
+use Words.{Session, CustomerStep, goes_up, with_raised_line, silent, session_over, session_ended, carried_out}
+use Words.{after_line_input, text_read, Customer, CustomerLine, no_customer_line, line_at, on_line, in_state}
+use Words.{session_on, IsButSession, IsDisregarded, SpoiledIsDisregarded, BadBlocksAreDisregarded, GarbledIsDisregarded}
+use Rattle.{std.proofs.Common.{◌≡◌, ◌+◌, ◌<◌, ◌==◌, ◌∙◌}, njh_line.specs.LineTable.{table_outcome, none}}
+use Rattle.{njh_line.specs.declared.verdict.Verdict.Verdict, njh_customer.specs.Alone.{after_frame, after_signal}}
 use Rattle.njh_bisync.specs.declared.frame.Control.TheVariants as control
 use Rattle.njh_line.specs.LineTable as input
-use Rattle.njh_line.specs.LineTable.{table_outcome, none}
 use Rattle.njh_line.specs.declared.verdict.LineReply.TheVariants as reply
-use Rattle.njh_line.specs.declared.verdict.Verdict.{Verdict}
-use Rattle.njh_customer.specs.Alone.{after_frame, after_signal}
 
 -- by what the line table says, where the line goes up or doesn't
 abbrev by_mark : Bool → ℕ → Session → Verdict → Customer → CustomerStep
-by_mark up l s v c = carried_out l v (record c {
-  entry = with_raised_line up l c.entry;
-  lines = on_line l (in_state (with_session s)) c.lines;
-})
+by_mark up l s v c = carried_out l v
+    (record c { entry = with_raised_line up l c.entry; lines = on_line l (in_state (with_session s)) c.lines })
 
 abbrev by_parts : ℕ → Session → Verdict → Customer → CustomerStep
 by_parts l s v c = by_mark (goes_up (session_on l c).phase s.phase) l s v c
@@ -28,10 +23,7 @@ by_parts l s v c = by_mark (goes_up (session_on l c).phase s.phase) l s v c
 -- a line that is as far as it was doesn't go up
 same_phase : (p : Phase) → goes_up p p ≡ false
 same_phase Down = refl
-same_phase Calling = refl
-same_phase Answered = refl
-same_phase SentI = refl
-same_phase Up = refl
+same_phase _ = refl
 
 unraised : (l : ℕ) (s : Session) (v : Verdict) (c : Customer) → s.phase ≡ (session_on l c).phase
     → by_parts l s v c ≡ by_mark false l s v c
@@ -49,25 +41,16 @@ unfolding table_outcome
 table_is config input.Spoiled s e = refl
 table_is config input.Bad s e = refl
 table_is config input.Garbled s e = refl
-table_is config input.Enquiry s e = absurd (cc e)
-table_is config input.Ack0 s e = absurd (cc e)
-table_is config input.Nak s e = absurd (cc e)
-table_is config input.Eot s e = absurd (cc e)
-table_is config input.Lost s e = absurd (cc e)
-table_is config input.Tick s e = absurd (cc e)
-table_is config (input.Block bcb fcs first) s e = absurd (cc e)
+table_is config _ s e = absurd (cc e)
 
 module _ (l : ℕ) (c : Customer) where
   -- the line with the session that it has
-  same_lines : set c.lines l (get_or c.lines l no_customer_line) ≡ c.lines
-  same_lines = set-get_or c.lines l no_customer_line
-
   again : (xs : List CustomerLine) → set xs l (get_or xs l no_customer_line) ≡ xs
   again xs = set-get_or xs l no_customer_line
 
   nothing : by_parts l (none (session_on l c)).session (none (session_on l c)).verdict c ≡ silent c
   nothing = unraised l (none (session_on l c)).session (none (session_on l c)).verdict c refl
-      ∙ ap (λ lines. silent (lines_as c lines)) (again (set c.lines l (line_at l c.lines)) ∙ same_lines)
+      ∙ ap (λ lines. silent (lines_as c lines)) (again (set c.lines l (line_at l c.lines)) ∙ again c.lines)
 
   ends : by_parts l (end (session_on l c)).session (end (session_on l c)).verdict c ≡ silent (session_ended l c)
   ends = ap (λ lines. silent (session_over l (lines_as c lines)))
@@ -92,7 +75,7 @@ module _ (l : ℕ) (c : Customer) where
       })
 
   unchanged : IsButSession l c c
-  unchanged = record { session = session_on l c; after = ap (lines_as c) (sym same_lines) }
+  unchanged = record { session = session_on l c; after = ap (lines_as c) (sym (again c.lines)) }
 
   where_down : (s : CustomerStep) → in_session (session_on l c).phase ≡ false → s ≡ silent c → IsDisregarded l c s
   where_down s e same = record {
@@ -124,9 +107,7 @@ module _ (l : ℕ) (c : Customer) where
       s ≡ by_parts l o.session o.verdict c) → IsDisregarded l c s
   by_phase Down e there s is = where_down s (ap in_session e) (is ∙ nothing)
   by_phase Calling e there s is = where_down s (ap in_session e) (is ∙ nothing)
-  by_phase Answered e there s is = tried_or_over ((session_on l c).tries == 5) refl there (ap in_session e) s is
-  by_phase SentI e there s is = tried_or_over ((session_on l c).tries == 5) refl there (ap in_session e) s is
-  by_phase Up e there s is = tried_or_over ((session_on l c).tries == 5) refl there (ap in_session e) s is
+  by_phase _ e there s is = tried_or_over ((session_on l c).tries == 5) refl there (ap in_session e) s is
 
   input_disregarded : (came : Input) → is_disregarded came ≡ true → l < length c.lines
       → IsDisregarded l c (after_line_input l came c)
@@ -141,22 +122,20 @@ module _ (l : ℕ) (c : Customer) where
     over = λ there up tries. absurd (omega (arith, ltb-false l (length c.lines) e));
   }
 
-  where_it_is : (s : CustomerStep) (b : Bool) → nat_lt l (length c.lines) ≡ b
-      → (l < length c.lines → IsDisregarded l c s) → IsDisregarded l c (cond b s (silent c))
-  where_it_is s true e there = there (ltb-true l (length c.lines) e)
-  where_it_is s false e there = not_there e
+  where_it_is : (s : CustomerStep) → (l < length c.lines → IsDisregarded l c s)
+      → IsDisregarded l c (cond (nat_lt l (length c.lines)) s (silent c))
+  where_it_is s there = cond_both (nat_lt l (length c.lines)) s (silent c) (IsDisregarded l c)
+      (λ e. there (ltb-true l (length c.lines) e)) not_there
 
 pub spoiled : SpoiledIsDisregarded
 unfolding after_frame
-spoiled l c = where_it_is l c (after_line_input l input.Spoiled c) (nat_lt l (length c.lines)) refl
-    (input_disregarded l c input.Spoiled refl)
+spoiled l c = where_it_is l c (after_line_input l input.Spoiled c) (input_disregarded l c input.Spoiled refl)
 
 pub bad_blocks : BadBlocksAreDisregarded
 unfolding after_frame
-bad_blocks l text fault c e = where_it_is l c (text_read l (read_block text) c) (nat_lt l (length c.lines)) refl
-    (λ there. subst (λ b. IsDisregarded l c (text_read l b c)) (sym e) (input_disregarded l c input.Bad refl there))
+bad_blocks l text fault c e = where_it_is l c (text_read l (read_block text) c) (λ there.
+    subst (λ b. IsDisregarded l c (text_read l b c)) (sym e) (input_disregarded l c input.Bad refl there))
 
 pub garbled : GarbledIsDisregarded
 unfolding after_signal
-garbled l c = where_it_is l c (after_line_input l input.Garbled c) (nat_lt l (length c.lines)) refl
-    (input_disregarded l c input.Garbled refl)
+garbled l c = where_it_is l c (after_line_input l input.Garbled c) (input_disregarded l c input.Garbled refl)

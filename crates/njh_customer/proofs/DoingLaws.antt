@@ -1,28 +1,22 @@
 -- What a frame or a signal on a line does to a customer's whole files and to its streams from the hub.
 use Rattle.njh_customer.proofs.Words
-use Words.{ℕ, Bool, true, false, List, [], length, get_or, refl, sym, ap, subst, arith, get_or-map, map-set_same}
-use Words.{length-map, length-set, text_bytes, Enquiry, Ack0, Nak, Item, text_of, CustomerEntry, goes_by, Sender}
-use Words.{Filling, filled_block, own_fcs, CommandsMoveFilesSo, Input, LineState, after_end, after_input, opening}
-use Words.{Config, LineReply, acted_where, silent, with_idle_streams, with_raised_line, goes_up_by, replied_to}
+use Words.{is_next, ℕ, Bool, true, false, List, [], length, get_or, refl, sym, ap, subst, arith, get_or-map}
+use Words.{map-set_same, length-map, length-set, text_bytes, Enquiry, Ack0, Nak, Item, text_of, CustomerEntry, goes_by}
+use Words.{Sender, Filling, filled_block, own_fcs, CommandsMoveFilesSo, Input, LineState, after_end, after_input}
+use Words.{opening, Config, LineReply, acted_where, silent, with_idle_streams, with_raised_line, goes_up_by, replied_to}
 use Words.{session_over, session_over_where, session_ended, carried_out, verdict_on, accepted_on, after_line_input}
 use Words.{block_input, behind_records, after_block, after_frame, after_signal, Customer, CustomerLine}
 use Words.{no_customer_line, line_at, on_line, in_state, Carries, Ends, still_on, over_now, GoesOut, no_block}
 use Words.{new_block, records_of_frame, IsNoNewBlock, nothing_sent, control, again, sign_on, count, without_records}
 use Words.{LeadsByMoves, nowhere, OneActs, Outgoing, outgoing, streams_from_hub, streams_of, sending_of_control}
 use Words.{sending_of_no_block, next_block, own_block, sending_of_reply, with_outlet, Signal}
-use Rattle.std.proofs.Common.{◌≡◌, ◌<◌, ◌∙◌}
-use Rattle.njh_bisync.specs.Frames.{Received}
-use Rattle.njh_bisync.specs.declared.frame.Control.{Control}
-use Rattle.njh_block.specs.Blocks.{Block}
+use Rattle.{std.proofs.Common.{◌≡◌, ◌<◌, ◌∙◌}, njh_bisync.specs.{Frames.Received, declared.frame.Control.Control}}
+use Rattle.{njh_block.specs.Blocks.Block, njh_line.specs.declared.verdict.Verdict.Verdict}
+use Rattle.njh_customer.{specs.FrameEffects.Does, proofs.{ActingMoves.{Acting, acting_where}, LineWalks.{kept, kepts}}}
+use Rattle.njh_customer.proofs.{LineWalks.lines_of, OutgoingLaws.{of_parts, on_line_senders, over_so, reply_unmoved}}
+use Rattle.njh_customer.proofs.{ReplyLaws.{empty_so, written_so}, SendingMoves.{out_of, filled_with_none, filling_on}}
+use Rattle.njh_customer.proofs.{SendingMoves.{next_begins, next_is, next_leads}, StepWalks.{frame_holds, signal_holds}}
 use Rattle.njh_line.specs.declared.verdict.LineReply.TheVariants as reply
-use Rattle.njh_line.specs.declared.verdict.Verdict.{Verdict}
-use Rattle.njh_customer.specs.FrameEffects.{Does}
-use Rattle.njh_customer.proofs.ActingMoves.{Acting, acting_where}
-use Rattle.njh_customer.proofs.LineWalks.{kept, kepts, lines_of}
-use Rattle.njh_customer.proofs.OutgoingLaws.{of_parts, on_line_senders, over_so, reply_unmoved}
-use Rattle.njh_customer.proofs.ReplyLaws.{empty_so, is_next, written_so}
-use Rattle.njh_customer.proofs.SendingMoves.{out_of, filled_with_none, filling_on, next_begins, next_is, next_leads}
-use Rattle.njh_customer.proofs.StepWalks.{frame_holds, signal_holds}
 
 -- ---- what goes out
 
@@ -36,6 +30,16 @@ control_is : (line x : LineState) (which : Control) → IsNoNewBlock line (sendi
 control_is line x Enquiry = control Enquiry refl
 control_is line x Ack0 = control Ack0 refl
 control_is line x Nak = control Nak refl
+
+quiet_is : (l : ℕ) (r : LineReply) (c : Customer) → is_next r ≡ false
+    → IsNoNewBlock (line_at l c.lines).state (replied_to l r c).frame
+quiet_is l reply.Nothing c e = nothing_sent refl
+quiet_is l (reply.Control which) c e = control_is (line_at l c.lines).state (line_at l c.lines).state which
+quiet_is l reply.Again c e = again refl
+quiet_is l (reply.SignOn kind) c e = sign_on kind refl
+quiet_is l (reply.Sequence expected) c e =
+    count (own_block (own_fcs c.spool) (line_at l c.lines).state).bcb (own_fcs c.spool) expected refl
+quiet_is l (reply.Next or_ack0) c e = absurd (cc e)
 
 -- in the place of a new block
 in_its_place : (line x : LineState) (or_ack0 : Bool) → IsNoNewBlock line (sending_of_no_block or_ack0 x).frame
@@ -100,25 +104,8 @@ module _ (carry : BlocksCarry) (commands : CommandsMoveFilesSo) where
   reply_goes_out : (l : ℕ) (r : LineReply) (c : Customer) → l < length c.lines
       → GoesOut c.entry l (line_at l c.lines).state (outgoing c) (outgoing (replied_to l r c).after)
       (replied_to l r c).frame
-  reply_goes_out l r c there = at r
-    where
-      line : LineState
-      line = (line_at l c.lines).state
-
-      -- what moves no stream
-      still : (r : LineReply) → is_next r ≡ false → IsNoNewBlock line (replied_to l r c).frame
-          → GoesOut c.entry l line (outgoing c) (outgoing (replied_to l r c).after) (replied_to l r c).frame
-      still r quiet no_new = no_block (reply_unmoved l r c quiet) no_new
-
-      at : (r : LineReply) → GoesOut c.entry l line (outgoing c) (outgoing (replied_to l r c).after)
-          (replied_to l r c).frame
-      at reply.Nothing = still reply.Nothing refl (nothing_sent refl)
-      at (reply.Control which) = still (reply.Control which) refl (control_is line line which)
-      at reply.Again = still reply.Again refl (again refl)
-      at (reply.SignOn kind) = still (reply.SignOn kind) refl (sign_on kind refl)
-      at (reply.Sequence expected) = still (reply.Sequence expected) refl (count (own_block (own_fcs c.spool) line).bcb
-          (own_fcs c.spool) expected refl)
-      at (reply.Next or_ack0) = next_goes_out l or_ack0 c there
+  reply_goes_out l (reply.Next or_ack0) c there = next_goes_out l or_ack0 c there
+  reply_goes_out l r c there = no_block (reply_unmoved l r c refl) (quiet_is l r c refl)
 
   -- ---- a step, behind its records
 

@@ -3,18 +3,15 @@ use Rattle.njh_customer.proofs.Words
 use Words.{ℕ, Bool, true, false, List, [], Option, Some, None, length, set, take, refl, sym, ap, subst, arith, get_or}
 use Words.{set-set, set-get_or, Contains-append_left, Contains-append_right, Contains, cons_option, flat_map}
 use Words.{frames_after, rest_step, Rest, Item, CustomerEntry, entry_marked, routes_checked, CustomerStep}
-use Words.{with_raised_line, after_signal, after_frame, Customer, line_at, with_marks, acted_on, bytes_run, Ends}
-use Words.{still_on, over_now, GoesOut, no_block, new_block, records_of_frame, followed_by, EventsKeepEntries}
-use Words.{EventsKeepFaults, EventsKeepLines, TakesKeepEntries, LeadsByMoves, nowhere, onward, Moves, MovesBy, Records}
-use Words.{by_record, by_sending, by_end, OneActs, Sends, EventsMoveSo, FramesDoSo, SignalsDoSo, TakesMoveSo, coming}
-use Words.{entry_with, Outgoing, outgoing, part_after_bytes, rest_on, OwnBytes, OwnSignal, OwnRoutes, Run, event_run}
-use Rattle.std.proofs.Common.{◌≡◌, ◌∷◌, ◌++◌, ◌∙◌}
-use Rattle.njh_bisync.specs.Frames.{Received}
-use Rattle.njh_customer.specs.FrameEffects.{Does}
-use Rattle.njh_customer.proofs.OutgoingLaws.{leads_as, leads_then}
-use Rattle.njh_customer.proofs.PieceLaws.{no_bytes_do_nothing, steps_follow_bytes}
-use Rattle.njh_customer.proofs.RoutesMoves.{routes_move, routes_do, routes_keep_entry}
-use Rattle.njh_customer.proofs.StepWalks.{take_so}
+use Words.{with_raised_line, after_signal, after_frame, Customer, with_marks, acted_on, bytes_run, still_on, over_now}
+use Words.{no_block, new_block, records_of_frame, followed_by, EventsKeepEntries, EventsKeepFaults, EventsKeepLines}
+use Words.{TakesKeepEntries, LeadsByMoves, nowhere, onward, Moves, MovesBy, Records, by_record, by_sending, by_end}
+use Words.{OneActs, Sends, EventsMoveSo, FramesDoSo, SignalsDoSo, TakesMoveSo, coming, entry_with, Outgoing, outgoing}
+use Words.{part_after_bytes, rest_on, OwnBytes, OwnSignal, OwnRoutes, Run, event_run}
+use Rattle.{std.proofs.Common.{◌≡◌, ◌∷◌, ◌++◌, ◌∙◌}, njh_bisync.specs.Frames.Received}
+use Rattle.njh_customer.{specs.FrameEffects.Does, proofs.OutgoingLaws.{leads_as, leads_then}}
+use Rattle.njh_customer.proofs.{PieceLaws.{no_bytes_do_nothing, steps_follow_bytes}, RoutesMoves.routes_move}
+use Rattle.njh_customer.proofs.{RoutesMoves.{routes_do, routes_keep_entry}, StepWalks.take_so}
 
 more_records : (entry : CustomerEntry) (l : ℕ) (some items : List Item) (x y : Outgoing)
     → ((i : Item) → Contains some i → Contains items i) → Moves entry l some x y → Moves entry l items x y
@@ -25,26 +22,23 @@ more_records entry l some items x y among (by_end over) = by_end over
 -- all moves of a step
 pub does_moves : (l : ℕ) (items : List Item) (c : Customer) (s : CustomerStep) (does : Does l items c s)
     → LeadsByMoves (Moves (with_raised_line does.up l c.entry) l items) (outgoing c) (outgoing s.after)
-does_moves l items c s does = leads_then (Moves entry l items) (outgoing c) does.acted (outgoing s.after)
+does_moves l items c s does =
+    let entry = with_raised_line does.up l c.entry in
+    let answer : LeadsByMoves (Moves entry l items) does.acted does.answered = elim (does.answer) [
+      | no_block same no_new ↦ subst (LeadsByMoves (Moves entry l items) does.acted) (sym same) (nowhere does.acted)
+      | new_block bcb fcs is frame sends carries ↦
+          leads_as (Sends entry l) (Moves entry l items) does.acted does.answered (λ u v send. by_sending send) sends
+    ] in
+    let end : LeadsByMoves (Moves entry l items) does.answered (outgoing s.after) = elim (does.end) [
+      | still_on same kept ↦
+          subst (LeadsByMoves (Moves entry l items) does.answered) (sym same) (nowhere does.answered)
+      | over_now gone lowered ↦
+          onward does.answered (outgoing s.after) (outgoing s.after) (by_end gone) (nowhere (outgoing s.after))
+    ] in
+    leads_then (Moves entry l items) (outgoing c) does.acted (outgoing s.after)
     (leads_as (OneActs entry l items) (Moves entry l items) (outgoing c) does.acted
-    (λ u v acts. by_record acts) does.records) (leads_then (Moves entry l items) does.acted does.answered
-    (outgoing s.after) (at_answer does.answer) (at_end does.end))
-  where
-    entry : CustomerEntry
-    entry = with_raised_line does.up l c.entry
-
-    at_answer : GoesOut entry l (line_at l c.lines).state does.acted does.answered s.frame
-        → LeadsByMoves (Moves entry l items) does.acted does.answered
-    at_answer (no_block same no_new) = subst (LeadsByMoves (Moves entry l items) does.acted) (sym same)
-        (nowhere does.acted)
-    at_answer (new_block bcb fcs is frame sends carries) =
-        leads_as (Sends entry l) (Moves entry l items) does.acted does.answered (λ u v send. by_sending send) sends
-
-    at_end : Ends entry l does.answered s.after → LeadsByMoves (Moves entry l items) does.answered (outgoing s.after)
-    at_end (still_on same kept) = subst (LeadsByMoves (Moves entry l items) does.answered) (sym same)
-        (nowhere does.answered)
-    at_end (over_now gone lowered) = onward does.answered (outgoing s.after) (outgoing s.after) (by_end gone)
-        (nowhere (outgoing s.after))
+    (λ u v acts. by_record acts) does.records)
+    (leads_then (Moves entry l items) does.acted does.answered (outgoing s.after) answer end)
 
 -- ---- of an entry the marks alone are changed
 
@@ -77,17 +71,13 @@ own_marks new old up e = e ∙ sym (ap (λ (x : CustomerEntry). with_marks x.up 
 
 does_mark : (l : ℕ) (items : List Item) (c : Customer) (s : CustomerStep) → Does l items c s
     → IsMarkedAt l s.after.entry c.entry
-does_mark l items c s does = at_end does.end
-  where
-    judged : CustomerEntry
-    judged = with_raised_line does.up l c.entry
-
-    raised : IsMarkedAt l judged c.entry
-    raised = raised_at does.up l c.entry
-
-    at_end : Ends judged l does.answered s.after → IsMarkedAt l s.after.entry c.entry
-    at_end (still_on same kept) = (raised.0, kept ∙ raised.1)
-    at_end (over_now gone lowered) = (false, marked_behind l c.entry judged s.after.entry raised false lowered)
+does_mark l items c s does =
+    let judged = with_raised_line does.up l c.entry in
+    let raised : IsMarkedAt l judged c.entry = raised_at does.up l c.entry in
+    elim (does.end) [
+      | still_on same kept ↦ (raised.0, kept ∙ raised.1)
+      | over_now gone lowered ↦ (false, marked_behind l c.entry judged s.after.entry raised false lowered)
+    ]
 
 pub does_entry : (l : ℕ) (items : List Item) (c : Customer) (s : CustomerStep) → Does l items c s
     → s.after.entry ≡ with_marks s.after.entry.up c.entry

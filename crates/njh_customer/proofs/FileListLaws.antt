@@ -1,10 +1,10 @@
 -- Lists of whole files: which of them are there, by their numbers, after a change.
 use Rattle.njh_customer.proofs.Words
-use Words.{ℕ, zero, suc, Bool, true, false, cond, not, inl, inr, List, [], length, map, filter, replicate, get_or, refl}
-use Words.{sym, ap, arith, Some, ap₂, find, sum, count_by, eq-eqb, subst, set, eqb-true, get_or-map, get_or_default}
-use Words.{length-map, Contains-append_right, Contains-get_or, All-contains, filter_passes, sum_by-filter_both}
-use Words.{list_any_at, sum-map, sum_by-cons, map-map, Contains, list_any, sum_by, WholeFile, State, only_found, ready}
-use Words.{changed_file, may_change, with_file_state}
+use Words.{cond_both, ℕ, zero, suc, Bool, true, false, cond, not, inl, inr, List, [], length, map, filter, replicate}
+use Words.{get_or, refl, sym, ap, arith, Some, ap₂, find, sum, count_by, eq-eqb, subst, set, eqb-true, get_or-map}
+use Words.{get_or_default, length-map, Contains-append_right, Contains-get_or, All-contains, filter_passes}
+use Words.{sum_by-filter_both, list_any_at, sum-map, sum_by-cons, map-map, Contains, list_any, sum_by, WholeFile, State}
+use Words.{only_found, ready, changed_file, may_change, with_file_state}
 use Rattle.std.proofs.Common.{◌≡◌, ◌<◌, ◌==◌, ◌||◌, ◌⊎◌, ◌∷◌, ◌∙◌, ◌+◌, ◌≤◌}
 
 -- a list of copies holds nothing else
@@ -24,14 +24,8 @@ module _ {X Y : Type 0} (g : X → Y) where
   -- and where a test says so
   pub changed_where : (p : X → Bool) (change : X → X) (xs : List X) → ((x : X) → g (change x) ≡ g x)
       → map g (map (λ x. cond (p x) (change x) x) xs) ≡ map g xs
-  changed_where p change xs same = each_same (λ x. cond (p x) (change x) x) each xs
-    where
-      at_test : (b : Bool) (x : X) → g (cond b (change x) x) ≡ g x
-      at_test true x = same x
-      at_test false x = refl
-
-      each : (x : X) → g (cond (p x) (change x) x) ≡ g x
-      each x = at_test (p x) x
+  changed_where p change xs same = each_same (λ x. cond (p x) (change x) x)
+      (λ x. cond_both (p x) (change x) x (λ y. g y ≡ g x) (λ _. same x) (λ _. refl)) xs
 
   -- where g sees the same there are as many,
   pub as_many : (xs ys : List X) → map g xs ≡ map g ys → length xs ≡ length ys
@@ -90,11 +84,10 @@ from_filter {A} p (x ∷ xs) g at = at_test (p x) (from_filter p xs g) at
     at_test : (b : Bool) → (Contains (filter p xs) g → Contains xs g)
         → Contains (cond b (x ∷ filter p xs) (filter p xs)) g → Contains (x ∷ xs) g
     at_test false rest at = Contains-append_right (x ∷ []) xs g (rest at)
-    at_test true rest at = at_first (first_or_later x (filter p xs) g at)
-      where
-        at_first : (x ≡ g) ⊎ Contains (filter p xs) g → Contains (x ∷ xs) g
-        at_first (inl first) = (0, omega arith, first)
-        at_first (inr later) = Contains-append_right (x ∷ []) xs g (rest later)
+    at_test true rest at = elim (first_or_later x (filter p xs) g at) [
+      | inl first ↦ (0, omega arith, first)
+      | inr later ↦ Contains-append_right (x ∷ []) xs g (rest later)
+    ]
 
 pub into_filter : {A : Type 0} (p : A → Bool) (xs : List A) (g : A) → Contains xs g → p g ≡ true
     → Contains (filter p xs) g

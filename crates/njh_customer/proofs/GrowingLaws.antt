@@ -1,15 +1,23 @@
--- How a customer's files grow from one spool to another, and which become whole.
+-- How a customer's files grow from one spool to another, and which become whole; and what the records of a block do to
+-- them.
 use Rattle.njh_customer.proofs.Words
 use Words.{ℕ, not, inl, inr, List, [], length, Option, Some, None, refl, sym, ap, subst, arith, length-append}
 use Words.{append_assoc, append-nil, Contains-append_cases, Contains-push_cases, Contains, Stored, Kind}
 use Words.{records_to_node, CustomerSpool, PartialFile, WholeFile, max_arrived, next_number, with_new_partial}
 use Words.{with_appended, without_partial, as_whole, with_arrived, partial_numbered, with_finished, HasCome, few}
 use Words.{goes_on, HasBecomeWhole, FilesGrow, FilesGrowFurther, ReroutesKeepCounts, ManyRecordsGoOn, IsRerouted}
-use Words.{as_before, to_node, IsStill, Survive}
+use Words.{as_before, to_node, IsStill, Survive, ℕ, Bool, true, false, List, [], None, refl, arith, filter, map, Ok}
+use Words.{Err, Stored, Kind, Item, with_destination, records_to_node, CustomerSpool, without_partial, with_appended}
+use Words.{with_finished, with_new_partial, entries_of_routes, routes_checked, CommandsMoveFilesSo, ReroutesNameNodes}
+use Words.{changed_file, with_new_destination, LineReply, after_record, ends_session, ended_or, all_acted, replied_to}
+use Words.{session_over, session_over_where, Customer, FilesGrow, RoutesGrowFiles, taken_where, Survive}
 use Rattle.std.proofs.Common.{◌≡◌, ◌<◌, ◌≤◌, ◌+◌, ◌==◌, ◌⊎◌, ◌∷◌, ◌++◌, ◌∙◌}
-use Rattle.njh_customer.proofs.FileListLaws.{from_filter, WasOrIs, first_or_later, found_one, from_where}
+use Rattle.njh_customer.proofs.FileListLaws.{from_filter, first_or_later, found_one, from_where, found_numbered}
 use Rattle.njh_customer.proofs.SurvivingLaws.{rerouted_then, same_files, survive_then, no_more, SurviveBoth}
-use Rattle.njh_customer.proofs.SurvivingLaws.{survive_both, was_there}
+use Rattle.njh_customer.proofs.SurvivingLaws.{survive_both, was_there, all_still, some_still, changed_still}
+use Rattle.njh_customer.proofs.{SurvivingLaws.{rerouted_still, but_states}, Restated.IsRestated}
+use Rattle.njh_customer.proofs.SpoolWalks.{StaysInFiles, record_so, replied_so, routes_so, session_over_so}
+use Rattle.{njh_customer.specs.Growing.PartialsAreNumbered, njh_block.specs.Blocks.Data}
 
 -- ---- records that have come
 
@@ -50,6 +58,11 @@ later_whole k before f g still whole = record {
 
 -- ---- one thing and then another
 
+-- by the records that had come
+became : {k : ℕ} {before : List PartialFile} {f : WholeFile} (came : List Stored)
+    → HasCome k before f.number f.kind came → IsRerouted f.kind came f.records → HasBecomeWhole k before f
+became came has_come records = record { came = came; has_come = has_come; records = records }
+
 pub grow_then : FilesGrowFurther
 grow_then j k x y z first second = record {
   still = parts.first;
@@ -58,7 +71,17 @@ grow_then j k x y z first second = record {
       ∙ append_assoc parts.first parts.second second.new;
   survive = survive_then x.whole first.still parts.first first.survive parts.of_first;
   counted = counted;
-  became_whole = λ f at. became_whole f (Contains-append_cases parts.second second.new f at);
+  became_whole = λ f at. elim (Contains-append_cases parts.second second.new f at) [
+    | inl there ↦
+        let found = was_there first.new parts.second parts.of_second f there in
+        let whole = later_whole j x.partial found.0 f found.2 (first.became_whole found.0 found.1) in
+        became whole.came (more_come j (j + k) x.partial f.number f.kind whole.came (omega arith) whole.has_come)
+        whole.records
+    | inr there ↦
+        let whole = second.became_whole f there in
+        became whole.came
+        (come_then j k x.partial y.partial first.partial f.number f.kind whole.came whole.has_come) whole.records
+  ];
   partial = λ f at. come_then j k x.partial y.partial first.partial f.number f.kind f.records (second.partial f at);
 }
   where
@@ -73,24 +96,6 @@ grow_then j k x y z first second = record {
         let besides = length-append parts.second second.new in
         omega (arith, no_more first.new parts.second parts.of_second)
 
-    became_whole : (f : WholeFile) → Contains parts.second f ⊎ Contains second.new f
-        → HasBecomeWhole (j + k) x.partial f
-    became_whole f (inl at) =
-        let found = was_there first.new parts.second parts.of_second f at in
-        let whole = later_whole j x.partial found.0 f found.2 (first.became_whole found.0 found.1) in
-        record {
-          came = whole.came;
-          has_come = more_come j (j + k) x.partial f.number f.kind whole.came (omega arith) whole.has_come;
-          records = whole.records;
-        }
-    became_whole f (inr at) =
-        let whole = second.became_whole f at in
-        record {
-          came = whole.came;
-          has_come = come_then j k x.partial y.partial first.partial f.number f.kind whole.came whole.has_come;
-          records = whole.records;
-        }
-
 pub grow_within : (j k : ℕ) (x y : CustomerSpool) → j ≤ k → FilesGrow j x y → FilesGrow k x y
 grow_within j k x y within grow = record {
   still = grow.still;
@@ -99,11 +104,7 @@ grow_within j k x y within grow = record {
   survive = grow.survive;
   counted = grow.counted;
   became_whole = λ f at. let whole = grow.became_whole f at in
-      record {
-        came = whole.came;
-        has_come = more_come j k x.partial f.number f.kind whole.came within whole.has_come;
-        records = whole.records;
-      };
+      became whole.came (more_come j k x.partial f.number f.kind whole.came within whole.has_come) whole.records;
   partial = λ f at. more_come j k x.partial f.number f.kind f.records within (grow.partial f at);
 }
 
@@ -144,30 +145,24 @@ without_grows n s = none_whole 0 s (without_partial n s) (same_files s.whole) re
     (λ f at. left_come s.partial f (from_filter (λ (g : PartialFile). not (g.number == n)) s.partial f at))
 
 pub begun_grows : (kind : Kind) (s : CustomerSpool) → FilesGrow 0 s (with_new_partial kind s)
-begun_grows kind s = none_whole 0 s (with_new_partial kind s) (same_files s.whole) refl
-    (λ f at. at_last f (Contains-push_cases s.partial begun f at))
-  where
-    begun : PartialFile
-    begun = record { number = next_number s; kind = kind; records = [] }
-
-    at_last : (f : PartialFile) → Contains s.partial f ⊎ (begun ≡ f) → HasCome 0 s.partial f.number f.kind f.records
-    at_last f (inl there) = left_come s.partial f there
-    at_last f (inr same) = subst (λ (g : PartialFile). HasCome 0 s.partial g.number g.kind g.records) same
-        (few (omega arith))
+begun_grows kind s =
+    let begun : PartialFile = record { number = next_number s; kind = kind; records = [] } in
+    none_whole 0 s (with_new_partial kind s) (same_files s.whole) refl (λ f at.
+    elim (Contains-push_cases s.partial begun f at) [
+      | inl there ↦ left_come s.partial f there
+      | inr same ↦
+          subst (λ (g : PartialFile). HasCome 0 s.partial g.number g.kind g.records) same (few (omega arith))
+    ])
 
 pub appended_grows : (n : ℕ) (r : Stored) (s : CustomerSpool) → FilesGrow 1 s (with_appended n r s)
-appended_grows n r s = none_whole 1 s (with_appended n r s) (same_files s.whole) refl
-    (λ g at. at_test g (from_where (λ (f : PartialFile). f.number == n) with_record s.partial g at))
-  where
-    with_record : PartialFile → PartialFile
-    with_record f = record f { records = f.records ++ r ∷ [] }
-
-    at_test : (g : PartialFile) → WasOrIs (λ (f : PartialFile). f.number == n) with_record s.partial g
-        → HasCome 1 s.partial g.number g.kind g.records
-    at_test g (inl (f, there, passes, e)) =
-        goes_on f (r ∷ []) there (sym (ap (λ h. h.number) e)) (sym (ap (λ h. h.kind) e)) (omega arith)
-        (ap (λ h. h.records) e)
-    at_test g (inr (there, fails)) = goes_on g [] there refl refl (omega arith) (sym (append-nil g.records))
+appended_grows n r s =
+    let with_record : PartialFile → PartialFile = λ f. record f { records = f.records ++ r ∷ [] } in
+    none_whole 1 s (with_appended n r s) (same_files s.whole) refl (λ g at.
+    elim (from_where (λ (f : PartialFile). f.number == n) with_record s.partial g at) [
+      | inl (f, there, passes, e) ↦ goes_on f (r ∷ []) there (sym (ap (λ h. h.number) e))
+          (sym (ap (λ h. h.kind) e)) (omega arith) (ap (λ h. h.records) e)
+      | inr (there, fails) ↦ goes_on g [] there refl refl (omega arith) (sym (append-nil g.records))
+    ])
 
 pub finished_grows : (n : ℕ) (s : CustomerSpool) → FilesGrow 0 s (with_finished n s)
 finished_grows n s = at_file (partial_numbered n s) refl
@@ -208,3 +203,91 @@ pub many_go_on : ManyRecordsGoOn
 many_go_on k n before kind records many (few short) = absurd (omega arith)
 many_go_on k n before kind records many (goes_on f more at number same short is) =
     record { file = f; more = more; there = at; same_number = number; same_kind = same; records_are = is }
+
+-- ---- what the records of a block do to the files
+
+pub restated_grows : (s t u : CustomerSpool) → IsRestated t u → FilesGrow 0 s t → FilesGrow 0 s u
+restated_grows s t u restated grow = then_quietly 0 s t u grow
+    (quiet t u (but_states t.whole u.whole restated.whole) restated.arrived restated.partial)
+
+pub reply_grows : (l : ℕ) (r : LineReply) (c : Customer) → FilesGrow 0 c.spool (replied_to l r c).after.spool
+reply_grows l r c = replied_so (FilesGrow 0 c.spool) (restated_grows c.spool) l r c (unchanged c.spool)
+
+pub over_grows : (l : ℕ) (c : Customer) → FilesGrow 0 c.spool (session_over l c).spool
+over_grows l c = session_over_so (FilesGrow 0 c.spool) (restated_grows c.spool)
+    (λ n t grow. then_quietly 0 c.spool t (without_partial n t) grow (without_grows n t)) l c (unchanged c.spool)
+
+pub over_where_grows : (b : Bool) (l : ℕ) (c : Customer) → FilesGrow 0 c.spool (session_over_where b l c).spool
+over_where_grows true l c = over_grows l c
+over_where_grows false l c = unchanged c.spool
+
+-- ---- new routes
+
+pub routes_grow : RoutesGrowFiles
+routes_grow p routes =
+    let s = p.customer.spool in
+    elim (routes_checked p.customer.entry routes) as (λ w. FilesGrow 0 s (taken_where w routes p).customer.spool) [
+      | Ok faultless ↦
+          routes_so (FilesGrow 0 s) (restated_grows s) (entries_of_routes routes) p.customer (unchanged s)
+      | Err fault ↦ unchanged s
+    ]
+
+-- how many records an item adds at most
+abbrev pub data_in : Item → ℕ
+data_in (Data rcb srcb bytes) = 1
+data_in _ = 0
+
+abbrev pub data_count : List Item → ℕ
+data_count [] = 0
+data_count (i ∷ is) = data_in i + data_count is
+
+abbrev pub RedirectsByRecords : Type 0
+RedirectsByRecords = (kind : Kind) (node : List ℕ) (records : List Stored)
+    → records_to_node kind node None records ≡ with_destination kind node records
+
+-- whole files alone change
+whole_grows : (s t u : CustomerSpool) → Survive t.whole u.whole → FilesGrow 0 s t → u.arrived ≡ t.arrived
+    → u.partial ≡ t.partial → FilesGrow 0 s u
+whole_grows s t u survive grow arrived partial = then_quietly 0 s t u grow (quiet t u survive arrived partial)
+
+module _ (by_records : RedirectsByRecords) (names : ReroutesNameNodes) (commands : CommandsMoveFilesSo) where
+  -- from these files
+  grow_files : (s : CustomerSpool) → StaysInFiles (FilesGrow 0 s) (λ i. FilesGrow (data_in i) s)
+  grow_files s = record {
+    arrivals = record {
+      still = λ i t grow. grow_within 0 (data_in i) s t (omega arith) grow;
+      without = λ n t grow. then_quietly 0 s t (without_partial n t) grow (without_grows n t);
+      begun = λ rcb srcb kind t room grow. then_quietly 0 s t (with_new_partial kind t) grow (begun_grows kind t);
+      appended = λ rcb r n t room grow. quietly_then 1 s t (with_appended n r t) grow (appended_grows n r t);
+      finished = λ rcb srcb n t whole grow. quietly_then 1 s t (with_finished n t) grow
+          (grow_within 0 1 t (with_finished n t) (omega arith) (finished_grows n t));
+    };
+    restated = restated_grows s;
+    left = λ p t grow. whole_grows s t (record t { whole = filter p t.whole }) (some_still p t.whole) grow refl refl;
+    rerouted = λ p node t named grow. let change = changed_file p (with_new_destination node) in
+        whole_grows s t (record t { whole = map change t.whole })
+        (all_still change (changed_still p (with_new_destination node) (rerouted_still by_records names node named))
+        t.whole) grow refl refl;
+  }
+
+  pub record_grows : (l : ℕ) (i : Item) (c : Customer) → FilesGrow (data_in i) c.spool (after_record l i c).spool
+  record_grows l i c =
+      record_so (FilesGrow 0 c.spool) (λ j. FilesGrow (data_in j) c.spool) (grow_files c.spool) names commands l i c
+      (unchanged c.spool)
+
+  pub all_grow : (l : ℕ) (items : List Item) (c : Customer)
+      → FilesGrow (data_count items) c.spool (all_acted l items c).customer.spool
+  all_grow l [] c = unchanged c.spool
+  all_grow l (i ∷ is) c =
+      let later = all_acted l is (after_record l i c) in
+      let grow = all_grow l is (after_record l i c) in
+      elim (ends_session i) as (λ b. FilesGrow (data_count (i ∷ is)) c.spool (ended_or b c later).customer.spool) [
+        | true ↦ grow_within 0 (data_count (i ∷ is)) c.spool c.spool (omega arith) (unchanged c.spool)
+        | false ↦ grow_then (data_in i) (data_count is) c.spool (after_record l i c).spool later.customer.spool
+            (record_grows l i c) grow
+      ]
+
+-- ---- which partial file it was
+
+pub partials_numbered : PartialsAreNumbered
+partials_numbered before f once at = found_numbered (λ (g : PartialFile). g.number) before f f.number once at refl

@@ -1,173 +1,24 @@
 -- A line that isn't up has no stream about a file and no answer that waits, and SYSOUT 4 counts as served last.
 use Rattle.njh_customer.proofs.Words
-use Words.{ℕ, Bool, true, false, cond, List, length, set, get_or, Option, Some, None, refl, sym, ap, subst, arith}
-use Words.{nat_lt, eqb-true, get_or-map, map-set_same, eqb-false, ltb-false, ltb-true, get_or-set_at, get_or-set_same}
-use Words.{get_or-set_other, length-map, length-set, get_or_past, All-map, Item, SignOn, CustomerSpool, CustomerEntry}
-use Words.{Role, file_in, Receiver, without_file, bcb_type, bcb_count, count_verdict, is_repeat, is_taken, is_up, Input}
-use Words.{cell, enquiry, ack0, hang_up, end, end_and_contact, try_with, try_again, try_nak, with_reply, contact, call}
-use Words.{i_block, next_or_turn, next_in_turn, by_count, signed_on, i_sign_on, j_sign_on, act, after_end, after_input}
-use Words.{with_answer, with_message, fitting, InputsKeepUp, KeepsUp, Phase, Down, Calling, Answered, SentI, Up, Config}
-use Words.{Initial, Response, Session, LineReply, without_sending, with_senders_by, all_acted, acted_where}
+use Words.{cases_Bool, cases_lt, inl, inr, is_next, ℕ, Bool, true, false, List, length, set, get_or, None, refl, sym}
+use Words.{ap, subst, arith, eqb-true, get_or-map, map-set_same, eqb-false, get_or-set_at, get_or-set_same}
+use Words.{get_or-set_other, length-map, length-set, get_or_past, All-map, Item, CustomerSpool, CustomerEntry, file_in}
+use Words.{Receiver, without_file, is_up, Input, after_end, after_input, with_answer, with_message, InputsKeepUp}
+use Words.{KeepsUp, Phase, Down, Config, LineReply, without_sending, with_senders_by, all_acted, acted_where}
 use Words.{with_idle_streams, replied_to, session_over, session_over_where, session_ended, carried_out, verdict_on}
 use Words.{accepted_on, after_line_input, block_input, behind_records, after_frame, after_signal, Customer}
 use Words.{CustomerLine, no_customer_line, line_at, on_line, in_state, with_notice, with_receiver, with_sender}
 use Words.{config_of, fresh_customer, idle_line, receiver_at, IsIdle, IdleUnlessUp, phase_of, sending_of_reply}
 use Words.{with_waiting, Signal}
-use Rattle.std.proofs.Common.{◌≡◌, ◌+◌, ◌<◌, ◌==◌, ◌∙◌}
-use Rattle.njh_bisync.specs.Frames.{Received}
+use Rattle.{std.proofs.Common.{◌≡◌, ◌<◌, ◌==◌, ◌∙◌}, njh_bisync.specs.Frames.Received, njh_line.specs.LineTable.none}
+use Rattle.{njh_line.specs.declared.verdict.Verdict.Verdict, njh_customer.specs.Customer.sender_at}
+use Rattle.njh_customer.proofs.{FileListLaws.copies, LineWalks.{StaysOnLines, record_on_lines}}
+use Rattle.njh_customer.proofs.{RecordsDo.acted_where_so, ReplyLaws.reply_lasting, StepWalks.frame_holds}
+use Rattle.njh_customer.proofs.StepWalks.{signal_holds}
 use Rattle.njh_bisync.specs.declared.frame.Control.TheVariants as control
-use Rattle.njh_table.specs.declared.Role.TheVariants as role
 use Rattle.njh_stream.specs.declared.receiver.Receiver.TheVariants as receiver
 use Rattle.njh_stream.specs.declared.sender.Sender.TheVariants as sender
-use Rattle.njh_line.specs.LineTable as input
-use Rattle.njh_line.specs.LineTable.{table_outcome, none}
 use Rattle.njh_line.specs.declared.verdict.LineReply.TheVariants as reply
-use Rattle.njh_line.specs.declared.verdict.Verdict.{Verdict}
-use Rattle.njh_customer.specs.Customer.{sender_at}
-use Rattle.njh_customer.proofs.FileListLaws.{copies}
-use Rattle.njh_customer.proofs.LineWalks.{StaysOnLines, record_on_lines}
-use Rattle.njh_customer.proofs.RecordsDo.{acted_where_so}
-use Rattle.njh_customer.proofs.ReplyLaws.{reply_lasting, is_next}
-use Rattle.njh_customer.proofs.StepWalks.{frame_holds, signal_holds}
-
--- ---- what the line table asks for
-
--- records act, and the next block goes, only where the line is up behind it
-record OnlyUp (v : Verdict) (p : Phase) : Type 0 where
-  pub acts : v.acts ≡ true → is_up p ≡ true
-  pub next : is_next v.reply ≡ true → is_up p ≡ true
-
-asks_nothing : {v : Verdict} {p : Phase} → v.acts ≡ false → is_next v.reply ≡ false → OnlyUp v p
-asks_nothing still quiet = record {
-  acts = λ acts. absurd (cc (sym still ∙ acts));
-  next = λ next. absurd (cc (sym quiet ∙ next));
-}
-
-is_up_then : {v : Verdict} {p : Phase} → is_up p ≡ true → OnlyUp v p
-is_up_then up = record { acts = λ _. up; next = λ _. up }
-
-signed : (r : LineReply) (config : Config) (o : Option SignOn) (t : Session)
-    → (let x = signed_on r config o t in OnlyUp x.verdict x.session.phase)
-signed r config (Some x) t = is_up_then refl
-signed r config None t = asks_nothing refl refl
-
-module _ (s : Session) where
-  tries : (r : LineReply) → is_next r ≡ false → (let x = try_with r s in OnlyUp x.verdict x.session.phase)
-  tries r quiet = at (s.tries == 5)
-    where
-      at : (b : Bool) → (let x = cond b (end s) (with_reply r (record s { tries = s.tries + 1 })) in
-          OnlyUp x.verdict x.session.phase)
-      at true = asks_nothing refl refl
-      at false = asks_nothing refl quiet
-
-  in_turn : s.phase ≡ Up → (let x = next_in_turn s in OnlyUp x.verdict x.session.phase)
-  in_turn up = at s.has_turn
-    where
-      at : (b : Bool) → (let x = cond b (with_reply (reply.Next true) s) (try_nak s) in
-          OnlyUp x.verdict x.session.phase)
-      at true = is_up_then (ap is_up up)
-      at false = tries (reply.Control control.Nak) refl
-
-  contacts : (r : Role) → (let x = contact r s in OnlyUp x.verdict x.session.phase)
-  contacts role.Call = asks_nothing refl refl
-  contacts role.Answer = asks_nothing refl refl
-
-  ends_and_contacts : (r : Role) → (let x = end_and_contact r s in OnlyUp x.verdict x.session.phase)
-  ends_and_contacts role.Call = asks_nothing refl refl
-  ends_and_contacts role.Answer = asks_nothing refl refl
-
-  calls : (r : Role) → (let x = call r s in OnlyUp x.verdict x.session.phase)
-  calls role.Call = asks_nothing refl refl
-  calls role.Answer = asks_nothing refl refl
-
-  -- once a block is acted on, whichever BCB is kept as the last
-  abbrev acting_on : ℕ × ℕ → Option ℕ → Session
-  acting_on fcs last = record s { tries = 0; last_bcb = last; peer_fcs = fcs }
-
-  -- by the tests of the count rule, whose outcomes can't be named here
-  by_counts : (bcb : ℕ) (fcs : ℕ × ℕ) (acted : _) → (let x = by_count bcb fcs acted s in
-      ((last : Option ℕ) → (let y = acted (acting_on fcs last) in OnlyUp y.verdict y.session.phase))
-      → OnlyUp x.verdict x.session.phase)
-  by_counts bcb fcs acted acts = at_unchecked (bcb_type bcb == 1) refl
-    where
-      IsSo : Type 0
-      IsSo = let x = by_count bcb fcs acted s in OnlyUp x.verdict x.session.phase
-
-      at_taken : (b : Bool) → (bcb_type bcb == 1) ≡ false → is_repeat s.last_bcb bcb ≡ false
-          → (bcb_type bcb == 2) ≡ false → is_taken s.last_bcb (bcb_count bcb) ≡ b → IsSo
-      at_taken true e f g h = rw (e, f, g, h, by_count, count_verdict) (acts _)
-      at_taken false e f g h = rw (e, f, g, h, by_count, count_verdict) (asks_nothing refl refl)
-
-      at_set : (b : Bool) → (bcb_type bcb == 1) ≡ false → is_repeat s.last_bcb bcb ≡ false → (bcb_type bcb == 2) ≡ b
-          → IsSo
-      at_set true e f g = rw (e, f, g, by_count, count_verdict) (acts _)
-      at_set false e f g = at_taken (is_taken s.last_bcb (bcb_count bcb)) e f g refl
-
-      at_repeat : (b : Bool) → (bcb_type bcb == 1) ≡ false → is_repeat s.last_bcb bcb ≡ b → IsSo
-      at_repeat true e f = rw (e, f, by_count, count_verdict) (tries reply.Again refl)
-      at_repeat false e f = at_set (bcb_type bcb == 2) e f refl
-
-      at_unchecked : (b : Bool) → (bcb_type bcb == 1) ≡ b → IsSo
-      at_unchecked true e = rw (e, by_count, count_verdict) (acts _)
-      at_unchecked false e = at_repeat (is_repeat s.last_bcb bcb) e refl
-
-  in_row : (down calling answered sent_i up : _) → (let x = cell s.phase down calling answered sent_i up in
-      OnlyUp down.verdict down.session.phase → OnlyUp calling.verdict calling.session.phase
-      → OnlyUp answered.verdict answered.session.phase → OnlyUp sent_i.verdict sent_i.session.phase
-      → (s.phase ≡ Up → OnlyUp up.verdict up.session.phase) → OnlyUp x.verdict x.session.phase)
-  in_row down calling answered sent_i up d c a i u = at s.phase refl
-    where
-      at : (p : Phase) → s.phase ≡ p → (let x = cell p down calling answered sent_i up in
-          OnlyUp x.verdict x.session.phase)
-      at Down e = d
-      at Calling e = c
-      at Answered e = a
-      at SentI e = i
-      at Up e = u e
-
-  nothing : OnlyUp (none s).verdict (none s).session.phase
-  nothing = asks_nothing refl refl
-
-  tried : (let x = cell s.phase (none s) (none s) (try_nak s) (try_nak s) (try_nak s) in
-      OnlyUp x.verdict x.session.phase)
-  tried =
-      let nak = tries (reply.Control control.Nak) refl in
-      in_row (none s) (none s) (try_nak s) (try_nak s) (try_nak s) nothing nothing nak nak (λ _. nak)
-
-  hung_up : (let x = cell s.phase (none s) (hang_up s) (hang_up s) (hang_up s) (end s) in
-      OnlyUp x.verdict x.session.phase)
-  hung_up = in_row (none s) (hang_up s) (hang_up s) (hang_up s) (end s) nothing (asks_nothing refl refl)
-      (asks_nothing refl refl) (asks_nothing refl refl) (λ _. asks_nothing refl refl)
-
-only_up : (config : Config) (came : Input) (s : Session)
-    → (let x = table_outcome config came s in OnlyUp x.verdict x.session.phase)
-unfolding table_outcome
-only_up config input.Enquiry s =
-    in_row s (contact config.role s) (none s) (ack0 s) (none s) (end_and_contact config.role s) (contacts s config.role)
-    (nothing s) (asks_nothing refl refl) (nothing s) (λ _. ends_and_contacts s config.role)
-only_up config input.Ack0 s =
-    in_row s (none s) (i_block s) (none s) (none s) (next_or_turn s) (nothing s) (asks_nothing refl refl) (nothing s)
-    (nothing s) (λ up. is_up_then (ap is_up up))
-only_up config input.Nak s =
-    let again = tries s reply.Again refl in
-    in_row s (none s) (none s) (try_again s) (try_again s) (try_again s) (nothing s) (nothing s) again again
-    (λ _. again)
-only_up config input.Eot s = hung_up s
-only_up config input.Lost s = hung_up s
-only_up config (input.Block bcb fcs first) s = in_row s (none s) (none s) (by_count bcb fcs (i_sign_on config first) s)
-    (by_count bcb fcs (j_sign_on config first) s) (by_count bcb fcs act s)
-    (nothing s) (nothing s) (by_counts s bcb fcs (i_sign_on config first)
-    (λ last. signed (reply.SignOn Response) config (fitting Initial config first) (acting_on s fcs last)))
-    (by_counts s bcb fcs (j_sign_on config first) (λ last. signed (reply.Next true) config
-    (fitting Response config first) (acting_on s fcs last)))
-    (λ up. by_counts s bcb fcs act (λ last. is_up_then (ap is_up up)))
-only_up config input.Spoiled s = tried s
-only_up config input.Bad s = tried s
-only_up config input.Garbled s = tried s
-only_up config input.Tick s =
-    let nak = tries s (reply.Control control.Nak) refl in
-    in_row s (call config.role s) (enquiry s) (try_nak s) (try_nak s) (next_in_turn s) (calls s config.role)
-    (asks_nothing refl refl) nak nak (in_turn s)
 
 -- ---- one line among the others
 
@@ -214,12 +65,8 @@ same_phase l k f lines same = sym (get_or-map phase_of (on_line k f lines) l no_
     (same (line_at k lines))) ∙ get_or-map phase_of lines l no_customer_line
 
 message_idle : (m : List ℕ) (x : CustomerLine) → IsIdle x → IsIdle (in_state (with_message m) x)
-message_idle m x idle = record {
-  receivers = idle.receivers;
-  senders = idle.senders;
-  answers = idle.answers;
-  served = idle.served;
-}
+message_idle m x idle =
+    record { receivers = idle.receivers; senders = idle.senders; answers = idle.answers; served = idle.served }
 
 given_up_idle : (n : ℕ) (x : CustomerLine) → IsIdle x → IsIdle (with_senders_by (without_file n) x)
 given_up_idle n x idle = record {
@@ -305,45 +152,34 @@ idle_still x y receivers senders answers served idle = record {
 -- what it sends leaves it so, but for the next block
 reply_idle : (entry : CustomerEntry) (l : ℕ) (r : LineReply) (s : CustomerSpool) (x : CustomerLine) → is_next r ≡ false
     → IsIdle x → IsIdle (sending_of_reply entry l r s x).line
-reply_idle entry l reply.Nothing s x quiet idle = idle
-reply_idle entry l (reply.Control control.Enquiry) s x quiet idle = idle_still x _ refl refl refl refl idle
-reply_idle entry l (reply.Control control.Ack0) s x quiet idle = idle_still x _ refl refl refl refl idle
-reply_idle entry l (reply.Control control.Nak) s x quiet idle = idle_still x _ refl refl refl refl idle
-reply_idle entry l reply.Again s x quiet idle = idle_still x _ refl refl refl refl idle
-reply_idle entry l (reply.SignOn kind) s x quiet idle = idle_still x _ refl refl refl refl idle
-reply_idle entry l (reply.Sequence expected) s x quiet idle = idle_still x _ refl refl refl refl idle
 reply_idle entry l (reply.Next or_ack0) s x quiet idle = absurd (cc quiet)
+reply_idle entry l (reply.Control control.Enquiry) s x quiet idle = idle_still x _ refl refl refl refl idle
+reply_idle entry l r s x quiet idle =
+    idle_still x (sending_of_reply entry l r s x).line refl refl refl refl idle
 
 replied_rests : (l : ℕ) (r : LineReply) (c : Customer) → (is_next r ≡ true
     → is_up (phase_of (line_at l c.lines)) ≡ true) → IdleUnlessUp c.lines → IdleUnlessUp (replied_to l r c).after.lines
-replied_rests l r c up rest = set_rests l sent c.lines (others l c.lines rest) (at (is_next r) refl)
-  where
-    x : CustomerLine
-    x = line_at l c.lines
-
-    sent : CustomerLine
-    sent = (sending_of_reply c.entry l r c.spool x).line
-
-    as_far : is_up (phase_of sent) ≡ is_up (phase_of x)
-    as_far = ap (λ (p : Config × Phase × ℕ × List Receiver). is_up p.1) (reply_lasting c.entry l r c.spool x)
-
-    at : (b : Bool) → is_next r ≡ b → l < length c.lines → is_up (phase_of sent) ≡ false → IsIdle sent
-    at true e there down = absurd (cc (sym down ∙ as_far ∙ up e))
-    at false e there down = reply_idle c.entry l r c.spool x e (rest l there (sym as_far ∙ down))
+replied_rests l r c up rest =
+    let x = line_at l c.lines in
+    let sent = (sending_of_reply c.entry l r c.spool x).line in
+    let as_far : is_up (phase_of sent) ≡ is_up (phase_of x) =
+    ap (λ (p : Config × Phase × ℕ × List Receiver). is_up p.1) (reply_lasting c.entry l r c.spool x) in
+    set_rests l sent c.lines (others l c.lines rest) (λ there down. elim (cases_Bool (is_next r)) [
+      | inl e ↦ absurd (cc (sym down ∙ as_far ∙ up e))
+      | inr e ↦ reply_idle c.entry l r c.spool x e (rest l there (sym as_far ∙ down))
+    ])
 
 -- what a verdict asks for is sent, and then the session ends where it says so
 carried_rests : (l : ℕ) (v : Verdict) (c : Customer) → OthersRest l c.lines → (v.ended ≡ false → IdleUnlessUp c.lines)
     → (is_next v.reply ≡ true → is_up (phase_of (line_at l c.lines)) ≡ true)
     → IdleUnlessUp (carried_out l v c).after.lines
-carried_rests l v c rest going_on up = at v.ended refl
-  where
-    sent : Customer
-    sent = (replied_to l v.reply c).after
-
-    at : (b : Bool) → v.ended ≡ b → IdleUnlessUp (session_over_where b l sent).lines
-    at true e = over_rests l sent (set_others l (sending_of_reply c.entry l v.reply c.spool (line_at l c.lines)).line
-        c.lines rest)
-    at false e = replied_rests l v.reply c up (going_on e)
+carried_rests l v c rest going_on up =
+    let sent = (replied_to l v.reply c).after in
+    (elim (v.ended) as (λ b. v.ended ≡ b → IdleUnlessUp (session_over_where b l sent).lines) [
+      | true ↦ λ e. over_rests l sent
+          (set_others l (sending_of_reply c.entry l v.reply c.spool (line_at l c.lines)).line c.lines rest)
+      | false ↦ λ e. replied_rests l v.reply c up (going_on e)
+    ]) refl
 
 -- ---- what comes on a line
 
@@ -361,9 +197,6 @@ module _ (keep : InputsKeepUp) (l : ℕ) (came : Input) (c : Customer) (there : 
   keeps : KeepsUp before.state.config came before.state.session
   keeps = keep before.state.config before.state.session came
 
-  asks : OnlyUp (verdict_on l came c) after
-  asks = only_up before.state.config came before.state.session
-
   accepted_phase : is_up (phase_of (line_at l accepted.lines)) ≡ is_up after
   accepted_phase = ap (λ x. is_up (phase_of x)) (get_or-set_same c.lines l
       (in_state (after_input came) before) no_customer_line there)
@@ -374,11 +207,10 @@ module _ (keep : InputsKeepUp) (l : ℕ) (came : Input) (c : Customer) (there : 
   -- a line that was up is up still, so one that isn't was at rest
   accepted_rests : (verdict_on l came c).ended ≡ false → IdleUnlessUp accepted.lines
   accepted_rests on = set_rests l (in_state (after_input came) before) c.lines (others l c.lines rest)
-      (λ _ down. at (is_up (phase_of before)) refl down)
-    where
-      at : (b : Bool) → is_up (phase_of before) ≡ b → is_up after ≡ false → IsIdle (in_state (after_input came) before)
-      at true e down = absurd (cc (sym down ∙ keeps.on on e))
-      at false e down = idle_still before (in_state (after_input came) before) refl refl refl refl (rest l there e)
+      (λ _ down. elim (cases_Bool (is_up (phase_of before))) [
+        | inl e ↦ absurd (cc (sym down ∙ keeps.on on e))
+        | inr e ↦ idle_still before (in_state (after_input came) before) refl refl refl refl (rest l there e)
+      ])
 
   accepted_up : is_up after ≡ true → UpAndRest l accepted.lines
   accepted_up up = record {
@@ -389,26 +221,22 @@ module _ (keep : InputsKeepUp) (l : ℕ) (came : Input) (c : Customer) (there : 
 
   input_rests : IdleUnlessUp (after_line_input l came c).after.lines
   input_rests = carried_rests l (verdict_on l came c) accepted accepted_others accepted_rests
-      (λ next. accepted_phase ∙ asks.next next)
+      (λ next. accepted_phase ∙ keeps.next next)
 
   -- records act on a line that is up, so it is up behind them
   acting_rests : (acts : Bool) (items : List Item) → (verdict_on l came c).acts ≡ acts
       → (let a = acted_where acts l items accepted in IdleUnlessUp
       (behind_records a.ended l (verdict_on l came c) a.customer).after.lines)
   acting_rests false items e = input_rests
-  acting_rests true items e = at (all_acted l items accepted).ended
-    where
-      behind : Customer
-      behind = (all_acted l items accepted).customer
-
-      acted : UpAndRest l behind.lines
-      acted = acted_where_so l (λ d. UpAndRest l d.lines) true items
-          (λ i at. record_on_lines l (UpAndRest l) (acting l) i) accepted (accepted_up (asks.acts e))
-
-      at : (ended : Bool) → IdleUnlessUp (behind_records ended l (verdict_on l came c) behind).after.lines
-      at true = ended_rests l behind (others l behind.lines acted.rest)
-      at false = carried_rests l (verdict_on l came c) behind (others l behind.lines acted.rest) (λ _. acted.rest)
-          (λ _. acted.up)
+  acting_rests true items e =
+      let a = all_acted l items accepted in
+      let acted = acted_where_so l (λ d. UpAndRest l d.lines) true items
+      (λ i at. record_on_lines l (UpAndRest l) (acting l) i) accepted (accepted_up (keeps.acts e)) in
+      let rest = others l a.customer.lines acted.rest in
+      elim (a.ended) as (λ ended. IdleUnlessUp (behind_records ended l (verdict_on l came c) a.customer).after.lines) [
+        | true ↦ ended_rests l a.customer rest
+        | false ↦ carried_rests l (verdict_on l came c) a.customer rest (λ _. acted.rest) (λ _. acted.up)
+      ]
 
 -- ---- a frame, and a signal
 
@@ -451,12 +279,10 @@ module _ (c : Customer) (idle : (l : ℕ) → l < length c.lines → IsIdle (lin
   -- on a line that isn't there too
   at_line : (P : CustomerLine → Type 0) → ((x : CustomerLine) → IsIdle x → P x) → P no_customer_line → (l : ℕ)
       → P (line_at l c.lines)
-  at_line P idles none l = at_there (nat_lt l (length c.lines)) refl
-    where
-      at_there : (b : Bool) → nat_lt l (length c.lines) ≡ b → P (line_at l c.lines)
-      at_there true e = idles (line_at l c.lines) (idle l (ltb-true l (length c.lines) e))
-      at_there false e =
-          subst P (sym (get_or_past c.lines l no_customer_line (omega (arith, ltb-false l (length c.lines) e)))) none
+  at_line P idles none l = elim (cases_lt l (length c.lines)) [
+    | inl there ↦ idles (line_at l c.lines) (idle l there)
+    | inr past ↦ subst P (sym (get_or_past c.lines l no_customer_line past)) none
+  ]
 
   pub receivers_idle : (l k : ℕ) → receiver_at k (line_at l c.lines) ≡ receiver.Idle
   receivers_idle l k = at_line (λ x. receiver_at k x ≡ receiver.Idle) (λ x is. is.receivers k) refl l

@@ -1,28 +1,23 @@
 -- What a customer has when the session of each of its lines is lost, one after the other.
 use Rattle.njh_customer.proofs.Words
-use Words.{ℕ, zero, suc, Bool, true, false, cond, nat_lt, List, [], length, map, set, get_or, find, Option, Some, None}
-use Words.{refl, sym, ap, subst, arith, inl, inr, eq-eqb, eqb-true, get_or-map, ltb-true, ltb-false, length-set}
-use Words.{Contains-append_right, Contains, Rest, Nothing, CustomerSpool, PartialFile, WholeFile, partial_numbered}
-use Words.{State, Ready, Held, Refused, CustomerEntry, all_ended, file_in, goes_by, is_refused, may_go_again, ready}
-use Words.{spool_after_session, tried_again, coming_file, Sender, is_up, cell, end, hang_up, after_input, Phase, Down}
-use Words.{Calling, Answered, SentI, Up, Config, Session, silent, with_idle_streams, session_over, session_over_where}
+use Words.{cases_lt, cond_both, ℕ, zero, suc, Bool, true, false, cond, nat_lt, List, [], length, map, set, get_or, find}
+use Words.{Option, Some, None, refl, sym, ap, subst, arith, inl, inr, eq-eqb, eqb-true, get_or-map, ltb-false}
+use Words.{length-set, Contains-append_right, Contains, Rest, Nothing, CustomerSpool, PartialFile, WholeFile}
+use Words.{partial_numbered, State, Ready, Refused, CustomerEntry, all_ended, file_in, goes_by, is_refused}
+use Words.{may_go_again, ready, spool_after_session, tried_again, coming_file, Sender, is_up, cell, end, hang_up}
+use Words.{after_input, Phase, Down, Up, Config, Session, silent, with_idle_streams, session_over, session_over_where}
 use Words.{replied_to, carried_out, verdict_on, accepted_on, after_line_input, Customer, CustomerLine, no_customer_line}
 use Words.{line_at, in_state, IsInOrder, IsIdle, StaysInOrder, LossesLeaveFiles, phase_of, at_rest, state_at_rest}
 use Words.{losses, after_losses, with_file_state, Part, rest_at, rest_on, OwnSignal, alone_run, event_run, Lost}
-use Rattle.std.proofs.Common.{◌≡◌, ◌<◌, ◌≤◌, ◌==◌, ◌&&◌, ◌∷◌, ◌∙◌, ◌⊎◌}
-use Rattle.njh_spool.specs.declared.State.TheVariants.{Sending}
+use Rattle.{std.proofs.Common.{◌≡◌, ◌<◌, ◌≤◌, ◌==◌, ◌&&◌, ◌∷◌, ◌∙◌}, njh_spool.specs.declared.State.TheVariants.Sending}
+use Rattle.njh_line.specs.{LineTable.{table_outcome, none}, declared.verdict.Verdict.Verdict}
+use Rattle.njh_customer.{specs.Alone.after_signal, proofs.{StepsGrow.set_down, FileListLaws.{each_same, from_where}}}
+use Rattle.njh_customer.proofs.{FileListLaws.set_one, IdleLines.{receivers_idle, senders_idle}}
+use Rattle.njh_customer.proofs.{OutgoingLaws.{on_line_senders, stream_is}, Restated.{ended_where, without_open_same}}
 use Rattle.njh_stream.specs.declared.sender.Sender.TheVariants as sender
 use Rattle.njh_line.specs.LineTable as input
-use Rattle.njh_line.specs.LineTable.{table_outcome, none}
 use Rattle.njh_line.specs.declared.verdict.LineReply.TheVariants as reply
-use Rattle.njh_line.specs.declared.verdict.Verdict.{Verdict}
-use Rattle.njh_customer.specs.Alone.{after_signal}
 use Rattle.njh_customer.proofs.CoherenceLaws as coherence
-use Rattle.njh_customer.proofs.DownLines.{set_down}
-use Rattle.njh_customer.proofs.FileListLaws.{WasOrIs, each_same, from_where, set_one}
-use Rattle.njh_customer.proofs.IdleLines.{receivers_idle, senders_idle}
-use Rattle.njh_customer.proofs.OutgoingLaws.{on_line_senders, stream_is}
-use Rattle.njh_customer.proofs.Restated.{ended_where, without_open_same}
 
 -- ---- the files at rest
 
@@ -34,25 +29,19 @@ marked_at_rest : (n : ℕ) (fs : List WholeFile) → RestReady n fs
     → map at_rest (with_file_state n Ready fs) ≡ map at_rest fs
 marked_at_rest n [] restful = refl
 marked_at_rest n (f ∷ fs) restful =
-    at_number (f.number == n) refl (marked_at_rest n fs (λ g at. restful g (Contains-append_right (f ∷ []) fs g at)))
-  where
-    marked : List WholeFile
-    marked = map at_rest (with_file_state n Ready fs)
-
-    at_number : (b : Bool) → (f.number == n) ≡ b → marked ≡ map at_rest fs
-        → at_rest (cond b (record f { state = Ready }) f) ∷ marked ≡ at_rest f ∷ map at_rest fs
-    at_number true e rest =
-        let same = restful f (0, omega arith, refl) (eqb-true f.number n e) in
-        ap (λ s. record f { state = s } ∷ marked) (sym same) ∙ ap (λ more. at_rest f ∷ more) rest
-    at_number false e rest = ap (λ more. at_rest f ∷ more) rest
+    let marked = map at_rest (with_file_state n Ready fs) in
+    let rest : at_rest f ∷ marked ≡ at_rest f ∷ map at_rest fs = ap (λ more. at_rest f ∷ more)
+    (marked_at_rest n fs (λ g at. restful g (Contains-append_right (f ∷ []) fs g at))) in
+    cond_both (f.number == n) (record f { state = Ready }) f (λ g. at_rest g ∷ marked ≡ at_rest f ∷ map at_rest fs)
+    (λ e. ap (λ s. record f { state = s } ∷ marked) (sym (restful f (0, omega arith, refl) (eqb-true f.number n e)))
+    ∙ rest) (λ _. rest)
 
 marked_still : (m n : ℕ) (fs : List WholeFile) → RestReady n fs → RestReady n (with_file_state m Ready fs)
-marked_still m n fs restful g at same = at_mark (from_where (λ f. f.number == m)
-    (λ f. record f { state = Ready }) fs g at)
-  where
-    at_mark : WasOrIs (λ f. f.number == m) (λ f. record f { state = Ready }) fs g → state_at_rest g.state ≡ Ready
-    at_mark (inl (f, there, e, is)) = ap (λ h. state_at_rest h.state) is
-    at_mark (inr (there, e)) = restful g there same
+marked_still m n fs restful g at same =
+    elim (from_where (λ f. f.number == m) (λ f. record f { state = Ready }) fs g at) [
+      | inl (f, there, e, is) ↦ ap (λ h. state_at_rest h.state) is
+      | inr (there, e) ↦ restful g there same
+    ]
 
 ended_still : (x : Sender) (n : ℕ) (s : CustomerSpool) → RestReady n s.whole
     → RestReady n (spool_after_session x s).whole
@@ -81,11 +70,9 @@ tried_file entry l f = at_state f.state (goes_by entry l f)
     at_state : (state : State) (b : Bool)
         → at_rest (cond (is_refused state && b) (ready f) (record f { state = state })) ≡ record f
         { state = state_at_rest state }
-    at_state Ready b = refl
-    at_state Held b = refl
     at_state Refused true = refl
     at_state Refused false = refl
-    at_state Sending b = refl
+    at_state _ b = refl
 
 tried_at_rest : (entry : CustomerEntry) (l : ℕ) (fs : List WholeFile)
     → map at_rest (map (λ f. cond (may_go_again entry l f) (ready f) f) fs) ≡ map at_rest fs
@@ -95,12 +82,10 @@ tried_at_rest entry l fs = each_same at_rest (λ f. cond (may_go_again entry l f
 
 set_still_down : (lines : List CustomerLine) (l m : ℕ) (x : CustomerLine) → phase_of x ≡ Down
     → phase_of (line_at m lines) ≡ Down → phase_of (line_at m (set lines l x)) ≡ Down
-set_still_down lines l m x down there = at (set_one lines l m x no_customer_line)
-  where
-    at : (line_at m (set lines l x) ≡ line_at m lines) ⊎ ((m ≡ l) × (line_at m (set lines l x) ≡ x))
-        → phase_of (line_at m (set lines l x)) ≡ Down
-    at (inl same) = ap phase_of same ∙ there
-    at (inr it) = ap phase_of it.1 ∙ down
+set_still_down lines l m x down there = elim (set_one lines l m x no_customer_line) [
+  | inl same ↦ ap phase_of same ∙ there
+  | inr it ↦ ap phase_of it.1 ∙ down
+]
 
 -- ---- the loss of one line
 
@@ -121,10 +106,8 @@ lost_hangs_up config s = at s.phase refl
     at : (p : Phase) → s.phase ≡ p → (let o = cell p (none s) (hang_up s) (hang_up s) (hang_up s) (end s) in
         HangsUp o.session o.verdict)
     at Down e = record { ended = false; verdict = refl; down = e }
-    at Calling e = record { ended = false; verdict = refl; down = refl }
-    at Answered e = record { ended = false; verdict = refl; down = refl }
-    at SentI e = record { ended = false; verdict = refl; down = refl }
     at Up e = record { ended = true; verdict = refl; down = refl }
+    at _ e = record { ended = false; verdict = refl; down = refl }
 
 -- The line is down, those that were down are so still, and the files at rest are the same.
 record LineLost (l : ℕ) (c d : Customer) : Type 0 where
@@ -195,12 +178,9 @@ module _ (l : ℕ) (c : Customer) (order : IsInOrder c) where
 
   signal_lost : l < length c.lines → LineLost l c (after_signal l Lost c).after
   unfolding after_signal
-  signal_lost there = at_there (nat_lt l (length c.lines)) refl
-    where
-      at_there : (b : Bool) → nat_lt l (length c.lines) ≡ b
-          → LineLost l c (cond b (after_line_input l input.Lost c) (silent c)).after
-      at_there true e = input_lost
-      at_there false e = absurd (omega (arith, ltb-false l (length c.lines) e))
+  signal_lost there =
+      cond_both (nat_lt l (length c.lines)) (after_line_input l input.Lost c) (silent c) (λ s. LineLost l c s.after)
+      (λ e. input_lost) (λ e. absurd (omega (arith, ltb-false l (length c.lines) e)))
 
 -- ---- what has come of frames
 
@@ -210,12 +190,8 @@ none_came (r ∷ rs) zero = refl
 none_came (r ∷ rs) (suc l) = none_came rs l
 
 none_still : (rests : List Rest) (l m : ℕ) → rest_at m rests ≡ Nothing → rest_at m (set rests l Nothing) ≡ Nothing
-none_still rests l m there = at (set_one rests l m Nothing Nothing)
-  where
-    at : (rest_at m (set rests l Nothing) ≡ rest_at m rests) ⊎ ((m ≡ l) × (rest_at m (set rests l Nothing) ≡ Nothing))
-        → rest_at m (set rests l Nothing) ≡ Nothing
-    at (inl same) = same ∙ there
-    at (inr it) = it.1
+none_still rests l m there =
+    elim (set_one rests l m Nothing Nothing) [ inl same ↦ same ∙ there | inr it ↦ it.1 ]
 
 -- ---- the loss of the lines below a number
 
@@ -230,11 +206,10 @@ record LinesLost (n : ℕ) (p q : Part) : Type 0 where
 
 -- a number below the next one is this one, or below it
 below : (P : ℕ → Type 0) (n m : ℕ) → m < suc n → P n → (m < n → P m) → P m
-below P n m few here earlier = at (nat_lt m n) refl
-  where
-    at : (b : Bool) → nat_lt m n ≡ b → P m
-    at true e = earlier (ltb-true m n e)
-    at false e = let same : n ≡ m = omega (arith, ltb-false m n e) in subst P same here
+below P n m few here earlier = elim (cases_lt m n) [
+  | inl lt ↦ earlier lt
+  | inr past ↦ let same : n ≡ m = omega arith in subst P same here
+]
 
 all_lost : StaysInOrder → (n : ℕ) (p : Part) → n ≤ length p.customer.lines → IsInOrder p.customer
     → LinesLost n p (alone_run p (losses n)).after

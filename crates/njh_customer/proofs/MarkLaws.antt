@@ -2,17 +2,14 @@
 use Rattle.njh_customer.proofs.Words
 use Words.{ℕ, Bool, true, false, not, List, map, set, get_or, refl, sym, ap, set-set, get_or-map, map-set_same, map-set}
 use Words.{set-get_or, map-map, CustomerEntry, Receiver, CommandsMoveFilesSo, is_up, Input, after_end, after_input}
-use Words.{InputsKeepUp, KeepsUp, Phase, Config, Acted, acted_where, with_idle_streams, with_raised_line, goes_up}
-use Words.{replied_to, session_over_where, session_ended, carried_out, verdict_on, accepted_on, after_line_input}
-use Words.{block_input, behind_records, after_block, Customer, CustomerLine, IsMarked, no_customer_line, line_at}
-use Words.{on_line, in_state, config_of, fresh_customer, idle_line, MarksAreRight, rest_on, sending_of_reply}
-use Rattle.std.proofs.Common.{◌≡◌, ◌&&◌, ◌∙◌}
-use Rattle.njh_block.specs.Blocks.{Block}
-use Rattle.njh_line.specs.declared.verdict.Verdict.{Verdict}
-use Rattle.njh_customer.proofs.ActingMoves.{Acting, acting_where}
-use Rattle.njh_customer.proofs.LineWalks.{kept, kepts}
-use Rattle.njh_customer.proofs.ReplyLaws.{reply_lasting}
-use Rattle.njh_customer.proofs.StepWalks.{StaysInFrames, event_so, frame_holds, signal_holds, take_so}
+use Words.{InputsKeepUp, KeepsUp, Phase, Config, acted_where, with_idle_streams, with_raised_line, goes_up, replied_to}
+use Words.{session_over_where, session_ended, carried_out, verdict_on, accepted_on, after_line_input, block_input}
+use Words.{behind_records, after_block, Customer, CustomerLine, IsMarked, no_customer_line, line_at, on_line, in_state}
+use Words.{config_of, fresh_customer, idle_line, MarksAreRight, rest_on, sending_of_reply}
+use Rattle.{std.proofs.Common.{◌≡◌, ◌&&◌, ◌∙◌}, njh_block.specs.Blocks.Block}
+use Rattle.{njh_line.specs.declared.verdict.Verdict.Verdict, njh_customer.proofs.ActingMoves.acting_where}
+use Rattle.njh_customer.proofs.{LineWalks.{kept, kepts}, ReplyLaws.reply_lasting, StepWalks.{StaysInFrames, event_so}}
+use Rattle.njh_customer.proofs.StepWalks.{frame_holds, signal_holds, take_so}
 
 -- ---- which lines are up
 
@@ -76,22 +73,19 @@ module _ (keep : InputsKeepUp) (l : ℕ) (came : Input) (c : Customer) (marked :
   carried_marked : (v : Verdict) (d : Customer) → d.entry ≡ (accepted_on l came c).entry
       → kepts d.lines ≡ kepts (accepted_on l came c).lines
       → v.ended ≡ (verdict_on l came c).ended → IsMarked (carried_out l v d).after
-  carried_marked v d entry kept_so ended = at v.ended ended
-    where
-      sent : Customer
-      sent = (replied_to l v.reply d).after
-
-      sent_ups : ups sent.lines ≡ set (ups c.lines) l (is_up after)
-      sent_ups = map-set_same is_line_up d.lines l (sending_of_reply d.entry l v.reply d.spool (line_at l d.lines)).line
-          no_customer_line (ap (λ (p : Config × Phase × ℕ × List Receiver). is_up p.1)
-          (reply_lasting d.entry l v.reply d.spool (line_at l d.lines)))
-          ∙ ups_kept d.lines (accepted_on l came c).lines kept_so ∙ accepted_ups
-
-      at : (b : Bool) → b ≡ (verdict_on l came c).ended → IsMarked (session_over_where b l sent)
-      at true e = lowered d entry ∙ ap (set (ups c.lines) l) (sym (keeps.over (sym e))) ∙ sym sent_ups ∙ sym
-          (map-set_same is_line_up sent.lines l (with_idle_streams (line_at l sent.lines)) no_customer_line refl)
-      at false e = ap (λ (x : CustomerEntry). x.up) entry
-          ∙ marks_on before after l c.entry (ups c.lines) marked has_mark (keeps.on (sym e)) ∙ sym sent_ups
+  carried_marked v d entry kept_so ended =
+      let sent = (replied_to l v.reply d).after in
+      let sent_ups : ups sent.lines ≡ set (ups c.lines) l (is_up after) =
+      map-set_same is_line_up d.lines l (sending_of_reply d.entry l v.reply d.spool (line_at l d.lines)).line
+      no_customer_line (ap (λ (p : Config × Phase × ℕ × List Receiver). is_up p.1)
+      (reply_lasting d.entry l v.reply d.spool (line_at l d.lines)))
+      ∙ ups_kept d.lines (accepted_on l came c).lines kept_so ∙ accepted_ups in
+      (elim (v.ended) as (λ b. b ≡ (verdict_on l came c).ended → IsMarked (session_over_where b l sent)) [
+        | true ↦ λ e. lowered d entry ∙ ap (set (ups c.lines) l) (sym (keeps.over (sym e))) ∙ sym sent_ups ∙ sym
+            (map-set_same is_line_up sent.lines l (with_idle_streams (line_at l sent.lines)) no_customer_line refl)
+        | false ↦ λ e. ap (λ (x : CustomerEntry). x.up) entry
+            ∙ marks_on before after l c.entry (ups c.lines) marked has_mark (keeps.on (sym e)) ∙ sym sent_ups
+      ]) ended
 
   -- a record ended the session
   ended_marked : (d : Customer) → d.entry ≡ (accepted_on l came c).entry
@@ -110,20 +104,14 @@ module _ (keep : InputsKeepUp) (l : ℕ) (came : Input) (c : Customer) (marked :
 
 module _ (keep : InputsKeepUp) (commands : CommandsMoveFilesSo) where
   block_marked : (l : ℕ) (b : Block) (c : Customer) → IsMarked c → IsMarked (after_block l b c).after
-  block_marked l b c marked = at a.ended
-    where
-      v : Verdict
-      v = verdict_on l (block_input b) c
-
-      a : Acted
-      a = acted_where v.acts l b.items (accepted_on l (block_input b) c)
-
-      acting : Acting l b.items (accepted_on l (block_input b) c) a.customer
-      acting = acting_where commands v.acts l b.items (accepted_on l (block_input b) c)
-
-      at : (ended : Bool) → IsMarked (behind_records ended l v a.customer).after
-      at true = ended_marked keep l (block_input b) c marked a.customer acting.entry acting.kept
-      at false = carried_marked keep l (block_input b) c marked v a.customer acting.entry acting.kept refl
+  block_marked l b c marked =
+      let v = verdict_on l (block_input b) c in
+      let a = acted_where v.acts l b.items (accepted_on l (block_input b) c) in
+      let acting = acting_where commands v.acts l b.items (accepted_on l (block_input b) c) in
+      elim (a.ended) as (λ ended. IsMarked (behind_records ended l v a.customer).after) [
+        | true ↦ ended_marked keep l (block_input b) c marked a.customer acting.entry acting.kept
+        | false ↦ carried_marked keep l (block_input b) c marked v a.customer acting.entry acting.kept refl
+      ]
 
   frames_marked : StaysInFrames IsMarked
   frames_marked = record {

@@ -8,26 +8,19 @@ use Words.{after_frame, after_signal, Customer, CustomerLine, no_customer_line, 
 use Words.{fresh_customer, idle_line, AreApart, AreBeingSent, AreSetUp, IdleUnlessUp, IsInOrder, IsWithinQuota}
 use Words.{StaysInOrder, customer_with_last_file, customer_with_routes, outgoing, with_arrival, Part, OwnEvent}
 use Words.{event_run, sending_of_reply, IsCoherent, streams_to_hub, Signal}
-use Rattle.std.proofs.Common.{◌≡◌, ◌∙◌}
-use Rattle.njh_bisync.specs.Frames.{Received}
-use Rattle.njh_spool.specs.declared.State.TheVariants.{Sending}
+use Rattle.{std.proofs.Common.{◌≡◌, ◌∙◌}, njh_bisync.specs.Frames.Received}
+use Rattle.{njh_spool.specs.declared.State.TheVariants.Sending, njh_customer.proofs.ActingMoves.acts_so}
+use Rattle.njh_customer.proofs.CoherenceLaws.{EndsTie, NothingUnties, RecordsKeep, fresh_coherent}
+use Rattle.njh_customer.proofs.FileLimits.{FreeNumbers, apart_arrived, apart_files, apart_fresh, apart_routes}
+use Rattle.njh_customer.proofs.FileLimits.{whole_distinct, within_fresh, within_routes, within_files}
+use Rattle.njh_customer.proofs.{IdleLines.{idle_by_frame, idle_when_opened, idle_by_signal}, LineWalks.acted_keeps}
+use Rattle.njh_customer.proofs.{LineWalks.{kept, kepts, on_line_seen}, OutgoingLaws.{of_parts, on_line_senders}}
+use Rattle.njh_customer.proofs.{ReplyLaws.reply_lasting, RoutesMoves.coherent_given, SentByLines.sent_fresh}
+use Rattle.njh_customer.proofs.{SentByLines.{sent_over, sent_replied, sent_routes}, SentByRecords.arrival_carries}
+use Rattle.njh_customer.proofs.{SentByRecords.{carried, sent_record}, SessionLaws.coherent_by_frame}
+use Rattle.njh_customer.proofs.{SessionLaws.coherent_by_signal, SpoolWalks.files_in_steps, StepWalks.event_so}
+use Rattle.njh_customer.proofs.StepWalks.{StaysInSteps, frame_so, signal_so}
 use Rattle.njh_stream.specs.declared.receiver.Receiver.TheVariants as receiver
-use Rattle.njh_customer.proofs.ActingMoves.{acts_so}
-use Rattle.njh_customer.proofs.CoherenceLaws.{EndsTie, NothingUnties, RecordsKeep}
-use Rattle.njh_customer.proofs.FileNumbers.{FreeNumbers, apart_arrived, apart_files, apart_fresh, apart_routes}
-use Rattle.njh_customer.proofs.FileNumbers.{whole_distinct}
-use Rattle.njh_customer.proofs.IdleLines.{idle_by_frame, idle_when_opened, idle_by_signal}
-use Rattle.njh_customer.proofs.LineWalks.{acted_keeps, kept, kepts, on_line_seen}
-use Rattle.njh_customer.proofs.OpenedLaws.{fresh_coherent}
-use Rattle.njh_customer.proofs.OutgoingLaws.{of_parts, on_line_senders}
-use Rattle.njh_customer.proofs.ReplyLaws.{reply_lasting}
-use Rattle.njh_customer.proofs.RoutesMoves.{coherent_given}
-use Rattle.njh_customer.proofs.SentByLines.{sent_fresh, sent_over, sent_replied, sent_routes}
-use Rattle.njh_customer.proofs.SentByRecords.{arrival_carries, carried, sent_record}
-use Rattle.njh_customer.proofs.SessionLaws.{coherent_by_frame, coherent_by_signal}
-use Rattle.njh_customer.proofs.SpoolWalks.{files_in_steps}
-use Rattle.njh_customer.proofs.StepWalks.{event_so, StaysInSteps, frame_so, signal_so}
-use Rattle.njh_customer.proofs.WithinQuota.{within_fresh, within_routes, within_files}
 
 -- ---- how the lines are set up
 
@@ -148,11 +141,8 @@ module _ (keep_up : InputsKeepUp) (free : FreeNumbers) (untied : NothingUnties) 
   }
 
   order_stays : (p : Part) (event : OwnEvent) → IsInOrder p.customer → IsInOrder (event_run p event).after.customer
-  order_stays = event_so IsInOrder (record {
-    by_frame = order_by_frame;
-    by_signal = order_by_signal;
-    by_routes = order_by_routes;
-  })
+  order_stays = event_so IsInOrder
+      (record { by_frame = order_by_frame; by_signal = order_by_signal; by_routes = order_by_routes })
 
 -- where no stream is about a file and none is partial, nothing need agree, as the crate of streams says it
 abbrev pub NothingIsTied : Type 0

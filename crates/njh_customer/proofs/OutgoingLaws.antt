@@ -4,15 +4,12 @@ use Words.{ℕ, List, [], map, set, get_or, fold, refl, sym, ap, false, length, 
 use Words.{map-set, set-get_or, CustomerSpool, WholeFile, all_ended, ready, tried_again, Sender, without_file}
 use Words.{LineReply, without_sending, replied_to, with_idle_streams, session_over, Customer, CustomerLine}
 use Words.{no_customer_line, line_at, on_line, with_sender, nowhere, onward, without_files, Over, LeadsByMoves}
-use Words.{Outgoing, outgoing, streams_from_hub, sender_on, with_sender_on, with_files, sending_of_reply}
-use Rattle.std.proofs.Common.{◌≡◌, ◌∷◌, ◌∙◌}
-use Rattle.njh_stream.specs.declared.sender.Sender.TheVariants as sender
-use Rattle.njh_stream.specs.declared.sender.Sender.TheVariants.{Idle}
-use Rattle.njh_line.specs.declared.verdict.LineReply.TheVariants as reply
-use Rattle.njh_customer.specs.Customer.{sender_at}
-use Rattle.njh_customer.proofs.LineWalks.{StaysReceiving, on_line_seen, seen_receiving}
-use Rattle.njh_customer.proofs.ReplyLaws.{is_next}
+use Words.{Outgoing, outgoing, streams_from_hub, sender_on, with_sender_on, with_files, sending_of_reply, is_next}
+use Rattle.{std.proofs.Common.{◌≡◌, ◌∷◌, ◌∙◌}, njh_stream.specs.declared.sender.Sender.TheVariants.Idle}
+use Rattle.njh_customer.{specs.Customer.sender_at, proofs.LineWalks.{StaysReceiving, on_line_seen, seen_receiving}}
 use Rattle.njh_customer.proofs.Restated.{ended_restated, without_open_same}
+use Rattle.njh_stream.specs.declared.sender.Sender.TheVariants as sender
+use Rattle.njh_line.specs.declared.verdict.LineReply.TheVariants as reply
 
 abbrev pub of_parts : List WholeFile → ℕ → List (List Sender) → Outgoing
 of_parts files arrived streams = record { files = files; arrived = arrived; streams = streams }
@@ -58,23 +55,9 @@ same_stream l k s x e = ap (λ t. with_sender_on l k t x) (sym e)
 -- what is no next block moves no stream and no file
 pub reply_unmoved :
     (l : ℕ) (r : LineReply) (c : Customer) → is_next r ≡ false → outgoing (replied_to l r c).after ≡ outgoing c
-reply_unmoved l r c quiet = at r quiet
-  where
-    still : (line : CustomerLine) → line.senders ≡ (line_at l c.lines).senders
-        → outgoing (record c { lines = set c.lines l line }) ≡ outgoing c
-    still line same = ap (of_parts c.spool.whole c.spool.arrived)
-        (map-set_same (λ y. y.senders) c.lines l line no_customer_line same)
-
-    at : (r : LineReply) → is_next r ≡ false → outgoing (replied_to l r c).after ≡ outgoing c
-    at reply.Nothing e = still (line_at l c.lines) refl
-    at (reply.Control which) e = still (sending_of_reply c.entry l (reply.Control which) c.spool
-        (line_at l c.lines)).line refl
-    at reply.Again e = still (sending_of_reply c.entry l reply.Again c.spool (line_at l c.lines)).line refl
-    at (reply.SignOn kind) e = still (sending_of_reply c.entry l (reply.SignOn kind) c.spool (line_at l c.lines)).line
-        refl
-    at (reply.Sequence expected) e =
-        still (sending_of_reply c.entry l (reply.Sequence expected) c.spool (line_at l c.lines)).line refl
-    at (reply.Next or_ack0) e = absurd (cc e)
+reply_unmoved l (reply.Next or_ack0) c quiet = absurd (cc quiet)
+reply_unmoved l r c quiet = ap (of_parts c.spool.whole c.spool.arrived) (map-set_same (λ y. y.senders) c.lines l
+    (sending_of_reply c.entry l r c.spool (line_at l c.lines)).line no_customer_line refl)
 
 -- a line's own streams are those in its place
 pub own_again : (l : ℕ) (lines : List CustomerLine) → set (streams_from_hub lines) l

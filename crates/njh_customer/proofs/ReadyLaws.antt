@@ -6,13 +6,10 @@ use Words.{customer_marked, entry_marked, with_mark, NamedCustomer, TableFile, H
 use Words.{no_customer, LineId, is_up, Input, after_input, after_record, acted_where, all_acted, ended_or, ends_session}
 use Words.{CustomerStep, accepted_on, behind_records, after_block, block_input, carried_out, goes_up_by}
 use Words.{after_line_input, with_raised_line, verdict_on, Customer, CustomerLine, customer_with, in_state, line_at}
-use Words.{no_customer_line, on_line, ChangesMarks, ChangesFiles, StepSends, LeavesReady}
-use Words.{IsReady, IsThere, KeepsOtherEntries}
-use Words.{customer_of, with_customer, IsCoherent, Shared}
-use Rattle.std.proofs.Common.{◌≡◌, ◌<◌, ◌&&◌, ◌∷◌, ◌∙◌}
-use Rattle.njh_block.specs.Blocks.{Block}
-use Rattle.njh_line.specs.declared.verdict.Verdict.{Verdict}
-use Rattle.njh_customer.proofs.StepLaws.{Stays}
+use Words.{no_customer_line, on_line, ChangesMarks, ChangesFiles, StepSends, LeavesReady, IsReady, IsThere}
+use Words.{KeepsOtherEntries, customer_of, with_customer, IsCoherent, Shared}
+use Rattle.{std.proofs.Common.{◌≡◌, ◌<◌, ◌&&◌, ◌∷◌, ◌∙◌}, njh_block.specs.Blocks.Block}
+use Rattle.{njh_line.specs.declared.verdict.Verdict.Verdict, njh_customer.proofs.CoherenceLaws.Stays}
 
 -- what leaves a spool to others leaves it so twice
 pub others_twice : (old now new : List CustomerSpool) (c : ℕ) → now ≡ slice_set old c (spool_at c now)
@@ -207,8 +204,8 @@ pub sent_by_verdict :
     (accepted_on id.number came (customer_of id.customer old lines))
     → StepSends id.customer accepted new lines_new frame (carried_out id.number v
     (customer_of id.customer accepted lines_accepted))
-    → StepSends id.customer old new lines_new frame (after_line_input id.number came
-    (customer_of id.customer old lines))
+    → StepSends id.customer old new lines_new frame
+    (after_line_input id.number came (customer_of id.customer old lines))
 sent_by_verdict id old accepted new lines lines_accepted lines_new frame came v verdict first behind =
     let l = id.number in
     let d = accepted_on l came (customer_of id.customer old lines) in

@@ -7,17 +7,15 @@ use Words.{is_whole, EofSent, ReroutesNameNodes, changed_file, is_of_name, may_c
 use Words.{file_in_state, without_file, no_file, Acts, Commands, Records, Routes, Moves, by_record, by_sending, by_end}
 use Words.{Sends, LeadsByMoves, nowhere, onward, MovesBy, without_files, FileMoves, RecordsChangeSo, Leaves, LeavesBy}
 use Words.{FilesLeaveSo, FilesLeaveSoBetween, entry_with, Outgoing, with_file_state, with_files, each_stream, has_file}
-use Rattle.std.proofs.Common.{◌≡◌, ◌&&◌, ◌==◌, ◌⊎◌, ◌∷◌, ◌++◌, ◌∙◌, ◌||◌}
-use Rattle.njh_block.specs.Blocks.{Data}
+use Rattle.{std.proofs.Common.{◌≡◌, ◌&&◌, ◌==◌, ◌⊎◌, ◌∷◌, ◌++◌, ◌∙◌, ◌||◌}, njh_block.specs.Blocks.Data}
+use Rattle.{njh_spool.specs.declared.State.TheVariants.Sending, njh_customer.proofs.FileListLaws.from_filter}
+use Rattle.njh_customer.proofs.FileListLaws.{from_map, into_map, from_where, any_numbered, changed_numbers}
+use Rattle.njh_customer.proofs.FileListLaws.{marked_numbers, numbers, one_gone, same_numbered, but_states}
+use Rattle.njh_customer.proofs.RoutesMoves.{held_so, held_numbers}
 use Rattle.njh_spool.specs.declared.State.TheVariants as state
-use Rattle.njh_spool.specs.declared.State.TheVariants.{Sending}
 use Rattle.njh_command.specs.declared.command.Command.TheVariants as commands
 use Rattle.njh_customer.specs.Moves as moves
 use Rattle.njh_customer.specs.MovingLaws as laws
-use Rattle.njh_customer.proofs.FileListLaws.{from_filter, from_map, into_map, WasOrIs, from_where, any_numbered}
-use Rattle.njh_customer.proofs.FileListLaws.{changed_numbers, marked_numbers, numbers, one_gone, same_numbered}
-use Rattle.njh_customer.proofs.FileListLaws.{but_states}
-use Rattle.njh_customer.proofs.RoutesMoves.{held_so, held_numbers}
 
 -- the streams give files up, and no file changes
 pub without_files_files : (ns : List ℕ) (x : Outgoing) → (without_files ns x).files ≡ x.files
@@ -33,54 +31,49 @@ module _ (n : ℕ) (x y : Outgoing) where
   stayed_all : {A : Type 0} → numbers y.files ≡ numbers x.files → has_file n x ≡ true → has_file n y ≡ false → A
   stayed_all same = stayed (same_numbered n y.files x.files same)
 
+  -- nor by a command that keeps the numbers
+  by_command : {A : Type 0} (who : User) (name : FileName) (change : WholeFile → WholeFile)
+      → ((f : WholeFile) → (change f).number ≡ f.number) → y ≡ moves.with_changed (is_of_name who name) change x
+      → has_file n x ≡ true → has_file n y ≡ false → A
+  by_command who name change same e =
+      stayed_all (ap (λ z. numbers z.files) e ∙ changed_numbers (is_of_name who name) change x.files same)
+
   one_comes : {A : Type 0} (f : WholeFile) → y.files ≡ x.files ++ f ∷ [] → has_file n x ≡ true → has_file n y ≡ false
       → A
   one_comes f e there gone =
       absurd (cc (sym (ap (any_numbered n) e ∙ list_any-append (λ g. g.number == n) x.files (f ∷ []) ∙ ap
       (λ b. b || any_numbered n (f ∷ [])) there) ∙ gone))
 
-record_leaves : (entry : CustomerEntry) (l : ℕ) (items : List Item) (x y : Outgoing) (n : ℕ) (i : Item)
-    → Contains items i → Acts entry l i x y → has_file n x ≡ true → has_file n y ≡ false → Leaves entry l items n x
-record_leaves entry l items x y n i at (moves.comes rcb srcb f is ready whole e) there gone = one_comes n x y f
-    (ap (λ z. z.files) e) there gone
-record_leaves entry l items x y n i at (moves.permitted streams k m told before e) there gone = stayed n x y
-    (ap (has_file n) e) there gone
-record_leaves entry l items x y n i at (moves.refused streams k m after told before none e) there gone =
-    stayed_all n x y (ap (λ z. numbers z.files) e ∙ marked_numbers m Refused x.files) there gone
-record_leaves entry l items x y n i at (moves.completed streams k m told before e) there gone =
-    let left = one_gone (λ f. f.number == m) n x.files there (sym (ap (has_file n) e) ∙ gone) in
-    let same : m ≡ n = sym (eqb-true left.0.number m left.3) ∙ left.2 in
-    laws.completed i streams k at told (before ∙ ap EofSent same)
-record_leaves entry l items x y n i at (moves.holds who name given e) there gone =
-    stayed_all n x y (ap (λ z. numbers z.files) e ∙ changed_numbers (is_of_name who name) (file_in_state Held) x.files
-    (λ f. refl)) there gone
-record_leaves entry l items x y n i at (moves.releases who name given e) there gone =
-    stayed_all n x y (ap (λ z. numbers z.files) e ∙ changed_numbers (is_of_name who name) (file_in_state Ready) x.files
-    (λ f. refl)) there gone
-record_leaves entry l items x y n i at (moves.reroutes who name node line given route e) there gone =
-    stayed_all n x y (ap (λ z. numbers z.files) e ∙ changed_numbers (is_of_name who name)
-    (with_new_destination node) x.files (λ f. refl)) there gone
-record_leaves entry l items x y n i at (moves.cancels who name given e) there gone =
-    let kept = filter (λ f. not (is_of_name who name f)) x.files in
-    let files = ap (λ z. z.files) e ∙ without_files_files (moves.busy_numbers (is_of_name who name) x.files)
-    (with_files kept x) in
-    let left = one_gone (is_of_name who name) n x.files there (sym (ap (any_numbered n) files) ∙ gone) in
-    laws.cancelled i who name left.0 at given left.1 left.2 left.3
+module _ (entry : CustomerEntry) (l : ℕ) (items : List Item) (x y : Outgoing) (n : ℕ) where
+  record_leaves : (i : Item) → Contains items i → Acts entry l i x y → has_file n x ≡ true → has_file n y ≡ false
+      → Leaves entry l items n x
+  record_leaves i at (moves.comes rcb srcb f is ready whole e) = one_comes n x y f (ap (λ z. z.files) e)
+  record_leaves i at (moves.permitted streams k m told before e) = stayed n x y (ap (has_file n) e)
+  record_leaves i at (moves.refused streams k m after told before none e) =
+      stayed_all n x y (ap (λ z. numbers z.files) e ∙ marked_numbers m Refused x.files)
+  record_leaves i at (moves.completed streams k m told before e) = λ there gone.
+      let left = one_gone (λ f. f.number == m) n x.files there (sym (ap (has_file n) e) ∙ gone) in
+      let same : m ≡ n = sym (eqb-true left.0.number m left.3) ∙ left.2 in
+      laws.completed i streams k at told (before ∙ ap EofSent same)
+  record_leaves i at (moves.holds who name given e) = by_command n x y who name (file_in_state Held) (λ f. refl) e
+  record_leaves i at (moves.releases who name given e) = by_command n x y who name (file_in_state Ready) (λ f. refl) e
+  record_leaves i at (moves.reroutes who name node line given route e) =
+      by_command n x y who name (with_new_destination node) (λ f. refl) e
+  record_leaves i at (moves.cancels who name given e) = λ there gone.
+      let kept = filter (λ f. not (is_of_name who name f)) x.files in
+      let files = ap (λ z. z.files) e ∙ without_files_files (moves.busy_numbers (is_of_name who name) x.files)
+      (with_files kept x) in
+      let left = one_gone (is_of_name who name) n x.files there (sym (ap (any_numbered n) files) ∙ gone) in
+      laws.cancelled i who name left.0 at given left.1 left.2 left.3
 
-leaves_on_line : (entry : CustomerEntry) (l : ℕ) (items : List Item) (x y : Outgoing) (n : ℕ) → Moves entry l items x y
-    → has_file n x ≡ true → has_file n y ≡ false → Leaves entry l items n x
-leaves_on_line entry l items x y n (by_record (i, at, acts)) there gone = record_leaves entry l items x y n i at acts
-    there gone
-leaves_on_line entry l items x y n (by_sending (moves.gives_up k before e)) there gone = stayed n x y
-    (ap (has_file n) e) there gone
-leaves_on_line entry l items x y n (by_sending (moves.asks k f few before found e)) there gone =
-    stayed_all n x y (ap (λ z. numbers z.files) e ∙ marked_numbers f.number Sending x.files) there gone
-leaves_on_line entry l items x y n (by_sending (moves.goes_on k m place r before found e)) there gone = stayed n x y
-    (ap (has_file n) e) there gone
-leaves_on_line entry l items x y n (by_sending (moves.ends k m place before found e)) there gone = stayed n x y
-    (ap (has_file n) e) there gone
-leaves_on_line entry l items x y n (by_end over) there gone = stayed_all n x y
-    (but_states y.files x.files over.files) there gone
+  leaves_on_line : Moves entry l items x y → has_file n x ≡ true → has_file n y ≡ false → Leaves entry l items n x
+  leaves_on_line (by_record (i, at, acts)) = record_leaves i at acts
+  leaves_on_line (by_sending (moves.gives_up k before e)) = stayed n x y (ap (has_file n) e)
+  leaves_on_line (by_sending (moves.asks k f few before found e)) =
+      stayed_all n x y (ap (λ z. numbers z.files) e ∙ marked_numbers f.number Sending x.files)
+  leaves_on_line (by_sending (moves.goes_on k m place r before found e)) = stayed n x y (ap (has_file n) e)
+  leaves_on_line (by_sending (moves.ends k m place before found e)) = stayed n x y (ap (has_file n) e)
+  leaves_on_line (by_end over) = stayed_all n x y (but_states y.files x.files over.files)
 
 pub leaves_so : FilesLeaveSo
 leaves_so entry (Records l items) x y n (up, move) there gone =
@@ -115,13 +108,11 @@ itself files g at = (g, at, refl, refl, refl)
 one_restated : (p : WholeFile → Bool) (change : WholeFile → WholeFile) (files : List WholeFile) (g : WholeFile)
     → ((f : WholeFile) → ready (change f) ≡ ready f) → Contains (map (λ f. cond (p f) (change f) f) files) g
     → IsOneOf files g
-one_restated p change files g same at = at_change (from_where p change files g at)
-  where
-    at_change : WasOrIs p change files g → IsOneOf files g
-    at_change (inl (f, there, e, is)) =
-        let e : ready g ≡ ready f = ap ready is ∙ same f in
-        (f, there, ap (λ h. h.number) e, ap (λ h. h.kind) e, ap (λ h. h.records) e)
-    at_change (inr (there, e)) = itself files g there
+one_restated p change files g same at = elim (from_where p change files g at) [
+  | inl (f, there, e, is) ↦ let e : ready g ≡ ready f = ap ready is ∙ same f in
+      (f, there, ap (λ h. h.number) e, ap (λ h. h.kind) e, ap (λ h. h.records) e)
+  | inr (there, e) ↦ itself files g there
+]
 
 but_state : (files now : List WholeFile) (g : WholeFile) → map ready now ≡ map ready files → Contains now g
     → IsOneOf files g
@@ -150,16 +141,13 @@ module _ (by_records : (kind : Kind) (node : List ℕ) (records : List Stored)
         → Contains (map (changed_file (is_of_name who name) (with_new_destination node)) x.files) g
         → FileMoves entry items x g
     rerouted_one i who name node at given there =
-        at_change (from_where (may_change (is_of_name who name)) (with_new_destination node) x.files g there)
-      where
-        at_change : WasOrIs (may_change (is_of_name who name)) (with_new_destination node) x.files g
-            → FileMoves entry items x g
-        at_change (inl (f, found, e, is)) =
-            let idle = both_are (is_of_name who name f) (is_sending f.state) e in
-            laws.rerouted i who name node f at given found idle.0 idle.1 (ap (λ h. h.number) is) (ap (λ h. h.kind) is)
-            (names given.nodal.message name node given.says) (ap (λ h. h.records) is ∙ sym
-            (by_records f.kind node f.records))
-        at_change (inr (found, e)) = was_there (itself x.files g found)
+        elim (from_where (may_change (is_of_name who name)) (with_new_destination node) x.files g there) [
+          | inl (f, found, e, is) ↦ let idle = both_are (is_of_name who name f) (is_sending f.state) e in
+              laws.rerouted i who name node f at given found idle.0 idle.1 (ap (λ h. h.number) is)
+              (ap (λ h. h.kind) is) (names given.nodal.message name node given.says)
+              (ap (λ h. h.records) is ∙ sym (by_records f.kind node f.records))
+          | inr (found, e) ↦ was_there (itself x.files g found)
+        ]
 
     one_came : (i : Item) (rcb srcb : ℕ) (f : WholeFile) → Contains items i → i ≡ Data rcb srcb []
         → f.state ≡ state.Ready → is_whole f.records ≡ true → Contains x.files g ⊎ (f ≡ g) → FileMoves entry items x g

@@ -1,16 +1,15 @@
 -- What a record that comes does to a customer: nothing, or one of a few small things.
 use Rattle.njh_customer.proofs.Words
-use Words.{ℕ, Bool, true, false, cond, List, [], Option, Some, None, Result, Ok, Err, refl, sym, subst, arith, eqb-true}
-use Words.{Contains-append_right, Contains, Item, Aborted, General, stream_number, stream_of, Answer, Nodal, nodal_of}
-use Words.{is_user_command, cut_after_message, NmrFault, route_of, Route, Here, Line, Unknown, Arrival}
+use Words.{cond_both, ℕ, Bool, true, false, cond, List, [], Option, Some, None, Result, Ok, Err, refl, sym, subst}
+use Words.{arith, eqb-true, Contains-append_right, Contains, Item, Aborted, General, stream_number, stream_of, Answer}
+use Words.{Nodal, nodal_of, is_user_command, cut_after_message, NmrFault, route_of, Route, Here, Line, Unknown, Arrival}
 use Words.{after_completion, after_refusal, after_message, after_permission, after_record, after_stream_arrival}
-use Words.{after_stream_record, after_stream_request, after_unknown_node, after_user_command, Acted, acted_where}
-use Words.{all_acted, ended_or, ends_session, message_read, message_routed, peer_answered, refusal_of}
-use Words.{with_sender_outcome, Customer, line_at, with_answer_on, with_waiting}
-use Rattle.std.proofs.Common.{◌≡◌, ◌==◌, ◌∷◌}
-use Rattle.njh_block.specs.Blocks.{Data, Long, Control}
-use Rattle.njh_stream.specs.Receiving as receiving
+use Words.{after_stream_record, after_stream_request, after_unknown_node, after_user_command, acted_where, all_acted}
+use Words.{ended_or, ends_session, message_read, message_routed, peer_answered, refusal_of, with_sender_outcome}
+use Words.{Customer, line_at, with_answer_on, with_waiting}
+use Rattle.{std.proofs.Common.{◌≡◌, ◌==◌, ◌∷◌}, njh_block.specs.Blocks.{Data, Long, Control}}
 use Rattle.njh_customer.specs.Customer.{sender_at}
+use Rattle.njh_stream.specs.Receiving as receiving
 
 -- a record brings an arrival for a stream
 pub data Brings : Arrival → Item → Type 0 where
@@ -40,11 +39,6 @@ pub data RecordDoes (l : ℕ) (c : Customer) : Item → Customer → Type 0 wher
   passes_on : (i : Item) (k : ℕ) (m : List ℕ) → RecordDoes l c i (record c { lines = with_waiting k m c.lines })
 
 module _ (l : ℕ) (c : Customer) where
-  either :
-      (b : Bool) (i : Item) (x y : Customer) → RecordDoes l c i x → RecordDoes l c i y → RecordDoes l c i (cond b x y)
-  either true i x y first second = first
-  either false i x y first second = second
-
   -- ---- streams
 
   stream_does : (code : ℕ) (o : Option ℕ) (a : Arrival) (i : Item) → Brings a i → stream_named l code c ≡ o
@@ -80,49 +74,39 @@ module _ (l : ℕ) (c : Customer) where
 
   routed_does : (srcb : ℕ) (bytes : List ℕ) (n : Nodal) (r : Route) → nodal_of bytes ≡ Ok n → route_of c.entry n.to ≡ r
       → RecordDoes l c (Data 0x9a srcb bytes) (message_routed l n bytes r c)
-  routed_does srcb bytes n Here reads to = at_command (is_user_command n) refl
-    where
-      at_command : (b : Bool) → is_user_command n ≡ b
-          → RecordDoes l c (Data 0x9a srcb bytes) (cond b (after_user_command n c) c)
-      at_command true is = commands srcb bytes n reads to is
-      at_command false is = nothing (Data 0x9a srcb bytes)
+  routed_does srcb bytes n Here reads to = cond_both (is_user_command n) (after_user_command n c) c
+      (RecordDoes l c (Data 0x9a srcb bytes)) (commands srcb bytes n reads to) (λ _. nothing (Data 0x9a srcb bytes))
   routed_does srcb bytes n (Line k) reads to =
       let m = cut_after_message bytes in
-      either (k == l) (Data 0x9a srcb bytes) c (record c { lines = with_waiting k m c.lines })
-      (nothing (Data 0x9a srcb bytes)) (passes_on (Data 0x9a srcb bytes) k m)
-  routed_does srcb bytes n Unknown reads to =
-      either (is_user_command n) (Data 0x9a srcb bytes) (after_unknown_node n c) c
-      (knows_no_node (Data 0x9a srcb bytes) n) (nothing (Data 0x9a srcb bytes))
+      cond_both (k == l) c (record c { lines = with_waiting k m c.lines }) (RecordDoes l c (Data 0x9a srcb bytes))
+      (λ _. nothing (Data 0x9a srcb bytes)) (λ _. passes_on (Data 0x9a srcb bytes) k m)
+  routed_does srcb bytes n Unknown reads to = cond_both (is_user_command n) (after_unknown_node n c) c
+      (RecordDoes l c (Data 0x9a srcb bytes)) (λ _. knows_no_node (Data 0x9a srcb bytes) n)
+      (λ _. nothing (Data 0x9a srcb bytes))
 
-  message_does : (srcb : ℕ) (bytes : List ℕ) → RecordDoes l c (Data 0x9a srcb bytes) (after_message l bytes c)
-  message_does srcb bytes = at_nodal (nodal_of bytes) refl
-    where
-      at_nodal : (n : Result Nodal NmrFault) → nodal_of bytes ≡ n
-          → RecordDoes l c (Data 0x9a srcb bytes) (message_read l bytes n c)
-      at_nodal (Err e) reads = nothing (Data 0x9a srcb bytes)
-      at_nodal (Ok n) reads = routed_does srcb bytes n (route_of c.entry n.to) reads refl
+  message_does : (srcb : ℕ) (bytes : List ℕ) (n : Result Nodal NmrFault) → nodal_of bytes ≡ n
+      → RecordDoes l c (Data 0x9a srcb bytes) (message_read l bytes n c)
+  message_does srcb bytes (Err e) reads = nothing (Data 0x9a srcb bytes)
+  message_does srcb bytes (Ok n) reads = routed_does srcb bytes n (route_of c.entry n.to) reads refl
 
   -- ---- every record
 
   pub record_does : (i : Item) → RecordDoes l c i (after_record l i c)
-  record_does (Data rcb srcb bytes) = at_message (rcb == 0x9a) refl
-    where
-      at_message : (b : Bool) → (rcb == 0x9a) ≡ b → RecordDoes l c (Data rcb srcb bytes)
-          (cond b (after_message l bytes c)
-          (after_stream_record l (stream_named l rcb c) (receiving.Data srcb bytes) c))
-      at_message true e =
-          subst (λ n. RecordDoes l c (Data n srcb bytes) (after_message l bytes c)) (sym (eqb-true rcb 0x9a e))
-          (message_does srcb bytes)
-      at_message false e = stream_does rcb (stream_named l rcb c) (receiving.Data srcb bytes) (Data rcb srcb bytes)
-          (some_data rcb srcb bytes) refl
+  record_does (Data rcb srcb bytes) =
+      let a = receiving.Data srcb bytes in
+      cond_both (rcb == 0x9a) (after_message l bytes c) (after_stream_record l (stream_named l rcb c) a c)
+      (RecordDoes l c (Data rcb srcb bytes))
+      (λ e. subst (λ n. RecordDoes l c (Data n srcb bytes) (after_message l bytes c)) (sym (eqb-true rcb 0x9a e))
+      (message_does srcb bytes (nodal_of bytes) refl))
+      (λ e. stream_does rcb (stream_named l rcb c) a (Data rcb srcb bytes) (some_data rcb srcb bytes) refl)
   record_does (Aborted rcb srcb) =
       stream_does rcb (stream_named l rcb c) receiving.Abort (Aborted rcb srcb) (an_abort rcb srcb) refl
   record_does (Long rcb srcb) =
       stream_does rcb (stream_named l rcb c) receiving.Long (Long rcb srcb) (too_long rcb srcb) refl
   record_does (Control rcb srcb) =
       let o = stream_named l srcb c in
-      either (rcb == 0x90) (Control rcb srcb) (after_stream_request l srcb o c) (peer_answered l rcb o c)
-      (request_does rcb srcb o refl) (peer_does rcb srcb o refl)
+      cond_both (rcb == 0x90) (after_stream_request l srcb o c) (peer_answered l rcb o c)
+      (RecordDoes l c (Control rcb srcb)) (λ _. request_does rcb srcb o refl) (λ _. peer_does rcb srcb o refl)
   record_does (General srcb rest) = nothing (General srcb rest)
 
 -- ---- the records of a block
@@ -132,15 +116,10 @@ module _ (l : ℕ) (I : Customer → Type 0) where
       → (c : Customer) → I c → I (all_acted l items c).customer
   all_so [] acted c so = so
   all_so (i ∷ is) acted c so =
-      at_end (ends_session i) (all_so is (λ j at. acted j (Contains-append_right (i ∷ []) is j at)) (after_record l i c)
-      (acted i (0, omega arith, refl) c so))
-    where
-      later : Acted
-      later = all_acted l is (after_record l i c)
-
-      at_end : (b : Bool) → I later.customer → I (ended_or b c later).customer
-      at_end true behind = so
-      at_end false behind = behind
+      let later = all_acted l is (after_record l i c) in
+      let behind = all_so is (λ j at. acted j (Contains-append_right (i ∷ []) is j at)) (after_record l i c)
+      (acted i (0, omega arith, refl) c so) in
+      elim (ends_session i) as (λ b. I (ended_or b c later).customer) [ true ↦ so | false ↦ behind ]
 
   pub acted_where_so : (b : Bool) (items : List Item) → ((i : Item) → Contains items i → (c : Customer) → I c
       → I (after_record l i c)) → (c : Customer) → I c → I (acted_where b l items c).customer

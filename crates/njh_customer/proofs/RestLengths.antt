@@ -2,14 +2,12 @@
 use Rattle.njh_customer.proofs.Words
 use Words.{ℕ, zero, suc, nat_lt, Bool, true, false, List, [], length, map, set, Option, Some, None, Ok, Err, refl}
 use Words.{arith, length-append, inl, inr, subst, sym, ltb-true, RestStep, on_to, ends, kept_with, IsShort}
-use Words.{text_or_spoiled, longest_text, Rest, Nothing, AfterSoh, AfterDle, InText, LineEntry, Walked, routes_checked}
+use Words.{text_or_spoiled, longest_text, Rest, Nothing, AfterSoh, AfterDle, InText, LineEntry, routes_checked}
 use Words.{Customer, byte_step, bytes_run, Taking, or_later, take_step, IsShortText, IsShortRest, OpenedHasShortRests}
 use Words.{EventsKeepShortRests, TakesKeepShortRests, taken_where, rest_at, rest_on, OwnBytes, OwnSignal, OwnRoutes}
-use Rattle.std.proofs.Common.{◌≡◌, ◌==◌, if◌then◌else◌, ◌∷◌, ◌++◌, ◌⊎◌}
-use Rattle.njh_bisync.specs.ByteSteps.{rest_step}
+use Rattle.{std.proofs.Common.{◌≡◌, ◌==◌, if◌then◌else◌, ◌∷◌, ◌++◌}, njh_bisync.specs.ByteSteps.rest_step}
+use Rattle.{njh_bisync.specs.Frames.Received, njh_customer.proofs.FileListLaws.set_one}
 use Rattle.njh_bisync.specs.Frames as frame
-use Rattle.njh_bisync.specs.Frames.{Received}
-use Rattle.njh_customer.proofs.FileListLaws.{set_one}
 
 -- ---- a byte
 
@@ -92,12 +90,10 @@ take_short rest c l (byte ∷ bytes) short =
 
 set_short : (rests : List Rest) (l m : ℕ) (rest : Rest) → IsShortRest rest → IsShortRest (rest_at m rests)
     → IsShortRest (rest_at m (set rests l rest))
-set_short rests l m rest short there = at (set_one rests l m rest Nothing)
-  where
-    at : (rest_at m (set rests l rest) ≡ rest_at m rests) ⊎ ((m ≡ l) × (rest_at m (set rests l rest) ≡ rest))
-        → IsShortRest (rest_at m (set rests l rest))
-    at (inl same) = subst IsShortRest (sym same) there
-    at (inr it) = subst IsShortRest (sym it.1) short
+set_short rests l m rest short there = elim (set_one rests l m rest Nothing) [
+  | inl same ↦ subst IsShortRest (sym same) there
+  | inr it ↦ subst IsShortRest (sym it.1) short
+]
 
 nothing_short : (lines : List LineEntry) (m : ℕ) → IsShortRest (rest_at m (map (λ line. Nothing) lines))
 nothing_short [] m = tt
@@ -117,8 +113,6 @@ events_short p (OwnBytes l piece) short m =
     let r = bytes_run (rest_on l p) p.customer l piece in
     set_short p.rests l m r.rest (run_short (rest_on l p) p.customer l piece (short l)) (short m)
 events_short p (OwnSignal signal l) short m = set_short p.rests l m Nothing tt (short m)
-events_short p (OwnRoutes routes) short m = at_check (routes_checked p.customer.entry routes)
-  where
-    at_check : (w : Walked (Unit {0})) → IsShortRest (rest_at m (taken_where w routes p).rests)
-    at_check (Ok faultless) = short m
-    at_check (Err fault) = short m
+events_short p (OwnRoutes routes) short m =
+    elim (routes_checked p.customer.entry routes) as (λ w. IsShortRest (rest_at m (taken_where w routes p).rests))
+    [ Ok faultless ↦ short m | Err fault ↦ short m ]

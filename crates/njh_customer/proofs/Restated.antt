@@ -6,14 +6,13 @@ use Words.{CustomerSpool, WholeFile, with_state, without_partial, without_whole,
 use Words.{has_lost_route, held_file, unrouted_held, without_all_open, without_open, all_ended, file_in, may_go_again}
 use Words.{ready, spool_after_session, tried_again, after_completion, after_refusal, next_of, HaveHeaders, Receiver}
 use Words.{Sender, Outlet, Candidate, Filling, Source, WaitingAnswer, StreamAbort, StreamRequest, WaitingMessage}
-use Words.{StreamTurn, answering, abort_where, asking, may_ask, oldest, request_of, telling, serving, next_served}
-use Words.{candidate, added_where, after_candidate, after_source_where, filled_where, sources, limits_of}
-use Rattle.std.proofs.Common.{◌≡◌, ◌==◌, ◌∷◌, ◌∙◌}
-use Rattle.njh_spool.specs.declared.State.TheVariants.{Sending}
-use Rattle.njh_stream.specs.declared.receiver.Receiver.TheVariants as receiver
-use Rattle.njh_stream.specs.declared.sender.Sender.TheVariants as sender
+use Words.{StreamTurn, answering, abort_where, asking, may_ask, oldest, telling, serving, next_served, candidate}
+use Words.{added_where, after_candidate, after_source_where, filled_where, sources, limits_of}
+use Rattle.{std.proofs.Common.{◌≡◌, ◌==◌, ◌∷◌, ◌∙◌}, njh_spool.specs.declared.State.TheVariants.Sending}
 use Rattle.njh_sched.specs.NextBlock.{sender_at, after_source, after_sources, filled_block}
 use Rattle.njh_customer.proofs.FileListLaws.{changed_where}
+use Rattle.njh_stream.specs.declared.receiver.Receiver.TheVariants as receiver
+use Rattle.njh_stream.specs.declared.sender.Sender.TheVariants as sender
 
 -- Of a customer's files only states of whole ones have changed.
 pub record IsRestated (s t : CustomerSpool) : Type 0 where
@@ -48,20 +47,16 @@ held_restated entry s = restated_where (has_lost_route entry) held_file s (λ f.
 
 -- the peer has refused a stream's file
 pub refused_restated : (x : Sender) (s : CustomerSpool) → IsRestated s (after_refusal x s).spool
-refused_restated sender.Idle s = as_it_is s
 refused_restated (sender.Requested n) s = marked_restated n Refused s
 refused_restated (sender.Sending n place) s = marked_restated n Refused s
 refused_restated (sender.EofSent n) s = marked_restated n Refused s
-refused_restated sender.Aborting s = as_it_is s
+refused_restated _ s = as_it_is s
 
 -- or has it whole
 pub completed_so : (I : CustomerSpool → Type 0) (s : CustomerSpool) → ((n : ℕ) → I (without_whole n s)) → I s
     → (x : Sender) → I (after_completion x s).spool
-completed_so I s without so sender.Idle = so
-completed_so I s without so (sender.Requested n) = so
-completed_so I s without so (sender.Sending n place) = so
 completed_so I s without so (sender.EofSent n) = without n
-completed_so I s without so sender.Aborting = so
+completed_so I s without so _ = so
 
 -- ---- the end of a session
 
@@ -69,11 +64,10 @@ abbrev pub ended_where : Option ℕ → CustomerSpool → CustomerSpool
 ended_where o s = elim o [ Some n ↦ with_state n Ready s | None ↦ s ]
 
 one_ended : (x : Sender) (s : CustomerSpool) → IsRestated s (spool_after_session x s)
-one_ended x s = at_file (file_in x)
-  where
-    at_file : (o : Option ℕ) → IsRestated s (ended_where o s)
-    at_file None = as_it_is s
-    at_file (Some n) = marked_restated n Ready s
+one_ended x s = elim (file_in x) as (λ o. IsRestated s (ended_where o s)) [
+  | None ↦ as_it_is s
+  | Some n ↦ marked_restated n Ready s
+]
 
 all_restated : (xs : List Sender) (s : CustomerSpool) → IsRestated s (all_ended xs s)
 all_restated [] s = as_it_is s
@@ -96,9 +90,8 @@ open_so I without [] s so = so
 open_so I without (r ∷ rs) s so = open_so I without rs (without_open r s) (one r)
   where
     one : (r : Receiver) → I (without_open r s)
-    one receiver.Idle = so
     one (receiver.Open n progress) = without n s so
-    one receiver.Draining = so
+    one _ = so
 
 -- all but the partial files is the same
 pub record IsSameButPartial (s t : CustomerSpool) : Type 0 where
@@ -152,29 +145,20 @@ calm_map s f None each = tt
 calm_map s f (Some x) each = each x
 
 calm_abort : (x : Sender) (o : Outlet) (s : CustomerSpool) (k : ℕ) → IsCalm s (abort_where x o s k)
-calm_abort sender.Idle o s k = tt
-calm_abort (sender.Requested n) o s k = tt
-calm_abort (sender.Sending n place) o s k = tt
-calm_abort (sender.EofSent n) o s k = tt
 calm_abort sender.Aborting o s k = as_it_is s
+calm_abort _ o s k = tt
 
-request_where : Bool → (WholeFile → Candidate) → Option WholeFile → Option Candidate
-request_where b f o = elim b [ false ↦ None | true ↦ option_map f o ]
-
-calm_request : (goes : WholeFile → Bool) (o : Outlet) (s : CustomerSpool) (k : ℕ) → IsCalm s (request_of goes o s k)
-unfolding request_where
-calm_request goes o s k = at_idle (may_ask o k)
-  where
-    at_idle : (b : Bool) → IsCalm s (request_where b (λ f. asking o s k f.number) (oldest goes (kind_of k) s))
-    at_idle false = tt
-    at_idle true = calm_map {A = WholeFile} s (λ f. asking o s k f.number) (oldest goes (kind_of k) s)
-        (λ f. marked_restated f.number Sending s)
+calm_request : (goes : WholeFile → Bool) (o : Outlet) (s : CustomerSpool) (k : ℕ) (b : Bool)
+    → IsCalm s (elim b [ false ↦ None | true ↦ option_map (λ f. asking o s k f.number) (oldest goes (kind_of k) s) ])
+calm_request goes o s k false = tt
+calm_request goes o s k true = calm_map {A = WholeFile} s (λ f. asking o s k f.number) (oldest goes (kind_of k) s)
+    (λ f. marked_restated f.number Sending s)
 
 calm : (goes : WholeFile → Bool) (source : Source) (o : Outlet) (s : CustomerSpool)
     → IsCalm s (candidate goes source o s)
 calm goes WaitingAnswer o s = calm_map s (answering o s) (slice_get o.answers 0) (λ a. as_it_is s)
 calm goes (StreamAbort k) o s = calm_abort (sender_at k o) o s k
-calm goes (StreamRequest k) o s = calm_request goes o s k
+calm goes (StreamRequest k) o s = calm_request goes o s k (may_ask o k)
 calm goes WaitingMessage o s = calm_map s (telling o s) (slice_get o.messages 0) (λ m. as_it_is s)
 calm goes StreamTurn o s = calm_map s (λ k. serving o s k (next_of (sender_at k o) s)) (next_served o) (λ k. as_it_is s)
 
@@ -183,19 +167,18 @@ same x = record { fcs = refl; files = as_it_is x.spool }
 
 after_candidate_kept : (o : Option Candidate) (x : Filling) → IsCalm x.spool o → Kept (after_candidate o x) x
 after_candidate_kept None x h = same x
-after_candidate_kept (Some c) x h = at_room (has_room x.block c.item)
-  where
-    at_room : (b : Bool) → Kept (added_where b c x) x
-    at_room true = record { fcs = refl; files = h }
-    at_room false = record { fcs = refl; files = as_it_is x.spool }
+after_candidate_kept (Some c) x h =
+    elim (has_room x.block c.item) as (λ b. Kept (added_where b c x) x) [
+      | true ↦ record { fcs = refl; files = h }
+      | false ↦ record { fcs = refl; files = as_it_is x.spool }
+    ]
 
 after_source_kept : (goes : WholeFile → Bool) (source : Source) (x : Filling) → Kept (after_source goes source x) x
 unfolding after_source
-after_source_kept goes source x = at_full x.full
-  where
-    at_full : (b : Bool) → Kept (after_source_where b goes source x) x
-    at_full true = same x
-    at_full false = after_candidate_kept (candidate goes source x.outlet x.spool) x (calm goes source x.outlet x.spool)
+after_source_kept goes source x = elim (x.full) as (λ b. Kept (after_source_where b goes source x) x) [
+  | true ↦ same x
+  | false ↦ after_candidate_kept (candidate goes source x.outlet x.spool) x (calm goes source x.outlet x.spool)
+]
 
 after_sources_kept : (goes : WholeFile → Bool) (more : List Source) (x : Filling) → Kept (after_sources goes more x) x
 unfolding after_sources
@@ -211,8 +194,7 @@ after_sources_kept goes (source ∷ more) x =
 
 pub filled_kept : (goes : WholeFile → Bool) (x : Filling) → Kept (filled_block goes x) x
 unfolding filled_block
-filled_kept goes x = at_suspended (all_suspended x.outlet.peer_fcs)
-  where
-    at_suspended : (b : Bool) → Kept (filled_where b goes x) x
-    at_suspended true = same x
-    at_suspended false = after_sources_kept goes (sources x.block.limit x.outlet) x
+filled_kept goes x = elim (all_suspended x.outlet.peer_fcs) as (λ b. Kept (filled_where b goes x) x) [
+  | true ↦ same x
+  | false ↦ after_sources_kept goes (sources x.block.limit x.outlet) x
+]

@@ -2,14 +2,13 @@
 use Rattle.njh_customer.proofs.Words
 use Words.{cond, List, [], map, Ok, Err, refl, sym, inl, inr, ℕ, Bool, true, false, not, Option, Some, None, Contains}
 use Words.{is_name, User, destination_of, WholeFile, CustomerEntry, route_of, Walked, NewRoute, routes_checked, Route}
-use Words.{Here, Line, Unknown, has_lost_route, held_file, destination_unrouted, is_unknown, destination_goes_by}
-use Words.{is_line, with_marks, LeadsByMoves, nowhere, onward, RoutesMove, RoutesDo, RoutesDoSo, RoutesMoveFile}
-use Words.{is_as_before, is_held, entry_with, taken_where, routes_given, UnroutedFilesStay, customer_with_routes}
-use Words.{Outgoing, outgoing, Part, streams_to_hub, RoutesKeepCoherent}
-use Rattle.std.proofs.Common.{◌≡◌, ◌∙◌, ◌&&◌, ◌||◌}
-use Rattle.njh_customer.proofs.CoherenceLaws.{NothingUnties}
-use Rattle.njh_customer.proofs.FileListLaws.{numbers, WasOrIs, changed_where, from_where}
-use Rattle.njh_customer.proofs.Restated.{held_restated, restated_harmless}
+use Words.{Here, Line, has_lost_route, held_file, destination_unrouted, is_unknown, destination_goes_by, is_line}
+use Words.{with_marks, LeadsByMoves, nowhere, onward, RoutesMove, RoutesDo, RoutesDoSo, RoutesMoveFile, is_as_before}
+use Words.{is_held, entry_with, taken_where, routes_given, UnroutedFilesStay, customer_with_routes, Outgoing, outgoing}
+use Words.{Part, streams_to_hub, RoutesKeepCoherent}
+use Rattle.{std.proofs.Common.{◌≡◌, ◌∙◌, ◌&&◌, ◌||◌}, njh_customer.proofs.CoherenceLaws.NothingUnties}
+use Rattle.njh_customer.proofs.{FileListLaws.{numbers, changed_where, from_where}, Restated.held_restated}
+use Rattle.njh_customer.proofs.Restated.{restated_harmless}
 
 pub routes_do : RoutesDoSo
 routes_do p routes = at_check (routes_checked p.customer.entry routes) refl
@@ -36,24 +35,20 @@ routes_do p routes = at_check (routes_checked p.customer.entry routes) refl
 pub routes_move :
     (p : Part) (routes : List NewRoute) → LeadsByMoves (RoutesMove p.customer.entry routes) (outgoing p.customer)
     (outgoing (routes_given routes p).customer)
-routes_move p routes = at_check (routes_checked p.customer.entry routes) refl
-  where
-    at_check : (w : Walked (Unit {0})) → routes_checked p.customer.entry routes ≡ w
-        → LeadsByMoves (RoutesMove p.customer.entry routes) (outgoing p.customer)
-        (outgoing (taken_where w routes p).customer)
-    at_check (Ok faultless) e =
-        let y = outgoing (taken_where (Ok faultless) routes p).customer in
-        onward (outgoing p.customer) y y (record { faultless = e; holds = refl }) (nowhere y)
-    at_check (Err found) e = nowhere (outgoing p.customer)
+routes_move p routes = (elim (routes_checked p.customer.entry routes) as
+    (λ w. routes_checked p.customer.entry routes ≡ w
+    → LeadsByMoves (RoutesMove p.customer.entry routes) (outgoing p.customer)
+    (outgoing (taken_where w routes p).customer)) [
+      | Ok faultless ↦ λ e. let y = outgoing (taken_where (Ok faultless) routes p).customer in
+          onward (outgoing p.customer) y y (record { faultless = e; holds = refl }) (nowhere y)
+      | Err found ↦ λ e. nowhere (outgoing p.customer)
+    ]) refl
 
 pub routes_keep_entry : (p : Part) (routes : List NewRoute) → let after = (routes_given routes p).customer.entry in
     after ≡ entry_with after.routes (with_marks after.up p.customer.entry)
-routes_keep_entry p routes = at_check (routes_checked p.customer.entry routes)
-  where
-    at_check : (w : Walked (Unit {0})) → let after = (taken_where w routes p).customer.entry in
-        after ≡ entry_with after.routes (with_marks after.up p.customer.entry)
-    at_check (Ok faultless) = refl
-    at_check (Err found) = refl
+routes_keep_entry p routes = elim (routes_checked p.customer.entry routes) as (λ w.
+    let after = (taken_where w routes p).customer.entry in
+    after ≡ entry_with after.routes (with_marks after.up p.customer.entry)) [ Ok faultless ↦ refl | Err found ↦ refl ]
 
 -- ---- a file
 
@@ -65,11 +60,10 @@ held_numbers entry fs = changed_where (λ f. f.number) (has_lost_route entry) he
 
 pub held_so : (entry : CustomerEntry) (x : Outgoing) (g : WholeFile) → Contains (map (held_where entry) x.files) g
     → RoutesMoveFile entry x g
-held_so entry x g at = at_file (from_where (has_lost_route entry) held_file x.files g at)
-  where
-    at_file : WasOrIs (has_lost_route entry) held_file x.files g → RoutesMoveFile entry x g
-    at_file (inl (f, there, e, is)) = is_held f there e is
-    at_file (inr (there, e)) = is_as_before there e
+held_so entry x g at = elim (from_where (has_lost_route entry) held_file x.files g at) [
+  | inl (f, there, e, is) ↦ is_held f there e is
+  | inr (there, e) ↦ is_as_before there e
+]
 
 -- ---- what stays so
 
@@ -85,10 +79,9 @@ coherent_given untied routes c coherent = record {
 }
 
 no_line : (named : Bool) (r : Route) (l : ℕ) → (not named || is_unknown r) ≡ true → (named && is_line l r) ≡ false
-no_line false r l e = refl
-no_line true Here l e = refl
 no_line true (Line n) l e = absurd (cc e)
-no_line true Unknown l e = refl
+no_line true Here l e = refl
+no_line _ r l e = refl
 
 pub unrouted_stay : UnroutedFilesStay
 unrouted_stay entry l f = at_destination (destination_of f.kind f.records)

@@ -1,31 +1,28 @@
 -- What goes out in a new block moves a line's streams, and what each stream's file has under its RCB.
 use Rattle.njh_customer.proofs.Words
-use Words.{ℕ, zero, suc, Bool, true, false, List, [], length, set, get_or, replicate, arith, nat_lt, Option, Some, None}
-use Words.{option_map, slice_get, refl, sym, ap, subst, append-nil, set-set, get_or-set_same, set-get_or, length-map}
-use Words.{map-set, AllByRecursion, Stored, Item, all_suspended, messages_on, kind_of, has_room, Answer, WholeFile}
-use Words.{whole_numbered, CustomerEntry, goes_by, next_at, next_of, record_at, Sender, Requested, EofSent, Aborting}
-use Words.{records_of, Candidate, Filling, Source, WaitingAnswer, StreamAbort, StreamRequest, WaitingMessage}
+use Words.{and_parts, ℕ, zero, suc, Bool, true, false, List, [], length, set, get_or, replicate, arith, nat_lt, Option}
+use Words.{Some, None, option_map, slice_get, refl, sym, ap, subst, append-nil, set-set, get_or-set_same, set-get_or}
+use Words.{length-map, map-set, AllByRecursion, Stored, Item, all_suspended, messages_on, kind_of, has_room, Answer}
+use Words.{WholeFile, whole_numbered, CustomerEntry, goes_by, next_at, next_of, record_at, Sender, Requested, EofSent}
+use Words.{Aborting, records_of, Candidate, Filling, Source, WaitingAnswer, StreamAbort, StreamRequest, WaitingMessage}
 use Words.{StreamTurn, abort_where, answering, asking, candidate, is_idle, may_ask, next_served, oldest, serving}
 use Words.{telling, added_where, after_candidate, after_source_where, Outlet, aborts, filled_where, messages_where}
 use Words.{requests, sources, turns, waiting_answers, waiting_messages, filling, own_fcs, replied_to, Customer, line_at}
 use Words.{LeadsByMoves, nowhere, onward, Sends, Outgoing, record_numbered, sender_on, with_sender_on, outgoing}
 use Words.{streams_from_hub, next_block, outlet_of, own_block, sending_of_reply}
-use Rattle.std.proofs.Common.{◌≡◌, ◌<◌, ◌+◌, ◌∷◌, ◌++◌, ◌%◌, ◌&&◌, ◌∙◌}
-use Rattle.njh_stream.specs.declared.sender.Sender.TheVariants.{Idle, Sending}
-use Rattle.njh_sched.specs.NextBlock.{sender_at, after_source, after_sources, filled_block, streams}
+use Rattle.std.proofs.Common.{◌≡◌, ◌<◌, ◌+◌, ◌∷◌, ◌++◌, ◌%◌, ◌∙◌}
+use Rattle.{njh_stream.specs.declared.sender.Sender.TheVariants.{Idle, Sending}, njh_sched.specs.NextBlock.sender_at}
+use Rattle.njh_sched.specs.NextBlock.{after_source, after_sources, filled_block, streams}
+use Rattle.njh_customer.proofs.OutgoingLaws.{of_parts, own_again}
 use Rattle.njh_line.specs.declared.verdict.LineReply.TheVariants as reply
 use Rattle.njh_customer.specs.Moves as moves
-use Rattle.njh_customer.proofs.OutgoingLaws.{of_parts, own_again}
 
 -- ---- where the block's records come from
 
 -- a request is of one of the eight streams
 abbrev pub IsOfEight : Source → Type 0
-IsOfEight WaitingAnswer = Unit {0}
-IsOfEight (StreamAbort k) = Unit {0}
 IsOfEight (StreamRequest k) = k < 8
-IsOfEight WaitingMessage = Unit {0}
-IsOfEight StreamTurn = Unit {0}
+IsOfEight _ = Unit {0}
 
 abbrev pub AreOfEight : List Source → Type 0
 AreOfEight more = AllByRecursion IsOfEight more
@@ -109,22 +106,12 @@ module _ (entry : CustomerEntry) (l : ℕ) (base : List (List Sender)) (inside :
 
   offers_abort : (x : Filling) (k : ℕ) (s : Sender) → sender_at k x.outlet ≡ s
       → OffersIf x (abort_where s x.outlet x.spool k)
-  offers_abort x k Idle e = tt
-  offers_abort x k (Requested n) e = tt
-  offers_abort x k (Sending n place) e = tt
-  offers_abort x k (EofSent n) e = tt
   offers_abort x k Aborting e = one (moves.gives_up k (stream_now k x ∙ e) (moved_is x k Idle x.spool.whole))
+  offers_abort x k _ e = tt
 
   idle_is : (s : Sender) → is_idle s ≡ true → s ≡ Idle
   idle_is Idle e = refl
-  idle_is (Requested n) e = absurd (cc e)
-  idle_is (Sending n place) e = absurd (cc e)
-  idle_is (EofSent n) e = absurd (cc e)
-  idle_is Aborting e = absurd (cc e)
-
-  both_right : (a b : Bool) → (a && b) ≡ true → b ≡ true
-  both_right true b e = e
-  both_right false b e = absurd (cc e)
+  idle_is _ e = absurd (cc e)
 
   offers_request : (x : Filling) (k : ℕ) (b : Bool) → k < 8 → may_ask x.outlet k ≡ b → OffersIf x (elim b [
     | false ↦ None
@@ -134,7 +121,7 @@ module _ (entry : CustomerEntry) (l : ℕ) (base : List (List Sender)) (inside :
   offers_request x k true few e = offers_map {A = WholeFile} x (λ f. asking x.outlet x.spool k f.number)
       (oldest (goes_by entry l) (kind_of k) x.spool)
       (λ f found. one (moves.asks k f few (stream_now k x ∙ idle_is (sender_at k x.outlet)
-      (both_right (nat_lt (k % 4) x.outlet.streams) (is_idle (sender_at k x.outlet)) e)) found
+      (and_parts (nat_lt (k % 4) x.outlet.streams) (is_idle (sender_at k x.outlet)) e).1) found
       (moved_is x k (Requested f.number) (asking x.outlet x.spool k f.number).spool.whole)))
 
   at_place : (n place : ℕ) (x : Filling) → record_at n place x.spool ≡ record_numbered n place (out_of l base x)
@@ -163,11 +150,8 @@ module _ (entry : CustomerEntry) (l : ℕ) (base : List (List Sender)) (inside :
 
   offers_turn : (x : Filling) (k : ℕ) (s : Sender) → sender_at k x.outlet ≡ s
       → Offers x (serving x.outlet x.spool k (next_of s x.spool))
-  offers_turn x k Idle e = same (left_as_it_is x k Idle e)
-  offers_turn x k (Requested n) e = same (left_as_it_is x k (Requested n) e)
   offers_turn x k (Sending n place) e = offers_next x k n place (record_at n place x.spool) e refl
-  offers_turn x k (EofSent n) e = same (left_as_it_is x k (EofSent n) e)
-  offers_turn x k Aborting e = same (left_as_it_is x k Aborting e)
+  offers_turn x k s e = same (left_as_it_is x k s e)
 
   offers : (source : Source) (x : Filling) → IsOfEight source
       → OffersIf x (candidate (goes_by entry l) source x.outlet x.spool)
@@ -195,11 +179,10 @@ module _ (entry : CustomerEntry) (l : ℕ) (base : List (List Sender)) (inside :
 
   pub gives : (source : Source) (x : Filling) → IsOfEight source → Gives x (after_source (goes_by entry l) source x)
   unfolding after_source
-  gives source x few = at_full x.full
-    where
-      at_full : (b : Bool) → Gives x (after_source_where b (goes_by entry l) source x)
-      at_full true = nothing refl [] (sym (append-nil x.block.items))
-      at_full false = gives_candidate x (candidate (goes_by entry l) source x.outlet x.spool) (offers source x few)
+  gives source x few = elim (x.full) as (λ b. Gives x (after_source_where b (goes_by entry l) source x)) [
+    | true ↦ nothing refl [] (sym (append-nil x.block.items))
+    | false ↦ gives_candidate x (candidate (goes_by entry l) source x.outlet x.spool) (offers source x few)
+  ]
 
   -- all sources, one after the other
   step_on : (x y : Filling) (z : Outgoing) → Gives x y → LeadsByMoves (Sends entry l) (out_of l base y) z
@@ -244,12 +227,11 @@ module _ (entry : CustomerEntry) (l : ℕ) (base : List (List Sender)) (inside :
   pub filled_leads : (x : Filling) → LeadsByMoves (Sends entry l) (out_of l base x)
       (out_of l base (filled_block (goes_by entry l) x))
   unfolding filled_block
-  filled_leads x = at_suspended (all_suspended x.outlet.peer_fcs)
-    where
-      at_suspended : (b : Bool) → LeadsByMoves (Sends entry l) (out_of l base x)
-          (out_of l base (filled_where b (goes_by entry l) x))
-      at_suspended true = nowhere (out_of l base x)
-      at_suspended false = all_lead (sources x.block.limit x.outlet) x (sources_eight x.block.limit x.outlet)
+  filled_leads x = elim (all_suspended x.outlet.peer_fcs) as
+      (λ b. LeadsByMoves (Sends entry l) (out_of l base x) (out_of l base (filled_where b (goes_by entry l) x))) [
+        | true ↦ nowhere (out_of l base x)
+        | false ↦ all_lead (sources x.block.limit x.outlet) x (sources_eight x.block.limit x.outlet)
+      ]
 
   pub filled_with_none : (x : Filling) → (filled_block (goes_by entry l) x).block.items ≡ []
       → out_of l base (filled_block (goes_by entry l) x) ≡ out_of l base x

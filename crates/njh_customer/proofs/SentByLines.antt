@@ -1,8 +1,8 @@
 -- What a line sends, the end of its session, and new routes leave it so: the files that are being sent are exactly
 -- those that a stream is about, each on one stream.
 use Rattle.njh_customer.proofs.Words
-use Words.{ℕ, zero, suc, Bool, true, false, inl, inr, List, [], length, set, get_or, replicate, find, Option, Some}
-use Words.{None, refl, sym, ap, subst, arith, eqb-true, get_or-map, eqb-false, get_or-set_same, get_or-set_other}
+use Words.{cases_eq, ℕ, zero, suc, Bool, true, false, inl, inr, List, [], length, set, get_or, replicate, find, Option}
+use Words.{Some, None, refl, sym, ap, subst, arith, eqb-true, get_or-map, eqb-false, get_or-set_same, get_or-set_other}
 use Words.{length-map, length-replicate, length-set, All-map, Contains, kind_of, destination_of, CustomerSpool}
 use Words.{WholeFile, State, CustomerEntry, RouteEntry, destination_unrouted, has_lost_route, waits_in_state, held_file}
 use Words.{all_ended, file_in, goes_by, is_refused, may_go_again, ready, spool_after_session, tried_again, Sender}
@@ -11,19 +11,17 @@ use Words.{Customer, CustomerLine, config_of, fresh_customer, idle_line, line_at
 use Words.{IsOnStream, IsAbout, LeadsByMoves, nowhere, onward, Sends, customer_with_routes, entry_with, Outgoing}
 use Words.{has_file, outgoing, sender_on, streams_from_hub, streams_of, with_file_state, with_files, with_sender_on}
 use Words.{next_block}
-use Rattle.std.proofs.Common.{◌≡◌, ◌+◌, ◌<◌, ◌==◌, ◌&&◌, ◌⊎◌, ◌∷◌, ◌∙◌}
-use Rattle.njh_spool.specs.declared.State.TheVariants as state
+use Rattle.njh_customer.proofs.SentByRecords.{number_of, carried, changed_carries, onward_carries, Carries}
+use Rattle.njh_customer.proofs.FileListLaws.{any_numbered, copies, marked_numbers, same_numbered, but_states, found_one}
+use Rattle.njh_customer.proofs.{FileListLaws.{WasOrIs, any_there, from_where}, IdleLines.fresh_lines_idle}
+use Rattle.njh_customer.proofs.{IdleLines.senders_idle, OutgoingLaws.{over_so, reply_unmoved, stream_is}}
+use Rattle.njh_customer.proofs.{Restated.{ended_where, without_open_same}, SendingMoves.{out_of, next_is, next_leads}}
+use Rattle.{njh_customer.proofs.StreamMoveLaws.{set_lines, set_streams, set_there, moved_one}, std.proofs.Common.◌≡◌}
+use Rattle.std.proofs.Common.{◌+◌, ◌<◌, ◌==◌, ◌&&◌, ◌⊎◌, ◌∷◌, ◌∙◌}
 use Rattle.njh_stream.specs.declared.sender.Sender.TheVariants.{Idle, Sending}
+use Rattle.njh_spool.specs.declared.State.TheVariants as state
 use Rattle.njh_line.specs.declared.verdict.LineReply.TheVariants as reply
 use Rattle.njh_customer.specs.Moves as moves
-use Rattle.njh_customer.proofs.FileListLaws.{any_numbered, copies, marked_numbers, same_numbered, but_states, found_one}
-use Rattle.njh_customer.proofs.FileListLaws.{WasOrIs, any_there, from_where}
-use Rattle.njh_customer.proofs.IdleLines.{fresh_lines_idle, senders_idle}
-use Rattle.njh_customer.proofs.OutgoingLaws.{over_so, reply_unmoved, stream_is}
-use Rattle.njh_customer.proofs.Restated.{ended_where, without_open_same}
-use Rattle.njh_customer.proofs.SendingMoves.{out_of, next_is, next_leads}
-use Rattle.njh_customer.proofs.SentByRecords.{carried, changed_carries, onward_carries, Carries}
-use Rattle.njh_customer.proofs.StreamMoveLaws.{set_lines, set_streams, set_there, IsOne, moved_one}
 
 -- one stream moves, and is about the file that it was about
 one_moves : (l k : ℕ) (s t : Sender) (x y : Outgoing) → sender_on l k x ≡ s → file_in t ≡ file_in s
@@ -32,9 +30,6 @@ one_moves l k s t x y before same e =
     carried x y (subst (Carries x) (sym e) (onward_carries l k t x (same ∙ sym (ap (λ u. file_in u) before))))
 
 -- ---- a stream asks for a file
-
-some_is : {A : Type 0} (a b : A) → Some a ≡ Some b → a ≡ b
-some_is a b e = ap (λ o. elim o [ Some c ↦ c | None ↦ a ]) e
 
 -- a file that may go isn't being sent
 goes_ready : (goes : WholeFile → Bool) (k : ℕ) (f : WholeFile) → may_go goes (kind_of k) f ≡ true
@@ -64,21 +59,18 @@ module _ (entry : CustomerEntry) (l k : ℕ) (f : WholeFile) (x : Outgoing) (lin
   WasAbout m j n = IsAbout m j n x ⊎ ((m ≡ l) × (j ≡ k) × (n ≡ f.number))
 
   was_about : (m j n : ℕ) → IsAbout m j n asked → WasAbout m j n
-  was_about m j n about = at_place (moved_one m j l k (Requested f.number) marked)
-    where
-      at_place : IsOne m j l k (Requested f.number) marked asked → WasAbout m j n
-      at_place (inl same) = inl (sym (ap (λ t. file_in t) same) ∙ about)
-      at_place (inr one) = inr (one.0, one.1, some_is n f.number (sym about ∙ ap (λ t. file_in t) one.2))
+  was_about m j n about = elim (moved_one m j l k (Requested f.number) marked) [
+    | inl same ↦ inl (sym (ap (λ t. file_in t) same) ∙ about)
+    | inr one ↦ inr (one.0, one.1, number_of n f.number (sym about ∙ ap (λ t. file_in t) one.2))
+  ]
 
   -- one that was about a file still is
   still_about : (m j n : ℕ) → IsAbout m j n x → IsAbout m j n asked
-  still_about m j n about = at_place (moved_one m j l k (Requested f.number) marked)
-    where
-      at_place : IsOne m j l k (Requested f.number) marked asked → IsAbout m j n asked
-      at_place (inl same) = ap (λ t. file_in t) same ∙ about
-      at_place (inr one) =
-          absurd (cc (sym about ∙ ap (λ i. file_in (sender_on i j x)) one.0 ∙ ap (λ i. file_in (sender_on l i x)) one.1
-          ∙ ap (λ t. file_in t) idle))
+  still_about m j n about = elim (moved_one m j l k (Requested f.number) marked) [
+    | inl same ↦ ap (λ t. file_in t) same ∙ about
+    | inr one ↦ absurd (cc (sym about ∙ ap (λ i. file_in (sender_on i j x)) one.0
+        ∙ ap (λ i. file_in (sender_on l i x)) one.1 ∙ ap (λ t. file_in t) idle))
+  ]
 
   asks_about : IsAbout l k f.number asked
   asks_about = ap (λ t. file_in t) (set_there l k (Requested f.number) marked line (omega (arith, sent.eight l line)))
@@ -89,22 +81,22 @@ module _ (entry : CustomerEntry) (l k : ℕ) (f : WholeFile) (x : Outgoing) (lin
   from_asked = from_where (λ h. h.number == f.number) (λ h. record h { state = state.Sending }) x.files
 
   asked_there : (m j n : ℕ) → IsAbout m j n asked → has_file n asked ≡ true
-  asked_there m j n about = same_numbered n asked.files x.files (marked_numbers f.number state.Sending x.files)
-      ∙ at_stream (was_about m j n about)
-    where
-      at_stream : WasAbout m j n → any_numbered n x.files ≡ true
-      at_stream (inl was) = sent.there m j n was
-      at_stream (inr asks) = ap (λ i. any_numbered i x.files) asks.2 ∙ any_there f.number x.files (f, at_file, refl)
+  asked_there m j n about =
+      let there : any_numbered n x.files ≡ true = elim (was_about m j n about) [
+        | inl was ↦ sent.there m j n was
+        | inr asks ↦ ap (λ i. any_numbered i x.files) asks.2 ∙ any_there f.number x.files (f, at_file, refl)
+      ] in
+      same_numbered n asked.files x.files (marked_numbers f.number state.Sending x.files) ∙ there
 
   asked_sending : (m j n : ℕ) (g : WholeFile) → IsAbout m j n asked → Contains asked.files g → g.number ≡ n
       → g.state ≡ state.Sending
-  asked_sending m j n g about at same = at_mark (from_asked g at) (was_about m j n about)
-    where
-      at_mark : WasOrIs (λ h. h.number == f.number) (λ h. record h { state = state.Sending }) x.files g → WasAbout m j n
-          → g.state ≡ state.Sending
-      at_mark (inl (h, there, e, is)) was = ap (λ i. i.state) is
-      at_mark (inr (there, other)) (inl was) = sent.sending m j n g was there same
-      at_mark (inr (there, other)) (inr asks) = absurd (eqb-false g.number f.number other (same ∙ asks.2))
+  asked_sending m j n g about at same = elim (from_asked g at) [
+    | inl (h, there, e, is) ↦ ap (λ i. i.state) is
+    | inr (there, other) ↦ elim (was_about m j n about) [
+      | inl was ↦ sent.sending m j n g was there same
+      | inr asks ↦ absurd (eqb-false g.number f.number other (same ∙ asks.2))
+    ]
+  ]
 
   asked_apart : (i h m j n : ℕ) → IsAbout i h n asked → IsAbout m j n asked → (i ≡ m) × (h ≡ j)
   asked_apart i h m j n first second = at_streams (was_about i h n first) (was_about m j n second)
@@ -116,22 +108,14 @@ module _ (entry : CustomerEntry) (l k : ℕ) (f : WholeFile) (x : Outgoing) (lin
       at_streams (inr one) (inr other) = (one.0 ∙ sym other.0, one.1 ∙ sym other.1)
 
   asked_go : (g : WholeFile) → Contains asked.files g → g.state ≡ state.Sending → IsOnStream g.number asked
-  asked_go g at is = at_mark (from_asked g at)
-    where
-      at_mark : WasOrIs (λ h. h.number == f.number) (λ h. record h { state = state.Sending }) x.files g
-          → IsOnStream g.number asked
-      at_mark (inl (h, there, e, same)) = record {
-        line = l;
-        stream = k;
-        about = asks_about ∙ ap Some (sym (ap (λ i. i.number) same ∙ eqb-true h.number f.number e));
-      }
-      at_mark (inr (there, other)) =
-          let goes = sent.go g there is in
-          record {
-            line = goes.line;
-            stream = goes.stream;
-            about = still_about goes.line goes.stream g.number goes.about;
-          }
+  asked_go g at is = elim (from_asked g at) [
+    | inl (h, there, e, same) ↦
+        let about = asks_about ∙ ap Some (sym (ap (λ i. i.number) same ∙ eqb-true h.number f.number e)) in
+        record { line = l; stream = k; about = about }
+    | inr (there, other) ↦ let goes = sent.go g there is in let about = still_about goes.line goes.stream g.number
+        goes.about in
+        record { line = goes.line; stream = goes.stream; about = about }
+  ]
 
   sent_asked : AreBeingSent asked
   sent_asked = record {
@@ -182,14 +166,7 @@ sent_replied l (reply.Next or_ack0) c there sent =
     let full = next_block c.entry l c.spool (line_at l c.lines) in
     subst AreBeingSent (sym (next_is l or_ack0 c)) (sent_by_all c.entry l (outgoing c) (out_of l base full)
     (omega (arith, there, length-map c.lines (λ x. x.senders))) (next_leads l c there) sent)
-sent_replied l reply.Nothing c there sent = subst AreBeingSent (sym (reply_unmoved l reply.Nothing c refl)) sent
-sent_replied l (reply.Control which) c there sent = subst AreBeingSent
-    (sym (reply_unmoved l (reply.Control which) c refl)) sent
-sent_replied l reply.Again c there sent = subst AreBeingSent (sym (reply_unmoved l reply.Again c refl)) sent
-sent_replied l (reply.SignOn kind) c there sent = subst AreBeingSent
-    (sym (reply_unmoved l (reply.SignOn kind) c refl)) sent
-sent_replied l (reply.Sequence expected) c there sent =
-    subst AreBeingSent (sym (reply_unmoved l (reply.Sequence expected) c refl)) sent
+sent_replied l r c there sent = subst AreBeingSent (sym (reply_unmoved l r c refl)) sent
 
 -- ---- the end of a session
 
@@ -212,7 +189,7 @@ one_ended s spool g at = at_about (file_in s) at
         → (Contains spool.whole g × (Some n ≡ Some g.number → ⊥)) ⊎ ((Some n ≡ Some g.number) × (g.state ≡ state.Ready))
     at_mark n (inl (h, there, e, is)) =
         inr (ap Some (sym (ap (λ i. i.number) is ∙ eqb-true h.number n e)), ap (λ i. i.state) is)
-    at_mark n (inr (there, e)) = inl (there, λ about. eqb-false g.number n e (sym (some_is n g.number about)))
+    at_mark n (inr (there, e)) = inl (there, λ about. eqb-false g.number n e (sym (number_of n g.number about)))
 
     at_about : (o : Option ℕ) → Contains (ended_where o spool).whole g
         → (Contains spool.whole g × (o ≡ Some g.number → ⊥)) ⊎ ((o ≡ Some g.number) × (g.state ≡ state.Ready))
@@ -225,25 +202,21 @@ all_ended_ones :
     → g.state ≡ state.Sending → Contains spool.whole g × NoneAbout g.number senders
 all_ended_ones [] spool g at is = (at, λ k about. cc about)
 all_ended_ones (s ∷ more) spool g at is =
-    let rest = all_ended_ones more (spool_after_session s spool) g at is in at_first rest.1 (one_ended s spool g rest.0)
-  where
-    at_first : NoneAbout g.number more → (Contains spool.whole g × (file_in s ≡ Some g.number → ⊥))
-        ⊎ ((file_in s ≡ Some g.number) × (g.state ≡ state.Ready))
-        → Contains spool.whole g × NoneAbout g.number (s ∷ more)
-    at_first others (inl (there, none)) = (there, none_more g.number s more none others)
-    at_first others (inr (about, waits)) = absurd (cc (sym is ∙ waits))
+    let rest = all_ended_ones more (spool_after_session s spool) g at is in
+    elim (one_ended s spool g rest.0) [
+      | inl (there, none) ↦ (there, none_more g.number s more none rest.1)
+      | inr (about, waits) ↦ absurd (cc (sym is ∙ waits))
+    ]
 
 -- a file that no stream is about stays as it is
 unended_ones : (senders : List Sender) (spool : CustomerSpool) (g : WholeFile)
     → Contains (all_ended senders spool).whole g → NoneAbout g.number senders → Contains spool.whole g
 unended_ones [] spool g at none = at
 unended_ones (s ∷ more) spool g at none =
-    at_first (one_ended s spool g (unended_ones more (spool_after_session s spool) g at (λ k. none (suc k))))
-  where
-    at_first : (Contains spool.whole g × (file_in s ≡ Some g.number → ⊥))
-        ⊎ ((file_in s ≡ Some g.number) × (g.state ≡ state.Ready)) → Contains spool.whole g
-    at_first (inl was) = was.0
-    at_first (inr (about, waits)) = absurd (none 0 about)
+    elim (one_ended s spool g (unended_ones more (spool_after_session s spool) g at (λ k. none (suc k)))) [
+      | inl was ↦ was.0
+      | inr (about, waits) ↦ absurd (none 0 about)
+    ]
 
 module _ (l : ℕ) (c : Customer) (line : l < length c.lines) (sent : AreBeingSent (outgoing c)) where
   abbrev before_end : Outgoing
@@ -298,14 +271,12 @@ module _ (l : ℕ) (c : Customer) (line : l < length c.lines) (sent : AreBeingSe
       (subst (λ fs. Contains fs g) files_now at)
 
   over_streams : (m : ℕ) → length (streams_of m behind_end) ≡ length (streams_of m before_end)
-  over_streams m = at_line (m == l) refl
-    where
-      at_line : (b : Bool) → (m == l) ≡ b → length (streams_of m behind_end) ≡ length (streams_of m before_end)
-      at_line true e =
-          let same = eqb-true m l e in
-          ap (λ i. length (streams_of i behind_end)) same ∙ ap length line_now ∙ length-replicate {A = Sender}
-          (length (streams_of l before_end)) Idle ∙ ap (λ i. length (streams_of i before_end)) (sym same)
-      at_line false e = ap length (other_line m (eqb-false m l e))
+  over_streams m = elim (cases_eq m l) [
+    | inl same ↦
+        ap (λ i. length (streams_of i behind_end)) same ∙ ap length line_now ∙ length-replicate {A = Sender}
+        (length (streams_of l before_end)) Idle ∙ ap (λ i. length (streams_of i before_end)) (sym same)
+    | inr apart ↦ ap length (other_line m apart)
+  ]
 
   -- a file that a stream is about was there as it is
   over_same : (m k n : ℕ) (g : WholeFile) → IsAbout m k n behind_end → g.number ≡ n
@@ -358,10 +329,8 @@ sent_over l c line sent = carried (outgoing c) (outgoing (session_over l c)) (ov
 
 -- a file that waits isn't being sent
 waiting_idle : (s : State) (b : Bool) → (waits_in_state s && b) ≡ true → is_sending s ≡ false
-waiting_idle state.Ready b e = refl
-waiting_idle state.Held b e = refl
-waiting_idle state.Refused b e = refl
 waiting_idle state.Sending b e = absurd (cc e)
+waiting_idle _ b e = refl
 
 pub sent_routes : (routes : List RouteEntry) (c : Customer) → AreBeingSent (outgoing c)
     → AreBeingSent (outgoing (customer_with_routes routes c))

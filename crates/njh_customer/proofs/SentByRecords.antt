@@ -1,28 +1,25 @@
 -- What a record that comes leaves of this: which files are being sent are those that a stream from the hub is about.
 use Rattle.njh_customer.proofs.Words
-use Words.{ℕ, Bool, true, false, cond, not, inl, inr, List, [], length, map, filter, get_or, count_by, Option, Some}
-use Words.{None, refl, sym, ap, subst, not-suc-le-zero, arith, eqb-true, eq-eqb, not-true, not_from_false, eqb-false}
-use Words.{Contains-append_left, Contains-push_cases, sum_by_push, Contains, Item, WholeFile, State, CustomerEntry}
-use Words.{counted_at, file_in, Sender, CommandsMoveFilesSo, aborted_where, file_in_state, is_about, is_busy}
-use Words.{is_of_name, is_sending, may_change, state_after_reroute, with_new_destination, without_file, after_record}
-use Words.{Customer, AreBeingSent, IsAbout, Acts, busy_numbers, with_changed, without_cancelled, without_files}
-use Words.{Outgoing, each_stream, has_file, outgoing, sender_on, streams_of, with_arrival, with_file_state, with_files}
-use Words.{with_sender_on, without_numbered}
-use Rattle.std.proofs.Common.{◌≡◌, ◌≤◌, ◌&&◌, ◌==◌, ◌⊎◌, ◌∷◌, ◌++◌, ◌∙◌}
-use Rattle.njh_spool.specs.declared.State.TheVariants as state
+use Words.{cond_both, ne_eqb, ℕ, Bool, true, false, cond, not, inl, inr, List, [], length, map, filter, get_or}
+use Words.{count_by, Option, Some, None, refl, sym, ap, subst, not-suc-le-zero, arith, eqb-true, eq-eqb, not-true}
+use Words.{not_from_false, eqb-false, Contains-append_left, Contains-push_cases, sum_by_push, Contains, Item, WholeFile}
+use Words.{State, CustomerEntry, counted_at, file_in, Sender, CommandsMoveFilesSo, aborted_where, file_in_state}
+use Words.{is_about, is_busy, is_of_name, is_sending, may_change, state_after_reroute, with_new_destination}
+use Words.{without_file, after_record, Customer, AreBeingSent, IsAbout, Acts, busy_numbers, with_changed}
+use Words.{without_cancelled, without_files, Outgoing, each_stream, has_file, outgoing, sender_on, streams_of}
+use Words.{with_arrival, with_file_state, with_files, with_sender_on, without_numbered}
+use Rattle.std.proofs.Common.{◌≡◌, ◌≤◌, ◌&&◌, ◌==◌, ◌∷◌, ◌++◌, ◌∙◌}
 use Rattle.njh_stream.specs.declared.sender.Sender.TheVariants.{Idle, Sending}
-use Rattle.njh_customer.specs.Moves as moves
-use Rattle.njh_customer.proofs.ActingMoves.{acts_so}
-use Rattle.njh_customer.proofs.FileListLaws.{any_numbered, from_filter, same_numbered, into_map, Has, WasOrIs}
-use Rattle.njh_customer.proofs.FileListLaws.{first_or_later, found_numbered, from_where, has_one, into_filter}
-use Rattle.njh_customer.proofs.FileListLaws.{passes_filter, any_there, changed_where}
-use Rattle.njh_customer.proofs.FileNumbers.{AreDistinct}
-use Rattle.njh_customer.proofs.RecordsChange.{without_files_files, both_are}
+use Rattle.njh_customer.proofs.{ActingMoves.acts_so, FileListLaws.{any_numbered, from_filter, same_numbered, into_map}}
+use Rattle.njh_customer.proofs.FileListLaws.{Has, WasOrIs, first_or_later, found_numbered, from_where, has_one}
+use Rattle.njh_customer.proofs.FileListLaws.{into_filter, passes_filter, any_there, changed_where}
+use Rattle.njh_customer.proofs.{FileLimits.AreDistinct, RecordsChange.{without_files_files, both_are}}
 use Rattle.njh_customer.proofs.StreamMoveLaws.{each_lines, each_streams, set_lines, set_streams, set_where_about, IsOne}
-use Rattle.njh_customer.proofs.StreamMoveLaws.{StaysOrGivesUp, aborted_none, all_give_up, busy_one, each_at, moved_one}
-use Rattle.njh_customer.proofs.StreamMoveLaws.{was}
+use Rattle.njh_customer.proofs.StreamMoveLaws.{aborted_none, all_give_up, busy_one, each_at, moved_one, was}
+use Rattle.njh_spool.specs.declared.State.TheVariants as state
+use Rattle.njh_customer.specs.Moves as moves
 
-number_of : (a b : ℕ) → Some a ≡ Some b → a ≡ b
+pub number_of : (a b : ℕ) → Some a ≡ Some b → a ≡ b
 number_of a b e = cc e
 
 one_counts : (n : ℕ) (f : WholeFile) → f.number ≡ n → ◌≡◌ {A = ℕ} (cond (f.number == n) 1 0) 1
@@ -61,11 +58,8 @@ carried x y c are = record {
   there = λ l k n about. c.there l k n about (are.there l k n (c.back l k n about));
   sending = λ l k n f about at is. are.sending l k n f (c.back l k n about) (c.same l k n f about at is) is;
   apart = λ l k m j n about other. are.apart l k m j n (c.back l k n about) (c.back m j n other);
-  go = λ f at sending. let g = are.go f (c.sent f at sending) sending in record {
-    line = g.line;
-    stream = g.stream;
-    about = c.on f at sending g.line g.stream g.about;
-  };
+  go = λ f at sending. let g = are.go f (c.sent f at sending) sending in
+      record { line = g.line; stream = g.stream; about = c.on f at sending g.line g.stream g.about };
 }
 
 -- ---- a file comes
@@ -78,8 +72,14 @@ arrival_carries f x waits apart are = record {
   back = λ l k n about. about;
   there = λ l k n about there. let found = has_one n x.files there in
       any_there n (x.files ++ f ∷ []) (found.0, Contains-append_left x.files (f ∷ []) found.0 found.1, found.2);
-  same = λ l k n g about at is. at_place l k n g about is (Contains-push_cases x.files f g at);
-  sent = λ g at sending. is_old g sending (Contains-push_cases x.files f g at);
+  same = λ l k n g about at is. elim (Contains-push_cases x.files f g at) [
+    | inl old ↦ old
+    | inr new ↦ no_more n (has_one n x.files (are.there l k n about)) (ap (λ h. h.number) new ∙ is)
+  ];
+  sent = λ g at sending. elim (Contains-push_cases x.files f g at) [
+    | inl old ↦ old
+    | inr new ↦ absurd (waits (ap (λ h. h.state) new ∙ sending))
+  ];
   on = λ g at sending l k about. about;
 }
   where
@@ -92,16 +92,6 @@ arrival_carries f x waits apart are = record {
       one_counts n f one,
       counted n x.files g there is,
     ))
-
-    at_place : (l k n : ℕ) (g : WholeFile) → IsAbout l k n x → g.number ≡ n → Contains x.files g ⊎ (f ≡ g)
-        → Contains x.files g
-    at_place l k n g about is (inl old) = old
-    at_place l k n g about is (inr new) = no_more n (has_one n x.files (are.there l k n about))
-        (ap (λ h. h.number) new ∙ is)
-
-    is_old : (g : WholeFile) → g.state ≡ state.Sending → Contains x.files g ⊎ (f ≡ g) → Contains x.files g
-    is_old g sending (inl old) = old
-    is_old g sending (inr new) = absurd (waits (ap (λ h. h.state) new ∙ sending))
 
 -- ---- a stream moves
 
@@ -189,13 +179,10 @@ refused_carries l m n s x before none are =
     sent g (inl (f, at, e, is)) sending = absurd (cc (sym sending ∙ ap (λ h. h.state) is))
     sent g (inr (at, e)) sending = (at, eqb-false g.number n e)
 
-    kept_where : (b : Bool) (f : WholeFile) → (f.number == n) ≡ b → (f.number ≡ n → ⊥) → cond b (refused f) f ≡ f
-    kept_where true f e another = absurd (another (eqb-true f.number n e))
-    kept_where false f e another = refl
-
     kept : (f : WholeFile) → Contains x.files f → (f.number ≡ n → ⊥)
         → Contains (with_file_state n state.Refused x.files) f
-    kept f at another = subst (Contains (with_file_state n state.Refused x.files)) (kept_where (is_it f) f refl another)
+    kept f at another = subst (Contains (with_file_state n state.Refused x.files))
+        (cond_both (is_it f) (refused f) f (λ g. g ≡ f) (λ e. absurd (another (eqb-true f.number n e))) (λ _. refl))
         (into_map (λ g. cond (is_it g) (refused g) g) x.files f at)
 
 completed_carries : (l m n : ℕ) (s : Sender) (x : Outgoing) → IsAbout l m n x → file_in s ≡ None → AreBeingSent x
@@ -205,14 +192,10 @@ completed_carries l m n s x before none are =
     (λ f at sending. (
       from_filter other x.files f at,
       λ e. cc (sym (not-true (f.number == n) (passes_filter other x.files f at)) ∙ eq-eqb f.number n e),
-    )) (λ f at another. into_filter other x.files f at (passes_where (f.number == n) f refl another)) are
+    )) (λ f at another. into_filter other x.files f at (not_from_false (f.number == n) (ne_eqb f.number n another))) are
   where
     other : WholeFile → Bool
     other f = not (f.number == n)
-
-    passes_where : (b : Bool) (f : WholeFile) → (f.number == n) ≡ b → (f.number ≡ n → ⊥) → not b ≡ true
-    passes_where true f e another = absurd (another (eqb-true f.number n e))
-    passes_where false f e another = refl
 
 -- ---- files change that aren't being sent, and aren't then
 
@@ -252,10 +235,8 @@ command_carries p change x numbers idle =
     (λ f e. idle f (both_are (p f) (is_sending f.state) e).1)
 
 reroute_idle : (s : State) → is_sending s ≡ false → is_sending (state_after_reroute s) ≡ false
-reroute_idle state.Ready e = refl
-reroute_idle state.Held e = refl
-reroute_idle state.Refused e = refl
 reroute_idle state.Sending e = e
+reroute_idle _ e = refl
 
 -- ---- files are cancelled
 
@@ -279,19 +260,14 @@ all_left l k n [] x about = (about, λ at. not-suc-le-zero at.1)
 all_left l k n (m ∷ ns) x about =
     let later = all_left l k n ns (each_stream (without_file m) x) about in
     let first = about_left m n (sender_on l k x) (sym (ap (λ t. file_in t) (each_at l k m x)) ∙ later.0) in
-    (first.0, λ at. at_first first.1 later.1 (first_or_later m ns n at))
-  where
-    at_first : (m ≡ n → ⊥) → (Contains ns n → ⊥) → (m ≡ n) ⊎ Contains ns n → ⊥
-    at_first another none (inl is) = another is
-    at_first another none (inr at) = none at
+    (first.0, λ at. elim (first_or_later m ns n at) [ inl is ↦ first.1 is | inr there ↦ later.1 there ])
 
 all_stay : (l k n : ℕ) (ns : List ℕ) (x : Outgoing) → IsAbout l k n x → (Contains ns n → ⊥)
     → IsAbout l k n (without_files ns x)
-all_stay l k n ns x about none = at_move (all_give_up l k ns x)
-  where
-    at_move : StaysOrGivesUp l k ns x (without_files ns x) → IsAbout l k n (without_files ns x)
-    at_move (inl same) = ap (λ t. file_in t) same ∙ about
-    at_move (inr gives) = absurd (none (subst (λ m. Contains ns m) (number_of gives.0 n (sym gives.2 ∙ about)) gives.1))
+all_stay l k n ns x about none = elim (all_give_up l k ns x) [
+  | inl same ↦ ap (λ t. file_in t) same ∙ about
+  | inr gives ↦ absurd (none (subst (λ m. Contains ns m) (number_of gives.0 n (sym gives.2 ∙ about)) gives.1))
+]
 
 all_lines : (ns : List ℕ) (x : Outgoing) → length (without_files ns x).streams ≡ length x.streams
 all_lines [] x = refl
@@ -387,10 +363,7 @@ sent_by_acts entry l i x y acts before behind are = at_move acts
 pub sent_record : CommandsMoveFilesSo → (l : ℕ) (i : Item) (c : Customer) → AreDistinct c.spool.whole
     → AreDistinct (after_record l i c).spool.whole
     → AreBeingSent (outgoing c) → AreBeingSent (outgoing (after_record l i c))
-sent_record commands l i c before behind are = at_move (acts_so commands l i c).moves
-  where
-    at_move :
-        (outgoing (after_record l i c) ≡ outgoing c) ⊎ Acts c.entry l i (outgoing c) (outgoing (after_record l i c))
-        → AreBeingSent (outgoing (after_record l i c))
-    at_move (inl same) = subst AreBeingSent (sym same) are
-    at_move (inr acts) = sent_by_acts c.entry l i (outgoing c) (outgoing (after_record l i c)) acts before behind are
+sent_record commands l i c before behind are = elim ((acts_so commands l i c).moves) [
+  | inl same ↦ subst AreBeingSent (sym same) are
+  | inr acts ↦ sent_by_acts c.entry l i (outgoing c) (outgoing (after_record l i c)) acts before behind are
+]

@@ -6,18 +6,13 @@ use Words.{tried_again, streams_at, AreTied, Receiver, Input, after_end, Phase, 
 use Words.{replied_to, with_idle_streams, session_over, accepted_on, after_line_input, after_block, after_frame}
 use Words.{after_signal, Customer, no_customer_line, line_at, on_line, in_state, sending_of_reply, streams_to_hub}
 use Words.{HasStreams, IsCoherent, Signal}
-use Rattle.std.proofs.Common.{◌≡◌, ◌<◌, ◌∙◌}
-use Rattle.njh_bisync.specs.Frames.{Received}
-use Rattle.njh_block.specs.Blocks.{Block}
-use Rattle.njh_stream.specs.declared.receiver.Receiver.TheVariants as receiver
-use Rattle.njh_customer.proofs.CoherenceLaws.{EndsTie, NothingUnties, RecordsKeep, shape}
-use Rattle.njh_customer.proofs.LineWalks.{on_line_seen}
-use Rattle.njh_customer.proofs.ReplyLaws.{reply_lasting}
-use Rattle.njh_customer.proofs.Restated.{IsRestated, as_it_is, ended_restated, restated_harmless, restated_then}
-use Rattle.njh_customer.proofs.Restated.{without_open_same}
-use Rattle.njh_customer.proofs.SpoolWalks.{replied_so}
-use Rattle.njh_customer.proofs.StepLaws.{Stays, accepted_stays, acted_stays, stays_like, stays_lines, stays}
+use Rattle.{std.proofs.Common.{◌≡◌, ◌<◌, ◌∙◌}, njh_bisync.specs.Frames.Received, njh_block.specs.Blocks.Block}
+use Rattle.njh_customer.proofs.CoherenceLaws.{EndsTie, NothingUnties, RecordsKeep, shape, Stays, accepted_stays}
+use Rattle.njh_customer.proofs.{CoherenceLaws.{acted_stays, stays_like, stays_lines, stays}, LineWalks.on_line_seen}
+use Rattle.njh_customer.proofs.{ReplyLaws.reply_lasting, Restated.{IsRestated, as_it_is, ended_restated}}
+use Rattle.njh_customer.proofs.{Restated.{restated_harmless, restated_then, without_open_same}, SpoolWalks.replied_so}
 use Rattle.njh_customer.proofs.StepWalks.{StaysInSession, StaysInSteps, block_so, frame_so, input_so, signal_so}
+use Rattle.njh_stream.specs.declared.receiver.Receiver.TheVariants as receiver
 
 -- two steps
 onward : (e d c : Customer) → Stays e d → Stays d c → Stays e c

@@ -9,18 +9,15 @@ use Words.{verdict_of, with_room, Receiver, Sender, filling, own_fcs, CommandsMo
 use Words.{stay, held, released, rerouted, cancelled, CommandOutcome, changed_file, file_in_state, is_of_name}
 use Words.{may_change, message_outcome, spool_after, with_new_destination, LineReply, after_record, replied_to}
 use Words.{session_over, Customer, line_at, receiver_at, customer_with_routes, entry_with, outlet_of, own_block}
-use Rattle.std.proofs.Common.{◌≡◌, ◌&&◌, ◌==◌, ◌∷◌, ◌++◌, ◌∙◌}
-use Rattle.njh_block.specs.Blocks.{Control, Data}
-use Rattle.njh_stream.specs.Transmissions.{Verdict}
+use Rattle.{std.proofs.Common.{◌≡◌, ◌&&◌, ◌==◌, ◌∷◌, ◌++◌, ◌∙◌}, njh_block.specs.Blocks.{Control, Data}}
+use Rattle.{njh_stream.specs.Transmissions.Verdict, njh_customer.specs.Customer.sender_at}
+use Rattle.njh_customer.proofs.{FileListLaws.changed_where, RecordsDo.{Brings, a_request, an_abort, some_data}}
+use Rattle.njh_customer.proofs.{RecordsDo.{too_long, RecordDoes, record_does}, Restated.{filled_kept, IsRestated}}
+use Rattle.njh_customer.proofs.Restated.{ended_restated, held_restated, open_so, completed_so, refused_restated}
+use Rattle.njh_customer.proofs.StepWalks.{StaysInSteps}
 use Rattle.njh_stream.specs.declared.receiver.Receiver.TheVariants as receiver
 use Rattle.njh_line.specs.declared.verdict.LineReply.TheVariants as reply
-use Rattle.njh_customer.specs.Customer.{sender_at}
-use Rattle.njh_customer.proofs.FileListLaws.{changed_where}
 use Rattle.njh_customer.proofs.RecordsDo as does
-use Rattle.njh_customer.proofs.RecordsDo.{Brings, a_request, an_abort, some_data, too_long, RecordDoes, record_does}
-use Rattle.njh_customer.proofs.Restated.{filled_kept, IsRestated, ended_restated, held_restated, open_so, completed_so}
-use Rattle.njh_customer.proofs.Restated.{refused_restated}
-use Rattle.njh_customer.proofs.StepWalks.{StaysInSteps}
 
 -- ---- an arrival on a stream to the hub
 
@@ -66,15 +63,6 @@ module _ (I : CustomerSpool → Type 0) (J : Item → CustomerSpool → Type 0) 
 
   pub received_so : (entry : CustomerEntry) (l : ℕ) (kind : Kind) (r : Receiver) (a : Arrival) (i : Item)
       (s : CustomerSpool) → Brings a i → I s → J i (received_arrival entry l kind r a s).spool
-  received_so entry l kind receiver.Idle _ _ s (a_request rcb srcb) so = requested_so rcb srcb kind s so
-  received_so entry l kind receiver.Idle _ _ s (some_data rcb srcb bytes) so = keep.still (Data rcb srcb bytes) s so
-  received_so entry l kind receiver.Idle _ i s (an_abort rcb srcb) so = keep.still i s so
-  received_so entry l kind receiver.Idle _ i s (too_long rcb srcb) so = keep.still i s so
-  received_so entry l kind receiver.Draining _ _ s (a_request rcb srcb) so = requested_so rcb srcb kind s so
-  received_so entry l kind receiver.Draining _ i s (some_data rcb srcb []) so = keep.still i s so
-  received_so entry l kind receiver.Draining _ i s (some_data rcb srcb (b ∷ bytes)) so = keep.still i s so
-  received_so entry l kind receiver.Draining _ i s (an_abort rcb srcb) so = keep.still i s so
-  received_so entry l kind receiver.Draining _ i s (too_long rcb srcb) so = keep.still i s so
   received_so entry l kind (receiver.Open n progress) _ _ s (a_request rcb srcb) so =
       requested_so rcb srcb kind (without_partial n s) (keep.without n s so)
   received_so entry l kind (receiver.Open n progress) _ _ s (some_data rcb srcb []) so =
@@ -87,6 +75,11 @@ module _ (I : CustomerSpool → Type 0) (J : Item → CustomerSpool → Type 0) 
       fits so
   received_so entry l kind (receiver.Open n progress) _ i s (an_abort rcb srcb) so = gone i n s so
   received_so entry l kind (receiver.Open n progress) _ i s (too_long rcb srcb) so = gone i n s so
+  received_so entry l kind r _ _ s (a_request rcb srcb) so = requested_so rcb srcb kind s so
+  received_so entry l kind r _ i s (some_data rcb srcb []) so = keep.still i s so
+  received_so entry l kind r _ i s (some_data rcb srcb (b ∷ bytes)) so = keep.still i s so
+  received_so entry l kind r _ i s (an_abort rcb srcb) so = keep.still i s so
+  received_so entry l kind r _ i s (too_long rcb srcb) so = keep.still i s so
 
 -- ---- every record
 
@@ -153,16 +146,12 @@ module _ (I : CustomerSpool → Type 0) (J : Item → CustomerSpool → Type 0) 
 
 module _ (I : CustomerSpool → Type 0) (restated : (s t : CustomerSpool) → IsRestated s t → I s → I t) where
   pub replied_so : (l : ℕ) (r : LineReply) (c : Customer) → I c.spool → I (replied_to l r c).after.spool
-  replied_so l reply.Nothing c so = so
-  replied_so l (reply.Control which) c so = so
-  replied_so l reply.Again c so = so
-  replied_so l (reply.SignOn kind) c so = so
-  replied_so l (reply.Sequence expected) c so = so
   replied_so l (reply.Next or_ack0) c so =
       let x = line_at l c.lines in
       let first = filling (own_block (own_fcs c.spool) x.state) (outlet_of x) c.spool in
       restated c.spool (replied_to l (reply.Next or_ack0) c).after.spool
       (filled_kept (goes_by c.entry l) first).files so
+  replied_so l r c so = so
 
   pub session_over_so : ((n : ℕ) (s : CustomerSpool) → I s → I (without_partial n s)) → (l : ℕ) (c : Customer)
       → I c.spool → I (session_over l c).spool

@@ -1,22 +1,18 @@
 -- What is so of a customer stays so, whatever comes, where it does in each small step.
 use Rattle.njh_customer.proofs.Words
-use Words.{Bool, Err, List, None, Ok, Option, Result, Some, [], arith, cond, length, nat_lt, refl, ℕ, false, true}
-use Words.{ltb-true, length-set, rest_step, Rest, Item, read_block, BlockFault, RouteEntry, Walked, NewRoute}
-use Words.{entries_of_routes, routes_checked, Input, after_end, after_input, LineReply, acted_where, after_record}
-use Words.{CustomerStep, accepted_on, after_block, after_line_input, after_received, behind_records, block_input}
-use Words.{carried_out, replied_to, session_over, session_over_where, signal_input, silent, text_read, verdict_on}
-use Words.{Customer, in_state, line_at, on_line, or_later, Taking, acted_on, byte_step, bytes_run, take_step}
-use Words.{block_records, records_of_frame, customer_with_routes, routes_given, taken_where, Part, rest_on, OwnBytes}
-use Words.{OwnEvent, OwnRoutes, OwnSignal, event_run, sending_of_reply, Signal}
-use Rattle.std.proofs.Common.{◌<◌, ◌∷◌, ◌≡◌}
+use Words.{cond_both, Bool, Err, List, None, Ok, Option, Result, Some, [], arith, cond, length, nat_lt, ℕ, false, true}
+use Words.{ltb-true, length-set, rest_step, Rest, Item, read_block, BlockFault, RouteEntry, NewRoute, entries_of_routes}
+use Words.{routes_checked, Input, after_end, after_input, LineReply, acted_where, after_record, CustomerStep}
+use Words.{accepted_on, after_block, after_line_input, after_received, behind_records, block_input, carried_out}
+use Words.{replied_to, session_over, session_over_where, signal_input, silent, text_read, verdict_on, Customer}
+use Words.{in_state, line_at, on_line, or_later, Taking, acted_on, byte_step, bytes_run, take_step, block_records}
+use Words.{records_of_frame, customer_with_routes, routes_given, taken_where, Part, rest_on, OwnBytes, OwnEvent}
+use Words.{OwnRoutes, OwnSignal, event_run, sending_of_reply, Signal}
+use Rattle.{std.proofs.Common.{◌<◌, ◌∷◌}, njh_bisync.specs.Frames.Received, njh_block.specs.Blocks.Block}
+use Rattle.{njh_line.specs.declared.verdict.Verdict.Verdict, njh_customer.specs.Alone.{after_frame, after_signal}}
+use Rattle.njh_customer.proofs.{LineWalks.{acted_keeps, lines_of}, RecordsDo.acted_where_so}
 use Rattle.njh_bisync.specs.Frames as frame
-use Rattle.njh_bisync.specs.Frames.{Received}
-use Rattle.njh_block.specs.Blocks.{Block}
 use Rattle.njh_line.specs.LineTable as input
-use Rattle.njh_line.specs.declared.verdict.Verdict.{Verdict}
-use Rattle.njh_customer.specs.Alone.{after_frame, after_signal}
-use Rattle.njh_customer.proofs.LineWalks.{acted_keeps, lines_of}
-use Rattle.njh_customer.proofs.RecordsDo.{acted_where_so}
 
 -- ---- what comes on a line
 
@@ -30,11 +26,8 @@ pub record HoldsOfSteps (l : ℕ) (c : Customer) (P : List Item → CustomerStep
 -- a line that is there, or isn't
 where_there : (l : ℕ) (c : Customer) (P : CustomerStep → Type 0) (x : CustomerStep) → P (silent c)
     → (l < length c.lines → P x) → P (cond (nat_lt l (length c.lines)) x (silent c))
-where_there l c P x none step = at (nat_lt l (length c.lines)) refl
-  where
-    at : (b : Bool) → nat_lt l (length c.lines) ≡ b → P (cond b x (silent c))
-    at true e = step (ltb-true l (length c.lines) e)
-    at false e = none
+where_there l c P x none step =
+    cond_both (nat_lt l (length c.lines)) x (silent c) P (λ e. step (ltb-true l (length c.lines) e)) (λ _. none)
 
 pub frame_holds : (l : ℕ) (c : Customer) (P : List Item → CustomerStep → Type 0) → HoldsOfSteps l c P → (x : Received)
     → P (records_of_frame x) (after_frame l x c)
@@ -77,17 +70,12 @@ pub record StaysInSteps (I : Customer → Type 0) : Type 0 where
 
 module _ (I : Customer → Type 0) (keep : StaysInSession I) where
   carried_so : (l : ℕ) (v : Verdict) (c : Customer) → l < length c.lines → I c → I (carried_out l v c).after
-  carried_so l v c there so = at v.ended
-    where
-      d : Customer
-      d = (replied_to l v.reply c).after
-
-      still : l < length d.lines
-      still = omega (arith, length-set c.lines l (sending_of_reply c.entry l v.reply c.spool (line_at l c.lines)).line)
-
-      at : (b : Bool) → I (session_over_where b l d)
-      at true = keep.over l d still (keep.answered l v.reply c there so)
-      at false = keep.answered l v.reply c there so
+  carried_so l v c there so =
+      let d = (replied_to l v.reply c).after in
+      let answered = keep.answered l v.reply c there so in
+      let still : l < length d.lines =
+      omega (arith, length-set c.lines l (sending_of_reply c.entry l v.reply c.spool (line_at l c.lines)).line) in
+      elim (v.ended) as (λ b. I (session_over_where b l d)) [ true ↦ keep.over l d still answered | false ↦ answered ]
 
   accepted_there : (l : ℕ) (came : Input) (c : Customer) → l < length c.lines → l < length (accepted_on l came c).lines
   accepted_there l came c there = omega (arith, length-set c.lines l (in_state (after_input came) (line_at l c.lines)))
@@ -166,11 +154,11 @@ pub record StaysInFrames (I : Customer → Type 0) : Type 0 where
 
 module _ (I : Customer → Type 0) (keep : StaysInFrames I) where
   routes_so : (routes : List NewRoute) (p : Part) → I p.customer → I (routes_given routes p).customer
-  routes_so routes p so = at (routes_checked p.customer.entry routes)
-    where
-      at : (w : Walked (Unit {0})) → I (taken_where w routes p).customer
-      at (Ok faultless) = keep.by_routes (entries_of_routes routes) p.customer so
-      at (Err fault) = so
+  routes_so routes p so =
+      elim (routes_checked p.customer.entry routes) as (λ w. I (taken_where w routes p).customer) [
+        | Ok faultless ↦ keep.by_routes (entries_of_routes routes) p.customer so
+        | Err fault ↦ so
+      ]
 
   pub event_so : (p : Part) (event : OwnEvent) → I p.customer → I (event_run p event).after.customer
   event_so p (OwnBytes l piece) so = run_so I keep.by_frame (rest_on l p) p.customer l piece so

@@ -1,25 +1,135 @@
 -- In a step by bytes of a line the records of one block act at most: a block whose records act is answered, or one of
--- them ends the session, and then none acts before the line has answered a call.
+-- them ends the session, and then none acts before the line has answered a call. On a line that is down what comes
+-- brings no record, and nothing is sent for it but the answer to a call.
 use Rattle.njh_customer.proofs.Words
-use Words.{ℕ, Bool, true, false, List, [], length, Option, Some, None, Result, Ok, Err, refl, sym, subst, arith}
-use Words.{rest_step, IsShort, Rest, read_block, BlockFault, CustomerSpool, CommandsMoveFilesSo, ReroutesNameNodes}
-use Words.{ActingIsAnswered, DownStaysDown, Down, Acted, acted_where, all_acted, CustomerStep, replied_to}
-use Words.{session_ended, carried_out, verdict_on, accepted_on, block_input, behind_records, after_block, after_frame}
-use Words.{Customer, line_at, acted_on, Taking, or_later, take_step, block_records, records_of_frame, FilesGrow}
-use Words.{IsShortRest, TakesGrowFiles, rest_on}
-use Rattle.std.proofs.Common.{◌≡◌, ◌<◌, ◌≤◌, ◌*◌, ◌∷◌}
-use Rattle.njh_bisync.specs.Frames as frame
-use Rattle.njh_bisync.specs.Frames.{Received}
-use Rattle.njh_block.specs.Blocks.{Block}
+use Words.{ℕ, zero, suc, true, List, [], set, refl, sym, subst, DownStaysDown, does_nothing, is_answered}
+use Words.{control_verdict, no_verdict, Input, table_outcome, after_end, after_input, Phase, Down, acted_where}
+use Words.{CustomerStep, with_idle_streams, replied_to, session_over_where, session_ended, carried_out, verdict_on}
+use Words.{accepted_on, after_line_input, block_input, behind_records, after_block, after_frame, Customer, CustomerLine}
+use Words.{line_at, on_line, in_state, FilesGrow, SignalsGrowFiles, next_block, with_outlet, ℕ, true, false, List, []}
+use Words.{length, Option, Some, None, Result, Ok, Err, refl, sym, subst, arith, rest_step, IsShort, Rest, read_block}
+use Words.{BlockFault, CustomerSpool, CommandsMoveFilesSo, ReroutesNameNodes, ActingIsAnswered, DownStaysDown, Down}
+use Words.{acted_where, all_acted, CustomerStep, replied_to, session_ended, carried_out, verdict_on, accepted_on}
+use Words.{block_input, behind_records, after_block, after_frame, Customer, line_at, acted_on, Taking, or_later}
+use Words.{take_step, block_records, records_of_frame, FilesGrow, IsShortRest, TakesGrowFiles, rest_on}
+use Rattle.{std.proofs.Common.{◌≡◌, ◌∷◌, ◌<◌, ◌≤◌, ◌*◌}, njh_bisync.specs.{Frames.Received, Written.text_bytes}}
+use Rattle.{njh_bisync.specs.declared.frame.Control.Control, njh_block.specs.Blocks.Block}
+use Rattle.{njh_line.specs.declared.verdict.Verdict.Verdict, njh_customer.proofs.GrowingLaws.{then_quietly, unchanged}}
+use Rattle.njh_customer.proofs.GrowingLaws.{reply_grows, over_grows, over_where_grows, grow_within, quietly_then}
+use Rattle.njh_customer.proofs.{GrowingLaws.{data_count, RedirectsByRecords, all_grow}, ReplyLaws.empty_so}
+use Rattle.njh_customer.proofs.{ReplyLaws.written_so, StepWalks.{frame_holds, signal_holds, HoldsOfSteps}}
+use Rattle.njh_customer.proofs.{BlockSizes.{BlockIsFew, block_few}, RestLengths.{IsShortFrame, step_short}}
+use Rattle.njh_bisync.specs.declared.frame.Control.TheVariants as control
 use Rattle.njh_line.specs.declared.verdict.LineReply.TheVariants as reply
-use Rattle.njh_line.specs.declared.verdict.Verdict.{Verdict}
-use Rattle.njh_customer.proofs.BlockSizes.{BlockIsFew, block_few}
-use Rattle.njh_customer.proofs.DownLines.{phase_on, IsSent, ended_down, next_sent, carried_grows, input_grows}
-use Rattle.njh_customer.proofs.DownLines.{ended_grows, StaysDown, answers_call, still_down, frame_down}
-use Rattle.njh_customer.proofs.GrowingLaws.{grow_within, then_quietly, quietly_then, unchanged}
-use Rattle.njh_customer.proofs.RecordsGrow.{data_count, RedirectsByRecords, all_grow}
-use Rattle.njh_customer.proofs.RestLengths.{IsShortFrame, step_short}
-use Rattle.njh_customer.proofs.StepWalks.{HoldsOfSteps, frame_holds}
+use Rattle.njh_bisync.specs.Frames as frame
+
+abbrev pub phase_on : ℕ → Customer → Phase
+phase_on l c = (line_at l c.lines).state.session.phase
+
+-- a frame is sent
+abbrev pub IsSent : List ℕ → Type 0
+IsSent [] = ⊥
+IsSent (byte ∷ bytes) = Unit {0}
+
+-- ---- a line that is down
+
+pub set_down : (lines : List CustomerLine) (l : ℕ) (x : CustomerLine) → x.state.session.phase ≡ Down
+    → (line_at l (set lines l x)).state.session.phase ≡ Down
+set_down [] l x down = refl
+set_down (y ∷ ys) zero x down = down
+set_down (y ∷ ys) (suc l) x down = set_down ys l x down
+
+pub ended_down : (l : ℕ) (c : Customer) → phase_on l (session_ended l c) ≡ Down
+ended_down l c =
+    let lines = on_line l (in_state after_end) c.lines in
+    set_down lines l (with_idle_streams (line_at l lines))
+    (set_down c.lines l (in_state after_end (line_at l c.lines)) refl)
+
+-- ---- the next block
+
+text_sent : (bytes : List ℕ) → IsSent (text_bytes bytes)
+unfolding text_bytes
+text_sent bytes = tt
+
+pub next_sent : (l : ℕ) (c : Customer) → IsSent (replied_to l (reply.Next true) c).frame
+next_sent l c =
+    let f = next_block c.entry l c.spool (line_at l c.lines) in
+    let x = (with_outlet f.outlet (line_at l c.lines)).state in
+    written_so (λ sent. IsSent sent.frame) true f.block x
+    (λ none. empty_so (λ sent. IsSent sent.frame) true f.block x tt (text_sent _)) (text_sent _)
+
+control_sent : (l : ℕ) (which : Control) (c : Customer) → IsSent (replied_to l (reply.Control which) c).frame
+control_sent l control.Enquiry c = tt
+control_sent l control.Ack0 c = tt
+control_sent l control.Nak c = tt
+
+-- ---- what comes but the records of a block
+
+pub carried_grows : (l : ℕ) (v : Verdict) (c : Customer) → FilesGrow 0 c.spool (carried_out l v c).after.spool
+carried_grows l v c =
+    let d = (replied_to l v.reply c).after in
+    then_quietly 0 c.spool d.spool (session_over_where v.ended l d).spool (reply_grows l v.reply c)
+    (over_where_grows v.ended l d)
+
+pub input_grows : (l : ℕ) (came : Input) (c : Customer) → FilesGrow 0 c.spool (after_line_input l came c).after.spool
+input_grows l came c = carried_grows l (verdict_on l came c) (accepted_on l came c)
+
+pub ended_grows : (l : ℕ) (c : Customer) → FilesGrow 0 c.spool (session_ended l c).spool
+ended_grows l c = over_grows l (record c { lines = on_line l (in_state after_end) c.lines })
+
+pub signals_grow : SignalsGrowFiles
+signals_grow p l signal =
+    let c = p.customer in
+    signal_holds l c (λ s. FilesGrow 0 c.spool s.after.spool) (unchanged c.spool)
+    (λ came there. input_grows l came c) signal
+
+-- ---- a frame on a line that is down
+
+pub data StaysDown (l : ℕ) (c : Customer) (s : CustomerStep) : Type 0 where
+  answers_call : FilesGrow 0 c.spool s.after.spool → IsSent s.frame → StaysDown l c s
+  still_down : FilesGrow 0 c.spool s.after.spool → phase_on l s.after ≡ Down → StaysDown l c s
+
+quiet_down : (l : ℕ) (c : Customer) → phase_on l c ≡ Down → phase_on l (carried_out l no_verdict c).after ≡ Down
+quiet_down l c down = set_down c.lines l (line_at l c.lines) down
+
+accepted_down : (l : ℕ) (came : Input) (c : Customer) → (let x = (line_at l c.lines).state in
+    (table_outcome x.config came x.session).session.phase ≡ Down) → phase_on l (accepted_on l came c) ≡ Down
+accepted_down l came c down = set_down c.lines l (in_state (after_input came) (line_at l c.lines)) down
+
+module _ (stays_down : DownStaysDown) where
+  input_down : (l : ℕ) (came : Input) (c : Customer) → phase_on l c ≡ Down → StaysDown l c (after_line_input l came c)
+  input_down l came c down =
+      let x = (line_at l c.lines).state in
+      let d = accepted_on l came c in
+      elim (stays_down x.config x.session came down) [
+        | does_nothing verdict phase ↦ still_down (input_grows l came c)
+            (subst (λ v. phase_on l (carried_out l v d).after ≡ Down) (sym verdict)
+            (quiet_down l d (accepted_down l came c phase)))
+        | is_answered which verdict ↦ answers_call (input_grows l came c)
+            (subst (λ v. IsSent (carried_out l v d).frame) (sym verdict) (control_sent l which d))
+      ]
+
+  block_stays_down : (l : ℕ) (b : Block) (c : Customer) → phase_on l c ≡ Down → StaysDown l c (after_block l b c)
+  block_stays_down l b c down =
+      let x = (line_at l c.lines).state in
+      let d = accepted_on l (block_input b) c in
+      let by_verdict : Verdict → CustomerStep = λ v.
+      let a = acted_where v.acts l b.items d in behind_records a.ended l v a.customer in
+      elim (stays_down x.config x.session (block_input b) down) [
+        | does_nothing verdict phase ↦ subst (λ v. StaysDown l c (by_verdict v)) (sym verdict)
+            (still_down (carried_grows l no_verdict d) (quiet_down l d (accepted_down l (block_input b) c phase)))
+        | is_answered which verdict ↦ subst (λ v. StaysDown l c (by_verdict v)) (sym verdict)
+            (answers_call (carried_grows l (control_verdict which) d) (control_sent l which d))
+      ]
+
+  pub frame_down : (l : ℕ) (x : Received) (c : Customer) → phase_on l c ≡ Down → StaysDown l c (after_frame l x c)
+  frame_down l x c down = frame_holds l c (λ items s. StaysDown l c s) (record {
+    none = λ items. still_down (unchanged c.spool) down;
+    input = λ came there. input_down l came c down;
+    block = λ b there. block_stays_down l b c down;
+  }) x
+
+-- ---- a line in any phase
 
 -- ---- a frame on any line
 
@@ -48,26 +158,22 @@ taken_on rest l bytes s = or_later 1 rest (record { after = s.after; frame = s.f
 
 down_takes : DownStaysDown → (rest : Rest) (l : ℕ) (piece : List ℕ) → TakesQuietly rest l piece
 down_takes stays_down rest l [] c down = unchanged c.spool
-down_takes stays_down rest l (byte ∷ bytes) c down = at_frame (rest_step rest byte).frame
-    (down_takes stays_down (rest_step rest byte).rest l bytes)
-  where
-    next : Rest
-    next = (rest_step rest byte).rest
-
-    at_stays : (s : CustomerStep) → TakesQuietly next l bytes → StaysDown l c s
-        → FilesGrow 0 c.spool (taken_on next l bytes s).after.spool
-    at_stays s quietly (answers_call grow sent) =
-        or_grows 0 1 next c.spool s.after s.frame (take_step next s.after l bytes) (no_more s.frame sent) grow
-    at_stays s quietly (still_down grow low) =
-        let later = take_step next s.after l bytes in
-        or_grows 0 1 next c.spool s.after s.frame later
-        (λ silent. then_quietly 0 c.spool s.after.spool later.after.spool grow (quietly s.after low)) grow
-
-    at_frame : (o : Option Received) → TakesQuietly next l bytes
-        → FilesGrow 0 c.spool (taken_on next l bytes (acted_on l o c)).after.spool
-    at_frame None quietly = quietly c down
-    at_frame (Some received) quietly = at_stays (after_frame l received c) quietly
-        (frame_down stays_down l received c down)
+down_takes stays_down rest l (byte ∷ bytes) c down =
+    let next = (rest_step rest byte).rest in
+    let quietly : TakesQuietly next l bytes = down_takes stays_down next l bytes in
+    elim ((rest_step rest byte).frame) as
+    (λ o. FilesGrow 0 c.spool (taken_on next l bytes (acted_on l o c)).after.spool) [
+      | None ↦ quietly c down
+      | Some received ↦
+          let s = after_frame l received c in
+          let later = take_step next s.after l bytes in
+          elim (frame_down stays_down l received c down) [
+            | answers_call grow sent ↦
+                or_grows 0 1 next c.spool s.after s.frame later (no_more s.frame sent) grow
+            | still_down grow low ↦ or_grows 0 1 next c.spool s.after s.frame later
+                (λ silent. then_quietly 0 c.spool s.after.spool later.after.spool grow (quietly s.after low)) grow
+          ]
+    ]
 
 -- a step brings fewer than 1,366 records
 abbrev GrowsInStep : CustomerSpool → CustomerSpool → Type 0
@@ -76,42 +182,25 @@ GrowsInStep x y = (k : ℕ) × (k < 1366) × FilesGrow k x y
 module _ (by_records : RedirectsByRecords) (names : ReroutesNameNodes) (commands : CommandsMoveFilesSo)
     (acting : ActingIsAnswered) (stays_down : DownStaysDown) where
   block_steps : (l : ℕ) (b : Block) (c : Customer) → 3 * data_count b.items ≤ 4096 → Steps l c (after_block l b c)
-  block_steps l b c short = at_acts v.acts refl
-    where
-      v : Verdict
-      v = verdict_on l (block_input b) c
-
-      d : Customer
-      d = accepted_on l (block_input b) c
-
-      a : Acted
-      a = all_acted l b.items d
-
-      k : ℕ
-      k = data_count b.items
-
-      below : k < 1366
-      below = omega arith
-
-      grow : FilesGrow k c.spool a.customer.spool
-      grow = all_grow by_records names commands l b.items d
-
-      next : v.acts ≡ true → v.reply ≡ reply.Next true
-      next acts = let x = (line_at l c.lines).state in acting x.config x.session (block_input b) acts
-
-      at_end : v.acts ≡ true → (ended : Bool) → Steps l c (behind_records ended l v a.customer)
-      at_end acts true =
-          goes_down k below (then_quietly k c.spool a.customer.spool (session_ended l a.customer).spool grow
-          (ended_grows l a.customer)) (ended_down l a.customer)
-      at_end acts false =
-          answers k below (then_quietly k c.spool a.customer.spool (carried_out l v a.customer).after.spool grow
-          (carried_grows l v a.customer))
-          (subst (λ r. IsSent (replied_to l r a.customer).frame) (sym (next acts)) (next_sent l a.customer))
-
-      at_acts : (acts : Bool) → v.acts ≡ acts
-          → Steps l c (behind_records (acted_where acts l b.items d).ended l v (acted_where acts l b.items d).customer)
-      at_acts true e = at_end e a.ended
-      at_acts false e = idles (carried_grows l v d)
+  block_steps l b c short =
+      let x = (line_at l c.lines).state in
+      let v = verdict_on l (block_input b) c in
+      let d = accepted_on l (block_input b) c in
+      let a = all_acted l b.items d in
+      let k = data_count b.items in
+      let below : k < 1366 = omega arith in
+      let grow : FilesGrow k c.spool a.customer.spool = all_grow by_records names commands l b.items d in
+      (elim (v.acts) as (λ acts. v.acts ≡ acts
+      → (let w = acted_where acts l b.items d in Steps l c (behind_records w.ended l v w.customer))) [
+        | true ↦ λ acts. elim (a.ended) as (λ ended. Steps l c (behind_records ended l v a.customer)) [
+          | true ↦ goes_down k below (then_quietly k c.spool a.customer.spool (session_ended l a.customer).spool grow
+              (ended_grows l a.customer)) (ended_down l a.customer)
+          | false ↦ answers k below (then_quietly k c.spool a.customer.spool (carried_out l v a.customer).after.spool
+              grow (carried_grows l v a.customer)) (subst (λ r. IsSent (replied_to l r a.customer).frame)
+              (sym (acting x.config x.session (block_input b) acts)) (next_sent l a.customer))
+        ]
+        | false ↦ λ e. idles (carried_grows l v d)
+      ]) refl
 
   -- by a block that isn't too long
   steps_few : (l : ℕ) (c : Customer) → HoldsOfSteps l c (λ items s. 3 * data_count items ≤ 4096 → Steps l c s)
@@ -122,16 +211,12 @@ module _ (by_records : RedirectsByRecords) (names : ReroutesNameNodes) (commands
   }
 
   frame_few : (x : Received) → IsShort x → 3 * data_count (records_of_frame x) ≤ 4096
-  frame_few frame.Enquiry short = omega arith
-  frame_few frame.Ack0 short = omega arith
-  frame_few frame.Nak short = omega arith
-  frame_few frame.Eot short = omega arith
   frame_few (frame.Text text) short = at_block (read_block text) (block_few text)
     where
       at_block : (b : Result Block BlockFault) → BlockIsFew (length text) b → 3 * data_count (block_records b) ≤ 4096
       at_block (Ok b) few = omega arith
       at_block (Err e) few = omega arith
-  frame_few frame.Spoiled short = omega arith
+  frame_few _ short = omega arith
 
   frame_steps : (l : ℕ) (x : Received) (c : Customer) → IsShort x → Steps l c (after_frame l x c)
   frame_steps l x c short =

@@ -8,12 +8,12 @@ use Words.{may_go, aborted_where, is_of_name, is_about, is_busy, is_sending, wit
 use Words.{Records, Routes, Moves, by_record, by_sending, by_end, Sends, Tells, Commands, Over, busy_numbers}
 use Words.{without_files, StreamMoves, StreamsMoveSo, IdleStreamsTakeFiles, IsMovedAlone, Outgoing, each_stream}
 use Words.{with_file_state, sender_on, streams_of, with_files, with_sender_on, without_numbered}
-use Rattle.std.proofs.Common.{◌≡◌, ◌+◌, ◌⊎◌, ◌∷◌, ◌&&◌, ◌==◌, ◌∙◌, ◌<◌, ◌≤◌}
-use Rattle.njh_spool.specs.declared.State.TheVariants as state
+use Rattle.std.proofs.Common.{◌≡◌, ◌+◌, ◌⊎◌, ◌∷◌, ◌&&◌, ◌==◌, ◌∙◌, ◌<◌}
 use Rattle.njh_stream.specs.declared.sender.Sender.TheVariants.{Idle, Sending}
+use Rattle.njh_customer.proofs.FileListLaws.{copies, first_or_later, set_one}
+use Rattle.njh_spool.specs.declared.State.TheVariants as state
 use Rattle.njh_customer.specs.Moves as moves
 use Rattle.njh_customer.specs.MovingLaws as laws
-use Rattle.njh_customer.proofs.FileListLaws.{copies, first_or_later, set_one}
 
 -- ---- which stream it is
 
@@ -22,22 +22,14 @@ abbrev pub IsOne : ℕ → ℕ → ℕ → ℕ → Sender → Outgoing → Outgo
 IsOne j k l m s x y = (sender_on j k y ≡ sender_on j k x) ⊎ ((j ≡ l) × (k ≡ m) × (sender_on j k y ≡ s))
 
 pub moved_one : (j k l m : ℕ) (s : Sender) (x : Outgoing) → IsOne j k l m s x (with_sender_on l m s x)
-moved_one j k l m s x = at_line (set_one x.streams l j (set (streams_of l x) m s) [])
-  where
-    now : List Sender
-    now = get_or (set x.streams l (set (streams_of l x) m s)) j []
-
-    at_stream : j ≡ l → now ≡ set (streams_of l x) m s
-        → (get_or (set (streams_of l x) m s) k Idle ≡ get_or (streams_of l x) k Idle)
-        ⊎ ((k ≡ m) × (get_or (set (streams_of l x) m s) k Idle ≡ s)) → IsOne j k l m s x (with_sender_on l m s x)
-    at_stream line e (inl same) =
+moved_one j k l m s x = elim (set_one x.streams l j (set (streams_of l x) m s) []) [
+  | inl same ↦ inl (ap (λ senders. get_or senders k Idle) same)
+  | inr (line, e) ↦ elim (set_one (streams_of l x) m k s Idle) [
+    | inl same ↦
         inl (ap (λ senders. get_or senders k Idle) e ∙ same ∙ ap (λ n. get_or (streams_of n x) k Idle) (sym line))
-    at_stream line e (inr there) = inr (line, there.0, ap (λ senders. get_or senders k Idle) e ∙ there.1)
-
-    at_line : (now ≡ get_or x.streams j []) ⊎ ((j ≡ l) × (now ≡ set (streams_of l x) m s))
-        → IsOne j k l m s x (with_sender_on l m s x)
-    at_line (inl same) = inl (ap (λ senders. get_or senders k Idle) same)
-    at_line (inr there) = at_stream there.0 there.1 (set_one (streams_of l x) m k s Idle)
+    | inr (stream, is) ↦ inr (line, stream, ap (λ senders. get_or senders k Idle) e ∙ is)
+  ]
+]
 
 -- what was so of stream m of line l
 pub was : (j k l m : ℕ) (s : Sender) (x : Outgoing) → sender_on l m x ≡ s → j ≡ l → k ≡ m → sender_on j k x ≡ s
@@ -51,24 +43,20 @@ GivesUp ns s t = (n : ℕ) × Contains ns n × (file_in s ≡ Some n) × (t ≡ 
 
 pub aborted_none : (s : Sender) → file_in (after_abort s) ≡ None
 aborted_none Idle = refl
-aborted_none (Requested m) = refl
-aborted_none (Sending m place) = refl
-aborted_none (EofSent m) = refl
-aborted_none Aborting = refl
+aborted_none _ = refl
 
 gives_up_or_stays : (n : ℕ) (s : Sender) → (without_file n s ≡ s)
     ⊎ ((file_in s ≡ Some n) × (without_file n s ≡ after_abort s))
 gives_up_or_stays n s = at_file (file_in s) refl
   where
-    at_test : (m : ℕ) (b : Bool) → file_in s ≡ Some m → (m == n) ≡ b
-        → (aborted_where b s ≡ s) ⊎ ((file_in s ≡ Some n) × (aborted_where b s ≡ after_abort s))
-    at_test m true e same = inr (e ∙ ap Some (eqb-true m n same), refl)
-    at_test m false e same = inl refl
-
     at_file : (o : Option ℕ) → file_in s ≡ o → (aborted_where (is_about n o) s ≡ s) ⊎ ((file_in s ≡ Some n)
         × (aborted_where (is_about n o) s ≡ after_abort s))
     at_file None e = inl refl
-    at_file (Some m) e = at_test m (m == n) e refl
+    at_file (Some m) e = (elim (m == n) as (λ b. (m == n) ≡ b
+        → (aborted_where b s ≡ s) ⊎ ((file_in s ≡ Some n) × (aborted_where b s ≡ after_abort s))) [
+          | true ↦ λ same. inr (e ∙ ap Some (eqb-true m n same), refl)
+          | false ↦ λ _. inl refl
+        ]) refl
 
 pub each_at : (j k n : ℕ) (x : Outgoing) → sender_on j k (each_stream (without_file n) x) ≡ without_file n
     (sender_on j k x)
@@ -87,14 +75,11 @@ all_give_up j k (n ∷ ns) x =
     next : Outgoing
     next = each_stream (without_file n) x
 
-    first : Contains (n ∷ ns) n
-    first = (0, omega arith, refl)
-
     at_rest : StaysOrGivesUp j k ns next (without_files ns next) → (without_file n (sender_on j k x) ≡ sender_on j k x)
         ⊎ ((file_in (sender_on j k x) ≡ Some n) × (without_file n (sender_on j k x) ≡ after_abort (sender_on j k x)))
         → StaysOrGivesUp j k (n ∷ ns) x (without_files ns next)
     at_rest (inl same) (inl stays) = inl (same ∙ each_at j k n x ∙ stays)
-    at_rest (inl same) (inr gives) = inr (n, first, gives.0, same ∙ each_at j k n x ∙ gives.1)
+    at_rest (inl same) (inr gives) = inr (n, (0, omega arith, refl), gives.0, same ∙ each_at j k n x ∙ gives.1)
     at_rest (inr later) (inl stays) =
         let before = each_at j k n x ∙ stays in
         inr (
@@ -191,19 +176,13 @@ module _ (entry : CustomerEntry) (l : ℕ) (items : List Item) (j k : ℕ) (x y 
       (was j k l m (Sending n place) x before line stream) found now)
 
   end_moves : Over l x y → StreamMoves entry l items j k x y
-  end_moves gone = at_line (set_one x.streams l j idles [])
-    where
-      idles : List Sender
-      idles = replicate (length (streams_of l x)) Idle
-
-      now : sender_on j k y ≡ get_or (get_or (set x.streams l idles) j []) k Idle
-      now = ap (λ lines. get_or (get_or lines j []) k Idle) gone.streams
-
-      at_line : (get_or (set x.streams l idles) j [] ≡ get_or x.streams j [])
-          ⊎ ((j ≡ l) × (get_or (set x.streams l idles) j [] ≡ idles)) → StreamMoves entry l items j k x y
-      at_line (inl same) = laws.stays (now ∙ ap (λ senders. get_or senders k Idle) same)
-      at_line (inr there) = laws.over there.0 gone (now ∙ ap (λ senders. get_or senders k Idle) there.1 ∙ copies
-          (length (streams_of l x)) k Idle)
+  end_moves gone =
+      let now = ap (λ lines. get_or (get_or lines j []) k Idle) gone.streams in
+      elim (set_one x.streams l j (replicate (length (streams_of l x)) Idle) []) [
+        | inl same ↦ laws.stays (now ∙ ap (λ senders. get_or senders k Idle) same)
+        | inr (line, is) ↦ laws.over line gone
+            (now ∙ ap (λ senders. get_or senders k Idle) is ∙ copies (length (streams_of l x)) k Idle)
+      ]
 
 moves_on_line : (entry : CustomerEntry) (l : ℕ) (items : List Item) (x y : Outgoing) (j k : ℕ) → Moves entry l items x y
     → StreamMoves entry l items j k x y
@@ -218,8 +197,22 @@ streams_move entry (Routes routes) x y j k given = ap (sender_on j k) given.hold
 
 pub idle_take : IdleStreamsTakeFiles
 idle_take entry (Routes routes) x y j k n given has = inl (sym (ap (λ s. file_in (sender_on j k s)) given.holds) ∙ has)
-idle_take entry (Records l items) x y j k n (up, move) has = at_move
-    (moves_on_line (entry_marked l up entry) l items x y j k move)
+idle_take entry (Records l items) x y j k n (up, move) has =
+    elim (moves_on_line (entry_marked l up entry) l items x y j k move) [
+      | laws.stays same ↦ inl (sym (ap (λ s. file_in s) same) ∙ has)
+      | laws.asks f line sends idle found now ↦ inr idle
+      | laws.permitted i streams m line at told before now ↦
+          inl (same_file (Requested m) (Sending m 0) before now.0 refl)
+      | laws.goes_on m place r line sends before found now ↦
+          inl (same_file (Sending m place) (Sending m (place + 1)) before now.0 refl)
+      | laws.ends m place line sends before found now ↦ inl (same_file (Sending m place) (EofSent m) before now.0 refl)
+      | laws.refused i streams m after line at told before none now ↦ about_none after now.0 none
+      | laws.completed i streams m line at told before now ↦ about_none Idle now.0 refl
+      | laws.gives_up line sends before now ↦ about_none Idle now.0 refl
+      | laws.cancelled i who name f at given there mine before now ↦
+          about_none (after_abort (sender_on j k x)) now (aborted_none (sender_on j k x))
+      | laws.over line gone now ↦ about_none Idle now refl
+    ]
   where
     -- as it was, about the same file
     same_file : (b s : Sender) → sender_on j k x ≡ b → sender_on j k y ≡ s → file_in b ≡ file_in s
@@ -230,39 +223,20 @@ idle_take entry (Records l items) x y j k n (up, move) has = at_move
     about_none : {A : Type 0} (s : Sender) → sender_on j k y ≡ s → file_in s ≡ None → A
     about_none s now none = absurd (cc (sym has ∙ ap (λ t. file_in t) now ∙ none))
 
-    at_move : StreamMoves (entry_marked l up entry) l items j k x y
-        → (file_in (sender_on j k x) ≡ Some n) ⊎ (sender_on j k x ≡ Idle)
-    at_move (laws.stays same) = inl (sym (ap (λ s. file_in s) same) ∙ has)
-    at_move (laws.asks f line sends idle found now) = inr idle
-    at_move (laws.permitted i streams m line at told before now) = inl
-        (same_file (Requested m) (Sending m 0) before now.0 refl)
-    at_move (laws.goes_on m place r line sends before found now) =
-        inl (same_file (Sending m place) (Sending m (place + 1)) before now.0 refl)
-    at_move (laws.ends m place line sends before found now) = inl
-        (same_file (Sending m place) (EofSent m) before now.0 refl)
-    at_move (laws.refused i streams m after line at told before none now) = about_none after now.0 none
-    at_move (laws.completed i streams m line at told before now) = about_none Idle now.0 refl
-    at_move (laws.gives_up line sends before now) = about_none Idle now.0 refl
-    at_move (laws.cancelled i who name f at given there mine before now) =
-        about_none (after_abort (sender_on j k x)) now (aborted_none (sender_on j k x))
-    at_move (laws.over line gone now) = about_none Idle now refl
-
 -- ---- a stream that is about a file is there
 
 pub about_line : (l k n : ℕ) (x : Outgoing) → IsAbout l k n x → l < length x.streams
-about_line l k n x about = at_test (cases_lt l (length x.streams))
-  where
-    at_test : (l < length x.streams) ⊎ (length x.streams ≤ l) → l < length x.streams
-    at_test (inl inside) = inside
-    at_test (inr past) =
-        absurd (cc (sym about ∙ ap (λ senders. file_in (get_or senders k Idle)) (get_or_past x.streams l [] past)))
+about_line l k n x about = elim (cases_lt l (length x.streams)) [
+  | inl inside ↦ inside
+  | inr past ↦
+      absurd (cc (sym about ∙ ap (λ senders. file_in (get_or senders k Idle)) (get_or_past x.streams l [] past)))
+]
 
 pub about_stream : (l k n : ℕ) (x : Outgoing) → IsAbout l k n x → k < length (streams_of l x)
-about_stream l k n x about = at_test (cases_lt k (length (streams_of l x)))
-  where
-    at_test : (k < length (streams_of l x)) ⊎ (length (streams_of l x) ≤ k) → k < length (streams_of l x)
-    at_test (inl inside) = inside
-    at_test (inr past) = absurd (cc (sym about ∙ ap (λ s. file_in s) (get_or_past (streams_of l x) k Idle past)))
+about_stream l k n x about = elim (cases_lt k (length (streams_of l x))) [
+  | inl inside ↦ inside
+  | inr past ↦ absurd (cc (sym about ∙ ap (λ s. file_in s) (get_or_past (streams_of l x) k Idle past)))
+]
 
 -- ---- one that is set
 
@@ -283,17 +257,11 @@ set_lines l k s x = length-set x.streams l (set (streams_of l x) k s)
 
 pub set_streams : (j l k : ℕ) (s : Sender) (x : Outgoing)
     → length (streams_of j (with_sender_on l k s x)) ≡ length (streams_of j x)
-set_streams j l k s x = at_line (set_one x.streams l j (set (streams_of l x) k s) [])
-  where
-    now : List Sender
-    now = get_or (set x.streams l (set (streams_of l x) k s)) j []
-
-    at_line : (now ≡ get_or x.streams j []) ⊎ ((j ≡ l) × (now ≡ set (streams_of l x) k s))
-        → length now ≡ length (streams_of j x)
-    at_line (inl same) = ap (λ senders. length senders) same
-    at_line (inr there) =
-        ap (λ senders. length senders) there.1 ∙ length-set (streams_of l x) k s ∙ ap (λ m. length (streams_of m x))
-        (sym there.0)
+set_streams j l k s x = elim (set_one x.streams l j (set (streams_of l x) k s) []) [
+  | inl same ↦ ap (λ senders. length senders) same
+  | inr (line, is) ↦ ap (λ senders. length senders) is ∙ length-set (streams_of l x) k s
+      ∙ ap (λ m. length (streams_of m x)) (sym line)
+]
 
 pub each_lines : (f : Sender → Sender) (x : Outgoing) → length (each_stream f x).streams ≡ length x.streams
 each_lines f x = length-map x.streams (λ senders. map f senders)

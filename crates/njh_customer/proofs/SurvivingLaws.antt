@@ -1,21 +1,20 @@
 -- Which of a customer's whole files are still there after moves.
 use Rattle.njh_customer.proofs.Words
-use Words.{ℕ, zero, suc, Bool, true, false, cond, not, inl, inr, List, [], length, map, filter, take, None, IsSomeAnd}
-use Words.{refl, sym, ap, subst, arith, length-append, append_assoc, append-nil, take-append-le, Contains-append_right}
-use Words.{Contains, is_name, Stored, Kind, with_destination, records_to_node, WholeFile, max_arrived, State}
-use Words.{CustomerEntry, entry_marked, entries_of_routes, has_lost_route, held_file, ready, ReroutesNameNodes}
-use Words.{changed_file, file_in_state, is_of_name, may_change, without_file, with_new_destination, Acts, Coming}
-use Words.{Records, Routes, nowhere, onward, Moves, MovesBy, by_record, by_sending, by_end, Sends, without_files}
-use Words.{busy_numbers, with_changed, EventsMoveSo, TakesMoveSo, coming, entry_with, Outgoing, each_stream}
-use Words.{with_arrival, with_file_state, with_files, without_numbered, outgoing, part_after_bytes, OwnBytes, alone_run}
-use Words.{event_run, IsRerouted, as_before, to_node, IsStill, Survive, stays, leaves, FilesGoOn, FilesSurvive}
-use Words.{EventsKeepFiles, TakesKeepFiles, FirstFilesSurvive, FilesGoOnFurther, RunsKeepFiles, SurvivorsAreNumbered}
-use Rattle.std.proofs.Common.{◌≡◌, ◌<◌, ◌≤◌, ◌-◌, ◌==◌, ◌⊎◌, ◌∷◌, ◌++◌, ◌∙◌}
+use Words.{cond_both, ℕ, zero, suc, Bool, true, cond, not, inl, inr, List, [], length, map, filter, take, None}
+use Words.{IsSomeAnd, refl, sym, ap, subst, arith, length-append, append_assoc, append-nil, take-append-le}
+use Words.{Contains-append_right, Contains, is_name, Stored, Kind, with_destination, records_to_node, WholeFile}
+use Words.{max_arrived, State, CustomerEntry, entry_marked, entries_of_routes, has_lost_route, held_file, ready}
+use Words.{ReroutesNameNodes, changed_file, file_in_state, is_of_name, may_change, without_file, with_new_destination}
+use Words.{Acts, Coming, Records, Routes, nowhere, onward, Moves, MovesBy, by_record, by_sending, by_end, Sends}
+use Words.{without_files, busy_numbers, with_changed, EventsMoveSo, TakesMoveSo, coming, entry_with, Outgoing}
+use Words.{each_stream, with_arrival, with_file_state, with_files, without_numbered, outgoing, part_after_bytes}
+use Words.{OwnBytes, alone_run, event_run, IsRerouted, as_before, to_node, IsStill, Survive, stays, leaves, FilesGoOn}
+use Words.{FilesSurvive, EventsKeepFiles, TakesKeepFiles, FirstFilesSurvive, FilesGoOnFurther, RunsKeepFiles}
+use Words.{SurvivorsAreNumbered}
+use Rattle.{std.proofs.Common.{◌≡◌, ◌<◌, ◌≤◌, ◌-◌, ◌==◌, ◌⊎◌, ◌∷◌, ◌++◌, ◌∙◌}, njh_customer.specs.Surviving.none}
+use Rattle.njh_customer.proofs.{FileListLaws.{first_or_later, found_numbered}, RecordsChange.without_files_files}
 use Rattle.njh_spool.specs.declared.State.TheVariants as state
 use Rattle.njh_customer.specs.Moves as moves
-use Rattle.njh_customer.specs.Surviving.{none}
-use Rattle.njh_customer.proofs.FileListLaws.{first_or_later, found_numbered}
-use Rattle.njh_customer.proofs.RecordsChange.{without_files_files}
 
 -- ---- a file that is still there
 
@@ -57,11 +56,10 @@ same_files (f ∷ fs) = stays f f fs fs (itself f) (same_files fs)
 
 pub some_still : (p : WholeFile → Bool) (fs : List WholeFile) → Survive fs (filter p fs)
 some_still p [] = none
-some_still p (f ∷ fs) = at_test (p f) (some_still p fs)
-  where
-    at_test : (b : Bool) → Survive fs (filter p fs) → Survive (f ∷ fs) (cond b (f ∷ filter p fs) (filter p fs))
-    at_test true rest = stays f f fs (filter p fs) (itself f) rest
-    at_test false rest = leaves f fs (filter p fs) rest
+some_still p (f ∷ fs) =
+    let rest = some_still p fs in
+    cond_both (p f) (f ∷ filter p fs) (filter p fs) (Survive (f ∷ fs))
+    (λ _. stays f f fs (filter p fs) (itself f) rest) (λ _. leaves f fs (filter p fs) rest)
 
 pub but_states : (fs gs : List WholeFile) → map ready gs ≡ map ready fs → Survive fs gs
 but_states [] [] e = none
@@ -171,11 +169,7 @@ in_state_still s f = is_same f (record f { state = s }) refl refl refl
 -- those that pass a test change
 still_where : (p : WholeFile → Bool) (change : WholeFile → WholeFile) → ((f : WholeFile) → IsStill f (change f))
     → (f : WholeFile) → IsStill f (cond (p f) (change f) f)
-still_where p change each f = at_test (p f)
-  where
-    at_test : (b : Bool) → IsStill f (cond b (change f) f)
-    at_test true = each f
-    at_test false = itself f
+still_where p change each f = cond_both (p f) (change f) f (IsStill f) (λ _. each f) (λ _. itself f)
 
 pub changed_still : (p : WholeFile → Bool) (change : WholeFile → WholeFile) → ((f : WholeFile) → IsStill f (change f))
     → (f : WholeFile) → IsStill f (changed_file p change f)
@@ -207,24 +201,22 @@ module _ (by_records : (kind : Kind) (node : List ℕ) (records : List Stored)
   }
 
   module _ (entry : CustomerEntry) (l : ℕ) (x y : Outgoing) where
-    -- no file has changed
-    unmoved : y.files ≡ x.files → y.arrived ≡ x.arrived → FilesGoOn x y
-    unmoved files same = none_came x y x.files files (same_files x.files) same
+    -- by what it is after the move
+    left : {z : Outgoing} → y ≡ z → Survive x.files z.files → z.arrived ≡ x.arrived → FilesGoOn x y
+    left {z} e survive same = none_came x y z.files (ap (λ w. w.files) e) survive (ap (λ w. w.arrived) e ∙ same)
 
     changes : (p : WholeFile → Bool) (change : WholeFile → WholeFile) → ((f : WholeFile) → IsStill f (change f))
         → y ≡ with_changed p change x → FilesGoOn x y
-    changes p change each e = none_came x y (map (changed_file p change) x.files) (ap (λ z. z.files) e)
-        (all_still (changed_file p change) (changed_still p change each) x.files) (ap (λ z. z.arrived) e)
+    changes p change each e =
+        left e (all_still (changed_file p change) (changed_still p change each) x.files) refl
 
     by_acts : (i : _) → Acts entry l i x y → y.arrived < max_arrived → FilesGoOn x y
     by_acts i (moves.comes rcb srcb f is ready whole e) below = one_came x y f e below
-    by_acts i (moves.permitted streams k n told before e) below = unmoved (ap (λ z. z.files) e) (ap (λ z. z.arrived) e)
+    by_acts i (moves.permitted streams k n told before e) below = left e (same_files x.files) refl
     by_acts i (moves.refused streams k n after told before about e) below =
-        none_came x y (with_file_state n state.Refused x.files) (ap (λ z. z.files) e)
-        (marked_still n state.Refused x.files) (ap (λ z. z.arrived) e)
+        left e (marked_still n state.Refused x.files) refl
     by_acts i (moves.completed streams k n told before e) below =
-        none_came x y (without_numbered n x.files) (ap (λ z. z.files) e) (some_still (λ f. not (f.number == n)) x.files)
-        (ap (λ z. z.arrived) e)
+        left e (some_still (λ f. not (f.number == n)) x.files) refl
     by_acts i (moves.holds who name given e) below = changes (is_of_name who name) (file_in_state state.Held)
         (in_state_still state.Held) e
     by_acts i (moves.releases who name given e) below = changes (is_of_name who name) (file_in_state state.Ready)
@@ -240,12 +232,10 @@ module _ (by_records : (kind : Kind) (node : List ℕ) (records : List Stored)
         (some_still (λ f. not (p f)) x.files) (ap (λ z. z.arrived) e ∙ without_files_arrived ns (with_files left x))
 
     by_sends : Sends entry l x y → FilesGoOn x y
-    by_sends (moves.gives_up k before e) = unmoved (ap (λ z. z.files) e) (ap (λ z. z.arrived) e)
-    by_sends (moves.asks k f few before found e) =
-        none_came x y (with_file_state f.number state.Sending x.files) (ap (λ z. z.files) e)
-        (marked_still f.number state.Sending x.files) (ap (λ z. z.arrived) e)
-    by_sends (moves.goes_on k n place r before found e) = unmoved (ap (λ z. z.files) e) (ap (λ z. z.arrived) e)
-    by_sends (moves.ends k n place before found e) = unmoved (ap (λ z. z.files) e) (ap (λ z. z.arrived) e)
+    by_sends (moves.gives_up k before e) = left e (same_files x.files) refl
+    by_sends (moves.asks k f few before found e) = left e (marked_still f.number state.Sending x.files) refl
+    by_sends (moves.goes_on k n place r before found e) = left e (same_files x.files) refl
+    by_sends (moves.ends k n place before found e) = left e (same_files x.files) refl
 
     by_moves : (items : _) → Moves entry l items x y → y.arrived < max_arrived → FilesGoOn x y
     by_moves items (by_record (i, at, acts)) below = by_acts i acts below

@@ -40,7 +40,7 @@ impl Shared {
         commands_keep_headers();
         let mut block = block;
         let mut record = Record::new();
-        'records: while let Some(item) = block.next(&mut record) {
+        while let Some(item) = block.next(&mut record) {
             if ends_session(&item) {
                 return true;
             }

@@ -148,7 +148,7 @@ impl Lines {
     }
 
     /// Takes the bytes up to the end of the first frame, or all of them, and the frame acts.
-    #[tactic(auto, using(crate::proofs::TakingLaws::fed_within, crate::proofs::TakingLaws::fed_some))]
+    #[tactic(auto, using(crate::proofs::PieceLaws::fed_within, crate::proofs::PieceLaws::fed_some))]
     fn take_frame(
         &mut self,
         id: LineId,

@@ -1,8 +1,6 @@
 -- The mark is a part of the customer's entry.
-use Rattle.std.proofs.Common.{true, sym, ap, ◌∙◌}
-use Rattle.njh_table.specs.TableFile.{customer_at, entry_of}
-use Rattle.njh_customer.specs.Alone.{with_raised_line}
-use Rattle.njh_customer.proofs.ReadyLaws.{retold_marked, retold_same}
+use Rattle.{std.proofs.Common.{true, sym, ap, ◌∙◌}, njh_table.specs.TableFile.{customer_at, entry_of}}
+use Rattle.njh_customer.{specs.Alone.with_raised_line, proofs.ReadyLaws.{retold_marked, retold_same}}
 use Rattle.njh_customer.proofs.customer.raise.Goals as goal
 
 pub returns-then-goes_up-clause-entry : goal.returns-then-goes_up-clause-entry

@@ -1,9 +1,6 @@
-use Rattle.njh_customer.proofs.DownLines.{signals_grow}
-use Rattle.njh_customer.proofs.GrowingLaws.{grow_then, many_go_on, rerouted_count}
-use Rattle.njh_customer.proofs.PartialNumbers.{partials_numbered}
-use Rattle.njh_customer.proofs.RecordsGrow.{routes_grow}
-use Rattle.njh_customer.proofs.RestLengths.{events_short, opened_short, takes_short}
-use Rattle.njh_customer.proofs.StepsGrow.{takes_grow}
+use Rattle.njh_customer.proofs.{StepsGrow.{signals_grow, takes_grow}, GrowingLaws.{grow_then, many_go_on}}
+use Rattle.njh_customer.proofs.{GrowingLaws.{rerouted_count, partials_numbered, routes_grow}, RestLengths.events_short}
+use Rattle.njh_customer.proofs.RestLengths.{opened_short, takes_short}
 use Rattle.njh_customer.proofs.laws.files_grow.Goals as goal
 
 pub returns-clause-takes : goal.returns-clause-takes

@@ -1,6 +1,4 @@
-use Rattle.njh_customer.proofs.BlocksCarry.{blocks_carry}
-use Rattle.njh_customer.proofs.DoingLaws.{frame_does, signal_does}
-use Rattle.njh_customer.proofs.RoutesMoves.{routes_do}
+use Rattle.njh_customer.proofs.{BlocksCarry.blocks_carry, DoingLaws.{frame_does, signal_does}, RoutesMoves.routes_do}
 use Rattle.njh_customer.proofs.laws.frames_do_so.Goals as goal
 
 pub returns-clause-frames : goal.returns-clause-frames

@@ -1,8 +1,7 @@
 -- The customer's files are led on three times.
 use Rattle.njh_customer.proofs.Words
 use Words.{slice_set, ap, spool_at, entry_of, without_all_open, all_ended, tried_again, spool_over}
-use Rattle.std.proofs.Common.{◌∙◌}
-use Rattle.njh_customer.proofs.ReadyLaws.{moved_twice}
+use Rattle.{std.proofs.Common.◌∙◌, njh_customer.proofs.ReadyLaws.moved_twice}
 use Rattle.njh_customer.proofs.customer_line.CustomerLine.end_session.Goals as goal
 
 pub returns-clause-spool : goal.returns-clause-spool

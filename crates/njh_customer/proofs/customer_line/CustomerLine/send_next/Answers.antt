@@ -1,8 +1,7 @@
 -- Filling leaves the block's function control sequence.
 use Rattle.njh_customer.proofs.Words
 use Words.{ap, spool_at, customer_at, entry_of, goes_by, filling, outlet_of}
-use Rattle.std.proofs.Common.{◌∙◌}
-use Rattle.njh_customer.proofs.Restated.{filled_kept}
+use Rattle.{std.proofs.Common.◌∙◌, njh_customer.proofs.Restated.filled_kept}
 use Rattle.njh_customer.proofs.customer_line.CustomerLine.send_next.Goals as goal
 
 pub send_written-requires : goal.send_written-requires

@@ -1,6 +1,4 @@
-use Rattle.std.proofs.Common.{◌≡◌, map, drop}
-use Rattle.njh_table.specs.TableFile.{entry_of}
-use Rattle.njh_customer.specs.Waiting.{all_said}
+use Rattle.{std.proofs.Common.{◌≡◌, map, drop}, njh_table.specs.TableFile.entry_of, njh_customer.specs.Waiting.all_said}
 use Rattle.njh_customer.proofs.customer_lines.CustomerLines.say_all.Given as goal
 
 abbrev pub invariant-loop-text : goal.invariant-loop-text

@@ -1,8 +1,6 @@
 -- One line more was told.
-use Rattle.std.proofs.Common.{set, ap, ◌∙◌, arith}
-use Rattle.std.proofs.lemmas.List.Edits.{map_over_more}
-use Rattle.njh_command.specs.Commands.{without_file}
-use Rattle.njh_customer.specs.Acting.{with_senders_by}
+use Rattle.std.proofs.{Common.{set, ap, ◌∙◌, arith}, lemmas.List.Edits.map_over_more}
+use Rattle.{njh_command.specs.Commands.without_file, njh_customer.specs.Acting.with_senders_by}
 use Rattle.njh_customer.proofs.customer_lines.CustomerLinesSenders.abort.Goals as goal
 
 pub loop-line-preserved : goal.loop-line-preserved

@@ -1,5 +1,4 @@
-use Rattle.std.proofs.Common.{◌≡◌, ◌++◌, map, take, drop}
-use Rattle.njh_command.specs.Commands.{without_file}
+use Rattle.{std.proofs.Common.{◌≡◌, ◌++◌, map, take, drop}, njh_command.specs.Commands.without_file}
 use Rattle.njh_customer.specs.Acting.{with_senders_by}
 use Rattle.njh_customer.proofs.customer_lines.CustomerLinesSenders.abort.Given as goal
 

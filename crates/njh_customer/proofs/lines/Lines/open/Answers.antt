@@ -1,8 +1,8 @@
 use Rattle.njh_customer.proofs.Words
 use Words.{List, [], length, map, take, get_or, ap, sym, arith, rules, map_more, take_all, Rest, Nothing, empty_spool}
 use Words.{LineEntry, entry_unmarked, NamedLine, entry_of, CustomerLine, config_of, customer_with, idle_line, Part}
-use Rattle.std.proofs.Common.{◌≡◌, ◌<◌, ◌∷◌, ◌++◌, ◌∙◌}
-use Rattle.njh_customer.proofs.OpenLaws.{rests_of_lines, states_of_lines}
+use Rattle.{std.proofs.Common.{◌≡◌, ◌<◌, ◌∷◌, ◌++◌, ◌∙◌}, njh_customer.proofs.OpenLaws.rests_of_lines}
+use Rattle.njh_customer.proofs.OpenLaws.{states_of_lines}
 use Rattle.njh_customer.proofs.lines.Lines.open.Goals as goal
 
 pub loop-line-preserved : goal.loop-line-preserved

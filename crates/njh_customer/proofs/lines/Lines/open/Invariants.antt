@@ -1,6 +1,4 @@
-use Rattle.std.proofs.Common.{◌≡◌, map, take}
-use Rattle.njh_bisync.specs.Reading.{Nothing}
-use Rattle.njh_table.specs.TableFile.{entry_of}
+use Rattle.{std.proofs.Common.{◌≡◌, map, take}, njh_bisync.specs.Reading.Nothing, njh_table.specs.TableFile.entry_of}
 use Rattle.njh_customer.specs.Customer.{config_of, idle_line}
 use Rattle.njh_customer.proofs.lines.Lines.open.Given as goal
 

@@ -2,7 +2,7 @@
 use Rattle.njh_customer.proofs.Words
 use Words.{refl, input_value, accepted_on, customer_of, Shared}
 use Rattle.njh_customer.proofs.ReadyLaws.{accepted_so, known_line, next_marked, marks_alone}
-use Rattle.njh_customer.proofs.StepLaws.{accepted_stays}
+use Rattle.njh_customer.proofs.CoherenceLaws.{accepted_stays}
 use Rattle.njh_customer.proofs.shared.Shared.accept.Goals as goal
 
 -- what all share with the mark

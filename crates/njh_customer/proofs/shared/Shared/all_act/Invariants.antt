@@ -1,12 +1,10 @@
-use Rattle.std.proofs.Common.{◌≡◌, length, slice_set}
-use Rattle.njh_spool.specs.Spools.{spool_at}
-use Rattle.njh_customer.specs.Acting.{all_acted}
-use Rattle.njh_customer.specs.CustomerSteps.{IsReady, customer_of}
+use Rattle.{std.proofs.Common.{◌≡◌, length, slice_set}, njh_spool.specs.Spools.spool_at}
+use Rattle.njh_customer.specs.{Acting.all_acted, CustomerSteps.{IsReady, customer_of}}
 use Rattle.njh_customer.proofs.shared.Shared.all_act.Given as goal
 
 -- what is left to act is what leads on from here
-abbrev pub invariant-records : goal.invariant-records
-invariant-records l = record {
+abbrev pub invariant-loop-item : goal.invariant-loop-item
+invariant-loop-item l = record {
   rest : all_acted l.id.number l.block.items (customer_of l.id.customer l.self l.lines)
       ≡ all_acted l.id.number l.fn.block.items (customer_of l.id.customer l.fn.self l.fn.lines);
   others : l.self.spool ≡ slice_set l.fn.self.spool l.id.customer (spool_at l.id.customer l.self.spool);
@@ -14,5 +12,5 @@ invariant-records l = record {
   ready : IsReady l.id l.self l.lines;
 }
 
-abbrev pub decreases-records : goal.decreases-records
-decreases-records l = length l.block.items
+abbrev pub decreases-loop-item : goal.decreases-loop-item
+decreases-loop-item l = length l.block.items

@@ -1,8 +1,7 @@
 -- The stream agrees with its file.
 use Rattle.njh_customer.proofs.Words
 use Words.{ap, sym, subst, kind_of, spool_at, Agrees, receiver_at, customer_of}
-use Rattle.std.proofs.Common.{◌∙◌}
-use Rattle.njh_customer.proofs.CoherenceLaws.{agrees_there}
+use Rattle.{std.proofs.Common.◌∙◌, njh_customer.proofs.CoherenceLaws.agrees_there}
 use Rattle.njh_customer.proofs.shared.Shared.arrive.Goals as goal
 
 pub step-step-requires-clause-agrees : goal.step-step-requires-clause-agrees

@@ -1,7 +1,5 @@
 -- The line's mark is taken away behind the end of its session.
-use Rattle.std.proofs.Common.{false, refl}
-use Rattle.njh_customer.specs.Alone.{session_closed}
-use Rattle.njh_customer.specs.CustomerSteps.{customer_of}
+use Rattle.{std.proofs.Common.{false, refl}, njh_customer.specs.{Alone.session_closed, CustomerSteps.customer_of}}
 use Rattle.njh_customer.proofs.ReadyLaws.{marked_behind}
 use Rattle.njh_customer.proofs.shared.Shared.close_session.Goals as goal
 

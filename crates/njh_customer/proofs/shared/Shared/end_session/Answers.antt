@@ -1,6 +1,5 @@
 -- A record ended the session.
-use Rattle.std.proofs.Common.{rules}
-use Rattle.njh_customer.proofs.ReadyLaws.{is_there}
+use Rattle.{std.proofs.Common.rules, njh_customer.proofs.ReadyLaws.is_there}
 use Rattle.njh_customer.proofs.shared.Shared.end_session.Goals as goal
 
 pub close_session-requires : goal.close_session-requires

@@ -1,12 +1,9 @@
 -- The line table's verdict, the records, and what follows them.
-use Rattle.std.proofs.Common.{◌≡◌, true, false, sym, subst, ap, ◌∙◌, rules}
-use Rattle.njh_line.specs.LineTable.{Block}
-use Rattle.njh_line.specs.Openings.{shown_first}
-use Rattle.njh_customer.specs.Alone.{accepted_on, after_block, block_input, verdict_on}
-use Rattle.njh_customer.specs.CustomerSteps.{ChangesMarks, customer_of}
-use Rattle.njh_customer.proofs.CoherenceLaws.{RecordsKeep}
-use Rattle.njh_customer.proofs.ReadyLaws.{made_by, sent_by_block}
-use Rattle.njh_customer.proofs.SessionLaws.{block_stays}
+use Rattle.{std.proofs.Common.{◌≡◌, true, false, sym, subst, ap, ◌∙◌, rules}, njh_line.specs.LineTable.Block}
+use Rattle.{njh_line.specs.Openings.shown_first, njh_customer.specs.Alone.{accepted_on, after_block, block_input}}
+use Rattle.njh_customer.specs.{Alone.verdict_on, CustomerSteps.{ChangesMarks, customer_of}}
+use Rattle.njh_customer.proofs.{CoherenceLaws.records_keep}
+use Rattle.njh_customer.proofs.{ReadyLaws.{made_by, sent_by_block}, SessionLaws.block_stays}
 use Rattle.njh_customer.proofs.shared.Shared.take_block.Goals as goal
 
 pub returns-then-act_where : goal.returns-then-act_where
@@ -15,11 +12,7 @@ returns-then-act_where c =
     let old = customer_of id.customer c.args.self.now c.args.lines.now in
     let accepted = c.accept-verdict in
     let law = c.streams_stay_tied.ensures in
-    let records : RecordsKeep = record {
-      tied = law.arrival;
-      headers = c.whole_files_have_headers.ensures;
-      commands = c.commands_keep_headers.ensures;
-    } in
+    let records = records_keep law.arrival c.whole_files_have_headers.ensures c.commands_keep_headers.ensures in
     let input : Block c.bcb.result c.fcs.result (shown_first c.first_general.result) ≡ block_input c.args.read = search
     rules in
     made_by id c.args.self.now c.args.lines.now c.end_session.new.self c.end_session.new.lines c.clear.new.self
@@ -41,11 +34,7 @@ returns-else-act_where c =
     let old = customer_of id.customer c.args.self.now c.args.lines.now in
     let accepted = c.accept-verdict in
     let law = c.streams_stay_tied.ensures in
-    let records : RecordsKeep = record {
-      tied = law.arrival;
-      headers = c.whole_files_have_headers.ensures;
-      commands = c.commands_keep_headers.ensures;
-    } in
+    let records = records_keep law.arrival c.whole_files_have_headers.ensures c.commands_keep_headers.ensures in
     let input : Block c.bcb.result c.fcs.result (shown_first c.first_general.result) ≡ block_input c.args.read = search
     rules in
     made_by id c.args.self.now c.args.lines.now c.carry_out.new.self c.carry_out.new.lines c.carry_out.new.out

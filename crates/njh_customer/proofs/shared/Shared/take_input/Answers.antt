@@ -1,8 +1,6 @@
 -- The line table's verdict, and what it asks for.
-use Rattle.njh_line.specs.LineTable.{input_value}
-use Rattle.njh_customer.specs.Alone.{after_line_input}
-use Rattle.njh_customer.specs.CustomerSteps.{customer_of}
-use Rattle.njh_customer.proofs.ReadyLaws.{made_by, sent_by_verdict}
+use Rattle.{njh_line.specs.LineTable.input_value, njh_customer.specs.Alone.after_line_input}
+use Rattle.njh_customer.{specs.CustomerSteps.customer_of, proofs.ReadyLaws.{made_by, sent_by_verdict}}
 use Rattle.njh_customer.proofs.SessionLaws.{input_stays}
 use Rattle.njh_customer.proofs.shared.Shared.take_input.Goals as goal
 

@@ -1,18 +1,119 @@
--- A customer's files stay within its quota of blocks and its limit of files, whatever comes.
+-- No two files of a customer have one number, and they stay within its quota of blocks and its limit of files, whatever
+-- comes.
 use Rattle.njh_customer.proofs.Words
-use Words.{ℕ, Bool, true, false, cond, not, List, [], length, map, filter, Option, Some, None, Result, Ok, Err, refl}
-use Words.{sym, ap, arith, eqb-true, length-append, leb-true, ltb-true, length-map, length-filter_both, sum_by-cons}
-use Words.{sum_by_push, length-filter, map-map, flat_map, sum_by, is_name, Stored, has_srcb, Kind, In, Out, header_law}
-use Words.{with_data_set_node, with_data_set_nodes, with_destination, with_job_node, with_node_at, DataSetHeader}
-use Words.{JobHeader, data_set_fields, data_set_header, job_fields, job_header, HasGeneral, HeaderFault}
-use Words.{length-with_field, CustomerSpool, PartialFile, WholeFile, as_whole, cost, next_number, partial_numbered}
-use Words.{stored_size, used_blocks, with_appended, with_arrived, with_finished, without_partial, CustomerEntry}
-use Words.{RouteEntry, find_counts, ready, changed_file, may_change, with_new_destination, Customer, fresh_customer}
-use Words.{IsWithinQuota, customer_with_routes, limits_of}
-use Rattle.std.proofs.Common.{◌≡◌, ◌≤◌, ◌+◌, ◌/◌, ◌==◌, ◌&&◌, ◌∷◌, ◌++◌, ◌∙◌}
-use Rattle.njh_customer.proofs.FileListLaws.{as_many, changed_where, found_less, same_sum, some_less}
-use Rattle.njh_customer.proofs.Restated.{IsRestated}
-use Rattle.njh_customer.proofs.SpoolWalks.{StaysInFiles, routes_so}
+use Words.{cond_both, ℕ, true, false, cond, not, List, [], map, filter, count_by, Option, Some, None, refl, ap, subst}
+use Words.{arith, eqb-true, or_parts, sum_by_push, list_any, count_by_none, CustomerSpool, PartialFile, WholeFile}
+use Words.{as_whole, has_file_room, is_number, next_number, partial_numbered, with_appended, with_arrived}
+use Words.{with_finished, without_partial, files_numbered, CustomerEntry, RouteEntry, with_new_destination}
+use Words.{changed_file, Customer, fresh_customer, AreApart, customer_with_routes, ℕ, Bool, true, false, cond, not}
+use Words.{List, [], length, map, filter, Option, Some, None, Result, Ok, Err, refl, sym, ap, arith, eqb-true}
+use Words.{length-append, leb-true, ltb-true, length-map, length-filter_both, sum_by-cons, sum_by_push, length-filter}
+use Words.{map-map, flat_map, sum_by, is_name, Stored, has_srcb, Kind, In, Out, header_law, with_data_set_node}
+use Words.{with_data_set_nodes, with_destination, with_job_node, with_node_at, DataSetHeader, JobHeader}
+use Words.{data_set_fields, data_set_header, job_fields, job_header, HasGeneral, HeaderFault, length-with_field}
+use Words.{CustomerSpool, PartialFile, WholeFile, as_whole, cost, next_number, partial_numbered, stored_size}
+use Words.{used_blocks, with_appended, with_arrived, with_finished, without_partial, CustomerEntry, RouteEntry}
+use Words.{find_counts, ready, changed_file, may_change, with_new_destination, Customer, fresh_customer, IsWithinQuota}
+use Words.{customer_with_routes, limits_of}
+use Rattle.std.proofs.Common.{◌≡◌, ◌≤◌, ◌+◌, ◌==◌, ◌∷◌, ◌++◌, ◌/◌, ◌&&◌, ◌∙◌}
+use Rattle.njh_customer.proofs.FileListLaws.{changed_numbers, changed_where, numbers, some_less, but_states, found_less}
+use Rattle.njh_customer.proofs.{FileListLaws.{same_sum, as_many}, Restated.IsRestated, SpoolWalks.StaysInFiles}
+use Rattle.njh_customer.proofs.SpoolWalks.{routes_so}
+
+-- no two whole files have one number
+abbrev pub AreDistinct : List WholeFile → Type 0
+AreDistinct files = (n : ℕ) → count_by (λ f. f.number == n) files ≤ 1
+
+pub whole_distinct : (s : CustomerSpool) → AreApart s → AreDistinct s.whole
+whole_distinct s apart n =
+    let both : count_by (λ f. f.number == n) s.whole + count_by (λ f. f.number == n) s.partial ≤ 1 = apart n in
+    omega arith
+
+-- where there is room for one file more, the next number is no file's
+abbrev pub FreeNumbers : Type 0
+FreeNumbers = (s : CustomerSpool) → has_file_room s ≡ true → is_number (next_number s) s ≡ false
+
+free_count : (n : ℕ) (s : CustomerSpool) → is_number n s ≡ false → files_numbered n s ≡ 0
+free_count n s free =
+    let none = or_parts (list_any (λ f. f.number == n) s.whole) (list_any (λ f. f.number == n) s.partial) free in
+    let fact = count_by_none (λ f. f.number == n) s.whole none.0 in
+    omega (arith, count_by_none (λ f. f.number == n) s.partial none.1)
+
+-- ---- spools
+
+-- how many files have a number
+abbrev counted : {X : Type 0} → (X → ℕ) → ℕ → X → ℕ
+counted number n x = cond {A = ℕ} (number x == n) 1 0
+
+apart_fewer : (s t : CustomerSpool) → ((n : ℕ) → files_numbered n t ≤ files_numbered n s) → AreApart s → AreApart t
+apart_fewer s t fewer apart = λ n. omega (arith, fewer n, apart n)
+
+-- one file more, of a free number
+one_more : (m : ℕ) (s : CustomerSpool) → is_number m s ≡ false → AreApart s → (n : ℕ)
+    → files_numbered n s + cond {A = ℕ} (m == n) 1 0 ≤ 1
+one_more m s free apart n = cond_both {A = ℕ} (m == n) 1 0 (λ k. files_numbered n s + k ≤ 1)
+    (λ e. omega (arith, subst (λ k. files_numbered k s ≡ 0) (eqb-true m n e) (free_count m s free)))
+    (λ e. omega (arith, apart n))
+
+pub apart_arrived : (f : WholeFile) (s : CustomerSpool) → is_number f.number s ≡ false → AreApart s
+    → AreApart (with_arrived f s)
+apart_arrived f s free apart = λ n. let fact = one_more f.number s free apart n in
+    omega (arith, sum_by_push (λ (g : WholeFile). cond {A = ℕ} (g.number == n) 1 0) s.whole f)
+
+finished_apart : (n : ℕ) (s : CustomerSpool) → AreApart s → AreApart (with_finished n s)
+finished_apart n s = at_file (partial_numbered n s) refl
+  where
+    at_file : (o : Option PartialFile) → partial_numbered n s ≡ o → AreApart s
+        → AreApart (elim o [ None ↦ s | Some f ↦ with_arrived (as_whole f) (without_partial n s) ])
+    at_file None found apart = apart
+    at_file (Some f) found apart = λ m. let fact = apart m in
+        let besides = found_less (counted (λ (g : PartialFile). g.number) m) (λ g. g.number == n) s.partial f found in
+        omega (arith, sum_by_push (counted (λ (g : WholeFile). g.number) m) s.whole (as_whole f))
+
+-- states change, and other nodes are named
+whole_apart : (s t : CustomerSpool) → numbers t.whole ≡ numbers s.whole → t.partial ≡ s.partial → AreApart s
+    → AreApart t
+whole_apart s t whole partial = apart_fewer s t (λ n.
+    let fact = same_sum (λ (f : WholeFile). f.number) (λ m. cond {A = ℕ} (m == n) 1 0) t.whole s.whole whole in
+    omega (arith, ap (λ (fs : List PartialFile). count_by (λ f. f.number == n) fs) partial))
+
+apart_restated : (s t : CustomerSpool) → IsRestated s t → AreApart s → AreApart t
+apart_restated s t restated = whole_apart s t (but_states t.whole s.whole restated.whole) restated.partial
+
+pub apart_files : FreeNumbers → StaysInFiles AreApart (λ i. AreApart)
+apart_files free = record {
+  arrivals = record {
+    still = λ i s apart. apart;
+    without = λ n s. apart_fewer s (without_partial n s) (λ m.
+        omega (arith, some_less (counted (λ (f : PartialFile). f.number) m) (λ f. not (f.number == n)) s.partial));
+    begun = λ rcb srcb kind s room apart n.
+        let begun : PartialFile = record { number = next_number s; kind = kind; records = [] } in
+        let fact = one_more (next_number s) s (free s room) apart n in
+        omega (arith, sum_by_push (counted (λ (g : PartialFile). g.number) n) s.partial begun);
+    appended = λ rcb r n s room. apart_fewer s (with_appended n r s) (λ m. omega (
+      arith,
+      same_sum (λ (f : PartialFile). f.number) (λ k. cond {A = ℕ} (k == m) 1 0) (with_appended n r s).partial s.partial
+          (changed_where (λ (f : PartialFile). f.number) (λ f. f.number == n)
+          (λ f. record f { records = f.records ++ r ∷ [] }) s.partial (λ f. refl)),
+    ));
+    finished = λ rcb srcb n s whole. finished_apart n s;
+  };
+  restated = apart_restated;
+  left = λ p s. apart_fewer s (record s { whole = filter p s.whole })
+      (λ n. omega (arith, some_less (counted (λ (f : WholeFile). f.number) n) p s.whole));
+  rerouted = λ p node s named.
+      whole_apart s (record s { whole = map (changed_file p (with_new_destination node)) s.whole })
+      (changed_numbers p (with_new_destination node) s.whole (λ f. refl)) refl;
+}
+
+pub apart_routes : (routes : List RouteEntry) (c : Customer) → AreApart c.spool
+    → AreApart (customer_with_routes routes c).spool
+apart_routes = routes_so AreApart apart_restated
+
+pub apart_fresh : (entry : CustomerEntry) → AreApart (fresh_customer entry).spool
+apart_fresh entry = λ n. omega arith
+
+-- ---- the quota and the limit
 
 abbrev whole_cost : WholeFile → ℕ
 whole_cost f = cost f.records
