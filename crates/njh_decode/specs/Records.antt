@@ -9,7 +9,8 @@ use Rattle.njh_header.specs.SignOns.{SignOn, sign_on}
 use Rattle.njh_header.specs.declared.fault.HeaderFault.{HeaderFault}
 use Rattle.njh_nmr.specs.Nodal.{Nodal, nodal_of}
 use Rattle.njh_nmr.specs.declared.fault.NmrFault.{NmrFault}
-use Rattle.njh_decode.specs.Words.{label, byte_words, field_words, number_words, stream_words, text_words, user_words}
+use Rattle.njh_decode.specs.Words.{label, byte_words, field_words, number_words, stream_words, user_words}
+use Rattle.njh_ebcdic.specs.CodePage.{text_words}
 use Rattle.njh_decode.specs.Faults.{header_fault_words, nmr_fault_words}
 
 -- ---- two-byte records and general control records

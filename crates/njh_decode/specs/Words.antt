@@ -1,25 +1,14 @@
 -- What lines of words are made of, in UTF-8.
-use Rattle.std.specs.Prelude.{ℕ, ◌+◌, ◌/◌, ◌%◌, ◌==◌, List, [], ◌∷◌, ◌++◌, slice_index, codes, nat_lt, cond}
-use Rattle.std.specs.Prelude.{encode_utf8, None, Some, flat_map}
+use Rattle.std.specs.Prelude.{ℕ, ◌+◌, ◌/◌, ◌%◌, ◌==◌, List, [], ◌∷◌, ◌++◌, codes, nat_lt, cond}
+use Rattle.std.specs.Prelude.{None, Some}
 use Rattle.hex.specs.Hex.{encode_lower}
+use Rattle.njh_ebcdic.specs.CodePage.{text_words}
 use Rattle.njh_ebcdic.specs.Names.{without_end_blanks}
 use Rattle.njh_block.specs.Blocks.{stream_number}
-use Rattle.njh_decode.specs.declared.characters.TheConstants.{PAGE}
 
 -- words as they are, kept whole
 unfoldable pub label : List ℕ → List ℕ
 label words = words
-
--- the character of a byte in EBCDIC (IBM code page 37), by its number in Unicode; a full stop where nothing is seen
-unfoldable pub character_at : ℕ → ℕ
-character_at byte = slice_index PAGE byte
-
-unfoldable pub character_words : ℕ → List ℕ
-character_words byte = encode_utf8 (character_at byte)
-
--- bytes as characters
-abbrev pub text_words : List ℕ → List ℕ
-text_words bytes = flat_map character_words bytes
 
 -- a field without the blanks behind it
 unfoldable pub field_words : List ℕ → List ℕ

@@ -17,6 +17,5 @@ mod records;
 mod sign_ons;
 mod words;
 
-pub use characters::{characters_agree, characters_are_seen};
 pub use decoding::decode;
 pub use frames::put_frame;

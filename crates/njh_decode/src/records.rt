@@ -5,11 +5,12 @@ ghost use Rattle.njh_block.specs.ItemViews.{given_item};
 ghost use Rattle.njh_decode.specs.Words.{label};
 ghost use Rattle.njh_decode.specs.Records as records;
 
-use crate::characters::{put_labelled, put_named, put_named_user, put_text, put_user};
+use crate::characters::{put_labelled, put_named, put_named_user, put_user};
 use crate::faults::{header_fault_words, nmr_fault_words};
 use crate::sign_ons::{put_control, put_general};
 use crate::words::{put_both, put_byte, put_hex, put_numbered, put_stream, put_words};
 use njh_block::{Item, Rcb};
+use njh_ebcdic::put_characters;
 use njh_header::{DataSetHeader, HeaderFault, JobHeader, srcb};
 use njh_nmr::{Nmr, NmrFault};
 use std::alloc::AllocError;
@@ -131,7 +132,7 @@ fn put_quoted(line: &mut Vec<u8>, bytes: &[u8]) -> Result<(), AllocError>
     ensures { OnOk result (line.new.items ≡ line.old.items ++ records.quoted_words bytes.now) }
 {
     put_words(line, " '")?;
-    put_text(line, bytes)?;
+    put_characters(line, bytes)?;
     put_words(line, "'")
 }
 

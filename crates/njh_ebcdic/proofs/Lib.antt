@@ -1,5 +1,5 @@
 pub mod Blanks
-pub mod Charts
 pub mod Filled
+pub mod PageLaws
 pub mod ReadBack
 pub mod TableLaws

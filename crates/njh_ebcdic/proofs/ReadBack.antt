@@ -8,7 +8,7 @@ use Rattle.njh_ebcdic.specs.Names.{is_empty, is_name, is_name_byte, without_end_
 use Rattle.njh_ebcdic.specs.Characters.{bytes_or_blanks, shown_text}
 use Rattle.njh_ebcdic.specs.Reading.{name_of_word, name_of_text}
 use Rattle.njh_ebcdic.proofs.Blanks.{IsNamed-is_name}
-use Rattle.njh_ebcdic.proofs.Charts.{shown-ascii}
+use Rattle.njh_ebcdic.proofs.PageLaws.{shown-ascii}
 use Rattle.njh_ebcdic.proofs.TableLaws.{byte_or_blank-shown}
 
 pub name_of_word-trimmed : (name : List ℕ) → is_name name ≡ true → name_of_word (without_end_blanks name) ≡ Ok name

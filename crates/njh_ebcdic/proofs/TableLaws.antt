@@ -23,7 +23,7 @@ option_map-some f None n is = cc
 option_map-some f (Some pair) n is = (pair, refl, cc)
 
 -- what holds of each pair holds of one that was found, and it was looked for
-found-all : (test fact : ℕ × ℕ → Bool) (pairs : List (ℕ × ℕ)) (pair : ℕ × ℕ) → find test pairs ≡ Some pair
+pub found-all : (test fact : ℕ × ℕ → Bool) (pairs : List (ℕ × ℕ)) (pair : ℕ × ℕ) → find test pairs ≡ Some pair
     → list_all fact pairs ≡ true → (test pair ≡ true) × (fact pair ≡ true)
 found-all test fact [] pair found all = cc
 found-all test fact (p ∷ ps) pair found all =
@@ -54,7 +54,7 @@ character_of-byte byte character is =
     ap character_of (sym at.2) ∙ (is_just-true _ _ known.1 ∙ ap Some (eqb-true _ character known.0))
 
 -- a test that a condition brings about, where both are computed
-brings : (p q : Bool) → (not p || q) ≡ true → p ≡ true → q ≡ true
+pub brings : (p q : Bool) → (not p || q) ≡ true → p ≡ true → q ≡ true
 brings true q holds is = holds
 brings false q holds is = absurd (false≢true is)
 

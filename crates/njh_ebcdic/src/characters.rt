@@ -1,9 +1,11 @@
 //! The characters of EBCDIC, and their bytes.
 
-ghost use Rattle.std.specs.Prelude.{◌≡◌, ◌==◌, ◌<◌, IfSome, IsTrue, position};
+ghost use Rattle.std.specs.Prelude.{◌≡◌, IsTrue};
 ghost use Rattle.njh_ebcdic.specs.Characters.{byte_of_character, is_plain, printed_character};
+ghost use Rattle.njh_ebcdic.specs.CodePage.{is_written};
 ghost use Rattle.njh_ebcdic.specs.Names.{ebcdic_byte, upper};
 
+use crate::code_page::{place_of, seen_character};
 use crate::fields::BLANK;
 use crate::laws::characters_and_bytes;
 
@@ -13,30 +15,16 @@ const NONE: char = '?';
 /// How far a capital stands behind its lower-case letter.
 const CASE: u8 = 0x40;
 
-/// The character of each byte, sixteen to a row, with `NONE` at bytes that have none.
-static CHART: [u8; 256] = *b"\
-    ????????????????\
-    ????????????????\
-    ????????????????\
-    ????????????????\
-    \x20??????????.?(??\
-    ???????????$*)??\
-    -/?????????,????\
-    ??????????:#@???\
-    ?abcdefghi??????\
-    ?jklmnopqr??????\
-    ??stuvwxyz??????\
-    ????????????????\
-    ?ABCDEFGHI??????\
-    ?JKLMNOPQR??????\
-    ??STUVWXYZ??????\
-    0123456789??????";
-
 /// The character of a byte, or `?` where it has none.
 pub fn text_of(byte: u8) -> char
     ensures { result ≡ printed_character byte }
 {
-    char::from(CHART[usize::from(byte)])
+    let character = char::from(seen_character(byte));
+    if is_written(character) {
+        character
+    } else {
+        NONE
+    }
 }
 
 /// The byte of a character, of those that have one here.
@@ -45,17 +33,17 @@ pub fn byte_of(character: char) -> Option<u8>
 {
     characters_and_bytes();
     match character {
-        // Names are made of these, so they are found without a look through the chart.
+        // Names are made of these, so they are found without a look through the page.
         'A'..='Z' | '0'..='9' => Some(plain_byte(character as u8)),
-        _ => charted_byte(character),
+        _ => paged_byte(character),
     }
 }
 
-/// The same, by a look through the chart.
-fn charted_byte(character: char) -> Option<u8>
+/// The same, by a look through the code page.
+fn paged_byte(character: char) -> Option<u8>
     ensures { result ≡ byte_of_character character }
 {
-    if character == NONE {
+    if !is_written(character) {
         return None;
     }
     let place = place_of(character)?;
@@ -78,14 +66,14 @@ pub fn plain_byte(character: u8) -> u8
     }
 }
 
-/// Where a character stands first in the chart.
-fn place_of(character: char) -> Option<usize>
-    ensures place { result ≡ position (λ known. known == character) CHART }
-    ensures within { IfSome result (λ place. place < 256) }
+/// Whether a character has a byte here.
+fn is_written(character: char) -> bool
+    ensures { result ≡ is_written character }
 {
-    CHART
-        .iter()
-        .position(|known| char::from(*known) == character)
+    matches!(
+        character,
+        'a'..='z' | 'A'..='Z' | '0'..='9' | '#'..='$' | '('..='*' | ','..='.' | ' ' | '/' | ':' | '@'
+    )
 }
 
 /// The capital of a lower-case letter, and any other byte as it is.

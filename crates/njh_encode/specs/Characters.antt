@@ -1,15 +1,12 @@
--- The bytes of characters in EBCDIC (IBM code page 37), and back.
-use Rattle.std.specs.Prelude.{ℕ, ◌==◌, Bool, not, List, length, map, slice_index, nat_lt, cond, Result, Ok, Err}
+-- The bytes of texts in EBCDIC (IBM code page 37).
+use Rattle.std.specs.Prelude.{ℕ, ◌==◌, Bool, not, List, length, map, nat_lt, cond, Result, Ok, Err}
 use Rattle.std.specs.List.{list_all}
 use Rattle.std.specs.Str.{chars}
+use Rattle.njh_ebcdic.specs.CodePage.{page_byte}
 use Rattle.njh_encode.specs.declared.fault.Reason.{Reason}
 use Rattle.njh_encode.specs.declared.fault.Reason.TheVariants.{NoCharacter, TooLong}
-use Rattle.njh_encode.specs.declared.characters.TheConstants.{BYTES}
 
--- the byte of a character, by its number in Unicode; 0 where there is none
-unfoldable pub byte_at : ℕ → ℕ
-byte_at character = cond (nat_lt character 256) (slice_index BYTES character) 0
-
+-- whether a character has a byte: it has 0 where there is none
 abbrev pub is_there : ℕ → Bool
 is_there byte = not (byte == 0)
 
@@ -20,4 +17,4 @@ where_all bytes = cond (list_all is_there bytes) (Ok bytes) (Err NoCharacter)
 unfoldable pub bytes_of_text : ℕ → List ℕ → Result (List ℕ) Reason
 bytes_of_text limit text =
     cond (nat_lt limit (length (chars text))) (Err TooLong)
-    (where_all (map byte_at (chars text)))
+    (where_all (map page_byte (chars text)))

@@ -27,7 +27,6 @@ mod statement;
 mod statements;
 mod words;
 
-pub use characters::bytes_are_told;
 pub use encoder::Encoder;
 pub use fault::{EncodeEnd, EncodeFault, Reason};
 pub use laws::{

@@ -1,22 +1,11 @@
 -- What is written of a file's records.
-use Rattle.std.specs.Prelude.{◌≡◌, ℕ, ◌==◌, Bool, true, false, ◌||◌, cond, List, [], ◌∷◌, ◌++◌, slice_index}
-use Rattle.std.specs.Prelude.{encode_utf8, flat_map, map, Option}
+use Rattle.std.specs.Prelude.{◌≡◌, ℕ, ◌==◌, Bool, true, false, ◌||◌, cond, List, [], ◌∷◌, ◌++◌}
+use Rattle.std.specs.Prelude.{flat_map, map, Option}
 use Rattle.std.specs.Io.KnownBytes.{Appends}
+use Rattle.njh_ebcdic.specs.CodePage.{text_words}
 use Rattle.njh_io.specs.Written.{AppendsBeginning}
 use Rattle.njh_store.specs.Kept.{Spool, contents, records_of}
 use Rattle.njh_files.specs.Asked.{asked_of, key_in}
-use Rattle.njh_files.specs.declared.characters.TheConstants.{PAGE}
-
--- the character of a byte in EBCDIC (IBM code page 37), by its number in Unicode; a full stop where nothing is seen
-unfoldable pub character_at : ℕ → ℕ
-character_at byte = slice_index PAGE byte
-
-unfoldable pub character_words : ℕ → List ℕ
-character_words byte = encode_utf8 (character_at byte)
-
--- bytes as characters
-abbrev pub text_words : List ℕ → List ℕ
-text_words bytes = flat_map character_words bytes
 
 -- of a record its place, its SRCB and its bytes
 abbrev pub Contents : Type 0

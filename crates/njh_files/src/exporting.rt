@@ -11,10 +11,10 @@ ghost use Rattle.njh_store.specs.Kept.{Holds, Spool, contents_of};
 ghost use Rattle.njh_store.specs.Shelf.{shown};
 ghost use Rattle.sqlite.specs.State.{HasCleanDisk};
 
-use crate::characters::put_text;
 use crate::fault::FilesFault;
 use crate::finding::{Asked, key_of};
 use crate::writing::write_text;
+use njh_ebcdic::put_characters;
 use njh_header::srcb::{DATA_SET_HEADER, JOB_HEADER, JOB_TRAILER};
 use njh_store::{Store, StoredRecord};
 use sqlite::Alter;
@@ -46,7 +46,7 @@ fn put_line(text: &mut Vec<u8>, stored: &StoredRecord) -> Result<(), AllocError>
     if is_header(stored.srcb) {
         return Ok(());
     }
-    put_text(text, &stored.bytes)?;
+    put_characters(text, &stored.bytes)?;
     text.push(b'\n')?;
     Ok(())
 }

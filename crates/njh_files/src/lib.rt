@@ -1,7 +1,6 @@
 //! What a spool file holds, printed for people: its whole files, and a file's records.
 #![tactic(auto)]
 
-mod characters;
 mod exporting;
 mod fault;
 mod finding;
@@ -10,7 +9,6 @@ mod opening;
 mod printing;
 mod writing;
 
-pub use characters::each_is_seen;
 pub use fault::FilesFault;
 pub use finding::Asked;
 pub use listing::print_files;

@@ -2,7 +2,7 @@ use Rattle.std.proofs.Common.{◌≡◌, ◌∙◌, ap, arith, length, lit<, map
 use Rattle.std.proofs.lemmas.List.{length-map}
 use Rattle.std.proofs.lemmas.Iterator.{YieldsList-from_chars}
 use Rattle.std.proofs.lemmas.Iterator.Consumers.{YieldsList-end, YieldsList-turn}
-use Rattle.njh_encode.specs.Characters.{byte_at}
+use Rattle.njh_ebcdic.specs.CodePage.{page_byte}
 use Rattle.njh_encode.proofs.characters.bytes_of.Goals as goal
 
 pub push-requires : goal.push-requires
@@ -10,7 +10,7 @@ push-requires c =
     let turn = YieldsList-turn (YieldsList-from_chars c.args.text.now c.utf8.text cc)
     c.loop-character.yielded _ c.loop-character.yielded_by _ _ c.in-Some.character c.in-Some.is c.next.ensures.steps in
     let same : length c.loop-character.bytes.items ≡ length c.loop-character.yielded =
-    ap length c.loop-character.invariant ∙ length-map (map (λ c. c) c.loop-character.yielded) byte_at
+    ap length c.loop-character.invariant ∙ length-map (map (λ c. c) c.loop-character.yielded) page_byte
     ∙ length-map c.loop-character.yielded (λ c. c) in
     (lit< tt, omega (arith, turn.0, same, c.requires))
 
@@ -18,4 +18,4 @@ pub returns : goal.returns
 returns c =
     let ended = YieldsList-end (YieldsList-from_chars c.args.text.now c.utf8.text cc)
     c.loop-character.yielded _ c.loop-character.yielded_by _ _ c.in-None.is c.next.ensures.steps in
-    c.loop-character.invariant ∙ ap (map byte_at) ended.0
+    c.loop-character.invariant ∙ ap (map page_byte) ended.0

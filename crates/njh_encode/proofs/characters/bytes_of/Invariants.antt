@@ -1,6 +1,6 @@
 use Rattle.std.proofs.Common.{◌≡◌, map}
-use Rattle.njh_encode.specs.Characters.{byte_at}
+use Rattle.njh_ebcdic.specs.CodePage.{page_byte}
 use Rattle.njh_encode.proofs.characters.bytes_of.Given as goal
 
 abbrev pub invariant-loop-character : goal.invariant-loop-character
-invariant-loop-character l = l.bytes.items ≡ map byte_at (map (λ c. c) l.yielded)
+invariant-loop-character l = l.bytes.items ≡ map page_byte (map (λ c. c) l.yielded)

@@ -1,6 +1,6 @@
 use Rattle.std.proofs.Common.{rules, arith}
 use Rattle.std.proofs.lemmas.Grind.{put_two}
-use Rattle.njh_ebcdic.proofs.Charts.{shown_text-more}
+use Rattle.njh_ebcdic.proofs.PageLaws.{shown_text-more}
 use Rattle.njh_ebcdic.proofs.name.NameDisplay.fmt.Goals as goal
 
 pub loop-byte-preserved : goal.loop-byte-preserved
