@@ -1,4 +1,3 @@
-mod LineLaws
 mod MappedLaws
 mod MarkLaws
 mod PartLaws

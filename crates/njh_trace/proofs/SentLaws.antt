@@ -13,9 +13,10 @@ use Rattle.njh_bisync.specs.ByteSteps.{frames_after, rest_after}
 use Rattle.njh_trace.specs.Pieces.{is_letter_or_digit, is_name, is_script_word, mark_out, piece_in, piece_of_digits, some_bytes, words_of}
 use Rattle.njh_trace.specs.Pieces.{PieceView}
 use Rattle.njh_trace.specs.Sources.{max_sources, place_of, rest_at, sources_at, sources_with, SourceView}
-use Rattle.njh_trace.specs.Trace.{frames_told, line_as_it_is, line_told, lines_from, lines_told, piece_told, sent_line, sent_text, sent_told}
+use Rattle.njh_trace.specs.Trace.{frames_told, line_as_it_is, line_told, lines_told, piece_told, sent_line, sent_text, sent_told}
 use Rattle.njh_trace.specs.Trace.{sources_behind, trace_told, IsSent}
-use Rattle.njh_trace.proofs.LineLaws.{lines_from-end}
+use Rattle.njh_io.specs.Lines.{lines_from}
+use Rattle.njh_io.proofs.LineLaws.{lines_from-end}
 
 -- neither a blank nor a line's end is a digit or a letter
 other_byte : (test : ℕ → Bool) (c d : ℕ) → test d ≡ false → test c ≡ true → eqb c d ≡ false
@@ -150,7 +151,7 @@ lines_told-sent hex sources (s ∷ sent) clear each =
     let line = sent_line s.0 s.1 in
     let parts : lines_from [] (sent_text (s ∷ sent)) ≡ line ∷ lines_from [] (sent_text sent) =
     ap (lines_from []) (append_assoc line (10 ∷ []) (sent_text sent))
-    ∙ lines_from-end [] line (sent_text sent) (recursion_from_All _ line (line_whole s.0 s.1 each.0)) in
+    ∙ lines_from-end [] line (sent_text sent) (line_whole s.0 s.1 each.0) in
     ap (lines_told hex sources) parts
     ∙ ap (λ (text : List ℕ). text ++ lines_told hex (sources_behind sources line) (lines_from [] (sent_text sent)))
     (line_told-sent hex sources s.0 s.1 clear each.0)

@@ -6,7 +6,8 @@ use Rattle.std.specs.List.{list_any}
 use Rattle.std.specs.Io.KnownBytes.{Appends, Consumes, IsAtEnd, Keeps, ReadConsumes}
 use Rattle.std.proofs.KnownBytes.{Appends-nil, Appends-trans, Consumes-nil, Consumes-trans, Consumes-kept, Consumes-whole}
 use Rattle.njh_io.specs.Written.{AppendsBeginning}
-use Rattle.njh_trace.specs.Trace.{has_long_line, is_long_line, lines_from, trace_told}
+use Rattle.njh_io.specs.Lines.{is_long_line, lines_from}
+use Rattle.njh_trace.specs.Trace.{has_long_line, trace_told}
 use Rattle.njh_trace.specs.code.Reading.{Progress, Takes, told_behind}
 use Rattle.njh_trace.proofs.ReadingLaws.{known_then, Takes-any_long, Takes-none, Takes-tells, Takes-then}
 use Rattle.njh_trace.proofs.Writing.{beginning-after}

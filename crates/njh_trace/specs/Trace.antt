@@ -1,32 +1,15 @@
 -- What a trace says in words. A trace is the record of what went over the lines of a hub, one piece of bytes a line.
-use Rattle.std.specs.Prelude.{◌≡◌, ℕ, ◌<◌, ◌==◌, Bool, true, false, List, [], ◌∷◌, ◌++◌, length, nat_lt, flat_map}
-use Rattle.std.specs.Prelude.{if◌then◌else◌, Option, Some, None}
+use Rattle.std.specs.Prelude.{◌≡◌, ℕ, ◌<◌, Bool, true, false, List, [], ◌∷◌, ◌++◌, length, flat_map}
+use Rattle.std.specs.Prelude.{if◌then◌else◌, Some, None}
 use Rattle.std.specs.List.{list_any}
 use Rattle.hex.specs.Hex.{encode_lower, IsBytes}
+use Rattle.njh_io.specs.Lines.{is_long_line, lines_of}
 use Rattle.njh_bisync.specs.Frames.{Received}
 use Rattle.njh_bisync.specs.Reading.{Nothing}
 use Rattle.njh_bisync.specs.ByteSteps.{frames_after, rest_after}
 use Rattle.njh_decode.specs.Frames.{frame_lines}
 use Rattle.njh_trace.specs.Pieces.{PieceView, is_name, is_script_word, mark_out, piece_in, signalled}
 use Rattle.njh_trace.specs.Sources.{SourceView, rest_of, sources_with, sources_without}
-
--- how many bytes a line has at most: as many as a script
-abbrev pub max_line_bytes : ℕ
-max_line_bytes = 1048576
-
--- what has come of a line when the text ends, if anything
-abbrev pub last_line : List ℕ → List (List ℕ)
-last_line [] = []
-last_line (b ∷ bs) = (b ∷ bs) ∷ []
-
--- the lines of a text, each ended by the byte 0A, the last by that or by the text's end; `front` is what has come of
--- the first
-abbrev pub lines_from : List ℕ → List ℕ → List (List ℕ)
-lines_from front [] = last_line front
-lines_from front (b ∷ text) = if b == 10 then front ∷ lines_from [] text else lines_from (front ++ b ∷ []) text
-
-abbrev pub lines_of : List ℕ → List (List ℕ)
-lines_of text = lines_from [] text
 
 -- a line of the trace as it stands
 abbrev pub line_as_it_is : List ℕ → List ℕ
@@ -64,9 +47,6 @@ lines_told hex sources (line ∷ lines) =
 -- what a trace says
 abbrev pub trace_told : Bool → List ℕ → List ℕ
 trace_told hex text = lines_told hex [] (lines_of text)
-
-abbrev pub is_long_line : List ℕ → Bool
-is_long_line line = nat_lt max_line_bytes (length line)
 
 -- whether a line of a text is too long
 abbrev pub has_long_line : List ℕ → Bool

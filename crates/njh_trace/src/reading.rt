@@ -1,36 +1,31 @@
 //! A trace that comes in pieces.
 
-ghost use Rattle.std.specs.Prelude.{◌≡◌, ◌≢◌, ℕ, ◌≤◌, ◌<◌, ◌+◌, ◌∷◌, ◌++◌, [], List, length, true, false, All};
-ghost use Rattle.std.specs.Prelude.{◌==◌, OnOk, OnErr, Err};
+ghost use Rattle.std.specs.Prelude.{◌≡◌, ◌≢◌, ℕ, ◌<◌, ◌∷◌, ◌++◌, [], List, length, true, false, IfOk, IfSome};
+ghost use Rattle.std.specs.Prelude.{MatchOption, OnOk, OnErr, Err};
 ghost use Rattle.std.specs.List.{list_any};
-ghost use Rattle.njh_trace.specs.Trace.{is_long_line, lines_from};
+ghost use Rattle.njh_io.specs.Lines.{is_first_long, is_long_line, lines_from, lines_of};
+ghost use Rattle.njh_trace.specs.Trace.{line_told, sources_behind};
 ghost use Rattle.njh_trace.specs.code.Reading.{told_behind, Takes};
 
 use crate::fault::TraceFault;
-use crate::parts::parted;
 use crate::sources::Sources;
+use njh_io::{LineReader, ReadFault};
 use std::alloc::Global;
 use std::marker::Model;
-
-/// How many bytes a line has at most.
-pub const MAX_LINE_BYTES: usize = 1_048_576;
 
 /// How far a trace was read: the sources so far, and what has come of a line.
 #[derive(Drop)]
 pub(crate) struct Reading {
     sources: Sources,
-    front: Vec<u8>,
+    front: LineReader,
 }
 
 impl Model for Reading {
-    ghost use Rattle.std.specs.Prelude.{◌≤◌, length};
     ghost use Rattle.njh_trace.specs.code.Reading.{Progress};
 
     ghost Value = { Progress };
 
-    ghost view = { λ r. record { sources = r.sources; front = r.front.items } };
-
-    ghost invariant = { λ r. length r.front.items ≤ 1048576 };
+    ghost view = { λ r. record { sources = r.sources; front = r.front } };
 }
 
 impl Reading {
@@ -40,7 +35,7 @@ impl Reading {
     {
         Reading {
             sources: Sources::new(alloc),
-            front: Vec::new(alloc),
+            front: LineReader::new(alloc),
         }
     }
 
@@ -58,15 +53,11 @@ impl Reading {
         ensures no_device { result ≢ Err TraceFault.Device }
     {
         let mut left = piece;
-        'lines: loop {
-            match parted(left, b'\n') {
-                None => return self.keep(left),
-                Some((end, behind)) => {
-                    self.end_line(end, hex, lines)?;
-                    left = behind;
-                }
-            }
+        while let Some(behind) = self.read(left)? {
+            self.end_line(hex, lines)?;
+            left = behind;
         }
+        Ok(())
     }
 
     /// Appends what the last line says, where it has no end of its own.
@@ -75,37 +66,44 @@ impl Reading {
         ensures short { OnOk result (list_any is_long_line (lines_from self.old.front []) ≡ false) }
         ensures memory { OnErr result (result ≡ Err TraceFault.Memory) }
     {
-        if !self.front.is_empty() {
-            self.sources.take_line(&self.front, hex, lines)?;
+        let line = self.front.line();
+        if !line.is_empty() {
+            self.sources.take_line(line, hex, lines)?;
         }
         Ok(())
     }
 
-    /// Takes the end of a line, and appends what the line says.
-    fn end_line(&mut self, end: &[u8], hex: bool, lines: &mut Vec<u8>) -> Result<(), TraceFault>
-        requires { All (λ b. (b == 10) ≡ false) end.now }
-        ensures taken { OnOk result ((told : List ℕ) × (lines.new.items ≡ lines.old.items ++ told)
-            × Takes hex self.old (end.now ++ 10 ∷ []) told self.new) }
-        ensures long { result ≡ Err TraceFault.TooLong → 1048576 < length self.old.front + length end.now }
+    /// Takes a piece up to the end of a line, and answers what stands behind that; or keeps all of it.
+    fn read<'p>(&mut self, piece: &'p [u8]) -> Result<Option<&'p [u8]>, TraceFault>
+        ensures lines { IfOk result (λ behind. (more : List ℕ) → MatchOption behind
+            (lines_from self.old.front (piece.now ++ more) ≡ lines_from self.new.front more)
+            (λ behind. lines_from self.old.front (piece.now ++ more)
+            ≡ self.new.front ∷ lines_of (behind.now ++ more))) }
+        ensures sources { OnOk result (self.new.sources ≡ self.old.sources) }
+        ensures shorter { IfOk result (λ behind. IfSome behind (λ behind. length behind.now < length piece.now)) }
+        ensures long { result ≡ Err TraceFault.TooLong
+            → (more : List ℕ) → is_first_long (lines_from self.old.front (piece.now ++ more)) ≡ true }
         ensures no_device { result ≢ Err TraceFault.Device }
     {
-        self.keep(end)?;
-        self.sources.take_line(&self.front, hex, lines)?;
+        match self.front.take(piece) {
+            Ok(behind) => Ok(behind),
+            Err(ReadFault::TooLong) => Err(TraceFault::TooLong),
+            Err(ReadFault::Memory) => Err(TraceFault::Memory),
+            Err(ReadFault::Device) => Err(TraceFault::Device),
+        }
+    }
+
+    /// Appends what the line says that has come, and begins the next.
+    fn end_line(&mut self, hex: bool, lines: &mut Vec<u8>) -> Result<(), TraceFault>
+        ensures told { OnOk result (lines.new.items
+            ≡ lines.old.items ++ line_told hex self.old.sources self.old.front) }
+        ensures ended { OnOk result (self.new
+            ≡ record { sources = sources_behind self.old.sources self.old.front; front = [] }) }
+        ensures short { is_long_line self.old.front ≡ false }
+        ensures memory { OnErr result (result ≡ Err TraceFault.Memory) }
+    {
+        self.sources.take_line(self.front.line(), hex, lines)?;
         self.front.clear();
-        Ok(())
-    }
-
-    /// Keeps a part of a line.
-    fn keep(&mut self, part: &[u8]) -> Result<(), TraceFault>
-        ensures kept { OnOk result (self.new ≡ record self.old { front = self.old.front ++ part.now }) }
-        ensures within { OnOk result (length self.old.front + length part.now ≤ 1048576) }
-        ensures long { result ≡ Err TraceFault.TooLong → 1048576 < length self.old.front + length part.now }
-        ensures no_device { result ≢ Err TraceFault.Device }
-    {
-        if MAX_LINE_BYTES - self.front.len() < part.len() {
-            return Err(TraceFault::TooLong);
-        }
-        self.front.extend_from_slice(part)?;
         Ok(())
     }
 }

@@ -5,7 +5,8 @@ ghost use Rattle.std.specs.Prelude.{IfErr, IfOk, IfSome, Err, MatchOption};
 ghost use Rattle.std.specs.Io.KnownBytes.{Appends, Consumes, IsAtEnd};
 ghost use Rattle.std.specs.List.{list_any};
 ghost use Rattle.njh_io.specs.Written.{AppendsBeginning};
-ghost use Rattle.njh_trace.specs.Trace.{has_long_line, is_long_line, lines_from, trace_told};
+ghost use Rattle.njh_io.specs.Lines.{is_long_line, lines_from};
+ghost use Rattle.njh_trace.specs.Trace.{has_long_line, trace_told};
 ghost use Rattle.njh_trace.specs.code.Reading.{told_behind, Takes};
 
 use crate::fault::TraceFault;

@@ -2,7 +2,8 @@
 use Rattle.std.specs.Prelude.{◌≡◌, ℕ, false, Bool, List, [], ◌∷◌, ◌++◌}
 use Rattle.std.specs.List.{list_any}
 use Rattle.njh_trace.specs.Sources.{SourceView}
-use Rattle.njh_trace.specs.Trace.{is_long_line, lines_from, lines_told, sources_behind}
+use Rattle.njh_io.specs.Lines.{is_long_line, lines_from}
+use Rattle.njh_trace.specs.Trace.{lines_told, sources_behind}
 
 -- what is kept from piece to piece: the sources so far, and what has come of a line
 pub record Progress : Type 0 where
