@@ -77,12 +77,6 @@ shown_same sql params old new rows has plain h =
 pub stays : (old new : State) → IsUnchanged old new → Stays old new
 stays old new same = record { is_open = λ _. same.0.is_open; now = same.0.now_is; committed = same.0.committed_is; mode = same.0.mode }
 
-pub stays_at : (s : State) → Stays s s
-stays_at s = record { is_open = λ h. h; now = refl; committed = refl; mode = refl }
-
-pub stays_then : (a b c : State) → Stays a b → Stays b c → Stays a c
-stays_then a b c p q = record { is_open = λ h. q.is_open (p.is_open h); now = q.now ∙ p.now; committed = q.committed ∙ p.committed; mode = q.mode ∙ p.mode }
-
 -- ---- one change after the other
 
 pub ok_then : {T E : Type 0} (r : Result T E) (P Q : Type 0) → (P → Q) → OnOk r P → OnOk r Q

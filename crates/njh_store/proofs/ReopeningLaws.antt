@@ -23,9 +23,6 @@ still spool found now held (inr bare) = absurd (let e : spool_schema ≡ no_tabl
 pub opened : (spool : Spool) (image : Image) (db now : Trees) → Holds spool db → HoldsDatabase image db → OpensFrom image now → now ≡ db
 opened spool image db now held has o = still spool db now held (subst (λ t. IsOrBecomes t now) (o.holds db has) o.kept)
 
-pub opened_as : (spool : Spool) (image : Image) (db now : Trees) → Holds spool db → ∥ HoldsDatabase image db ∥₁ → OpensFrom image now → Holds spool now
-opened_as spool image db now held has o = subst (Holds spool) (sym (∥∥₁_elim has (Trees-set _ _) (λ h. opened spool image db now held h o))) held
-
 pub found_again : {D : Type 0} {g : Ghosts D} (it : FileStore D g) → IsTrue (view it).is_numbered → ((trees : Trees) → recovers it trees → ((spool : Spool) × Holds spool trees))
     → (left : Image) → (state it).may_leave left → (now : Trees) → OpensFrom left now → ∥ ((trees : Trees) × recovers it trees × (now ≡ trees)) ∥₁
 found_again it numbered spools left may now o =

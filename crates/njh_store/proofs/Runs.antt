@@ -1,6 +1,5 @@
 -- What the statements do, and what they may keep.
-use Rattle.std.proofs.Common.{◌≡◌, ◌⊎◌, inl, inr, ℕ, ◌<◌, ◌^◌, ◌==◌, not, ℤ, pos, nat_le, nat_lt, ◌&&◌, List, [], ◌∷◌, Bool, true, false, cond, Option, Some, None, Ok, Err, Result, OnErr, refl, sym, ap, subst, ◌∙◌, arith}
-use Rattle.std.proofs.lemmas.Bool.{cases_Bool}
+use Rattle.std.proofs.Common.{◌≡◌, ◌⊎◌, inl, inr, ℕ, ◌<◌, ◌^◌, ◌==◌, not, ℤ, pos, nat_le, nat_lt, ◌&&◌, List, [], ◌∷◌, Bool, true, false, cond, Option, Some, None, Ok, Err, Result, refl, sym, ap, subst, ◌∙◌, arith}
 use Rattle.sqlite.specs.declared.types.Value.{Value}
 use Rattle.sqlite.specs.declared.types.Value.TheVariants.{Null, Int}
 use Rattle.sqlite.specs.Order.{Row}
@@ -24,10 +23,9 @@ use Rattle.sqlite.specs.declared.run.Mode.{Mode}
 use Rattle.sqlite_schema.specs.declared.command.Returning.{Returning}
 use Rattle.sqlite.specs.Rows.{Written}
 use Rattle.sqlite.specs.Tree.{Trees, put_row}
-use Rattle.sqlite.specs.declared.error.Error.{Error}
 use Rattle.sqlite.specs.Listing.{understood}
 use Rattle.sqlite.specs.Effect.{Database}
-use Rattle.sqlite.specs.State.{State, mode_of, Executes, ExecutesIn, CommitsBy, KeepsCommit, IsUnchanged, Fails, IsNotRun, shows_rows, text_of}
+use Rattle.sqlite.specs.State.{State, mode_of, Executes, CommitsBy, text_of}
 use Rattle.sqlite.specs.Schema.{Schema}
 use Rattle.sqlite.specs.Clock.{timed}
 use Rattle.sqlite.proofs.Callers.{command_of, statement_of, runs_as, one_step}
@@ -39,27 +37,6 @@ use Rattle.njh_store.specs.Steps.{Begins, Changes, Commits}
 use Rattle.njh_store.proofs.Meaning.{begin_text, begin_is, begin_plain, commit_text, commit_is, commit_plain, insert_file, insert_file_is, insert_file_plain, file_terms, insert_record, insert_record_is, insert_record_plain, record_terms, rowids_where, has_id, delete_file, delete_file_is, delete_file_plain, is_between, delete_records, delete_records_is, delete_records_plain}
 use Rattle.njh_store.proofs.Rows.{all_put, put_shown, numbers_cmp, put_rises, without_rises}
 use Rattle.njh_store.proofs.Deleting.{deleted}
-
--- ---- what fails keeps the last commit
-
-pub on_err : {T E P : Type 0} (r : Result T E) → P → OnErr r P
-on_err (Ok x) p = tt
-on_err (Err e) p = p
-
-unchanged_keeps : (old new : State) → IsUnchanged old new → KeepsCommit old new
-unchanged_keeps old new h = record { was_open = λ _. h.0.was_open; committed = λ _. h.0.committed_is }
-
-failed_keeps : (old new : State) (big : Type 0) (e : Error) → Fails old new big e → KeepsCommit old new
-failed_keeps old new big e h = record { was_open = h.3.was_open; committed = λ is_open. (h.3.undone is_open).1 }
-
-pub fails_keep : (sql : List ℕ) (params : Row) (old new : State) (e : Error) → Executes sql params old new (Err e) → KeepsCommit old new
-unfolding ExecutesIn IsNotRun
-fails_keep sql params old new e (inl (inl none)) = unchanged_keeps old new none.1
-fails_keep sql params old new e (inl (inr fault)) = failed_keeps old new _ e fault
-fails_keep sql params old new e (inr h) = elim (cases_Bool (shows_rows false h.0)) [
-  | inl shows ↦ unchanged_keeps old new (rw shows at h.2).1
-  | inr runs ↦ elim (rw runs at h.2) [ inl refused ↦ unchanged_keeps old new refused.1 | inr fault ↦ failed_keeps old new _ e fault ]
-]
 
 -- ---- what a statement may keep
 

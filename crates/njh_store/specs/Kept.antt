@@ -12,7 +12,6 @@ use Rattle.njh_store.specs.declared.kept.KeptFile.{KeptFile}
 use Rattle.njh_store.specs.declared.kept.KeptRecord.{KeptRecord}
 use Rattle.njh_store.specs.declared.kept.StoredFile.{StoredFile}
 use Rattle.njh_store.specs.declared.kept.StoredRecord.{StoredRecord}
-use Rattle.njh_store.specs.declared.kept.WholeFile.{WholeFile}
 
 -- a whole file without its records; key is the number that its records came under
 pub record File : Type 0 where
@@ -192,6 +191,3 @@ whole_in spool e = record { id = e.0; file = e.1; records = map contents (record
 -- what a spool has: its whole files in the order of their arrival, each with its records in their order
 abbrev pub kept : Spool → List Whole
 kept spool = map (whole_in spool) spool.files
-
-abbrev pub whole_of : WholeFile → Whole
-whole_of w = record { id = w.stored.id; file = file_of w.stored.file; records = map contents_of w.records.items }

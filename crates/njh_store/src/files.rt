@@ -1,18 +1,15 @@
-//! A spool file is opened on a disk, and let go of.
+//! A spool file is opened on a disk.
 
-ghost use Rattle.std.specs.Prelude.{◌≡◌, false, IfOk, IsTrue};
+ghost use Rattle.std.specs.Prelude.{◌≡◌, false, IfOk};
 ghost use Rattle.sqlite.specs.State.{HasCleanDisk, IsLive, Opens};
 ghost use Rattle.sqlite.specs.Held.{state};
-ghost use Rattle.sqlite.specs.Files.{file_state, HoldsDatabase, IsOpened};
+ghost use Rattle.sqlite.specs.Files.{file_state, IsOpened};
 ghost use Rattle.sqlite.specs.Start.{FindsIn};
 ghost use Rattle.sqlite.specs.WalFiles.{image_at};
-ghost use Rattle.sqlite_store.specs.FileStore as files;
-ghost use Rattle.sqlite_trees.specs.View.{IsClean};
 ghost use Rattle.sqlite.specs.Recovery.{Image};
-ghost use Rattle.sqlite.specs.Tree.{Trees};
 ghost use Rattle.njh_store.specs.Reopened.{BecomesSpool, OpensFrom};
 ghost use Rattle.njh_store.specs.Origin.{IsFoundIn};
-ghost use Rattle.njh_store.specs.Kept.{Spool, Holds};
+ghost use Rattle.njh_store.specs.Kept.{Spool};
 ghost use Rattle.njh_store.specs.Standing.{Stands};
 ghost use Rattle.njh_store.specs.Shelf.{shown};
 ghost use Rattle.njh_store.specs.Steps.{IsIdle};
@@ -102,25 +99,5 @@ impl<S: Start> Store<FileStore<FileFrom<S>>> {
         ensures works { IfOk result (λ store. store.failed ≡ false) }
     {
         opened(rt.alloc(), connect(rt, path, start))
-    }
-}
-
-impl<D: Disk + Drop> Store<FileStore<D>> {
-    /// Stops as a program that is killed does: what waited is gone, and the files aren't closed.
-    pub fn stop(self) -> FileStore<D>
-        ensures found { IsClean (files.view result) → ((trees : Trees) → (file_state self.conn).may_leave trees
-            → ((spool : Spool) × Holds spool trees))
-            → (left : Image) → (files.state self.conn.store).may_leave left → (now : Trees) → OpensFrom left now
-            → ∥ ((trees : Trees) × (file_state self.conn).may_leave trees × (now ≡ trees)) ∥₁ }
-        ensures leaves { IsClean (files.view result) → ((trees : Trees) → (file_state self.conn).may_leave trees
-            → ((spool : Spool) × Holds spool trees))
-            → (left : Image) → (files.state self.conn.store).may_leave left → ∥ ((trees : Trees)
-            × (file_state self.conn).may_leave trees × HoldsDatabase left trees) ∥₁ }
-        ensures committed { IsClean (files.view result) → IsTrue (file_state self.conn).is_open → (spool : Spool)
-            → Holds spool (file_state self.conn).committed.trees
-            → (left : Image) → (files.state self.conn.store).may_leave left → (now : Trees) → OpensFrom left now
-            → Holds spool now }
-    {
-        self.into_left()
     }
 }

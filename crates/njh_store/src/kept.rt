@@ -71,15 +71,6 @@ pub struct StoredRecord {
     pub bytes: Vec<u8>,
 }
 
-/// A whole file with its records, in their order.
-#[derive(Debug, Drop)]
-pub struct WholeFile {
-    /// The file under its number.
-    pub stored: StoredFile,
-    /// Its records.
-    pub records: Vec<StoredRecord>,
-}
-
 /// The values of a file's row, in the order of the columns.
 pub(crate) fn values_of_file(id: u32, file: &KeptFile) -> [ValueRef<'_>; 14]
     ensures { bound result ≡ file_values id (file_of file.now) }

@@ -1,12 +1,21 @@
-//! What becomes of the list of whole files.
+//! What becomes of the list of whole files, and what is left of it.
 
 ghost use Rattle.std.specs.Prelude.{◌≡◌, ◌<◌, ◌≤◌, ◌^◌, ◌==◌, ◌++◌, [], ◌∷◌, ℕ, Bool, not, true, false, if◌then◌else◌};
-ghost use Rattle.std.specs.Prelude.{filter, map};
+ghost use Rattle.std.specs.Prelude.{filter, map, IsTrue};
 ghost use Rattle.std.specs.List.{AllByRecursion};
-ghost use Rattle.njh_store.specs.Kept.{File, Record, Spool, Rise, IsNumbered, kept, whole_in, records_of};
+ghost use Rattle.sqlite.specs.Files.{file_state, HoldsDatabase};
+ghost use Rattle.sqlite.specs.Held.{Held};
+ghost use Rattle.sqlite.specs.Recovery.{Image};
+ghost use Rattle.sqlite.specs.Tree.{Trees};
+ghost use Rattle.sqlite_store.specs.FileStore as files;
+ghost use Rattle.sqlite_store.specs.declared.store.FileStore.{FileStore};
+ghost use Rattle.njh_store.specs.Kept.{File, Record, Spool, Holds, Rise, IsNumbered, kept, whole_in, records_of};
 ghost use Rattle.njh_store.specs.Kept.{record_number, with_file, with_changed, with_record, without_file};
 ghost use Rattle.njh_store.specs.Kept.{without_records};
 ghost use Rattle.njh_store.specs.Lists.{IsFree, has_file, kept_where};
+ghost use Rattle.njh_store.specs.Reopened.{OpensFrom};
+
+use sqlite_disk::Disk;
 
 /// A file whose number is above the others comes last.
 pub fn a_file_comes_last()
@@ -49,4 +58,22 @@ pub fn others_do_not_show()
     ensures { (passes : File → Bool) (id : ℕ) (file : File) (spool : Spool)
         → AllByRecursion (λ e. e.0 < id) spool.files → passes file ≡ false
         → kept_where passes (with_file id file spool) ≡ kept_where passes spool }
+{}
+
+/// Whoever opens the files that an open spool file may leave, at whatever moment, finds what a crash
+/// might leave of it, and so what was committed last. Its trees have to stand under their numbers, as
+/// those of one do that was stopped (`Store::stop`).
+pub fn what_is_left_is_found<D: Disk>()
+    ensures found { (conn : Held (FileStore D D.Disk)) → IsTrue (files.view conn.store).is_numbered
+        → ((trees : Trees) → (file_state conn).may_leave trees → ((spool : Spool) × Holds spool trees))
+        → (left : Image) → (files.state conn.store).may_leave left → (now : Trees) → OpensFrom left now
+        → ∥ ((trees : Trees) × (file_state conn).may_leave trees × (now ≡ trees)) ∥₁ }
+    ensures leaves { (conn : Held (FileStore D D.Disk)) → IsTrue (files.view conn.store).is_numbered
+        → ((trees : Trees) → (file_state conn).may_leave trees → ((spool : Spool) × Holds spool trees))
+        → (left : Image) → (files.state conn.store).may_leave left → ∥ ((trees : Trees)
+        × (file_state conn).may_leave trees × HoldsDatabase left trees) ∥₁ }
+    ensures committed { (conn : Held (FileStore D D.Disk)) → IsTrue (files.view conn.store).is_numbered
+        → IsTrue (file_state conn).is_open → (spool : Spool) → Holds spool (file_state conn).committed.trees
+        → (left : Image) → (files.state conn.store).may_leave left → (now : Trees) → OpensFrom left now
+        → Holds spool now }
 {}

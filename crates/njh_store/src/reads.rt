@@ -8,20 +8,16 @@ ghost use Rattle.sqlite.specs.Order.{column};
 ghost use Rattle.sqlite.specs.State.{HasCleanDisk, Survives, Shown};
 ghost use Rattle.sqlite.specs.Held.{state};
 ghost use Rattle.njh_store.specs.Kept.{Spool, Holds, File, Record, file_shown, record_shown, flag, entry_of};
-ghost use Rattle.njh_store.specs.Kept.{contents_of, contents, records_between, records_of, whole_of, whole_in, kept};
-ghost use Rattle.njh_store.specs.Kept.{AreVersions};
+ghost use Rattle.njh_store.specs.Kept.{AreVersions, contents_of, contents, records_between};
 ghost use Rattle.njh_store.specs.Steps.{IsReady, Stays};
 
-use crate::kept::{KeptFile, StoredFile, StoredRecord, WholeFile, values_of_places};
+use crate::kept::{KeptFile, StoredFile, StoredRecord, values_of_places};
 use sqlite::types::ValueRef;
 use sqlite::{Alter, Connection, Error, Row};
 use std::alloc::Global;
 
 /// The version of the tables that is read and written here.
 const VERSION: i64 = 1;
-
-/// A file has fewer records than this.
-const PLACES: u32 = 1 << 23;
 
 fn text_at(row: &Row, at: usize) -> Result<String, Error>
     ensures { IfOk result (λ text. (bytes : List ℕ) → column row.now at ≡ Text bytes → string_bytes text ≡ bytes) }
@@ -182,73 +178,6 @@ pub fn records<S: Alter>(
 {
     let rows = rows_of_records(conn, key, first, end)?;
     records_in(alloc, rows.as_slice())
-}
-
-/// All records of the file of this key, in their order.
-pub fn records_of_file<S: Alter>(
-    alloc: Global,
-    conn: &mut Connection<S>,
-    key: u32,
-) -> Result<Vec<StoredRecord>, Error>
-    requires ready { IsReady (state S.Store conn.old) }
-    ensures records { HasCleanDisk (state S.Store conn.new) → IfOk result (λ stored. (spool : Spool)
-        → Holds spool (state S.Store conn.old).now.trees → map contents_of stored.items
-        ≡ map contents (records_of key spool)) }
-    ensures same { HasCleanDisk (state S.Store conn.new) → OnOk result (Stays (state S.Store conn.old)
-        (state S.Store conn.new)) }
-    ensures crash { Survives (state S.Store conn.old) (state S.Store conn.new) (λ _. ⊥) }
-{
-    records(alloc, conn, key, 0, PLACES)
-}
-
-fn whole_file<S: Alter>(
-    alloc: Global,
-    conn: &mut Connection<S>,
-    row: &Row,
-) -> Result<WholeFile, Error>
-    requires ready { IsReady (state S.Store conn.old) }
-    ensures kept { HasCleanDisk (state S.Store conn.new) → IfOk result (λ whole. (spool : Spool) (e : ℕ × File)
-        → Holds spool (state S.Store conn.old).now.trees → row.now ≡ file_shown e → whole_of whole ≡ whole_in spool e) }
-    ensures same { HasCleanDisk (state S.Store conn.new) → OnOk result (Stays (state S.Store conn.old)
-        (state S.Store conn.new)) }
-    ensures crash { Survives (state S.Store conn.old) (state S.Store conn.new) (λ _. ⊥) }
-{
-    let stored = file_in(row)?;
-    let records = records_of_file(alloc, conn, stored.file.key)?;
-    Ok(WholeFile { stored, records })
-}
-
-fn whole_files<S: Alter>(
-    alloc: Global,
-    conn: &mut Connection<S>,
-    rows: &[Row],
-) -> Result<Vec<WholeFile>, Error>
-    requires ready { IsReady (state S.Store conn.old) }
-    ensures kept { HasCleanDisk (state S.Store conn.new) → IfOk result (λ whole. (spool : Spool) (files : List (ℕ
-        × File)) → Holds spool (state S.Store conn.old).now.trees → rows.now ≡ map file_shown files
-        → map whole_of whole.items ≡ map (whole_in spool) files) }
-    ensures same { HasCleanDisk (state S.Store conn.new) → OnOk result (Stays (state S.Store conn.old)
-        (state S.Store conn.new)) }
-    ensures crash { Survives (state S.Store conn.old) (state S.Store conn.new) (λ _. ⊥) }
-{
-    let mut whole = Vec::new(alloc);
-    'rows: for row in rows {
-        whole.push(whole_file(alloc, conn, row)?)?;
-    }
-    Ok(whole)
-}
-
-/// All whole files in the order of arrival, with their records.
-pub fn load<S: Alter>(alloc: Global, conn: &mut Connection<S>) -> Result<Vec<WholeFile>, Error>
-    requires ready { IsReady (state S.Store conn.old) }
-    ensures kept { HasCleanDisk (state S.Store conn.new) → IfOk result (λ whole. (spool : Spool)
-        → Holds spool (state S.Store conn.old).now.trees → map whole_of whole.items ≡ kept spool) }
-    ensures same { HasCleanDisk (state S.Store conn.new) → OnOk result (Stays (state S.Store conn.old)
-        (state S.Store conn.new)) }
-    ensures crash { Survives (state S.Store conn.old) (state S.Store conn.new) (λ _. ⊥) }
-{
-    let rows = rows_of_files(conn)?;
-    whole_files(alloc, conn, rows.as_slice())
 }
 
 fn rows_of_versions<S: Alter>(conn: &mut Connection<S>) -> Result<Vec<Row>, Error>

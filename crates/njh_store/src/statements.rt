@@ -1,7 +1,7 @@
 //! The statements of a spool, one a function.
 
-ghost use Rattle.std.specs.Prelude.{◌≡◌, ◌<◌, ◌≤◌, ◌^◌, IsTrue, OnOk, OnErr};
-ghost use Rattle.sqlite.specs.State.{HasCleanDisk, Survives, KeepsCommit};
+ghost use Rattle.std.specs.Prelude.{◌≡◌, ◌<◌, ◌≤◌, ◌^◌, IsTrue, OnOk};
+ghost use Rattle.sqlite.specs.State.{HasCleanDisk, Survives};
 ghost use Rattle.sqlite.specs.Held.{Held, state};
 ghost use Rattle.sqlite.specs.Tree.{Trees};
 ghost use Rattle.njh_store.specs.Kept.{file_of, record_of, with_file, with_record, without_file, without_records};
@@ -17,8 +17,6 @@ use sqlite::{Alter, Connection, Error};
 pub fn begin<S: Alter>(conn: &mut Connection<S>) -> Result<(), Error>
     ensures begun { HasCleanDisk (state S.Store conn.new) → OnOk result (Begins (state S.Store conn.old)
         (state S.Store conn.new)) }
-    ensures kept { HasCleanDisk (state S.Store conn.new) → OnErr result (KeepsCommit (state S.Store conn.old)
-        (state S.Store conn.new)) }
     ensures crash { Survives (state S.Store conn.old) (state S.Store conn.new) (λ _. ⊥) }
 {
     let _ = conn.execute("BEGIN", &[])?;
@@ -28,10 +26,6 @@ pub fn begin<S: Alter>(conn: &mut Connection<S>) -> Result<(), Error>
 /// Keeps what waits. At `Ok` a crash leaves it, and at `Err` what was kept before, or it.
 pub fn commit<S: Alter>(conn: &mut Connection<S>) -> Result<(), Error>
     ensures kept { HasCleanDisk (state S.Store conn.new) → OnOk result (Commits (state S.Store conn.old)
-        (state S.Store conn.new)) }
-    ensures durable { HasCleanDisk (state S.Store conn.new) → OnOk result ((trees : Trees)
-        → (state S.Store conn.new).may_leave trees → trees ≡ (state S.Store conn.old).now.trees) }
-    ensures failed { HasCleanDisk (state S.Store conn.new) → OnErr result (KeepsCommit (state S.Store conn.old)
         (state S.Store conn.new)) }
     ensures crash { Survives (state S.Store conn.old) (state S.Store conn.new) (λ trees. trees ≡
         (state S.Store conn.old).now.trees) }
@@ -45,8 +39,6 @@ pub fn add_file<S: Alter>(conn: &mut Connection<S>, id: u32, file: &KeptFile) ->
     requires ready { IsWriting spool_schema (state S.Store conn.old) }
     ensures added { HasCleanDisk (state S.Store conn.new)
         → OnOk result (Changes (with_file id (file_of file.now)) (state S.Store conn.old) (state S.Store conn.new)) }
-    ensures kept { HasCleanDisk (state S.Store conn.new) → OnErr result (KeepsCommit (state S.Store conn.old)
-        (state S.Store conn.new)) }
     ensures crash { Survives (state S.Store conn.old) (state S.Store conn.new) (λ _. ⊥) }
 {
     let values = values_of_file(id, file);
@@ -63,8 +55,6 @@ pub fn add_record<S: Alter>(conn: &mut Connection<S>, kept: &KeptRecord<'_>) -> 
     requires place { kept.now.place < 2 ^ 23 }
     ensures added { HasCleanDisk (state S.Store conn.new)
         → OnOk result (Changes (with_record (record_of kept.now)) (state S.Store conn.old) (state S.Store conn.new)) }
-    ensures kept { HasCleanDisk (state S.Store conn.new) → OnErr result (KeepsCommit (state S.Store conn.old)
-        (state S.Store conn.new)) }
     ensures crash { Survives (state S.Store conn.old) (state S.Store conn.new) (λ _. ⊥) }
 {
     let values = values_of_record(kept);
@@ -77,8 +67,6 @@ pub fn drop_file<S: Alter>(conn: &mut Connection<S>, id: u32) -> Result<(), Erro
     requires ready { IsWriting spool_schema (state S.Store conn.old) }
     ensures dropped { HasCleanDisk (state S.Store conn.new) → OnOk result (Changes (without_file id)
         (state S.Store conn.old) (state S.Store conn.new)) }
-    ensures kept { HasCleanDisk (state S.Store conn.new) → OnErr result (KeepsCommit (state S.Store conn.old)
-        (state S.Store conn.new)) }
     ensures crash { Survives (state S.Store conn.old) (state S.Store conn.new) (λ _. ⊥) }
 {
     let values = values_of_number(id);
@@ -97,8 +85,6 @@ pub fn drop_records<S: Alter>(
     requires places { (first ≤ 2 ^ 23) × (end ≤ 2 ^ 23) }
     ensures dropped { HasCleanDisk (state S.Store conn.new)
         → OnOk result (Changes (without_records key first end) (state S.Store conn.old) (state S.Store conn.new)) }
-    ensures kept { HasCleanDisk (state S.Store conn.new) → OnErr result (KeepsCommit (state S.Store conn.old)
-        (state S.Store conn.new)) }
     ensures crash { Survives (state S.Store conn.old) (state S.Store conn.new) (λ _. ⊥) }
 {
     let values = values_of_places(key, first, end);

@@ -3,23 +3,16 @@
 ghost use Rattle.std.specs.Prelude.{◌≡◌, ◌<◌, ◌≤◌, ◌^◌, true, false, map, IfOk, IsTrue, OnOk, OnErr};
 ghost use Rattle.sqlite.specs.State.{HasCleanDisk, Survives};
 ghost use Rattle.sqlite.specs.Held.{state};
-ghost use Rattle.sqlite.specs.Files.{file_state};
-ghost use Rattle.sqlite.specs.WalFiles.{outcomes};
-ghost use Rattle.sqlite.specs.Recovery.{Image};
-ghost use Rattle.sqlite.specs.Tree.{Trees};
-ghost use Rattle.sqlite_wal.specs.Reads.{AreClean};
-ghost use Rattle.njh_store.specs.Reopened.{OpensFrom};
 ghost use Rattle.sqlite_trees.specs.View.{IsClean};
 ghost use Rattle.njh_store.specs.Kept.{Spool, Holds, file_of, record_of, with_file, with_changed, with_record};
-ghost use Rattle.njh_store.specs.Kept.{without_file, without_records, whole_of, kept, entry_of, contents, contents_of};
+ghost use Rattle.njh_store.specs.Kept.{without_file, without_records, entry_of, contents, contents_of};
 ghost use Rattle.njh_store.specs.Kept.{records_between};
 ghost use Rattle.njh_store.specs.Shelf.{shown, IsUsable};
 ghost use Rattle.njh_store.specs.Steps.{Begins, Changes, Commits, Stays};
 
-use crate::kept::{KeptFile, KeptRecord, StoredFile, StoredRecord, WholeFile};
+use crate::kept::{KeptFile, KeptRecord, StoredFile, StoredRecord};
 use crate::{reads, statements};
-use sqlite::{Alter, Connection, Error, ErrorCode, FileStore, Files};
-use sqlite_disk::Disk;
+use sqlite::{Alter, Connection, Error, ErrorCode};
 use std::alloc::Global;
 use std::marker::Model;
 
@@ -30,7 +23,6 @@ pub struct Store<S: Alter> {
 }
 
 impl<S: Alter> Model for Store<S> {
-    ghost use Rattle.njh_store.specs.Standing.{Stands};
     ghost use Rattle.njh_store.specs.Shelf.{Shelf, shelf_code, IsSafe};
 
     ghost Value = { Shelf S };
@@ -50,24 +42,11 @@ impl<S: Alter + Drop> Drop for Store<S> {
 }
 
 impl<S: Alter + Drop> Store<S> {
-    /// What a program that is killed leaves.
-    pub(crate) fn into_left(self) -> S
+    /// Stops as a program that is killed does: what waited is gone, and the files aren't closed.
+    pub fn stop(self) -> S
         ensures { IsClean (S.Store.view result) → IsTrue (S.Store.view self.conn.store).is_numbered }
     {
         self.into_conn().into_store()
-    }
-}
-
-impl<D: Disk + Drop> Store<FileStore<D>> {
-    /// Leaves the last commit in the database file, and gives the files back. What waited is gone.
-    pub fn close(self) -> Result<Files<D>, (Error, FileStore<D>)>
-        ensures { IfOk result (λ files. AreClean D.Disk files.log files.db → (spool : Spool)
-            → Holds spool (file_state self.conn).committed.trees
-            → (left : Image) → outcomes D.Disk files.log files.db left → (now : Trees) → OpensFrom left now
-            → Holds spool now) }
-    {
-        let Store { conn, failed: _ } = self;
-        conn.close_files()
     }
 }
 
@@ -279,24 +258,6 @@ impl<S: Alter> Store<S> {
         let done = commit(&mut self.conn);
         self.failed = done.is_err();
         done
-    }
-
-    /// All whole files in the order of arrival, with their records.
-    pub fn load(&mut self, alloc: Global) -> Result<Vec<WholeFile>, Error>
-        ensures kept { HasCleanDisk (shown S.Store self.new) → IfOk result (λ whole. (spool : Spool)
-            → Holds spool (shown S.Store self.old).now.trees → map whole_of whole.items ≡ kept spool) }
-        ensures same { HasCleanDisk (shown S.Store self.new) → OnOk result (Stays (shown S.Store self.old)
-            (shown S.Store self.new)) }
-        ensures crash { Survives (shown S.Store self.old) (shown S.Store self.new) (λ _. ⊥) }
-        ensures failed { OnErr result (self.new.failed ≡ true) }
-        ensures works { OnOk result ((self.old.failed ≡ false) × (self.new.failed ≡ false)) }
-    {
-        if self.failed {
-            return Err(closed());
-        }
-        let whole = reads::load(alloc, &mut self.conn);
-        self.failed = whole.is_err();
-        whole
     }
 
     /// All whole files without their records, in the order of arrival.

@@ -119,7 +119,7 @@ impl<'a> SpoolFiles<'a> {
         }
         let mut store = Store::open(self.rt, self.left.as_str(), Unknown)?;
         let opened = hub_in(self.rt.alloc(), self.tables.as_str(), &mut store);
-        drop(store.stop().close());
+        kill(store);
         opened
     }
 }
@@ -136,5 +136,5 @@ fn hub_in(
 
 /// Lets go of a spool file as a program does that is killed.
 pub fn kill<S: Start>(store: Store<FileStore<FileFrom<S>>>) {
-    drop(store.stop().close());
+    drop(store);
 }

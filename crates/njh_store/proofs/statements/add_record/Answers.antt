@@ -4,7 +4,7 @@ use Rattle.sqlite.specs.Held.{state}
 use Rattle.sqlite.proofs.StateLemmas.{survives_weaker}
 use Rattle.njh_store.specs.Kept.{record_of}
 use Rattle.njh_store.proofs.Meaning.{insert_record, insert_record_is}
-use Rattle.njh_store.proofs.Runs.{on_err, fails_keep, adds_record, keeps_nothing}
+use Rattle.njh_store.proofs.Runs.{adds_record, keeps_nothing}
 use Rattle.njh_store.proofs.statements.add_record.Goals as goal
 
 pub returns-clause-added : goal.returns-clause-added
@@ -12,10 +12,6 @@ returns-clause-added g c clean =
     let early : HasCleanDisk (state g.S.Store c.args.conn.now) = omega (arith, c.execute.ensures.survives.clean) in
     adds_record (state g.S.Store c.args.conn.now) (state g.S.Store c.execute.new.self) (record_of c.args.kept.now) _ c.requires.place (c.requires.ready early).0 (c.requires.ready early).1
     (rw c.values_of_record-values.ensures at (c.in_ok-execute.ensures.runs clean))
-
-pub returns-in_err-execute-clause-kept : goal.returns-in_err-execute-clause-kept
-returns-in_err-execute-clause-kept g c clean =
-    on_err _ (fails_keep insert_record _ (state g.S.Store c.args.conn.now) (state g.S.Store c.execute.new.self) _ (c.in_err-execute.ensures.runs clean))
 
 pub returns-clause-crash : goal.returns-clause-crash
 returns-clause-crash g c =

@@ -3,7 +3,7 @@ use Rattle.sqlite.specs.State.{HasCleanDisk}
 use Rattle.sqlite.specs.Held.{state}
 use Rattle.sqlite.proofs.StateLemmas.{survives_weaker}
 use Rattle.njh_store.proofs.Meaning.{delete_records, delete_records_is}
-use Rattle.njh_store.proofs.Runs.{on_err, fails_keep, drops_records, keeps_nothing}
+use Rattle.njh_store.proofs.Runs.{drops_records, keeps_nothing}
 use Rattle.njh_store.proofs.statements.drop_records.Goals as goal
 
 pub returns-clause-dropped : goal.returns-clause-dropped
@@ -11,10 +11,6 @@ returns-clause-dropped g c clean =
     let early : HasCleanDisk (state g.S.Store c.args.conn.now) = omega (arith, c.execute.ensures.survives.clean) in
     drops_records (state g.S.Store c.args.conn.now) (state g.S.Store c.execute.new.self) c.args.key c.args.first c.args.end _ (c.requires.ready early).0 (c.requires.ready early).1
     (rw c.values_of_places-values.ensures at (c.in_ok-execute.ensures.runs clean))
-
-pub returns-in_err-execute-clause-kept : goal.returns-in_err-execute-clause-kept
-returns-in_err-execute-clause-kept g c clean =
-    on_err _ (fails_keep delete_records _ (state g.S.Store c.args.conn.now) (state g.S.Store c.execute.new.self) _ (c.in_err-execute.ensures.runs clean))
 
 pub returns-clause-crash : goal.returns-clause-crash
 returns-clause-crash g c =

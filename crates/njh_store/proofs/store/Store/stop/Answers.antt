@@ -1,6 +1,6 @@
 use Rattle.std.proofs.Common.{IsTrue, subst}
 use Rattle.sqlite.specs.Held.{Held}
-use Rattle.njh_store.proofs.store.Store.into_left.Goals as goal
+use Rattle.njh_store.proofs.store.Store.stop.Goals as goal
 
 pub returns : goal.returns
 returns g c clean =
