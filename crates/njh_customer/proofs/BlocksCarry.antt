@@ -1,13 +1,13 @@
 -- What a block carries of each stream's file, wherever the stream stands.
 use Rattle.njh_customer.proofs.Words
-use Words.{ℕ, Bool, true, false, cond, inl, inr, List, [], length, map, take, drop, get_or, find, Option, Some, None}
-use Words.{slice_get, nat_le, refl, sym, ap, subst, arith, eq-eqb, leb-true, leb-false, drop_all, length-drop}
-use Words.{length-take-le, filter-append, slice_get_cases, Stored, Item, all_suspended, rcb_of, CustomerSpool}
-use Words.{WholeFile, whole_numbered, State, CustomerEntry, goes_by, next_at, next_of, record_at, Sender, EofSent}
-use Words.{end_of_file, file_records, record_item, records_of, EachDoes, left, gives_up, asks, sends, is_under}
-use Words.{records_under, Filling, Source, after_source, data_item, filled_block, sends_file, sources, Carries, nothing}
-use Words.{on_its_way, to_its_end, Sends, Outgoing, with_file_state, records_numbered}
-use Rattle.std.proofs.Common.{◌≡◌, ◌<◌, ◌≤◌, ◌-◌, ◌==◌, ◌⊎◌, ◌∷◌, ◌++◌, ◌∙◌}
+use Words.{ℕ, Bool, true, false, cond, inl, inr, List, [], length, map, take, drop, find, Option, Some, None, slice_get}
+use Words.{nat_le, refl, sym, ap, subst, arith, eq-eqb, leb-true, leb-false, drop_all, length-drop, length-take-le}
+use Words.{filter-append, slice_get_cases, Stored, Item, all_suspended, rcb_of, CustomerSpool, WholeFile}
+use Words.{whole_numbered, State, CustomerEntry, goes_by, next_at, next_of, record_at, Sender, EofSent, end_of_file}
+use Words.{file_records, record_item, records_of, EachDoes, left, gives_up, asks, sends, is_under, records_under}
+use Words.{Filling, Source, after_source, data_item, filled_block, sends_file, sources, Carries, nothing, on_its_way}
+use Words.{to_its_end, Sends, Outgoing, with_file_state, records_numbered}
+use Rattle.std.proofs.Common.{◌≡◌, ◌<◌, ◌≤◌, ◌-◌, ◌==◌, ◌∷◌, ◌++◌, ◌∙◌}
 use Rattle.{njh_stream.specs.declared.sender.Sender.TheVariants.Sending, njh_sched.specs.Laws.Does}
 use Rattle.{njh_sched.specs.NextBlock.{after_sources, sender_at}, njh_customer.proofs.DoingLaws.BlocksCarry}
 use Rattle.njh_customer.proofs.SendingMoves.{AreOfEight, GivesOne, out_of, sources_eight, stream_now, gives}
@@ -67,12 +67,10 @@ no_record : (n p : ℕ) (s : CustomerSpool) → length (file_records n s) ≤ p 
 no_record n p s past = at_file (whole_numbered n s) past
   where
     none : (records : List Stored) → length records ≤ p → slice_get records p ≡ None
-    none records h = at_place (slice_get_cases records p).1
-      where
-        at_place : ((r : Stored) × (p < length records) × (slice_get records p ≡ Some r) × (get_or records p r ≡ r))
-            ⊎ ((length records ≤ p) × (slice_get records p ≡ None)) → slice_get records p ≡ None
-        at_place (inl found) = absurd (omega (arith, found.1))
-        at_place (inr past) = past.1
+    none records h = elim ((slice_get_cases records p).1) [
+      | inl found ↦ absurd (omega (arith, found.1))
+      | inr past ↦ past.1
+    ]
 
     at_file : (o : Option WholeFile) → length (records_of o) ≤ p → record_where p o ≡ None
     at_file None h = refl

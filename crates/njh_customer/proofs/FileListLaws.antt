@@ -1,10 +1,10 @@
 -- Lists of whole files: which of them are there, by their numbers, after a change.
 use Rattle.njh_customer.proofs.Words
-use Words.{cond_both, ℕ, zero, suc, Bool, true, false, cond, not, inl, inr, List, [], length, map, filter, replicate}
-use Words.{get_or, refl, sym, ap, arith, Some, ap₂, find, sum, count_by, eq-eqb, subst, set, eqb-true, get_or-map}
-use Words.{get_or_default, length-map, Contains-append_right, Contains-get_or, All-contains, filter_passes}
-use Words.{sum_by-filter_both, list_any_at, sum-map, sum_by-cons, map-map, Contains, list_any, sum_by, WholeFile, State}
-use Words.{only_found, ready, changed_file, may_change, with_file_state}
+use Words.{cases_Bool, not_from_false, cond_both, ℕ, zero, suc, Bool, true, false, cond, not, inl, inr, List, []}
+use Words.{length, map, filter, replicate, get_or, refl, sym, ap, arith, Some, ap₂, find, sum, count_by, eq-eqb, subst}
+use Words.{set, eqb-true, get_or-map, get_or_default, length-map, Contains-append_right, Contains-get_or, All-contains}
+use Words.{filter_passes, sum_by-filter_both, list_any_at, sum-map, sum_by-cons, map-map, Contains, list_any, sum_by}
+use Words.{WholeFile, State, only_found, ready, changed_file, may_change, with_file_state}
 use Rattle.std.proofs.Common.{◌≡◌, ◌<◌, ◌==◌, ◌||◌, ◌⊎◌, ◌∷◌, ◌∙◌, ◌+◌, ◌≤◌}
 
 -- a list of copies holds nothing else
@@ -201,22 +201,14 @@ any_there n fs (f, (i, inside, e), is) = list_any_at (λ g. g.number == n) fs i 
 abbrev pub Gone : (WholeFile → Bool) → ℕ → List WholeFile → Type 0
 Gone p n fs = (f : WholeFile) × Contains fs f × (f.number ≡ n) × (p f ≡ true)
 
-gone_later : (p : WholeFile → Bool) (n : ℕ) (f : WholeFile) (fs : List WholeFile) → Gone p n fs → Gone p n (f ∷ fs)
-gone_later p n f fs gone = (gone.0, Contains-append_right (f ∷ []) fs gone.0 gone.1, gone.2, gone.3)
-
 pub one_gone : (p : WholeFile → Bool) (n : ℕ) (fs : List WholeFile) → any_numbered n fs ≡ true
     → any_numbered n (filter (λ f. not (p f)) fs) ≡ false → Gone p n fs
-one_gone p n [] there gone = absurd (cc there)
-one_gone p n (f ∷ fs) there gone = at_first (f.number == n) (p f) refl refl there gone (one_gone p n fs)
-  where
-    left : List WholeFile
-    left = filter (λ g. not (p g)) fs
-
-    at_first : (b c : Bool) → (f.number == n) ≡ b → p f ≡ c → (b || any_numbered n fs) ≡ true
-        → any_numbered n (cond (not c) (f ∷ left) left) ≡ false
-        → (any_numbered n fs ≡ true → any_numbered n left ≡ false → Gone p n fs) → Gone p n (f ∷ fs)
-    at_first true true e h there gone later = (f, (0, omega arith, refl), eqb-true f.number n e, h)
-    at_first true false e h there gone later = absurd (cc (ap (λ b. b || any_numbered n left) (sym e) ∙ gone))
-    at_first false true e h there gone later = gone_later p n f fs (later there gone)
-    at_first false false e h there gone later = gone_later p n f fs
-        (later there (ap (λ b. b || any_numbered n left) (sym e) ∙ gone))
+one_gone p n fs there gone =
+    let found = has_one n fs there in
+    let stays : WholeFile → Bool = λ f. not (p f) in
+    elim (cases_Bool (p found.0)) [
+      | inl passes ↦ (found.0, found.1, found.2, passes)
+      | inr fails ↦
+          let left = into_filter stays fs found.0 found.1 (not_from_false (p found.0) fails) in
+          absurd (cc (sym (any_there n (filter stays fs) (found.0, left, found.2)) ∙ gone))
+    ]

@@ -1,16 +1,16 @@
 -- How a stream from the hub moves.
 use Rattle.njh_customer.proofs.Words
-use Words.{ℕ, Bool, true, false, inl, inr, List, [], length, map, set, get_or, replicate, filter, find, not, cond}
-use Words.{Option, Some, None, refl, sym, ap, subst, arith, eqb-true, get_or-map, cases_lt, get_or_past}
+use Words.{and_parts, no_file, ℕ, Bool, true, false, inl, inr, List, [], length, map, set, get_or, replicate, filter}
+use Words.{find, not, Option, Some, None, refl, sym, ap, subst, arith, eqb-true, get_or-map, cases_lt, get_or_past}
 use Words.{get_or-set_same, length-map, length-set, Contains-append_right, Contains, User, Item, kind_of, FileName}
 use Words.{WholeFile, CustomerEntry, entry_marked, after_abort, file_in, goes_by, Sender, Requested, EofSent, Aborting}
 use Words.{may_go, aborted_where, is_of_name, is_about, is_busy, is_sending, without_file, Cancel, IsAbout, Acts}
 use Words.{Records, Routes, Moves, by_record, by_sending, by_end, Sends, Tells, Commands, Over, busy_numbers}
 use Words.{without_files, StreamMoves, StreamsMoveSo, IdleStreamsTakeFiles, IsMovedAlone, Outgoing, each_stream}
 use Words.{with_file_state, sender_on, streams_of, with_files, with_sender_on, without_numbered}
-use Rattle.std.proofs.Common.{◌≡◌, ◌+◌, ◌⊎◌, ◌∷◌, ◌&&◌, ◌==◌, ◌∙◌, ◌<◌}
+use Rattle.njh_customer.proofs.FileListLaws.{from_map, from_filter, passes_filter, copies, set_one}
+use Rattle.std.proofs.Common.{◌≡◌, ◌+◌, ◌⊎◌, ◌∷◌, ◌==◌, ◌∙◌, ◌<◌}
 use Rattle.njh_stream.specs.declared.sender.Sender.TheVariants.{Idle, Sending}
-use Rattle.njh_customer.proofs.FileListLaws.{copies, first_or_later, set_one}
 use Rattle.njh_spool.specs.declared.State.TheVariants as state
 use Rattle.njh_customer.specs.Moves as moves
 use Rattle.njh_customer.specs.MovingLaws as laws
@@ -94,26 +94,11 @@ all_give_up j k (n ∷ ns) x =
 -- the number of one that is being sent is that of a file that passes the test
 pub busy_one : (p : WholeFile → Bool) (files : List WholeFile) (n : ℕ) → Contains (busy_numbers p files) n
     → (f : WholeFile) × Contains files f × (p f ≡ true) × (n ≡ f.number)
-busy_one p [] n at = absurd (omega arith)
-busy_one p (g ∷ files) n at = at_tests (p g) (is_sending g.state) refl at (busy_one p files n)
-  where
-    IsFoundIn : List WholeFile → Type 0
-    IsFoundIn fs = (f : WholeFile) × Contains fs f × (p f ≡ true) × (n ≡ f.number)
-
-    later : IsFoundIn files → IsFoundIn (g ∷ files)
-    later found = (found.0, Contains-append_right (g ∷ []) files found.0 found.1, found.2, found.3)
-
-    at_first : p g ≡ true → (g.number ≡ n) ⊎ Contains (busy_numbers p files) n
-        → (Contains (busy_numbers p files) n → IsFoundIn files) → IsFoundIn (g ∷ files)
-    at_first passes (inl first) rest = (g, (0, omega arith, refl), passes, sym first)
-    at_first passes (inr there) rest = later (rest there)
-
-    at_tests : (a b : Bool) → p g ≡ a
-        → Contains (map (λ f. f.number) (cond (a && b) (g ∷ filter (is_busy p) files) (filter (is_busy p) files))) n
-        → (Contains (busy_numbers p files) n → IsFoundIn files) → IsFoundIn (g ∷ files)
-    at_tests true true passes there rest = at_first passes (first_or_later g.number (busy_numbers p files) n there) rest
-    at_tests true false passes there rest = later (rest there)
-    at_tests false b passes there rest = later (rest there)
+busy_one p files n at =
+    let found = from_map (λ f. f.number) (filter (is_busy p) files) no_file n at in
+    let there = from_filter (is_busy p) files found.0 found.1 in
+    let passes = passes_filter (is_busy p) files found.0 found.1 in
+    (found.0, there, (and_parts (p found.0) (is_sending found.0.state) passes).0, found.2)
 
 -- ---- each move
 

@@ -7,11 +7,10 @@ use Words.{max_arrived, State, CustomerEntry, entry_marked, entries_of_routes, h
 use Words.{ReroutesNameNodes, changed_file, file_in_state, is_of_name, may_change, without_file, with_new_destination}
 use Words.{Acts, Coming, Records, Routes, nowhere, onward, Moves, MovesBy, by_record, by_sending, by_end, Sends}
 use Words.{without_files, busy_numbers, with_changed, EventsMoveSo, TakesMoveSo, coming, entry_with, Outgoing}
-use Words.{each_stream, with_arrival, with_file_state, with_files, without_numbered, outgoing, part_after_bytes}
-use Words.{OwnBytes, alone_run, event_run, IsRerouted, as_before, to_node, IsStill, Survive, stays, leaves, FilesGoOn}
-use Words.{FilesSurvive, EventsKeepFiles, TakesKeepFiles, FirstFilesSurvive, FilesGoOnFurther, RunsKeepFiles}
-use Words.{SurvivorsAreNumbered}
-use Rattle.{std.proofs.Common.{◌≡◌, ◌<◌, ◌≤◌, ◌-◌, ◌==◌, ◌⊎◌, ◌∷◌, ◌++◌, ◌∙◌}, njh_customer.specs.Surviving.none}
+use Words.{each_stream, with_arrival, with_file_state, with_files, outgoing, part_after_bytes, OwnBytes, alone_run}
+use Words.{event_run, IsRerouted, as_before, to_node, IsStill, Survive, stays, leaves, FilesGoOn, FilesSurvive}
+use Words.{EventsKeepFiles, TakesKeepFiles, FirstFilesSurvive, FilesGoOnFurther, RunsKeepFiles, SurvivorsAreNumbered}
+use Rattle.{std.proofs.Common.{◌≡◌, ◌<◌, ◌≤◌, ◌-◌, ◌==◌, ◌∷◌, ◌++◌, ◌∙◌}, njh_customer.specs.Surviving.none}
 use Rattle.njh_customer.proofs.{FileListLaws.{first_or_later, found_numbered}, RecordsChange.without_files_files}
 use Rattle.njh_spool.specs.declared.State.TheVariants as state
 use Rattle.njh_customer.specs.Moves as moves
@@ -293,14 +292,11 @@ was_there _ _ none g at = absurd (omega arith)
 was_there _ _ (leaves f fs gs more) g at =
     let found = was_there fs gs more g at in
     (found.0, Contains-append_right (f ∷ []) fs found.0 found.1, found.2)
-was_there _ _ (stays f h fs gs one more) g at = at_first (first_or_later h gs g at) (was_there fs gs more g)
-  where
-    at_first : (h ≡ g) ⊎ Contains gs g → (Contains gs g → (e : WholeFile) × Contains fs e × IsStill e g)
-        → (e : WholeFile) × Contains (f ∷ fs) e × IsStill e g
-    at_first (inl same) rest = (f, (0, omega arith, refl), subst (IsStill f) same one)
-    at_first (inr later) rest =
-        let found = rest later in
-        (found.0, Contains-append_right (f ∷ []) fs found.0 found.1, found.2)
+was_there _ _ (stays f h fs gs one more) g at = elim (first_or_later h gs g at) [
+  | inl same ↦ (f, (0, omega arith, refl), subst (IsStill f) same one)
+  | inr later ↦ let found = was_there fs gs more g later in
+      (found.0, Contains-append_right (f ∷ []) fs found.0 found.1, found.2)
+]
 
 pub numbered_survivors : SurvivorsAreNumbered
 numbered_survivors files still now survive once at =

@@ -2,8 +2,7 @@
 use Rattle.{std.proofs.Common.{◌≡◌, true, false, sym, subst, ap, ◌∙◌, rules}, njh_line.specs.LineTable.Block}
 use Rattle.{njh_line.specs.Openings.shown_first, njh_customer.specs.Alone.{accepted_on, after_block, block_input}}
 use Rattle.njh_customer.specs.{Alone.verdict_on, CustomerSteps.{ChangesMarks, customer_of}}
-use Rattle.njh_customer.proofs.{CoherenceLaws.records_keep}
-use Rattle.njh_customer.proofs.{ReadyLaws.{made_by, sent_by_block}, SessionLaws.block_stays}
+use Rattle.njh_customer.proofs.{CoherenceLaws.records_keep, ReadyLaws.{made_by, sent_by_block}, SessionLaws.block_stays}
 use Rattle.njh_customer.proofs.shared.Shared.take_block.Goals as goal
 
 pub returns-then-act_where : goal.returns-then-act_where
