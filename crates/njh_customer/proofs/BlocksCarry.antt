@@ -1,7 +1,7 @@
 -- What a block carries of each stream's file, wherever the stream stands.
 use Rattle.njh_customer.proofs.Words
-use Words.{ℕ, Bool, true, false, cond, inl, inr, List, [], length, map, take, drop, find, Option, Some, None, slice_get}
-use Words.{nat_le, refl, sym, ap, subst, arith, eq-eqb, leb-true, leb-false, drop_all, length-drop, length-take-le}
+use Words.{cases_Bool, cases_lt, ℕ, Bool, true, false, cond, inl, inr, List, [], length, map, take, drop, find, Option}
+use Words.{Some, None, slice_get, refl, sym, ap, subst, arith, eq-eqb, drop_all, length-drop, length-take-le}
 use Words.{filter-append, slice_get_cases, Stored, Item, all_suspended, rcb_of, CustomerSpool, WholeFile}
 use Words.{whole_numbered, State, CustomerEntry, goes_by, next_at, next_of, record_at, Sender, EofSent, end_of_file}
 use Words.{file_records, record_item, records_of, EachDoes, left, gives_up, asks, sends, is_under, records_under}
@@ -137,19 +137,15 @@ module _ (in_order : CarriesInOrder) (quiet : IsQuiet) (each : SourcesMove) (fil
   behind_filled : (entry : CustomerEntry) (l k n p : ℕ) (base : List (List Sender)) (x : Filling) → l < length base
       → k < 8 → k < length x.outlet.senders → x.block.items ≡ [] → sender_at k x.outlet ≡ Sending n p
       → length (file_records n x.spool) ≤ p → Behind k n p (filled_block (goes_by entry l) x)
-  behind_filled entry l k n p base x inside few in_line none at past = at_suspended
-      (all_suspended x.outlet.peer_fcs) refl
-    where
-      begins : Behind k n p x
-      begins = stays at (ap (records_under (rcb_of k)) none)
-
-      at_suspended : (b : Bool) → all_suspended x.outlet.peer_fcs ≡ b → Behind k n p (filled_block (goes_by entry l) x)
-      at_suspended true e = subst (Behind k n p) (sym (nothing_goes (goes_by entry l) x e)) begins
-      at_suspended false e =
-          let all = sources x.block.limit x.outlet in
-          subst (Behind k n p) (sym (fill (goes_by entry l) x e))
-          (behind_all entry l k n p base inside all x (sources_eight x.block.limit x.outlet) past begins
-          (each (goes_by entry l) k all x few in_line))
+  behind_filled entry l k n p base x inside few in_line none at past =
+      let begins : Behind k n p x = stays at (ap (records_under (rcb_of k)) none) in
+      let all = sources x.block.limit x.outlet in
+      elim (cases_Bool (all_suspended x.outlet.peer_fcs)) [
+        | inl e ↦ subst (Behind k n p) (sym (nothing_goes (goes_by entry l) x e)) begins
+        | inr e ↦ subst (Behind k n p) (sym (fill (goes_by entry l) x e))
+            (behind_all entry l k n p base inside all x (sources_eight x.block.limit x.outlet) past begins
+            (each (goes_by entry l) k all x few in_line))
+      ]
 
   pub blocks_carry : BlocksCarry
   blocks_carry entry l k base x inside few in_line none = at_sender (sender_at k x.outlet) refl
@@ -188,17 +184,15 @@ module _ (in_order : CarriesInOrder) (quiet : IsQuiet) (each : SourcesMove) (fil
           (items ∙ ap (λ rs. map (record_item k) rs ++ end_of_file k ∷ [])
           (sym (drop_all p (file_records n x.spool) over)))
 
-      at_place : (n p : ℕ) → sender_at k x.outlet ≡ Sending n p → (b : Bool)
-          → nat_le p (length (file_records n x.spool)) ≡ b
+      at_place : (n p : ℕ) → sender_at k x.outlet ≡ Sending n p
           → Carries l k y.block.items (out_of l base x) (out_of l base y)
-      at_place n p at true e =
-          let fits = leb-true p (length (file_records n x.spool)) e in
-          within n p at fits (in_order (goes_by entry l) k n p x few in_line at fits)
-      at_place n p at false e = let over : length (file_records n x.spool) ≤ p = omega
-          (arith, leb-false p (length (file_records n x.spool)) e) in
-          past n p at over (behind_filled entry l k n p base x inside few in_line none at over)
+      at_place n p at = elim (cases_lt (length (file_records n x.spool)) p) [
+        | inl below ↦ let over : length (file_records n x.spool) ≤ p = omega arith in
+            past n p at over (behind_filled entry l k n p base x inside few in_line none at over)
+        | inr fits ↦ within n p at fits (in_order (goes_by entry l) k n p x few in_line at fits)
+      ]
 
       at_sender : (s : Sender) → sender_at k x.outlet ≡ s → Carries l k y.block.items (out_of l base x)
           (out_of l base y)
-      at_sender (Sending n p) at = at_place n p at (nat_le p (length (file_records n x.spool))) refl
+      at_sender (Sending n p) at = at_place n p at
       at_sender s at = still s at refl

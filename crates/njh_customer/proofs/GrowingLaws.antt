@@ -31,13 +31,12 @@ come_then :
     (j k : ℕ) (x y : List PartialFile) → ((f : PartialFile) → Contains y f → HasCome j x f.number f.kind f.records)
     → (n : ℕ) (kind : Kind) (rs : List Stored) → HasCome k y n kind rs → HasCome (j + k) x n kind rs
 come_then j k x y each n kind rs (few short) = few (omega arith)
-come_then j k x y each n kind rs (goes_on f more at number same short is) = at_file (each f at)
-  where
-    at_file : HasCome j x f.number f.kind f.records → HasCome (j + k) x n kind rs
-    at_file (few less) = few (omega (arith, ap (λ (all : List Stored). length all) is, length-append f.records more))
-    at_file (goes_on e first there before_number before_kind less was) =
-        goes_on e (first ++ more) there (before_number ∙ number) (before_kind ∙ same)
-        (omega (arith, length-append first more)) (is ∙ ap (λ all. all ++ more) was ∙ append_assoc e.records first more)
+come_then j k x y each n kind rs (goes_on f more at number same short is) = elim (each f at) [
+  | few less ↦ few (omega (arith, ap (λ (all : List Stored). length all) is, length-append f.records more))
+  | goes_on e first there before_number before_kind less was ↦
+      goes_on e (first ++ more) there (before_number ∙ number) (before_kind ∙ same)
+      (omega (arith, length-append first more)) (is ∙ ap (λ all. all ++ more) was ∙ append_assoc e.records first more)
+]
 
 -- a partial file that stays
 pub left_come : (before : List PartialFile) (f : PartialFile) → Contains before f

@@ -1,16 +1,16 @@
 -- A line that isn't up has no stream about a file and no answer that waits, and SYSOUT 4 counts as served last.
 use Rattle.njh_customer.proofs.Words
-use Words.{cases_Bool, cases_lt, inl, inr, is_next, ℕ, Bool, true, false, List, length, set, get_or, None, refl, sym}
-use Words.{ap, subst, arith, eqb-true, get_or-map, map-set_same, eqb-false, get_or-set_at, get_or-set_same}
-use Words.{get_or-set_other, length-map, length-set, get_or_past, All-map, Item, CustomerSpool, CustomerEntry, file_in}
-use Words.{Receiver, without_file, is_up, Input, after_end, after_input, with_answer, with_message, InputsKeepUp}
-use Words.{KeepsUp, Phase, Down, Config, LineReply, without_sending, with_senders_by, all_acted, acted_where}
-use Words.{with_idle_streams, replied_to, session_over, session_over_where, session_ended, carried_out, verdict_on}
-use Words.{accepted_on, after_line_input, block_input, behind_records, after_frame, after_signal, Customer}
-use Words.{CustomerLine, no_customer_line, line_at, on_line, in_state, with_notice, with_receiver, with_sender}
-use Words.{config_of, fresh_customer, idle_line, receiver_at, IsIdle, IdleUnlessUp, phase_of, sending_of_reply}
-use Words.{with_waiting, Signal}
-use Rattle.{std.proofs.Common.{◌≡◌, ◌<◌, ◌==◌, ◌∙◌}, njh_bisync.specs.Frames.Received, njh_line.specs.LineTable.none}
+use Words.{cases_eq, cases_Bool, cases_lt, inl, inr, is_next, ℕ, Bool, true, false, List, length, set, get_or, None}
+use Words.{refl, sym, ap, subst, arith, get_or-map, map-set_same, get_or-set_at, get_or-set_same, get_or-set_other}
+use Words.{length-map, length-set, get_or_past, All-map, Item, CustomerSpool, CustomerEntry, file_in, Receiver}
+use Words.{without_file, is_up, Input, after_end, after_input, with_answer, with_message, InputsKeepUp, KeepsUp, Phase}
+use Words.{Down, Config, LineReply, without_sending, with_senders_by, all_acted, acted_where, with_idle_streams}
+use Words.{replied_to, session_over, session_over_where, session_ended, carried_out, verdict_on, accepted_on}
+use Words.{after_line_input, block_input, behind_records, after_frame, after_signal, Customer, CustomerLine}
+use Words.{no_customer_line, line_at, on_line, in_state, with_notice, with_receiver, with_sender, config_of}
+use Words.{fresh_customer, idle_line, receiver_at, IsIdle, IdleUnlessUp, phase_of, sending_of_reply, with_waiting}
+use Words.{Signal}
+use Rattle.{std.proofs.Common.{◌≡◌, ◌<◌, ◌∙◌}, njh_bisync.specs.Frames.Received, njh_line.specs.LineTable.none}
 use Rattle.{njh_line.specs.declared.verdict.Verdict.Verdict, njh_customer.specs.Customer.sender_at}
 use Rattle.njh_customer.proofs.{FileListLaws.copies, LineWalks.{StaysOnLines, record_on_lines}}
 use Rattle.njh_customer.proofs.{RecordsDo.acted_where_so, ReplyLaws.reply_lasting, StepWalks.frame_holds}
@@ -38,15 +38,13 @@ set_others l x lines rest m other there down =
 
 set_rests : (l : ℕ) (x : CustomerLine) (lines : List CustomerLine) → OthersRest l lines
     → (l < length lines → is_up (phase_of x) ≡ false → IsIdle x) → IdleUnlessUp (set lines l x)
-set_rests l x lines rest here m there down = at (m == l) refl
-  where
-    at : (b : Bool) → (m == l) ≡ b → IsIdle (line_at m (set lines l x))
-    at true e =
-        let same : m ≡ l = eqb-true m l e in
-        let inside : l < length lines = omega (arith, length-set lines l x) in
-        let it : line_at m (set lines l x) ≡ x = get_or-set_at lines l m x no_customer_line same inside in
-        subst IsIdle (sym it) (here inside (ap (λ y. is_up (phase_of y)) (sym it) ∙ down))
-    at false e = set_others l x lines rest m (eqb-false m l e) there down
+set_rests l x lines rest here m there down = elim (cases_eq m l) [
+  | inl same ↦
+      let inside : l < length lines = omega (arith, length-set lines l x) in
+      let it : line_at m (set lines l x) ≡ x = get_or-set_at lines l m x no_customer_line same inside in
+      subst IsIdle (sym it) (here inside (ap (λ y. is_up (phase_of y)) (sym it) ∙ down))
+  | inr other ↦ set_others l x lines rest m other there down
+]
 
 -- ---- what a record does, on a line that is up
 

@@ -45,11 +45,10 @@ marked_still m n fs restful g at same =
 
 ended_still : (x : Sender) (n : ℕ) (s : CustomerSpool) → RestReady n s.whole
     → RestReady n (spool_after_session x s).whole
-ended_still x n s restful = at_file (file_in x)
-  where
-    at_file : (o : Option ℕ) → RestReady n (ended_where o s).whole
-    at_file None = restful
-    at_file (Some m) = marked_still m n s.whole restful
+ended_still x n s restful = elim (file_in x) as (λ o. RestReady n (ended_where o s).whole) [
+  | None ↦ restful
+  | Some m ↦ marked_still m n s.whole restful
+]
 
 -- the files that streams are about are Ready at rest, and so is what the end of these streams makes of them
 all_ended_at_rest : (xs : List Sender) (s : CustomerSpool) → ((k n : ℕ) → file_in (get_or xs k sender.Idle) ≡ Some n

@@ -5,8 +5,8 @@ pub use Rattle.std.proofs.Common.{filter, find, fold, get_or, inl, inr, length, 
 pub use Rattle.std.proofs.Common.{not-suc-le-zero, option_map, refl, replicate, rules, set, set-set, slice_get}
 pub use Rattle.std.proofs.{Common.{slice_set, subst, suc, sum, sym, take, true, zero, ℕ}, Math.ListN.get_or-map}
 pub use Rattle.std.proofs.{Math.Seq.map-set_same, lemmas.Bool.{and_parts, cases_Bool, cases_eq, cases_lt, ne_eqb}}
-pub use Rattle.std.proofs.lemmas.Bool.{cond_both, eqb-false, false≢true, leb-false, leb-true, ltb-false, ltb-true}
-pub use Rattle.std.proofs.lemmas.{Bool.{not-true, not_from_false, or_parts}, Grind.get_or-set_at, List.drop_all}
+pub use Rattle.std.proofs.lemmas.Bool.{cond_both, eqb-false, false≢true, leb-true, ltb-false, ltb-true, not-true}
+pub use Rattle.std.proofs.lemmas.{Bool.{not_from_false, or_parts}, Grind.get_or-set_at, List.drop_all}
 pub use Rattle.std.proofs.lemmas.List.{get_or-set_other, get_or-set_same, get_or_default, get_or_past, length-drop}
 pub use Rattle.std.proofs.lemmas.List.{length-map, length-replicate, length-set, length-take-le, map-set, map_more}
 pub use Rattle.std.proofs.lemmas.List.{set-get_or, take-append-le, take_all, Elements.{All-contains, All-filter}}
