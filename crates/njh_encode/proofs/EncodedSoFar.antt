@@ -6,7 +6,7 @@ use Rattle.std.specs.Io.KnownBytes.{Appends, Consumes, IsAtEnd, ReadConsumes}
 use Rattle.std.proofs.KnownBytes.{Appends-nil, Appends-trans, Consumes-nil, Consumes-trans, Consumes-whole}
 use Rattle.njh_io.specs.Written.{AppendsBeginning}
 use Rattle.njh_encode.specs.declared.fault.EncodeFault.{EncodeFault}
-use Rattle.njh_encode.specs.Lines.{lines_from}
+use Rattle.njh_io.specs.Lines.{lines_from}
 use Rattle.njh_encode.specs.Scripts.{Becomes, Encoding, IsEncodedInPart, IsEncodedTo, Texts, behind_script, encoding_of_lines}
 use Rattle.njh_encode.specs.code.Reading.{BecomesBehind, EndsBad, IsWritten, IsWrittenInPart, Progress, Takes}
 use Rattle.njh_encode.proofs.LineLaws.{becomes, some_texts}

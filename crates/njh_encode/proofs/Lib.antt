@@ -4,7 +4,6 @@ mod FrameBackLaws
 mod LineLaws
 mod OrderLaws
 mod PackingLaws
-mod PartLaws
 mod PostedLaws
 mod ReadBackLaws
 mod ReadingLaws

@@ -1,10 +1,10 @@
--- The lines of a text that comes in pieces.
-use Rattle.std.proofs.Common.{◌≡◌, ℕ, ◌+◌, ◌<◌, ◌≤◌, Bool, true, false, eqb, List, [], ◌∷◌, ◌++◌, length, sym, ap, ◌∙◌}
-use Rattle.std.proofs.Common.{append_assoc, append-nil, length-append, arith, cond, refl, subst}
+-- What the lines of a text become.
+use Rattle.std.proofs.Common.{◌≡◌, ℕ, ◌+◌, ◌<◌, ◌≤◌, Bool, true, false, List, [], ◌∷◌, length, sym, ap, ◌∙◌}
+use Rattle.std.proofs.Common.{cond, refl, subst}
 use Rattle.std.proofs.Common.{Option, None, Some, Result, Ok, Err}
 use Rattle.std.specs.List.{All, AllByRecursion}
 use Rattle.std.specs.Str.{IsUtf8, is_utf8}
-use Rattle.std.proofs.lemmas.Bool.{false_from_ne_true, le-ltb, lt-ltb}
+use Rattle.std.proofs.lemmas.Bool.{false_from_ne_true, false≢true, le-ltb, lt-ltb, ltb-true}
 use Rattle.std.proofs.lemmas.List.Elements.{recursion_from_All}
 use Rattle.std.proofs.lemmas.Str.{IsUtf8-from_is_utf8, is_utf8-from_IsUtf8}
 use Rattle.njh_encode.specs.declared.fault.Reason.{Reason}
@@ -12,26 +12,12 @@ use Rattle.njh_encode.specs.declared.fault.Reason.TheVariants.{LongLine, NoText}
 use Rattle.njh_encode.specs.declared.letters.LetterFault.{LetterFault}
 use Rattle.njh_encode.specs.declared.letters.LetterFault.TheVariants.{NoFile}
 use Rattle.njh_encode.specs.declared.line_states.LineState.{LineState}
-use Rattle.njh_encode.specs.Lines.{is_long_line, last_line, lines_from, lines_of, max_line_bytes}
+use Rattle.njh_io.specs.Lines.{is_first_long, is_long_line, lines_of, max_line_bytes}
 use Rattle.njh_encode.specs.Encoded.{Outcome, line_outcome}
 use Rattle.njh_encode.specs.Posted.{is_of_file}
 use Rattle.njh_encode.specs.Scripts.{AreAnswered, Becomes, BecomesThen, Encoding, LinesBecome, Texts, bad_line, behind_script}
 use Rattle.njh_encode.specs.Scripts.{bytes_taken, encoding_of, encoding_of_lines, file_taken, outcome_in_text, then_lines}
 use Rattle.njh_encode.specs.Scripts.{words_taken}
-
--- bytes that end no line are kept
-pub lines_from-run : (front run more : List ℕ) → AllByRecursion (λ b. eqb b 10 ≡ false) run
-    → lines_from front (run ++ more) ≡ lines_from (front ++ run) more
-lines_from-run front [] more none = ap (λ (xs : List ℕ). lines_from xs more) (sym (append-nil front))
-lines_from-run front (b ∷ run) more none =
-    rw none.0
-    (lines_from-run (front ++ b ∷ []) run more none.1
-    ∙ ap (λ (xs : List ℕ). lines_from xs more) (append_assoc front (b ∷ []) run))
-
--- the end of a line
-pub lines_from-end : (front run more : List ℕ) → AllByRecursion (λ b. eqb b 10 ≡ false) run
-    → lines_from front (run ++ 10 ∷ more) ≡ (front ++ run) ∷ lines_from [] more
-lines_from-end front run more none = lines_from-run front run (10 ∷ more) none
 
 -- a line that is too long is bad
 long-outcome : (texts : Texts) (states : List LineState) (line : List ℕ) → max_line_bytes < length line
@@ -101,30 +87,18 @@ bad-becomes known texts states number line rest reason may is =
     (bad_line number reason) in
     (texts, may, subst P (sym is) refl)
 
-pub long-bad : (known : Option Texts) (states : List LineState) (number : ℕ) (line : List ℕ) (rest : List (List ℕ))
+long-bad : (known : Option Texts) (states : List LineState) (number : ℕ) (line : List ℕ) (rest : List (List ℕ))
     → max_line_bytes < length line → LinesBecome known states number (line ∷ rest) (bad_line number LongLine)
 long-bad known states number line rest long =
     bad-becomes known (some_texts known) states number line rest LongLine (some_answered known)
     (long-outcome (some_texts known) states line long)
 
-long-cond : (known : Option Texts) (ended : Bool) (states : List LineState) (number : ℕ) (line : List ℕ) (xs ys : List (List ℕ))
-    → max_line_bytes < length line → LinesBecome known states number ys (bad_line number LongLine)
-    → LinesBecome known states number (cond ended (line ∷ xs) ys) (bad_line number LongLine)
-long-cond known true states number line xs ys long later = long-bad known states number line xs long
-long-cond known false states number line xs ys long later = later
-
-long-last : (known : Option Texts) (states : List LineState) (number : ℕ) (front : List ℕ) → max_line_bytes < length front
-    → LinesBecome known states number (last_line front) (bad_line number LongLine)
-long-last known states number [] long = absurd (omega arith)
-long-last known states number (b ∷ bs) long = long-bad known states number (b ∷ bs) [] long
-
--- what has come of a line is too long already
-pub long-front : (known : Option Texts) (states : List LineState) (number : ℕ) (front text : List ℕ)
-    → max_line_bytes < length front → LinesBecome known states number (lines_from front text) (bad_line number LongLine)
-long-front known states number front [] long = long-last known states number front long
-long-front known states number front (b ∷ text) long =
-    long-cond known (eqb b 10) states number front (lines_from [] text) (lines_from (front ++ b ∷ []) text) long
-    (long-front known states number (front ++ b ∷ []) text (omega (arith, length-append front (b ∷ []))))
+-- the first of some lines is too long
+pub long-first : (known : Option Texts) (states : List LineState) (number : ℕ) (lines : List (List ℕ))
+    → is_first_long lines ≡ true → LinesBecome known states number lines (bad_line number LongLine)
+long-first known states number [] long = absurd (false≢true long)
+long-first known states number (line ∷ lines) long =
+    long-bad known states number line lines (ltb-true max_line_bytes (length line) long)
 
 -- what the bytes of a line become where they are a text, and where they aren't
 pub text_taken : (texts : Texts) (states : List LineState) (line words : List ℕ) → words ≡ line → IsUtf8 line

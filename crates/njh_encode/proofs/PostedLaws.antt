@@ -1,13 +1,11 @@
 -- The records of a text's lines, and the blocks of a file.
 use Rattle.std.proofs.Common.{◌≡◌, ℕ, ◌<◌, Bool, false, eqb, List, [], ◌∷◌, ◌++◌, length, map, refl, sym, ap, ◌∙◌}
-use Rattle.std.proofs.Common.{append_assoc, append-nil, arith, cond, subst, Result, Ok, Err, OnOk}
+use Rattle.std.proofs.Common.{append_assoc, append-nil, arith, cond, subst, Result, Ok, Err}
 use Rattle.std.specs.Prelude.{IfErr, MatchResult}
-use Rattle.std.specs.List.{All}
 use Rattle.std.specs.Str.{IsUtf8, is_utf8}
 use Rattle.std.proofs.lemmas.Bool.{eqb-true, false_from_ne_true}
 use Rattle.std.proofs.lemmas.Grind.{flat_map-append}
 use Rattle.std.proofs.lemmas.List.{map-append}
-use Rattle.std.proofs.lemmas.List.Elements.{recursion_from_All}
 use Rattle.std.proofs.lemmas.Str.{IsUtf8-from_is_utf8, is_utf8-from_IsUtf8}
 use Rattle.njh_block.specs.Blocks.{Block, Control, Item}
 use Rattle.njh_encode.specs.declared.fault.Reason.{Reason}
@@ -17,11 +15,10 @@ use Rattle.njh_encode.specs.declared.posting.Posting.{Posting}
 use Rattle.njh_encode.specs.Characters.{bytes_of_text}
 use Rattle.njh_encode.specs.Encoded.{bytes_line, bytes_of_frame, frame_of_block, next_block}
 use Rattle.njh_encode.specs.LineStates.{counted}
-use Rattle.njh_encode.specs.Lines.{last_line, lines_of}
+use Rattle.njh_io.specs.Lines.{lines_of}
 use Rattle.njh_encode.specs.Packing.{block_of, blocks_script, counted_by, data_set_record, file_blocks, file_items, job_record}
 use Rattle.njh_encode.specs.Packing.{onto_records, packed, record_of_line, records_of, sysout, then_records, trailer_record}
 use Rattle.njh_encode.specs.code.Puts.{OpenBlock, Puts}
-use Rattle.njh_encode.proofs.LineLaws.{lines_from-end, lines_from-run}
 use Rattle.njh_encode.proofs.PackingLaws.{counted_by-append, Puts-none, Puts-then}
 
 -- ---- the record of a line
@@ -72,15 +69,6 @@ front_records-ok : (xs ys : List (List ℕ)) → front_records xs (Ok ys) ≡ Ok
 front_records-ok [] ys = refl
 front_records-ok (x ∷ xs) ys = ap (onto_records x) (front_records-ok xs ys)
 
--- a text up to the end of a line, and one without
-first-line : (line behind : List ℕ) → All (λ b. eqb b 10 ≡ false) line
-    → records_of (lines_of (line ++ 10 ∷ behind)) ≡ then_records (record_of_line line) (records_of (lines_of behind))
-first-line line behind none = ap records_of (lines_from-end [] line behind (recursion_from_All _ line none))
-
-only-line : (line : List ℕ) → All (λ b. eqb b 10 ≡ false) line → lines_of line ≡ last_line line
-only-line line none =
-    ap lines_of (sym (append-nil line)) ∙ lines_from-run [] line [] (recursion_from_All _ line none)
-
 -- how far a text was put
 abbrev pub IsPutUpTo : (name text : List ℕ) (first : OpenBlock) (script left : List ℕ) (at : OpenBlock) (grown : List ℕ) → Type 0
 IsPutUpTo name text first script left at grown = (records : List (List ℕ))
@@ -92,12 +80,12 @@ put-none name text first script = ([], refl, Puts-none name first script)
 
 -- a line more
 pub put-line : (name text : List ℕ) (first : OpenBlock) (script left : List ℕ) (b c : OpenBlock) (t u line behind : List ℕ)
-    → IsPutUpTo name text first script left b t → left ≡ line ++ 10 ∷ behind → All (λ b. eqb b 10 ≡ false) line
+    → IsPutUpTo name text first script left b t → lines_of left ≡ line ∷ lines_of behind
     → ((bytes : List ℕ) × (record_of_line line ≡ Ok bytes) × Puts name b (sysout 0x80 bytes ∷ []) c t u)
     → IsPutUpTo name text first script behind c u
-put-line name text first script left b c t u line behind x parts none r =
+put-line name text first script left b c t u line behind x parts r =
     let step : records_of (lines_of left) ≡ onto_records r.0 (records_of (lines_of behind)) =
-    ap (λ (xs : List ℕ). records_of (lines_of xs)) parts ∙ first-line line behind none
+    ap records_of parts
     ∙ ap (λ (v : Result (List ℕ) Reason). then_records v (records_of (lines_of behind))) r.1 in
     let items : map (sysout 0x80) (x.0 ++ r.0 ∷ []) ≡ map (sysout 0x80) x.0 ++ sysout 0x80 r.0 ∷ [] =
     map-append (sysout 0x80) x.0 (r.0 ∷ []) in
@@ -109,35 +97,24 @@ put-line name text first script left b c t u line behind x parts none r =
 
 -- a bad line
 pub put-bad : (name text : List ℕ) (first : OpenBlock) (script left : List ℕ) (b : OpenBlock) (t line behind : List ℕ) (reason : Reason)
-    → IsPutUpTo name text first script left b t → left ≡ line ++ 10 ∷ behind → All (λ b. eqb b 10 ≡ false) line
+    → IsPutUpTo name text first script left b t → lines_of left ≡ line ∷ lines_of behind
     → record_of_line line ≡ Err reason → records_of (lines_of text) ≡ Err reason
-put-bad name text first script left b t line behind reason x parts none bad =
+put-bad name text first script left b t line behind reason x parts bad =
     let step : records_of (lines_of left) ≡ Err reason =
-    ap (λ (xs : List ℕ). records_of (lines_of xs)) parts ∙ first-line line behind none
+    ap records_of parts
     ∙ ap (λ (v : Result (List ℕ) Reason). then_records v (records_of (lines_of behind))) bad in
     x.1 ∙ ap (front_records x.0) step ∙ front_records-err x.0 reason
 
--- the last line
-pub put-all : {T E : Type 0} (r : Result T E) (name text : List ℕ) (first : OpenBlock) (script left : List ℕ) (b c : OpenBlock)
-    (t u : List ℕ) → IsPutUpTo name text first script left b t → All (λ b. eqb b 10 ≡ false) left
-    → OnOk r ((records : List (List ℕ)) × (records_of (last_line left) ≡ Ok records)
-    × Puts name b (map (sysout 0x80) records) c t u)
-    → OnOk r ((records : List (List ℕ)) × (records_of (lines_of text) ≡ Ok records)
-    × Puts name first (map (sysout 0x80) records) c script u)
-put-all (Err e) name text first script left b c t u x none last = tt
-put-all (Ok o) name text first script left b c t u x none last =
-    let P : List Item → Type 0 = λ is. Puts name first is c script u in (
-      x.0 ++ last.0,
-      x.1 ∙ ap (front_records x.0) (ap records_of (only-line left none) ∙ last.1) ∙ front_records-ok x.0 last.0,
-      subst P (sym (map-append (sysout 0x80) x.0 last.0))
-          (Puts-then name first b c (map (sysout 0x80) x.0) (map (sysout 0x80) last.0) script t u x.2 last.2),
-    )
-
-pub put-last-bad : (name text : List ℕ) (first : OpenBlock) (script left : List ℕ) (b : OpenBlock) (t : List ℕ) (reason : Reason)
-    → IsPutUpTo name text first script left b t → All (λ b. eqb b 10 ≡ false) left
-    → records_of (last_line left) ≡ Err reason → records_of (lines_of text) ≡ Err reason
-put-last-bad name text first script left b t reason x none bad =
-    x.1 ∙ ap (front_records x.0) (ap records_of (only-line left none) ∙ bad) ∙ front_records-err x.0 reason
+-- all of it
+pub put-all : (name text : List ℕ) (first : OpenBlock) (script left : List ℕ) (b : OpenBlock) (t : List ℕ)
+    → IsPutUpTo name text first script left b t → lines_of left ≡ []
+    → (records : List (List ℕ)) × (records_of (lines_of text) ≡ Ok records)
+    × Puts name first (map (sysout 0x80) records) b script t
+put-all name text first script left b t x none = (
+  x.0,
+  x.1 ∙ ap (front_records x.0) (ap records_of none) ∙ front_records-ok x.0 [] ∙ ap Ok (append-nil x.0),
+  x.2,
+)
 
 -- ---- a file
 
@@ -183,16 +160,6 @@ pub record-answer : (r : Result (List ℕ) Reason) (line : List ℕ) (v : Result
     → MatchResult r (λ bytes. record_of_line line ≡ Ok bytes) (λ reason. record_of_line line ≡ Err reason)
 record-answer (Ok x) line v same holds = same ∙ holds
 record-answer (Err e) line v same holds = same ∙ holds
-
--- the last line alone
-pub only-put : {T E : Type 0} (r : Result T E) (name line : List ℕ) (b c : OpenBlock) (t u : List ℕ) → 0 < length line
-    → OnOk r ((bytes : List ℕ) × (record_of_line line ≡ Ok bytes) × Puts name b (sysout 0x80 bytes ∷ []) c t u)
-    → OnOk r ((records : List (List ℕ)) × (records_of (last_line line) ≡ Ok records)
-    × Puts name b (map (sysout 0x80) records) c t u)
-only-put (Err e) name line b c t u some put = tt
-only-put (Ok x) name [] b c t u some put = absurd (omega arith)
-only-put (Ok x) name (y ∷ ys) b c t u some put =
-    (put.0 ∷ [], ap (λ (v : Result (List ℕ) Reason). then_records v (Ok [])) put.1, put.2)
 
 -- a file, record by record
 pub posted-all : (name : List ℕ) (state : LineState) (p : Posting) (lines : List (List ℕ)) (job data_set : List ℕ)

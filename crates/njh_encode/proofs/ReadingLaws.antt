@@ -1,19 +1,17 @@
 -- A text in words that was read in pieces.
-use Rattle.std.proofs.Common.{◌≡◌, ℕ, ◌+◌, ◌<◌, false, eqb, List, [], ◌∷◌, ◌++◌, length, refl, sym, ap, ◌∙◌}
-use Rattle.std.proofs.Common.{append_assoc, append-nil, length-append, arith, subst, Option, None, Some, Result, Ok, Err, OnOk}
+use Rattle.std.proofs.Common.{◌≡◌, ℕ, ◌+◌, ◌<◌, true, List, [], ◌∷◌, ◌++◌, length, refl, sym, ap, ◌∙◌}
+use Rattle.std.proofs.Common.{append_assoc, append-nil, arith, subst, Option, None, Some, Result, Ok, Err, OnOk}
 use Rattle.std.specs.Prelude.{IfSome}
-use Rattle.std.specs.List.{All}
 use Rattle.std.specs.Io.KnownBytes.{Consumes}
-use Rattle.std.proofs.lemmas.List.Elements.{recursion_from_All}
 use Rattle.njh_encode.specs.declared.fault.EncodeFault.{EncodeFault}
 use Rattle.njh_encode.specs.declared.fault.Reason.{Reason}
 use Rattle.njh_encode.specs.declared.fault.Reason.TheVariants.{LongLine}
 use Rattle.njh_encode.specs.declared.line_states.LineState.{LineState}
 use Rattle.njh_encode.specs.Encoded.{IsDone, Outcome}
-use Rattle.njh_encode.specs.Lines.{lines_from, max_line_bytes}
+use Rattle.njh_io.specs.Lines.{is_first_long, lines_from, lines_of}
 use Rattle.njh_encode.specs.Scripts.{AreAnswered, BecomesThen, Encoding, LinesBecome, Texts, behind_script, outcome_in_text}
 use Rattle.njh_encode.specs.code.Reading.{BecomesBehind, EndsBad, IsBadLine, Progress, Takes, TakesLine}
-use Rattle.njh_encode.proofs.LineLaws.{lines_from-end, lines_from-run, long-front}
+use Rattle.njh_encode.proofs.LineLaws.{long-first}
 
 -- ---- one line
 
@@ -74,26 +72,6 @@ Takes-bad known a b piece next lines e x y = λ more.
     text-as known a (piece ++ (next ++ more)) ((piece ++ next) ++ more) (behind_script lines e)
     (sym (append_assoc piece next more)) (x (next ++ more) e (y more))
 
--- the lines of a part without an end
-part-lines : (known : Option Texts) (at : Progress) (part more : List ℕ) (e : Encoding) → All (λ b. eqb b 10 ≡ false) part
-    → LinesBecome known at.states at.number (lines_from (at.front ++ part) more) e → BecomesBehind known at (part ++ more) e
-part-lines known at part more e none becomes =
-    let P : List (List ℕ) → Type 0 = λ lines. LinesBecome known at.states at.number lines e in
-    subst P (sym (lines_from-run at.front part more (recursion_from_All _ part none))) becomes
-
--- a part of a line, without its end
-pub Takes-kept : (known : Option Texts) (at : Progress) (part : List ℕ) → All (λ b. eqb b 10 ≡ false) part
-    → Takes known at part [] (record at { front = at.front ++ part })
-Takes-kept known at part none = λ more e b. part-lines known at part more e none b
-
--- a line whose end came
-line-text : (known : Option Texts) (at : Progress) (end more : List ℕ) (e : Encoding) → All (λ b. eqb b 10 ≡ false) end
-    → LinesBecome known at.states at.number ((at.front ++ end) ∷ lines_from [] more) e
-    → BecomesBehind known at (end ++ 10 ∷ more) e
-line-text known at end more e none becomes =
-    let P : List (List ℕ) → Type 0 = λ lines. LinesBecome known at.states at.number lines e in
-    subst P (sym (lines_from-end at.front end more (recursion_from_All _ end none))) becomes
-
 -- what holds of all texts that begin with these bytes holds of what a reader had that gave them
 pub known_then : (first now : Option (List ℕ)) (seen : List ℕ) (P : List ℕ → Type 0) → Consumes first now seen
     → ((more : List ℕ) → P (seen ++ more)) → IfSome first P
@@ -103,100 +81,99 @@ known_then (Some xs) (Some ys) seen P taken holds = subst P (sym taken) (holds y
 
 -- ---- how far a piece was read
 
+-- What was taken of it became these lines of a script, and what is left comes behind what was kept.
 abbrev pub IsReadUpTo : (known : Option Texts) (a : Progress) (piece old_script left script : List ℕ) (b : Progress) → Type 0
-IsReadUpTo known a piece old_script left script b = (seen : List ℕ) × (lines : List ℕ) × (piece ≡ seen ++ left)
-    × (script ≡ old_script ++ lines) × Takes known a seen lines b
+IsReadUpTo known a piece old_script left script b = (lines : List ℕ) × (script ≡ old_script ++ lines)
+    × ((more : List ℕ) (e : Encoding) → BecomesBehind known b (left ++ more) e
+    → BecomesBehind known a (piece ++ more) (behind_script lines e))
 
 pub read-none : (known : Option Texts) (a : Progress) (piece script : List ℕ) → IsReadUpTo known a piece script piece script a
-read-none known a piece script = ([], [], refl, sym (append-nil script), Takes-none known a)
+read-none known a piece script = ([], sym (append-nil script), λ more e b. b)
+
+-- the same lines, put otherwise
+become-as : (known : Option Texts) (s t : List LineState) (m n : ℕ) (xs ys : List (List ℕ)) (e : Encoding) → s ≡ t → m ≡ n
+    → xs ≡ ys → LinesBecome known s m xs e → LinesBecome known t n ys e
+become-as known s t m n xs ys e states number lines becomes =
+    let S : List LineState → Type 0 = λ s. LinesBecome known s m xs e in
+    let N : ℕ → Type 0 = λ n. LinesBecome known t n xs e in
+    let L : List (List ℕ) → Type 0 = λ ls. LinesBecome known t n ls e in
+    subst L lines (subst N number (subst S states becomes))
+
+-- what a reader kept of a piece, or the line that it ended
+pub record IsKept (b kept : Progress) : Type 0 where
+  pub states : kept.states ≡ b.states
+  pub number : kept.number ≡ b.number
 
 -- a line more
-pub read-line : (known : Option Texts) (a b c : Progress) (piece old_script left script end behind new_script : List ℕ)
-    → IsReadUpTo known a piece old_script left script b → left ≡ end ++ 10 ∷ behind
-    → ((lines : List ℕ) × (new_script ≡ script ++ lines) × Takes known b (end ++ 10 ∷ []) lines c)
+pub read-line : (known : Option Texts) (a b kept c : Progress) (piece old_script left script behind new_script : List ℕ)
+    → IsReadUpTo known a piece old_script left script b
+    → ((more : List ℕ) → lines_from b.front (left ++ more) ≡ kept.front ∷ lines_of (behind ++ more)) → IsKept b kept
+    → ((lines : List ℕ) × (new_script ≡ script ++ lines) × TakesLine known kept kept.front lines c) → c.front ≡ []
     → IsReadUpTo known a piece old_script behind new_script c
-read-line known a b c piece old_script left script end behind new_script x parts t = (
-  x.0 ++ (end ++ 10 ∷ []),
-  x.1 ++ t.0,
-  x.2 ∙ ap (λ (xs : List ℕ). x.0 ++ xs) (parts ∙ sym (append_assoc end (10 ∷ []) behind))
-      ∙ sym (append_assoc x.0 (end ++ 10 ∷ []) behind),
-  t.1 ∙ ap (λ (xs : List ℕ). xs ++ t.0) x.3 ∙ append_assoc old_script x.1 t.0,
-  Takes-then known a b c x.0 (end ++ 10 ∷ []) x.1 t.0 x.4 t.2,
+read-line known a b kept c piece old_script left script behind new_script x line same t empty = (
+  x.0 ++ t.0,
+  t.1 ∙ ap (λ (xs : List ℕ). xs ++ t.0) x.1 ∙ append_assoc old_script x.0 t.0,
+  λ more e z.
+      let Q : List ℕ → Type 0 = λ front. LinesBecome known c.states c.number (lines_from front (behind ++ more)) e in
+      let first : BecomesBehind known b (left ++ more) (behind_script t.0 e) =
+      become-as known kept.states b.states kept.number b.number (kept.front ∷ lines_of (behind ++ more))
+      (lines_from b.front (left ++ more)) (behind_script t.0 e) same.states same.number (sym (line more))
+      (t.2 (lines_of (behind ++ more)) e (subst Q empty z)) in
+      let E : List ℕ → Type 0 = λ s. BecomesBehind known a (piece ++ more) (record { script = s; bad = e.bad }) in
+      subst E (sym (append_assoc x.0 t.0 e.script)) (x.2 more (behind_script t.0 e) first),
 )
 
 -- all of it, the last part without an end
-pub read-all : {T E : Type 0} (known : Option Texts) (r : Result T E) (a b new : Progress) (piece old_script left script : List ℕ)
-    → IsReadUpTo known a piece old_script left script b → All (λ c. eqb c 10 ≡ false) left
-    → OnOk r (new ≡ record b { front = b.front ++ left })
-    → OnOk r ((lines : List ℕ) × (script ≡ old_script ++ lines) × Takes known a piece lines new)
-read-all known (Err e) a b new piece old_script left script x none kept = tt
-read-all known (Ok ok) a b new piece old_script left script x none kept =
-    let takes = Takes-then known a b (record b { front = b.front ++ left }) x.0 left x.1 [] x.4 (Takes-kept known b left none) in
-    let P : List ℕ → Type 0 = λ seen. Takes known a seen (x.1 ++ []) new in
-    let Q : Progress → Type 0 = λ at. Takes known a (x.0 ++ left) (x.1 ++ []) at in (
-      x.1 ++ [],
-      x.3 ∙ ap (λ (xs : List ℕ). old_script ++ xs) (sym (append-nil x.1)),
-      subst P (sym x.2) (subst Q (sym kept) takes),
-    )
+pub read-all : (known : Option Texts) (a b kept : Progress) (piece old_script left script : List ℕ)
+    → IsReadUpTo known a piece old_script left script b
+    → ((more : List ℕ) → lines_from b.front (left ++ more) ≡ lines_from kept.front more) → IsKept b kept
+    → (lines : List ℕ) × (script ≡ old_script ++ lines) × Takes known a piece lines kept
+read-all known a b kept piece old_script left script x line same = (
+  x.0,
+  x.1,
+  λ more e z.
+      x.2 more e (become-as known kept.states b.states kept.number b.number (lines_from kept.front more)
+      (lines_from b.front (left ++ more)) e same.states same.number (sym (line more)) z),
+)
 
 -- up to a bad line
 abbrev pub IsBadIn : (known : Option Texts) (a : Progress) (piece old_script new_script : List ℕ) (fault : EncodeFault) → Type 0
 IsBadIn known a piece old_script new_script fault = (lines : List ℕ) × (new_script ≡ old_script ++ lines)
     × EndsBad known a piece (record { script = lines; bad = Some fault })
 
-pub read-bad : (known : Option Texts) (a b : Progress) (piece old_script left script new_script : List ℕ) (fault : EncodeFault)
+bad-in : (known : Option Texts) (a b : Progress) (piece old_script left script new_script : List ℕ) (fault : EncodeFault)
     → IsReadUpTo known a piece old_script left script b → new_script ≡ script
-    → EndsBad known b left (record { script = []; bad = Some fault }) → IsBadIn known a piece old_script new_script fault
-read-bad known a b piece old_script left script new_script fault x same bad =
-    let P : List ℕ → Type 0 = λ text. EndsBad known a text (record { script = x.1 ++ []; bad = Some fault }) in (
-      x.1 ++ [],
-      same ∙ x.3 ∙ ap (λ (xs : List ℕ). old_script ++ xs) (sym (append-nil x.1)),
-      subst P (sym x.2) (Takes-bad known a b x.0 left x.1 (record { script = []; bad = Some fault }) x.4 bad),
-    )
+    → ((more : List ℕ) → BecomesBehind known b (left ++ more) (record { script = []; bad = Some fault }))
+    → IsBadIn known a piece old_script new_script fault
+bad-in known a b piece old_script left script new_script fault x same bad = (
+  x.0 ++ [],
+  same ∙ x.1 ∙ ap (λ (xs : List ℕ). old_script ++ xs) (sym (append-nil x.0)),
+  λ more. x.2 more (record { script = []; bad = Some fault }) (bad more),
+)
 
--- a part of a line that is kept, and with it the line is too long
-pub EndsBad-kept : (known : Option Texts) (at : Progress) (part : List ℕ) (fault : EncodeFault) → All (λ b. eqb b 10 ≡ false) part
-    → fault ≡ record { line = at.number; reason = LongLine } → max_line_bytes < length at.front + length part
-    → EndsBad known at part (record { script = []; bad = Some fault })
-EndsBad-kept known at part fault none is long = λ more.
-    let P : EncodeFault → Type 0 = λ f. BecomesBehind known at (part ++ more) (record { script = []; bad = Some f }) in
-    subst P (sym is) (part-lines known at part more (record { script = []; bad = Some (record { line = at.number; reason = LongLine }) }) none
-    (long-front known at.states at.number (at.front ++ part) more (omega (arith, long, length-append at.front part))))
+-- the first line of what is left is too long
+pub read-long : (known : Option Texts) (a b : Progress) (piece old_script left script : List ℕ) (fault : EncodeFault)
+    → IsReadUpTo known a piece old_script left script b → fault ≡ record { line = b.number; reason = LongLine }
+    → ((more : List ℕ) → is_first_long (lines_from b.front (left ++ more)) ≡ true)
+    → IsBadIn known a piece old_script script fault
+read-long known a b piece old_script left script fault x is long =
+    bad-in known a b piece old_script left script script fault x refl
+    (λ more.
+    let P : EncodeFault → Type 0 = λ f. BecomesBehind known b (left ++ more) (record { script = []; bad = Some f }) in
+    subst P (sym is) (long-first known b.states b.number (lines_from b.front (left ++ more)) (long more)))
 
--- a line ended
-pub line-ended : {T E : Type 0} (known : Option Texts) (r : Result T E) (at kept new : Progress) (end old_script new_script : List ℕ)
-    → All (λ b. eqb b 10 ≡ false) end → kept ≡ record at { front = at.front ++ end }
-    → OnOk r ((lines : List ℕ) × (new_script ≡ old_script ++ lines) × TakesLine known kept kept.front lines new)
-    → OnOk r (new.front ≡ [])
-    → OnOk r ((lines : List ℕ) × (new_script ≡ old_script ++ lines) × Takes known at (end ++ 10 ∷ []) lines new)
-line-ended known (Err e) at kept new end old_script new_script none is t empty = tt
-line-ended known (Ok x) at kept new end old_script new_script none is t empty =
-    let P : Progress → Type 0 = λ k. TakesLine known k k.front t.0 new in
-    let taken : P (record at { front = at.front ++ end }) = subst P is t.2 in (
-      t.0,
-      t.1,
-      λ more e b.
-          let Q : List ℕ → Type 0 = λ front. LinesBecome known new.states new.number (lines_from front more) e in
-          text-as known at (end ++ 10 ∷ more) ((end ++ 10 ∷ []) ++ more) (behind_script t.0 e)
-          (sym (append_assoc end (10 ∷ []) more))
-          (line-text known at end more (behind_script t.0 e) none (taken (lines_from [] more) e (subst Q empty b))),
-    )
-
--- a bad line ended
-pub line-ended-bad : (known : Option Texts) (at kept : Progress) (end : List ℕ) (e : Encoding) → All (λ b. eqb b 10 ≡ false) end
-    → kept ≡ record at { front = at.front ++ end } → IsBadLine known kept kept.front e
-    → (more : List ℕ) → BecomesBehind known at (end ++ 10 ∷ more) e
-line-ended-bad known at kept end e none is bad more =
-    let P : Progress → Type 0 = λ k. IsBadLine known k k.front e in
-    let taken : P (record at { front = at.front ++ end }) = subst P is bad in
-    line-text known at end more e none (taken (lines_from [] more))
-
--- what is left ends badly with its first line
-pub EndsBad-left : (known : Option Texts) (at : Progress) (left end behind : List ℕ) (e : Encoding) → left ≡ end ++ 10 ∷ behind
-    → ((more : List ℕ) → BecomesBehind known at (end ++ 10 ∷ more) e) → EndsBad known at left e
-EndsBad-left known at left end behind e parts bad = λ more.
-    text-as known at (end ++ 10 ∷ (behind ++ more)) (left ++ more) e
-    (sym (append_assoc end (10 ∷ behind) more) ∙ sym (ap (λ (text : List ℕ). text ++ more) parts)) (bad (behind ++ more))
+-- or it is bad
+pub read-bad : (known : Option Texts) (a b kept : Progress) (piece old_script left script behind new_script : List ℕ)
+    (fault : EncodeFault) → IsReadUpTo known a piece old_script left script b
+    → ((more : List ℕ) → lines_from b.front (left ++ more) ≡ kept.front ∷ lines_of (behind ++ more)) → IsKept b kept
+    → new_script ≡ script → IsBadLine known kept kept.front (record { script = []; bad = Some fault })
+    → IsBadIn known a piece old_script new_script fault
+read-bad known a b kept piece old_script left script behind new_script fault x line same grown bad =
+    bad-in known a b piece old_script left script new_script fault x grown
+    (λ more.
+    become-as known kept.states b.states kept.number b.number (kept.front ∷ lines_of (behind ++ more))
+    (lines_from b.front (left ++ more)) (record { script = []; bad = Some fault }) same.states same.number (sym (line more))
+    (bad (lines_of (behind ++ more))))
 
 -- the last line, which has no end of its own
 last-text : (known : Option Texts) (at : Progress) (e : Encoding) → 0 < length at.front

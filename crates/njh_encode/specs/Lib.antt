@@ -4,7 +4,6 @@ pub mod Messages
 pub mod Statements
 pub mod LineStates
 pub mod Encoded
-pub mod Lines
 pub mod Posted
 pub mod Packing
 pub mod Scripts

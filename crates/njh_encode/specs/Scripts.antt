@@ -2,6 +2,7 @@
 use Rattle.std.specs.Prelude.{◌≡◌, ℕ, ◌+◌, List, [], ◌∷◌, ◌++◌, Option, Some, None, Result, Ok, Err, cond, ⊤}
 use Rattle.std.specs.Str.{is_utf8}
 use Rattle.std.specs.Io.KnownBytes.{Appends}
+use Rattle.njh_io.specs.Lines.{is_long_line, lines_of}
 use Rattle.njh_io.specs.Written.{AppendsBeginning}
 use Rattle.njh_encode.specs.declared.fault.EncodeFault.{EncodeFault}
 use Rattle.njh_encode.specs.declared.fault.Reason.{Reason}
@@ -13,7 +14,6 @@ use Rattle.njh_encode.specs.declared.posting.Posting.{Posting}
 use Rattle.njh_encode.specs.declared.line_states.LineState.{LineState}
 use Rattle.njh_encode.specs.Encoded.{Outcome, line_outcome}
 use Rattle.njh_encode.specs.LineStates.{state_of, with_state}
-use Rattle.njh_encode.specs.Lines.{is_long_line, lines_of}
 use Rattle.njh_encode.specs.Packing.{blocks_script, counted_by, file_blocks, records_of}
 use Rattle.njh_encode.specs.Posted.{is_of_file, letter_in, posting_in}
 use Rattle.njh_encode.specs.Words.{back, behind, front, line_in}

@@ -30,7 +30,7 @@ impl Model for Encoder {
 impl Encoder {
     ghost use Rattle.std.specs.Prelude.{◌≡◌, []};
     ghost use Rattle.njh_encode.specs.Encoded.{IsAppended, line_outcome};
-    ghost use Rattle.njh_encode.specs.Lines.{lines_of};
+    ghost use Rattle.njh_io.specs.Lines.{lines_of};
     ghost use Rattle.njh_encode.specs.Packing.{records_of};
     ghost use Rattle.njh_encode.specs.Scripts.{posted};
 

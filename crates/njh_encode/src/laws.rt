@@ -2,7 +2,7 @@
 
 ghost use Rattle.std.specs.Prelude.{◌≡◌, ℕ, [], All, List, Option, Some, false};
 ghost use Rattle.njh_block.specs.Blocks.{Item};
-ghost use Rattle.njh_encode.specs.Lines.{lines_of};
+ghost use Rattle.njh_io.specs.Lines.{lines_of};
 ghost use Rattle.njh_encode.specs.Packing.{IsData, ReadsAsFrame, ReadsItself, items_of_blocks, packed};
 ghost use Rattle.njh_encode.specs.Posted.{is_of_file};
 ghost use Rattle.njh_encode.specs.Scripts.{Becomes, Encoding, Texts, encoding_of};

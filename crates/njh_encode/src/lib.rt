@@ -16,7 +16,6 @@ mod laws;
 mod letters;
 mod line_states;
 mod packing;
-mod parts;
 mod posted;
 mod posting;
 mod putting;
@@ -34,5 +33,4 @@ pub use laws::{
     packed_reads_back,
 };
 pub use letters::{LetterFault, Letters};
-pub use reading::MAX_LINE_BYTES;
 pub use scripts::encode_script;

@@ -2,7 +2,7 @@
 
 ghost use Rattle.std.specs.Prelude.{◌≡◌, ◌≢◌, ◌++◌, ◌∷◌, ◌≤◌, ℕ, [], List, IfOk, IfErr, MatchResult, OnOk, Ok, Err};
 ghost use Rattle.std.specs.Prelude.{length, map};
-ghost use Rattle.njh_encode.specs.Lines.{last_line, lines_of};
+ghost use Rattle.njh_io.specs.Lines.{lines_of};
 ghost use Rattle.njh_encode.specs.Packing.{blocks_script, counted_by, data_set_record, file_blocks, job_record};
 ghost use Rattle.njh_encode.specs.Packing.{record_of_line, records_of, sysout};
 ghost use Rattle.njh_encode.specs.code.Puts.{Puts};
@@ -11,12 +11,12 @@ use crate::characters::bytes_of_text;
 use crate::fault::Reason;
 use crate::line_states::LineState;
 use crate::packing::Packing;
-use crate::parts::parted_at_end;
 use crate::posting::Posting;
 use crate::sentences::put_request;
 use arrayvec::ArrayVec;
 use njh_block::{ControlRcb, Stream};
 use njh_header::srcb::{DATA_SET_HEADER, JOB_HEADER, JOB_TRAILER};
+use njh_io::next_line;
 use njh_record::{Record, put_bytes};
 use std::str;
 
@@ -119,33 +119,11 @@ fn put_lines(
     ensures refused { IfErr result (λ reason. reason ≢ Reason.Memory → records_of (lines_of text.now) ≡ Err reason) }
 {
     let mut left = text;
-    'lines: loop {
-        match parted_at_end(left) {
-            None => return put_last_line(script, name, packing, left),
-            Some((line, behind)) => {
-                put_text_line(script, name, packing, line)?;
-                left = behind;
-            }
-        }
+    while let Some((line, behind)) = next_line(left) {
+        put_text_line(script, name, packing, line)?;
+        left = behind;
     }
-}
-
-/// Adds the last line of a text, where it has no end of its own.
-fn put_last_line(
-    script: &mut Vec<u8>,
-    name: &str,
-    packing: &mut Packing,
-    line: &[u8],
-) -> Result<(), Reason>
-    ensures put { OnOk result ((records : List (List ℕ)) × (records_of (last_line line.now) ≡ Ok records)
-        × Puts name.now packing.old (map (sysout 0x80) records) packing.new script.old.items script.new.items) }
-    ensures refused { IfErr result (λ reason. reason ≢ Reason.Memory → records_of (last_line line.now) ≡ Err reason) }
-{
-    if line.is_empty() {
-        Ok(())
-    } else {
-        put_text_line(script, name, packing, line)
-    }
+    Ok(())
 }
 
 /// Appends the lines of a file that has the lines of a text, and answers what is kept of the hub's line then.

@@ -1,25 +1,22 @@
 //! A text in words that comes in pieces.
 
-ghost use Rattle.std.specs.Prelude.{◌≡◌, ◌≢◌, ℕ, ◌≤◌, ◌<◌, ◌+◌, ◌∷◌, ◌++◌, [], List, length, false, All, ◌==◌};
-ghost use Rattle.std.specs.Prelude.{OnOk, Err, Some, None};
-ghost use Rattle.njh_encode.specs.Scripts.{AreAnswered, Texts, file_taken, words_taken};
+ghost use Rattle.std.specs.Prelude.{◌≡◌, ◌≢◌, ℕ, ◌≤◌, ◌<◌, ◌∷◌, ◌++◌, [], List, length, true, Err, IfOk, IfSome};
+ghost use Rattle.std.specs.Prelude.{MatchOption, None, OnOk, Some};
+ghost use Rattle.njh_io.specs.Lines.{is_first_long, lines_from, lines_of};
+ghost use Rattle.njh_encode.specs.Scripts.{AreAnswered, Texts, bytes_taken, file_taken, outcome_in_text, words_taken};
 ghost use Rattle.njh_encode.specs.Encoded.{IsAppended};
-ghost use Rattle.njh_encode.specs.Scripts.{bytes_taken, outcome_in_text};
 ghost use Rattle.njh_encode.specs.code.Reading.{BecomesBehind, EndsBad, IsBadLine, Takes, TakesLine};
 
 use crate::encoder::Encoder;
 use crate::fault::{EncodeEnd, EncodeFault, Reason};
 use crate::letters::Letters;
-use crate::parts::parted_at_end;
 use crate::posting::{is_of_file, letter_of, posting_of};
 use crate::statements::behind_two;
 use crate::words::{line_of, parted};
+use njh_io::{LineReader, ReadFault};
 use std::alloc::Global;
 use std::marker::Model;
 use std::str;
-
-/// How many bytes a line of words has at most.
-pub const MAX_LINE_BYTES: usize = 1_048_576;
 
 /// How far a text was read: what is kept of each line of the hub, the number of the next line of the text, and what has
 /// come of it.
@@ -27,18 +24,15 @@ pub const MAX_LINE_BYTES: usize = 1_048_576;
 pub(crate) struct Reading {
     encoder: Encoder,
     number: u64,
-    front: Vec<u8>,
+    front: LineReader,
 }
 
 impl Model for Reading {
-    ghost use Rattle.std.specs.Prelude.{◌≤◌, length};
     ghost use Rattle.njh_encode.specs.code.Reading.{Progress};
 
     ghost Value = { Progress };
 
-    ghost view = { λ r. record { states = r.encoder; number = r.number; front = r.front.items } };
-
-    ghost invariant = { λ r. length r.front.items ≤ 1048576 };
+    ghost view = { λ r. record { states = r.encoder; number = r.number; front = r.front } };
 }
 
 impl Reading {
@@ -49,7 +43,7 @@ impl Reading {
         Reading {
             encoder: Encoder::new(alloc),
             number: 1,
-            front: Vec::new(alloc),
+            front: LineReader::new(alloc),
         }
     }
 
@@ -67,15 +61,11 @@ impl Reading {
             × EndsBad (L.texts letters.now) self.old piece.now (record { script = lines; bad = Some fault }) }
     {
         let mut left = piece;
-        'lines: loop {
-            match parted_at_end(left) {
-                None => return self.keep(left),
-                Some((end, behind)) => {
-                    self.end_line(end, letters, script)?;
-                    left = behind;
-                }
-            }
+        while let Some(behind) = self.read(left)? {
+            self.take_front(letters, script)?;
+            left = behind;
         }
+        Ok(())
     }
 
     /// Appends what the last line becomes, where it has no end of its own.
@@ -90,44 +80,32 @@ impl Reading {
             → (script.new.items ≡ script.old.items)
             × BecomesBehind (L.texts letters.now) self.old [] (record { script = []; bad = Some fault }) }
     {
-        if self.front.is_empty() {
+        if self.front.line().is_empty() {
             Ok(())
         } else {
             self.take_front(letters, script)
         }
     }
 
-    /// Takes the end of a line, and appends what the line becomes.
-    fn end_line<L: Letters>(
-        &mut self,
-        end: &[u8],
-        letters: &L,
-        script: &mut Vec<u8>,
-    ) -> Result<(), EncodeEnd>
-        requires { All (λ b. (b == 10) ≡ false) end.now }
-        ensures taken { OnOk result ((lines : List ℕ) × (script.new.items ≡ script.old.items ++ lines)
-            × Takes (L.texts letters.now) self.old (end.now ++ 10 ∷ []) lines self.new) }
-        ensures bad { (fault : EncodeFault) → result ≡ Err (EncodeEnd.BadLine fault)
-            → (script.new.items ≡ script.old.items)
-            × ((more : List ℕ) → BecomesBehind (L.texts letters.now) self.old (end.now ++ 10 ∷ more)
-            (record { script = []; bad = Some fault })) }
-    {
-        self.keep(end)?;
-        self.take_front(letters, script)
-    }
-
-    /// Keeps a part of a line.
-    fn keep(&mut self, part: &[u8]) -> Result<(), EncodeEnd>
-        ensures kept { OnOk result (self.new ≡ record self.old { front = self.old.front ++ part.now }) }
+    /// Takes a piece up to the end of a line, and answers what stands behind that; or keeps all of it.
+    fn read<'p>(&mut self, piece: &'p [u8]) -> Result<Option<&'p [u8]>, EncodeEnd>
+        ensures lines { IfOk result (λ behind. (more : List ℕ) → MatchOption behind
+            (lines_from self.old.front (piece.now ++ more) ≡ lines_from self.new.front more)
+            (λ behind. lines_from self.old.front (piece.now ++ more)
+            ≡ self.new.front ∷ lines_of (behind.now ++ more))) }
+        ensures states { OnOk result (self.new.states ≡ self.old.states) }
+        ensures number { OnOk result (self.new.number ≡ self.old.number) }
+        ensures shorter { IfOk result (λ behind. IfSome behind (λ behind. length behind.now < length piece.now)) }
         ensures bad { (fault : EncodeFault) → result ≡ Err (EncodeEnd.BadLine fault)
             → (fault ≡ record { line = self.old.number; reason = Reason.LongLine })
-            × (1048576 < length self.old.front + length part.now) }
+            × ((more : List ℕ) → is_first_long (lines_from self.old.front (piece.now ++ more)) ≡ true) }
     {
-        if MAX_LINE_BYTES - self.front.len() < part.len() {
-            return Err(end_at(self.number, Reason::LongLine));
+        match self.front.take(piece) {
+            Ok(behind) => Ok(behind),
+            Err(ReadFault::TooLong) => Err(end_at(self.number, Reason::LongLine)),
+            Err(ReadFault::Memory) => Err(EncodeEnd::Memory),
+            Err(ReadFault::Device) => Err(EncodeEnd::Device),
         }
-        self.front.extend_from_slice(part)?;
-        Ok(())
     }
 
     /// Takes the line that has come, appends what it becomes, and counts it.
@@ -139,7 +117,7 @@ impl Reading {
             → (script.new.items ≡ script.old.items)
             × IsBadLine (L.texts letters.now) self.old self.old.front (record { script = []; bad = Some fault }) }
     {
-        match take_short(&mut self.encoder, &self.front, letters, script) {
+        match take_short(&mut self.encoder, self.front.line(), letters, script) {
             Ok(()) => {}
             Err(reason) => return Err(end_at(self.number, reason)),
         }

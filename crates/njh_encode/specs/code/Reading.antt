@@ -1,10 +1,10 @@
 -- A text in words that comes in pieces.
 use Rattle.std.specs.Prelude.{◌≡◌, ℕ, List, [], ◌∷◌, ◌++◌, Option}
 use Rattle.std.specs.Io.KnownBytes.{Appends}
+use Rattle.njh_io.specs.Lines.{lines_from}
 use Rattle.njh_io.specs.Written.{AppendsBeginning}
 use Rattle.njh_encode.specs.declared.fault.EncodeFault.{EncodeFault}
 use Rattle.njh_encode.specs.declared.line_states.LineState.{LineState}
-use Rattle.njh_encode.specs.Lines.{lines_from}
 use Rattle.njh_encode.specs.Scripts.{Encoding, LinesBecome, Texts, behind_script}
 
 -- what is kept from piece to piece: what is kept of each line of the hub, the number of the next line, and what has

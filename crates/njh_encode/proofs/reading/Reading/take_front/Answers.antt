@@ -1,7 +1,7 @@
 use Rattle.std.proofs.Common.{◌≡◌, ◌+◌, ◌∷◌, [], Err, rules, Some, subst, sym, ℕ}
 use Rattle.njh_encode.specs.declared.fault.EncodeFault.{EncodeFault}
 use Rattle.njh_encode.specs.Encoded.{IsDone}
-use Rattle.njh_encode.specs.Scripts.{LinesBecome, behind_script, outcome_in_text}
+use Rattle.njh_encode.specs.Scripts.{LinesBecome, outcome_in_text}
 use Rattle.njh_encode.proofs.LineLaws.{bad-becomes}
 use Rattle.njh_encode.proofs.ReadingLaws.{line_taken}
 use Rattle.njh_encode.proofs.reading.Reading.take_front.Goals as goal
