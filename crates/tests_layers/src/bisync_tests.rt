@@ -84,37 +84,6 @@ fn frames_of_bytes(rt: HostRuntime) -> Result<(), Fail> {
     )
 }
 
-/// A piece ends no frame.
-fn check_none(rt: &impl Abort, deframer: &mut Deframer, piece: &[u8]) {
-    let (_, frame) = deframer.feed(piece);
-    assert!(rt; frame.is_none(), "{piece:?}");
-}
-
-/// A piece ends a text whose data are a DLE.
-fn check_dle(rt: &impl Abort, deframer: &mut Deframer, piece: &[u8]) {
-    let (_, frame) = deframer.feed(piece);
-    assert!(rt; is_dle(frame), "{piece:?}");
-}
-
-fn is_dle(frame: Option<Frame<'_>>) -> bool {
-    match frame {
-        Some(Frame::Text(text)) => text == [0x10].as_slice(),
-        _ => false,
-    }
-}
-
-#[test]
-fn a_text_in_two_pieces(rt: HostRuntime) -> Result<(), Fail> {
-    let bytes = b"\x10\x02\x10\x10\x10\x32\x10\x26";
-    let mut deframer = Deframer::new(rt.alloc())?;
-    for end in 0..bytes.len() {
-        let (front, back) = bytes.split_at(end);
-        check_none(&rt, &mut deframer, front);
-        check_dle(&rt, &mut deframer, back);
-    }
-    Ok(())
-}
-
 fn write_four(out: &mut Vec<u8>) -> Result<(), AllocError> {
     put_text(&[0x00, 0x10, 0x26, 0x3D], out)?;
     put_control(Control::Enquiry, out)?;

@@ -1,6 +1,6 @@
 //! Texts of the protocol's worked examples, read and written.
 
-use njh_block::{Bcb, Block, BlockFault, BlockWriter, Fcs, Item, Out, Rcb, Stream};
+use njh_block::{Bcb, Block, BlockWriter, Fcs, Item, Out, Stream};
 use njh_header::srcb;
 use njh_record::Record;
 use std::process::Abort;
@@ -70,24 +70,6 @@ fn records_of_texts(rt: HostRuntime) -> Result<(), Fail> {
     check_only(&rt, b"\x80\x8F\xCF\x00\x05", ("end", 0, 0))
 }
 
-fn check_fault(rt: &impl Abort, text: &[u8], fault: BlockFault) {
-    assert!(rt; Block::read(text).err() == Some(fault), "{text:?}");
-}
-
-#[test]
-fn texts_that_are_no_block(rt: HostRuntime) {
-    check_fault(&rt, b"\x80\x8F", BlockFault::TooShort);
-    check_fault(&rt, b"\xB0\x8F\xCF\x00", BlockFault::BadBcb);
-    check_fault(&rt, b"\x80\x0F\xCF\x00", BlockFault::BadFcs);
-    check_fault(&rt, b"\x80\x8F\xCF\x05\x00", BlockFault::BadRcb);
-    check_fault(&rt, b"\x80\x8F\xCF\x99", BlockFault::BadRecord);
-    check_fault(
-        &rt,
-        b"\x80\x8F\xCF\x99\x80\xC3\xC1\x00",
-        BlockFault::BadRecord,
-    );
-}
-
 /// Adds a record of the stream at a place.
 fn add(rt: &impl Abort, writer: &mut BlockWriter, place: u8, srcb: u8, bytes: &[u8]) {
     assert!(rt; place < Stream::COUNT && bytes.len() <= 256);
@@ -114,24 +96,4 @@ fn text_of_three_streams(rt: HostRuntime) {
     }
     assert!(rt; !writer.is_empty() && writer.text() == THREE_STREAMS);
     assert!(rt; writer.finish().as_slice() == THREE_STREAMS);
-}
-
-/// Which of the eight streams go on: a bit for each that does, from SYSIN 1 on.
-fn check_streams(rt: &impl Abort, bytes: [u8; 2], streams: u8) {
-    let fcs = Fcs::read(bytes[0], bytes[1]).expect(rt, "an FCS");
-    let mut on = 0;
-    for place in 0..Stream::COUNT {
-        on = on << 1 | u8::from(fcs.is_on(Stream::at(place)));
-    }
-    assert!(rt; on == streams && fcs.messages_on(), "{bytes:?}");
-    assert!(rt; fcs.all_suspended() == (bytes[0] == 0xCF), "{bytes:?}");
-}
-
-#[test]
-fn streams_that_go_on(rt: HostRuntime) {
-    assert!(rt; Stream::COUNT == 8 && Stream::OF_A_KIND == 4 && Rcb::MESSAGE.byte == 0x9A);
-    check_streams(&rt, [0x8F, 0xCF], 0b1111_1111);
-    check_streams(&rt, [0x80, 0xC0], 0b0000_0000);
-    check_streams(&rt, [0x8F, 0xC7], 0b1111_0111);
-    check_streams(&rt, [0xCF, 0xCF], 0b1111_1111);
 }

@@ -1,12 +1,15 @@
 //! What is printed of faults and of a name.
 
 use njh_block::BlockFault;
+use njh_check::CheckFault;
 use njh_ebcdic::{Name, NameFault};
+use njh_encode::{EncodeEnd, EncodeFault, Reason};
 use njh_header::HeaderFault;
 use njh_nmr::NmrFault;
 use njh_record::RecordFault;
 use njh_spool::SpoolFault;
 use njh_table::TableFault;
+use njh_trace::TraceFault;
 use std::alloc::Global;
 use std::fmt::Display;
 use std::process::Abort;
@@ -60,4 +63,27 @@ fn printed(rt: HostRuntime) -> Result<(), Fail> {
     check_printed(&rt, alloc, &SpoolFault::Memory, "S4 Memory");
     check_printed(&rt, alloc, &TableFault::Memory, "K9 Memory");
     Ok(())
+}
+
+/// A bad line, and why it is bad.
+fn bad_line(line: u64, reason: Reason) -> EncodeEnd {
+    EncodeEnd::BadLine(EncodeFault { line, reason })
+}
+
+#[test]
+fn printed_of_texts_in_words(rt: HostRuntime) {
+    let alloc = rt.alloc();
+    check_printed(&rt, alloc, &TraceFault::TooLong, "trace line too long");
+    check_printed(&rt, alloc, &TraceFault::Device, "device");
+    check_printed(&rt, alloc, &TraceFault::Memory, "U3 Memory");
+    check_printed(&rt, alloc, &EncodeEnd::Device, "device");
+    check_printed(&rt, alloc, &EncodeEnd::Memory, "U3 Memory");
+    let long = bad_line(1, Reason::TooLong);
+    check_printed(&rt, alloc, &long, "line 1: too long a text");
+    let long_line = bad_line(7, Reason::LongLine);
+    check_printed(&rt, alloc, &long_line, "line 7: too long a line");
+    let no_text = bad_line(3, Reason::NoText);
+    check_printed(&rt, alloc, &no_text, "line 3: no text in UTF-8");
+    check_printed(&rt, alloc, &CheckFault::Device, "device");
+    check_printed(&rt, alloc, &CheckFault::Memory, "U3 Memory");
 }

@@ -1,8 +1,8 @@
-//! Tests of the layers from the code page to a hub, over the public items of their crates: names, frames, records,
-//! blocks, headers, nodal messages, tables, the spool, commands, a customer whole, and what is printed of faults.
+//! Tests of the layers below a hub, over the public items of their crates: names, frames, records,
+//! blocks, headers, nodal messages, tables, the spool, commands, and what is printed of faults.
 //!
-//! In `specs/` stand whole runs of a customer as the definitions have it, computed: what comes on its lines and what it
-//! sends. Its code does what these say, by its proof, for whatever comes.
+//! In `specs/` stand whole runs of a customer as the definitions have it, computed: what comes on
+//! its lines and what it sends. Its code does what these say, by its proof, for whatever comes.
 #![tactic(auto)]
 
 #[cfg(test)]
@@ -16,11 +16,7 @@ mod ebcdic_tests;
 #[cfg(test)]
 mod fault_tests;
 #[cfg(test)]
-mod frames;
-#[cfg(test)]
 mod header_tests;
-#[cfg(test)]
-mod hub_tests;
 #[cfg(test)]
 mod nmr_tests;
 #[cfg(test)]

@@ -26,48 +26,6 @@ fn append<R: Abort>(
     spool.append(0, file, 0x80, &[byte; 256][..size])
 }
 
-fn append_all<R: Abort>(
-    rt: &R,
-    spool: &mut Spool,
-    file: FileId,
-    sizes: &[usize],
-) -> Result<(), SpoolFault> {
-    for size in sizes {
-        append(rt, spool, file, *size, 193)?;
-    }
-    Ok(())
-}
-
-/// How many blocks records of these sizes take, in a file that is then given up.
-fn blocks_of<R: Abort>(rt: &R, spool: &mut Spool, sizes: &[usize]) -> Result<u32, SpoolFault> {
-    assert!(rt; 0 < spool.customers());
-    let file = spool.begin(0, Kind::Out)?;
-    let answer = append_all(rt, spool, file, sizes);
-    assert!(rt; 0 < spool.customers());
-    let used = spool.used(0);
-    spool.abandon(0, file)?;
-    answer?;
-    Ok(used)
-}
-
-/// A job header, a data set header and two records of data, and then a trailer: 504 bytes, or 505. The first record of
-/// data is the longest.
-fn try_blocks<R: Abort>(rt: &R, spool: &mut Spool) {
-    assert_eq!(rt; blocks_of(rt, spool, &[100, 24, 256, 105, 4]), Ok(2));
-    assert_eq!(rt;
-        blocks_of(rt, spool, &[100, 24, 256, 106, 4]),
-        Err(SpoolFault::QuotaFull)
-    );
-    assert_eq!(rt; blocks_of(rt, spool, &[100, 24, 256, 106, 3]), Ok(2));
-}
-
-#[test]
-fn two_blocks_hold_504_bytes(rt: HostRuntime) -> Result<(), Fail> {
-    let mut spool = opened(&rt, rt.alloc(), 2)?;
-    try_blocks(&rt, &mut spool);
-    Ok(())
-}
-
 /// Whether a file has a record of these bytes by its index.
 fn has<R: Abort>(
     rt: &R,
@@ -171,6 +129,15 @@ fn hold<R: Abort>(rt: &R, spool: &mut Spool, file: FileId) -> Result<(), SpoolFa
     spool.set_state(0, file, State::Held)
 }
 
+/// Another file comes in part, and is given up.
+fn give_up<R: Abort>(rt: &R, spool: &mut Spool) -> Result<(), SpoolFault> {
+    assert!(rt; 0 < spool.customers());
+    let file = spool.begin(0, Kind::Out)?;
+    append(rt, spool, file, 9, 1)?;
+    assert!(rt; 0 < spool.customers());
+    spool.abandon(0, file)
+}
+
 fn remove<R: Abort>(rt: &R, spool: &mut Spool, file: FileId) -> Result<(), SpoolFault> {
     assert!(rt; 0 < spool.customers());
     spool.remove(0, file)?;
@@ -185,6 +152,7 @@ fn try_calls<R: Abort>(rt: &R, spool: &mut Spool) -> Result<(), SpoolFault> {
     hold(rt, spool, file)?;
     look(rt, spool, file)?;
     rewrite_and_read(rt, spool, file)?;
+    give_up(rt, spool)?;
     remove(rt, spool, file)
 }
 

@@ -2,7 +2,8 @@
 
 use super::*;
 use crate::same::is_same;
-use njh_table::{LineId, NamedCustomer, NamedLine, Role, Route};
+use njh_ebcdic::Name;
+use njh_table::{LineId, NamedCustomer, NamedLine, Role, Route, RouteLines};
 use std::process::Abort;
 use std::test::Fail;
 
@@ -63,6 +64,15 @@ fn push_customer(
         text.push_str(format!(in alloc; "{route}\n")?.as_str())?;
     }
     Ok(())
+}
+
+/// A route: its node and its line, and its second line if it has one.
+fn text_of_route(alloc: Global, route: (Name, RouteLines)) -> Result<String, AllocError> {
+    let (node, lines) = route;
+    match lines.second {
+        Some(second) => format!(in alloc; "{node} by {} or {second}", lines.line),
+        None => format!(in alloc; "{node} by {}", lines.line),
+    }
 }
 
 fn push_line(alloc: Global, text: &mut String, line: &NamedLine) -> Result<(), AllocError> {
