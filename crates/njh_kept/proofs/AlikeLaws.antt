@@ -1,8 +1,9 @@
 -- Records of a file that was sent elsewhere are those that they were, but for headers.
-use Rattle.std.proofs.Common.{◌≡◌, ℕ, zero, suc, ◌<◌, ◌≤◌, ◌==◌, ◌&&◌, ◌||◌, ◌⊎◌, inl, inr, Bool, true, false, cond, not, List, [], ◌∷◌, length, get_or, Option, Some, None}
+use Rattle.std.proofs.Common.{◌≡◌, ℕ, zero, suc, ◌<◌, ◌≤◌, ◌==◌, ◌&&◌, ◌||◌, ◌⊎◌, inl, inr, Bool, true, false, cond, not, List, [], ◌∷◌, length, get_or, take, Option, Some, None}
 use Rattle.std.proofs.Common.{Result, refl, sym, ap, subst, ◌∙◌, arith}
 use Rattle.std.specs.Prelude.{unwrap_or}
 use Rattle.std.specs.List.{AllByRecursion}
+use Rattle.std.proofs.lemmas.List.{length-take-le, take_all}
 use Rattle.std.specs.Option.{option_map}
 use Rattle.std.specs.Result.{result_ok}
 use Rattle.njh_ebcdic.specs.Names.{is_name}
@@ -17,6 +18,7 @@ use Rattle.njh_header.specs.Redirecting.{destination_place, is_after_header, rec
 use Rattle.njh_customer.specs.Surviving.{IsRerouted}
 use Rattle.njh_hub.specs.Files.{said_destination}
 pub use Rattle.njh_kept.specs.code.Alike.{AreAlike, IsAlike, is_header}
+use Rattle.njh_kept.specs.code.Alike.{AreBegun}
 use Rattle.njh_kept.specs.code.Mirrored.{FitsHub}
 use Rattle.njh_kept.specs.code.Remembered.{NameOneNode}
 use Rattle.njh_kept.proofs.HeaderBytes.{job_stands, length_still, node_long}
@@ -110,6 +112,18 @@ alike_long [] [] h = refl
 alike_long [] (y ∷ ys) h = absurd h
 alike_long (x ∷ xs) [] h = absurd h
 alike_long (x ∷ xs) (y ∷ ys) h = ap suc (alike_long xs ys h.1)
+
+pub begun_same : (written : ℕ) (now : List Stored) → written ≤ length now
+    → AreBegun false written now (take written now)
+begun_same written now within = (length-take-le written now within, within, all_alike (take written now), λ e. refl)
+
+pub begun_all : (before now : List Stored) → AreAlike before now → AreBegun true (length now) now before
+begun_all before now alike = (
+  sym (alike_long before now alike),
+  omega arith,
+  subst (AreAlike before) (sym (take_all (length now) now (omega arith))) alike,
+  λ e. absurd (cc e),
+)
 
 pub alike_fit : (before now : List Stored) → AreAlike before now → AllByRecursion FitsHub before → AllByRecursion FitsHub now
 alike_fit [] [] h fit = tt

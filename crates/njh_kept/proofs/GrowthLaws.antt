@@ -14,9 +14,9 @@ use Rattle.njh_customer.specs.OutgoingFiles.{outgoing}
 use Rattle.njh_customer.specs.Part.{Part, part_after_bytes, part_after_signal}
 use Rattle.njh_customer.specs.Runs.{OwnSignal}
 use Rattle.njh_customer.specs.Surviving.{EventsKeepFiles, FilesGoOn, TakesKeepFiles}
-use Rattle.njh_customer.proofs.DownLines.{signals_grow}
+use Rattle.njh_customer.proofs.StepsGrow.{signals_grow}
 use Rattle.njh_customer.proofs.GrowingLaws.{many_go_on, quiet}
-use Rattle.njh_customer.proofs.PartialNumbers.{partials_numbered}
+use Rattle.njh_customer.proofs.GrowingLaws.{partials_numbered}
 use Rattle.njh_customer.proofs.RestLengths.{events_short, takes_short}
 use Rattle.njh_customer.proofs.SurvivingLaws.{held_still}
 use Rattle.njh_hub.specs.Keeping.{IsLed, by_bytes, by_routes, by_signal}

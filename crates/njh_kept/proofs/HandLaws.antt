@@ -1,5 +1,5 @@
 -- A file that became whole is added: a number comes in hand, its records are finished under it, and its row is added.
-use Rattle.std.proofs.Common.{◌≡◌, ◌≢◌, ℕ, ◌+◌, ◌^◌, ◌<◌, ◌≤◌, List, [], ◌∷◌, ◌++◌, length, get_or, remove, refl, sym, subst, ◌∙◌, arith}
+use Rattle.std.proofs.Common.{◌≡◌, ◌≢◌, ℕ, ◌+◌, ◌^◌, ◌<◌, ◌≤◌, true, List, [], ◌∷◌, ◌++◌, length, get_or, remove, refl, sym, subst, ◌∙◌, arith}
 use Rattle.std.specs.List.{AllByRecursion}
 use Rattle.std.proofs.lemmas.List.Elements.{All-from_recursion}
 use Rattle.sqlite.specs.State.{State}
@@ -10,7 +10,7 @@ use Rattle.njh_hub.specs.declared.file_summary.FileSummaryView.{FileSummaryView}
 use Rattle.njh_store.specs.Kept.{File, Spool, records_of, with_file, without_records}
 use Rattle.njh_store.specs.Steps.{Changes}
 use Rattle.njh_kept.specs.Opened.{is_name_of}
-use Rattle.njh_kept.specs.code.Alike.{Finishes}
+use Rattle.njh_kept.specs.code.Alike.{Writes}
 use Rattle.njh_kept.specs.code.Following.{AddsRow, AreFronts, GoesTo, HasFiles, IsFrontOf, IsInHand, IsRowFor, LeadsFiles, LeadsInHand, Memory, claim_of}
 use Rattle.njh_kept.specs.code.Leading.{Leads}
 use Rattle.njh_kept.specs.code.Mirrored.{FitsHub}
@@ -100,10 +100,10 @@ module _ (m m1 : Memory) (s t u : Spool) (files : List WholeFile) (has : HasFile
   memory_added k = record { numbers = record m1.numbers { next_id = m1.numbers.next_id + 1 }; own = record m1.own { whole = m1.own.whole ++ k ∷ [] }; text = m1.text }
 
   row_added : (k : KeptWhole) (row : File) → IsInHand k.key written m m1 s t files g.records → k.id ≡ m1.numbers.next_id → Remembers k g → IsRowFor m1.text k.key summary row
-      → Finishes k.key written g.records t u → GoesTo m (memory_added k) s (with_file k.id row u) (files ++ g ∷ [])
+      → Writes true k.key written g.records t u → GoesTo m (memory_added k) s (with_file k.id row u) (files ++ g ∷ [])
   row_added k row hand id remembers is_row finishes =
       let apart : AreApart (with_key k.key (claim_of m1)) = still_apart (claim_of m) (with_key k.key (claim_of m1)) s t hand.moves has.apart in
-      let done = finishes hand.before hand.moves.ordered hand.stored hand.long hand.within hand.alike in
+      let done = finishes hand.before hand.moves.ordered hand.stored (hand.long, hand.within, hand.alike, λ e. absurd (cc e)) in
       let owned = is_row.owned m1.own.name ((λ i. is_name_of (hand.text i) (hand.moves.name i)) ∙ has.named) in
       let by =
       add_follows m1.numbers m1.own t files hand.moves.ordered hand.mirrored k g u row id (hand.moves.below has.below) apart done.0 owned (is_row.of_file g summary_is) remembers done.1 fits in
@@ -114,21 +114,21 @@ module _ (m m1 : Memory) (s t u : Spool) (files : List WholeFile) (has : HasFile
       (λ p other before. done.0.others p.key other ∙ before) m1.own.partial (no_partial k.key m1 apart) hand.records)
 
   pub added_goes : (key : ℕ) (m2 : Memory) (old new : State) (row : AddsRow key summary g m1 m2 old new) → IsInHand key written m m1 s t files g.records
-      → Finishes key written g.records t u → GoesTo m m2 s (with_file row.kept.id row.row u) (files ++ g ∷ [])
+      → Writes true key written g.records t u → GoesTo m m2 s (with_file row.kept.id row.row u) (files ++ g ∷ [])
   added_goes key m2 old new row hand finishes =
       subst (λ x. GoesTo m x s (with_file row.kept.id row.row u) (files ++ g ∷ [])) (sym row.memory)
       (row_added row.kept row.row (subst (λ n. IsInHand n written m m1 s t files g.records) (sym row.key_is) hand) row.id row.remembers
-      (subst (λ n. IsRowFor m1.text n summary row.row) (sym row.key_is) row.is_row) (subst (λ n. Finishes n written g.records t u) (sym row.key_is) finishes))
+      (subst (λ n. IsRowFor m1.text n summary row.row) (sym row.key_is) row.is_row) (subst (λ n. Writes true n written g.records t u) (sym row.key_is) finishes))
 
 -- ---- the calls one after the other
 
 module _ (m m1 : Memory) (g : WholeFile) (key written : ℕ) where
   pub add_leads : (m2 : Memory) (summary : FileSummaryView) (old mid mid2 new : State) → summary ≡ file_summary g → HasHeaders g.kind g.records → AllByRecursion FitsHub g.records
-      → LeadsInHand key written g m m1 old mid → Leads (Finishes key written g.records) mid mid2 → AddsRow key summary g m1 m2 mid2 new
+      → LeadsInHand key written g m m1 old mid → Leads (Writes true key written g.records) mid mid2 → AddsRow key summary g m1 m2 mid2 new
       → LeadsFiles m m2 (λ s files. AreFronts s m.own.partial (g ∷ [])) (λ files now. now ≡ files ++ g ∷ []) old new
   add_leads m2 summary old mid mid2 new summary_is headers fits hand finish row =
       leads_then
-      (λ s u. (files : List WholeFile) → HasFiles m s files → AreFronts s m.own.partial (g ∷ []) → (t : Spool) × IsInHand key written m m1 s t files g.records × Finishes key written g.records t u)
+      (λ s u. (files : List WholeFile) → HasFiles m s files → AreFronts s m.own.partial (g ∷ []) → (t : Spool) × IsInHand key written m m1 s t files g.records × Writes true key written g.records t u)
       (λ u v. v ≡ with_file row.kept.id row.row u) _ old mid2 new
       (leads_then _ _ _ old mid mid2 hand finish (λ s t u first second files has fronts. (t, first files has fronts, second)))
       (leads_by (with_file row.kept.id row.row) mid2 new row.changes)

@@ -51,7 +51,6 @@ pub mod OpeningFound
 pub mod OpeningSettled
 pub mod OpeningLists
 pub mod OpeningCustomers
-pub mod OpeningFiles
 pub mod GrowthLaws
 pub mod FrontLaws
 pub mod BegunLaws

@@ -44,7 +44,7 @@ use Rattle.njh_customer.specs.NewRoutes.{entry_with, part_after_routes, routes_g
 use Rattle.njh_customer.specs.OutgoingFiles.{outgoing, sender_on}
 use Rattle.njh_customer.specs.Part.{Part, part_at_open, rest_at, rest_on}
 use Rattle.njh_customer.specs.Runs.{OwnEvent, OwnBytes, OwnSignal, OwnRoutes, alone_run, event_run}
-use Rattle.njh_customer.proofs.FileNumbers.{FreeNumbers}
+use Rattle.njh_customer.proofs.FileLimits.{FreeNumbers}
 use Rattle.njh_customer.proofs.OutgoingLaws.{stream_is}
 use Rattle.njh_hub.specs.Keeping.{is_held, kept_file, kept_files}
 use Rattle.njh_hub.specs.Restored.{part_with_file}

@@ -4,7 +4,7 @@ use Rattle.std.proofs.lemmas.List.{get_or-map, length-map, map-append, map-set, 
 use Rattle.std.proofs.lemmas.Bool.{false≢true}
 use Rattle.std.proofs.lemmas.Option.{slice_get-get_or}
 use Rattle.njh_record.specs.Stored.{Stored}
-use Rattle.njh_kept.specs.code.Alike.{WritesFrom}
+use Rattle.njh_kept.specs.code.Alike.{Writes}
 use Rattle.sqlite.specs.State.{HasCleanDisk}
 use Rattle.sqlite.specs.Store.{Ghosts}
 use Rattle.njh_spool.specs.CustomerSpool.{CustomerSpool, partial_records}
@@ -21,6 +21,7 @@ use Rattle.njh_kept.specs.code.Mirrored.{HasRecords, IsOrdered, WritesUnder}
 use Rattle.njh_kept.specs.code.Partly.{AllClosed, AllSeen, IsSameButNumbers, IsSeen, IsUpToDate, KeepsNew, KeepsOn, KeepsPartly, KeepsPartlyNew}
 use Rattle.njh_kept.specs.code.Remembered.{IsPartlyKept, KeptPartial, Numbers, OwnFiles}
 use Rattle.njh_kept.specs.code.Writing.{IsTaken, behind_of, first_of, freed_by, is_left, left_of, without_swept}
+use Rattle.njh_kept.proofs.AlikeLaws.{begun_same}
 use Rattle.njh_kept.proofs.LeadingLaws.{leads_by, leads_nothing, leads_then, leads_weaker}
 use Rattle.njh_kept.proofs.PartlyLaws.{Halves, all_push, all_remove, all_set, halves_at, halves_remove, halves_set, keeps_begun, keeps_closed, keeps_gone_on, keeps_on_nothing, keeps_on_then, keeps_swept, keeps_while_swept, keeps_taken}
 use Rattle.njh_kept.proofs.NumberedLaws.{all_weaker}
@@ -337,10 +338,10 @@ module _ (p q : kept_partial.KeptPartial) (rs : List Stored) (key : q.key ≡ p.
   )
 
   -- all that is left is written
-  pub rest_is_written : (t : Spool) → q.written ≡ length rs → WritesFrom p.key p.written rs s t → IsOrdered s → IsPartlyKept s (partial_of p) rs
+  pub rest_is_written : (t : Spool) → q.written ≡ length rs → Writes false p.key p.written rs s t → IsOrdered s → IsPartlyKept s (partial_of p) rs
       → WritesUnder p.key s t × IsPartlyKept t (partial_of q) rs
   rest_is_written t whole wrote h one =
-      let done = wrote h one.stored one.written in (
+      let done = wrote (take p.written rs) h one.stored (begun_same p.written rs one.written) in (
         done.0,
         record {
           written = omega (arith, whole);

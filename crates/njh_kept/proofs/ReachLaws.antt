@@ -1,7 +1,7 @@
 -- The records of a hub's file are gone through, and what of them stands on a spool file.
-use Rattle.std.proofs.Common.{◌≡◌, ℕ, zero, suc, ◌+◌, ◌^◌, ◌<◌, ◌≤◌, false, List, [], ◌∷◌, ◌++◌, length, get_or, take, drop, slice_get, Option, Some, None, refl, sym, ap, subst, ◌∙◌, arith}
+use Rattle.std.proofs.Common.{◌≡◌, ℕ, zero, suc, ◌+◌, ◌^◌, ◌<◌, ◌≤◌, ◌&&◌, Bool, true, false, List, [], ◌∷◌, ◌++◌, length, get_or, take, drop, slice_get, Option, Some, None, refl, sym, ap, subst, ◌∙◌, arith}
 use Rattle.std.specs.List.{AllByRecursion}
-use Rattle.std.proofs.lemmas.List.{drop-drop, length-take-le, take-append-drop, take-take, take_all}
+use Rattle.std.proofs.lemmas.List.{drop-drop, take-append-drop, take-take}
 use Rattle.sqlite.specs.State.{State}
 use Rattle.njh_record.specs.Stored.{Stored}
 use Rattle.njh_spool.specs.CustomerSpool.{CustomerSpool}
@@ -9,12 +9,11 @@ use Rattle.njh_spool.specs.Spools.{records_numbered}
 use Rattle.njh_stream.specs.SpoolFiles.{records_in}
 use Rattle.njh_store.specs.Kept.{Record, Spool, with_record, without_records}
 use Rattle.njh_store.specs.Steps.{Changes}
-use Rattle.njh_kept.specs.code.Alike.{AreAlike, Finishes, Rewrites, WritesFrom, is_header}
+use Rattle.njh_kept.specs.code.Alike.{AreAlike, AreBegun, Writes, is_header}
 use Rattle.njh_kept.specs.code.Leading.{Leads}
 use Rattle.njh_kept.specs.code.Mirrored.{FitsHub, HasRecords, IsOrdered, WritesUnder, records_midway, stored_of}
 use Rattle.njh_kept.specs.code.Writing.{with_replaced}
 use Rattle.njh_kept.specs.declared.writer.SpoolWriter.{SpoolWriter}
-use Rattle.njh_kept.proofs.AlikeLaws.{all_alike, alike_long}
 use Rattle.njh_kept.proofs.FinishLaws.{finish_adds, finish_ends, finish_passes, finish_rewrites}
 use Rattle.njh_kept.proofs.FrameLaws.{changes_record, writes_nothing, writes_record, writes_then}
 use Rattle.njh_kept.proofs.LeadingLaws.{leads_by, leads_nothing, leads_then, leads_weaker}
@@ -86,12 +85,6 @@ module _ (key : ℕ) (Given : List Stored → Type 0) (all : List Stored) (front
         leads_weaker (Reaches key Given all at) (Reaches key Given all (at + 1)) old mid
         (λ s t reached before h has given. let one = reached before h has given in (one.0, subst (λ rs. HasRecords key rs t) (sym (same before given)) one.1)) so_far
 
-    -- as one is that is no header
-    pub other_is_same : (r : Stored) → r ≡ get_or all at r → is_header r.srcb ≡ false → ((before : List Stored) → Given before → at < length before)
-        → (before : List Stored) → Given before → records_midway (at + 1) all before ≡ records_midway at all before
-    other_is_same r is other within before given =
-        let all_front = front before given in finish_passes before all all_front.0 all_front.1 at r (within before given) is other
-
     module _ (r : Record) (low : at < 2 ^ 23) (mine : r.key ≡ key) (place : r.place ≡ at) (is : stored_of r ≡ get_or all at (stored_of r)) where
       lower : r.place < 2 ^ 23
       lower = omega (arith, low, place)
@@ -134,57 +127,32 @@ module _ (key : ℕ) (Given : List Stored → Type 0) (all : List Stored) (front
       let all_front = front before given in
       (one.0, subst (λ rs. HasRecords key rs t) (finish_ends before all all_front.0 all_front.1 at past) one.1))
 
--- ---- the three ways
+-- ---- what stood there
 
--- so many stand there
-abbrev pub AreWritten : (from : ℕ) (all : List Stored) → List Stored → Type 0
-AreWritten from all before = (before ≡ take from all) × (from ≤ length all)
-
-module _ (from : ℕ) (all : List Stored) where
-  pub written_long : (before : List Stored) → AreWritten from all before → length before ≡ from
-  written_long before given = ap (λ (rs : List Stored). length rs) given.0 ∙ length-take-le from all given.1
-
-  pub written_front : (before : List Stored) → AreWritten from all before → IsFront all before
-  written_front before given =
-      let long = written_long before given in
-      (omega (arith, long, given.1), subst (AreAlike before) (given.0 ∙ ap (λ n. take n all) (sym long)) (all_alike before))
-
-  front_again : (at : ℕ) (before : List Stored) → AreWritten from all before → at ≤ from → records_midway at all before ≡ before
-  front_again at before given within =
-      ap (λ rs. rs ++ drop at before) (sym (take-take at from all within) ∙ ap (λ (rs : List Stored). take at rs) (sym given.0)) ∙ take-append-drop at before
-
-  pub written_is_same : (at : ℕ) → at < from → (before : List Stored) → AreWritten from all before → records_midway (at + 1) all before ≡ records_midway at all before
-  written_is_same at within before given = front_again (at + 1) before given (omega (arith, within)) ∙ sym (front_again at before given (omega (arith, within)))
-
-pub write_ends : (key from : ℕ) (all : List Stored) (at : ℕ) (old new : State) → length all ≤ at → Leads (Reaches key (AreWritten from all) all at) old new
-    → Leads (WritesFrom key from all) old new
-write_ends key from all at old new past so_far =
-    leads_weaker (λ s t. (before : List Stored) → IsOrdered s → HasRecords key before s → AreWritten from all before → WritesUnder key s t × HasRecords key all t)
-    (WritesFrom key from all) old new (λ s t ends h has within. ends (take from all) h has (refl, within))
-    (reach_ends key (AreWritten from all) all (written_front from all) at old new past so_far)
-
--- so many stand there, alike to the first of these
-abbrev pub AreBegun : (written : ℕ) (all : List Stored) → List Stored → Type 0
-AreBegun written all before = (length before ≡ written) × (written ≤ length all) × AreAlike before (take written all)
-
-pub begun_front : (written : ℕ) (all before : List Stored) → AreBegun written all before → IsFront all before
-begun_front written all before given =
+pub begun_front : (is_old : Bool) (written : ℕ) (all before : List Stored) → AreBegun is_old written all before
+    → IsFront all before
+begun_front is_old written all before given =
     (omega (arith, given.0, given.1), subst (λ n. AreAlike before (take n all)) (sym given.0) given.2)
 
-pub finish_done : (key written : ℕ) (all : List Stored) (at : ℕ) (old new : State) → length all ≤ at → Leads (Reaches key (AreBegun written all) all at) old new
-    → Leads (Finishes key written all) old new
-finish_done key written all at old new past so_far =
-    leads_weaker (λ s t. (before : List Stored) → IsOrdered s → HasRecords key before s → AreBegun written all before → WritesUnder key s t × HasRecords key all t)
-    (Finishes key written all) old new (λ s t ends before h has long within alike. ends before h has (long, within, alike))
-    (reach_ends key (AreBegun written all) all (begun_front written all) at old new past so_far)
+front_again : (written : ℕ) (all before : List Stored) (at : ℕ) → before ≡ take written all → at ≤ written
+    → records_midway at all before ≡ before
+front_again written all before at same within =
+    ap (λ rs. rs ++ drop at before)
+    (sym (take-take at written all within) ∙ ap (λ (rs : List Stored). take at rs) (sym same)) ∙ take-append-drop at before
 
--- they are alike to these
-pub alike_front : (all before : List Stored) → AreAlike before all → IsFront all before
-alike_front all before alike =
-    let long = alike_long before all alike in
-    (omega (arith, long), subst (AreAlike before) (sym (take_all (length before) all (omega (arith, long)))) alike)
+-- one that isn't to be written anew is passed over
+pub begun_is_same : (is_old : Bool) (written : ℕ) (all : List Stored) (at : ℕ) (r : Stored) → at < written
+    → r ≡ get_or all at r → (is_old && is_header r.srcb) ≡ false
+    → (before : List Stored) → AreBegun is_old written all before
+    → records_midway (at + 1) all before ≡ records_midway at all before
+begun_is_same false written all at r low is other before given =
+    front_again written all before (at + 1) (given.3 refl) (omega (arith, low))
+    ∙ sym (front_again written all before at (given.3 refl) (omega (arith, low)))
+begun_is_same true written all at r low is other before given =
+    let all_front = begun_front true written all before given in
+    finish_passes before all all_front.0 all_front.1 at r (omega (arith, low, given.0)) is other
 
-pub rewrite_done : (key : ℕ) (all : List Stored) (at : ℕ) (old new : State) → length all ≤ at
-    → Leads (Reaches key (λ before. AreAlike before all) all at) old new → Leads (Rewrites key all) old new
-rewrite_done key all at old new past so_far =
-    reach_ends key (λ before. AreAlike before all) all (alike_front all) at old new past so_far
+pub write_done : (is_old : Bool) (key written : ℕ) (all : List Stored) (at : ℕ) (old new : State) → length all ≤ at
+    → Leads (Reaches key (AreBegun is_old written all) all at) old new → Leads (Writes is_old key written all) old new
+write_done is_old key written all at old new past so_far =
+    reach_ends key (AreBegun is_old written all) all (begun_front is_old written all) at old new past so_far

@@ -1,14 +1,13 @@
 -- One whole file of a spool, put back or not.
-use Rattle.std.proofs.Common.{◌≡◌, ℕ, ◌<◌, ◌^◌, ◌==◌, nat_lt, nat_le, ◌&&◌, ◌+◌, List, [], ◌∷◌, ◌++◌, length, map, filter, take, get_or, slice_set, Option, Some, None, refl, sym, ap, subst, ◌∙◌, arith}
-use Rattle.std.specs.List.{AllByRecursion}
+use Rattle.std.proofs.Common.{◌≡◌, ℕ, ◌<◌, ◌+◌, List, [], ◌∷◌, ◌++◌, length, map, take, get_or, slice_set, Option, Some, None, sym, ap, subst, ◌∙◌}
 use Rattle.std.proofs.lemmas.List.{map-append, take_more}
 use Rattle.std.proofs.lemmas.Simd.{map-map}
-use Rattle.std.proofs.lemmas.Bool.Decides.{nat_tests}
 use Rattle.sqlite.specs.State.{State}
 use Rattle.sqlite.specs.Tree.{Trees}
 use Rattle.njh_hub.specs.WholeHub.{Part, part}
-use Rattle.njh_store.specs.Kept.{Record, Spool, Whole, Holds, IsNumbered, contents, contents_of, kept, record_number, records_between, records_of, whole_in, entry_of}
+use Rattle.njh_store.specs.Kept.{Record, Spool, Whole, Holds, contents, contents_of, kept, records_between, records_of, whole_in, entry_of}
 use Rattle.njh_store.specs.Steps.{Stays}
+use Rattle.njh_store.proofs.ReadingLaws.{of_file}
 use Rattle.njh_store.specs.declared.kept.StoredFile.{StoredFile}
 use Rattle.njh_store.specs.declared.kept.StoredRecord.{StoredRecord}
 use Rattle.njh_kept.specs.Opened.{Contents, file_fault, whole_fault, with_file, with_whole}
@@ -18,21 +17,10 @@ use Rattle.njh_kept.proofs.HubLaws.{more, more-fails}
 
 -- ---- nothing happened
 
-pub stays_at : (s : State) → Stays s s
-stays_at s = record { is_open = λ h. h; now = refl; committed = refl; mode = refl }
-
 pub stays_then : (a b c : State) → Stays a b → Stays b c → Stays a c
 stays_then a b c p q = record { is_open = λ h. q.is_open (p.is_open h); now = q.now ∙ p.now; committed = q.committed ∙ p.committed; mode = q.mode ∙ p.mode }
 
 -- ---- the records of a file are those between two numbers
-
-of_key : (key : ℕ) (e : ℕ × Record) → IsNumbered e → (nat_le (record_number key 0) e.0 && nat_lt e.0 (record_number key (2 ^ 23))) ≡ (e.1.key == key)
-of_key key e h = grind (arith, nat_tests, h)
-
-of_file : (key : ℕ) (records : List (ℕ × Record)) → AllByRecursion IsNumbered records
-    → filter (λ e. nat_le (record_number key 0) e.0 && nat_lt e.0 (record_number key (2 ^ 23))) records ≡ filter (λ e. e.1.key == key) records
-of_file key [] all = refl
-of_file key (e ∷ es) all = rw (of_key key e all.0, of_file key es all.1) refl
 
 pub all_read : (spool : Spool) (trees : Trees) (key : ℕ) (read : List StoredRecord) → Holds spool trees
     → map contents_of read ≡ map contents (records_between key 0 8388608 spool) → map contents_of read ≡ map contents (records_of key spool)

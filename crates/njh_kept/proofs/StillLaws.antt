@@ -17,12 +17,12 @@ use Rattle.njh_hub.specs.Views.{file_summary}
 use Rattle.njh_hub.specs.declared.file_summary.FileSummaryView.{FileSummaryView}
 use Rattle.njh_store.specs.Kept.{File, Spool, records_of, with_changed}
 use Rattle.njh_kept.specs.Opened.{is_own}
-use Rattle.njh_kept.specs.code.Alike.{AreAlike, Rewrites}
+use Rattle.njh_kept.specs.code.Alike.{AreAlike, Writes}
 use Rattle.njh_kept.specs.code.Following.{GoesTo, HasFiles, IsRowFor, IsStillAt, Memory, claim_of}
 use Rattle.njh_kept.specs.code.Mirrored.{FitsHub, HasRecords, WritesUnder, own_rows}
 use Rattle.njh_kept.specs.code.Nodes.{AreOne, named_nodes}
 use Rattle.njh_kept.specs.code.Remembered.{IsKept, IsRowOf, KeptPartial, KeptWhole, NameOneNode, Remembers, AreApart}
-use Rattle.njh_kept.proofs.AlikeLaws.{alike_fit, alike_long, job_names_one}
+use Rattle.njh_kept.proofs.AlikeLaws.{alike_fit, alike_long, begun_all, job_names_one}
 use Rattle.njh_kept.proofs.BesideLaws.{BesideAt}
 use Rattle.njh_kept.proofs.CallLaws.{change_follows}
 use Rattle.njh_kept.proofs.FollowLaws.{destination_still, records_alike, records_are_same}
@@ -152,10 +152,10 @@ module _ (m : Memory) (i : ℕ) (k : KeptWhole) (there : i < length m.own.whole)
       alike = alike_still k before.before g kept.remembers before.still was headers
 
       -- its headers were written anew, and its row
-      pub rewritten_goes : (k.destination ≡ summary.destination → AreOne (named_nodes None g.records)) → (t : Spool) (row : File) → Rewrites k.key g.records s t
+      pub rewritten_goes : (k.destination ≡ summary.destination → AreOne (named_nodes None g.records)) → (t : Spool) (row : File) → Writes true k.key (length g.records) g.records s t
           → IsRowFor m.text k.key summary row → GoesTo m (memory_changed now_rewritten) s (with_changed k.id row t) (set files i g)
       rewritten_goes one t row writes is_row =
-          let written = writes before.before.records has.ordered kept.stored alike in
+          let written = writes before.before.records has.ordered kept.stored (begun_all before.before.records g.records alike) in
           row_goes now_rewritten refl refl s files has g before headers
           (record {
             number = kept.remembers.number ∙ sym before.still.number;

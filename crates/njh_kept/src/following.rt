@@ -18,7 +18,7 @@ ghost use Rattle.njh_kept.specs.code.Remembered.{NameOneNode};
 ghost use Rattle.njh_kept.specs.code.Nodes.{AreOne, named_nodes};
 ghost use Rattle.njh_kept.specs.code.Walking.{AreNumbered, IsWalkedTo};
 
-use crate::hub_records::{finish_records, is_mixed, job_of, rewrite_headers};
+use crate::hub_records::{is_mixed, job_of, write_records};
 use crate::own_files::{HubFile, KeptWhole, OwnFiles};
 use crate::rows::{is_held, row_of};
 use crate::writer::{SpoolWriter, astray};
@@ -247,7 +247,7 @@ fn rewrite_one<S: Alter + Drop>(
 {
     let kept = own.whole[place];
     let written = file;
-    rewrite_headers(writer, hub, written, kept.key)?;
+    write_records(writer, hub, written, kept.key, summary.records, true)?;
     let now = KeptWhole {
         state: summary.state,
         destination: summary.destination,
@@ -358,7 +358,7 @@ fn add_one<S: Alter + Drop>(
     let place = place_for(writer, own, file.number, summary.records)?;
     let RecordPlace { key, written } = place;
     let finished = file;
-    finish_records(writer, hub, finished, key, written)?;
+    write_records(writer, hub, finished, key, written, true)?;
     add_row(writer, own, hub, file, key, summary)
 }
 
@@ -436,7 +436,7 @@ fn add_row<S: Alter + Drop>(
 }
 
 /// Whether a file's headers name more than one node.
-fn names_several(hub: &Hub, file: HubFile, summary: &FileSummaryView) -> bool
+pub(crate) fn names_several(hub: &Hub, file: HubFile, summary: &FileSummaryView) -> bool
     ensures { (g : WholeFile) → IsHubFile hub.now file summary.now g → result ≡ false → NameOneNode g.kind g.records }
 {
     match summary.kind {

@@ -1,12 +1,12 @@
 //! The records of a hub's file, as they are written into a spool file.
 
-ghost use Rattle.std.specs.Prelude.{◌≡◌, ◌≤◌, ◌<◌, ◌^◌, true, false, [], length, IsSome, OnOk, Some, None};
+ghost use Rattle.std.specs.Prelude.{◌≡◌, ◌≤◌, ◌<◌, ◌&&◌, true, false, [], length, IsSome, OnOk, Some, None};
 ghost use Rattle.std.specs.List.{AllByRecursion};
 ghost use Rattle.sqlite.specs.State.{HasCleanDisk, Survives};
 ghost use Rattle.njh_stream.specs.SpoolFiles.{records_in};
 ghost use Rattle.njh_hub.specs.WholeHub.{part};
 ghost use Rattle.njh_store.specs.Shelf.{shown};
-ghost use Rattle.njh_kept.specs.code.Alike.{Finishes, Rewrites, WritesFrom, is_header};
+ghost use Rattle.njh_kept.specs.code.Alike.{Writes, is_header};
 ghost use Rattle.njh_kept.specs.code.Leading.{Leads};
 ghost use Rattle.njh_kept.specs.code.Mirrored.{FitsHub};
 ghost use Rattle.njh_kept.specs.code.Nodes.{AreOne, named_node, named_nodes, with_first};
@@ -24,52 +24,17 @@ use sqlite::{Alter, Error};
 /// Blanks, where a field has nothing.
 const BLANKS: [u8; 8] = [0x40; 8];
 
-/// Writes a file's records from a place on.
+/// Writes the records of a file of which so many stand there. Where the file may have been sent
+/// elsewhere since those were written (`is_old`), the headers among them are written anew.
 pub(crate) fn write_records<S: Alter + Drop>(
     writer: &mut SpoolWriter<S>,
     hub: &Hub,
     file: HubFile,
     key: u32,
-    from: u32,
-) -> Result<(), Error>
-    ensures led { HasCleanDisk (shown S.Store writer.new.store) → OnOk result (Leads (WritesFrom key from
-        (records_in file.number (part file.customer hub.now).customer.spool))
-        (shown S.Store writer.old.store) (shown S.Store writer.new.store)) }
-    ensures others { OnOk result (writer.new
-        ≡ record writer.old { store = writer.new.store; waiting = writer.new.waiting }) }
-    ensures crash { Survives (shown S.Store writer.old.store) (shown S.Store writer.new.store) (λ _. ⊥) }
-{
-    let Some(mut records) = hub.read_file(file.customer, file.number) else {
-        return Err(astray());
-    };
-    let mut record = Record::new();
-    'places: for place in 0..PLACES {
-        let Some(srcb) = records.next(&mut record) else {
-            return Ok(());
-        };
-        if place >= from {
-            let bytes = &record;
-            writer.add_record(&KeptRecord {
-                key,
-                place,
-                srcb,
-                bytes,
-            })?;
-        }
-    }
-    Err(astray())
-}
-
-/// Writes the records of a file that is whole now, of which so many stand there. Of these the headers are written anew:
-/// the file may have been sent elsewhere since.
-pub(crate) fn finish_records<S: Alter + Drop>(
-    writer: &mut SpoolWriter<S>,
-    hub: &Hub,
-    file: HubFile,
-    key: u32,
     written: u32,
+    is_old: bool,
 ) -> Result<(), Error>
-    ensures led { HasCleanDisk (shown S.Store writer.new.store) → OnOk result (Leads (Finishes key written
+    ensures led { HasCleanDisk (shown S.Store writer.new.store) → OnOk result (Leads (Writes is_old key written
         (records_in file.number (part file.customer hub.now).customer.spool))
         (shown S.Store writer.old.store) (shown S.Store writer.new.store)) }
     ensures fit { OnOk result (AllByRecursion FitsHub
@@ -95,53 +60,19 @@ pub(crate) fn finish_records<S: Alter + Drop>(
         };
         if place >= written {
             writer.add_record(&kept)?;
-        } else if is_header(srcb) {
+        } else if is_old_header(is_old, srcb) {
             writer.replace_record(&kept)?;
         }
     }
     Err(astray())
 }
 
-/// Whether a record is a header, in which a node stands.
-fn is_header(srcb: u8) -> bool
-    ensures { result ≡ is_header srcb }
+/// Whether a record that stands there is to be written anew: a header, in which a node stands, of a
+/// file that may have been sent elsewhere.
+fn is_old_header(is_old: bool, srcb: u8) -> bool
+    ensures { result ≡ (is_old && is_header srcb) }
 {
-    srcb == srcb::JOB_HEADER || srcb == srcb::DATA_SET_HEADER
-}
-
-/// Writes a file's headers anew, as after a REROUTE.
-pub(crate) fn rewrite_headers<S: Alter + Drop>(
-    writer: &mut SpoolWriter<S>,
-    hub: &Hub,
-    file: HubFile,
-    key: u32,
-) -> Result<(), Error>
-    ensures led { HasCleanDisk (shown S.Store writer.new.store) → OnOk result (Leads (Rewrites key
-        (records_in file.number (part file.customer hub.now).customer.spool))
-        (shown S.Store writer.old.store) (shown S.Store writer.new.store)) }
-    ensures others { OnOk result (writer.new
-        ≡ record writer.old { store = writer.new.store; waiting = writer.new.waiting }) }
-    ensures crash { Survives (shown S.Store writer.old.store) (shown S.Store writer.new.store) (λ _. ⊥) }
-{
-    let Some(mut records) = hub.read_file(file.customer, file.number) else {
-        return Err(astray());
-    };
-    let mut record = Record::new();
-    'places: for place in 0..PLACES {
-        let Some(srcb) = records.next(&mut record) else {
-            return Ok(());
-        };
-        if is_header(srcb) {
-            let bytes = &record;
-            writer.replace_record(&KeptRecord {
-                key,
-                place,
-                srcb,
-                bytes,
-            })?;
-        }
-    }
-    Err(astray())
+    is_old && (srcb == srcb::JOB_HEADER || srcb == srcb::DATA_SET_HEADER)
 }
 
 /// Whether a file's data set headers name more than one node.

@@ -138,7 +138,7 @@ fn begin<S: Alter + Drop>(
         written: count,
         is_open: true,
     };
-    write_records(writer, hub, file, key, 0)?;
+    write_records(writer, hub, file, key, 0, false)?;
     remember(own, partial)
 }
 
@@ -180,7 +180,7 @@ fn go_on<S: Alter + Drop>(
         };
         return Ok(());
     }
-    write_records(writer, hub, file, partial.key, partial.written)?;
+    write_records(writer, hub, file, partial.key, partial.written, false)?;
     own.partial[place] = KeptPartial {
         seen,
         written: seen,

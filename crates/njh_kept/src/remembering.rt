@@ -15,14 +15,12 @@ ghost use Rattle.njh_spool.specs.CustomerSpool.{WholeFile};
 ghost use Rattle.njh_store.specs.Kept.{File, entry_of};
 ghost use Rattle.njh_store.specs.Shelf.{shown};
 
-use crate::following::change_row;
-use crate::hub_records::is_mixed;
+use crate::following::{change_row, names_several};
 use crate::own_files::{HubFile, KeptWhole, OwnFiles};
 use crate::rows::{is_held, name_text, reads_as};
 use crate::writer::{SpoolWriter, astray};
 use njh_ebcdic::Name;
 use njh_hub::Hub;
-use njh_record::Kind;
 use njh_store::StoredFile;
 use sqlite::{Alter, Error};
 use std::alloc::{AllocError, Global};
@@ -192,6 +190,7 @@ fn kept_at(hub: &Hub, customer: u16, index: u32, stored: &StoredFile) -> KeptWho
 {
     let summary = hub.summary_at(customer, index);
     let number = hub.number_at(customer, index);
+    let file = HubFile { customer, number };
     KeptWhole {
         id: stored.id,
         key: stored.file.key,
@@ -199,7 +198,7 @@ fn kept_at(hub: &Hub, customer: u16, index: u32, stored: &StoredFile) -> KeptWho
         records: summary.records,
         state: summary.state,
         destination: summary.destination,
-        is_mixed: summary.kind == Kind::Out && is_mixed(hub, HubFile { customer, number }),
+        is_mixed: names_several(hub, file, &summary),
         came: stored.file.came,
     }
 }

@@ -20,19 +20,15 @@ AreAlike before now = AllZip IsAlike before now
 
 -- ---- what comes to stand under a key
 
--- the records of a file, of which so many stood there
-abbrev pub WritesFrom : (key from : ℕ) (now : List Stored) → Spool → Spool → Type 0
-WritesFrom key from now s t =
-    IsOrdered s → HasRecords key (take from now) s → from ≤ length now → WritesUnder key s t × HasRecords key now t
+-- Of a file's records so many stood there: the very first of these, or, where the file may have been sent elsewhere
+-- since, such as are alike to them.
+abbrev pub AreBegun : (is_old : Bool) (written : ℕ) (now before : List Stored) → Type 0
+AreBegun is_old written now before =
+    (length before ≡ written) × (written ≤ length now) × AreAlike before (take written now)
+    × (is_old ≡ false → before ≡ take written now)
 
--- those of a file of which so many stood there, maybe as they were before it was sent elsewhere
-abbrev pub Finishes : (key written : ℕ) (now : List Stored) → Spool → Spool → Type 0
-Finishes key written now s t =
-    (before : List Stored) → IsOrdered s → HasRecords key before s → length before ≡ written → written ≤ length now
-    → AreAlike before (take written now) → WritesUnder key s t × HasRecords key now t
-
--- those of a file that stood there, maybe as they were before it was sent elsewhere
-abbrev pub Rewrites : (key : ℕ) (now : List Stored) → Spool → Spool → Type 0
-Rewrites key now s t =
-    (before : List Stored) → IsOrdered s → HasRecords key before s → AreAlike before now
+-- then all stand there
+abbrev pub Writes : (is_old : Bool) (key written : ℕ) (now : List Stored) → Spool → Spool → Type 0
+Writes is_old key written now s t =
+    (before : List Stored) → IsOrdered s → HasRecords key before s → AreBegun is_old written now before
     → WritesUnder key s t × HasRecords key now t

@@ -1,10 +1,11 @@
-use Rattle.std.proofs.Common.{◌≡◌, ◌<◌, false, length, get_or, set, refl, sym, ap, subst, ◌∙◌, arith}
+use Rattle.std.proofs.Common.{◌≡◌, ◌<◌, false, true, length, get_or, set, refl, sym, ap, subst, ◌∙◌, arith}
 use Rattle.std.proofs.lemmas.List.{get_or-map, get_or_default, length-map, map-set}
 use Rattle.std.specs.Vec.{with_item}
 use Rattle.sqlite.specs.State.{HasCleanDisk}
+use Rattle.njh_hub.specs.declared.file_summary.FileSummaryView.{FileSummaryView}
 use Rattle.njh_store.specs.Kept.{with_changed}
 use Rattle.njh_store.specs.Shelf.{shown}
-use Rattle.njh_kept.specs.code.Alike.{Rewrites}
+use Rattle.njh_kept.specs.code.Alike.{Writes}
 use Rattle.njh_kept.specs.code.Following.{GoesTo, memory_of}
 use Rattle.njh_kept.specs.code.Memory.{numbers_of, whole_of}
 use Rattle.njh_kept.proofs.LeadingLaws.{leads_by, leads_then, survives_both}
@@ -22,7 +23,7 @@ returns-clause-led g c f hub_file kept kept_is one clean =
     let there : i < length m.own.whole = (let long = length-map items whole_of in omega (arith, long, c.requires)) in
     let is : k ≡ get_or m.own.whole i k = ap whole_of c.index-kept.ensures ∙ sym (get_or-map whole_of items i first k c.requires) in
     let summary = c.args.summary.now in
-    let mid = shown g.S.Store c.rewrite_headers.new.writer.store in
+    let mid = shown g.S.Store c.write_records.new.writer.store in
     let new = shown g.S.Store c.change_row.new.writer.store in
     let early : HasCleanDisk mid = omega (arith, c.change_row.ensures.crash.clean, clean) in
     let same : kept ≡ first = kept_is ∙ get_or_default items i kept first c.requires ∙ sym c.index-kept.ensures in
@@ -30,23 +31,24 @@ returns-clause-led g c f hub_file kept kept_is one clean =
     let m' = memory_of c.change_row.new.writer (record c.args.own.now { whole = with_item c.args.own.now.whole i now }) in
     let led : m' ≡ memory_changed m i k there is (now_rewritten m i k there is f summary hub_file.summary_is hub_file.headers) =
     λ j. record {
-      numbers = (ap numbers_of c.change_row.ensures.others ∙ ap numbers_of c.in_ok-rewrite_headers.ensures.others) j;
+      numbers = (ap numbers_of c.change_row.ensures.others ∙ ap numbers_of c.in_ok-write_records.ensures.others) j;
       own = record m.own { whole = map-set whole_of items i now j };
       text = m.text;
     } in
     let changed = c.in_ok-change_row.ensures.changed clean in
-    leads_then _ (λ t u. u ≡ with_changed k.id changed.row t) _ old mid new (c.in_ok-rewrite_headers.ensures.led early) (leads_by (with_changed k.id changed.row) mid new changed.changes)
+    leads_then _ (λ t u. u ≡ with_changed k.id changed.row t) _ old mid new (c.in_ok-write_records.ensures.led early) (leads_by (with_changed k.id changed.row) mid new changed.changes)
     (λ s t u writes is_changed files has before. (
       set files i f,
       refl,
       subst (λ x. GoesTo m x s u (set files i f)) (sym led)
           (subst (λ x. GoesTo m (memory_changed m i k there is (now_rewritten m i k there is f summary hub_file.summary_is hub_file.headers)) s x (set files i f)) (sym is_changed)
           (rewritten_goes m i k there is f summary hub_file.summary_is hub_file.headers s files has before (λ said. one (ap (λ x. x.destination) same ∙ said)) t changed.row
-          (subst (λ rs. Rewrites k.key rs s t) hub_file.records_are writes) changed.is_row)),
+          (subst (λ n. Writes true k.key n f.records s t) (ap (λ (x : FileSummaryView). x.records) hub_file.summary_is)
+          (subst (λ rs. Writes true k.key summary.records rs s t) hub_file.records_are writes)) changed.is_row)),
     ))
 
 pub returns-in_err-change_row-clause-crash : goal.returns-in_err-change_row-clause-crash
-returns-in_err-change_row-clause-crash g c = survives_both _ _ _ c.rewrite_headers.ensures.crash c.change_row.ensures.crash
+returns-in_err-change_row-clause-crash g c = survives_both _ _ _ c.write_records.ensures.crash c.change_row.ensures.crash
 
 pub returns-clause-crash : goal.returns-clause-crash
-returns-clause-crash g c = survives_both _ _ _ c.rewrite_headers.ensures.crash c.change_row.ensures.crash
+returns-clause-crash g c = survives_both _ _ _ c.write_records.ensures.crash c.change_row.ensures.crash

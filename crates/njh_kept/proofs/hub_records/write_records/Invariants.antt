@@ -1,10 +1,13 @@
-use Rattle.std.proofs.Common.{◌≡◌, drop}
+use Rattle.std.proofs.Common.{◌≡◌, drop, take}
+use Rattle.std.specs.List.{AllByRecursion}
 use Rattle.sqlite.specs.State.{HasCleanDisk, Survives}
 use Rattle.njh_stream.specs.SpoolFiles.{records_in}
 use Rattle.njh_hub.specs.WholeHub.{part}
 use Rattle.njh_store.specs.Shelf.{shown}
 use Rattle.njh_kept.specs.code.Leading.{Leads}
-use Rattle.njh_kept.proofs.ReachLaws.{AreWritten, Reaches}
+use Rattle.njh_kept.specs.code.Mirrored.{FitsHub}
+use Rattle.njh_kept.specs.code.Alike.{AreBegun}
+use Rattle.njh_kept.proofs.ReachLaws.{Reaches}
 use Rattle.njh_kept.proofs.hub_records.write_records.Given as goal
 
 -- so many records were gone through, and those are left
@@ -15,7 +18,8 @@ invariant-places g l =
     let all = records_in l.fn.file.number (part l.fn.file.customer l.hub).customer.spool in
     record {
       crash : Survives old now (λ _. ⊥);
-      led : HasCleanDisk now → Leads (Reaches l.key (AreWritten l.from all) all l.place) old now;
+      led : HasCleanDisk now → Leads (Reaches l.key (AreBegun l.is_old l.written all) all l.place) old now;
       left : l.records ≡ drop l.place all;
+      fit : AllByRecursion FitsHub (take l.place all);
       others : l.writer ≡ record l.fn.writer { store = l.writer.store; waiting = l.writer.waiting };
     }

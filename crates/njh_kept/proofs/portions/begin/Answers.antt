@@ -1,11 +1,12 @@
-use Rattle.std.proofs.Common.{◌≡◌, length, refl, true, ap, subst, ◌∙◌, arith}
+use Rattle.std.proofs.Common.{◌≡◌, [], false, length, refl, true, ap, subst, ◌∙◌, arith}
 use Rattle.njh_spool.specs.CustomerSpool.{partial_records}
 use Rattle.njh_store.proofs.ReadingLaws.{ok_then}
 use Rattle.njh_store.specs.Shelf.{shown}
 use Rattle.njh_hub.specs.WholeHub.{part}
-use Rattle.njh_kept.specs.code.Alike.{WritesFrom}
+use Rattle.njh_kept.specs.code.Alike.{Writes}
 use Rattle.njh_kept.specs.code.Leading.{Leads}
 use Rattle.njh_kept.specs.declared.own_files.KeptPartial.{KeptPartial}
+use Rattle.njh_kept.proofs.AlikeLaws.{begun_same}
 use Rattle.njh_kept.proofs.LeadingLaws.{leads_weaker}
 use Rattle.njh_kept.proofs.PortionLaws.{keeps_first}
 use Rattle.njh_kept.proofs.portions.begin.Goals as goal
@@ -22,6 +23,6 @@ returns-clause-kept g c =
     (λ last.
     keeps_first g.S.Store now c.args.writer.now c.write_records.new.writer c.args.own.now c.remember.new.own c.in_ok-write_records.ensures.others c.remember.ensures.others p last refl
     counted (omega (arith, c.record_count-count.ensures, c.requires.many)) counted
-    (λ clean. leads_weaker _ _ old new (λ s t wrote h empty. wrote h empty (omega arith))
-    (subst (λ rs. Leads (WritesFrom c.args.key 0 rs) old new) c.requires.partial (c.in_ok-write_records.ensures.led clean))))
+    (λ clean. leads_weaker _ _ old new (λ s t wrote h empty. wrote [] h empty (begun_same 0 (partial_records c.args.file.number now) (omega arith)))
+    (subst (λ rs. Leads (Writes false c.args.key 0 rs) old new) c.requires.partial (c.in_ok-write_records.ensures.led clean))))
     c.remember.ensures.last

@@ -1,9 +1,9 @@
-use Rattle.std.proofs.Common.{◌≡◌, ◌≤◌, length, refl, true, ap, subst, ◌∙◌, arith}
+use Rattle.std.proofs.Common.{◌≡◌, ◌≤◌, length, refl, true, false, ap, subst, ◌∙◌, arith}
 use Rattle.njh_spool.specs.CustomerSpool.{partial_records}
 use Rattle.njh_store.specs.Shelf.{shown}
 use Rattle.njh_stream.specs.SpoolFiles.{records_in}
 use Rattle.njh_hub.specs.WholeHub.{part}
-use Rattle.njh_kept.specs.code.Alike.{WritesFrom}
+use Rattle.njh_kept.specs.code.Alike.{Writes}
 use Rattle.njh_kept.specs.code.Leading.{Leads}
 use Rattle.njh_kept.specs.declared.own_files.KeptPartial.{KeptPartial}
 use Rattle.njh_kept.proofs.LeadingLaws.{leads_nothing, leads_weaker}
@@ -39,4 +39,4 @@ returns-clause-kept g c =
     keeps_more g.S.Store now c.args.writer.now c.write_records.new.writer c.args.own.now _ c.in_ok-write_records.ensures.others refl c.args.place p q c.args.file.number c.requires.within c.index-partial.ensures
     refl found.0 refl refl grown counted (omega (arith, c.record_count-seen.ensures, c.requires.many))
     (λ clean. leads_weaker _ _ old new (λ s t wrote. rest_is_written p q rs refl s t counted wrote)
-    (subst (λ xs. Leads (WritesFrom p.key p.written xs) old new) c.requires.partial (c.in_ok-write_records.ensures.led clean)))
+    (subst (λ xs. Leads (Writes false p.key p.written xs) old new) c.requires.partial (c.in_ok-write_records.ensures.led clean)))

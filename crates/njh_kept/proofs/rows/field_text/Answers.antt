@@ -1,6 +1,6 @@
 use Rattle.std.proofs.Common.{◌++◌, ap, ◌∙◌, arith}
 use Rattle.std.specs.Prelude.{encode_utf8}
-use Rattle.njh_ebcdic.proofs.Charts.{shown_text-more}
+use Rattle.njh_ebcdic.proofs.PageLaws.{shown_text-more}
 use Rattle.njh_kept.proofs.rows.field_text.Goals as goal
 
 pub loop-byte-preserved : goal.loop-byte-preserved
