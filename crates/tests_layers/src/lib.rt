@@ -1,8 +1,5 @@
 //! Tests of the layers below a hub, over the public items of their crates: names, frames, records,
 //! blocks, headers, nodal messages, tables, the spool, commands, and what is printed of faults.
-//!
-//! In `specs/` stand whole runs of a customer as the definitions have it, computed: what comes on
-//! its lines and what it sends. Its code does what these say, by its proof, for whatever comes.
 #![tactic(auto)]
 
 #[cfg(test)]

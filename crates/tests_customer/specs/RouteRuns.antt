@@ -3,10 +3,10 @@ use Prim.Native.String.{String}
 use Rattle.std.specs.Prelude.{ℕ, List, [], ◌∷◌, ◌++◌, Some, None, refl}
 use Rattle.njh_customer.specs.declared.signal.Signal.TheVariants.{Tick, Lost}
 use Rattle.njh_table.specs.NewRoutes.{NewRoute, NoSecond}
-use Rattle.tests_layers.specs.Spelled.{ebcdic, field, nodal_message, job_header, data_set_header, hello, trailer}
-use Rattle.tests_layers.specs.Spelled.{file_end, says, hears, block}
-use Rattle.tests_layers.specs.Played.{Plays, on, routes, signal}
-use Rattle.tests_layers.specs.Samples.{
+use Rattle.tests_customer.specs.Spelled.{ebcdic, field, nodal_message, job_header, data_set_header, hello, trailer}
+use Rattle.tests_customer.specs.Spelled.{file_end, says, hears, block}
+use Rattle.tests_customer.specs.Played.{Plays, on, routes, signal}
+use Rattle.tests_customer.specs.Samples.{
   a1,
   a2,
   acme,

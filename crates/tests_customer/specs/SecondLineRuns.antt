@@ -3,9 +3,9 @@ use Rattle.std.specs.Prelude.{ℕ, List, [], ◌∷◌, ◌++◌, false, Some, N
 use Rattle.njh_customer.specs.declared.signal.Signal.TheVariants.{Tick, Lost}
 use Rattle.njh_table.specs.Entries.{CustomerEntry}
 use Rattle.njh_table.specs.declared.Role.TheVariants.{Answer}
-use Rattle.tests_layers.specs.Spelled.{ebcdic, field, nodal_message, says, hears, block}
-use Rattle.tests_layers.specs.Played.{Plays, PlayedEvent, on, signal}
-use Rattle.tests_layers.specs.Samples.{
+use Rattle.tests_customer.specs.Spelled.{ebcdic, field, nodal_message, says, hears, block}
+use Rattle.tests_customer.specs.Played.{Plays, PlayedEvent, on, signal}
+use Rattle.tests_customer.specs.Samples.{
   a1,
   a2,
   acme,

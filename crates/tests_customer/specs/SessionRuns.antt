@@ -1,10 +1,10 @@
 -- Whole runs: sessions, counts and tries.
 use Rattle.std.specs.Prelude.{[], ◌∷◌, ◌++◌, refl}
 use Rattle.njh_customer.specs.declared.signal.Signal.TheVariants.{Garbled, Lost}
-use Rattle.tests_layers.specs.Spelled.{hex, text, block, says, hears}
-use Rattle.tests_layers.specs.Played.{Plays, on, signal}
-use Rattle.tests_layers.specs.Samples.{a1, a2, acme, enquiry, ack0, nak, lyon_signs_on, bureau_signs_on, lyon_is_up}
-use Rattle.tests_layers.specs.Samples.{with_small_texts}
+use Rattle.tests_customer.specs.Spelled.{hex, text, block, says, hears}
+use Rattle.tests_customer.specs.Played.{Plays, on, signal}
+use Rattle.tests_customer.specs.Samples.{a1, a2, acme, enquiry, ack0, nak, lyon_signs_on, bureau_signs_on, lyon_is_up}
+use Rattle.tests_customer.specs.Samples.{with_small_texts}
 
 nothing_comes : Plays acme []
 unfolding Plays

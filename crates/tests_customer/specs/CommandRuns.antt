@@ -1,10 +1,10 @@
 -- Whole runs: what users command about their files.
 use Prim.Native.String.{String}
 use Rattle.std.specs.Prelude.{ℕ, List, [], ◌∷◌, ◌++◌, refl}
-use Rattle.tests_layers.specs.Spelled.{hex, job_header, data_set_header, trailer, file_end, says, hears, block}
-use Rattle.tests_layers.specs.Played.{Plays, on}
-use Rattle.tests_layers.specs.Samples.{a1, a2, acme, ack0, request, permission, completion, lyon_is_up, metz_is_up}
-use Rattle.tests_layers.specs.Samples.{file_comes}
+use Rattle.tests_customer.specs.Spelled.{hex, job_header, data_set_header, trailer, file_end, says, hears, block}
+use Rattle.tests_customer.specs.Played.{Plays, on}
+use Rattle.tests_customer.specs.Samples.{a1, a2, acme, ack0, request, permission, completion, lyon_is_up, metz_is_up}
+use Rattle.tests_customer.specs.Samples.{file_comes}
 
 -- ANNA and EVA have a file of the same name each.
 users_hold_their_own_files :

@@ -3,9 +3,9 @@ use Prim.Native.String.{String}
 use Rattle.std.specs.Prelude.{◌≡◌, ℕ, ◌+◌, false, List, [], ◌∷◌, ◌++◌, None, refl}
 use Rattle.njh_table.specs.Entries.{CustomerEntry}
 use Rattle.njh_table.specs.declared.Role.TheVariants.{Answer}
-use Rattle.tests_layers.specs.Spelled.{hex, field, text, block, job_header, data_set_header, hello, trailer, file_end}
-use Rattle.tests_layers.specs.Spelled.{says, hears}
-use Rattle.tests_layers.specs.Played.{PlayedEvent, on}
+use Rattle.tests_customer.specs.Spelled.{hex, field, text, block, job_header, data_set_header, hello, trailer, file_end}
+use Rattle.tests_customer.specs.Spelled.{says, hears}
+use Rattle.tests_customer.specs.Played.{PlayedEvent, on}
 
 -- the line to LYON, and the line to METZ
 abbrev pub a1 : ℕ

@@ -1,10 +1,10 @@
 -- Whole runs: files that come in, and those that the hub doesn't take.
 use Rattle.std.specs.Prelude.{ℕ, List, [], ◌∷◌, ◌++◌, refl}
 use Rattle.njh_table.specs.Entries.{CustomerEntry}
-use Rattle.tests_layers.specs.Spelled.{hex, job_header, data_set_header, hello, trailer, file_end, says, hears, block}
-use Rattle.tests_layers.specs.Played.{Plays, on}
-use Rattle.tests_layers.specs.Samples.{a1, acme, customer_of_quota, ack0, request, permission, refusal, completion}
-use Rattle.tests_layers.specs.Samples.{lyon_is_up, file_comes}
+use Rattle.tests_customer.specs.Spelled.{hex, job_header, data_set_header, hello, trailer, file_end, says, hears, block}
+use Rattle.tests_customer.specs.Played.{Plays, on}
+use Rattle.tests_customer.specs.Samples.{a1, acme, customer_of_quota, ack0, request, permission, refusal, completion}
+use Rattle.tests_customer.specs.Samples.{lyon_is_up, file_comes}
 
 -- ANNA hears at once that nobody has PARIS
 file_for_an_unknown_node :
