@@ -17,7 +17,7 @@ use Words.{after_user_command, after_record, with_senders_by, accepted_on, goes_
 use Words.{CustomerLine, no_customer_line, line_at, on_line, in_state, with_sender, with_notice, with_receiver}
 use Words.{receiver_at, with_answer_on, with_waiting, with_message_to, with_notice_to, IsCoherent}
 use Rattle.{std.proofs.Common.{◌≡◌, ◌<◌, ◌∙◌, ◌≤◌, ◌+◌, ◌%◌, ◌==◌}, njh_block.specs.Blocks.Control}
-use Rattle.njh_stream.specs.{Receiving.{Data, Long, Abort, Received}, declared.receiver.Receiver.TheVariants.Idle}
+use Rattle.njh_stream.specs.{Receiving.{Data, Long, Abort, ReceiverStep}, declared.receiver.Receiver.TheVariants.Idle}
 use Rattle.njh_customer.proofs.{FileListLaws.{as_many, each_same}, LineWalks.{IsSeen, answered_so, notified_so}}
 use Rattle.njh_customer.proofs.LineWalks.{on_line_seen, StaysWaiting, seen_waiting, all_told_so, told_so, given_up_so}
 use Rattle.njh_customer.proofs.RecordsDo.{a_request, an_abort, some_data, too_long, Brings, RecordDoes, record_does}
@@ -139,7 +139,7 @@ with_streams l k r lines = map-set (λ x. x.receivers) lines l (with_receiver k 
     (λ rs. set (streams_to_hub lines) l (set rs k r)) (sym (get_or-map (λ x. x.receivers) lines l no_customer_line))
 
 -- the stream has moved, and nothing was said of it yet
-abbrev moved : ℕ → ℕ → Received → Customer → Customer
+abbrev moved : ℕ → ℕ → ReceiverStep → Customer → Customer
 moved l k done c = record c { spool = done.spool; lines = on_line l (with_receiver k done.receiver) c.lines }
 
 keeps_moved : (l k : ℕ) (a : Arrival) (c : Customer) → RecordsKeep → l < length c.lines → k < 8 → IsCoherent c

@@ -10,7 +10,7 @@ use Words.{stay, held, released, rerouted, cancelled, CommandOutcome, changed_fi
 use Words.{may_change, message_outcome, spool_after, with_new_destination, LineReply, after_record, replied_to}
 use Words.{session_over, Customer, line_at, receiver_at, customer_with_routes, entry_with, outlet_of, own_block}
 use Rattle.{std.proofs.Common.{◌≡◌, ◌&&◌, ◌==◌, ◌∷◌, ◌++◌, ◌∙◌}, njh_block.specs.Blocks.{Control, Data}}
-use Rattle.{njh_stream.specs.Transmissions.Verdict, njh_customer.specs.Customer.sender_at}
+use Rattle.{njh_stream.specs.Transmissions.RecordVerdict, njh_customer.specs.Customer.sender_at}
 use Rattle.njh_customer.proofs.{FileListLaws.changed_where, RecordsDo.{Brings, a_request, an_abort, some_data}}
 use Rattle.njh_customer.proofs.{RecordsDo.{too_long, RecordDoes, record_does}, Restated.{filled_kept, IsRestated}}
 use Rattle.njh_customer.proofs.Restated.{ended_restated, held_restated, open_so, completed_so, refused_restated}
@@ -33,7 +33,7 @@ pub record StaysInArrivals (I : CustomerSpool → Type 0) (J : Item → Customer
       → J (Data rcb srcb []) (with_finished n s)
 
 -- what is taken fits
-was_fitting : (room : Bool) (more : List Stored) (v : Verdict) → with_room room more v ≡ Taken → room ≡ true
+was_fitting : (room : Bool) (more : List Stored) (v : RecordVerdict) → with_room room more v ≡ Taken → room ≡ true
 was_fitting room more (Cancelled text) e = absurd (cc e)
 was_fitting true more Taken e = refl
 was_fitting false more Taken e = absurd (cc e)
@@ -51,7 +51,7 @@ module _ (I : CustomerSpool → Type 0) (J : Item → CustomerSpool → Type 0) 
   gone : (i : Item) (n : ℕ) (s : CustomerSpool) → I s → J i (without_partial n s)
   gone i n s so = keep.still i (without_partial n s) (keep.without n s so)
 
-  stored_so : (v : Verdict) (rcb : ℕ) (kind : Kind) (n : ℕ) (r : Stored) (more : List Stored) (s : CustomerSpool)
+  stored_so : (v : RecordVerdict) (rcb : ℕ) (kind : Kind) (n : ℕ) (r : Stored) (more : List Stored) (s : CustomerSpool)
       → (v ≡ Taken → has_room_for n r s ≡ true) → I s → J (Data rcb r.srcb r.bytes) (stored_by v kind n r more s).spool
   stored_so Taken rcb kind n r more s fits so = keep.appended rcb r n s (fits refl) so
   stored_so (Cancelled text) rcb kind n r more s fits so = gone (Data rcb r.srcb r.bytes) n s so

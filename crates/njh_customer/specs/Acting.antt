@@ -15,7 +15,7 @@ use Rattle.njh_table.specs.declared.Route.TheVariants.{Here, Line, Unknown}
 use Rattle.njh_stream.specs.declared.sender.Sender.{Sender}
 use Rattle.njh_stream.specs.Arrivals.{answer_on}
 use Rattle.njh_stream.specs.Receiving as receiving
-use Rattle.njh_stream.specs.Receiving.{Arrival, Received, received_arrival}
+use Rattle.njh_stream.specs.Receiving.{Arrival, ReceiverStep, received_arrival}
 use Rattle.njh_stream.specs.Sending.{SenderOutcome, after_grant, after_refusal, after_completion}
 use Rattle.njh_command.specs.Commands.{message_outcome, spool_after, without_file, CommandOutcome}
 use Rattle.njh_customer.specs.Customer.{Customer, CustomerLine, line_at, on_line, with_notice, receiver_at}
@@ -25,7 +25,7 @@ use Rattle.njh_customer.specs.Waiting.{with_answer_on, with_waiting, with_messag
 -- ---- streams to the hub
 
 -- an arrival on a stream of a line leaves this, is answered so, and the owner of the file is told so
-abbrev pub after_arrival : ℕ → ℕ → Received → Customer → Customer
+abbrev pub after_arrival : ℕ → ℕ → ReceiverStep → Customer → Customer
 after_arrival l k done c = record c {
   spool = done.spool;
   lines =

@@ -4,7 +4,7 @@ use Rattle.std.specs.Prelude.{flat_map, map, Option}
 use Rattle.std.specs.Io.KnownBytes.{Appends}
 use Rattle.njh_ebcdic.specs.CodePage.{text_words}
 use Rattle.njh_io.specs.Written.{AppendsBeginning}
-use Rattle.njh_store.specs.Kept.{Spool, contents, records_of}
+use Rattle.njh_store.specs.Kept.{SpoolContents, contents, records_of}
 use Rattle.njh_files.specs.Asked.{asked_of, key_in}
 
 -- of a record its place, its SRCB and its bytes
@@ -35,14 +35,14 @@ abbrev pub IsExportedInPart : Bool → (old new : Option (List ℕ)) → Type 0
 IsExportedInPart raw old new = (records : List Contents) × AppendsBeginning old new (export_text raw records)
 
 -- One file of a spool is asked for, and no other; and this is what is written of its records, all in their order.
-abbrev pub IsTextOf : (customer : Option (List ℕ)) → (number : Option ℕ) → (name : List ℕ) → (raw : Bool) → Spool
+abbrev pub IsTextOf : (customer : Option (List ℕ)) → (number : Option ℕ) → (name : List ℕ) → (raw : Bool) → SpoolContents
     → (text : List ℕ) → Type 0
 IsTextOf customer number name raw spool text = (key : ℕ)
     × (map key_in (asked_of customer number name spool.files) ≡ key ∷ [])
     × (text ≡ export_text raw (map contents (records_of key spool)))
 
 -- It came after what had been written.
-abbrev pub IsExportedOf : (customer : Option (List ℕ)) → (number : Option ℕ) → (name : List ℕ) → (raw : Bool) → Spool
+abbrev pub IsExportedOf : (customer : Option (List ℕ)) → (number : Option ℕ) → (name : List ℕ) → (raw : Bool) → SpoolContents
     → (old new : Option (List ℕ)) → Type 0
 IsExportedOf customer number name raw spool old new = (text : List ℕ)
     × IsTextOf customer number name raw spool text × Appends old new text

@@ -1,7 +1,7 @@
 -- What is printed of a spool file.
 use Rattle.std.specs.Prelude.{ℕ, Bool, List, Option, None, Some}
 use Rattle.std.specs.Io.KnownBytes.{Appends}
-use Rattle.njh_store.specs.Kept.{Spool}
+use Rattle.njh_store.specs.Kept.{SpoolContents}
 use Rattle.njh_files.specs.Asked.{IsRefusedOf}
 use Rattle.njh_files.specs.Faults.{IsOfSpool}
 use Rattle.njh_files.specs.declared.fault.FilesFault.{FilesFault}
@@ -22,12 +22,12 @@ IsPrintedInPart customer (Some name) raw old new = IsExportedInPart raw old new
 -- Of a spool: the listing of its files, of all or of the customer's; or where a file is named the records of the one
 -- that is asked for.
 abbrev pub IsPrintedOf : (customer : Option (List ℕ)) → (file : Option (List ℕ)) → (number : Option ℕ) → (raw : Bool)
-    → Spool → (old new : Option (List ℕ)) → Type 0
+    → SpoolContents → (old new : Option (List ℕ)) → Type 0
 IsPrintedOf customer None number raw spool old new = Appends old new (listing_text customer spool.files)
 IsPrintedOf customer (Some name) number raw spool old new = IsExportedOf customer number name raw spool old new
 
 -- Why nothing, or not all, of that: the spool file, the writer or memory failed, or the file that is named isn't one.
-abbrev pub IsFaultOf : (customer : Option (List ℕ)) → (file : Option (List ℕ)) → (number : Option ℕ) → Spool
+abbrev pub IsFaultOf : (customer : Option (List ℕ)) → (file : Option (List ℕ)) → (number : Option ℕ) → SpoolContents
     → FilesFault → Type 0
 IsFaultOf customer None number spool fault = IsOfSpool fault
 IsFaultOf customer (Some name) number spool fault = IsRefusedOf customer number name spool.files fault

@@ -7,7 +7,7 @@ ghost use Rattle.njh_files.specs.Asked.{IsRefusedOf};
 ghost use Rattle.njh_files.specs.Exported.{Contents, IsExported, IsExportedInPart, export_text, is_header};
 ghost use Rattle.njh_files.specs.Exported.{IsExportedOf, IsTextOf, record_line};
 ghost use Rattle.njh_files.specs.Faults.{IsOfSpool};
-ghost use Rattle.njh_store.specs.Kept.{Holds, Spool, contents_of};
+ghost use Rattle.njh_store.specs.Kept.{Holds, SpoolContents, contents_of};
 ghost use Rattle.njh_store.specs.Shelf.{shown};
 ghost use Rattle.sqlite.specs.State.{HasCleanDisk};
 
@@ -91,10 +91,10 @@ fn export<S: Alter>(
     asked: &Asked<'_>,
     name: &str,
 ) -> Result<Vec<u8>, FilesFault>
-    ensures kept { HasCleanDisk (shown S.Store store.new) → IfOk result (λ text. (spool : Spool)
+    ensures kept { HasCleanDisk (shown S.Store store.new) → IfOk result (λ text. (spool : SpoolContents)
         → Holds spool (shown S.Store store.old).now.trees → IsTextOf (option_map (λ c. c.now) asked.now.customer)
         asked.now.number name.now asked.now.raw spool text.items) }
-    ensures refused { HasCleanDisk (shown S.Store store.new) → IfErr result (λ fault. (spool : Spool)
+    ensures refused { HasCleanDisk (shown S.Store store.new) → IfErr result (λ fault. (spool : SpoolContents)
         → Holds spool (shown S.Store store.old).now.trees → IsRefusedOf (option_map (λ c. c.now) asked.now.customer)
         asked.now.number name.now spool.files fault) }
     ensures some { IfOk result (λ text. (records : List Contents)
@@ -116,10 +116,10 @@ pub(crate) fn export_file<S: Alter, W: Write>(
     name: &str,
     out: &mut W,
 ) -> Result<(), FilesFault>
-    ensures kept { HasCleanDisk (shown S.Store store.new) → OnOk result ((spool : Spool)
+    ensures kept { HasCleanDisk (shown S.Store store.new) → OnOk result ((spool : SpoolContents)
         → Holds spool (shown S.Store store.old).now.trees → IsExportedOf (option_map (λ c. c.now) asked.now.customer)
         asked.now.number name.now asked.now.raw spool (W.contents out.old) (W.contents out.new)) }
-    ensures refused { HasCleanDisk (shown S.Store store.new) → IfErr result (λ fault. (spool : Spool)
+    ensures refused { HasCleanDisk (shown S.Store store.new) → IfErr result (λ fault. (spool : SpoolContents)
         → Holds spool (shown S.Store store.old).now.trees → IsRefusedOf (option_map (λ c. c.now) asked.now.customer)
         asked.now.number name.now spool.files fault) }
     ensures done { OnOk result (IsExported asked.now.raw (W.contents out.old) (W.contents out.new)) }

@@ -9,7 +9,7 @@ ghost use Rattle.njh_store.specs.Kept.{entry_of, file_of};
 
 use crate::fault::FilesFault;
 use crate::listing::{name_text, said_of};
-use njh_store::{KeptFile, StoredFile};
+use njh_store::{FileRow, StoredFile};
 use std::alloc::{AllocError, Global};
 
 /// Which files are asked for, or which one, and how its records are to be written.
@@ -26,7 +26,7 @@ pub struct Asked<'a> {
 }
 
 /// Whether a file is called so.
-fn is_called(alloc: Global, name: &str, file: &KeptFile) -> Result<bool, AllocError>
+fn is_called(alloc: Global, name: &str, file: &FileRow) -> Result<bool, AllocError>
     ensures { IfOk result (λ called. called ≡ bytes_eq (name_text (file_of file.now)) name.now) }
 {
     let text = name_text(alloc, file)?;
@@ -60,7 +60,7 @@ fn put_key(
     asked: &Asked<'_>,
     name: &str,
     at: usize,
-    file: &KeptFile,
+    file: &FileRow,
 ) -> Result<(), AllocError>
     ensures { OnOk result (keys.new.items ≡ keys.old.items
         ++ cond (is_number asked.now.number at && bytes_eq (name_text (file_of file.now)) name.now)

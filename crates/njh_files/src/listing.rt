@@ -9,19 +9,19 @@ ghost use Rattle.njh_files.specs.Faults.{IsOfSpool};
 ghost use Rattle.njh_files.specs.Listed.{file_line, kind_words, first_listing, line_of, listing_up_to};
 ghost use Rattle.njh_files.specs.Listed.{IsListed, IsListedInPart, listing_text, name_text, said_of, state_words};
 ghost use Rattle.njh_files.specs.Listed.{user_words};
-ghost use Rattle.njh_store.specs.Kept.{File, Holds, Spool, entry_of, file_of};
+ghost use Rattle.njh_store.specs.Kept.{File, Holds, SpoolContents, entry_of, file_of};
 ghost use Rattle.njh_store.specs.Shelf.{shown};
 
 use crate::fault::FilesFault;
 use crate::writing::write_text;
-use njh_store::{KeptFile, Store, StoredFile};
+use njh_store::{FileRow, Store, StoredFile};
 use sqlite::Alter;
 use std::alloc::{AllocError, Global};
 use std::io::Write;
 
 /// A file's name: node, full stop, number.
 #[tactic(auto, unfolding(crate::specs::Listed::name_text))]
-pub(crate) fn name_text(alloc: Global, file: &KeptFile) -> Result<String, AllocError>
+pub(crate) fn name_text(alloc: Global, file: &FileRow) -> Result<String, AllocError>
     ensures { IfOk result (λ text. string_bytes text ≡ name_text (file_of file.now)) }
 {
     let node = file.owner_node.as_str();
@@ -64,7 +64,7 @@ fn state_words(held: bool) -> &'static str
 
 /// What NJH001 says of a file, behind its number.
 #[tactic(auto, unfolding(crate::specs::Listed::said_of))]
-pub(crate) fn said_of(alloc: Global, file: &KeptFile) -> Result<String, AllocError>
+pub(crate) fn said_of(alloc: Global, file: &FileRow) -> Result<String, AllocError>
     ensures { IfOk result (λ text. string_bytes text ≡ said_of (file_of file.now)) }
 {
     let name = name_text(alloc, file)?;
@@ -78,7 +78,7 @@ pub(crate) fn said_of(alloc: Global, file: &KeptFile) -> Result<String, AllocErr
 
 /// The line of a file.
 #[tactic(auto, unfolding(crate::specs::Listed::file_line))]
-fn file_line(alloc: Global, file: &KeptFile) -> Result<String, AllocError>
+fn file_line(alloc: Global, file: &FileRow) -> Result<String, AllocError>
     ensures { IfOk result (λ line. string_bytes line ≡ file_line (file_of file.now)) }
 {
     let said = said_of(alloc, file)?;
@@ -199,7 +199,7 @@ fn listing<S: Alter>(
     store: &mut Store<S>,
     customer: Option<&str>,
 ) -> Result<Vec<u8>, FilesFault>
-    ensures kept { HasCleanDisk (shown S.Store store.new) → IfOk result (λ text. (spool : Spool)
+    ensures kept { HasCleanDisk (shown S.Store store.new) → IfOk result (λ text. (spool : SpoolContents)
         → Holds spool (shown S.Store store.old).now.trees
         → text.items ≡ listing_text (option_map (λ c. c.now) customer.entry) spool.files) }
     ensures some { IfOk result (λ text. (files : List (ℕ × File))
@@ -218,7 +218,7 @@ pub fn print_files<S: Alter, W: Write>(
     customer: Option<&str>,
     out: &mut W,
 ) -> Result<(), FilesFault>
-    ensures kept { HasCleanDisk (shown S.Store store.new) → OnOk result ((spool : Spool)
+    ensures kept { HasCleanDisk (shown S.Store store.new) → OnOk result ((spool : SpoolContents)
         → Holds spool (shown S.Store store.old).now.trees → Appends (W.contents out.old) (W.contents out.new)
         (listing_text (option_map (λ c. c.now) customer.entry) spool.files)) }
     ensures done { OnOk result (IsListed (option_map (λ c. c.now) customer.entry) (W.contents out.old)

@@ -4,9 +4,9 @@ ghost use Rattle.std.specs.Prelude.{◌≡◌, IfErr, IfOk};
 ghost use Rattle.sqlite.specs.Files.{file_state};
 ghost use Rattle.sqlite.specs.State.{HasCleanDisk};
 ghost use Rattle.sqlite.specs.WalFiles.{image_at};
-ghost use Rattle.njh_store.specs.Kept.{Spool};
+ghost use Rattle.njh_store.specs.Kept.{SpoolContents};
 ghost use Rattle.njh_store.specs.Origin.{IsFoundIn};
-ghost use Rattle.njh_store.specs.Standing.{Stands};
+ghost use Rattle.njh_store.specs.CommitState.{Stands};
 ghost use Rattle.njh_files.specs.Faults.{IsOfSpool};
 
 use crate::fault::FilesFault;
@@ -31,7 +31,7 @@ pub trait SpoolFiles {
 
     /// Opens the spool file at the path, or makes it, and gives it and its log the mode 0600.
     fn open_spool(&self, path: &str) -> Result<Store<FileStore<FileFrom<Self::From>>>, FilesFault>
-        ensures found { IfOk result (λ store. HasCleanDisk (file_state store.conn) → (spool : Spool)
+        ensures found { IfOk result (λ store. HasCleanDisk (file_state store.conn) → (spool : SpoolContents)
             → IsFoundIn (image_at Self.From.Start) spool
             → Stands (record { now = spool; kept = spool }) (file_state store.conn)) }
         ensures refused { IfErr result IsOfSpool };
@@ -108,7 +108,7 @@ fn open_store<S: Start>(
     path: &str,
     start: S,
 ) -> Result<Store<FileStore<FileFrom<S>>>, FilesFault>
-    ensures found { IfOk result (λ store. HasCleanDisk (file_state store.conn) → (spool : Spool)
+    ensures found { IfOk result (λ store. HasCleanDisk (file_state store.conn) → (spool : SpoolContents)
         → IsFoundIn (image_at S.Start) spool
         → Stands (record { now = spool; kept = spool }) (file_state store.conn)) }
     ensures refused { IfErr result IsOfSpool }

@@ -4,7 +4,7 @@ ghost use Rattle.std.specs.Prelude.{◌⊎◌, option_map, IfErr, OnErr, OnOk};
 ghost use Rattle.std.specs.Io.KnownBytes.{Keeps};
 ghost use Rattle.njh_files.specs.Faults.{IsOfSpool};
 ghost use Rattle.njh_files.specs.Printed.{IsFaultOf, IsPrinted, IsPrintedInPart, IsPrintedOf};
-ghost use Rattle.njh_store.specs.Kept.{Holds, Spool};
+ghost use Rattle.njh_store.specs.Kept.{Holds, SpoolContents};
 ghost use Rattle.njh_store.specs.Shelf.{shown};
 ghost use Rattle.sqlite.specs.State.{HasCleanDisk};
 
@@ -26,11 +26,11 @@ pub fn print<S: Alter, W: Write>(
     asked: &Asked<'_>,
     out: &mut W,
 ) -> Result<(), FilesFault>
-    ensures kept { HasCleanDisk (shown S.Store store.new) → OnOk result ((spool : Spool)
+    ensures kept { HasCleanDisk (shown S.Store store.new) → OnOk result ((spool : SpoolContents)
         → Holds spool (shown S.Store store.old).now.trees → IsPrintedOf (option_map (λ c. c.now) asked.now.customer)
         (option_map (λ f. f.now) asked.now.file) asked.now.number asked.now.raw spool (W.contents out.old)
         (W.contents out.new)) }
-    ensures refused { HasCleanDisk (shown S.Store store.new) → IfErr result (λ fault. (spool : Spool)
+    ensures refused { HasCleanDisk (shown S.Store store.new) → IfErr result (λ fault. (spool : SpoolContents)
         → Holds spool (shown S.Store store.old).now.trees → IsFaultOf (option_map (λ c. c.now) asked.now.customer)
         (option_map (λ f. f.now) asked.now.file) asked.now.number spool fault) }
     ensures done { OnOk result (IsPrinted (option_map (λ c. c.now) asked.now.customer) asked.now.file asked.now.raw

@@ -7,7 +7,7 @@ use Rattle.njh_customer.specs.Part.{rest_at}
 use Rattle.njh_hub.specs.Restored.{part_with_file}
 use Rattle.njh_hub.specs.WholeHub.{Part, no_entry, no_part, part_at_open}
 use Rattle.njh_spool.specs.Restoring.{KeptFile}
-use Rattle.njh_store.specs.Kept.{Spool, Whole}
+use Rattle.njh_store.specs.Kept.{SpoolContents, Whole}
 use Rattle.njh_table.specs.Accepted.{AreDistinct}
 use Rattle.njh_table.specs.Entries.{LineEntry}
 use Rattle.njh_table.specs.TableFile.{NamedCustomer, TableFile, entry_of}
@@ -40,7 +40,7 @@ part_rests [] p short = short
 part_rests (w ∷ ws) p short = part_rests ws (with_whole p w) (still_short p w short)
 
 -- on each customer's lines nothing
-pub opened_rests : (table : TableFile) (spool : Spool) → AllByRecursion HasShortRests (hub_opened table spool)
+pub opened_rests : (table : TableFile) (spool : SpoolContents) → AllByRecursion HasShortRests (hub_opened table spool)
 opened_rests table spool = each table.customers
   where
     each : (cs : List NamedCustomer) → AllByRecursion HasShortRests (map (λ c. part_opened (entry_of c) (own_files c.name spool)) cs)
@@ -69,7 +69,7 @@ others_by_place P (x ∷ xs) (suc c) each = (
 )
 
 -- no file is remembered that isn't whole
-opened_spool : (names : List (List ℕ)) (hub : List Part) (t : Spool) (c : ℕ) (own : OwnFiles) → IsOpened names hub t c own → HasSpool t own (get_or hub c no_part).customer.spool
+opened_spool : (names : List (List ℕ)) (hub : List Part) (t : SpoolContents) (c : ℕ) (own : OwnFiles) → IsOpened names hub t c own → HasSpool t own (get_or hub c no_part).customer.spool
 opened_spool names hub t c own opened =
     let now = (get_or hub c no_part).customer.spool in
     record {
@@ -80,7 +80,7 @@ opened_spool names hub t c own opened =
     }
 
 -- all of a hub that was just opened, and which customer is which
-pub begun_is_known : (names : List (List ℕ)) (hub : List Part) (owns : List OwnFiles) (w : Numbers) (t : Spool) → HasBegun names hub owns w t → AreDistinct names → length names ≡ length hub
+pub begun_is_known : (names : List (List ℕ)) (hub : List Part) (owns : List OwnFiles) (w : Numbers) (t : SpoolContents) → HasBegun names hub owns w t → AreDistinct names → length names ≡ length hub
     → Knows w owns (map (λ p. p.customer.spool) hub) t × AreNamedApart owns
 begun_is_known names hub owns w t begun distinct long = (
   record {

@@ -2,7 +2,7 @@
 use Rattle.std.proofs.Common.{◌≡◌, ℕ, ◌+◌, ◌^◌, ◌<◌, ◌≤◌, true, List, [], ◌∷◌, ◌++◌, length, get_or, set, remove, refl, sym, subst, arith}
 use Rattle.std.specs.List.{AllByRecursion}
 use Rattle.njh_spool.specs.CustomerSpool.{WholeFile}
-use Rattle.njh_store.specs.Kept.{File, Spool, with_changed, with_file, without_file, without_records}
+use Rattle.njh_store.specs.Kept.{File, SpoolContents, with_changed, with_file, without_file, without_records}
 use Rattle.njh_hub.specs.Keeping.{is_held}
 use Rattle.njh_kept.specs.Opened.{is_own}
 use Rattle.njh_kept.specs.code.Mirrored.{FitsHub, HasRecords, IsOrdered, WritesUnder}
@@ -14,11 +14,11 @@ use Rattle.njh_kept.proofs.RecordLaws.{all_leave}
 use Rattle.njh_kept.proofs.UsesLaws.{in_hand_alone, in_hand_is_used, uses_as_one_changes, uses_as_one_comes, uses_as_one_leaves, whole_are_used, whole_once}
 
 -- A call moves there, and what is kept then are these files.
-pub record MovesTo (a b : Claim) (own : OwnFiles) (s t : Spool) (files : List WholeFile) : Type 0 where
+pub record MovesTo (a b : Claim) (own : OwnFiles) (s t : SpoolContents) (files : List WholeFile) : Type 0 where
   pub moves : Moves a b s t
   pub mirrored : Mirrored t own files
 
-module _ (w : Numbers) (own : OwnFiles) (s : Spool) (files : List WholeFile) (h : IsOrdered s) (all : Mirrored s own files) where
+module _ (w : Numbers) (own : OwnFiles) (s : SpoolContents) (files : List WholeFile) (h : IsOrdered s) (all : Mirrored s own files) where
   abbrev swept : Sweep → Numbers
   swept sweep = record w { sweeps = w.sweeps ++ sweep ∷ [] }
 
@@ -33,7 +33,7 @@ module _ (w : Numbers) (own : OwnFiles) (s : Spool) (files : List WholeFile) (h 
   }
 
   -- a file's row is another, and maybe its records
-  pub change_follows : (i : ℕ) (k now : KeptWhole) (g : WholeFile) (t : Spool) (file : File) → i < length own.whole → k ≡ get_or own.whole i k → AreApart (claim w own)
+  pub change_follows : (i : ℕ) (k now : KeptWhole) (g : WholeFile) (t : SpoolContents) (file : File) → i < length own.whole → k ≡ get_or own.whole i k → AreApart (claim w own)
       → WritesUnder k.key s t → is_own own.name file ≡ true → now.id ≡ k.id → now.key ≡ k.key → IsRowOf k.key g file → Remembers now g → HasRecords k.key g.records t
       → AllByRecursion FitsHub g.records
       → let own' = record own { whole = set own.whole i now } in MovesTo (claim w own) (claim w own') own' s (with_changed k.id file t) (set files i g)
@@ -54,7 +54,7 @@ module _ (w : Numbers) (own : OwnFiles) (s : Spool) (files : List WholeFile) (h 
 
   -- a number is taken, under which no records stand then
   module _ (w' : Numbers) (key : ℕ) (taken : (n : ℕ) → (with_key key (claim w' own)).uses n ≡ uses n w own) where
-    abbrev emptied : Spool
+    abbrev emptied : SpoolContents
     emptied = without_records key 0 (2 ^ 23) s
 
     writes : WritesUnder key s emptied
@@ -74,7 +74,7 @@ module _ (w : Numbers) (own : OwnFiles) (s : Spool) (files : List WholeFile) (h 
     }
 
   -- a file is added, whose records stand under the number in hand
-  pub add_follows : (k : KeptWhole) (g : WholeFile) (t : Spool) (file : File) → k.id ≡ w.next_id → AreBelow w.next_id s → AreApart (with_key k.key (claim w own))
+  pub add_follows : (k : KeptWhole) (g : WholeFile) (t : SpoolContents) (file : File) → k.id ≡ w.next_id → AreBelow w.next_id s → AreApart (with_key k.key (claim w own))
       → WritesUnder k.key s t → is_own own.name file ≡ true → IsRowOf k.key g file → Remembers k g → HasRecords k.key g.records t → AllByRecursion FitsHub g.records
       → let own' = record own { whole = own.whole ++ k ∷ [] } in
       MovesTo (with_key k.key (claim w own)) (claim (record w { next_id = w.next_id + 1 }) own') own' s (with_file k.id file t) (files ++ g ∷ [])
@@ -89,23 +89,23 @@ module _ (w : Numbers) (own : OwnFiles) (s : Spool) (files : List WholeFile) (h 
       }
 
 -- one call after another
-pub follows_then : (a b c : Claim) (own own' : OwnFiles) (s t u : Spool) (files files' : List WholeFile) → MovesTo a b own s t files → MovesTo b c own' t u files' → MovesTo a c own' s u files'
+pub follows_then : (a b c : Claim) (own own' : OwnFiles) (s t u : SpoolContents) (files files' : List WholeFile) → MovesTo a b own s t files → MovesTo b c own' t u files' → MovesTo a c own' s u files'
 follows_then a b c own own' s t u files files' one more = record { moves = moves_then a b c s t u one.moves more.moves; mirrored = more.mirrored }
 
-module _ (a b : Claim) (own : OwnFiles) (s : Spool) (files : List WholeFile) (all : Mirrored s own files) (name : b.name ≡ a.name) (fewer : (n : ℕ) → b.uses n ≤ a.uses n) where
+module _ (a b : Claim) (own : OwnFiles) (s : SpoolContents) (files : List WholeFile) (all : Mirrored s own files) (name : b.name ≡ a.name) (fewer : (n : ℕ) → b.uses n ≤ a.uses n) where
   -- nothing is written
   pub memory_follows : IsOrdered s → a.next_id ≤ b.next_id → MovesTo a b own s s files
   memory_follows h more = record { moves = moves_memory a b s name fewer h more; mirrored = all }
 
   -- records come or leave under a number that is no whole file's
-  pub portion_follows : (key : ℕ) (t : Spool) → WritesUnder key s t → keyed (λ (k : KeptWhole). k.key) key own.whole ≡ 0 → 1 ≤ a.uses key → b.next_id ≡ a.next_id → MovesTo a b own s t files
+  pub portion_follows : (key : ℕ) (t : SpoolContents) → WritesUnder key s t → keyed (λ (k : KeptWhole). k.key) key own.whole ≡ 0 → 1 ≤ a.uses key → b.next_id ≡ a.next_id → MovesTo a b own s t files
   portion_follows key t under foreign busy next = record {
     moves = moves_under a b s name fewer key t under busy next;
     mirrored = mirrored_under s t own files all key under foreign;
   }
 
 -- a file changed in its state alone, and neither became Held nor was released: nothing is written
-pub state_follows : (w : Numbers) (own : OwnFiles) (s : Spool) (files : List WholeFile) (h : IsOrdered s) (all : Mirrored s own files) (i : ℕ) (k now : KeptWhole) (f g : WholeFile)
+pub state_follows : (w : Numbers) (own : OwnFiles) (s : SpoolContents) (files : List WholeFile) (h : IsOrdered s) (all : Mirrored s own files) (i : ℕ) (k now : KeptWhole) (f g : WholeFile)
     → i < length own.whole → k ≡ get_or own.whole i k → f ≡ get_or files i f → g.kind ≡ f.kind → is_held g.state ≡ is_held f.state → g.records ≡ f.records
     → now.id ≡ k.id → now.key ≡ k.key → Remembers now g
     → let own' = record own { whole = set own.whole i now } in MovesTo (claim w own) (claim w own') own' s s (set files i g)

@@ -3,7 +3,7 @@ use Rattle.std.proofs.Common.{◌≡◌, ◌≢◌, ℕ, zero, suc, ◌+◌, ◌
 use Rattle.std.specs.List.{AllByRecursion, AllZip}
 use Rattle.njh_record.specs.Stored.{Stored}
 use Rattle.njh_spool.specs.CustomerSpool.{WholeFile}
-use Rattle.njh_store.specs.Kept.{Spool}
+use Rattle.njh_store.specs.Kept.{SpoolContents}
 use Rattle.njh_kept.specs.code.Remembered.{AllAreApart, Mirrored, Moves, Numbers, OwnFiles, PartlyMirrored, claim, uses, uses_of_all, uses_of_files}
 use Rattle.njh_kept.proofs.MirrorLaws.{mirrored_of_another}
 use Rattle.njh_kept.proofs.PartialLaws.{all_zip_changes, partly_of_another}
@@ -37,7 +37,7 @@ both_all P Q (x ∷ xs) p q = ((p.0, q.0), both_all P Q xs p.1 q.1)
 
 -- ---- a customer's step
 
-module _ (w w' : Numbers) (owns : List OwnFiles) (c : ℕ) (own own' : OwnFiles) (there : c < length owns) (is : own ≡ get_or owns c own) (s t : Spool) (moves : Moves (claim w own) (claim w' own') s t) (apart : AllAreApart w owns) where
+module _ (w w' : Numbers) (owns : List OwnFiles) (c : ℕ) (own own' : OwnFiles) (there : c < length owns) (is : own ≡ get_or owns c own) (s t : SpoolContents) (moves : Moves (claim w own) (claim w' own') s t) (apart : AllAreApart w owns) where
   pub all_still_apart : AllAreApart w' (set owns c own')
   all_still_apart n =
       let differ = uses_as_one_differs n owns c own own' there is in

@@ -2,7 +2,7 @@
 use Rattle.std.proofs.Common.{◌≡◌, ℕ, zero, suc, ◌+◌, ◌<◌, ◌≤◌, false, List, [], ◌∷◌, ◌++◌, length, get_or, take, drop, sym, ap, subst, ◌∙◌, append-nil, arith}
 use Rattle.std.proofs.lemmas.List.{drop_all, get_or-take, length-take-le, take-take, take_all}
 use Rattle.njh_record.specs.Stored.{Stored}
-use Rattle.njh_store.specs.Kept.{Record, Spool, with_record, without_records}
+use Rattle.njh_store.specs.Kept.{Record, SpoolContents, with_record, without_records}
 use Rattle.njh_kept.specs.code.Mirrored.{HasRecords, IsOrdered, records_midway, stored_of}
 use Rattle.njh_kept.proofs.AlikeLaws.{AreAlike, alike_at, is_header}
 use Rattle.njh_kept.proofs.WritingLaws.{next_is_rewritten, next_is_the_same, next_is_written}
@@ -35,7 +35,7 @@ module _ (before now : List Stored) (shorter : length before ≤ length now) (al
       ∙ next_is_the_same at front before front_long there r (alike_at before front at r alike there here other)
       ∙ of_front at (omega (arith, within))
 
-  module _ (key : ℕ) (r : Record) (spool : Spool) (h : IsOrdered spool) (has : HasRecords key (records_midway at now before) spool) (mine : r.key ≡ key) (place : r.place ≡ at) (is : stored_of r ≡ get_or now at (stored_of r)) where
+  module _ (key : ℕ) (r : Record) (spool : SpoolContents) (h : IsOrdered spool) (has : HasRecords key (records_midway at now before) spool) (mine : r.key ≡ key) (place : r.place ≡ at) (is : stored_of r ≡ get_or now at (stored_of r)) where
     -- a header is written anew
     pub finish_rewrites : at < length before → HasRecords key (records_midway (at + 1) now before) (with_record r (without_records key at (at + 1) spool))
     finish_rewrites within =

@@ -3,7 +3,7 @@ use Rattle.std.proofs.Common.{◌≡◌, ℕ, zero, suc, ◌<◌, List, [], ◌�
 use Rattle.std.specs.List.{AllByRecursion}
 use Rattle.njh_header.specs.WholeFiles.{HasHeaders}
 use Rattle.njh_spool.specs.CustomerSpool.{WholeFile}
-use Rattle.njh_store.specs.Kept.{Spool, records_of, without_file}
+use Rattle.njh_store.specs.Kept.{SpoolContents, records_of, without_file}
 use Rattle.njh_kept.specs.Opened.{is_name_of}
 use Rattle.njh_kept.specs.code.Remembered.{KeptPartial, KeptWhole, Mirrored, Moves, Sweep}
 use Rattle.njh_kept.specs.code.Following.{GoesTo, HasFiles, Memory, Remain, claim_of, leaves, none, stays}
@@ -40,7 +40,7 @@ all_both P Q R f (x ∷ xs) one more = (f x one.0 more.0, all_both P Q R f xs on
 
 -- ---- calls
 
-pub goes : (m m' : Memory) (s t : Spool) (files now : List WholeFile) → HasFiles m s files → Moves (claim_of m) (claim_of m') s t → Mirrored t m'.own now
+pub goes : (m m' : Memory) (s t : SpoolContents) (files now : List WholeFile) → HasFiles m s files → Moves (claim_of m) (claim_of m') s t → Mirrored t m'.own now
     → m'.text ≡ m.text → AllByRecursion (λ f. HasHeaders f.kind f.records) now → Remain m.own.partial m'.own.partial
     → AllByRecursion (λ p. records_of p.key t ≡ records_of p.key s) m'.own.partial → GoesTo m m' s t now
 goes m m' s t files now has moves mirrored text headers remain records = record {
@@ -57,7 +57,7 @@ goes m m' s t files now has moves mirrored text headers remain records = record 
   records = records;
 }
 
-pub goes_nowhere : (m : Memory) (s : Spool) (files : List WholeFile) → HasFiles m s files → GoesTo m m s s files
+pub goes_nowhere : (m : Memory) (s : SpoolContents) (files : List WholeFile) → HasFiles m s files → GoesTo m m s s files
 goes_nowhere m s files has = record {
   moves = moves_nothing (claim_of m) s has.ordered;
   has = has;
@@ -65,7 +65,7 @@ goes_nowhere m s files has = record {
   records = all_of (λ (p : KeptPartial). records_of p.key s ≡ records_of p.key s) (λ p. refl) m.own.partial;
 }
 
-pub goes_then : (a b c : Memory) (s t u : Spool) (files now : List WholeFile) → GoesTo a b s t files → GoesTo b c t u now → GoesTo a c s u now
+pub goes_then : (a b c : Memory) (s t u : SpoolContents) (files now : List WholeFile) → GoesTo a b s t files → GoesTo b c t u now → GoesTo a c s u now
 goes_then a b c s t u files now one more = record {
   moves = moves_then (claim_of a) (claim_of b) (claim_of c) s t u one.moves more.moves;
   has = more.has;
@@ -105,7 +105,7 @@ module _ (m : Memory) (i : ℕ) (k : KeptWhole) (sweep : Sweep) (there : i < len
     text = m.text;
   }
 
-  pub file_goes : (s : Spool) (files : List WholeFile) → HasFiles m s files → GoesTo m memory_without s (without_file k.id s) (remove files i)
+  pub file_goes : (s : SpoolContents) (files : List WholeFile) → HasFiles m s files → GoesTo m memory_without s (without_file k.id s) (remove files i)
   file_goes s files has =
       let by = drop_follows m.numbers m.own s files has.ordered has.mirrored i k sweep there is same in
       goes m memory_without s (without_file k.id s) files (remove files i) has by.moves by.mirrored refl

@@ -15,7 +15,7 @@ use Rattle.njh_customer.specs.Part.{Part}
 use Rattle.njh_customer.specs.Surviving.{EventsKeepFiles, Survive, TakesKeepFiles, leaves, none, stays}
 use Rattle.njh_customer.proofs.GrowingLaws.{rerouted_count}
 use Rattle.njh_hub.specs.Keeping.{IsLed}
-use Rattle.njh_store.specs.Kept.{Spool}
+use Rattle.njh_store.specs.Kept.{SpoolContents}
 use Rattle.njh_kept.specs.code.Alike.{AreAlike}
 use Rattle.njh_kept.specs.code.Following.{AreFronts, GoOnIn, IsFrontOf}
 use Rattle.njh_kept.specs.code.Partly.{AllGoOn, AllUpToDate, GoesOn, IsUpToDate}
@@ -83,7 +83,7 @@ module _ (k : ℕ) (x y : CustomerSpool) (few : k < 1366) (grow : FilesGrow k x 
         subst (λ rs. AreAlike rs (take (length was) f.records)) front (front_alike (length was) whole.came f.records all),
       )
 
-  front_of : (s : Spool) (p : KeptPartial) → IsUpToDate x p → GoesOn x s p → (f : WholeFile) → Contains y.whole f → HasHeaders f.kind f.records → f.number ≡ p.number
+  front_of : (s : SpoolContents) (p : KeptPartial) → IsUpToDate x p → GoesOn x s p → (f : WholeFile) → Contains y.whole f → HasHeaders f.kind f.records → f.number ≡ p.number
       → p.seen ≤ length f.records → IsFrontOf s p f.records
   front_of s p up go_on f at headers number seen =
       let some : 0 < length (partial_records f.number x) =
@@ -95,7 +95,7 @@ module _ (k : ℕ) (x y : CustomerSpool) (few : k < 1366) (grow : FilesGrow k x 
       up go_on seen in
       record { before = front.0; long = front.1; within = front.2; stored = front.3; alike = front.4 }
 
-  module _ (s : Spool) (own : OwnFiles) (up : AllUpToDate x own) (go_on : AllGoOn x s own) where
+  module _ (s : SpoolContents) (own : OwnFiles) (up : AllUpToDate x own) (go_on : AllGoOn x s own) where
     -- what is kept of files that aren't whole yet is a front of them still,
     pub partials_go_on : AllGoOn y s own
     partials_go_on =
@@ -115,14 +115,14 @@ module _ (k : ℕ) (x y : CustomerSpool) (few : k < 1366) (grow : FilesGrow k x 
 
 -- Of a customer, where its files were seen before the step: its whole files went on, and what is kept of others is a
 -- front of what they are now, whole or not. No more has come of a line's next frame than a text may have.
-pub record IsAfter (p after : Part) (s : Spool) (own : OwnFiles) : Type 0 where
+pub record IsAfter (p after : Part) (s : SpoolContents) (own : OwnFiles) : Type 0 where
   pub goes : GoOnIn p.customer.spool.arrived p.customer.spool.whole after.customer
   pub fronts : AreFronts s own.partial after.customer.spool.whole
   pub go_on : AllGoOn after.customer.spool s own
   pub rests : HasShortRests after
 
 pub is_after : EventsKeepFiles → TakesKeepFiles → TakesGrowFiles → (p after : Part) → IsLed p after → IsSound p.customer.spool → HasShortRests p
-    → HaveHeaders after.customer.spool.whole → (s : Spool) (own : OwnFiles) → AllUpToDate p.customer.spool own → AllGoOn p.customer.spool s own → IsAfter p after s own
+    → HaveHeaders after.customer.spool.whole → (s : SpoolContents) (own : OwnFiles) → AllUpToDate p.customer.spool own → AllGoOn p.customer.spool s own → IsAfter p after s own
 is_after events takes grow p after is_led sound short headers s own up go_on =
     let x = p.customer.spool in
     let y = after.customer.spool in

@@ -7,7 +7,7 @@ use Rattle.njh_header.specs.WholeFiles.{HasHeaders}
 use Rattle.njh_spool.specs.CustomerSpool.{WholeFile}
 use Rattle.njh_hub.specs.Views.{file_summary}
 use Rattle.njh_hub.specs.declared.file_summary.FileSummaryView.{FileSummaryView}
-use Rattle.njh_store.specs.Kept.{File, Spool, records_of, with_file, without_records}
+use Rattle.njh_store.specs.Kept.{File, SpoolContents, records_of, with_file, without_records}
 use Rattle.njh_store.specs.Steps.{Changes}
 use Rattle.njh_kept.specs.Opened.{is_name_of}
 use Rattle.njh_kept.specs.code.Alike.{Writes}
@@ -37,7 +37,7 @@ pub all-push : {X : Type 0} (P : X → Type 0) (xs : List X) (x : X) → AllByRe
 all-push P [] x all one = (one, tt)
 all-push P (y ∷ xs) x all one = (all.0, all-push P xs x all.1 one)
 
-module _ (m : Memory) (g : WholeFile) (s : Spool) (files : List WholeFile) (has : HasFiles m s files) where
+module _ (m : Memory) (g : WholeFile) (s : SpoolContents) (files : List WholeFile) (has : HasFiles m s files) where
   abbrev pub memory_left : ℕ → Memory
   memory_left i = record { numbers = m.numbers; own = record m.own { partial = remove m.own.partial i }; text = m.text }
 
@@ -95,7 +95,7 @@ module _ (m : Memory) (g : WholeFile) (s : Spool) (files : List WholeFile) (has 
 
 -- ---- its records are finished, and its row is added
 
-module _ (m m1 : Memory) (s t u : Spool) (files : List WholeFile) (has : HasFiles m s files) (g : WholeFile) (summary : FileSummaryView) (summary_is : summary ≡ file_summary g) (headers : HasHeaders g.kind g.records) (fits : AllByRecursion FitsHub g.records) (written : ℕ) where
+module _ (m m1 : Memory) (s t u : SpoolContents) (files : List WholeFile) (has : HasFiles m s files) (g : WholeFile) (summary : FileSummaryView) (summary_is : summary ≡ file_summary g) (headers : HasHeaders g.kind g.records) (fits : AllByRecursion FitsHub g.records) (written : ℕ) where
   abbrev memory_added : KeptWhole → Memory
   memory_added k = record { numbers = record m1.numbers { next_id = m1.numbers.next_id + 1 }; own = record m1.own { whole = m1.own.whole ++ k ∷ [] }; text = m1.text }
 
@@ -128,7 +128,7 @@ module _ (m m1 : Memory) (g : WholeFile) (key written : ℕ) where
       → LeadsFiles m m2 (λ s files. AreFronts s m.own.partial (g ∷ [])) (λ files now. now ≡ files ++ g ∷ []) old new
   add_leads m2 summary old mid mid2 new summary_is headers fits hand finish row =
       leads_then
-      (λ s u. (files : List WholeFile) → HasFiles m s files → AreFronts s m.own.partial (g ∷ []) → (t : Spool) × IsInHand key written m m1 s t files g.records × Writes true key written g.records t u)
+      (λ s u. (files : List WholeFile) → HasFiles m s files → AreFronts s m.own.partial (g ∷ []) → (t : SpoolContents) × IsInHand key written m m1 s t files g.records × Writes true key written g.records t u)
       (λ u v. v ≡ with_file row.kept.id row.row u) _ old mid2 new
       (leads_then _ _ _ old mid mid2 hand finish (λ s t u first second files has fronts. (t, first files has fronts, second)))
       (leads_by (with_file row.kept.id row.row) mid2 new row.changes)

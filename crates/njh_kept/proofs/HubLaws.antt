@@ -11,7 +11,7 @@ use Rattle.njh_ebcdic.specs.declared.name.NameFault.{NameFault}
 use Rattle.njh_table.specs.Accepted.{AreDistinct}
 use Rattle.njh_table.specs.TableFile.{NamedCustomer, TableFile, customer_at, entry_of, no_customer}
 use Rattle.njh_hub.specs.WholeHub.{Part, no_part, part, part_at_open}
-use Rattle.njh_store.specs.Kept.{Spool, Whole, kept}
+use Rattle.njh_store.specs.Kept.{SpoolContents, Whole, kept}
 use Rattle.njh_kept.specs.Opened.{AllAreBack, AreBack, IsRefused, hub_opened, is_name_of, is_own, own, own_files, part_opened, whole_fault, with_whole}
 use Rattle.njh_kept.specs.code.Restoring.{NoneFails, hub_fault, hub_with, hub_with_all, number_from, number_of}
 use Rattle.njh_kept.specs.declared.fault.FileFault.{FileFault}
@@ -208,7 +208,7 @@ module _ (table : TableFile) (distinct : AreDistinct (map (λ c. c.name) table.c
         let P : Part → List ℕ → Type 0 = λ p n. AreBack p (own n ws) in
         subst (λ (n : List ℕ). P (part_at_open (entry_of (customer_at table c))) n) name_is (subst (λ (p : Part). P p (get_or names c [])) start_is h)
 
-  pub opened : (spool : Spool) → hub_with_all names start (kept spool) ≡ hub_opened table spool
+  pub opened : (spool : SpoolContents) → hub_with_all names start (kept spool) ≡ hub_opened table spool
   opened spool =
       let F : NamedCustomer → Part = λ x. part_opened (entry_of x) (own_files x.name spool) in
       let long = length-hub_with_all names start (kept spool) in
@@ -222,7 +222,7 @@ module _ (table : TableFile) (distinct : AreDistinct (map (λ c. c.name) table.c
   all_back ws none c there = back_all c there ws none
 
   -- the first that isn't put back
-  pub refused : (spool : Spool) (before after : List Whole) (w : Whole) (fault : FileFault) → kept spool ≡ before ++ w ∷ after → NoneFails names start before
+  pub refused : (spool : SpoolContents) (before after : List Whole) (w : Whole) (fault : FileFault) → kept spool ≡ before ++ w ∷ after → NoneFails names start before
       → hub_fault names (hub_with_all names start before) w ≡ Some fault → IsRefused table spool w fault
   refused spool before after w fault is none why = split (number_of names w.file.customer) refl why
     where
@@ -246,7 +246,7 @@ module _ (table : TableFile) (distinct : AreDistinct (map (λ c. c.name) table.c
 
 -- ---- a customer's part
 
-pub own_decide : (table other : TableFile) (spool others : Spool) (c d : ℕ) → c < length table.customers → d < length other.customers
+pub own_decide : (table other : TableFile) (spool others : SpoolContents) (c d : ℕ) → c < length table.customers → d < length other.customers
     → entry_of (customer_at table c) ≡ entry_of (customer_at other d)
     → own_files (customer_at table c).name spool ≡ own_files (customer_at other d).name others
     → part c (hub_opened table spool) ≡ part d (hub_opened other others)

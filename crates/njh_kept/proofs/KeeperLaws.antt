@@ -5,9 +5,9 @@ use Rattle.sqlite.specs.Effect.{Database}
 use Rattle.sqlite.specs.Store.{Ghosts}
 use Rattle.sqlite.specs.Tree.{Trees}
 use Rattle.njh_spool.specs.Restoring.{KeptFile}
-use Rattle.njh_store.specs.Kept.{Holds, Spool}
+use Rattle.njh_store.specs.Kept.{Holds, SpoolContents}
 use Rattle.njh_store.specs.Shelf.{shown}
-use Rattle.njh_store.specs.Standing.{Standing, Stands}
+use Rattle.njh_store.specs.CommitState.{CommitState, Stands}
 use Rattle.njh_store.specs.Steps.{Commits}
 use Rattle.njh_kept.specs.Keeper.{IsKeptNow, Keeping, MayLeave, left_in}
 use Rattle.njh_kept.specs.code.Writing.{is_due}
@@ -15,7 +15,7 @@ use Rattle.njh_kept.proofs.OneSpool.{one_spool}
 
 module _ {S : Type 0} (g : Ghosts S) where
   -- only what was committed
-  pub committed_is_left : (keeper : Keeping S) (s : Standing) (left : List (List KeptFile)) → Stands s (shown g keeper.store)
+  pub committed_is_left : (keeper : Keeping S) (s : CommitState) (left : List (List KeptFile)) → Stands s (shown g keeper.store)
       → ((trees : Trees) → (shown g keeper.store).may_leave trees → trees ≡ (shown g keeper.store).committed.trees)
       → MayLeave g keeper left → left ≡ left_in keeper.names s.kept
   committed_is_left keeper s left stands only m =
@@ -26,7 +26,7 @@ module _ {S : Type 0} (g : Ghosts S) where
   module _ (old new : Keeping S) (names : new.names ≡ old.names) where
     -- what might be left before, or what a call committed
     pub crash_leaves : (P : Trees → Type 0) → Survives (shown g old.store) (shown g new.store) P → (left : List (List KeptFile)) → MayLeave g new left
-        → MayLeave g old left ⊎ ((trees : Trees) × P trees × (spool : Spool) × Holds spool trees × (left ≡ left_in old.names spool))
+        → MayLeave g old left ⊎ ((trees : Trees) × P trees × (spool : SpoolContents) × Holds spool trees × (left ≡ left_in old.names spool))
     crash_leaves P survives left m =
         let is : left ≡ left_in old.names m.spool = m.is ∙ ap (λ ns. left_in ns m.spool) names in
         elim (survives.crash m.clean m.trees m.may) [
@@ -42,15 +42,15 @@ module _ {S : Type 0} (g : Ghosts S) where
         ]
 
     either_left : (left : List (List KeptFile)) (now : Trees)
-        → MayLeave g old left ⊎ ((trees : Trees) × (trees ≡ now) × (spool : Spool) × Holds spool trees × (left ≡ left_in old.names spool))
-        → MayLeave g old left ⊎ ((spool : Spool) → Holds spool now → left ≡ left_in old.names spool)
+        → MayLeave g old left ⊎ ((trees : Trees) × (trees ≡ now) × (spool : SpoolContents) × Holds spool trees × (left ≡ left_in old.names spool))
+        → MayLeave g old left ⊎ ((spool : SpoolContents) → Holds spool now → left ≡ left_in old.names spool)
     either_left left now (inl before) = inl before
     either_left left now (inr made) =
         inr (λ spool holds. made.4 ∙ ap (left_in old.names) (one_spool made.2 spool now (subst (Holds made.2) made.1 made.3) holds))
 
     -- where all that waits is committed
     pub commit_leaves : Survives (shown g old.store) (shown g new.store) (λ trees. trees ≡ (shown g old.store).now.trees) → (left : List (List KeptFile)) → MayLeave g new left
-        → MayLeave g old left ⊎ ((now : Spool) → Holds now (shown g old.store).now.trees → left ≡ left_in old.names now)
+        → MayLeave g old left ⊎ ((now : SpoolContents) → Holds now (shown g old.store).now.trees → left ≡ left_in old.names now)
     commit_leaves survives left m =
         either_left left (shown g old.store).now.trees (crash_leaves (λ trees. trees ≡ (shown g old.store).now.trees) survives left m)
 
@@ -60,7 +60,7 @@ module _ {S : Type 0} (g : Ghosts S) where
 
     -- ---- the whole files are committed as they are now
 
-    pub kept_by_commit : (s : Standing) → Stands s (shown g old.store) → Commits (shown g old.store) (shown g new.store) → IsKeptNow g new s.now
+    pub kept_by_commit : (s : CommitState) → Stands s (shown g old.store) → Commits (shown g old.store) (shown g new.store) → IsKeptNow g new s.now
     kept_by_commit s stands made = record {
       kept = s.now;
       stands = record {
@@ -71,7 +71,7 @@ module _ {S : Type 0} (g : Ghosts S) where
       same = refl;
     }
 
-    pub kept_as_it_is : (s : Standing) → Stands s (shown g old.store) → new.store ≡ old.store → left_in old.names s.kept ≡ left_in old.names s.now → IsKeptNow g new s.now
+    pub kept_as_it_is : (s : CommitState) → Stands s (shown g old.store) → new.store ≡ old.store → left_in old.names s.kept ≡ left_in old.names s.now → IsKeptNow g new s.now
     kept_as_it_is s stands here same = record {
       kept = s.kept;
       stands = subst (λ store. Stands s (shown g store)) (sym here) stands;

@@ -5,7 +5,7 @@ use Rattle.std.proofs.lemmas.List.{length-take-le, take-take}
 use Rattle.njh_record.specs.Stored.{Stored}
 use Rattle.njh_spool.specs.CustomerSpool.{CustomerSpool, partial_records}
 use Rattle.njh_hub.specs.Keeping.{kept_file}
-use Rattle.njh_store.specs.Kept.{Spool, records_of}
+use Rattle.njh_store.specs.Kept.{SpoolContents, records_of}
 use Rattle.njh_kept.specs.Keeper.{left_in}
 use Rattle.njh_kept.specs.code.Alike.{AreAlike}
 use Rattle.njh_kept.specs.code.Mirrored.{HasRecords}
@@ -25,7 +25,7 @@ use Rattle.njh_kept.proofs.ZipLaws.{all_zip_weaker}
 -- ---- what it leaves
 
 -- the customers' whole files, as the hub has them
-pub known_is_left : (w : Numbers) (owns : List OwnFiles) (now : List CustomerSpool) (s : Spool) → Knows w owns now s
+pub known_is_left : (w : Numbers) (owns : List OwnFiles) (now : List CustomerSpool) (s : SpoolContents) → Knows w owns now s
     → left_in (map (λ own. own.name) owns) s ≡ map (λ c. map kept_file c.whole) now
 known_is_left w owns now s knows =
     left_of_parts (λ (c : CustomerSpool). c.whole) s owns now
@@ -33,7 +33,7 @@ known_is_left w owns now s knows =
 
 -- ---- a customer's step
 
-module _ (w w' : Numbers) (owns : List OwnFiles) (c : ℕ) (own own' : OwnFiles) (there : c < length owns) (is : own ≡ get_or owns c own) (s t : Spool) (moves : Moves (claim w own) (claim w' own') s t)
+module _ (w w' : Numbers) (owns : List OwnFiles) (c : ℕ) (own own' : OwnFiles) (there : c < length owns) (is : own ≡ get_or owns c own) (s t : SpoolContents) (moves : Moves (claim w own) (claim w' own') s t)
     (now : List CustomerSpool) (knows : Knows w owns now s) (named : AreNamedApart owns) where
   -- another customer's files stay as they are
   of_another : (o : OwnFiles) (sp : CustomerSpool) → IsApartFrom w w' owns c own own' there is s t moves knows.apart o → HasSpool s o sp → HasSpool t o sp
@@ -63,12 +63,12 @@ module _ (w w' : Numbers) (owns : List OwnFiles) (c : ℕ) (own own' : OwnFiles)
 -- ---- files that aren't whole
 
 -- behind a step's last call
-pub has_spool : (w w' : Numbers) (own own' : OwnFiles) (now : CustomerSpool) (s t : Spool) → Goes (claim w own) (claim w' own') own' now now.whole s t → AllUpToDate now own' → own'.arrived ≡ now.arrived
+pub has_spool : (w w' : Numbers) (own own' : OwnFiles) (now : CustomerSpool) (s t : SpoolContents) → Goes (claim w own) (claim w' own') own' now now.whole s t → AllUpToDate now own' → own'.arrived ≡ now.arrived
     → HasSpool t own' now
 has_spool w w' own own' now s t goes up_to_date arrived = record { arrived = arrived; mirrored = goes.mirrored; up_to_date = up_to_date; go_on = goes.go_on }
 
 -- Where files of more than 1,365 records go on from those of their numbers, what is kept of one is a front of it still.
-pub still_goes_on : (before now : CustomerSpool) (s : Spool) (p : KeptPartial)
+pub still_goes_on : (before now : CustomerSpool) (s : SpoolContents) (p : KeptPartial)
     → (1366 ≤ length (partial_records p.number now) → (rest : List Stored) × (partial_records p.number now ≡ partial_records p.number before ++ rest))
     → IsUpToDate before p → GoesOn before s p → GoesOn now s p
 still_goes_on before now s p grows up go_on enough =
@@ -76,7 +76,7 @@ still_goes_on before now s p grows up go_on enough =
     subst (IsPartlyKept s p) (sym more.1) (partly_kept_of_more s p (partial_records p.number before) more.0 (go_on (omega (arith, up.seen))))
 
 -- Where one became whole, that is so but for headers: the file may have been sent elsewhere since.
-pub front_of_whole : (before : CustomerSpool) (s : Spool) (p : KeptPartial) (rs : List Stored)
+pub front_of_whole : (before : CustomerSpool) (s : SpoolContents) (p : KeptPartial) (rs : List Stored)
     → (1366 ≤ length rs
     → (length (partial_records p.number before) ≤ length rs) × AreAlike (partial_records p.number before) (take (length (partial_records p.number before)) rs))
     → IsUpToDate before p → GoesOn before s p → p.seen ≤ length rs

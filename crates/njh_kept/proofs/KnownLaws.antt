@@ -15,9 +15,9 @@ use Rattle.njh_table.specs.Accepted.{AreDistinct}
 use Rattle.njh_table.specs.TableFile.{NamedCustomer, TableFile, entry_of}
 use Rattle.njh_hub.specs.Keeping.{IsLed, LeadsHub, LeavesEither, LeavesOnly, kept_file, kept_of}
 use Rattle.njh_hub.specs.WholeHub.{Part, no_part, part}
-use Rattle.njh_store.specs.Kept.{Holds, Spool, kept}
+use Rattle.njh_store.specs.Kept.{Holds, SpoolContents, kept}
 use Rattle.njh_store.specs.Shelf.{shown}
-use Rattle.njh_store.specs.Standing.{Standing, Stands}
+use Rattle.njh_store.specs.CommitState.{CommitState, Stands}
 use Rattle.njh_store.specs.Steps.{Stays}
 use Rattle.njh_kept.specs.Opened.{AllAreBack, hub_opened, is_name_of, own_files, part_opened}
 use Rattle.njh_kept.specs.declared.own_files.OwnFiles as own_files_type
@@ -71,8 +71,8 @@ known_settled g old new parts k names numbers customers done = record {
 }
 
 -- where it is broken off, what was kept before is left, or all
-pub either_leaves : {S : Type 0} (g : Ghosts S) (found : Spool → Type 0) (old new : Keeping S) (before parts : List Part) → (HasCleanDisk (shown g new.store) → HasCleanDisk (shown g old.store))
-    → ((left : List (List KeptFile)) → MayLeave g new left → MayLeave g old left ⊎ ((now : Spool) → Holds now (shown g old.store).now.trees → left ≡ left_in old.names now))
+pub either_leaves : {S : Type 0} (g : Ghosts S) (found : SpoolContents → Type 0) (old new : Keeping S) (before parts : List Part) → (HasCleanDisk (shown g new.store) → HasCleanDisk (shown g old.store))
+    → ((left : List (List KeptFile)) → MayLeave g new left → MayLeave g old left ⊎ ((now : SpoolContents) → Holds now (shown g old.store).now.trees → left ≡ left_in old.names now))
     → LeavesOnly (MayLeaveOf g found) old before → KnowsHub g found old parts → LeavesEither (MayLeaveOf g found) new before parts
 either_leaves g found old new before parts early crash only knows left m = elim (crash left m.0) [
   | inl may ↦ inl (only left (may, m.1))
@@ -105,7 +105,7 @@ owns_are : (owns : List own_files_type.OwnFiles) → map (λ (m : OwnMemory). m.
 owns_are [] = refl
 owns_are (own ∷ owns) = ap (λ os. own_of own ∷ os) (owns_are owns)
 
-pub begun_known : {S : Type 0} (g : Ghosts S) (new : Keeping S) (names : List (List ℕ)) (hub : List Part) (owns : List own_files_type.OwnFiles) (t : Spool) → new.customers ≡ map own_memory_of owns
+pub begun_known : {S : Type 0} (g : Ghosts S) (new : Keeping S) (names : List (List ℕ)) (hub : List Part) (owns : List own_files_type.OwnFiles) (t : SpoolContents) → new.customers ≡ map own_memory_of owns
     → new.names ≡ names → map (λ own. own.name) owns ≡ names → HasBegun names hub (map own_of owns) new.numbers t → Stands (record { now = t; kept = t }) (shown g new.store) → AreDistinct names
     → length names ≡ length hub → AllByRecursion (λ own. is_name_of (string_bytes own.text) own.name ≡ true) owns
     → ((c : ℕ) → c < length names → IsSound (part c hub).customer.spool × HaveHeaders (part c hub).customer.spool.whole) → AllByRecursion HasShortRests hub → KnowsNow g new hub
@@ -134,7 +134,7 @@ begun_known g new names hub owns t customers names_is each begun stands distinct
 }
 
 -- what is read of the customers' files when a hub is opened
-pub opened_so : ((s : CustomerSpool) → has_file_room s ≡ true → is_number (next_number s) s ≡ false) → (table : TableFile) (spool : Spool) (names : List (List ℕ)) (hub : List Part)
+pub opened_so : ((s : CustomerSpool) → has_file_room s ≡ true → is_number (next_number s) s ≡ false) → (table : TableFile) (spool : SpoolContents) (names : List (List ℕ)) (hub : List Part)
     → names ≡ map (λ c. c.name) table.customers → hub ≡ hub_opened table spool → AllAreBack table (kept spool)
     → AllAreFound names hub × AllAreRead names hub spool × (length names ≡ length hub) × AllByRecursion HasShortRests hub
 opened_so free table spool names hub each hub_is back = (
@@ -146,7 +146,7 @@ opened_so free table spool names hub each hub_is back = (
 )
 
 -- what the spool file shows stays
-pub stood_still : (s : Standing) (old new : State) → Stays old new → Stands s old → Stands s new
+pub stood_still : (s : CommitState) (old new : State) → Stays old new → Stands s old → Stands s new
 stood_still s old new stays stands = record {
   is_open = stays.is_open stands.is_open;
   now = subst (λ (d : Database). Holds s.now d.trees) (sym stays.now) stands.now;
@@ -236,7 +236,7 @@ module _ {S : Type 0} (g : Ghosts S) (old new : Keeping S) (before : List Part) 
   spools_new = map-set (λ (p : Part). p.customer.spool) before c now
 
   -- the customers' names are what they were
-  module _ (t : Spool) (goes : StepGoes (memory_in old m) (memory_in new m2) old.is_changed new.is_changed (part c before).customer.spool now.customer.spool k.standing.now t)
+  module _ (t : SpoolContents) (goes : StepGoes (memory_in old m) (memory_in new m2) old.is_changed new.is_changed (part c before).customer.spool now.customer.spool k.standing.now t)
       (stands : Stands (record { now = t; kept = k.standing.kept }) (shown g new.store)) where
     knows_new : Knows new.numbers (owns_in new) (spools_of (set before c now)) t
     knows_new =

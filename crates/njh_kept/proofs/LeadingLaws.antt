@@ -3,17 +3,17 @@ use Rattle.std.proofs.Common.{◌≡◌, inl, refl, sym, subst, arith}
 use Rattle.sqlite.specs.State.{State, Survives}
 use Rattle.sqlite.proofs.StateLemmas.{survives_then}
 use Rattle.sqlite_trees.specs.Tree.{Trees}
-use Rattle.njh_store.specs.Kept.{Holds, Spool}
+use Rattle.njh_store.specs.Kept.{Holds, SpoolContents}
 use Rattle.njh_store.specs.Steps.{Changes}
 use Rattle.njh_kept.specs.code.Leading.{Leads}
 
 -- a call that leaves the spool file as it is
-pub leads_nothing : (P : Spool → Spool → Type 0) (at : State) → ((s : Spool) → P s s) → Leads P at at
+pub leads_nothing : (P : SpoolContents → SpoolContents → Type 0) (at : State) → ((s : SpoolContents) → P s s) → Leads P at at
 leads_nothing P at holds = record { leads = λ s stands. (s.now, stands, holds s.now) }
 
 -- one more step
-pub leads_then : (P Q R : Spool → Spool → Type 0) (old mid new : State) → Leads P old mid → Leads Q mid new
-    → ((s t u : Spool) → P s t → Q t u → R s u) → Leads R old new
+pub leads_then : (P Q R : SpoolContents → SpoolContents → Type 0) (old mid new : State) → Leads P old mid → Leads Q mid new
+    → ((s t u : SpoolContents) → P s t → Q t u → R s u) → Leads R old new
 leads_then P Q R old mid new one more both = record {
   leads = λ s stands.
       let first = one.leads s stands in
@@ -22,13 +22,13 @@ leads_then P Q R old mid new one more both = record {
 }
 
 -- what it comes to says less
-pub leads_weaker : (P Q : Spool → Spool → Type 0) (old new : State) → ((s t : Spool) → P s t → Q s t) → Leads P old new → Leads Q old new
+pub leads_weaker : (P Q : SpoolContents → SpoolContents → Type 0) (old new : State) → ((s t : SpoolContents) → P s t → Q s t) → Leads P old new → Leads Q old new
 leads_weaker P Q old new less one = record {
   leads = λ s stands. let first = one.leads s stands in (first.0, first.1, less s.now first.0 first.2);
 }
 
 -- a call of the store
-pub leads_by : (change : Spool → Spool) (old new : State) → Changes change old new → Leads (λ s t. t ≡ change s) old new
+pub leads_by : (change : SpoolContents → SpoolContents) (old new : State) → Changes change old new → Leads (λ s t. t ≡ change s) old new
 leads_by change old new by = record {
   leads = λ s stands. (
     change s.now,

@@ -3,7 +3,7 @@ use Rattle.std.proofs.Common.{◌≡◌, ◌≢◌, ℕ, ◌+◌, ◌<◌, ◌�
 use Rattle.std.specs.List.{AllByRecursion}
 use Rattle.std.proofs.lemmas.List.{get_or_default, set-get_or}
 use Rattle.njh_spool.specs.CustomerSpool.{WholeFile}
-use Rattle.njh_store.specs.Kept.{File, Spool, contents, records_of, with_changed, with_file, without_file}
+use Rattle.njh_store.specs.Kept.{File, SpoolContents, contents, records_of, with_changed, with_file, without_file}
 use Rattle.njh_kept.specs.Opened.{is_own, kind_word}
 use Rattle.njh_kept.specs.code.Mirrored.{FitsHub, HasRecords, IsOrdered, WritesRowsOf, WritesUnder, own_rows}
 use Rattle.njh_hub.specs.Keeping.{is_held}
@@ -21,10 +21,10 @@ all_of P each (x ∷ xs) = (each x, all_of P each xs)
 
 -- ---- the files stay
 
-kept_still : (s t : Spool) (k : KeptWhole) (e : ℕ × File) (f : WholeFile) → records_of k.key t ≡ records_of k.key s → IsKept s k e f → IsKept t k e f
+kept_still : (s t : SpoolContents) (k : KeptWhole) (e : ℕ × File) (f : WholeFile) → records_of k.key t ≡ records_of k.key s → IsKept s k e f → IsKept t k e f
 kept_still s t k e f same one = record { id = one.id; row = one.row; remembers = one.remembers; stored = ap (map contents) same ∙ one.stored; fits = one.fits }
 
-module _ (s t : Spool) (own : OwnFiles) (files : List WholeFile) (all : Mirrored s own files) where
+module _ (s t : SpoolContents) (own : OwnFiles) (files : List WholeFile) (all : Mirrored s own files) where
   -- where neither their rows change nor what stands under their keys
   pub mirrored_still : own_rows own.name t ≡ own_rows own.name s → AllByRecursion (λ k. records_of k.key t ≡ records_of k.key s) own.whole → Mirrored t own files
   mirrored_still rows records =
@@ -48,7 +48,7 @@ module _ (s t : Spool) (own : OwnFiles) (files : List WholeFile) (all : Mirrored
 
 -- ---- one of them
 
-module _ (s : Spool) (own : OwnFiles) (files : List WholeFile) (h : IsOrdered s) (all : Mirrored s own files) (i : ℕ) (k : KeptWhole) (there : i < length own.whole) (is : k ≡ get_or own.whole i k) where
+module _ (s : SpoolContents) (own : OwnFiles) (files : List WholeFile) (h : IsOrdered s) (all : Mirrored s own files) (i : ℕ) (k : KeptWhole) (there : i < length own.whole) (is : k ≡ get_or own.whole i k) where
   abbrev rows : List (ℕ × File)
   rows = own_rows own.name s
 
@@ -101,7 +101,7 @@ module _ (s : Spool) (own : OwnFiles) (files : List WholeFile) (h : IsOrdered s)
 
   -- its row changes, and what stands under its key
 
-  module _ (t : Spool) (under : WritesUnder k.key s t) (file : File) (owned : is_own own.name file ≡ true) where
+  module _ (t : SpoolContents) (under : WritesUnder k.key s t) (file : File) (owned : is_own own.name file ≡ true) where
     same_rows : own_rows own.name t ≡ rows
     same_rows = rows_stay k.key s t under own.name
 
@@ -148,7 +148,7 @@ module _ (s : Spool) (own : OwnFiles) (files : List WholeFile) (h : IsOrdered s)
 
 -- ---- one comes
 
-module _ (s t : Spool) (own : OwnFiles) (files : List WholeFile) (all : Mirrored s own files) (k : KeptWhole) (under : WritesUnder k.key s t) (file : File) (owned : is_own own.name file ≡ true) (low : AreBelow k.id s) where
+module _ (s t : SpoolContents) (own : OwnFiles) (files : List WholeFile) (all : Mirrored s own files) (k : KeptWhole) (under : WritesUnder k.key s t) (file : File) (owned : is_own own.name file ≡ true) (low : AreBelow k.id s) where
   low_still : AreBelow k.id t
   low_still = subst (λ es. AllByRecursion (λ (e : ℕ × File). e.0 < k.id) es) (sym under.files) low
 

@@ -1,13 +1,13 @@
 -- What calls make of a spool file, one after the other.
 use Rattle.std.proofs.Common.{◌≡◌, ℕ, ◌<◌, ◌≤◌, refl, sym, ap, subst, ◌∙◌, arith}
 use Rattle.std.specs.List.{AllByRecursion}
-use Rattle.njh_store.specs.Kept.{File, Spool, records_of}
+use Rattle.njh_store.specs.Kept.{File, SpoolContents, records_of}
 use Rattle.njh_kept.specs.code.Mirrored.{IsOrdered, WritesRowsOf, WritesUnder}
 use Rattle.njh_kept.specs.code.Remembered.{AreApart, AreBelow, Claim, Moves}
 use Rattle.njh_kept.proofs.FrameLaws.{rows_stay}
 use Rattle.njh_kept.proofs.NumberedLaws.{all_weaker}
 
-pub moves_then : (a b c : Claim) (s t u : Spool) → Moves a b s t → Moves b c t u → Moves a c s u
+pub moves_then : (a b c : Claim) (s t u : SpoolContents) → Moves a b s t → Moves b c t u → Moves a c s u
 moves_then a b c s t u one more = record {
   name = more.name ∙ one.name;
   uses = λ n. let first = one.uses n in let then = more.uses n in omega (arith, first, then);
@@ -19,10 +19,10 @@ moves_then a b c s t u one more = record {
 }
 
 -- no number is used twice then, either
-pub still_apart : (a b : Claim) (s t : Spool) → Moves a b s t → AreApart a → AreApart b
+pub still_apart : (a b : Claim) (s t : SpoolContents) → Moves a b s t → AreApart a → AreApart b
 still_apart a b s t moves apart n = let less = moves.uses n in let once = apart n in omega (arith, less, once)
 
-module _ (a b : Claim) (s : Spool) (name : b.name ≡ a.name) (uses : (n : ℕ) → b.uses n ≤ a.uses n) where
+module _ (a b : Claim) (s : SpoolContents) (name : b.name ≡ a.name) (uses : (n : ℕ) → b.uses n ≤ a.uses n) where
   -- nothing is written
   pub moves_memory : IsOrdered s → a.next_id ≤ b.next_id → Moves a b s s
   moves_memory h more = record {
@@ -36,7 +36,7 @@ module _ (a b : Claim) (s : Spool) (name : b.name ≡ a.name) (uses : (n : ℕ) 
   }
 
   -- records under one key are written
-  pub moves_under : (key : ℕ) (t : Spool) → WritesUnder key s t → 1 ≤ a.uses key → b.next_id ≡ a.next_id → Moves a b s t
+  pub moves_under : (key : ℕ) (t : SpoolContents) → WritesUnder key s t → 1 ≤ a.uses key → b.next_id ≡ a.next_id → Moves a b s t
   moves_under key t w busy next = record {
     name = name;
     uses = uses;
@@ -48,7 +48,7 @@ module _ (a b : Claim) (s : Spool) (name : b.name ≡ a.name) (uses : (n : ℕ) 
   }
 
   -- rows of the customer are written
-  pub moves_rows : (t : Spool) → WritesRowsOf a.name s t → a.next_id ≤ b.next_id → (AreBelow a.next_id s → AreBelow b.next_id t) → Moves a b s t
+  pub moves_rows : (t : SpoolContents) → WritesRowsOf a.name s t → a.next_id ≤ b.next_id → (AreBelow a.next_id s → AreBelow b.next_id t) → Moves a b s t
   moves_rows t w more below = record {
     name = name;
     uses = uses;
@@ -59,5 +59,5 @@ module _ (a b : Claim) (s : Spool) (name : b.name ≡ a.name) (uses : (n : ℕ) 
     rows = w.others;
   }
 
-pub moves_nothing : (a : Claim) (s : Spool) → IsOrdered s → Moves a a s s
+pub moves_nothing : (a : Claim) (s : SpoolContents) → IsOrdered s → Moves a a s s
 moves_nothing a s h = moves_memory a a s refl (λ n. omega arith) h (omega arith)

@@ -13,7 +13,7 @@ use Rattle.njh_spool.specs.CustomerSpool.{CustomerSpool, WholeFile, max_arrived,
 use Rattle.njh_spool.specs.declared.State.TheVariants.{Ready}
 use Rattle.njh_stream.specs.WholeFiles.{HaveHeaders}
 use Rattle.njh_stream.specs.SpoolFiles.{records_in}
-use Rattle.njh_store.specs.Kept.{Spool, records_of, contents}
+use Rattle.njh_store.specs.Kept.{SpoolContents, records_of, contents}
 use Rattle.njh_hub.specs.Views.{file_summary}
 use Rattle.njh_hub.specs.WholeHub.{Part, part}
 use Rattle.njh_hub.specs.declared.file_summary.FileSummaryView.{FileSummaryView}
@@ -62,10 +62,10 @@ records_at s i g once there is =
 
 -- ---- what is kept of files that aren't whole
 
-abbrev FrontsOf : Spool → List WholeFile → KeptPartial → Type 0
+abbrev FrontsOf : SpoolContents → List WholeFile → KeptPartial → Type 0
 FrontsOf s files p = AllByRecursion (λ f. f.number ≡ p.number → p.seen ≤ length f.records → IsFrontOf s p f.records) files
 
-fronts_still : (s t : Spool) (files : List WholeFile) (p : KeptPartial) → FrontsOf s files p → records_of p.key t ≡ records_of p.key s → FrontsOf t files p
+fronts_still : (s t : SpoolContents) (files : List WholeFile) (p : KeptPartial) → FrontsOf s files p → records_of p.key t ≡ records_of p.key s → FrontsOf t files p
 fronts_still s t files p fronts same =
     all_weaker (λ (f : WholeFile). f.number ≡ p.number → p.seen ≤ length f.records → IsFrontOf s p f.records) (λ f. f.number ≡ p.number → p.seen ≤ length f.records → IsFrontOf t p f.records)
     (λ f front number seen. let x = front number seen in record {
@@ -76,13 +76,13 @@ fronts_still s t files p fronts same =
       alike = x.alike;
     }) files fronts
 
-pub fronts_stay : (s t : Spool) (files : List WholeFile) (before now : List KeptPartial) → Remain before now → AllByRecursion (λ p. records_of p.key t ≡ records_of p.key s) now
+pub fronts_stay : (s t : SpoolContents) (files : List WholeFile) (before now : List KeptPartial) → Remain before now → AllByRecursion (λ p. records_of p.key t ≡ records_of p.key s) now
     → AreFronts s before files → AreFronts t now files
 fronts_stay s t files before now remain same fronts =
     all_both (FrontsOf s files) (λ p. records_of p.key t ≡ records_of p.key s) (FrontsOf t files) (λ p front still. fronts_still s t files p front still) now
     (all_remain (FrontsOf s files) before now remain fronts) same
 
-pub front_at : (s : Spool) (partial : List KeptPartial) (files : List WholeFile) (i : ℕ) (g : WholeFile) → i < length files → g ≡ get_or files i g → AreFronts s partial files
+pub front_at : (s : SpoolContents) (partial : List KeptPartial) (files : List WholeFile) (i : ℕ) (g : WholeFile) → i < length files → g ≡ get_or files i g → AreFronts s partial files
     → AreFronts s partial (g ∷ [])
 front_at s partial files i g there is fronts =
     all_weaker (FrontsOf s files) (FrontsOf s (g ∷ []))
@@ -138,7 +138,7 @@ module _ (m m1 m2 : Memory) (old mid new : State) where
       ))
 
   -- one more is followed
-  pub walked_further : (Given : Spool → List WholeFile → Type 0) (still : List WholeFile) (index : ℕ)
+  pub walked_further : (Given : SpoolContents → List WholeFile → Type 0) (still : List WholeFile) (index : ℕ)
       → LeadsFiles m m1 Given (λ files now. IsWalkedTo still now index) old mid
       → LeadsFiles m1 m2 (λ s files. IsWalkedTo still files index) (λ files now. IsWalkedTo still now (index + 1)) mid new
       → LeadsFiles m m2 Given (λ files now. IsWalkedTo still now (index + 1)) old new
@@ -150,7 +150,7 @@ module _ (m m1 m2 : Memory) (old mid new : State) where
       (b.0, b.1, goes_then m m1 m2 s t u a.0 b.0 a.2 b.2))
 
   -- behind the last one all others have left
-  pub walked_to_end : (Given : Spool → List WholeFile → Type 0) (still : List WholeFile) (index : ℕ) → length still ≤ index
+  pub walked_to_end : (Given : SpoolContents → List WholeFile → Type 0) (still : List WholeFile) (index : ℕ) → length still ≤ index
       → LeadsFiles m m1 Given (λ files now. IsWalkedTo still now index) old mid
       → LeadsFiles m1 m2 (λ s files. IsWalkedTo still files index) (λ files now. IsWalkedTo still now index × IsReached None now index) mid new
       → LeadsFiles m m2 Given (λ files now. now ≡ still) old new
@@ -189,7 +189,7 @@ first_survive law c files before count new old counted few fits all some is go_o
       subst (λ n. Survive files (take n c.spool.whole)) none_is (all_have_gone files)
 ]
 
-goes_arrived : (a : ℕ) (m m2 : Memory) (s t : Spool) (files : List WholeFile) → GoesTo m m2 s t files
+goes_arrived : (a : ℕ) (m m2 : Memory) (s t : SpoolContents) (files : List WholeFile) → GoesTo m m2 s t files
     → GoesTo m (record { numbers = m2.numbers; own = record m2.own { arrived = a }; text = m2.text }) s t files
 goes_arrived a m m2 s t files one = record {
   moves = one.moves;

@@ -4,7 +4,7 @@ use Rattle.sqlite.specs.declared.types.Value.{Value}
 use Rattle.sqlite.specs.declared.types.Value.TheVariants.{Int, Text, Blob}
 use Rattle.sqlite.specs.Order.{Row, column}
 use Rattle.sqlite_trees.specs.Tree.{Trees}
-use Rattle.njh_store.specs.Kept.{File, Record, Spool, Holds, file_row, flag, record_row}
+use Rattle.njh_store.specs.Kept.{File, Record, SpoolContents, Holds, file_row, flag, record_row}
 
 -- ---- a row is read back
 
@@ -67,7 +67,7 @@ all_back shown from back (x ∷ xs) = λ i. back x i ∷ all_back shown from bac
 one_list : {X : Type 0} (shown : X → Row) (from : Row → X) → ((x : X) → from (shown x) ≡ x) → (xs ys : List X) (rows : List Row) → rows ≡ map shown xs → rows ≡ map shown ys → xs ≡ ys
 one_list shown from back xs ys rows one other = sym (all_back shown from back xs) ∙ ap (map from) (sym one ∙ other) ∙ all_back shown from back ys
 
-pub one_spool : (s t : Spool) (trees : Trees) → Holds s trees → Holds t trees → s ≡ t
+pub one_spool : (s t : SpoolContents) (trees : Trees) → Holds s trees → Holds t trees → s ≡ t
 one_spool s t trees one other =
     let files = one_list file_row file_from file_back s.files t.files (trees 1) one.files other.files in
     let records = one_list record_row record_from (λ _. refl) s.records t.records (trees 2) one.records other.records in

@@ -9,8 +9,8 @@ use Rattle.njh_customer.specs.Growing.{TakesGrowFiles}
 use Rattle.njh_customer.specs.Surviving.{EventsKeepFiles, TakesKeepFiles}
 use Rattle.njh_hub.specs.Keeping.{IsLed, kept_file}
 use Rattle.njh_hub.specs.WholeHub.{Part}
-use Rattle.njh_store.specs.Kept.{Holds, Spool, Whole}
-use Rattle.njh_store.specs.Standing.{Standing, Stands}
+use Rattle.njh_store.specs.Kept.{Holds, SpoolContents, Whole}
+use Rattle.njh_store.specs.CommitState.{CommitState, Stands}
 use Rattle.njh_kept.specs.Opened.{file_in, is_name_of, own_files}
 use Rattle.njh_kept.specs.code.Following.{AreFronts, GoOnIn, GoesTo, HasFiles, LeadsFiles, Memory}
 use Rattle.njh_kept.specs.code.Knowing.{HasOwn, IsSoundPart, StepGoes}
@@ -35,7 +35,7 @@ some_of {X} (x ∷ xs) (y ∷ ys) same =
     λ i. first i ∷ rest i
 
 -- what is kept of a customer's files is what it was, where its spool file is
-kept_still : (m m1 : Memory) (s t : Spool) (files now : List WholeFile) → t ≡ s → m1.own.name ≡ m.own.name → Mirrored s m.own files → Mirrored t m1.own now
+kept_still : (m m1 : Memory) (s t : SpoolContents) (files now : List WholeFile) → t ≡ s → m1.own.name ≡ m.own.name → Mirrored s m.own files → Mirrored t m1.own now
     → map kept_file files ≡ map kept_file now
 kept_still m m1 s t files now here name before behind =
     some_of (map kept_file files) (map kept_file now)
@@ -52,7 +52,7 @@ module _ (events : EventsKeepFiles) (takes : TakesKeepFiles) (grow : TakesGrowFi
     (seen : AllClosed m1.own → AllUpToDate now.customer.spool m2.own)
     (text : m2.text ≡ m1.text) (name : m2.own.name ≡ m1.own.name) (still_arrived : m2.own.arrived ≡ m1.own.arrived)
     (quiet : changed2 ≡ false → (changed ≡ false) × (mid ≡ old)) where
-  after : (s : Standing) (t u : Spool) → Stands s old → Stands (record s { now = t }) mid
+  after : (s : CommitState) (t u : SpoolContents) → Stands s old → Stands (record s { now = t }) mid
       → ((files : List WholeFile) → HasFiles m s.now files → GoOnIn m.own.arrived files now.customer × AreFronts s.now m.own.partial now.customer.spool.whole
       → (fs : List WholeFile) × (fs ≡ now.customer.spool.whole) × GoesTo m m1 s.now t fs)
       → KeepsOn m1.numbers m1.own m2.numbers m2.own now.customer.spool t u → HasOwn m s.now before.customer.spool

@@ -5,7 +5,7 @@ use Rattle.std.specs.List.{AllByRecursion}
 use Rattle.std.proofs.lemmas.Bool.{cases_Bool, cases_lt, eqb-true}
 use Rattle.std.proofs.lemmas.Bool.Decides.{nat_tests}
 use Rattle.njh_table.specs.Accepted.{AreDistinct}
-use Rattle.njh_store.specs.Kept.{File, Spool}
+use Rattle.njh_store.specs.Kept.{File, SpoolContents}
 use Rattle.njh_store.specs.declared.kept.StoredFile.{StoredFile}
 use Rattle.njh_hub.specs.WholeHub.{Part}
 use Rattle.njh_kept.specs.Opened.{is_own}
@@ -98,7 +98,7 @@ uses_are n (name ∷ names) (own ∷ owns) f long each =
     let more = uses_are n names owns f (omega (arith, long)) (λ c other low is. each (suc c) other (omega (arith, low)) is) in
     omega (arith, here, more)
 
-pub customers_use : (n : ℕ) (names : List (List ℕ)) (hub : List Part) (owns : List OwnFiles) (s t : Spool) → AreDistinct names → length owns ≡ length names → AreRemembered names hub owns s t
+pub customers_use : (n : ℕ) (names : List (List ℕ)) (hub : List Part) (owns : List OwnFiles) (s t : SpoolContents) → AreDistinct names → length owns ≡ length names → AreRemembered names hub owns s t
     → uses_of_all n owns ≤ keyed_rows n s.files
 customers_use n names hub owns s t distinct long all =
     let same =
@@ -216,7 +216,7 @@ may_none next n low =
     let no : nat_le next n ≡ false = grind (arith, nat_tests, low) in
     ap (λ b. one_if (b && nat_lt n (2 ^ 32 - 1))) no
 
-module _ (files : List StoredFile) (names : List (List ℕ)) (hub : List Part) (owns : List OwnFiles) (s t : Spool) (w : Numbers) (before : ℕ) (each : AreFilesApart files) (rows : entries files ≡ s.files)
+module _ (files : List StoredFile) (names : List (List ℕ)) (hub : List Part) (owns : List OwnFiles) (s t : SpoolContents) (w : Numbers) (before : ℕ) (each : AreFilesApart files) (rows : entries files ≡ s.files)
     (distinct : AreDistinct names) (long : length owns ≡ length names) (all : AreRemembered names hub owns s t) (sweeps : w.sweeps ≡ []) (free : w.free_keys ≡ free_at files w.next_key)
     (next : w.next_key ≡ key_behind before files) where
   used : (n : ℕ) → uses_of_all n owns ≤ keyed (λ f. f.file.key) n files

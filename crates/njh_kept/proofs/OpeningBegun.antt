@@ -5,7 +5,7 @@ use Rattle.std.proofs.lemmas.Bool.{cases_Bool, eqb-false}
 use Rattle.std.proofs.lemmas.Bool.Decides.{nat_tests}
 use Rattle.njh_table.specs.Accepted.{AreDistinct}
 use Rattle.njh_hub.specs.WholeHub.{Part}
-use Rattle.njh_store.specs.Kept.{File, Spool, records_of, without_records}
+use Rattle.njh_store.specs.Kept.{File, SpoolContents, records_of, without_records}
 use Rattle.njh_store.specs.declared.kept.StoredFile.{StoredFile}
 use Rattle.njh_kept.specs.Opened.{is_own}
 use Rattle.njh_kept.specs.code.Apart.{AreFilesApart, have_low_ids}
@@ -21,12 +21,12 @@ use Rattle.njh_kept.proofs.OpeningApart.{all_are_apart, numbers_are, rows_count,
 
 -- ---- records under other numbers stay
 
-record IsEmptied (keys : List ℕ) (s t : Spool) : Type 0 where
+record IsEmptied (keys : List ℕ) (s t : SpoolContents) : Type 0 where
   files : t.files ≡ s.files
   ordered : IsOrdered t
   others : (key : ℕ) → keyed (λ k. k) key keys ≡ 0 → records_of key t ≡ records_of key s
 
-emptied : (keys : List ℕ) (s : Spool) → IsOrdered s → IsEmptied keys s (without_keys keys s)
+emptied : (keys : List ℕ) (s : SpoolContents) → IsOrdered s → IsEmptied keys s (without_keys keys s)
 emptied [] s h = record { files = refl; ordered = h; others = λ key none. refl }
 emptied (k ∷ ks) s h =
     let one = drops_records k 0 (2 ^ 23) s h (omega arith) in
@@ -80,7 +80,7 @@ low_ids next (f ∷ fs) end low most = by (nat_le (2 ^ 32 - 1) f.id) refl low (�
 
 -- ---- all of it
 
-module _ (files : List StoredFile) (names : List (List ℕ)) (hub : List Part) (owns : List OwnFiles) (s t : Spool) (w : Numbers) (id key : ℕ) (each : AreFilesApart files) (low : have_low_ids files ≡ true)
+module _ (files : List StoredFile) (names : List (List ℕ)) (hub : List Part) (owns : List OwnFiles) (s t : SpoolContents) (w : Numbers) (id key : ℕ) (each : AreFilesApart files) (low : have_low_ids files ≡ true)
     (rows : entries files ≡ s.files) (distinct : AreDistinct names) (long : length owns ≡ length names) (all : AreRemembered names hub owns s t) where
   empty : IsEmptied (emptied_at files (key_behind key files)) t (without_keys (emptied_at files (key_behind key files)) t)
   empty = emptied (emptied_at files (key_behind key files)) t all.ordered

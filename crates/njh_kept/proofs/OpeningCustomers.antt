@@ -6,7 +6,7 @@ use Rattle.std.proofs.lemmas.List.{get_or_append_left, get_or_push, length_push}
 use Rattle.njh_spool.specs.CustomerSpool.{WholeFile}
 use Rattle.njh_hub.specs.WholeHub.{Part, part}
 use Rattle.njh_table.specs.Accepted.{AreDistinct}
-use Rattle.njh_store.specs.Kept.{File, Spool, records_of}
+use Rattle.njh_store.specs.Kept.{File, SpoolContents, records_of}
 use Rattle.njh_kept.specs.code.Mirrored.{IsOrdered, own_rows}
 use Rattle.njh_kept.specs.code.Opening.{AllAreRead, AreRemembered, IsCustomer, IsOwnOf, IsReadFor, IsRemembered, Remembering, files_at, keyed_rows, name_at, owned_of}
 use Rattle.njh_kept.specs.code.Remembered.{KeptWhole, Mirrored, OwnFiles}
@@ -14,7 +14,7 @@ use Rattle.njh_kept.proofs.HubLaws.{apart}
 use Rattle.njh_kept.proofs.MirrorLaws.{all_of, mirrored_still}
 use Rattle.njh_kept.proofs.OpeningLists.{all_read_same}
 
-pub none_remembered : (names : List (List ℕ)) (hub : List Part) (s : Spool) → IsOrdered s → AreRemembered names hub [] s s
+pub none_remembered : (names : List (List ℕ)) (hub : List Part) (s : SpoolContents) → IsOrdered s → AreRemembered names hub [] s s
 none_remembered names hub s ordered = record {
   each = λ c own there is. absurd (omega (arith, there));
   records = refl;
@@ -23,7 +23,7 @@ none_remembered names hub s ordered = record {
   below = λ end low. low;
 }
 
-module _ (names : List (List ℕ)) (hub : List Part) (rows : List (ℕ × File)) (owns : List OwnFiles) (own : OwnFiles) (s t u : Spool) (rows_are : rows ≡ s.files) (distinct : AreDistinct names)
+module _ (names : List (List ℕ)) (hub : List Part) (rows : List (ℕ × File)) (owns : List OwnFiles) (own : OwnFiles) (s t u : SpoolContents) (rows_are : rows ≡ s.files) (distinct : AreDistinct names)
     (reads : AllAreRead names hub s) (few : length owns < length names) (pure : IsOwnOf (name_at names (length owns)) (part (length owns) hub).customer.spool own) (so_far : AreRemembered names hub owns s t) where
   not_yet : (j : ℕ) → j < length owns → name_at names j ≢ name_at names (length owns)
   not_yet j low same = let one = apart names distinct j (length owns) (omega (arith, low, few)) few same in omega (arith, low, one)

@@ -18,7 +18,7 @@ use Rattle.njh_table.specs.Marks.{entry_unmarked}
 use Rattle.njh_table.specs.TableFile.{NamedCustomer, TableFile, customer_at, entry_of as entry_in, no_customer}
 use Rattle.njh_hub.specs.Restored.{part_with_file}
 use Rattle.njh_hub.specs.WholeHub.{Part, no_part, part_at_open}
-use Rattle.njh_store.specs.Kept.{File, Spool, Whole, contents, kept, records_of, whole_in}
+use Rattle.njh_store.specs.Kept.{File, SpoolContents, Whole, contents, kept, records_of, whole_in}
 use Rattle.njh_kept.specs.Opened.{AllAreBack, AreBack, file_in, hub_opened, own_files, part_opened, with_whole}
 use Rattle.njh_kept.specs.OpenedFiles.{OpenedFile, as_opened, opened_of}
 use Rattle.njh_kept.specs.declared.fault.FileFault.TheVariants.{Refused}
@@ -36,12 +36,12 @@ use Rattle.njh_kept.proofs.RowLaws.{own_files_are}
 -- ---- from which rows
 
 -- a row that is read as a file is read as the hub's
-read_for : (s : Spool) (e : ℕ × File) (f : KeptFile) (g : WholeFile) → file_in e.1 (map contents (records_of e.1.key s)) ≡ Some f → g.kind ≡ f.kind → g.records ≡ f.records → IsReadFor s e g
+read_for : (s : SpoolContents) (e : ℕ × File) (f : KeptFile) (g : WholeFile) → file_in e.1 (map contents (records_of e.1.key s)) ≡ Some f → g.kind ≡ f.kind → g.records ≡ f.records → IsReadFor s e g
 read_for s e f g is kind records =
     let read = is_read_as s e.1 f is in
     is ∙ (λ i. Some (record { kind = sym kind i; held = sym read.held i; records = sym records i }))
 
-read_from : (s : Spool) (entry : CustomerEntry) (es : List (ℕ × File)) (gs : List WholeFile) (fs : List KeptFile) → map (λ w. file_in w.file w.records) (map (whole_in s) es) ≡ map Some fs
+read_from : (s : SpoolContents) (entry : CustomerEntry) (es : List (ℕ × File)) (gs : List WholeFile) (fs : List KeptFile) → map (λ w. file_in w.file w.records) (map (whole_in s) es) ≡ map Some fs
     → map opened_of gs ≡ map (as_opened entry) fs → AllZip (IsReadFor s) es gs
 read_from s entry [] [] fs all opened = tt
 read_from s entry [] (g ∷ gs) [] all opened = absurd (let long = ap length opened in omega (arith, long))
@@ -149,7 +149,7 @@ module _ (free : NextIsFree) where
 
   -- ---- by its number
 
-  pub all_found : (table : TableFile) (spool : Spool) → AllAreBack table (kept spool) → (names : List (List ℕ)) → names ≡ map (λ c. c.name) table.customers → AllAreFound names (hub_opened table spool)
+  pub all_found : (table : TableFile) (spool : SpoolContents) → AllAreBack table (kept spool) → (names : List (List ℕ)) → names ≡ map (λ c. c.name) table.customers → AllAreFound names (hub_opened table spool)
   all_found table spool all names are c low =
       let there : c < length table.customers = (let long = ap length are in let same = length-map table.customers (λ (x : NamedCustomer). x.name) in omega (arith, low, long, same)) in
       let entry = entry_in (customer_at table c) in
@@ -184,7 +184,7 @@ module _ (free : NextIsFree) where
 
 -- ---- all customers
 
-pub all_read_from : (table : TableFile) (spool : Spool) → AllAreBack table (kept spool) → (names : List (List ℕ)) → names ≡ map (λ c. c.name) table.customers → AllAreRead names (hub_opened table spool) spool
+pub all_read_from : (table : TableFile) (spool : SpoolContents) → AllAreBack table (kept spool) → (names : List (List ℕ)) → names ≡ map (λ c. c.name) table.customers → AllAreRead names (hub_opened table spool) spool
 all_read_from table spool all names are c low =
     let there : c < length table.customers = (let long = ap length are in let same = length-map table.customers (λ (x : NamedCustomer). x.name) in omega (arith, low, long, same)) in
     let entry = entry_in (customer_at table c) in

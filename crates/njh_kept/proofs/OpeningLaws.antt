@@ -4,7 +4,7 @@ use Rattle.std.proofs.lemmas.List.{take-append-drop, take_more, map-append}
 use Rattle.njh_table.specs.Accepted.{AreDistinct}
 use Rattle.njh_table.specs.TableFile.{NamedCustomer, TableFile, entry_of as entry_in}
 use Rattle.njh_hub.specs.WholeHub.{Part, part_at_open}
-use Rattle.njh_store.specs.Kept.{Spool, Whole, entry_of, kept, whole_in}
+use Rattle.njh_store.specs.Kept.{SpoolContents, Whole, entry_of, kept, whole_in}
 use Rattle.njh_store.specs.declared.kept.StoredFile.{StoredFile}
 use Rattle.njh_kept.specs.Faults.{Tells}
 use Rattle.njh_kept.specs.Opened.{AllAreBack, hub_opened}
@@ -19,7 +19,7 @@ use Rattle.njh_kept.proofs.HubLaws.{all_back, opened, refused}
 use Rattle.njh_kept.proofs.StepLaws.{wholes_are}
 
 -- What was found: the customers' names, the files without their records, and the hub as it was opened.
-pub record Finds (table : TableFile) (spool : Spool) (names : List (List ℕ)) (hub : List Part) (files : List StoredFile) : Type 0 where
+pub record Finds (table : TableFile) (spool : SpoolContents) (names : List (List ℕ)) (hub : List Part) (files : List StoredFile) : Type 0 where
   pub distinct : AreDistinct (map (λ c. c.name) table.customers)
   pub names_are : names ≡ map (λ c. c.name) table.customers
   pub hub_is : hub ≡ map part_at_open (map entry_in table.customers)
@@ -31,7 +31,7 @@ around files at f low here =
     ∙ append_assoc (take at files) (get_or files at f ∷ []) (drop (at + 1) files)
     ∙ ap (λ (x : StoredFile). take at files ++ x ∷ drop (at + 1) files) (sym here)
 
-module _ {table : TableFile} {spool : Spool} {names : List (List ℕ)} {hub : List Part} {files : List StoredFile} (f : Finds table spool names hub files) where
+module _ {table : TableFile} {spool : SpoolContents} {names : List (List ℕ)} {hub : List Part} {files : List StoredFile} (f : Finds table spool names hub files) where
   all_are : wholes spool files ≡ kept spool
   all_are = wholes_are spool files f.files_are
 
@@ -68,7 +68,7 @@ module _ {table : TableFile} {spool : Spool} {names : List (List ℕ)} {hub : Li
 
 -- ---- the file at which it stopped
 
-pub told_of : (names : List (List ℕ)) (hub : List Part) (spool : Spool) (files : List StoredFile) (stop : Stop) (fault : OpeningFault) → stop.at < length files
+pub told_of : (names : List (List ℕ)) (hub : List Part) (spool : SpoolContents) (files : List StoredFile) (stop : Stop) (fault : OpeningFault) → stop.at < length files
     → StopsAt names hub spool files stop → IsRefusalOf stop.cause stop.at files fault → StopsIn names hub spool files fault
 told_of names hub spool files stop fault low stops told = by stop.cause (λ d. stops.why d) told
   where

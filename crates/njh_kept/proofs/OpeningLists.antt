@@ -4,7 +4,7 @@ use Rattle.std.specs.List.{AllZip}
 use Rattle.njh_spool.specs.CustomerSpool.{CustomerSpool, WholeFile}
 use Rattle.njh_spool.specs.Restoring.{KeptFile}
 use Rattle.njh_hub.specs.Keeping.{is_held}
-use Rattle.njh_store.specs.Kept.{File, Spool, contents, records_of, with_changed}
+use Rattle.njh_store.specs.Kept.{File, SpoolContents, contents, records_of, with_changed}
 use Rattle.njh_kept.specs.Opened.{file_in, is_own}
 use Rattle.njh_kept.specs.code.Mirrored.{HasRecords, IsOrdered, WritesRowsOf, own_rows}
 use Rattle.njh_kept.specs.code.Opening.{IsRead, IsReadFor, Remembering, keyed_rows, owned_of}
@@ -38,7 +38,7 @@ keyed_push key n (y ∷ xs) x = let rest = keyed_push key n xs x in omega (arith
 
 -- ---- rows change, and records stay
 
-module _ (s t : Spool) (same : t.records ≡ s.records) where
+module _ (s t : SpoolContents) (same : t.records ≡ s.records) where
   records_same : (key : ℕ) → records_of key t ≡ records_of key s
   records_same key = λ i. records_of key (record { files = t.files; records = same i })
 
@@ -58,7 +58,7 @@ module _ (s t : Spool) (same : t.records ≡ s.records) where
   all_read_same (e ∷ es) [] all = absurd all
   all_read_same (e ∷ es) (g ∷ gs) all = (read_same e g all.0, all_read_same es gs all.1)
 
-writes_then : (name : List ℕ) (s t u : Spool) → WritesRowsOf name s t → WritesRowsOf name t u → WritesRowsOf name s u
+writes_then : (name : List ℕ) (s t u : SpoolContents) → WritesRowsOf name s t → WritesRowsOf name t u → WritesRowsOf name s u
 writes_then name s t u one more = record {
   records = more.records ∙ one.records;
   ordered = more.ordered;
@@ -67,7 +67,7 @@ writes_then name s t u one more = record {
 
 -- ---- the next row
 
-module _ (name : List ℕ) (whole : List KeptWhole) (e : ℕ × File) (left : List (ℕ × File)) (spool : CustomerSpool) (from s : Spool) (is : IsRead name whole (e ∷ left) spool.whole from s) where
+module _ (name : List ℕ) (whole : List KeptWhole) (e : ℕ × File) (left : List (ℕ × File)) (spool : CustomerSpool) (from s : SpoolContents) (is : IsRead name whole (e ∷ left) spool.whole from s) where
   -- which file it is of
   pub record IsNextRead (g : WholeFile) : Type 0 where
     pub rest : List WholeFile
@@ -175,7 +175,7 @@ module _ (name : List ℕ) (whole : List KeptWhole) (e : ℕ × File) (left : Li
 
 -- ---- all rows of a customer
 
-pub nothing_read : (name : List ℕ) (files : List WholeFile) (s : Spool) → IsOrdered s → AllZip (IsReadFor s) (own_rows name s) files → IsRead name [] (own_rows name s) files s s
+pub nothing_read : (name : List ℕ) (files : List WholeFile) (s : SpoolContents) → IsOrdered s → AllZip (IsReadFor s) (own_rows name s) files → IsRead name [] (own_rows name s) files s s
 nothing_read name files s ordered all = record {
   rows = [];
   before = [];
@@ -193,7 +193,7 @@ none_left : {X Y : Type 0} (R : X → Y → Type 0) (ys : List Y) → AllZip R [
 none_left R [] all = refl
 none_left R (y ∷ ys) all = absurd all
 
-pub all_read : (name : List ℕ) (whole : List KeptWhole) (files : List WholeFile) (from now : Spool) → IsRead name whole [] files from now → AllBeside (IsKept now) whole (own_rows name now) files
+pub all_read : (name : List ℕ) (whole : List KeptWhole) (files : List WholeFile) (from now : SpoolContents) → IsRead name whole [] files from now → AllBeside (IsKept now) whole (own_rows name now) files
 all_read name whole files from now is =
     let rows : own_rows name now ≡ is.rows = is.rows_are ∙ append-nil is.rows in
     let end : files ≡ is.before =
@@ -202,7 +202,7 @@ all_read name whole files from now is =
     (subst (λ (es : List (ℕ × File)). AllBeside (IsKept now) whole es is.before) (sym rows) is.beside)
 
 -- a customer whose rows were gone through
-pub remembered : (own : OwnFiles) (name : List ℕ) (rows : List (ℕ × File)) (files : List WholeFile) (s t : Spool) → own.name ≡ name
+pub remembered : (own : OwnFiles) (name : List ℕ) (rows : List (ℕ × File)) (files : List WholeFile) (s t : SpoolContents) → own.name ≡ name
     → (IsRead name [] (owned_of name rows) files s s → IsRead name own.whole [] files s t) → Remembering name rows files own s t
 remembered own name rows files s t named step ordered are all =
     let is = step (subst (λ (es : List (ℕ × File)). IsRead name [] es files s s) (sym are) (nothing_read name files s ordered all)) in

@@ -3,7 +3,7 @@ use Rattle.std.proofs.Common.{◌≡◌, ℕ, suc, ◌<◌, List, [], ◌∷◌,
 use Rattle.std.specs.List.{AllZip}
 use Rattle.njh_hub.specs.Keeping.{kept_of}
 use Rattle.njh_hub.specs.WholeHub.{Part, no_part}
-use Rattle.njh_store.specs.Kept.{Spool}
+use Rattle.njh_store.specs.Kept.{SpoolContents}
 use Rattle.njh_kept.specs.Keeper.{left_in}
 use Rattle.njh_kept.specs.declared.own_files.OwnFiles as own_files
 use Rattle.njh_kept.specs.code.Memory.{own_of}
@@ -21,7 +21,7 @@ names_same : (owns : List own_files.OwnFiles) → map (λ own. own.name) (map ow
 names_same [] = refl
 names_same (own ∷ owns) = ap (λ names. own.name ∷ names) (names_same owns)
 
-pub left_after : (names : List (List ℕ)) (hub : List Part) (owns : List own_files.OwnFiles) (w : Numbers) (t : Spool) → HasBegun names hub (map own_of owns) w t → length names ≡ length hub
+pub left_after : (names : List (List ℕ)) (hub : List Part) (owns : List own_files.OwnFiles) (w : Numbers) (t : SpoolContents) → HasBegun names hub (map own_of owns) w t → length names ≡ length hub
     → left_in (map (λ own. own.name) owns) t ≡ kept_of hub
 left_after names hub owns w t begun long =
     ap (λ ns. left_in ns t) (sym (names_same owns))

@@ -3,7 +3,7 @@ use Rattle.std.proofs.Common.{◌≡◌, ◌≢◌, ℕ, zero, suc, ◌+◌, ◌
 use Rattle.std.proofs.lemmas.List.{take-append-le}
 use Rattle.std.specs.List.{AllByRecursion, AllZip}
 use Rattle.njh_record.specs.Stored.{Stored}
-use Rattle.njh_store.specs.Kept.{Spool, contents, records_of}
+use Rattle.njh_store.specs.Kept.{SpoolContents, contents, records_of}
 use Rattle.njh_kept.specs.code.Mirrored.{HasRecords, WritesRowsOf, WritesUnder}
 use Rattle.njh_kept.specs.code.Remembered.{Claim, IsPartlyKept, KeptPartial, Moves, OwnFiles, PartlyMirrored, keyed}
 use Rattle.njh_kept.proofs.KeyLaws.{each_counts, keyed_apart, keyed_none}
@@ -28,37 +28,37 @@ module _ {X Y : Type 0} where
   all_zip_changes P R S f (a ∷ xs) (b ∷ ys) (suc i) x y each h one = (f a b each.0 h.0, all_zip_changes P R S f xs ys i x y each.1 h.1 one)
 
 -- where more records have come
-pub partly_kept_of_more : (s : Spool) (p : KeptPartial) (rs more : List Stored) → IsPartlyKept s p rs → IsPartlyKept s p (rs ++ more)
+pub partly_kept_of_more : (s : SpoolContents) (p : KeptPartial) (rs more : List Stored) → IsPartlyKept s p rs → IsPartlyKept s p (rs ++ more)
 partly_kept_of_more s p rs more one = record {
   written = let long = length-append rs more in omega (arith, long, one.written);
   stored = subst (λ xs. HasRecords p.key xs s) (sym (take-append-le p.written rs more one.written)) one.stored;
 }
 
-part_still : (s t : Spool) (p : KeptPartial) (rs : List Stored) → records_of p.key t ≡ records_of p.key s → IsPartlyKept s p rs → IsPartlyKept t p rs
+part_still : (s t : SpoolContents) (p : KeptPartial) (rs : List Stored) → records_of p.key t ≡ records_of p.key s → IsPartlyKept s p rs → IsPartlyKept t p rs
 part_still s t p rs same one = record { written = one.written; stored = ap (map contents) same ∙ one.stored }
 
-module _ (s : Spool) (own : OwnFiles) (partial : List (List Stored)) (all : PartlyMirrored s own partial) where
-  abbrev AreStill : Spool → List KeptPartial → Type 0
+module _ (s : SpoolContents) (own : OwnFiles) (partial : List (List Stored)) (all : PartlyMirrored s own partial) where
+  abbrev AreStill : SpoolContents → List KeptPartial → Type 0
   AreStill t ps = AllByRecursion (λ p. records_of p.key t ≡ records_of p.key s) ps
 
-  pub partly_still : (t : Spool) → AreStill t own.partial → PartlyMirrored t own partial
+  pub partly_still : (t : SpoolContents) → AreStill t own.partial → PartlyMirrored t own partial
   partly_still t still = all_zip_weaker (λ p. records_of p.key t ≡ records_of p.key s) (IsPartlyKept s) (IsPartlyKept t) (part_still s t) own.partial partial still all
 
   -- rows change
-  pub partly_by_rows : (name : List ℕ) (t : Spool) → WritesRowsOf name s t → PartlyMirrored t own partial
+  pub partly_by_rows : (name : List ℕ) (t : SpoolContents) → WritesRowsOf name s t → PartlyMirrored t own partial
   partly_by_rows name t w =
       partly_still t
       (all_of (λ (p : KeptPartial). records_of p.key t ≡ records_of p.key s) (λ p i. records_of p.key (record { files = t.files; records = w.records i })) own.partial)
 
   -- records under another key come or leave
-  pub partly_under : (key : ℕ) (t : Spool) → WritesUnder key s t → keyed (λ (p : KeptPartial). p.key) key own.partial ≡ 0 → PartlyMirrored t own partial
+  pub partly_under : (key : ℕ) (t : SpoolContents) → WritesUnder key s t → keyed (λ (p : KeptPartial). p.key) key own.partial ≡ 0 → PartlyMirrored t own partial
   partly_under key t w foreign =
       partly_still t
       (all_weaker (λ (p : KeptPartial). p.key ≢ key) (λ p. records_of p.key t ≡ records_of p.key s) (λ p apart. w.others p.key apart) own.partial
       (keyed_none (λ (p : KeptPartial). p.key) key own.partial foreign))
 
   -- a call was about another customer's files
-  pub partly_of_another : (a b : Claim) (t : Spool) → Moves a b s t → ((n : ℕ) → a.uses n + keyed (λ (p : KeptPartial). p.key) n own.partial ≤ 1) → PartlyMirrored t own partial
+  pub partly_of_another : (a b : Claim) (t : SpoolContents) → Moves a b s t → ((n : ℕ) → a.uses n + keyed (λ (p : KeptPartial). p.key) n own.partial ≤ 1) → PartlyMirrored t own partial
   partly_of_another a b t moves once =
       partly_still t
       (all_weaker (λ (p : KeptPartial). 1 ≤ keyed (λ (x : KeptPartial). x.key) p.key own.partial) (λ p. records_of p.key t ≡ records_of p.key s)
@@ -74,7 +74,7 @@ module _ (s : Spool) (own : OwnFiles) (partial : List (List Stored)) (all : Part
   partial_comes p rs one = all_zip_push (IsPartlyKept s) own.partial partial p rs all one
 
   -- records of one come
-  pub partial_goes_on : (i : ℕ) (p now : KeptPartial) (rs : List Stored) (t : Spool) → i < length own.partial → p ≡ get_or own.partial i p
+  pub partial_goes_on : (i : ℕ) (p now : KeptPartial) (rs : List Stored) (t : SpoolContents) → i < length own.partial → p ≡ get_or own.partial i p
       → keyed (λ (x : KeptPartial). x.key) p.key own.partial ≤ 1 → WritesUnder p.key s t → IsPartlyKept t now rs
       → PartlyMirrored t (record own { partial = set own.partial i now }) (set partial i rs)
   partial_goes_on i p now rs t there is once w one =

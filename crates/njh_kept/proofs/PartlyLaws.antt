@@ -3,7 +3,7 @@ use Rattle.std.proofs.Common.{◌≡◌, ◌≢◌, ℕ, zero, suc, ◌+◌, ◌
 use Rattle.std.specs.Prelude.{⊤}
 use Rattle.std.specs.List.{AllByRecursion}
 use Rattle.njh_spool.specs.CustomerSpool.{CustomerSpool, partial_records}
-use Rattle.njh_store.specs.Kept.{Spool, contents, records_of, without_records}
+use Rattle.njh_store.specs.Kept.{SpoolContents, contents, records_of, without_records}
 use Rattle.std.proofs.lemmas.List.{take_all}
 use Rattle.njh_kept.specs.code.Mirrored.{HasRecords, IsOrdered, WritesUnder}
 use Rattle.njh_kept.specs.code.Partly.{GoesOn, KeepsNew, KeepsOn}
@@ -77,7 +77,7 @@ module _ {X : Type 0} (P Q : X → Type 0) where
 
 -- ---- records of files that aren't whole stay
 
-module _ (now : CustomerSpool) (s t : Spool) where
+module _ (now : CustomerSpool) (s t : SpoolContents) where
   goes_on_still : (p : KeptPartial) → records_of p.key t ≡ records_of p.key s → GoesOn now s p → GoesOn now t p
   goes_on_still p same goes more = let one = goes more in record { written = one.written; stored = ap (map contents) same ∙ one.stored }
 
@@ -106,10 +106,10 @@ swept_not_partial w own rest sweep are apart =
 -- ---- one after the other
 
 module _ (now : CustomerSpool) (w : Numbers) (own : OwnFiles) where
-  pub keeps_on_nothing : (s : Spool) → KeepsOn w own w own now s s
+  pub keeps_on_nothing : (s : SpoolContents) → KeepsOn w own w own now s s
   keeps_on_nothing s files h apart all go_on = record { moves = moves_nothing (claim w own) s h; mirrored = all; go_on = go_on }
 
-  pub keeps_on_then : (w1 w2 : Numbers) (own1 own2 : OwnFiles) (s t u : Spool) → KeepsOn w own w1 own1 now s t → KeepsOn w1 own1 w2 own2 now t u → KeepsOn w own w2 own2 now s u
+  pub keeps_on_then : (w1 w2 : Numbers) (own1 own2 : OwnFiles) (s t u : SpoolContents) → KeepsOn w own w1 own1 now s t → KeepsOn w1 own1 w2 own2 now t u → KeepsOn w own w2 own2 now s u
   keeps_on_then w1 w2 own1 own2 s t u one more files h apart all go_on =
       let first = one files h apart all go_on in
       let then = more files first.moves.ordered (still_apart (claim w own) (claim w1 own1) s t first.moves apart) first.mirrored first.go_on in
@@ -120,7 +120,7 @@ module _ (now : CustomerSpool) (w : Numbers) (own : OwnFiles) where
       }
 
   -- a number is taken, under which no records stand then, and records of a file come to stand there
-  pub keeps_taken : (w1 w2 : Numbers) (own2 : OwnFiles) (key : ℕ) (s u : Spool) → w1.next_id ≡ w.next_id
+  pub keeps_taken : (w1 w2 : Numbers) (own2 : OwnFiles) (key : ℕ) (s u : SpoolContents) → w1.next_id ≡ w.next_id
       → ((n : ℕ) → (with_key key (claim w1 own)).uses n ≡ uses n w own)
       → KeepsNew key w1 own w2 own2 now (without_records key 0 (2 ^ 23) s) u → KeepsOn w own w2 own2 now s u
   keeps_taken w1 w2 own2 key s u next taken new files h apart all go_on =
@@ -140,7 +140,7 @@ module _ (now : CustomerSpool) (w : Numbers) (own : OwnFiles) where
   -- ---- the calls
 
   -- one comes
-  pub keeps_begun : (p : KeptPartial) (s t : Spool) → p.written ≡ length (partial_records p.number now)
+  pub keeps_begun : (p : KeptPartial) (s t : SpoolContents) → p.written ≡ length (partial_records p.number now)
       → (IsOrdered s → HasRecords p.key [] s → WritesUnder p.key s t × HasRecords p.key (partial_records p.number now) t)
       → KeepsNew p.key w own w (record own { partial = own.partial ++ p ∷ [] }) now s t
   keeps_begun p s t whole written files h apart empty all go_on =
@@ -160,7 +160,7 @@ module _ (now : CustomerSpool) (w : Numbers) (own : OwnFiles) where
       }
 
   -- some of what a file left that has left are dropped
-  pub keeps_while_swept : (rest : List Sweep) (sweep further : Sweep) (b : Bool) (first end : ℕ) (s t : Spool) → w.sweeps ≡ rest ++ sweep ∷ [] → further.key ≡ sweep.key → end ≤ 2 ^ 23
+  pub keeps_while_swept : (rest : List Sweep) (sweep further : Sweep) (b : Bool) (first end : ℕ) (s t : SpoolContents) → w.sweeps ≡ rest ++ sweep ∷ [] → further.key ≡ sweep.key → end ≤ 2 ^ 23
       → t ≡ without_records sweep.key first end s
       → KeepsOn w own (record w { sweeps = rest ++ cond b (further ∷ []) []; free_keys = w.free_keys ++ cond b [] (sweep.key ∷ []) }) own now s t
   keeps_while_swept rest sweep further b first end s t are same within dropped files h apart all go_on =
@@ -178,7 +178,7 @@ module _ (now : CustomerSpool) (w : Numbers) (own : OwnFiles) where
 
   module _ (i : ℕ) (p : KeptPartial) (there : i < length own.partial) (is : p ≡ get_or own.partial i p) where
     -- of one more records come
-    pub keeps_gone_on : (q : KeptPartial) (s t : Spool) → q.key ≡ p.key → q.number ≡ p.number → p.seen ≤ length (partial_records p.number now)
+    pub keeps_gone_on : (q : KeptPartial) (s t : SpoolContents) → q.key ≡ p.key → q.number ≡ p.number → p.seen ≤ length (partial_records p.number now)
         → (IsOrdered s → IsPartlyKept s p (partial_records p.number now) → WritesUnder p.key s t × IsPartlyKept t q (partial_records p.number now))
         → KeepsOn w own w (record own { partial = set own.partial i q }) now s t
     keeps_gone_on q s t key number grown written files h apart all go_on =
@@ -198,7 +198,7 @@ module _ (now : CustomerSpool) (w : Numbers) (own : OwnFiles) where
         }
 
     -- no stream is known to be about it
-    pub keeps_closed : (q : KeptPartial) (s : Spool) → q ≡ record p { is_open = false } → KeepsOn w own w (record own { partial = set own.partial i q }) now s s
+    pub keeps_closed : (q : KeptPartial) (s : SpoolContents) → q ≡ record p { is_open = false } → KeepsOn w own w (record own { partial = set own.partial i q }) now s s
     keeps_closed q s closed files h apart all go_on =
         let here = all_at (GoesOn now s) own.partial i p go_on there is in
         record {
@@ -212,7 +212,7 @@ module _ (now : CustomerSpool) (w : Numbers) (own : OwnFiles) where
         }
 
     -- it is swept
-    pub keeps_swept : (sweep : Sweep) (s : Spool) → sweep.key ≡ p.key
+    pub keeps_swept : (sweep : Sweep) (s : SpoolContents) → sweep.key ≡ p.key
         → KeepsOn w own (record w { sweeps = w.sweeps ++ sweep ∷ [] }) (record own { partial = remove own.partial i }) now s s
     keeps_swept sweep s same files h apart all go_on = record {
       moves =

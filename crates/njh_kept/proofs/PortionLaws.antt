@@ -8,7 +8,7 @@ use Rattle.njh_kept.specs.code.Alike.{Writes}
 use Rattle.sqlite.specs.State.{HasCleanDisk}
 use Rattle.sqlite.specs.Store.{Ghosts}
 use Rattle.njh_spool.specs.CustomerSpool.{CustomerSpool, partial_records}
-use Rattle.njh_store.specs.Kept.{Spool, without_records}
+use Rattle.njh_store.specs.Kept.{SpoolContents, without_records}
 use Rattle.njh_store.specs.Shelf.{shown}
 use Rattle.njh_store.specs.Steps.{Changes}
 use Rattle.njh_kept.specs.declared.own_files.KeptPartial as kept_partial
@@ -84,7 +84,7 @@ module _ {S : Type 0} (g : Ghosts S) (now : CustomerSpool) where
             (λ s t u here wrote.
             keeps_taken now n (own_of own) n1 (numbers_of w2) (own_of own2) key s u refl
             (uses_as_key_is_taken n (own_of own) key w1.free_keys.items w1.next_key taken)
-            (subst (λ (x : Spool). KeepsNew key n1 (own_of own) (numbers_of w2) (own_of own2) now x u) here wrote));
+            (subst (λ (x : SpoolContents). KeepsNew key n1 (own_of own) (numbers_of w2) (own_of own2) now x u) here wrote));
         seen = new.seen;
         numbers = new.numbers ∙ ap (λ (x : SpoolWriter S). record x { store = w2.store; next_key = w2.next_key; free_keys = w2.free_keys; sweeps = w2.sweeps; waiting = w2.waiting }) same;
         others = new.others;
@@ -272,7 +272,7 @@ module _ {S : Type 0} (g : Ghosts S) (now : CustomerSpool) (w w1 : SpoolWriter S
       let sweeps : map sweep_in w1.sweeps.items ≡ (numbers_of w).sweeps = ap (map sweep_in) (still ∙ sym empty) in
       let numbers : numbers_of w1 ≡ numbers_of w = ap numbers_of same ∙ (λ j. record (numbers_of w) { sweeps = sweeps j }) in
       let store : w1.store ≡ w.store = ap (λ (x : SpoolWriter S). x.store) same in
-      let K : Numbers → Spool → Spool → Type 0 = λ m. KeepsOn (numbers_of w) (own_of own) m (own_of own) now in
+      let K : Numbers → SpoolContents → SpoolContents → Type 0 = λ m. KeepsOn (numbers_of w) (own_of own) m (own_of own) now in
       record {
         led = λ clean.
             subst (λ (m : Numbers). Leads (K m) (shown g w.store) (shown g w1.store)) (sym numbers)
@@ -326,7 +326,7 @@ module _ {S : Type 0} (g : Ghosts S) (now : CustomerSpool) (w w1 : SpoolWriter S
   ]
 
 -- what stands of one
-module _ (p q : kept_partial.KeptPartial) (rs : List Stored) (key : q.key ≡ p.key) (s : Spool) where
+module _ (p q : kept_partial.KeptPartial) (rs : List Stored) (key : q.key ≡ p.key) (s : SpoolContents) where
   -- nothing is written of it
   pub waits_still : q.written ≡ p.written → IsOrdered s → IsPartlyKept s (partial_of p) rs → WritesUnder p.key s s × IsPartlyKept s (partial_of q) rs
   waits_still same h one = (
@@ -338,7 +338,7 @@ module _ (p q : kept_partial.KeptPartial) (rs : List Stored) (key : q.key ≡ p.
   )
 
   -- all that is left is written
-  pub rest_is_written : (t : Spool) → q.written ≡ length rs → Writes false p.key p.written rs s t → IsOrdered s → IsPartlyKept s (partial_of p) rs
+  pub rest_is_written : (t : SpoolContents) → q.written ≡ length rs → Writes false p.key p.written rs s t → IsOrdered s → IsPartlyKept s (partial_of p) rs
       → WritesUnder p.key s t × IsPartlyKept t (partial_of q) rs
   rest_is_written t whole wrote h one =
       let done = wrote (take p.written rs) h one.stored (begun_same p.written rs one.written) in (

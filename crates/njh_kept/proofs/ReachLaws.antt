@@ -7,7 +7,7 @@ use Rattle.njh_record.specs.Stored.{Stored}
 use Rattle.njh_spool.specs.CustomerSpool.{CustomerSpool}
 use Rattle.njh_spool.specs.Spools.{records_numbered}
 use Rattle.njh_stream.specs.SpoolFiles.{records_in}
-use Rattle.njh_store.specs.Kept.{Record, Spool, with_record, without_records}
+use Rattle.njh_store.specs.Kept.{Record, SpoolContents, with_record, without_records}
 use Rattle.njh_store.specs.Steps.{Changes}
 use Rattle.njh_kept.specs.code.Alike.{AreAlike, AreBegun, Writes, is_header}
 use Rattle.njh_kept.specs.code.Leading.{Leads}
@@ -66,7 +66,7 @@ only_waits {S} a b c waiting one more =
 -- ---- what stands there then
 
 -- the first so many records are these now, and the others as they were
-abbrev pub Reaches : (key : ℕ) (Given : List Stored → Type 0) (all : List Stored) (at : ℕ) → Spool → Spool → Type 0
+abbrev pub Reaches : (key : ℕ) (Given : List Stored → Type 0) (all : List Stored) (at : ℕ) → SpoolContents → SpoolContents → Type 0
 Reaches key Given all at s t =
     (before : List Stored) → IsOrdered s → HasRecords key before s → Given before → WritesUnder key s t × HasRecords key (records_midway at all before) t
 

@@ -8,14 +8,14 @@ use Rattle.njh_record.specs.declared.Kind.{Kind}
 use Rattle.njh_record.specs.declared.Kind.TheVariants.{In, Out}
 use Rattle.njh_spool.specs.Restoring.{KeptFile}
 use Rattle.njh_spool.specs.CustomerSpool.{WholeFile}
-use Rattle.njh_store.specs.Kept.{File, Spool, contents, records_of}
+use Rattle.njh_store.specs.Kept.{File, SpoolContents, contents, records_of}
 use Rattle.njh_hub.specs.Keeping.{is_held}
 use Rattle.njh_kept.specs.Opened.{Contents, are_records_from, are_records_of, as_stored, file_in, is_record_at, kind_of_word, kind_word}
 use Rattle.njh_kept.specs.code.Mirrored.{FitsHub, HasRecords, contents_from}
 use Rattle.njh_kept.specs.code.Remembered.{IsKept, KeptWhole, Remembers}
 use Rattle.njh_kept.proofs.NumberedLaws.{equal_to}
 
-pub record IsReadAs (spool : Spool) (file : File) (f : KeptFile) : Type 0 where
+pub record IsReadAs (spool : SpoolContents) (file : File) (f : KeptFile) : Type 0 where
   pub kind : file.kind ≡ kind_word f.kind
   pub held : file.held ≡ f.held
   pub count : file.records ≡ length f.records
@@ -59,7 +59,7 @@ word_of_kind word kind is =
 
 -- ---- the file
 
-module _ (spool : Spool) (file : File) where
+module _ (spool : SpoolContents) (file : File) where
   abbrev cs : List Contents
   cs = map contents (records_of file.key spool)
 
@@ -90,7 +90,7 @@ module _ (spool : Spool) (file : File) where
   is_read_as f is = at_records (are_records_of file cs) f refl is
 
 -- where the hub has it so, and it is remembered so, it is kept
-pub is_kept_as_read : (spool : Spool) (k : KeptWhole) (e : ℕ × File) (f : KeptFile) (g : WholeFile) → IsReadAs spool e.1 f → g.kind ≡ f.kind → g.records ≡ f.records → is_held g.state ≡ f.held
+pub is_kept_as_read : (spool : SpoolContents) (k : KeptWhole) (e : ℕ × File) (f : KeptFile) (g : WholeFile) → IsReadAs spool e.1 f → g.kind ≡ f.kind → g.records ≡ f.records → is_held g.state ≡ f.held
     → k.id ≡ e.0 → k.key ≡ e.1.key → Remembers k g → IsKept spool k e g
 is_kept_as_read spool k e f g read kind records held id key remembers = record {
   id = sym id;

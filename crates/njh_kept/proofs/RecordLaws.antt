@@ -6,7 +6,7 @@ use Rattle.std.proofs.lemmas.List.{get_or_default}
 use Rattle.std.proofs.lemmas.List.Elements.{All-filter, All-from_recursion, filter_passes, recursion_from_All}
 use Rattle.njh_record.specs.Stored.{Stored}
 use Rattle.njh_record.specs.declared.Kind.{Kind}
-use Rattle.njh_store.specs.Kept.{File, Record, Spool, IsNumbered, Rise, contents, put, without, record_number, records_of, with_record, without_records}
+use Rattle.njh_store.specs.Kept.{File, Record, SpoolContents, IsNumbered, Rise, contents, put, without, record_number, records_of, with_record, without_records}
 use Rattle.njh_store.proofs.Rows.{all_put, put_rises, without_rises}
 use Rattle.njh_kept.specs.Opened.{Contents, as_stored, are_records_from, are_records_of, file_in, kind_of_word}
 use Rattle.njh_kept.specs.code.Mirrored.{FitsHub, HasRecords, IsOrdered, contents_from, stored_of}
@@ -15,14 +15,14 @@ use Rattle.njh_kept.proofs.NumberedLaws.{all_filter, all_weaker, equal, equal_to
 
 -- ---- the order stays
 
-pub with_record_ordered : (r : Record) (spool : Spool) → IsOrdered spool → r.place < 2 ^ 23 → IsOrdered (with_record r spool)
+pub with_record_ordered : (r : Record) (spool : SpoolContents) → IsOrdered spool → r.place < 2 ^ 23 → IsOrdered (with_record r spool)
 with_record_ordered r spool h low = record {
   files_rise = h.files_rise;
   records_rise = put_rises (record_number r.key r.place, r) spool.records h.records_rise;
   numbered = all_put IsNumbered (record_number r.key r.place, r) spool.records (refl, low) h.numbered;
 }
 
-pub without_records_ordered : (key first end : ℕ) (spool : Spool) → IsOrdered spool → IsOrdered (without_records key first end spool)
+pub without_records_ordered : (key first end : ℕ) (spool : SpoolContents) → IsOrdered spool → IsOrdered (without_records key first end spool)
 without_records_ordered key first end spool h = record {
   files_rise = h.files_rise;
   records_rise = without_rises _ spool.records h.records_rise;
@@ -34,7 +34,7 @@ without_records_ordered key first end spool h = record {
 same_key : (a b p q : ℕ) → p < 2 ^ 23 → q < 2 ^ 23 → record_number a p ≡ record_number b q → a ≡ b
 same_key a b p q lp lq h = omega (arith, lp, lq, h)
 
-pub records_of_another_come : (key : ℕ) (r : Record) (spool : Spool) → IsOrdered spool → r.place < 2 ^ 23 → key ≢ r.key → records_of key (with_record r spool) ≡ records_of key spool
+pub records_of_another_come : (key : ℕ) (r : Record) (spool : SpoolContents) → IsOrdered spool → r.place < 2 ^ 23 → key ≢ r.key → records_of key (with_record r spool) ≡ records_of key spool
 records_of_another_come key r spool h low other =
     let number = record_number r.key r.place in
     filter-put_other (λ e. e.1.key == key) (number, r) spool.records (unequal r.key key (λ mine. other (sym mine)))
@@ -44,7 +44,7 @@ records_of_another_come key r spool h low other =
 apart : (key j first end : ℕ) (e : ℕ × Record) → key ≢ j → end ≤ 2 ^ 23 → IsNumbered e → (e.1.key == key) ≡ true → (nat_le (record_number j first) e.0 && nat_lt e.0 (record_number j end)) ≡ false
 apart key j first end e other within one mine = grind (arith, nat_tests, one, mine, other, within)
 
-pub records_of_another_leave : (key j first end : ℕ) (spool : Spool) → IsOrdered spool → key ≢ j → end ≤ 2 ^ 23
+pub records_of_another_leave : (key j first end : ℕ) (spool : SpoolContents) → IsOrdered spool → key ≢ j → end ≤ 2 ^ 23
     → records_of key (without_records j first end spool) ≡ records_of key spool
 records_of_another_leave key j first end spool h other within =
     filter-without_other (λ e. e.1.key == key) (λ n. nat_le (record_number j first) n && nat_lt n (record_number j end)) spool.records
@@ -63,7 +63,7 @@ entries key place (r ∷ rs) = entry key place r ∷ entries key (place + 1) rs
 abbrev IsUnder : ℕ → ℕ × Record → Type 0
 IsUnder key e = IsNumbered e × (e.1.key ≡ key)
 
-are_under : (key : ℕ) (spool : Spool) → IsOrdered spool → AllByRecursion (IsUnder key) (records_of key spool)
+are_under : (key : ℕ) (spool : SpoolContents) → IsOrdered spool → AllByRecursion (IsUnder key) (records_of key spool)
 are_under key spool h =
     recursion_from_All (IsUnder key) (records_of key spool)
     (λ i d there. (
@@ -119,14 +119,14 @@ module _ (key : ℕ) where
 
 -- ---- records come and leave
 
-pub has_none : (key : ℕ) (spool : Spool) → AllByRecursion (λ e. e.1.key ≢ key) spool.records → HasRecords key [] spool
+pub has_none : (key : ℕ) (spool : SpoolContents) → AllByRecursion (λ e. e.1.key ≢ key) spool.records → HasRecords key [] spool
 has_none key spool none =
     ap (map contents) (filter_none (λ e. e.1.key == key) spool.records (all_weaker (λ e. e.1.key ≢ key) (λ e. (e.1.key == key) ≡ false) (λ e other. unequal e.1.key key other) spool.records none))
 
 within_key : (key : ℕ) (e : ℕ × Record) → IsUnder key e → not (nat_le (record_number key 0) e.0 && nat_lt e.0 (record_number key (2 ^ 23))) ≡ false
 within_key key e h = grind (arith, nat_tests, h)
 
-pub all_leave : (key : ℕ) (spool : Spool) → IsOrdered spool → HasRecords key [] (without_records key 0 (2 ^ 23) spool)
+pub all_leave : (key : ℕ) (spool : SpoolContents) → IsOrdered spool → HasRecords key [] (without_records key 0 (2 ^ 23) spool)
 all_leave key spool h =
     let between = λ (n : ℕ). nat_le (record_number key 0) n && nat_lt n (record_number key (2 ^ 23)) in
     ap (map contents)
@@ -136,7 +136,7 @@ all_leave key spool h =
 between_one : (key i n : ℕ) → (nat_le (record_number key i) n && nat_lt n (record_number key (i + 1))) ≡ (n == record_number key i)
 between_one key i n = grind (arith, nat_tests)
 
-module _ (key : ℕ) (rs : List Stored) (r : Record) (spool : Spool) (h : IsOrdered spool) (has : HasRecords key rs spool) (mine : r.key ≡ key) where
+module _ (key : ℕ) (rs : List Stored) (r : Record) (spool : SpoolContents) (h : IsOrdered spool) (has : HasRecords key rs spool) (mine : r.key ≡ key) where
   abbrev new : ℕ × Record
   new = (record_number r.key r.place, r)
 
@@ -190,7 +190,7 @@ fit_all : (place : ℕ) (rs : List Stored) → AllByRecursion FitsHub rs → are
 fit_all place [] fit = refl
 fit_all place (r ∷ rs) fit = rw (fits_one place r.srcb (length r.bytes) fit.0) (fit_all (place + 1) rs fit.1)
 
-module _ (key : ℕ) (rs : List Stored) (spool : Spool) (has : HasRecords key rs spool) where
+module _ (key : ℕ) (rs : List Stored) (spool : SpoolContents) (has : HasRecords key rs spool) where
   pub records_read_back : map as_stored (map contents (records_of key spool)) ≡ rs
   records_read_back = ap (map as_stored) has ∙ as_stored-contents_from 0 rs
 
@@ -207,5 +207,5 @@ module _ (key : ℕ) (rs : List Stored) (spool : Spool) (has : HasRecords key rs
         ∙ (λ i. Some (record { kind = kind; held = file.held; records = records_read_back i }))
 
 -- a key has one list of records
-pub records_once : (key : ℕ) (rs others : List Stored) (spool : Spool) → HasRecords key rs spool → HasRecords key others spool → rs ≡ others
+pub records_once : (key : ℕ) (rs others : List Stored) (spool : SpoolContents) → HasRecords key rs spool → HasRecords key others spool → rs ≡ others
 records_once key rs others spool has also = sym (records_read_back key rs spool has) ∙ records_read_back key others spool also

@@ -6,7 +6,7 @@ use Rattle.std.proofs.lemmas.List.Elements.{filter-append, filter_passes}
 use Rattle.njh_ebcdic.specs.Reading.{name_of_text}
 use Rattle.njh_ebcdic.specs.declared.name.NameFault.{NameFault}
 use Rattle.sqlite_trees.specs.Tree.{Trees}
-use Rattle.njh_store.specs.Kept.{File, Holds, Spool, Whole, Rise, put, whole_in, with_file, without_file, with_changed}
+use Rattle.njh_store.specs.Kept.{File, Holds, SpoolContents, Whole, Rise, put, whole_in, with_file, without_file, with_changed}
 use Rattle.njh_store.proofs.Rows.{all_put, put_rises, without_rises}
 use Rattle.njh_kept.specs.Opened.{is_own, own_files}
 use Rattle.njh_kept.specs.code.Mirrored.{IsOrdered, own_rows}
@@ -14,32 +14,32 @@ use Rattle.njh_kept.proofs.NumberedLaws.{all_at, all_filter, all_weaker, filter-
 
 -- ---- the order is there, and stays
 
-pub is_ordered : (spool : Spool) (trees : Trees) → Holds spool trees → IsOrdered spool
+pub is_ordered : (spool : SpoolContents) (trees : Trees) → Holds spool trees → IsOrdered spool
 is_ordered spool trees h = record { files_rise = h.files_rise; records_rise = h.records_rise; numbered = h.numbered }
 
-pub with_file_ordered : (id : ℕ) (file : File) (spool : Spool) → IsOrdered spool → IsOrdered (with_file id file spool)
+pub with_file_ordered : (id : ℕ) (file : File) (spool : SpoolContents) → IsOrdered spool → IsOrdered (with_file id file spool)
 with_file_ordered id file spool h = record { files_rise = put_rises (id, file) spool.files h.files_rise; records_rise = h.records_rise; numbered = h.numbered }
 
-pub without_file_ordered : (id : ℕ) (spool : Spool) → IsOrdered spool → IsOrdered (without_file id spool)
+pub without_file_ordered : (id : ℕ) (spool : SpoolContents) → IsOrdered spool → IsOrdered (without_file id spool)
 without_file_ordered id spool h = record { files_rise = without_rises (λ n. n == id) spool.files h.files_rise; records_rise = h.records_rise; numbered = h.numbered }
 
-pub with_changed_ordered : (id : ℕ) (file : File) (spool : Spool) → IsOrdered spool → IsOrdered (with_changed id file spool)
+pub with_changed_ordered : (id : ℕ) (file : File) (spool : SpoolContents) → IsOrdered spool → IsOrdered (with_changed id file spool)
 with_changed_ordered id file spool h = with_file_ordered id file (without_file id spool) (without_file_ordered id spool h)
 
-pub below_with_file : (id : ℕ) (file : File) (spool : Spool) → AllByRecursion (λ e. e.0 < id) spool.files → AllByRecursion (λ e. e.0 < id + 1) (with_file id file spool).files
+pub below_with_file : (id : ℕ) (file : File) (spool : SpoolContents) → AllByRecursion (λ e. e.0 < id) spool.files → AllByRecursion (λ e. e.0 < id + 1) (with_file id file spool).files
 below_with_file id file spool all =
     all_put (λ e. e.0 < id + 1) (id, file) spool.files (omega arith) (all_weaker (λ (e : ℕ × File). e.0 < id) (λ e. e.0 < id + 1) (λ e less. omega (arith, less)) spool.files all)
 
-pub below_without_file : (end id : ℕ) (spool : Spool) → AllByRecursion (λ e. e.0 < end) spool.files → AllByRecursion (λ e. e.0 < end) (without_file id spool).files
+pub below_without_file : (end id : ℕ) (spool : SpoolContents) → AllByRecursion (λ e. e.0 < end) spool.files → AllByRecursion (λ e. e.0 < end) (without_file id spool).files
 below_without_file end id spool all = all_filter _ (λ (e : ℕ × File). e.0 < end) spool.files all
 
-pub below_with_changed : (end id : ℕ) (file : File) (spool : Spool) → id < end → AllByRecursion (λ e. e.0 < end) spool.files
+pub below_with_changed : (end id : ℕ) (file : File) (spool : SpoolContents) → id < end → AllByRecursion (λ e. e.0 < end) spool.files
     → AllByRecursion (λ e. e.0 < end) (with_changed id file spool).files
 below_with_changed end id file spool less all = all_put (λ e. e.0 < end) (id, file) (without_file id spool).files less (below_without_file end id spool all)
 
 -- ---- a row comes
 
-module _ (name : List ℕ) (id : ℕ) (file : File) (spool : Spool) (all : AllByRecursion (λ e. e.0 < id) spool.files) where
+module _ (name : List ℕ) (id : ℕ) (file : File) (spool : SpoolContents) (all : AllByRecursion (λ e. e.0 < id) spool.files) where
   pub row_comes_last : is_own name file ≡ true → own_rows name (with_file id file spool) ≡ own_rows name spool ++ (id, file) ∷ []
   row_comes_last owned =
       ap (filter (λ (e : ℕ × File). is_own name e.1)) (put_last id file spool.files all) ∙ filter-append (λ (e : ℕ × File). is_own name e.1) spool.files ((id, file) ∷ []) ∙ rw owned refl
@@ -51,7 +51,7 @@ module _ (name : List ℕ) (id : ℕ) (file : File) (spool : Spool) (all : AllBy
 
 -- ---- a row leaves or changes
 
-module _ (name : List ℕ) (spool : Spool) (ordered : IsOrdered spool) (i : ℕ) (e : ℕ × File) (there : i < length (own_rows name spool)) (is : e ≡ get_or (own_rows name spool) i e) where
+module _ (name : List ℕ) (spool : SpoolContents) (ordered : IsOrdered spool) (i : ℕ) (e : ℕ × File) (there : i < length (own_rows name spool)) (is : e ≡ get_or (own_rows name spool) i e) where
   abbrev owns : List ℕ → ℕ × File → Bool
   owns who x = is_own who x.1
 
@@ -107,5 +107,5 @@ owned_once name other file owned apart = split (name_of_text file.customer) owne
         differs false also = refl
     split (Err fault) is = refl
 
-pub own_files_are : (name : List ℕ) (spool : Spool) → own_files name spool ≡ map (whole_in spool) (own_rows name spool)
+pub own_files_are : (name : List ℕ) (spool : SpoolContents) → own_files name spool ≡ map (whole_in spool) (own_rows name spool)
 own_files_are name spool = filter-map (λ (w : Whole). is_own name w.file) (whole_in spool) spool.files

@@ -5,7 +5,7 @@ use Rattle.std.proofs.lemmas.Simd.{map-map}
 use Rattle.sqlite.specs.State.{State}
 use Rattle.sqlite.specs.Tree.{Trees}
 use Rattle.njh_hub.specs.WholeHub.{Part, part}
-use Rattle.njh_store.specs.Kept.{Record, Spool, Whole, Holds, contents, contents_of, kept, records_between, records_of, whole_in, entry_of}
+use Rattle.njh_store.specs.Kept.{Record, SpoolContents, Whole, Holds, contents, contents_of, kept, records_between, records_of, whole_in, entry_of}
 use Rattle.njh_store.specs.Steps.{Stays}
 use Rattle.njh_store.proofs.ReadingLaws.{of_file}
 use Rattle.njh_store.specs.declared.kept.StoredFile.{StoredFile}
@@ -22,7 +22,7 @@ stays_then a b c p q = record { is_open = λ h. q.is_open (p.is_open h); now = q
 
 -- ---- the records of a file are those between two numbers
 
-pub all_read : (spool : Spool) (trees : Trees) (key : ℕ) (read : List StoredRecord) → Holds spool trees
+pub all_read : (spool : SpoolContents) (trees : Trees) (key : ℕ) (read : List StoredRecord) → Holds spool trees
     → map contents_of read ≡ map contents (records_between key 0 8388608 spool) → map contents_of read ≡ map contents (records_of key spool)
 all_read spool trees key read held is = is ∙ ap (map contents) (of_file key spool.records held.numbered)
 
@@ -49,21 +49,21 @@ module _ (names : List (List ℕ)) (hub : List Part) (w : Whole) where
 
 -- ---- one file more
 
-pub wholes_more : (spool : Spool) (files : List StoredFile) (at : ℕ) (f : StoredFile) → at < length files → f ≡ get_or files at f
+pub wholes_more : (spool : SpoolContents) (files : List StoredFile) (at : ℕ) (f : StoredFile) → at < length files → f ≡ get_or files at f
     → wholes spool (take (at + 1) files) ≡ wholes spool (take at files) ++ whole_in spool (entry_of f) ∷ []
 wholes_more spool files at f low here =
     let G : StoredFile → Whole = λ x. whole_in spool (entry_of x) in
     ap (map G) (take_more files at f low) ∙ map-append G (take at files) (get_or files at f ∷ [])
     ∙ ap (λ (x : StoredFile). map G (take at files) ++ G x ∷ []) (sym here)
 
-pub hub_more : (names : List (List ℕ)) (hub now new : List Part) (spool : Spool) (files : List StoredFile) (at : ℕ) (f : StoredFile) → at < length files
+pub hub_more : (names : List (List ℕ)) (hub now new : List Part) (spool : SpoolContents) (files : List StoredFile) (at : ℕ) (f : StoredFile) → at < length files
     → f ≡ get_or files at f → now ≡ hub_with_all names hub (wholes spool (take at files)) → new ≡ hub_with names now (whole_in spool (entry_of f))
     → new ≡ hub_with_all names hub (wholes spool (take (at + 1) files))
 hub_more names hub now new spool files at f low here so_far one =
     one ∙ ap (λ (ps : List Part). hub_with names ps (whole_in spool (entry_of f))) so_far
     ∙ sym (ap (hub_with_all names hub) (wholes_more spool files at f low here) ∙ more names hub (wholes spool (take at files)) (whole_in spool (entry_of f)))
 
-pub none_more : (names : List (List ℕ)) (hub now : List Part) (spool : Spool) (files : List StoredFile) (at : ℕ) (f : StoredFile) → at < length files
+pub none_more : (names : List (List ℕ)) (hub now : List Part) (spool : SpoolContents) (files : List StoredFile) (at : ℕ) (f : StoredFile) → at < length files
     → f ≡ get_or files at f → now ≡ hub_with_all names hub (wholes spool (take at files)) → NoneFails names hub (wholes spool (take at files))
     → hub_fault names now (whole_in spool (entry_of f)) ≡ None → NoneFails names hub (wholes spool (take (at + 1) files))
 none_more names hub now spool files at f low here so_far none one =
@@ -72,5 +72,5 @@ none_more names hub now spool files at f low here so_far none one =
     (ap (λ (ps : List Part). hub_fault names ps (whole_in spool (entry_of f))) (sym so_far) ∙ one))
 
 -- the whole files that are read are those that the spool has
-pub wholes_are : (spool : Spool) (files : List StoredFile) → map entry_of files ≡ spool.files → wholes spool files ≡ kept spool
+pub wholes_are : (spool : SpoolContents) (files : List StoredFile) → map entry_of files ≡ spool.files → wholes spool files ≡ kept spool
 wholes_are spool files is = sym (map-map (whole_in spool) entry_of files) ∙ ap (map (whole_in spool)) is

@@ -15,7 +15,7 @@ use Rattle.njh_hub.specs.Files.{said_destination}
 use Rattle.njh_hub.specs.Keeping.{is_held}
 use Rattle.njh_hub.specs.Views.{file_summary}
 use Rattle.njh_hub.specs.declared.file_summary.FileSummaryView.{FileSummaryView}
-use Rattle.njh_store.specs.Kept.{File, Spool, records_of, with_changed}
+use Rattle.njh_store.specs.Kept.{File, SpoolContents, records_of, with_changed}
 use Rattle.njh_kept.specs.Opened.{is_own}
 use Rattle.njh_kept.specs.code.Alike.{AreAlike, Writes}
 use Rattle.njh_kept.specs.code.Following.{GoesTo, HasFiles, IsRowFor, IsStillAt, Memory, claim_of}
@@ -85,7 +85,7 @@ module _ (m : Memory) (i : ℕ) (k : KeptWhole) (there : i < length m.own.whole)
       let has = keyed_at (λ (x : KeptWhole). x.key) m.own.whole i k there is in
       keyed_none (λ (p : KeptPartial). p.key) k.key m.own.partial (omega (arith, once, has))
 
-  module _ (s : Spool) (files : List WholeFile) (has : HasFiles m s files) (f : WholeFile) (found : f ≡ get_or files i f) where
+  module _ (s : SpoolContents) (files : List WholeFile) (has : HasFiles m s files) (f : WholeFile) (found : f ≡ get_or files i f) where
     at : BesideAt (IsKept s) (own_rows m.own.name s) files i k
     at = kept_at m s files has i k there is
 
@@ -105,7 +105,7 @@ module _ (m : Memory) (i : ℕ) (k : KeptWhole) (there : i < length m.own.whole)
     same_uses : (n : ℕ) → (claim_of (memory_changed now)).uses n ≡ (claim_of m).uses n
     same_uses n = uses_as_one_changes m.numbers m.own i k now there is key n
 
-    module _ (s : Spool) (files : List WholeFile) (has : HasFiles m s files) (g : WholeFile) (before : IsStillAt files i g) (headers : HasHeaders g.kind g.records) (remembers : Remembers now g) where
+    module _ (s : SpoolContents) (files : List WholeFile) (has : HasFiles m s files) (g : WholeFile) (before : IsStillAt files i g) (headers : HasHeaders g.kind g.records) (remembers : Remembers now g) where
       all_headers : AllByRecursion (λ h. HasHeaders h.kind h.records) (set files i g)
       all_headers = all-set (λ h. HasHeaders h.kind h.records) files i g has.headers headers
 
@@ -119,7 +119,7 @@ module _ (m : Memory) (i : ℕ) (k : KeptWhole) (there : i < length m.own.whole)
           (all_of (λ (p : KeptPartial). records_of p.key s ≡ records_of p.key s) (λ p. refl) m.own.partial)
 
       -- its row is written anew, and what stands under its key
-      row_goes : (t : Spool) (row : File) → WritesUnder k.key s t → is_own m.own.name row ≡ true → IsRowOf k.key g row → HasRecords k.key g.records t → AllByRecursion FitsHub g.records
+      row_goes : (t : SpoolContents) (row : File) → WritesUnder k.key s t → is_own m.own.name row ≡ true → IsRowOf k.key g row → HasRecords k.key g.records t → AllByRecursion FitsHub g.records
           → GoesTo m (memory_changed now) s (with_changed k.id row t) (set files i g)
       row_goes t row under owned is_row stored fits =
           let by = change_follows m.numbers m.own s files has.ordered has.mirrored i k now g t row there is has.apart under owned id key is_row remembers stored fits in
@@ -141,7 +141,7 @@ module _ (m : Memory) (i : ℕ) (k : KeptWhole) (there : i < length m.own.whole)
     abbrev pub now_kept : KeptWhole
     now_kept = record k { state = summary.state }
 
-    module _ (s : Spool) (files : List WholeFile) (has : HasFiles m s files) (before : IsStillAt files i g) where
+    module _ (s : SpoolContents) (files : List WholeFile) (has : HasFiles m s files) (before : IsStillAt files i g) where
       kept : IsKept s k (at s files has before.before before.is).second before.before
       kept = kept_here s files has before.before before.is
 
@@ -152,7 +152,7 @@ module _ (m : Memory) (i : ℕ) (k : KeptWhole) (there : i < length m.own.whole)
       alike = alike_still k before.before g kept.remembers before.still was headers
 
       -- its headers were written anew, and its row
-      pub rewritten_goes : (k.destination ≡ summary.destination → AreOne (named_nodes None g.records)) → (t : Spool) (row : File) → Writes true k.key (length g.records) g.records s t
+      pub rewritten_goes : (k.destination ≡ summary.destination → AreOne (named_nodes None g.records)) → (t : SpoolContents) (row : File) → Writes true k.key (length g.records) g.records s t
           → IsRowFor m.text k.key summary row → GoesTo m (memory_changed now_rewritten) s (with_changed k.id row t) (set files i g)
       rewritten_goes one t row writes is_row =
           let written = writes before.before.records has.ordered kept.stored (begun_all before.before.records g.records alike) in

@@ -2,7 +2,7 @@
 use Rattle.std.proofs.Common.{◌≡◌, ℕ, ◌<◌, ◌≤◌, ◌==◌, true, false, List, length, get_or, remove, Option, Some, None, sym, ap, ◌∙◌, arith, eqb-true}
 use Rattle.std.specs.Option.{option_eq}
 use Rattle.njh_spool.specs.CustomerSpool.{WholeFile}
-use Rattle.njh_store.specs.Kept.{Spool}
+use Rattle.njh_store.specs.Kept.{SpoolContents}
 use Rattle.njh_kept.specs.code.Mirrored.{own_rows}
 use Rattle.njh_kept.specs.code.Remembered.{IsKept, KeptWhole}
 use Rattle.njh_kept.specs.code.Following.{HasFiles, IsNext, IsReached, Memory}
@@ -27,7 +27,7 @@ is_another n (Some k) other same =
 
 -- ---- beside what the hub has
 
-module _ (m : Memory) (s : Spool) (files : List WholeFile) (has : HasFiles m s files) where
+module _ (m : Memory) (s : SpoolContents) (files : List WholeFile) (has : HasFiles m s files) where
   pub as_many : length files ≡ length m.own.whole
   as_many = (beside_lengths (IsKept s) m.own.whole (own_rows m.own.name s) files has.mirrored).1
 

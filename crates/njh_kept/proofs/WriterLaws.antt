@@ -4,13 +4,13 @@ use Rattle.std.proofs.lemmas.List.{append-nil, append_assoc}
 use Rattle.std.proofs.lemmas.Bool.{cases_lt}
 use Rattle.sqlite.specs.State.{State}
 use Rattle.sqlite.specs.Effect.{Database}
-use Rattle.njh_store.specs.Kept.{Spool, Holds, without_records}
-use Rattle.njh_store.specs.Standing.{Standing, Stands}
+use Rattle.njh_store.specs.Kept.{SpoolContents, Holds, without_records}
+use Rattle.njh_store.specs.CommitState.{CommitState, Stands}
 use Rattle.njh_store.specs.Steps.{Changes}
 use Rattle.njh_kept.specs.code.Writing.{below, is_marked, numbers_but, shows_now, unmarked, without_keys}
 
 -- a change that waits
-pub stands_changed : (change : Spool → Spool) (s : Standing) (old new : State) → Changes change old new → Stands s old → Stands (shows_now change s) new
+pub stands_changed : (change : SpoolContents → SpoolContents) (s : CommitState) (old new : State) → Changes change old new → Stands s old → Stands (shows_now change s) new
 stands_changed change s old new made at = record {
   is_open = made.is_open;
   now = made.holds s.now at.now;
@@ -18,7 +18,7 @@ stands_changed change s old new made at = record {
 }
 
 -- one number more
-pub keys_more : (keys : List ℕ) (key : ℕ) (s : Spool) → without_keys (keys ++ key ∷ []) s ≡ without_records key 0 (2 ^ 23) (without_keys keys s)
+pub keys_more : (keys : List ℕ) (key : ℕ) (s : SpoolContents) → without_keys (keys ++ key ∷ []) s ≡ without_records key 0 (2 ^ 23) (without_keys keys s)
 keys_more [] key s = refl
 keys_more (k ∷ ks) key s = keys_more ks key (without_records k 0 (2 ^ 23) s)
 
@@ -37,7 +37,7 @@ marked_more marks key is = passes_more (is_marked marks) key is
 pub unmarked_more : (marks : List Bool) (key : ℕ) → slice_index_or marks key false ≡ false → unmarked marks (key + 1) ≡ unmarked marks key ++ key ∷ []
 unmarked_more marks key is = fails_more (is_marked marks) key is
 
-pub emptied_more : (marks : List Bool) (key : ℕ) (s : Standing) (mid new : State) → slice_index_or marks key false ≡ false
+pub emptied_more : (marks : List Bool) (key : ℕ) (s : CommitState) (mid new : State) → slice_index_or marks key false ≡ false
     → Stands (shows_now (without_keys (unmarked marks key)) s) mid → Changes (without_records key 0 (2 ^ 23)) mid new
     → Stands (shows_now (without_keys (unmarked marks (key + 1))) s) new
 emptied_more marks key s mid new is at made =

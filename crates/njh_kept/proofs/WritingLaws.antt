@@ -2,12 +2,12 @@
 use Rattle.std.proofs.Common.{◌≡◌, ℕ, ◌+◌, ◌<◌, List, [], ◌∷◌, ◌++◌, length, get_or, set, take, drop, sym, ap, subst, ◌∙◌, append_assoc, append-nil, arith, length-append, length-drop}
 use Rattle.std.proofs.lemmas.List.{drop_all, drop_more, length-take-le, set_at, take_all, take_more}
 use Rattle.njh_record.specs.Stored.{Stored}
-use Rattle.njh_store.specs.Kept.{Record, Spool, with_record, without_records}
+use Rattle.njh_store.specs.Kept.{Record, SpoolContents, with_record, without_records}
 use Rattle.njh_kept.specs.code.Mirrored.{HasRecords, IsOrdered, records_midway, stored_of}
 use Rattle.njh_kept.proofs.RecordLaws.{record_changes, record_comes_last}
 
 -- as many of these are there as were written, and the next one comes
-pub next_is_written : (key at : ℕ) (rs : List Stored) (r : Record) (spool : Spool) → IsOrdered spool → HasRecords key (take at rs) spool → at < length rs
+pub next_is_written : (key at : ℕ) (rs : List Stored) (r : Record) (spool : SpoolContents) → IsOrdered spool → HasRecords key (take at rs) spool → at < length rs
     → r.key ≡ key → r.place ≡ at → stored_of r ≡ get_or rs at (stored_of r) → HasRecords key (take (at + 1) rs) (with_record r spool)
 next_is_written key at rs r spool h has within mine here is =
     let before : length (take at rs) ≡ at = length-take-le at rs (omega (arith, within)) in
@@ -26,7 +26,7 @@ module _ (at : ℕ) (now before : List Stored) (long : length now ≡ length bef
   pub next_is_the_same : (d : Stored) → get_or before at d ≡ get_or now at d → records_midway (at + 1) now before ≡ records_midway at now before
   next_is_the_same d same = sym (split d ∙ ap (λ x. take at now ++ x ∷ drop (at + 1) before) same ∙ further d)
 
-  pub next_is_rewritten : (key : ℕ) (r : Record) (spool : Spool) → IsOrdered spool → HasRecords key (records_midway at now before) spool
+  pub next_is_rewritten : (key : ℕ) (r : Record) (spool : SpoolContents) → IsOrdered spool → HasRecords key (records_midway at now before) spool
       → r.key ≡ key → r.place ≡ at → stored_of r ≡ get_or now at (stored_of r)
       → HasRecords key (records_midway (at + 1) now before) (with_record r (without_records key at (at + 1) spool))
   next_is_rewritten key r spool h has mine here is =

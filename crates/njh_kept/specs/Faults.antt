@@ -1,13 +1,13 @@
 -- What is told where no hub is opened from a spool file.
 use Rattle.std.specs.Prelude.{⊤}
 use Rattle.njh_table.specs.TableFile.{TableFile}
-use Rattle.njh_store.specs.Kept.{Spool, entry_of, whole_in}
+use Rattle.njh_store.specs.Kept.{SpoolContents, entry_of, whole_in}
 use Rattle.njh_kept.specs.Opened.{IsRefused}
 use Rattle.njh_kept.specs.declared.fault.OpeningFault.{OpeningFault}
 use Rattle.njh_kept.specs.declared.fault.OpeningFault.TheVariants.{Memory, Store, File}
 
 -- the first whole file that can't be put back is told, and why
-abbrev pub Tells : TableFile → Spool → OpeningFault → Type 0
+abbrev pub Tells : TableFile → SpoolContents → OpeningFault → Type 0
 Tells table spool Memory = ⊤
 Tells table spool (Store error) = ⊤
 Tells table spool (File refused) = IsRefused table spool (whole_in spool (entry_of refused.file)) refused.fault

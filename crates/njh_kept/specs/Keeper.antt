@@ -8,9 +8,9 @@ use Rattle.sqlite.specs.Tree.{Trees}
 use Rattle.njh_hub.specs.Parts.{entries_of}
 use Rattle.njh_hub.specs.Keeping.{kept_of}
 use Rattle.njh_hub.specs.WholeHub.{Part, SameLines, part_at_open}
-use Rattle.njh_store.specs.Kept.{Spool, Holds, kept}
+use Rattle.njh_store.specs.Kept.{SpoolContents, Holds, kept}
 use Rattle.njh_store.specs.Shelf.{Shelf, shelf_code, shown}
-use Rattle.njh_store.specs.Standing.{Standing, Stands}
+use Rattle.njh_store.specs.CommitState.{CommitState, Stands}
 use Rattle.njh_spool.specs.Restoring.{KeptFile}
 use Rattle.njh_table.specs.TableFile.{TableFile}
 use Rattle.njh_table.specs.Accepted.{AreDistinct}
@@ -58,15 +58,15 @@ keeping_code {S} store = code_by
 pub record IsOpenedFrom {S : Type 0} (g : Ghosts S) (before behind : Keeping S) (table : TableFile)
     (parts : List Part) : Type 0 where
   pub lines : SameLines (map part_at_open (entries_of table)) parts
-  pub hub : HasCleanDisk (shown g behind.store) → (spool : Spool) → Holds spool (shown g before.store).now.trees
+  pub hub : HasCleanDisk (shown g behind.store) → (spool : SpoolContents) → Holds spool (shown g before.store).now.trees
       → parts ≡ hub_opened table spool
-  pub back : HasCleanDisk (shown g behind.store) → (spool : Spool) → Holds spool (shown g before.store).now.trees
+  pub back : HasCleanDisk (shown g behind.store) → (spool : SpoolContents) → Holds spool (shown g before.store).now.trees
       → AllAreBack table (kept spool)
 
 -- ---- what a crash may leave
 
 -- of each customer of these names its whole files on a spool file, as a hub has them
-abbrev pub left_in : List (List ℕ) → Spool → List (List KeptFile)
+abbrev pub left_in : List (List ℕ) → SpoolContents → List (List KeptFile)
 left_in names spool = map (λ name. filter_map (λ w. file_in w.file w.records) (own_files name spool)) names
 
 -- A crash at this moment may leave this of the customers' whole files, as far as the disk told the truth so far.
@@ -74,23 +74,23 @@ pub record MayLeave {S : Type 0} (g : Ghosts S) (keeper : Keeping S) (left : Lis
   pub clean : HasCleanDisk (shown g keeper.store)
   pub trees : Trees
   pub may : (shown g keeper.store).may_leave trees
-  pub spool : Spool
+  pub spool : SpoolContents
   pub holds : Holds spool trees
   pub is : left ≡ left_in keeper.names spool
 
 -- Where no whole file changed since the last commit, the customers' are those that were committed.
-abbrev pub IsAsKept : {S : Type 0} → Keeping S → Standing → Type 0
+abbrev pub IsAsKept : {S : Type 0} → Keeping S → CommitState → Type 0
 IsAsKept keeper s = keeper.is_changed ≡ false → left_in keeper.names s.kept ≡ left_in keeper.names s.now
 
 -- This spool stands there, and the customers' whole files are committed as they are now.
-pub record IsKeptNow {S : Type 0} (g : Ghosts S) (keeper : Keeping S) (now : Spool) : Type 0 where
-  pub kept : Spool
+pub record IsKeptNow {S : Type 0} (g : Ghosts S) (keeper : Keeping S) (now : SpoolContents) : Type 0 where
+  pub kept : SpoolContents
   pub stands : Stands (record { now = now; kept = kept }) (shown g keeper.store)
   pub same : left_in keeper.names kept ≡ left_in keeper.names now
 
 -- The spool file holds the whole files of this hub's customers, and they are committed so.
 pub record IsCommitted {S : Type 0} (g : Ghosts S) (keeper : Keeping S) (parts : List Part) : Type 0 where
-  pub spool : Spool
+  pub spool : SpoolContents
   pub stands : Stands (record { now = spool; kept = spool }) (shown g keeper.store)
   pub left : left_in keeper.names spool ≡ kept_of parts
 
@@ -99,7 +99,7 @@ pub record IsCommitted {S : Type 0} (g : Ghosts S) (keeper : Keeping S) (parts :
 pub record IsSettledFrom {S : Type 0} (g : Ghosts S) (before behind : Keeping S) (table : TableFile)
     (parts : List Part) : Type 0 where
   pub names : behind.names ≡ map (λ c. c.name) table.customers
-  pub committed : HasCleanDisk (shown g behind.store) → (s : Standing) → Stands s (shown g before.store)
+  pub committed : HasCleanDisk (shown g behind.store) → (s : CommitState) → Stands s (shown g before.store)
       → IsCommitted g behind parts
 
 -- ---- what is known of a hub
@@ -114,7 +114,7 @@ memory_in keeper m = record { numbers = keeper.numbers; own = m.own; text = m.te
 
 -- Its memory says what the spool file has of a hub of these parts, and the file has each customer's whole files.
 pub record KnowsNow {S : Type 0} (g : Ghosts S) (keeper : Keeping S) (parts : List Part) : Type 0 where
-  pub standing : Standing
+  pub standing : CommitState
   pub stands : Stands standing (shown g keeper.store)
   pub as_kept : IsAsKept keeper standing
   pub names : keeper.names ≡ map (λ own. own.name) (owns_in keeper)
@@ -124,10 +124,10 @@ pub record KnowsNow {S : Type 0} (g : Ghosts S) (keeper : Keeping S) (parts : Li
   pub sound : AllByRecursion IsSoundPart parts
 
 -- as far as the disk told the truth, and the files held a spool when they were opened
-abbrev pub KnowsHub : {S : Type 0} → Ghosts S → (Spool → Type 0) → Keeping S → List Part → Type 0
+abbrev pub KnowsHub : {S : Type 0} → Ghosts S → (SpoolContents → Type 0) → Keeping S → List Part → Type 0
 KnowsHub g found keeper parts =
-    HasCleanDisk (shown g keeper.store) → (began : Spool) → found began → KnowsNow g keeper parts
+    HasCleanDisk (shown g keeper.store) → (began : SpoolContents) → found began → KnowsNow g keeper parts
 
 -- A crash may leave this, where the files held a spool when they were opened.
-abbrev pub MayLeaveOf : {S : Type 0} → Ghosts S → (Spool → Type 0) → Keeping S → List (List KeptFile) → Type 0
-MayLeaveOf g found keeper left = MayLeave g keeper left × ((began : Spool) × found began)
+abbrev pub MayLeaveOf : {S : Type 0} → Ghosts S → (SpoolContents → Type 0) → Keeping S → List (List KeptFile) → Type 0
+MayLeaveOf g found keeper left = MayLeave g keeper left × ((began : SpoolContents) × found began)

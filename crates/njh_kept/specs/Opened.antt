@@ -11,7 +11,7 @@ use Rattle.njh_table.specs.Entries.{CustomerEntry}
 use Rattle.njh_table.specs.TableFile.{TableFile, customer_at, entry_of}
 use Rattle.njh_hub.specs.Restored.{part_with_file}
 use Rattle.njh_hub.specs.WholeHub.{Part, part_at_open}
-use Rattle.njh_store.specs.Kept.{File, Spool, Whole, kept}
+use Rattle.njh_store.specs.Kept.{File, SpoolContents, Whole, kept}
 use Rattle.njh_store.specs.Lists.{kept_where}
 use Rattle.njh_kept.specs.declared.fault.FileFault.{FileFault}
 use Rattle.njh_kept.specs.declared.fault.FileFault.TheVariants.{BadFile, Refused}
@@ -85,7 +85,7 @@ abbrev pub own : List ℕ → List Whole → List Whole
 own name ws = filter (λ w. is_own name w.file) ws
 
 -- a customer's whole files on a spool file, in their order of arrival
-abbrev pub own_files : List ℕ → Spool → List Whole
+abbrev pub own_files : List ℕ → SpoolContents → List Whole
 own_files name spool = kept_where (is_own name) spool
 
 -- A customer's part of a hub that was opened from these files of its own: each is put back, one after the other.
@@ -99,7 +99,7 @@ AreBack p (w ∷ ws) = (whole_fault p w ≡ None) × AreBack (with_whole p w) ws
 
 -- ---- the hub
 
-abbrev pub hub_opened : TableFile → Spool → List Part
+abbrev pub hub_opened : TableFile → SpoolContents → List Part
 hub_opened table spool = map (λ c. part_opened (entry_of c) (own_files c.name spool)) table.customers
 
 -- the files of each customer of the tables could be put back
@@ -108,7 +108,7 @@ AllAreBack table ws = (c : ℕ) → c < length table.customers
     → AreBack (part_at_open (entry_of (customer_at table c))) (own (customer_at table c).name ws)
 
 -- The first whole file of a spool that isn't put back, and why: those before it were, and it is of this customer.
-pub record IsRefused (table : TableFile) (spool : Spool) (w : Whole) (fault : FileFault) : Type 0 where
+pub record IsRefused (table : TableFile) (spool : SpoolContents) (w : Whole) (fault : FileFault) : Type 0 where
   pub before : List Whole
   pub after : List Whole
   pub customer : ℕ

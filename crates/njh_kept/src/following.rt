@@ -356,7 +356,7 @@ fn add_one<S: Alter + Drop>(
     ensures crash { Survives (shown S.Store writer.old.store) (shown S.Store writer.new.store) (λ _. ⊥) }
 {
     let place = place_for(writer, own, file.number, summary.records)?;
-    let RecordPlace { key, written } = place;
+    let RecordsPlace { key, written } = place;
     let finished = file;
     write_records(writer, hub, finished, key, written, true)?;
     add_row(writer, own, hub, file, key, summary)
@@ -364,7 +364,7 @@ fn add_one<S: Alter + Drop>(
 
 /// Where records of a file are to stand, and how many stand there already.
 #[derive(Clone, Copy)]
-struct RecordPlace {
+struct RecordsPlace {
     key: u32,
     written: u32,
 }
@@ -375,7 +375,7 @@ fn place_for<S: Alter + Drop>(
     own: &mut OwnFiles,
     number: FileId,
     records: u32,
-) -> Result<RecordPlace, Error>
+) -> Result<RecordsPlace, Error>
     ensures led { (g : WholeFile) → number ≡ g.number → records ≡ length g.records
         → HasCleanDisk (shown S.Store writer.new.store)
         → IfOk result (λ place. LeadsInHand place.key place.written g
@@ -384,11 +384,11 @@ fn place_for<S: Alter + Drop>(
     ensures crash { Survives (shown S.Store writer.old.store) (shown S.Store writer.new.store) (λ _. ⊥) }
 {
     match own.take_partial(number, records) {
-        Some(partial) => Ok(RecordPlace {
+        Some(partial) => Ok(RecordsPlace {
             key: partial.key,
             written: partial.written,
         }),
-        None => Ok(RecordPlace {
+        None => Ok(RecordsPlace {
             key: writer.take_key()?,
             written: 0,
         }),

@@ -18,7 +18,7 @@ use njh_header::{DataSetHeader, JobHeader, srcb};
 use njh_hub::Hub;
 use njh_record::Record;
 use njh_spool::RecordReader;
-use njh_store::KeptRecord;
+use njh_store::RecordRow;
 use sqlite::{Alter, Error};
 
 /// Blanks, where a field has nothing.
@@ -52,7 +52,7 @@ pub(crate) fn write_records<S: Alter + Drop>(
             return Ok(());
         };
         let bytes = &record;
-        let kept = KeptRecord {
+        let kept = RecordRow {
             key,
             place,
             srcb,

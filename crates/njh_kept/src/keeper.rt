@@ -9,10 +9,10 @@ ghost use Rattle.njh_hub.specs.Sent.{IsCounted};
 ghost use Rattle.njh_hub.specs.WholeHub.{Part, part};
 ghost use Rattle.njh_spool.specs.Restoring.{KeptFile};
 ghost use Rattle.njh_spool.specs.Spools.{IsSound};
-ghost use Rattle.njh_store.specs.Kept.{Spool, Holds};
+ghost use Rattle.njh_store.specs.Kept.{SpoolContents, Holds};
 ghost use Rattle.njh_store.specs.Origin.{StandsAsFound};
 ghost use Rattle.njh_store.specs.Shelf.{shown};
-ghost use Rattle.njh_store.specs.Standing.{Standing, Stands};
+ghost use Rattle.njh_store.specs.CommitState.{CommitState, Stands};
 ghost use Rattle.njh_store.specs.Steps.{Stays};
 ghost use Rattle.njh_stream.specs.WholeFiles.{HaveHeaders};
 ghost use Rattle.njh_kept.specs.Keeper.{IsAsKept, IsCommitted, IsKeptNow, IsOpenedFrom, IsSettledFrom, KnowsHub};
@@ -165,11 +165,11 @@ impl<'a, R: Clock, S: Origin + Drop> SpoolKeeper<'a, R, S> {
         ensures same { (self.new.failures ≡ self.old.failures) × (self.new.names ≡ self.old.names)
             × (self.new.customers ≡ self.old.customers) × (self.new.is_fresh ≡ false) }
         ensures numbers { OnOk result (self.new.numbers ≡ self.old.numbers) }
-        ensures settled { HasCleanDisk (shown S.Store self.new.store) → OnOk result ((s : Standing)
+        ensures settled { HasCleanDisk (shown S.Store self.new.store) → OnOk result ((s : CommitState)
             → Stands s (shown S.Store self.old.store) → IsAsKept self.old s → IsKeptNow S.Store self.new s.now) }
         ensures clean { HasCleanDisk (shown S.Store self.new.store) → HasCleanDisk (shown S.Store self.old.store) }
         ensures crash { (left : List (List KeptFile)) → MayLeave S.Store self.new left
-            → MayLeave S.Store self.old left ⊎ ((now : Spool) → Holds now (shown S.Store self.old.store).now.trees
+            → MayLeave S.Store self.old left ⊎ ((now : SpoolContents) → Holds now (shown S.Store self.old.store).now.trees
             → left ≡ left_in self.old.names now) }
     {
         self.is_fresh = false;
@@ -208,11 +208,11 @@ impl<'a, R: Clock, S: Origin + Drop> SpoolKeeper<'a, R, S> {
         ensures same { (self.new.failures ≡ self.old.failures) × (self.new.names ≡ self.old.names)
             × (self.new.is_fresh ≡ false) }
         ensures settled { OnOk result ((self.new.is_changed ≡ false) × (self.new.waiting ≡ 0)) }
-        ensures kept { HasCleanDisk (shown S.Store self.new.store) → OnOk result ((s : Standing)
+        ensures kept { HasCleanDisk (shown S.Store self.new.store) → OnOk result ((s : CommitState)
             → Stands s (shown S.Store self.old.store) → AreDistinct self.old.names
             → AllAreFound self.old.names hub.now → AllAreRead self.old.names hub.now s.now
             → length self.old.names ≡ length hub.now → IsCommitted S.Store self.new hub.now) }
-        ensures known { HasCleanDisk (shown S.Store self.new.store) → OnOk result ((s : Standing)
+        ensures known { HasCleanDisk (shown S.Store self.new.store) → OnOk result ((s : CommitState)
             → Stands s (shown S.Store self.old.store) → AreDistinct self.old.names
             → AllAreFound self.old.names hub.now → AllAreRead self.old.names hub.now s.now
             → length self.old.names ≡ length hub.now → AllByRecursion HasShortRests hub.now
@@ -263,10 +263,10 @@ impl<'a, R: Clock, S: Origin + Drop> SpoolKeeper<'a, R, S> {
     fn remember_hub(&mut self, hub: Hub, names: Vec<Name>) -> Result<Hub, DepotFault>
         ensures hub { IfOk result (λ remembered. remembered ≡ hub) }
         ensures names { OnOk result (self.new.names ≡ names.items) }
-        ensures kept { HasCleanDisk (shown S.Store self.new.store) → OnOk result ((s : Standing)
+        ensures kept { HasCleanDisk (shown S.Store self.new.store) → OnOk result ((s : CommitState)
             → Stands s (shown S.Store self.old.store) → AreDistinct names.items → AllAreFound names.items hub
             → AllAreRead names.items hub s.now → length names.items ≡ length hub → IsCommitted S.Store self.new hub) }
-        ensures known { HasCleanDisk (shown S.Store self.new.store) → OnOk result ((s : Standing)
+        ensures known { HasCleanDisk (shown S.Store self.new.store) → OnOk result ((s : CommitState)
             → Stands s (shown S.Store self.old.store) → AreDistinct names.items → AllAreFound names.items hub
             → AllAreRead names.items hub s.now → length names.items ≡ length hub → AllByRecursion HasShortRests hub
             → KnowsNow S.Store self.new hub) }

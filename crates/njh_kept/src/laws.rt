@@ -9,9 +9,9 @@ ghost use Rattle.njh_kept.specs.OpenedFiles.{HasOpened};
 ghost use Rattle.njh_kept.specs.Keeper.{IsSettledFrom, Keeping, MayLeave, left_in};
 ghost use Rattle.njh_hub.specs.Keeping.{LeavesOnly};
 ghost use Rattle.njh_spool.specs.Restoring.{KeptFile};
-ghost use Rattle.njh_store.specs.Kept.{File, Spool, Whole, with_file};
+ghost use Rattle.njh_store.specs.Kept.{File, SpoolContents, Whole, with_file};
 ghost use Rattle.njh_store.specs.Shelf.{shown};
-ghost use Rattle.njh_store.specs.Standing.{Standing, Stands};
+ghost use Rattle.njh_store.specs.CommitState.{CommitState, Stands};
 ghost use Rattle.njh_table.specs.Entries.{CustomerEntry};
 ghost use Rattle.njh_table.specs.TableFile.{TableFile, customer_at, entry_of};
 
@@ -47,7 +47,7 @@ pub fn opened_again_as_after_the_loss_of_all_lines()
 /// What a customer has after the opening is decided by its own entry and its own files: on two hubs, of two tables and
 /// two spool files in which these are the same, it has the same.
 pub fn own_files_decide()
-    ensures { (table other : TableFile) (spool kept : Spool) (c d : ℕ)
+    ensures { (table other : TableFile) (spool kept : SpoolContents) (c d : ℕ)
         → c < length table.customers → d < length other.customers
         → entry_of (customer_at table c) ≡ entry_of (customer_at other d)
         → own_files (customer_at table c).name spool ≡ own_files (customer_at other d).name kept
@@ -56,7 +56,7 @@ pub fn own_files_decide()
 
 /// A whole file of another customer that comes last into a spool file changes nothing of this one's.
 pub fn a_file_of_another_does_not_show()
-    ensures { (entry : CustomerEntry) (name : List ℕ) (id : ℕ) (file : File) (spool : Spool)
+    ensures { (entry : CustomerEntry) (name : List ℕ) (id : ℕ) (file : File) (spool : SpoolContents)
         → AllByRecursion (λ e. e.0 < id) spool.files → is_own name file ≡ false
         → part_opened entry (own_files name (with_file id file spool)) ≡ part_opened entry (own_files name spool) }
 {
@@ -65,7 +65,7 @@ pub fn a_file_of_another_does_not_show()
 
 /// While a spool file stands, a crash leaves of the customers' whole files those that were committed last.
 pub fn a_crash_leaves_what_was_committed<S: Alter>()
-    ensures { (keeper : Keeping S) (s : Standing) (left : List (List KeptFile)) → Stands s (shown S.Store keeper.store)
+    ensures { (keeper : Keeping S) (s : CommitState) (left : List (List KeptFile)) → Stands s (shown S.Store keeper.store)
         → MayLeave S.Store keeper left → left ≡ left_in keeper.names s.kept }
 {
     only_the_last_commit::<S>();
@@ -74,7 +74,7 @@ pub fn a_crash_leaves_what_was_committed<S: Alter>()
 /// Behind the opening of a hub, from a spool file that stood before, a crash leaves of the customers' whole files those
 /// that the hub has, until something else is committed.
 pub fn a_crash_leaves_what_was_opened<S: Alter>()
-    ensures { (before behind : Keeping S) (table : TableFile) (parts : List Part) (s : Standing)
+    ensures { (before behind : Keeping S) (table : TableFile) (parts : List Part) (s : CommitState)
         → IsSettledFrom S.Store before behind table parts → Stands s (shown S.Store before.store)
         → LeavesOnly (MayLeave S.Store) behind parts }
 {

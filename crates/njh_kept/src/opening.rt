@@ -8,7 +8,7 @@ ghost use Rattle.njh_kept.specs.Faults.{IsNoFile, IsSpared, Tells};
 ghost use Rattle.njh_kept.specs.Opened.{AllAreBack, hub_opened};
 ghost use Rattle.njh_kept.specs.code.Restoring.{NoneFails, hub_with_all, wholes};
 ghost use Rattle.njh_kept.specs.code.Refusing.{IsRefusalOf, StopsIn};
-ghost use Rattle.njh_store.specs.Kept.{Spool, Holds, entry_of, kept};
+ghost use Rattle.njh_store.specs.Kept.{SpoolContents, Holds, entry_of, kept};
 ghost use Rattle.njh_store.specs.Shelf.{shown};
 ghost use Rattle.njh_store.specs.Steps.{Stays};
 ghost use Rattle.njh_table.specs.Accepted.{AreDistinct};
@@ -39,7 +39,7 @@ fn find<S: Alter>(
     ensures names { IfOk result (λ found. found.names.items ≡ map (λ c. c.name) tables.now.customers) }
     ensures distinct { AreDistinct (map (λ c. c.name) tables.now.customers) }
     ensures few { IfOk result (λ found. length found.names.items ≤ 2 ^ 16) }
-    ensures files { HasCleanDisk (shown S.Store store.new) → IfOk result (λ found. (spool : Spool)
+    ensures files { HasCleanDisk (shown S.Store store.new) → IfOk result (λ found. (spool : SpoolContents)
         → Holds spool (shown S.Store store.old).now.trees → map entry_of found.files.items ≡ spool.files) }
     ensures told { IfErr result (λ fault. IsNoFile fault) }
     ensures same { HasCleanDisk (shown S.Store store.new) → OnOk result (Stays (shown S.Store store.old)
@@ -77,13 +77,13 @@ fn fill<S: Alter>(
 ) -> Result<Hub, OpeningFault>
     requires same { length hub ≡ length found.names.items }
     requires few { length found.names.items ≤ 2 ^ 16 }
-    ensures hub { HasCleanDisk (shown S.Store store.new) → IfOk result (λ opened. (spool : Spool)
+    ensures hub { HasCleanDisk (shown S.Store store.new) → IfOk result (λ opened. (spool : SpoolContents)
         → Holds spool (shown S.Store store.old).now.trees
         → opened ≡ hub_with_all found.names.items hub (wholes spool found.files.items)) }
-    ensures back { HasCleanDisk (shown S.Store store.new) → OnOk result ((spool : Spool)
+    ensures back { HasCleanDisk (shown S.Store store.new) → OnOk result ((spool : SpoolContents)
         → Holds spool (shown S.Store store.old).now.trees
         → NoneFails found.names.items hub (wholes spool found.files.items)) }
-    ensures refused { HasCleanDisk (shown S.Store store.new) → IfErr result (λ fault. (spool : Spool)
+    ensures refused { HasCleanDisk (shown S.Store store.new) → IfErr result (λ fault. (spool : SpoolContents)
         → Holds spool (shown S.Store store.old).now.trees
         → StopsIn found.names.items hub spool found.files.items fault) }
     ensures lines { IfOk result (λ opened. SameLines hub opened) }
@@ -116,11 +116,11 @@ pub fn open_from<S: Alter>(
     tables: Tables,
     store: &mut Store<S>,
 ) -> Result<Hub, OpeningFault>
-    ensures hub { HasCleanDisk (shown S.Store store.new) → IfOk result (λ opened. (spool : Spool)
+    ensures hub { HasCleanDisk (shown S.Store store.new) → IfOk result (λ opened. (spool : SpoolContents)
         → Holds spool (shown S.Store store.old).now.trees → opened ≡ hub_opened tables spool) }
-    ensures back { HasCleanDisk (shown S.Store store.new) → OnOk result ((spool : Spool)
+    ensures back { HasCleanDisk (shown S.Store store.new) → OnOk result ((spool : SpoolContents)
         → Holds spool (shown S.Store store.old).now.trees → AllAreBack tables (kept spool)) }
-    ensures refused { HasCleanDisk (shown S.Store store.new) → IfErr result (λ fault. (spool : Spool)
+    ensures refused { HasCleanDisk (shown S.Store store.new) → IfErr result (λ fault. (spool : SpoolContents)
         → Holds spool (shown S.Store store.old).now.trees → Tells tables spool fault) }
     ensures lines { IfOk result (λ opened. SameLines (map part_at_open (entries_of tables)) opened) }
     ensures same { HasCleanDisk (shown S.Store store.new) → OnOk result (Stays (shown S.Store store.old)

@@ -6,7 +6,7 @@ ghost use Rattle.njh_store.specs.Kept.{contents_of, file_of};
 
 use njh_header::FileRecords;
 use njh_record::{Record, put_bytes};
-use njh_store::{KeptFile, StoredRecord};
+use njh_store::{FileRow, StoredRecord};
 use std::marker::Model;
 
 /// All records of a file, as a hub has them.
@@ -31,7 +31,7 @@ impl Model for FileContents {
 
 impl FileContents {
     /// The records that were read of a file; none where they aren't all of its own.
-    pub(crate) fn of(file: &KeptFile, records: Vec<StoredRecord>) -> Option<FileContents>
+    pub(crate) fn of(file: &FileRow, records: Vec<StoredRecord>) -> Option<FileContents>
         ensures { MatchOption result (are_records_of (file_of file.now) (map contents_of records.items) ≡ false)
             (λ contents. (are_records_of (file_of file.now) (map contents_of records.items) ≡ true)
             × (contents ≡ map as_stored (map contents_of records.items))) }

@@ -7,7 +7,7 @@ ghost use Rattle.njh_hub.specs.WholeHub.{SameLines, part};
 ghost use Rattle.njh_kept.specs.Opened.{file_fault, with_file};
 ghost use Rattle.njh_kept.specs.code.Restoring.{NoneFails, StopsAt, StopsOn, IsOfFile, hub_fault, hub_with};
 ghost use Rattle.njh_kept.specs.code.Restoring.{hub_with_all, wholes};
-ghost use Rattle.njh_store.specs.Kept.{Spool, Holds, contents_of, entry_of, file_of, whole_in};
+ghost use Rattle.njh_store.specs.Kept.{SpoolContents, Holds, contents_of, entry_of, file_of, whole_in};
 ghost use Rattle.njh_store.specs.Shelf.{shown};
 ghost use Rattle.njh_store.specs.Steps.{Stays};
 
@@ -17,7 +17,7 @@ use crate::names::number_of;
 use crate::records::FileContents;
 use njh_ebcdic::Name;
 use njh_hub::Hub;
-use njh_store::{KeptFile, Store, StoredFile, StoredRecord};
+use njh_store::{FileRow, Store, StoredFile, StoredRecord};
 use sqlite::{Alter, Error};
 use std::alloc::Global;
 
@@ -46,7 +46,7 @@ pub(crate) struct Stop {
 fn put_back(
     hub: &mut Hub,
     customer: u16,
-    file: &KeptFile,
+    file: &FileRow,
     records: Vec<StoredRecord>,
 ) -> Result<(), FileFault>
     requires { customer < length hub.old }
@@ -81,11 +81,11 @@ fn restore_one<S: Alter>(
     requires few { length names.now ≤ 2 ^ 16 }
     ensures count { length hub.new ≡ length hub.old }
     ensures lines { SameLines hub.old hub.new }
-    ensures ok { HasCleanDisk (shown S.Store store.new) → OnOk result ((spool : Spool)
+    ensures ok { HasCleanDisk (shown S.Store store.new) → OnOk result ((spool : SpoolContents)
         → Holds spool (shown S.Store store.old).now.trees
         → (hub.new ≡ hub_with names.now hub.old (whole_in spool (entry_of stored.now)))
         × (hub_fault names.now hub.old (whole_in spool (entry_of stored.now)) ≡ None)) }
-    ensures fault { HasCleanDisk (shown S.Store store.new) → IfErr result (λ cause. (spool : Spool)
+    ensures fault { HasCleanDisk (shown S.Store store.new) → IfErr result (λ cause. (spool : SpoolContents)
         → Holds spool (shown S.Store store.old).now.trees
         → StopsOn cause (hub_fault names.now hub.old (whole_in spool (entry_of stored.now)))) }
     ensures same { HasCleanDisk (shown S.Store store.new) → OnOk result (Stays (shown S.Store store.old)
@@ -117,14 +117,14 @@ pub(crate) fn restore_all<S: Alter>(
 ) -> Result<(), Stop>
     requires same { length hub.old ≡ length names.now }
     requires few { length names.now ≤ 2 ^ 16 }
-    ensures hub { HasCleanDisk (shown S.Store store.new) → OnOk result ((spool : Spool)
+    ensures hub { HasCleanDisk (shown S.Store store.new) → OnOk result ((spool : SpoolContents)
         → Holds spool (shown S.Store store.old).now.trees
         → hub.new ≡ hub_with_all names.now hub.old (wholes spool files.now)) }
-    ensures back { HasCleanDisk (shown S.Store store.new) → OnOk result ((spool : Spool)
+    ensures back { HasCleanDisk (shown S.Store store.new) → OnOk result ((spool : SpoolContents)
         → Holds spool (shown S.Store store.old).now.trees → NoneFails names.now hub.old (wholes spool files.now)) }
     ensures at { IfErr result (λ stop. stop.at < length files.now) }
     ensures lines { SameLines hub.old hub.new }
-    ensures fault { HasCleanDisk (shown S.Store store.new) → IfErr result (λ stop. (spool : Spool)
+    ensures fault { HasCleanDisk (shown S.Store store.new) → IfErr result (λ stop. (spool : SpoolContents)
         → Holds spool (shown S.Store store.old).now.trees → StopsAt names.now hub.old spool files.now stop) }
     ensures same { HasCleanDisk (shown S.Store store.new) → OnOk result (Stays (shown S.Store store.old)
         (shown S.Store store.new)) }

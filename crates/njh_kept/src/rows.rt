@@ -14,7 +14,7 @@ use crate::own_files::KeptWhole;
 use njh_ebcdic::{Name, names_read_back, text_of, trim_blanks};
 use njh_hub::FileSummaryView;
 use njh_spool::State;
-use njh_store::KeptFile;
+use njh_store::FileRow;
 use std::alloc::{AllocError, Global};
 
 /// Whether a file is Held.
@@ -65,14 +65,14 @@ pub(crate) fn row_of(
     kept: &KeptWhole,
     file: &FileSummaryView,
     job: [u8; 8],
-) -> Result<KeptFile, AllocError>
+) -> Result<FileRow, AllocError>
     ensures row { (f : WholeFile) → file.now ≡ file_summary f
         → IfOk result (λ row. IsRowOf kept.now.key f (file_of row)) }
     ensures owned { (name : List ℕ) → is_name_of customer.now name ≡ true
         → IfOk result (λ row. is_own name (file_of row) ≡ true) }
     ensures shown { IfOk result (λ row. IsShown job file.now kept.now.came (file_of row)) }
 {
-    Ok(KeptFile {
+    Ok(FileRow {
         customer: String::from_str(alloc, customer)?,
         key: kept.key,
         kind: String::from_str(alloc, kind_word(file.kind))?,

@@ -6,14 +6,14 @@ ghost use Rattle.sqlite.specs.State.{HasCleanDisk, Survives};
 ghost use Rattle.njh_store.specs.Kept.{file_of, record_of, with_file, with_changed, with_record, without_file};
 ghost use Rattle.njh_store.specs.Kept.{without_records};
 ghost use Rattle.njh_store.specs.Shelf.{shown};
-ghost use Rattle.njh_store.specs.Standing.{Standing, Stands};
+ghost use Rattle.njh_store.specs.CommitState.{CommitState, Stands};
 ghost use Rattle.njh_store.specs.Steps.{Changes, Commits};
 ghost use Rattle.njh_kept.specs.code.Writing.{IsTaken, behind_of, freed_by, is_due, left_of, sweep_of, with_replaced};
 ghost use Rattle.njh_kept.specs.code.Writing.{AreBelow, below, emptied_at, free_at, id_behind, is_marked, key_behind};
 ghost use Rattle.njh_kept.specs.code.Writing.{marked_by, shows_kept, shows_now, unmarked, without_keys, without_swept};
 
 use crate::own_files::KeptWhole;
-use njh_store::{KeptFile, KeptRecord, Store, StoredFile};
+use njh_store::{FileRow, RecordRow, Store, StoredFile};
 use sqlite::{Alter, Error, ErrorCode};
 use std::alloc::{AllocError, Global};
 
@@ -130,7 +130,7 @@ impl<S: Alter + Drop> SpoolWriter<S> {
     }
 
     /// Adds a record of a file.
-    pub(crate) fn add_record(&mut self, kept: &KeptRecord<'_>) -> Result<(), Error>
+    pub(crate) fn add_record(&mut self, kept: &RecordRow<'_>) -> Result<(), Error>
         requires { kept.now.place < 2 ^ 23 }
         ensures changed { HasCleanDisk (shown S.Store self.new.store)
             → OnOk result (Changes (with_record (record_of kept.now)) (shown S.Store self.old.store)
@@ -146,7 +146,7 @@ impl<S: Alter + Drop> SpoolWriter<S> {
     }
 
     /// Puts a record in the place of one that was kept.
-    pub(crate) fn replace_record(&mut self, kept: &KeptRecord<'_>) -> Result<(), Error>
+    pub(crate) fn replace_record(&mut self, kept: &RecordRow<'_>) -> Result<(), Error>
         requires { kept.now.place < 2 ^ 23 }
         ensures changed { HasCleanDisk (shown S.Store self.new.store)
             → OnOk result (Changes (with_replaced (record_of kept.now)) (shown S.Store self.old.store)
@@ -163,7 +163,7 @@ impl<S: Alter + Drop> SpoolWriter<S> {
     }
 
     /// Adds a whole file, whose records are kept.
-    pub(crate) fn add_file(&mut self, id: u32, row: &KeptFile) -> Result<(), Error>
+    pub(crate) fn add_file(&mut self, id: u32, row: &FileRow) -> Result<(), Error>
         ensures changed { HasCleanDisk (shown S.Store self.new.store)
             → OnOk result (Changes (with_file id (file_of row.now)) (shown S.Store self.old.store)
             (shown S.Store self.new.store)) }
@@ -175,7 +175,7 @@ impl<S: Alter + Drop> SpoolWriter<S> {
     }
 
     /// Puts a row in the place of a whole file's.
-    pub(crate) fn change_file(&mut self, id: u32, row: &KeptFile) -> Result<(), Error>
+    pub(crate) fn change_file(&mut self, id: u32, row: &FileRow) -> Result<(), Error>
         ensures changed { HasCleanDisk (shown S.Store self.new.store)
             → OnOk result (Changes (with_changed id (file_of row.now)) (shown S.Store self.old.store)
             (shown S.Store self.new.store)) }
@@ -306,7 +306,7 @@ impl<S: Alter + Drop> SpoolWriter<S> {
     /// Begins behind the numbers of these files, which are all. What stands under numbers of no file is dropped, as far
     /// as it is looked for.
     pub(crate) fn begin_numbers(&mut self, files: &[StoredFile]) -> Result<(), Error>
-        ensures begun { HasCleanDisk (shown S.Store self.new.store) → OnOk result ((s : Standing)
+        ensures begun { HasCleanDisk (shown S.Store self.new.store) → OnOk result ((s : CommitState)
             → Stands s (shown S.Store self.old.store) → Stands (shows_kept (without_keys (emptied_at files.now
             (key_behind self.old.next_key files.now))) s) (shown S.Store self.new.store)) }
         ensures numbers { OnOk result ((self.new.next_id ≡ id_behind self.old.next_id files.now)
@@ -337,7 +337,7 @@ impl<S: Alter + Drop> SpoolWriter<S> {
     /// Drops what stands under numbers of none of these files, as far as it is looked for.
     fn empty_others(&mut self, files: &[StoredFile]) -> Result<(), Error>
         requires below { AreBelow files.now self.old.next_key }
-        ensures emptied { HasCleanDisk (shown S.Store self.new.store) → OnOk result ((s : Standing)
+        ensures emptied { HasCleanDisk (shown S.Store self.new.store) → OnOk result ((s : CommitState)
             → Stands s (shown S.Store self.old.store) → Stands (shows_now (without_keys (emptied_at files.now
             self.old.next_key)) s) (shown S.Store self.new.store)) }
         ensures free { OnOk result (self.new.free_keys.items
@@ -356,7 +356,7 @@ impl<S: Alter + Drop> SpoolWriter<S> {
 
     /// Drops what stands under numbers without a mark, up to a few behind those of files.
     fn empty_unmarked(&mut self, marks: &[bool]) -> Result<(), Error>
-        ensures emptied { HasCleanDisk (shown S.Store self.new.store) → OnOk result ((s : Standing)
+        ensures emptied { HasCleanDisk (shown S.Store self.new.store) → OnOk result ((s : CommitState)
             → Stands s (shown S.Store self.old.store) → Stands (shows_now (without_keys (unmarked marks.now
             (min (self.old.next_key + 64) (2 ^ 32 - 1)))) s) (shown S.Store self.new.store)) }
         ensures free { OnOk result (self.new.free_keys.items

@@ -1,7 +1,7 @@
 //! A connection over a socket.
 
 use mio::net::TcpStream;
-use njh_wire::{Connection, ConnectionFault, Received};
+use njh_wire::{Connection, ConnectionFault, ConnectionRead};
 use std::io::{ErrorKind, Read, Write};
 
 /// A connection over a socket whose calls never wait.
@@ -31,11 +31,11 @@ impl Connection for MioConnection {
         self.place
     }
 
-    fn receive(&mut self, into: &mut [u8]) -> Result<Received, ConnectionFault> {
+    fn receive(&mut self, into: &mut [u8]) -> Result<ConnectionRead, ConnectionFault> {
         match self.stream.read(into) {
-            Ok(0) => Ok(Received::Ended),
-            Ok(count) => Ok(Received::Bytes(count)),
-            Err(error) if is_wait(error.kind()) => Ok(Received::Nothing),
+            Ok(0) => Ok(ConnectionRead::Ended),
+            Ok(count) => Ok(ConnectionRead::Bytes(count)),
+            Err(error) if is_wait(error.kind()) => Ok(ConnectionRead::Nothing),
             Err(_) => Err(ConnectionFault),
         }
     }

@@ -29,6 +29,6 @@ pub use last_frame::LastFrame;
 pub use log::Log;
 pub use notice_line::NoticeLine;
 pub use post::LineNames;
-pub use revision::{Notice, Revision};
+pub use revision::{Revision, SourceOutcome};
 pub use table_source::{NoSource, TableSource};
 pub use way::Way;

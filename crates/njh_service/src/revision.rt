@@ -19,7 +19,7 @@ const SECOND: u64 = 1_000;
 
 /// Whether a customer has the routes of the tables that were last taken.
 #[derive(Clone, Copy, Debug, Drop, PartialEq, Eq)]
-enum Standing {
+enum RouteState {
     /// It has them.
     Has,
     /// It is to be given them.
@@ -36,7 +36,7 @@ pub struct Revision<S: TableSource + Drop> {
     source: S,
     tables: Option<Tables>,
     /// How each customer stands.
-    standings: Vec<Standing>,
+    standings: Vec<RouteState>,
     /// The customers before this one don't wait.
     next: usize,
     /// When the source is looked at next.
@@ -54,7 +54,7 @@ impl<S: TableSource + Drop> Model for Revision<S> {
 
 /// What came of a look at a source that changed.
 #[derive(Drop)]
-pub enum Notice<F: Drop> {
+pub enum SourceOutcome<F: Drop> {
     /// It gives no tables.
     Refused(F),
     /// More than routes differs, and this first.
@@ -86,7 +86,7 @@ impl<S: TableSource + Drop> Revision<S> {
     {
         let mut standings = Vec::new(alloc);
         for _customer in tables.customers() {
-            standings.push(Standing::Has)?;
+            standings.push(RouteState::Has)?;
         }
         Ok(Revision {
             alloc,
@@ -106,7 +106,7 @@ impl<S: TableSource + Drop> Revision<S> {
     }
 
     /// Looks at the source, once a second on this clock, and takes its tables where they changed in routes alone.
-    pub fn look(&mut self, now: u64) -> Option<Notice<S::Fault>>
+    pub fn look(&mut self, now: u64) -> Option<SourceOutcome<S::Fault>>
         ensures { AreKept self.old self.new }
     {
         if now < self.moment {
@@ -115,25 +115,29 @@ impl<S: TableSource + Drop> Revision<S> {
         self.moment = now.saturating_add(SECOND);
         match self.source.changed()? {
             Ok(tables) => self.take(tables),
-            Err(fault) => Some(Notice::Refused(fault)),
+            Err(fault) => Some(SourceOutcome::Refused(fault)),
         }
     }
 
     /// Takes new tables, where these differ in routes alone.
-    fn take(&mut self, tables: Tables) -> Option<Notice<S::Fault>>
+    fn take(&mut self, tables: Tables) -> Option<SourceOutcome<S::Fault>>
         ensures { AreKept self.old self.new }
     {
         let Some(known) = &self.tables else {
             return None;
         };
         match difference_of(known, &tables) {
-            Some(difference) => return Some(Notice::Differs(difference)),
+            Some(difference) => return Some(SourceOutcome::Differs(difference)),
             None => {}
         }
         let differ = mark(&mut self.standings, known, &tables);
         self.next = 0;
         self.tables = Some(tables);
-        if differ { None } else { Some(Notice::Same) }
+        if differ {
+            None
+        } else {
+            Some(SourceOutcome::Same)
+        }
     }
 
     /// The routes of the next customer that waits for some. Where there is no memory for them, the customer's number.
@@ -167,9 +171,9 @@ impl<S: TableSource + Drop> Revision<S> {
     {
         match self.standings.get_mut(usize::from(customer)) {
             Some(standing) => *standing = if given {
-                Standing::Has
+                RouteState::Has
             } else {
-                Standing::Lacks
+                RouteState::Lacks
             },
             None => {}
         }
@@ -199,9 +203,9 @@ fn routes_in(
 }
 
 /// The first customer from a place on that waits for routes.
-fn first_waiting(standings: &[Standing], from: usize) -> Option<usize> {
+fn first_waiting(standings: &[RouteState], from: usize) -> Option<usize> {
     for place in from..standings.len() {
-        if standings[place] == Standing::Waits {
+        if standings[place] == RouteState::Waits {
             return Some(place);
         }
     }
@@ -210,11 +214,11 @@ fn first_waiting(standings: &[Standing], from: usize) -> Option<usize> {
 
 /// Marks each customer that has to be given its routes of new tables: those differ from the ones that it has, or it
 /// lacks them. Says whether there is any.
-fn mark(standings: &mut [Standing], known: &Tables, tables: &Tables) -> bool {
+fn mark(standings: &mut [RouteState], known: &Tables, tables: &Tables) -> bool {
     let mut any = false;
     for place in 0..standings.len() {
-        if standings[place] != Standing::Has || differ_at(place, known, tables) {
-            standings[place] = Standing::Waits;
+        if standings[place] != RouteState::Has || differ_at(place, known, tables) {
+            standings[place] = RouteState::Waits;
             any = true;
         }
     }
@@ -229,12 +233,15 @@ fn differ_at(place: usize, known: &Tables, tables: &Tables) -> bool {
     }
 }
 
-impl<F: fmt::Display + Drop> fmt::Display for Notice<F> {
+impl<F: fmt::Display + Drop> fmt::Display for SourceOutcome<F> {
     fn fmt<W: fmt::Write>(&self, f: &mut fmt::Formatter<W>) -> fmt::Result {
         match self {
-            Notice::Refused(fault) => write!(f, "table file: {fault}; nothing changes"),
-            Notice::Differs(difference) => write!(f, "table file: {difference}; nothing changes"),
-            Notice::Same => write!(f, "table file: no new routes"),
+            SourceOutcome::Refused(fault) => write!(f, "table file: {fault}; nothing changes"),
+            SourceOutcome::Differs(difference) => write!(
+                f,
+                "table file: {difference}; nothing changes"
+            ),
+            SourceOutcome::Same => write!(f, "table file: no new routes"),
         }
     }
 }

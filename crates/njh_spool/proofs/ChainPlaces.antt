@@ -7,7 +7,7 @@ use Rattle.slab.specs.Slab.{Slab, get, slab_len, ContainsKey}
 use Rattle.njh_record.specs.Bytes.{field}
 use Rattle.njh_spool.specs.declared.store.block.Block.{Block}
 use Rattle.njh_spool.specs.declared.store.chain_ends.ChainEnds.{ChainEnds}
-use Rattle.njh_spool.specs.declared.store.Store.TheInside.{Inside}
+use Rattle.njh_spool.specs.declared.store.BlockStore.TheInside.{Inside}
 use Rattle.njh_spool.specs.code.Chains.{StoreValue, chain_at, blocks_for, blocks_used}
 use Rattle.njh_spool.specs.code.ChainedBlocks.{link_in, data_in, next_at, keys_from, keys_of, data_of, chains_of}
 use Rattle.njh_spool.specs.code.ChainedBlocks.{IsChained, empty_ends}

@@ -13,7 +13,7 @@ use crate::State;
 use crate::file_id::FileId;
 use crate::file_slot::FileSlot;
 use crate::record_reader::RecordReader;
-use crate::store::Store;
+use crate::store::BlockStore;
 use njh_header::{DataSetHeader, Destination, FileName, JobHeader, User, srcb};
 use njh_record::{Kind, Record};
 
@@ -132,7 +132,7 @@ fn execution_by(job: &Option<JobHeader>) -> Option<Destination>
 
 /// What the headers of a file say of it: its first record and, where it is output, those up to its
 /// first data set header.
-pub fn read_headers(store: &Store, at: u32, slot: &FileSlot) -> KeptHeaders
+pub fn read_headers(store: &BlockStore, at: u32, slot: &FileSlot) -> KeptHeaders
     requires range { at < length store.now.chains }
     requires file { IsFile slot.now (chain_at at store.now) }
     ensures { result ≡ kept_headers slot.now.kind (unpacked_records slot.now.count (chain_at at store.now).bytes) }
@@ -156,7 +156,7 @@ pub fn read_headers(store: &Store, at: u32, slot: &FileSlot) -> KeptHeaders
 
 /// What the headers of a file say of it when its n-th record was rewritten: they are read again,
 /// where it is one of them.
-pub fn headers_behind(store: &Store, at: u32, slot: &FileSlot, n: u32) -> KeptHeaders
+pub fn headers_behind(store: &BlockStore, at: u32, slot: &FileSlot, n: u32) -> KeptHeaders
     requires range { at < length store.now.chains }
     requires file { IsFile slot.now (chain_at at store.now) }
     ensures read { n < slot.now.headers.count → result

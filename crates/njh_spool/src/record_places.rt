@@ -6,7 +6,7 @@ ghost use Rattle.njh_spool.specs.code.Packing.{packed_record, unpacked_records};
 ghost use Rattle.njh_spool.specs.code.Slots.{IsFile, IsPlace};
 
 use crate::file_slot::{FileSlot, KeptPlaces, RecordPlace};
-use crate::store::Store;
+use crate::store::BlockStore;
 use crate::store::chain_block::ChainBlock;
 use byteorder::{BigEndian, ByteOrder};
 use njh_record::Record;
@@ -24,7 +24,7 @@ pub struct Head {
 
 /// Reads the head of the record at a place. `into` is room for it.
 pub fn read_head(
-    store: &Store,
+    store: &BlockStore,
     at: u32,
     slot: &FileSlot,
     from: RecordPlace,
@@ -50,7 +50,7 @@ pub fn read_head(
 
 /// Where the next record begins. `room` is for the head of this one.
 fn place_behind(
-    store: &Store,
+    store: &BlockStore,
     at: u32,
     slot: &FileSlot,
     from: RecordPlace,
@@ -75,7 +75,7 @@ fn place_behind(
 
 /// Where the n-th record begins, looked for from the last of the places that the slot keeps that
 /// isn't behind it.
-pub fn place_of_record(store: &Store, at: u32, slot: &FileSlot, n: u32) -> RecordPlace
+pub fn place_of_record(store: &BlockStore, at: u32, slot: &FileSlot, n: u32) -> RecordPlace
     requires range { at < length store.now.chains }
     requires file { IsFile slot.now (chain_at at store.now) }
     requires within { n < slot.now.count }
@@ -103,7 +103,7 @@ pub fn place_of_record(store: &Store, at: u32, slot: &FileSlot, n: u32) -> Recor
 /// Puts the bytes of the record at a place into `into`, and gives its SRCB and where the next
 /// record begins.
 pub fn read_record(
-    store: &Store,
+    store: &BlockStore,
     at: u32,
     slot: &FileSlot,
     from: RecordPlace,

@@ -8,7 +8,7 @@ ghost use Rattle.njh_spool.specs.code.Slots.{IsFile};
 
 use crate::file_slot::{FileSlot, RecordPlace};
 use crate::record_places::read_record;
-use crate::store::Store;
+use crate::store::BlockStore;
 use njh_record::Record;
 use std::marker::Model;
 
@@ -16,7 +16,7 @@ use std::marker::Model;
 /// the records that are left.
 #[derive(Drop)]
 pub struct RecordReader<'a> {
-    store: &'a Store,
+    store: &'a BlockStore,
     /// Where the file's string is in the store.
     at: u32,
     slot: FileSlot,
@@ -38,7 +38,7 @@ impl<'a> Model for RecordReader<'a> {
 
 impl<'a> RecordReader<'a> {
     /// All records of a file.
-    pub(crate) fn of(store: &'a Store, at: u32, slot: FileSlot) -> Self
+    pub(crate) fn of(store: &'a BlockStore, at: u32, slot: FileSlot) -> Self
         requires range { at < length store.now.chains }
         requires file { IsFile slot (chain_at at store.now) }
         ensures { result ≡ unpacked_records slot.count (chain_at at store.now).bytes }

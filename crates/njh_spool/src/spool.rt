@@ -20,7 +20,7 @@ use crate::file_id::FileId;
 use crate::file_slots::FileSlots;
 use crate::quota::Quota;
 use crate::slot_places::slot_at;
-use crate::store::Store;
+use crate::store::BlockStore;
 use njh_table::MAX_FILES;
 use std::alloc::Global;
 use std::marker::Model;
@@ -28,7 +28,7 @@ use std::marker::Model;
 /// Each customer's files, under its quota. Customers are told by their number, from 0 on.
 #[derive(Drop)]
 pub struct Spool {
-    store: Store,
+    store: BlockStore,
     slots: FileSlots,
     customers: Vec<CustomerFiles>,
 }
@@ -70,7 +70,7 @@ impl Spool {
         ensures memory { IsOkUnless result SpoolFault.Memory }
     {
         let slot_count = MAX_FILES * quotas.len() as u32;
-        let store = Store::open(alloc, blocks_of_all(quotas), slot_count)?;
+        let store = BlockStore::open(alloc, blocks_of_all(quotas), slot_count)?;
         let slots = FileSlots::open(alloc, quotas.len() as u32)?;
         let customers = open_all(alloc, quotas)?;
         Ok(Spool {

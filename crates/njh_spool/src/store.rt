@@ -26,13 +26,13 @@ use std::marker::Model;
 
 /// The strings of all chains.
 #[derive(Drop)]
-pub struct Store {
+pub struct BlockStore {
     blocks: Slab<Block>,
     chains: Vec<ChainEnds>,
     capacity: u32,
 }
 
-impl Model for Store {
+impl Model for BlockStore {
     ghost use Rattle.njh_spool.specs.code.Chains.{StoreValue};
     ghost use Rattle.njh_spool.specs.code.ChainedBlocks.{chains_of, IsChained};
 
@@ -43,7 +43,7 @@ impl Model for Store {
     ghost invariant = { λ s. IsChained s.blocks s.chains.items s.capacity };
 }
 
-impl Store {
+impl BlockStore {
     /// A store of so many blocks and chains, with an empty string in each chain.
     pub fn open(alloc: Global, capacity: u32, chains: u32) -> Result<Self, AllocError>
         requires { capacity ≤ max_capacity }
@@ -54,7 +54,7 @@ impl Store {
             return Err(AllocError);
         }
         let chains = empty_chains(alloc, chains)?;
-        Ok(Store {
+        Ok(BlockStore {
             blocks,
             chains,
             capacity,

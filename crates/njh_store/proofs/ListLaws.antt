@@ -8,7 +8,7 @@ use Rattle.std.proofs.lemmas.List.{map-append}
 use Rattle.std.proofs.lemmas.List.Elements.{filter-append}
 use Rattle.std.proofs.lemmas.Bool.Decides.{nat_tests}
 use Rattle.sqlite_keyed.proofs.ListLemmas.{filter-map, map-map, map_same}
-use Rattle.njh_store.specs.Kept.{File, Record, Spool, Whole, Rise, IsNumbered, put, without, kept, whole_in, contents, record_number, with_file, with_changed, with_record, without_file, without_records}
+use Rattle.njh_store.specs.Kept.{File, Record, SpoolContents, Whole, Rise, IsNumbered, put, without, kept, whole_in, contents, record_number, with_file, with_changed, with_record, without_file, without_records}
 use Rattle.njh_store.specs.Lists.{IsFree, has_file, kept_where}
 use Rattle.njh_store.proofs.Rows.{same, above}
 
@@ -18,10 +18,10 @@ put_last id x (e ∷ es) all =
     let less : nat_cmp e.0 id ≡ Less = grind (arith, nat_tests, all.0) in
     ap (λ o. match_ordering o (e ∷ put (id, x) es) ((id, x) ∷ es) ((id, x) ∷ e ∷ es)) less ∙ ap (λ ys. e ∷ ys) (put_last id x es all.1)
 
-pub comes_last : (id : ℕ) (file : File) (spool : Spool) → AllByRecursion (λ e. e.0 < id) spool.files → kept (with_file id file spool) ≡ kept spool ++ whole_in spool (id, file) ∷ []
+pub comes_last : (id : ℕ) (file : File) (spool : SpoolContents) → AllByRecursion (λ e. e.0 < id) spool.files → kept (with_file id file spool) ≡ kept spool ++ whole_in spool (id, file) ∷ []
 comes_last id file spool all = ap (map (whole_in spool)) (put_last id file spool.files all) ∙ map-append (whole_in spool) spool.files ((id, file) ∷ [])
 
-pub leaves : (id : ℕ) (spool : Spool) → kept (without_file id spool) ≡ filter (λ w. not (w.id == id)) (kept spool)
+pub leaves : (id : ℕ) (spool : SpoolContents) → kept (without_file id spool) ≡ filter (λ w. not (w.id == id)) (kept spool)
 leaves id spool = sym (filter-map (λ (w : Whole). not (w.id == id)) (whole_in spool) spool.files)
 
 equal : (n : ℕ) → (n == n) ≡ true
@@ -55,7 +55,7 @@ module _ (P : ℕ × File → Type 0) (f g : ℕ × File → Whole) (alike : (e 
 whole_as : (id : ℕ) (file : File) (one two : List (ℕ × Record)) → one ≡ two → ◌≡◌ {A = Whole} (record { id = id; file = file; records = map contents one }) (record { id = id; file = file; records = map contents two })
 whole_as id file one two same = ap (λ (rs : List (ℕ × Record)). record { id = id; file = file; records = map contents rs }) same
 
-pub added_in_part : (r : Record) (spool : Spool) → AllByRecursion IsNumbered spool.records → r.place < 2 ^ 23 → IsFree r.key spool → kept (with_record r spool) ≡ kept spool
+pub added_in_part : (r : Record) (spool : SpoolContents) → AllByRecursion IsNumbered spool.records → r.place < 2 ^ 23 → IsFree r.key spool → kept (with_record r spool) ≡ kept spool
 added_in_part r spool numbered low free =
     map_alike (λ e. e.1.key ≢ r.key) (whole_in (with_record r spool)) (whole_in spool)
     (λ e other. whole_as e.0 e.1 _ _ (skips e.1.key r low (λ h. other (sym h)) spool.records numbered)) spool.files free
@@ -80,7 +80,7 @@ module _ (k key first end : ℕ) (within : end ≤ 2 ^ 23) (other : k ≢ key) w
       split true is rest = rest ∙ sym (ap (λ c. cond c (e ∷ filter (λ x. x.1.key == k) es) (filter (λ x. x.1.key == k) es)) (no (e.1.key == k) refl is))
       split false is rest = ap (λ ys. cond (e.1.key == k) (e ∷ ys) ys) rest
 
-pub dropped_in_part : (key first end : ℕ) (spool : Spool) → AllByRecursion IsNumbered spool.records → end ≤ 2 ^ 23 → IsFree key spool → kept (without_records key first end spool) ≡ kept spool
+pub dropped_in_part : (key first end : ℕ) (spool : SpoolContents) → AllByRecursion IsNumbered spool.records → end ≤ 2 ^ 23 → IsFree key spool → kept (without_records key first end spool) ≡ kept spool
 dropped_in_part key first end spool numbered within free =
     map_alike (λ e. e.1.key ≢ key) (whole_in (without_records key first end spool)) (whole_in spool)
     (λ e other. whole_as e.0 e.1 _ _ (stays e.1.key key first end within other spool.records numbered)) spool.files free
@@ -122,7 +122,7 @@ module _ (r : Record) (low : r.place < 2 ^ 23) where
           let none = none_after (e ∷ es) numbered lower (up_here, above_all e.0 es up_here up.0) in
           rw (equal r.key, none) refl
 
-pub others_stay : (passes : File → Bool) (id : ℕ) (file : File) (spool : Spool) → AllByRecursion (λ e. e.0 < id) spool.files → passes file ≡ false → kept_where passes (with_file id file spool) ≡ kept_where passes spool
+pub others_stay : (passes : File → Bool) (id : ℕ) (file : File) (spool : SpoolContents) → AllByRecursion (λ e. e.0 < id) spool.files → passes file ≡ false → kept_where passes (with_file id file spool) ≡ kept_where passes spool
 others_stay passes id file spool all fails =
     ap (filter (λ w. passes w.file)) (comes_last id file spool all)
     ∙ filter-append (λ (w : Whole). passes w.file) (kept spool) (whole_in spool (id, file) ∷ [])
@@ -166,11 +166,11 @@ module _ {X : Type 0} (id : ℕ) (x : X) where
           let low : nat_cmp e.0 id ≡ Less = grind (arith, nat_tests, under e.0 es up.0 more) in
           rw (is, low) (ap (λ ys. e ∷ ys) (later more))
 
-whole_either : (spool : Spool) (b : Bool) (new e : ℕ × File) → whole_in spool (cond b new e) ≡ cond b (whole_in spool new) (whole_in spool e)
+whole_either : (spool : SpoolContents) (b : Bool) (new e : ℕ × File) → whole_in spool (cond b new e) ≡ cond b (whole_in spool new) (whole_in spool e)
 whole_either spool true new e = refl
 whole_either spool false new e = refl
 
-pub keeps_place : (id : ℕ) (file : File) (spool : Spool) → Rise spool.files → has_file id spool ≡ true → kept (with_changed id file spool) ≡ map (λ w. if w.id == id then whole_in spool (id, file) else w) (kept spool)
+pub keeps_place : (id : ℕ) (file : File) (spool : SpoolContents) → Rise spool.files → has_file id spool ≡ true → kept (with_changed id file spool) ≡ map (λ w. if w.id == id then whole_in spool (id, file) else w) (kept spool)
 keeps_place id file spool up has =
     ap (map (whole_in spool)) (in_place id file spool.files up has)
     ∙ map-map (whole_in spool) (λ (e : ℕ × File). cond (e.0 == id) (id, file) e) spool.files

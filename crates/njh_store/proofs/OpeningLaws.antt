@@ -5,10 +5,10 @@ use Rattle.sqlite.specs.State.{State, HasCleanDisk, IsLive, Opens}
 use Rattle.sqlite.specs.Start.{FindsIn}
 use Rattle.sqlite.specs.Recovery.{Image}
 use Rattle.sqlite_catalog.specs.Listing.{IsSound}
-use Rattle.njh_store.specs.Kept.{Spool, Holds}
+use Rattle.njh_store.specs.Kept.{SpoolContents, Holds}
 use Rattle.njh_store.specs.Origin.{IsFoundIn}
 use Rattle.njh_store.specs.Reopened.{BecomesSpool, OpensFrom}
-use Rattle.njh_store.specs.Standing.{Stands}
+use Rattle.njh_store.specs.CommitState.{Stands}
 use Rattle.njh_store.specs.Steps.{IsIdle}
 use Rattle.njh_store.specs.Tables.{spool_schema}
 
@@ -30,7 +30,7 @@ module _ (image : Image) (was now : State) (opens : HasCleanDisk was → Opens w
         ];
       }
 
-  pub stands_as_found : HasCleanDisk now → (spool : Spool) → IsFoundIn image spool → Stands (record { now = spool; kept = spool }) now
+  pub stands_as_found : HasCleanDisk now → (spool : SpoolContents) → IsFoundIn image spool → Stands (record { now = spool; kept = spool }) now
   stands_as_found clean spool found =
       let idle = it.idle clean in
       let sound : IsSound spool_schema now.now.trees = subst (λ s. IsSound s now.now.trees) idle.schema (it.live idle.is_open).0 in

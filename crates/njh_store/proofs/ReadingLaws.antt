@@ -17,7 +17,7 @@ use Rattle.sqlite.specs.Term.{col}
 use Rattle.sqlite.specs.Listing.{understood}
 use Rattle.sqlite.proofs.Callers.{reads_as, never_commits, IsPlain}
 use Rattle.sqlite_typed.proofs.AnswerLemmas.{answer_by_keys, last_table, at_end, unfiltered}
-use Rattle.njh_store.specs.Kept.{Spool, Record, IsNumbered, Holds, file_row, file_shown, record_row, record_shown, record_number, records_between}
+use Rattle.njh_store.specs.Kept.{SpoolContents, Record, IsNumbered, Holds, file_row, file_shown, record_row, record_shown, record_number, records_between}
 use Rattle.njh_store.specs.Tables.{spool_schema}
 use Rattle.sqlite.specs.Effect.{Database}
 use Rattle.njh_store.specs.Steps.{Begins, Changes, Stays}
@@ -28,7 +28,7 @@ use Rattle.njh_store.proofs.Runs.{is_between_is}
 by_id : (m n : ℕ) → ordering_then (value_cmp (Int (pos m)) (Int (pos n))) Equal ≡ int_cmp (pos m) (pos n)
 by_id m n = then-Equal (value_cmp (Int (pos m)) (Int (pos n))) ∙ value_cmp-Int (pos m) (pos n)
 
-pub files_are : (old new : State) (rows : List Row) (spool : Spool) → old.now.schema ≡ spool_schema → Holds spool old.now.trees → Shown select_files [] old new rows → rows ≡ map file_shown spool.files
+pub files_are : (old new : State) (rows : List Row) (spool : SpoolContents) → old.now.schema ≡ spool_schema → Holds spool old.now.trees → Shown select_files [] old new rows → rows ≡ map file_shown spool.files
 files_are old new rows spool has held h =
     let read = reads_as select_files [] old new spool_schema has (Select (record { lets = []; body = by_rowid 1 [] file_terms_shown }) file_names) select_files_is.0 select_files_plain select_files_is.1 rows h in
     let db = overlay old.now.trees [] in
@@ -36,7 +36,7 @@ files_are old new rows spool has held h =
     sym (map-id rows) ∙ answer_by_keys (by_rowid 1 [] file_terms_shown) db [] source (λ _. true) (λ _. refl) (λ r. r) file_shown (λ _. refl) refl refl (λ a b. by_id a.0 b.0) rows (read.answer Null)
     ∙ ap (map file_shown) (unfiltered spool.files refl)
 
-pub records_are : (old new : State) (key first end : ℕ) (rows : List Row) (spool : Spool) → old.now.schema ≡ spool_schema → Holds spool old.now.trees
+pub records_are : (old new : State) (key first end : ℕ) (rows : List Row) (spool : SpoolContents) → old.now.schema ≡ spool_schema → Holds spool old.now.trees
     → Shown select_records (Int (pos (record_number key first)) ∷ Int (pos (record_number key end)) ∷ []) old new rows → rows ≡ map record_shown (records_between key first end spool)
 records_are old new key first end rows spool has held h =
     let low = record_number key first in
@@ -51,7 +51,7 @@ records_are old new key first end rows spool has held h =
 abbrev shown_version : ℕ → Row
 shown_version n = Int (pos n) ∷ []
 
-pub version_is : (old new : State) (rows : List Row) (spool : Spool) → old.now.schema ≡ spool_schema → Holds spool old.now.trees → Shown select_version [] old new rows → rows ≡ (Int (pos 1) ∷ []) ∷ []
+pub version_is : (old new : State) (rows : List Row) (spool : SpoolContents) → old.now.schema ≡ spool_schema → Holds spool old.now.trees → Shown select_version [] old new rows → rows ≡ (Int (pos 1) ∷ []) ∷ []
 version_is old new rows spool has held h =
     let read = reads_as select_version [] old new spool_schema has (Select (record { lets = []; body = by_rowid 0 [] (col 1 0 ∷ []) }) _) select_version_is.0 select_version_plain select_version_is.1 rows h in
     let db = overlay old.now.trees [] in
@@ -83,7 +83,7 @@ pub ok_then : {T E : Type 0} (r : Result T E) (P Q : Type 0) → (P → Q) → O
 ok_then (Ok x) P Q f h = f h
 ok_then (Err e) P Q f h = tt
 
-pub begun_then : (change : Spool → Spool) (a b c : State) → Begins a b → Changes change b c → Changes change a c
+pub begun_then : (change : SpoolContents → SpoolContents) (a b c : State) → Begins a b → Changes change b c → Changes change a c
 begun_then change a b c begun h = record {
   is_open = h.is_open;
   schema = h.schema;
@@ -92,7 +92,7 @@ begun_then change a b c begun h = record {
   holds = λ spool held. h.holds spool (subst (λ (d : Database). Holds spool d.trees) (sym begun.now) held);
 }
 
-pub changes_then : (f g : Spool → Spool) (a b c : State) → Changes f a b → Changes g b c → Changes (λ spool. g (f spool)) a c
+pub changes_then : (f g : SpoolContents → SpoolContents) (a b c : State) → Changes f a b → Changes g b c → Changes (λ spool. g (f spool)) a c
 changes_then f g a b c p q = record {
   is_open = q.is_open;
   schema = q.schema;

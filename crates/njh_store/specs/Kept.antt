@@ -8,8 +8,8 @@ use Rattle.sqlite_value.specs.Order.{Row, column}
 use Rattle.sqlite_trees.specs.Tree.{Trees, IsAscending}
 use Rattle.sqlite_catalog.specs.Listing.{IsSound}
 use Rattle.njh_store.specs.Tables.{spool_schema}
-use Rattle.njh_store.specs.declared.kept.KeptFile.{KeptFile}
-use Rattle.njh_store.specs.declared.kept.KeptRecord.{KeptRecord}
+use Rattle.njh_store.specs.declared.kept.FileRow.{FileRow}
+use Rattle.njh_store.specs.declared.kept.RecordRow.{RecordRow}
 use Rattle.njh_store.specs.declared.kept.StoredFile.{StoredFile}
 use Rattle.njh_store.specs.declared.kept.StoredRecord.{StoredRecord}
 
@@ -37,14 +37,14 @@ pub record Record : Type 0 where
   pub bytes : List ℕ
 
 -- files by the order of their arrival, and records by file and place, each under its number, which rises
-pub record Spool : Type 0 where
+pub record SpoolContents : Type 0 where
   pub files : List (ℕ × File)
   pub records : List (ℕ × Record)
 
-abbrev pub no_files : Spool
+abbrev pub no_files : SpoolContents
 no_files = record { files = []; records = [] }
 
-abbrev pub file_of : KeptFile → File
+abbrev pub file_of : FileRow → File
 file_of f = record {
   customer = string_bytes f.customer;
   key = f.key;
@@ -61,7 +61,7 @@ file_of f = record {
   came = f.came;
 }
 
-abbrev pub record_of : KeptRecord → Record
+abbrev pub record_of : RecordRow → Record
 record_of r = record { key = r.key; place = r.place; srcb = r.srcb; bytes = r.bytes.now }
 
 abbrev pub flag : Bool → ℤ
@@ -101,21 +101,21 @@ put new (e ∷ es) = match_ordering (nat_cmp e.0 new.0) (e ∷ put new es) (new 
 abbrev pub without : {X : Type 0} → (ℕ → Bool) → List (ℕ × X) → List (ℕ × X)
 without passes = filter (λ e. not (passes e.0))
 
-abbrev pub with_file : ℕ → File → Spool → Spool
+abbrev pub with_file : ℕ → File → SpoolContents → SpoolContents
 with_file id file spool = record spool { files = put (id, file) spool.files }
 
-abbrev pub with_record : Record → Spool → Spool
+abbrev pub with_record : Record → SpoolContents → SpoolContents
 with_record r spool = record spool { records = put (record_number r.key r.place, r) spool.records }
 
-abbrev pub without_file : ℕ → Spool → Spool
+abbrev pub without_file : ℕ → SpoolContents → SpoolContents
 without_file id spool = record spool { files = without (λ n. n == id) spool.files }
 
 -- the file of this number is this one now
-abbrev pub with_changed : ℕ → File → Spool → Spool
+abbrev pub with_changed : ℕ → File → SpoolContents → SpoolContents
 with_changed id file spool = with_file id file (without_file id spool)
 
 -- the records of a file at places from first on and before end are gone
-abbrev pub without_records : ℕ → ℕ → ℕ → Spool → Spool
+abbrev pub without_records : ℕ → ℕ → ℕ → SpoolContents → SpoolContents
 without_records key first end spool = record spool {
   records = without
       (λ n. nat_le (record_number key first) n && nat_lt n (record_number key end)) spool.records;
@@ -138,7 +138,7 @@ abbrev pub AreVersions : List Row → Type 0
 AreVersions rows = (row : Row) × (rows ≡ row ∷ []) × (0 < length row) × (column row 0 ≡ Int (pos 1))
 
 -- the trees are a spool file's, and hold the spool
-pub record Holds (spool : Spool) (trees : Trees) : Type 0 where
+pub record Holds (spool : SpoolContents) (trees : Trees) : Type 0 where
   pub sound : IsSound spool_schema trees
   pub version : trees 0 ≡ version_row ∷ []
   pub files : trees 1 ≡ map file_row spool.files
@@ -171,12 +171,12 @@ abbrev pub contents : ℕ × Record → ℕ × ℕ × List ℕ
 contents e = (e.1.place, e.1.srcb, e.1.bytes)
 
 -- the records of a file at places from first on and before end
-abbrev pub records_between : ℕ → ℕ → ℕ → Spool → List (ℕ × Record)
+abbrev pub records_between : ℕ → ℕ → ℕ → SpoolContents → List (ℕ × Record)
 records_between key first end spool = filter
     (λ e. nat_le (record_number key first) e.0 && nat_lt e.0 (record_number key end)) spool.records
 
 -- the records of the file of this key, in the order of their places
-abbrev pub records_of : ℕ → Spool → List (ℕ × Record)
+abbrev pub records_of : ℕ → SpoolContents → List (ℕ × Record)
 records_of key spool = filter (λ e. e.1.key == key) spool.records
 
 -- a whole file: its place in the order of arrival, its headers, and place, SRCB and bytes of each record
@@ -185,9 +185,9 @@ pub record Whole : Type 0 where
   pub file : File
   pub records : List (ℕ × ℕ × List ℕ)
 
-abbrev pub whole_in : Spool → ℕ × File → Whole
+abbrev pub whole_in : SpoolContents → ℕ × File → Whole
 whole_in spool e = record { id = e.0; file = e.1; records = map contents (records_of e.1.key spool) }
 
 -- what a spool has: its whole files in the order of their arrival, each with its records in their order
-abbrev pub kept : Spool → List Whole
+abbrev pub kept : SpoolContents → List Whole
 kept spool = map (whole_in spool) spool.files

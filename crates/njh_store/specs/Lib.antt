@@ -3,6 +3,6 @@ pub mod Lists
 pub mod Origin
 pub mod Reopened
 pub mod Shelf
-pub mod Standing
+pub mod CommitState
 pub mod Steps
 pub mod Tables

@@ -3,7 +3,7 @@ use Rattle.std.specs.Prelude.{◌≡◌, ℕ, true, false, IsTrue, []}
 use Rattle.sqlite.specs.State.{State, HasCleanDisk}
 use Rattle.sqlite.specs.Schema.{Schema}
 use Rattle.sqlite_catalog.specs.Change.{KeepsRows}
-use Rattle.njh_store.specs.Kept.{Spool, Holds, no_files}
+use Rattle.njh_store.specs.Kept.{SpoolContents, Holds, no_files}
 use Rattle.njh_store.specs.Tables.{spool_schema}
 
 -- the connection's file has the spool's tables, as far as the disk told the truth
@@ -22,12 +22,12 @@ pub record Begins (old new : State) : Type 0 where
   pub waits : new.in_transaction ≡ true
 
 -- a change that waits for the commit
-pub record Changes (change : Spool → Spool) (old new : State) : Type 0 where
+pub record Changes (change : SpoolContents → SpoolContents) (old new : State) : Type 0 where
   pub is_open : IsTrue new.is_open
   pub schema : new.now.schema ≡ spool_schema
   pub waits : new.in_transaction ≡ true
   pub committed : new.committed ≡ old.committed
-  pub holds : (spool : Spool) → Holds spool old.now.trees → Holds (change spool) new.now.trees
+  pub holds : (spool : SpoolContents) → Holds spool old.now.trees → Holds (change spool) new.now.trees
 
 -- what waited is kept
 pub record Commits (old new : State) : Type 0 where

@@ -9,8 +9,8 @@ ghost use Rattle.sqlite.specs.WalFiles.{image_at};
 ghost use Rattle.sqlite.specs.Recovery.{Image};
 ghost use Rattle.njh_store.specs.Reopened.{BecomesSpool, OpensFrom};
 ghost use Rattle.njh_store.specs.Origin.{IsFoundIn};
-ghost use Rattle.njh_store.specs.Kept.{Spool};
-ghost use Rattle.njh_store.specs.Standing.{Stands};
+ghost use Rattle.njh_store.specs.Kept.{SpoolContents};
+ghost use Rattle.njh_store.specs.CommitState.{Stands};
 ghost use Rattle.njh_store.specs.Shelf.{shown};
 ghost use Rattle.njh_store.specs.Steps.{IsIdle};
 
@@ -73,7 +73,7 @@ fn opened<S: Alter + Drop>(
     ensures idle { IfOk result (λ store. HasCleanDisk (shown S.Store store) → IsIdle (shown S.Store store)) }
     ensures stands { (image : Image) → IfOk conn (λ conn. HasCleanDisk (state S.Store conn)
         → FindsIn image (state S.Store conn)) → IfOk result (λ store. HasCleanDisk (shown S.Store store)
-        → (spool : Spool) → IsFoundIn image spool
+        → (spool : SpoolContents) → IsFoundIn image spool
         → Stands (record { now = spool; kept = spool }) (shown S.Store store)) }
     ensures works { IfOk result (λ store. store.failed ≡ false) }
 {
@@ -93,7 +93,7 @@ impl<S: Start> Store<FileStore<FileFrom<S>>> {
         ensures opened { IfOk result (λ store. HasCleanDisk (file_state store.conn)
             → OpensFrom (image_at S.Start) (file_state store.conn).now.trees) }
         ensures idle { IfOk result (λ store. HasCleanDisk (file_state store.conn) → IsIdle (file_state store.conn)) }
-        ensures stands { IfOk result (λ store. HasCleanDisk (file_state store.conn) → (spool : Spool)
+        ensures stands { IfOk result (λ store. HasCleanDisk (file_state store.conn) → (spool : SpoolContents)
             → IsFoundIn (image_at S.Start) spool
             → Stands (record { now = spool; kept = spool }) (file_state store.conn)) }
         ensures works { IfOk result (λ store. store.failed ≡ false) }

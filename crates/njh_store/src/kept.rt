@@ -9,7 +9,7 @@ use sqlite::types::ValueRef;
 
 /// A whole file without its records. Names are in characters, as users see them.
 #[derive(Debug, Drop)]
-pub struct KeptFile {
+pub struct FileRow {
     /// The customer's name in the table file.
     pub customer: String,
     /// The number under which its records were added, which is no other file's.
@@ -40,7 +40,7 @@ pub struct KeptFile {
 
 /// A record of the file of this key, at its place from 0 on.
 #[derive(Debug, Drop)]
-pub struct KeptRecord<'a> {
+pub struct RecordRow<'a> {
     /// The file's key.
     pub key: u32,
     /// Its place in the file, below 8,388,608.
@@ -57,7 +57,7 @@ pub struct StoredFile {
     /// The number.
     pub id: u32,
     /// What is known of it.
-    pub file: KeptFile,
+    pub file: FileRow,
 }
 
 /// A record as it is read back.
@@ -72,7 +72,7 @@ pub struct StoredRecord {
 }
 
 /// The values of a file's row, in the order of the columns.
-pub(crate) fn values_of_file(id: u32, file: &KeptFile) -> [ValueRef<'_>; 14]
+pub(crate) fn values_of_file(id: u32, file: &FileRow) -> [ValueRef<'_>; 14]
     ensures { bound result ≡ file_values id (file_of file.now) }
 {
     [
@@ -102,7 +102,7 @@ pub(crate) fn number_of_record(key: u32, place: u32) -> i64
 }
 
 /// The values of a record's row, in the order of the columns.
-pub(crate) fn values_of_record<'a>(kept: &KeptRecord<'a>) -> [ValueRef<'a>; 5]
+pub(crate) fn values_of_record<'a>(kept: &RecordRow<'a>) -> [ValueRef<'a>; 5]
     requires { kept.now.place < 2 ^ 23 }
     ensures { bound result ≡ record_values (record_number kept.now.key kept.now.place) (record_of kept.now) }
 {

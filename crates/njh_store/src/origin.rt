@@ -4,10 +4,10 @@ use sqlite::{Alter, FileFrom, FileStore, Start};
 
 /// A store whose files were opened: which spool they held then. Nobody knows it but a proof.
 pub trait Origin: Alter {
-    ghost use Rattle.njh_store.specs.Kept.{Spool};
+    ghost use Rattle.njh_store.specs.Kept.{SpoolContents};
 
     /// Its files held this spool, or were made then and hold none.
-    ghost found: { Spool → Type 0 };
+    ghost found: { SpoolContents → Type 0 };
 }
 
 impl<S: Start> Origin for FileStore<FileFrom<S>> {

@@ -7,11 +7,11 @@ ghost use Rattle.sqlite_value.specs.declared.value.Value.TheVariants.{Int, Text,
 ghost use Rattle.sqlite.specs.Order.{column};
 ghost use Rattle.sqlite.specs.State.{HasCleanDisk, Survives, Shown};
 ghost use Rattle.sqlite.specs.Held.{state};
-ghost use Rattle.njh_store.specs.Kept.{Spool, Holds, File, Record, file_shown, record_shown, flag, entry_of};
+ghost use Rattle.njh_store.specs.Kept.{SpoolContents, Holds, File, Record, file_shown, record_shown, flag, entry_of};
 ghost use Rattle.njh_store.specs.Kept.{AreVersions, contents_of, contents, records_between};
 ghost use Rattle.njh_store.specs.Steps.{IsReady, Stays};
 
-use crate::kept::{KeptFile, StoredFile, StoredRecord, values_of_places};
+use crate::kept::{FileRow, StoredFile, StoredRecord, values_of_places};
 use sqlite::types::ValueRef;
 use sqlite::{Alter, Connection, Error, Row};
 use std::alloc::Global;
@@ -69,7 +69,7 @@ fn file_in(row: &Row) -> Result<StoredFile, Error>
     let owner_user = text_at(row, 7)?;
     let to_node = text_at(row, 8)?;
     let to_user = text_at(row, 9)?;
-    let file = KeptFile {
+    let file = FileRow {
         customer,
         key,
         kind,
@@ -111,7 +111,7 @@ fn records_in(alloc: Global, rows: &[Row]) -> Result<Vec<StoredRecord>, Error>
 
 fn rows_of_files<S: Alter>(conn: &mut Connection<S>) -> Result<Vec<Row>, Error>
     requires ready { IsReady (state S.Store conn.old) }
-    ensures rows { HasCleanDisk (state S.Store conn.new) → IfOk result (λ rows. (spool : Spool)
+    ensures rows { HasCleanDisk (state S.Store conn.new) → IfOk result (λ rows. (spool : SpoolContents)
         → Holds spool (state S.Store conn.old).now.trees → rows.items ≡ map file_shown spool.files) }
     ensures same { HasCleanDisk (state S.Store conn.new) → OnOk result (Stays (state S.Store conn.old)
         (state S.Store conn.new)) }
@@ -132,7 +132,7 @@ fn rows_of_records<S: Alter>(
 ) -> Result<Vec<Row>, Error>
     requires ready { IsReady (state S.Store conn.old) }
     requires places { (first ≤ 2 ^ 23) × (end ≤ 2 ^ 23) }
-    ensures rows { HasCleanDisk (state S.Store conn.new) → IfOk result (λ rows. (spool : Spool)
+    ensures rows { HasCleanDisk (state S.Store conn.new) → IfOk result (λ rows. (spool : SpoolContents)
         → Holds spool (state S.Store conn.old).now.trees → rows.items
         ≡ map record_shown (records_between key first end spool)) }
     ensures same { HasCleanDisk (state S.Store conn.new) → OnOk result (Stays (state S.Store conn.old)
@@ -149,7 +149,7 @@ fn rows_of_records<S: Alter>(
 /// All whole files, in the order of arrival.
 pub fn files<S: Alter>(alloc: Global, conn: &mut Connection<S>) -> Result<Vec<StoredFile>, Error>
     requires ready { IsReady (state S.Store conn.old) }
-    ensures files { HasCleanDisk (state S.Store conn.new) → IfOk result (λ stored. (spool : Spool)
+    ensures files { HasCleanDisk (state S.Store conn.new) → IfOk result (λ stored. (spool : SpoolContents)
         → Holds spool (state S.Store conn.old).now.trees → map entry_of stored.items ≡ spool.files) }
     ensures same { HasCleanDisk (state S.Store conn.new) → OnOk result (Stays (state S.Store conn.old)
         (state S.Store conn.new)) }
@@ -169,7 +169,7 @@ pub fn records<S: Alter>(
 ) -> Result<Vec<StoredRecord>, Error>
     requires ready { IsReady (state S.Store conn.old) }
     requires places { (first ≤ 2 ^ 23) × (end ≤ 2 ^ 23) }
-    ensures records { HasCleanDisk (state S.Store conn.new) → IfOk result (λ stored. (spool : Spool)
+    ensures records { HasCleanDisk (state S.Store conn.new) → IfOk result (λ stored. (spool : SpoolContents)
         → Holds spool (state S.Store conn.old).now.trees → map contents_of stored.items
         ≡ map contents (records_between key first end spool)) }
     ensures same { HasCleanDisk (state S.Store conn.new) → OnOk result (Stays (state S.Store conn.old)
@@ -182,7 +182,7 @@ pub fn records<S: Alter>(
 
 fn rows_of_versions<S: Alter>(conn: &mut Connection<S>) -> Result<Vec<Row>, Error>
     requires ready { IsReady (state S.Store conn.old) }
-    ensures rows { HasCleanDisk (state S.Store conn.new) → IfOk result (λ rows. (spool : Spool)
+    ensures rows { HasCleanDisk (state S.Store conn.new) → IfOk result (λ rows. (spool : SpoolContents)
         → Holds spool (state S.Store conn.old).now.trees → rows.items ≡ (Int (pos 1) ∷ []) ∷ []) }
     ensures shown { HasCleanDisk (state S.Store conn.new) → IfOk result
         (λ rows. Shown (codes "SELECT version FROM spool ORDER BY version") [] (state S.Store conn.old)
@@ -215,7 +215,7 @@ fn are_versions(rows: &[Row]) -> bool
 /// Whether the spool's version is the one that is read and written here.
 pub(crate) fn has_version<S: Alter>(conn: &mut Connection<S>) -> Result<bool, Error>
     requires ready { IsReady (state S.Store conn.old) }
-    ensures version { HasCleanDisk (state S.Store conn.new) → IfOk result (λ same. (spool : Spool)
+    ensures version { HasCleanDisk (state S.Store conn.new) → IfOk result (λ same. (spool : SpoolContents)
         → Holds spool (state S.Store conn.old).now.trees → IsTrue same) }
     ensures other { HasCleanDisk (state S.Store conn.new) → IfOk result (λ same. (rows : List (List Value))
         × Shown (codes "SELECT version FROM spool ORDER BY version") [] (state S.Store conn.old)

@@ -9,7 +9,7 @@ ghost use Rattle.njh_store.specs.Tables.{spool_schema};
 ghost use Rattle.njh_store.specs.Steps.{IsWriting, Begins, Changes, Commits};
 
 use crate::kept::{
-    KeptFile, KeptRecord, values_of_file, values_of_number, values_of_places, values_of_record,
+    FileRow, RecordRow, values_of_file, values_of_number, values_of_places, values_of_record,
 };
 use sqlite::{Alter, Connection, Error};
 
@@ -35,7 +35,7 @@ pub fn commit<S: Alter>(conn: &mut Connection<S>) -> Result<(), Error>
 }
 
 /// Adds a whole file under this number, in the order of arrival.
-pub fn add_file<S: Alter>(conn: &mut Connection<S>, id: u32, file: &KeptFile) -> Result<(), Error>
+pub fn add_file<S: Alter>(conn: &mut Connection<S>, id: u32, file: &FileRow) -> Result<(), Error>
     requires ready { IsWriting spool_schema (state S.Store conn.old) }
     ensures added { HasCleanDisk (state S.Store conn.new)
         → OnOk result (Changes (with_file id (file_of file.now)) (state S.Store conn.old) (state S.Store conn.new)) }
@@ -50,7 +50,7 @@ pub fn add_file<S: Alter>(conn: &mut Connection<S>, id: u32, file: &KeptFile) ->
 }
 
 /// Adds a record of a file, which needn't be whole yet.
-pub fn add_record<S: Alter>(conn: &mut Connection<S>, kept: &KeptRecord<'_>) -> Result<(), Error>
+pub fn add_record<S: Alter>(conn: &mut Connection<S>, kept: &RecordRow<'_>) -> Result<(), Error>
     requires ready { IsWriting spool_schema (state S.Store conn.old) }
     requires place { kept.now.place < 2 ^ 23 }
     ensures added { HasCleanDisk (state S.Store conn.new)

@@ -4,13 +4,13 @@ ghost use Rattle.std.specs.Prelude.{◌≡◌, ◌<◌, ◌≤◌, ◌^◌, true
 ghost use Rattle.sqlite.specs.State.{HasCleanDisk, Survives};
 ghost use Rattle.sqlite.specs.Held.{state};
 ghost use Rattle.sqlite_trees.specs.View.{IsClean};
-ghost use Rattle.njh_store.specs.Kept.{Spool, Holds, file_of, record_of, with_file, with_changed, with_record};
+ghost use Rattle.njh_store.specs.Kept.{SpoolContents, Holds, file_of, record_of, with_file, with_changed, with_record};
 ghost use Rattle.njh_store.specs.Kept.{without_file, without_records, entry_of, contents, contents_of};
 ghost use Rattle.njh_store.specs.Kept.{records_between};
 ghost use Rattle.njh_store.specs.Shelf.{shown, IsUsable};
 ghost use Rattle.njh_store.specs.Steps.{Begins, Changes, Commits, Stays};
 
-use crate::kept::{KeptFile, KeptRecord, StoredFile, StoredRecord};
+use crate::kept::{FileRow, RecordRow, StoredFile, StoredRecord};
 use crate::{reads, statements};
 use sqlite::{Alter, Connection, Error, ErrorCode};
 use std::alloc::Global;
@@ -63,7 +63,7 @@ fn begin<S: Alter>(conn: &mut Connection<S>) -> Result<(), Error>
     Ok(())
 }
 
-fn add_file<S: Alter>(conn: &mut Connection<S>, id: u32, file: &KeptFile) -> Result<(), Error>
+fn add_file<S: Alter>(conn: &mut Connection<S>, id: u32, file: &FileRow) -> Result<(), Error>
     requires usable { HasCleanDisk (state S.Store conn.old) → IsUsable (state S.Store conn.old) }
     ensures changed { HasCleanDisk (state S.Store conn.new)
         → OnOk result (Changes (with_file id (file_of file.now)) (state S.Store conn.old) (state S.Store conn.new)) }
@@ -73,7 +73,7 @@ fn add_file<S: Alter>(conn: &mut Connection<S>, id: u32, file: &KeptFile) -> Res
     statements::add_file(conn, id, file)
 }
 
-fn change_file<S: Alter>(conn: &mut Connection<S>, id: u32, file: &KeptFile) -> Result<(), Error>
+fn change_file<S: Alter>(conn: &mut Connection<S>, id: u32, file: &FileRow) -> Result<(), Error>
     requires usable { HasCleanDisk (state S.Store conn.old) → IsUsable (state S.Store conn.old) }
     ensures changed { HasCleanDisk (state S.Store conn.new)
         → OnOk result (Changes (with_changed id (file_of file.now)) (state S.Store conn.old) (state S.Store conn.new)) }
@@ -84,7 +84,7 @@ fn change_file<S: Alter>(conn: &mut Connection<S>, id: u32, file: &KeptFile) -> 
     statements::add_file(conn, id, file)
 }
 
-fn add_record<S: Alter>(conn: &mut Connection<S>, kept: &KeptRecord<'_>) -> Result<(), Error>
+fn add_record<S: Alter>(conn: &mut Connection<S>, kept: &RecordRow<'_>) -> Result<(), Error>
     requires usable { HasCleanDisk (state S.Store conn.old) → IsUsable (state S.Store conn.old) }
     requires place { kept.now.place < 2 ^ 23 }
     ensures changed { HasCleanDisk (state S.Store conn.new)
@@ -159,7 +159,7 @@ impl<S: Alter> Store<S> {
     }
 
     /// Adds a whole file under this number, in the order of arrival.
-    pub fn add_file(&mut self, id: u32, file: &KeptFile) -> Result<(), Error>
+    pub fn add_file(&mut self, id: u32, file: &FileRow) -> Result<(), Error>
         ensures changed { HasCleanDisk (shown S.Store self.new)
             → OnOk result (Changes (with_file id (file_of file.now)) (shown S.Store self.old)
             (shown S.Store self.new)) }
@@ -176,7 +176,7 @@ impl<S: Alter> Store<S> {
     }
 
     /// Puts a file in the place of the one of this number, as where it is held, released or sent elsewhere.
-    pub fn change_file(&mut self, id: u32, file: &KeptFile) -> Result<(), Error>
+    pub fn change_file(&mut self, id: u32, file: &FileRow) -> Result<(), Error>
         ensures changed { HasCleanDisk (shown S.Store self.new)
             → OnOk result (Changes (with_changed id (file_of file.now)) (shown S.Store self.old)
             (shown S.Store self.new)) }
@@ -193,7 +193,7 @@ impl<S: Alter> Store<S> {
     }
 
     /// Adds a record of a file, which needn't be whole yet.
-    pub fn add_record(&mut self, kept: &KeptRecord<'_>) -> Result<(), Error>
+    pub fn add_record(&mut self, kept: &RecordRow<'_>) -> Result<(), Error>
         requires place { kept.now.place < 2 ^ 23 }
         ensures changed { HasCleanDisk (shown S.Store self.new)
             → OnOk result (Changes (with_record (record_of kept.now)) (shown S.Store self.old)
@@ -262,7 +262,7 @@ impl<S: Alter> Store<S> {
 
     /// All whole files without their records, in the order of arrival.
     pub fn files(&mut self, alloc: Global) -> Result<Vec<StoredFile>, Error>
-        ensures files { HasCleanDisk (shown S.Store self.new) → IfOk result (λ stored. (spool : Spool)
+        ensures files { HasCleanDisk (shown S.Store self.new) → IfOk result (λ stored. (spool : SpoolContents)
             → Holds spool (shown S.Store self.old).now.trees → map entry_of stored.items ≡ spool.files) }
         ensures same { HasCleanDisk (shown S.Store self.new) → OnOk result (Stays (shown S.Store self.old)
             (shown S.Store self.new)) }
@@ -287,7 +287,7 @@ impl<S: Alter> Store<S> {
         end: u32,
     ) -> Result<Vec<StoredRecord>, Error>
         requires places { (first ≤ 2 ^ 23) × (end ≤ 2 ^ 23) }
-        ensures records { HasCleanDisk (shown S.Store self.new) → IfOk result (λ stored. (spool : Spool)
+        ensures records { HasCleanDisk (shown S.Store self.new) → IfOk result (λ stored. (spool : SpoolContents)
             → Holds spool (shown S.Store self.old).now.trees → map contents_of stored.items
             ≡ map contents (records_between key first end spool)) }
         ensures same { HasCleanDisk (shown S.Store self.new) → OnOk result (Stays (shown S.Store self.old)

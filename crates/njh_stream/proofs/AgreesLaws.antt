@@ -16,7 +16,7 @@ use Rattle.njh_stream.specs.declared.receiver.Progress.{Progress}
 use Rattle.njh_stream.specs.declared.receiver.Progress.TheVariants.{Beginning}
 use Rattle.njh_stream.specs.declared.receiver.Receiver.{Receiver}
 use Rattle.njh_stream.specs.declared.receiver.Receiver.TheVariants.{Idle, Open, Draining}
-use Rattle.njh_stream.specs.Transmissions.{Verdict, Taken, Cancelled, is_whole, judged_coming, verdict_of, Fitting}
+use Rattle.njh_stream.specs.Transmissions.{RecordVerdict, Taken, Cancelled, is_whole, judged_coming, verdict_of, Fitting}
 use Rattle.njh_stream.specs.Receiving.{Arrival, Request, Data, Long, Abort, progress_of, received_request}
 use Rattle.njh_stream.specs.Receiving.{requested_where, closed_by, stored_by, received_arrival}
 use Rattle.njh_stream.specs.code.Agreement.{Agrees, AgreesWith}
@@ -117,7 +117,7 @@ appended_agrees kind progress n r s agrees reads = at_file (partial_numbered n s
         )
 
 pub stored_agrees :
-    (v : Verdict) (kind : Kind) (progress : Progress) (n : ℕ) (r : Stored) (s : CustomerSpool) → AgreesWith kind progress (partial_numbered n s)
+    (v : RecordVerdict) (kind : Kind) (progress : Progress) (n : ℕ) (r : Stored) (s : CustomerSpool) → AgreesWith kind progress (partial_numbered n s)
     → (v ≡ Taken → ReadsSoFar kind (partial_records n s) → ReadsSoFar kind (partial_records n s ++ r ∷ []))
     → Agrees kind (stored_by v kind n r (partial_records n s ++ r ∷ []) s).receiver (stored_by v kind n r (partial_records n s ++ r ∷ []) s).spool
 stored_agrees Taken kind progress n r s agrees reads = appended_agrees kind progress n r s agrees (reads refl)

@@ -15,10 +15,10 @@ use Rattle.njh_stream.specs.declared.receiver.Progress.{Progress}
 use Rattle.njh_stream.specs.declared.receiver.Progress.TheVariants.{Beginning}
 use Rattle.njh_stream.specs.declared.receiver.Receiver.{Receiver}
 use Rattle.njh_stream.specs.declared.receiver.Receiver.TheVariants.{Idle, Open, Draining}
-use Rattle.njh_stream.specs.Transmissions.{Verdict, Taken, Cancelled, Fitting, judged_coming, is_whole}
+use Rattle.njh_stream.specs.Transmissions.{RecordVerdict, Taken, Cancelled, Fitting, judged_coming, is_whole}
 use Rattle.njh_stream.specs.Outcomes.{AreTaken, IsCancelled, Becomes, records_of, Ending, EndOfFile, GivenUp, CutOff}
 use Rattle.njh_stream.specs.Outcomes.{TransmissionOutcome, AFile, NotWhole, CancelledBy, Dropped}
-use Rattle.njh_stream.specs.Receiving.{Notice, Received, received_request, requested_where, stored_by, closed_by}
+use Rattle.njh_stream.specs.Receiving.{Notice, ReceiverStep, received_request, requested_where, stored_by, closed_by}
 use Rattle.njh_stream.specs.Receiving.{received_cancelling, notice_of, progress_of}
 use Rattle.njh_stream.specs.Following.{Moment, Came, CameLong, coming_at, ended_by, Followed, some_list, alone_outcome}
 use Rattle.njh_stream.specs.Following.{before, outcome_of_moments, IsUntouched, following_from}
@@ -77,7 +77,7 @@ module _ (entry : CustomerEntry) (l n : ℕ) (kind : Kind) (ending : Ending) (sr
   found_records left found earlier file same = ap records_or_none (same ∙ file)
 
   pub stored_so :
-      (found : CustomerSpool) (earlier : List Stored) (r : Stored) (v : Verdict) → partial_records n found ≡ earlier
+      (found : CustomerSpool) (earlier : List Stored) (r : Stored) (v : RecordVerdict) → partial_records n found ≡ earlier
       → judged_coming entry l kind earlier (Fitting r (has_room_for n r found)) ≡ v
       → stored_by (judged_coming entry l kind (partial_records n found) (Fitting r (has_room_for n r found))) kind n r (partial_records n found ++ r ∷ []) found
       ≡ stored_by v kind n r (earlier ++ r ∷ []) found
@@ -108,7 +108,7 @@ module _ (entry : CustomerEntry) (l n : ℕ) (kind : Kind) (ending : Ending) (sr
       r = record { srcb = s; bytes = b ∷ bytes }
 
       at_done :
-          (done : Received) → done ≡ stored_by Taken kind n r (earlier ++ r ∷ []) found
+          (done : ReceiverStep) → done ≡ stored_by Taken kind n r (earlier ++ r ∷ []) found
           → IsUntouched entry l kind last done.receiver done.spool ms
           → (IsUntouched entry l kind last (Open n (progress_of kind (earlier ++ r ∷ []))) (with_appended n r found) ms
           → HasAll (from (Open n (progress_of kind (earlier ++ r ∷ []))) ms) ((earlier ++ r ∷ []) ++ records_of (map (coming_at n) ms)))
@@ -134,7 +134,7 @@ module _ (entry : CustomerEntry) (l n : ℕ) (kind : Kind) (ending : Ending) (sr
       ∙ ap (λ o. record { receiver = Idle; spool = last; answers = Refusal ∷ []; notices = some_list o }) (nothing_said (file_owner (earlier ++ records_of (map (coming_at n) ms))))
       ∙ ap (λ t. told t (earlier ++ records_of (map (coming_at n) ms))) (ap text_of e)
     where
-      text_of : Verdict → Option (List ℕ)
+      text_of : RecordVerdict → Option (List ℕ)
       text_of Taken = None
       text_of (Cancelled t) = t
   first_cancelled (Came s b bytes found ∷ ms) left earlier progress text file same refused =
@@ -145,7 +145,7 @@ module _ (entry : CustomerEntry) (l n : ℕ) (kind : Kind) (ending : Ending) (sr
       r : Stored
       r = record { srcb = s; bytes = b ∷ bytes }
 
-      done : Received
+      done : ReceiverStep
       done = stored_by (judged_coming entry l kind (partial_records n found) (Fitting r (has_room_for n r found))) kind n r (partial_records n found ++ r ∷ []) found
 
       at_first :

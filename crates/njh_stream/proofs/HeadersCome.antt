@@ -12,7 +12,7 @@ use Rattle.njh_header.specs.Headers.{JobHeader, job_header, DataSetHeader, data_
 use Rattle.njh_header.specs.FileHeaders.{name_of}
 use Rattle.njh_header.specs.declared.fault.HeaderFault.{HeaderFault}
 use Rattle.njh_table.specs.Entries.{CustomerEntry}
-use Rattle.njh_stream.specs.Transmissions.{Verdict, Taken, Cancelled, ComingRecord, Fitting, TooLong, is_whole}
+use Rattle.njh_stream.specs.Transmissions.{RecordVerdict, Taken, Cancelled, ComingRecord, Fitting, TooLong, is_whole}
 use Rattle.njh_stream.specs.Transmissions.{judged_node, judged_job, judged_later, is_continuation, with_room, verdict_of}
 use Rattle.njh_stream.specs.Outcomes.{AreTaken, Becomes, records_of, Ending, EndOfFile, GivenUp, CutOff, AFile}
 use Rattle.njh_header.specs.WholeFiles.{HasHeaders}
@@ -24,11 +24,11 @@ module _ (entry : CustomerEntry) (l : ℕ) where
 
   job_reads :
       (kind : Kind) (r : Stored) (b : Bool) (header : Result JobHeader HeaderFault)
-      → elim b as (λ _. Verdict) [
+      → elim b as (λ _. RecordVerdict) [
         | false ↦ Cancelled None
-        | true ↦ elim header as (λ _. Verdict) [
+        | true ↦ elim header as (λ _. RecordVerdict) [
           | Err fault ↦ Cancelled None
-          | Ok h ↦ elim kind as (λ _. Verdict) [ In ↦ judged_job entry l h | Out ↦ Taken ]
+          | Ok h ↦ elim kind as (λ _. RecordVerdict) [ In ↦ judged_job entry l h | Out ↦ Taken ]
         ]
       ] ≡ Taken
       → (b ≡ true) × ((h : JobHeader) × (cond b (result_ok header) None ≡ Some h))
@@ -49,9 +49,9 @@ module _ (entry : CustomerEntry) (l : ℕ) where
 
   data_set_reads :
       (r : Stored) (name : Option Rattle.njh_header.specs.FileNames.FileName) (b : Bool) (header : Result DataSetHeader HeaderFault)
-      → elim b as (λ _. Verdict) [
+      → elim b as (λ _. RecordVerdict) [
         | false ↦ Cancelled None
-        | true ↦ elim header as (λ _. Verdict) [
+        | true ↦ elim header as (λ _. RecordVerdict) [
           | Err fault ↦ Cancelled None
           | Ok h ↦ judged_node entry l h.destination.node name
         ]
@@ -72,11 +72,11 @@ module _ (entry : CustomerEntry) (l : ℕ) where
     )
 
     continued : (b : Bool) → has_srcb 0xc0 r ≡ b → all_job_headers (x ∷ xs) ≡ true
-        → elim b as (λ _. Verdict) [
+        → elim b as (λ _. RecordVerdict) [
           | true ↦ Taken
-          | false ↦ elim (has_srcb 0xe0 r) as (λ _. Verdict) [
+          | false ↦ elim (has_srcb 0xe0 r) as (λ _. RecordVerdict) [
             | false ↦ Cancelled None
-            | true ↦ elim (data_set_header r.bytes) as (λ _. Verdict) [
+            | true ↦ elim (data_set_header r.bytes) as (λ _. RecordVerdict) [
               | Err fault ↦ Cancelled None
               | Ok h ↦ judged_node entry l h.destination.node (name_of (x ∷ xs))
             ]
@@ -94,18 +94,18 @@ module _ (entry : CustomerEntry) (l : ℕ) where
     has_come e (inr reads) = inr (reads.0, header_stays (x ∷ xs) r e ∙ reads.1)
 
     output_so : (b : Bool) → all_job_headers (x ∷ xs) ≡ b → DestinationReads Out (x ∷ xs)
-        → elim b as (λ _. Verdict) [
-          | true ↦ elim (has_srcb 0xc0 r) as (λ _. Verdict) [
+        → elim b as (λ _. RecordVerdict) [
+          | true ↦ elim (has_srcb 0xc0 r) as (λ _. RecordVerdict) [
             | true ↦ Taken
-            | false ↦ elim (has_srcb 0xe0 r) as (λ _. Verdict) [
+            | false ↦ elim (has_srcb 0xe0 r) as (λ _. RecordVerdict) [
               | false ↦ Cancelled None
-              | true ↦ elim (data_set_header r.bytes) as (λ _. Verdict) [
+              | true ↦ elim (data_set_header r.bytes) as (λ _. RecordVerdict) [
                 | Err fault ↦ Cancelled None
                 | Ok h ↦ judged_node entry l h.destination.node (name_of (x ∷ xs))
               ]
             ]
           ]
-          | false ↦ elim (has_srcb 0xe0 r && not (is_continuation (x ∷ xs))) as (λ _. Verdict)
+          | false ↦ elim (has_srcb 0xe0 r && not (is_continuation (x ∷ xs))) as (λ _. RecordVerdict)
               [ true ↦ judged_later (x ∷ xs) r | false ↦ Taken ]
         ] ≡ Taken
         → DestinationReads Out ((x ∷ xs) ++ r ∷ [])
@@ -121,7 +121,7 @@ module _ (entry : CustomerEntry) (l : ℕ) where
   one_more In (x ∷ xs) r so_far v = (so_far.0, tt)
   one_more Out (x ∷ xs) r so_far v = (so_far.0, output_so x xs r (all_job_headers (x ∷ xs)) refl so_far.1 v)
 
-  pub was_taken : (room : Bool) (more : List Stored) (v : Verdict) → with_room room more v ≡ Taken → v ≡ Taken
+  pub was_taken : (room : Bool) (more : List Stored) (v : RecordVerdict) → with_room room more v ≡ Taken → v ≡ Taken
   was_taken room more (Cancelled text) e = absurd (cc e)
   was_taken true more Taken e = refl
   was_taken false more Taken e = refl

@@ -12,7 +12,7 @@ use Rattle.njh_stream.specs.declared.receiver.Receiver.{Receiver}
 use Rattle.njh_stream.specs.declared.receiver.Receiver.TheVariants.{Idle, Open, Draining}
 use Rattle.njh_stream.specs.Receiving.{Arrival, Request, Data, Long, Abort, received_arrival, received_request}
 use Rattle.njh_stream.specs.Receiving.{requested_where, closed_by, stored_by}
-use Rattle.njh_stream.specs.Transmissions.{Verdict, Taken, Cancelled, Fitting, is_whole, judged_coming}
+use Rattle.njh_stream.specs.Transmissions.{RecordVerdict, Taken, Cancelled, Fitting, is_whole, judged_coming}
 use Rattle.njh_stream.specs.WholeFiles.{HaveHeaders}
 use Rattle.njh_stream.specs.code.Agreement.{Agrees, AgreesWith}
 use Rattle.njh_stream.proofs.AgreesLaws.{records_or_none}
@@ -28,7 +28,7 @@ requested_headers kind s have = at_room (has_file_room s && has_block s)
     at_room true = have
     at_room false = have
 
-stored_headers : (v : Verdict) (kind : Kind) (n : ℕ) (r : Stored) (more : List Stored) (s : CustomerSpool) → HaveHeaders s.whole
+stored_headers : (v : RecordVerdict) (kind : Kind) (n : ℕ) (r : Stored) (more : List Stored) (s : CustomerSpool) → HaveHeaders s.whole
     → HaveHeaders (stored_by v kind n r more s).spool.whole
 stored_headers Taken kind n r more s have = have
 stored_headers (Cancelled text) kind n r more s have = have

@@ -14,7 +14,7 @@ use Rattle.njh_spool.specs.CustomerSpool.{with_new_partial, without_partial, wit
 use Rattle.njh_spool.specs.CustomerSpool.{has_block, has_room_for, as_whole, with_arrived}
 use Rattle.njh_stream.specs.declared.receiver.Receiver.{Receiver}
 use Rattle.njh_stream.specs.declared.receiver.Receiver.TheVariants.{Idle, Open, Draining}
-use Rattle.njh_stream.specs.Transmissions.{Verdict, Taken, Cancelled, is_whole, judged_coming, Fitting}
+use Rattle.njh_stream.specs.Transmissions.{RecordVerdict, Taken, Cancelled, is_whole, judged_coming, Fitting}
 use Rattle.njh_stream.specs.Receiving.{Arrival, Request, Data, Long, Abort, received_request, requested_where}
 use Rattle.njh_stream.specs.Receiving.{closed_by, stored_by, received_arrival, without_open}
 use Rattle.njh_stream.specs.Streams.{coming_file}
@@ -177,7 +177,7 @@ closes true n s = finishes n s
 closes false n s = abandons n s
 
 stores :
-    (v : Verdict) (kind : Kind) (n : ℕ) (r : Stored) (more : List Stored) (s : CustomerSpool)
+    (v : RecordVerdict) (kind : Kind) (n : ℕ) (r : Stored) (more : List Stored) (s : CustomerSpool)
     → Moves (Some n) s (coming_file (stored_by v kind n r more s).receiver) (stored_by v kind n r more s).spool
 stores Taken kind n r more s = appends n r s
 stores (Cancelled text) kind n r more s = abandons n s

@@ -4,11 +4,11 @@ use Rattle.std.proofs.Common.{inl, inr, true≢false}
 use Rattle.njh_record.specs.Stored.{Stored}
 use Rattle.njh_record.specs.declared.Kind.{Kind}
 use Rattle.njh_table.specs.Entries.{CustomerEntry}
-use Rattle.njh_stream.specs.Transmissions.{Verdict, ComingRecord, Taken, Cancelled, judged_coming, is_whole}
+use Rattle.njh_stream.specs.Transmissions.{RecordVerdict, ComingRecord, Taken, Cancelled, judged_coming, is_whole}
 use Rattle.njh_stream.specs.Outcomes.{AreTaken, IsCancelled, Becomes, records_of, Ending, EndOfFile, GivenUp, CutOff}
 use Rattle.njh_stream.specs.Outcomes.{TransmissionOutcome, AFile, NotWhole, CancelledBy, Dropped}
 
-abbrev pub text_in : Verdict → Option (List ℕ)
+abbrev pub text_in : RecordVerdict → Option (List ℕ)
 text_in Taken = None
 text_in (Cancelled text) = text
 
@@ -21,7 +21,7 @@ module _ (entry : CustomerEntry) (l : ℕ) (kind : Kind) where
       at_verdict (judged_coming entry l kind earlier c) refl (taken_or_cancelled (earlier ++ records_of (c ∷ [])) cs)
     where
       at_verdict :
-          (v : Verdict) → judged_coming entry l kind earlier c ≡ v
+          (v : RecordVerdict) → judged_coming entry l kind earlier c ≡ v
           → AreTaken entry l kind (earlier ++ records_of (c ∷ [])) cs
           ⊎ ((text : Option (List ℕ)) × IsCancelled entry l kind (earlier ++ records_of (c ∷ [])) cs text)
           → AreTaken entry l kind earlier (c ∷ cs) ⊎ ((text : Option (List ℕ)) × IsCancelled entry l kind earlier (c ∷ cs) text)

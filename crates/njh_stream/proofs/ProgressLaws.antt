@@ -15,9 +15,9 @@ use Rattle.njh_stream.specs.declared.receiver.Progress.{Progress}
 use Rattle.njh_stream.specs.declared.receiver.Progress.TheVariants.{Beginning, JobHeader, Placed}
 use Rattle.njh_header.specs.declared.fault.HeaderFault.{HeaderFault}
 use Rattle.njh_stream.specs.declared.judging as declared_judging
-use Rattle.njh_stream.specs.declared.judging.Verdict.TheVariants as declared
+use Rattle.njh_stream.specs.declared.judging.RecordVerdict.TheVariants as declared
 use Rattle.njh_stream.specs.code.Verdicts.{judged_placed, IsTakenAt, IsProgress, IsHeaderPlaced}
-use Rattle.njh_stream.specs.Transmissions.{Verdict, Taken, ends_in, verdict_of, judged_against, judged_later}
+use Rattle.njh_stream.specs.Transmissions.{RecordVerdict, Taken, ends_in, verdict_of, judged_against, judged_later}
 use Rattle.njh_stream.specs.Transmissions.{judged_data_set}
 use Rattle.njh_stream.specs.Receiving.{progress_of, placement, last_srcb}
 
@@ -186,7 +186,7 @@ pub node_found : (o : Option DataSetHeader) → node_of_header o ≡ node_of_des
 node_found None = refl
 node_found (Some d) = refl
 
-abbrev pub where_all : Bool → Verdict → Verdict → Verdict
+abbrev pub where_all : Bool → RecordVerdict → RecordVerdict → RecordVerdict
 where_all b job later = elim b [ true ↦ job | false ↦ later ]
 
 pub placed_judged :
@@ -211,13 +211,13 @@ placed_judged entry l Out (x ∷ xs) r node last h = at_all (all_job_headers (x 
 -- ---- what the verdict says of how far the file has come
 
 pub placed_progress :
-    (kind : Kind) (file : List Stored) (r : Stored) (node : List ℕ) (last : ℕ) (v : declared_judging.Verdict.Verdict) → Placed node last ≡ progress_of kind file
+    (kind : Kind) (file : List Stored) (r : Stored) (node : List ℕ) (last : ℕ) (v : declared_judging.RecordVerdict.RecordVerdict) → Placed node last ≡ progress_of kind file
     → IsTakenAt v (Placed node r.srcb) → IsProgress v kind (file ++ r ∷ [])
 placed_progress kind file r node last (declared.Taken progress) h is = is ∙ placed_stays kind file r node last h
 placed_progress kind file r node last (declared.Cancelled text) h is = tt
 
 pub header_progress :
-    (kind : Kind) (file : List Stored) (r : Stored) (v : declared_judging.Verdict.Verdict) → JobHeader ≡ progress_of kind file
+    (kind : Kind) (file : List Stored) (r : Stored) (v : declared_judging.RecordVerdict.RecordVerdict) → JobHeader ≡ progress_of kind file
     → IsHeaderPlaced v (data_set_header r.bytes) r.srcb → IsProgress v kind (file ++ r ∷ [])
 header_progress kind file r (declared.Cancelled text) h is = tt
 header_progress kind file r (declared.Taken progress) h is = at_header (data_set_header r.bytes) refl is

@@ -12,7 +12,7 @@ use Rattle.njh_table.specs.TableFile.{TableFile, customer_at, entry_of}
 use Rattle.njh_stream.specs.declared.receiver.Receiver.{Receiver}
 use Rattle.njh_stream.specs.declared.arrival.Arrival as code
 use Rattle.njh_stream.specs.declared.arrival.Arrival.TheVariants as variants
-use Rattle.njh_stream.specs.Receiving.{Arrival, Request, Data, Long, Abort, Received, received_arrival}
+use Rattle.njh_stream.specs.Receiving.{Arrival, Request, Data, Long, Abort, ReceiverStep, received_arrival}
 
 abbrev pub arrival_of : code.Arrival → Arrival
 arrival_of variants.Request = Request
@@ -28,7 +28,7 @@ IsShort Long = Unit {0}
 IsShort Abort = Unit {0}
 
 -- what an arrival on a stream of a line does, by the tables and the customers' spools
-abbrev pub received_on : TableFile → List CustomerSpool → LineId → ℕ → Receiver → Arrival → Received
+abbrev pub received_on : TableFile → List CustomerSpool → LineId → ℕ → Receiver → Arrival → ReceiverStep
 received_on tables spools id stream receiver arrival =
     received_arrival (entry_of (customer_at tables id.customer)) id.number (kind_of stream) receiver arrival
     (spool_at id.customer spools)

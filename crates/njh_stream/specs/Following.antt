@@ -14,7 +14,7 @@ use Rattle.njh_stream.specs.declared.receiver.Receiver.TheVariants.{Idle, Open, 
 use Rattle.njh_stream.specs.Transmissions.{ComingRecord, Fitting, TooLong}
 use Rattle.njh_stream.specs.Outcomes.{Ending, EndOfFile, GivenUp, CutOff, TransmissionOutcome, AFile, NotWhole}
 use Rattle.njh_stream.specs.Outcomes.{CancelledBy, Dropped}
-use Rattle.njh_stream.specs.Receiving.{Arrival, Data, Long, Abort, Notice, Received, received_arrival, received_nothing}
+use Rattle.njh_stream.specs.Receiving.{Arrival, Data, Long, Abort, Notice, ReceiverStep, received_arrival, received_nothing}
 use Rattle.njh_stream.specs.Receiving.{without_open, notice_of}
 
 -- A record of a byte or more came, or one of more than 256 bytes, and found the customer's spool so.
@@ -37,7 +37,7 @@ coming_at n (Came srcb byte bytes found) =
 coming_at n (CameLong found) = TooLong
 
 -- how it ended, where the end of file has this SRCB
-abbrev pub ended_by : CustomerEntry → ℕ → Kind → Ending → ℕ → Receiver → CustomerSpool → Received
+abbrev pub ended_by : CustomerEntry → ℕ → Kind → Ending → ℕ → Receiver → CustomerSpool → ReceiverStep
 ended_by entry l kind EndOfFile srcb receiver last = received_arrival entry l kind receiver (Data srcb []) last
 ended_by entry l kind GivenUp srcb receiver last = received_arrival entry l kind receiver Abort last
 ended_by entry l kind CutOff srcb receiver last = received_nothing Idle (without_open receiver last)
@@ -53,7 +53,7 @@ abbrev pub some_list : {A : Type 0} → Option A → List A
 some_list None = []
 some_list (Some x) = x ∷ []
 
-abbrev pub alone_outcome : Received → Followed
+abbrev pub alone_outcome : ReceiverStep → Followed
 alone_outcome done = record {
   receiver = done.receiver;
   spool = done.spool;
@@ -61,7 +61,7 @@ alone_outcome done = record {
   notices = some_list done.notice;
 }
 
-abbrev pub before : Received → Followed → Followed
+abbrev pub before : ReceiverStep → Followed → Followed
 before done rest =
     record rest { answers = some_list done.answer ++ rest.answers; notices = some_list done.notice ++ rest.notices }
 

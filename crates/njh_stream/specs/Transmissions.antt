@@ -16,15 +16,15 @@ use Rattle.njh_table.specs.Entries.{CustomerEntry, route_of}
 use Rattle.njh_table.specs.declared.Route.TheVariants.{Here, Line, Unknown}
 
 -- A record is taken, or it cancels its file, and then the owner may be told why.
-pub data Verdict : Type 0 where
-  Taken : Verdict
-  Cancelled : (text : Option (List ℕ)) → Verdict
+pub data RecordVerdict : Type 0 where
+  Taken : RecordVerdict
+  Cancelled : (text : Option (List ℕ)) → RecordVerdict
 
 -- ---- where a file goes
 
 -- The node that a file is for, by the file's name and the line on which it comes: never the hub itself, nor a node that
 -- nobody has, nor back by the line.
-abbrev pub judged_node : CustomerEntry → ℕ → List ℕ → Option FileName → Verdict
+abbrev pub judged_node : CustomerEntry → ℕ → List ℕ → Option FileName → RecordVerdict
 judged_node entry l node name =
     elim (route_of entry node) [
       | Here ↦ Cancelled (Some (no_files_for entry.hub))
@@ -33,14 +33,14 @@ judged_node entry l node name =
     ]
 
 -- a job's header says where it runs
-abbrev pub judged_job : CustomerEntry → ℕ → JobHeader → Verdict
+abbrev pub judged_job : CustomerEntry → ℕ → JobHeader → RecordVerdict
 judged_job entry l h =
     cond (is_name h.execution.node) (judged_node entry l h.execution.node (Some (job_name h))) (Cancelled None)
 
 -- ---- which records come in which order
 
 -- the first record is a job header that reads
-abbrev pub judged_first : CustomerEntry → ℕ → Kind → Stored → Verdict
+abbrev pub judged_first : CustomerEntry → ℕ → Kind → Stored → RecordVerdict
 judged_first entry l kind r =
     elim (has_srcb 0xc0 r) [
       | false ↦ Cancelled None
@@ -51,7 +51,7 @@ judged_first entry l kind r =
     ]
 
 -- what follows the job header of an output file is a data set header that reads
-abbrev pub judged_data_set : CustomerEntry → ℕ → List Stored → Stored → Verdict
+abbrev pub judged_data_set : CustomerEntry → ℕ → List Stored → Stored → RecordVerdict
 judged_data_set entry l earlier r =
     elim (has_srcb 0xe0 r) [
       | false ↦ Cancelled None
@@ -66,7 +66,7 @@ abbrev pub file_node : List Stored → List ℕ
 file_node records = elim (data_set_header_of records) [ Some h ↦ h.destination.node | None ↦ [] ]
 
 -- a data set header that has to name this node
-abbrev pub judged_against : List ℕ → List ℕ → Verdict
+abbrev pub judged_against : List ℕ → List ℕ → RecordVerdict
 judged_against node bytes =
     elim (data_set_header bytes) [
       | Err fault ↦ Cancelled None
@@ -74,7 +74,7 @@ judged_against node bytes =
     ]
 
 -- a later data set header names the same node
-abbrev pub judged_later : List Stored → Stored → Verdict
+abbrev pub judged_later : List Stored → Stored → RecordVerdict
 judged_later earlier r = judged_against (file_node earlier) r.bytes
 
 -- whether the last record has this SRCB
@@ -89,7 +89,7 @@ is_continuation earlier = ends_in 0xe0 earlier
 
 -- A record of an output file behind its first: job headers directly after the first continue it, then comes a data set
 -- header. All other records are data.
-abbrev pub judged_output : CustomerEntry → ℕ → List Stored → Stored → Verdict
+abbrev pub judged_output : CustomerEntry → ℕ → List Stored → Stored → RecordVerdict
 judged_output entry l earlier r =
     elim (list_all (has_srcb 0xc0) earlier) [
       | true ↦ elim (has_srcb 0xc0 r) [ true ↦ Taken | false ↦ judged_data_set entry l earlier r ]
@@ -98,7 +98,7 @@ judged_output entry l earlier r =
     ]
 
 -- a record that comes after earlier ones
-abbrev pub verdict_of : CustomerEntry → ℕ → Kind → List Stored → Stored → Verdict
+abbrev pub verdict_of : CustomerEntry → ℕ → Kind → List Stored → Stored → RecordVerdict
 verdict_of entry l kind [] r = judged_first entry l kind r
 verdict_of entry l In (e ∷ es) r = Taken
 verdict_of entry l Out (e ∷ es) r = judged_output entry l (e ∷ es) r
@@ -120,13 +120,13 @@ abbrev pub full_text : Option FileName → Option (List ℕ)
 full_text name = option_map spool_full name
 
 -- the verdict on a record, with which the file's records are these, where there is room for it or not
-abbrev pub with_room : Bool → List Stored → Verdict → Verdict
+abbrev pub with_room : Bool → List Stored → RecordVerdict → RecordVerdict
 with_room room more (Cancelled text) = Cancelled text
 with_room true more Taken = Taken
 with_room false more Taken = Cancelled (full_text (name_of more))
 
 -- what comes after earlier records is judged first and stored last
-abbrev pub judged_coming : CustomerEntry → ℕ → Kind → List Stored → ComingRecord → Verdict
+abbrev pub judged_coming : CustomerEntry → ℕ → Kind → List Stored → ComingRecord → RecordVerdict
 judged_coming entry l kind earlier TooLong = Cancelled None
 judged_coming entry l kind earlier (Fitting r room) =
     with_room room (earlier ++ r ∷ []) (verdict_of entry l kind earlier r)

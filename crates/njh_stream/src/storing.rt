@@ -15,7 +15,7 @@ ghost use Rattle.njh_stream.specs.code.Agreement.{Agrees};
 ghost use Rattle.njh_stream.specs.Transmissions as transmissions;
 
 use crate::coming::{ComingFile, Origin, StreamRecord};
-use crate::judging::{Verdict, judge};
+use crate::judging::{RecordVerdict, judge};
 use crate::notice::Notice;
 use crate::receiver::{After, Progress, Receiver};
 use crate::record_class::{RecordClass, class_of};
@@ -77,11 +77,11 @@ pub(crate) fn store(
     let earlier = SpoolFile::of(spool, customer, file.number);
     let verdict = judge(from, &file, &earlier, next);
     match verdict {
-        Verdict::Cancelled(text) => {
+        RecordVerdict::Cancelled(text) => {
             let header = header_with(&earlier, next);
             cancel(customer, file.number, header, text, spool)
         }
-        Verdict::Taken(progress) => append(customer, file.number, progress, next, spool),
+        RecordVerdict::Taken(progress) => append(customer, file.number, progress, next, spool),
     }
 }
 

@@ -1,26 +1,26 @@
 -- What one call of a connection moved.
 use Rattle.std.specs.Prelude.{ℕ, ◌<◌, ◌≤◌, List, [], take, Result, Ok, Err, ⊤}
-use Rattle.njh_wire.specs.declared.connection.Received.{Received}
-use Rattle.njh_wire.specs.declared.connection.Received.TheVariants.{Bytes, Nothing, Ended}
+use Rattle.njh_wire.specs.declared.connection.ConnectionRead.{ConnectionRead}
+use Rattle.njh_wire.specs.declared.connection.ConnectionRead.TheVariants.{Bytes, Nothing, Ended}
 use Rattle.njh_wire.specs.declared.connection.ConnectionFault.{ConnectionFault}
 use Rattle.njh_wire.specs.declared.end.Stop.{Stop}
 use Rattle.njh_wire.specs.declared.end.Stop.TheVariants as stop
 
 -- the bytes that a read gave
-abbrev pub bytes_given : Result Received ConnectionFault → List ℕ → List ℕ
+abbrev pub bytes_given : Result ConnectionRead ConnectionFault → List ℕ → List ℕ
 bytes_given (Ok (Bytes n)) buffer = take n buffer
 bytes_given (Ok Nothing) buffer = []
 bytes_given (Ok Ended) buffer = []
 bytes_given (Err fault) buffer = []
 
 -- at least one byte came, and no more than there was room for
-abbrev pub IsReceived : ℕ → Received → Type 0
+abbrev pub IsReceived : ℕ → ConnectionRead → Type 0
 IsReceived room (Bytes n) = (0 < n) × (n ≤ room)
 IsReceived room Nothing = ⊤
 IsReceived room Ended = ⊤
 
 -- why no more bytes come, as a read said it
-abbrev pub IsStop : (Stop → Type 0) → Result Received ConnectionFault → Type 0
+abbrev pub IsStop : (Stop → Type 0) → Result ConnectionRead ConnectionFault → Type 0
 IsStop stops (Ok (Bytes n)) = ⊤
 IsStop stops (Ok Nothing) = stops stop.Dry
 IsStop stops (Ok Ended) = stops stop.Ended

@@ -5,7 +5,7 @@ ghost use Rattle.std.specs.Option.{option_map};
 ghost use Rattle.njh_wire.specs.Readings.{Sends};
 ghost use Rattle.njh_wire.specs.declared.end.Stop.TheVariants.{Full};
 
-use crate::connection::{Connection, ConnectionFault, Received};
+use crate::connection::{Connection, ConnectionFault, ConnectionRead};
 use crate::end::Stop;
 
 /// Reads a connection until the buffer is full or nothing more comes, and answers how many bytes came and why no more.
@@ -20,9 +20,9 @@ fn receive_all<C: Connection>(connection: &mut C, into: &mut [u8]) -> (usize, St
     while count < into.len() {
         let (_, rest) = into.split_at_mut(count);
         match connection.receive(rest) {
-            Ok(Received::Bytes(more)) => count += more,
-            Ok(Received::Nothing) => return (count, Stop::Dry),
-            Ok(Received::Ended) => return (count, Stop::Ended),
+            Ok(ConnectionRead::Bytes(more)) => count += more,
+            Ok(ConnectionRead::Nothing) => return (count, Stop::Dry),
+            Ok(ConnectionRead::Ended) => return (count, Stop::Ended),
             Err(_) => return (count, Stop::Failed),
         }
     }

@@ -5,7 +5,7 @@ ghost use Rattle.njh_wire.specs.Moved.{IsReceived, IsStop, bytes_given, count_pu
 
 /// What a read of a connection gives.
 #[derive(Clone, Copy, Debug, PartialEq, Eq)]
-pub enum Received {
+pub enum ConnectionRead {
     /// So many bytes came, at least 1, and stand at the front of the buffer.
     Bytes(usize),
     /// Nothing is there now.
@@ -37,7 +37,7 @@ pub trait Connection {
         ensures { result ≡ place_of self.now };
 
     /// Reads what is there, up to the length of the buffer. A fault gives no bytes.
-    fn receive(&mut self, into: &mut [u8]) -> Result<Received, ConnectionFault>
+    fn receive(&mut self, into: &mut [u8]) -> Result<ConnectionRead, ConnectionFault>
         requires { 0 < length into.old }
         ensures moved { moved self.old self.new (bytes_given result into.new) [] }
         ensures within { IfOk result (IsReceived (length into.new)) }

@@ -10,7 +10,7 @@ mod network;
 mod outbox;
 mod silence;
 
-pub use connection::{Connection, ConnectionFault, Received};
+pub use connection::{Connection, ConnectionFault, ConnectionRead};
 pub use end::{End, Parting, Stop};
 pub use ending::Ending;
 pub use line_wire::{LineWire, STALL_TIME};

@@ -4,9 +4,9 @@ ghost use Rattle.std.specs.Prelude.{IfOk};
 ghost use Rattle.sqlite.specs.Files.{file_state};
 ghost use Rattle.sqlite.specs.State.{HasCleanDisk};
 ghost use Rattle.sqlite.specs.WalFiles.{image_at};
-ghost use Rattle.njh_store.specs.Kept.{Spool};
+ghost use Rattle.njh_store.specs.Kept.{SpoolContents};
 ghost use Rattle.njh_store.specs.Origin.{IsFoundIn, StandsAsFound};
-ghost use Rattle.njh_store.specs.Standing.{Stands};
+ghost use Rattle.njh_store.specs.CommitState.{Stands};
 
 use crate::networks::tables;
 use njh_hub::{Depot, DepotFault, Hub};
@@ -68,7 +68,7 @@ impl<'a> SpoolFiles<'a> {
 
     /// The spool file, opened or made.
     pub fn open<S: Start>(&self, start: S) -> Result<Store<FileStore<FileFrom<S>>>, Fail>
-        ensures { IfOk result (λ store. HasCleanDisk (file_state store.conn) → (spool : Spool)
+        ensures { IfOk result (λ store. HasCleanDisk (file_state store.conn) → (spool : SpoolContents)
             → IsFoundIn (image_at S.Start) spool
             → Stands (record { now = spool; kept = spool }) (file_state store.conn)) }
     {

@@ -3,7 +3,7 @@
 ghost use Rattle.std.specs.Prelude.{◌≡◌, ◌≤◌, length, IfOk};
 
 use crate::joint::{JOINED, Joint};
-use njh_wire::{Connection, ConnectionFault, Network, Readiness, Received};
+use njh_wire::{Connection, ConnectionFault, ConnectionRead, Network, Readiness};
 use std::io;
 use std::io::Write;
 use std::net::{Ipv4Addr, SocketAddr};
@@ -128,16 +128,16 @@ impl<'a> Connection for JointConnection<'a> {
         self.place
     }
 
-    fn receive(&mut self, into: &mut [u8]) -> Result<Received, ConnectionFault> {
+    fn receive(&mut self, into: &mut [u8]) -> Result<ConnectionRead, ConnectionFault> {
         let count = if self.place == JOINED {
             self.joint.read(self.end, into)
         } else {
             self.joint.read_peer(into)
         };
         if count == 0 {
-            return Ok(Received::Nothing);
+            return Ok(ConnectionRead::Nothing);
         }
-        Ok(Received::Bytes(count))
+        Ok(ConnectionRead::Bytes(count))
     }
 
     fn send(&mut self, bytes: &[u8]) -> Result<usize, ConnectionFault> {

@@ -4,7 +4,7 @@ ghost use Rattle.std.specs.Prelude.{◌≡◌, ◌≤◌, length, IfOk, IfSome};
 ghost use Rattle.njh_wire.specs.Moved.{IsReceived};
 
 use crate::world::{Peer, World};
-use njh_wire::{Connection, ConnectionFault, Received};
+use njh_wire::{Connection, ConnectionFault, ConnectionRead};
 
 /// A connection with a peer.
 #[derive(Drop)]
@@ -66,18 +66,18 @@ impl<'a> Connection for MemoryConnection<'a> {
         self.place
     }
 
-    fn receive(&mut self, into: &mut [u8]) -> Result<Received, ConnectionFault> {
+    fn receive(&mut self, into: &mut [u8]) -> Result<ConnectionRead, ConnectionFault> {
         if self.peer.is_broken() {
             return Err(ConnectionFault);
         }
         let count = self.fill(into);
         if count > 0 {
-            return Ok(Received::Bytes(count));
+            return Ok(ConnectionRead::Bytes(count));
         }
         if self.peer.has_ended() {
-            return Ok(Received::Ended);
+            return Ok(ConnectionRead::Ended);
         }
-        Ok(Received::Nothing)
+        Ok(ConnectionRead::Nothing)
     }
 
     fn send(&mut self, bytes: &[u8]) -> Result<usize, ConnectionFault> {

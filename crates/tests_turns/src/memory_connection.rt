@@ -3,7 +3,7 @@
 ghost use Rattle.std.specs.Prelude.{◌≤◌, length, IfOk};
 ghost use Rattle.njh_wire.specs.Moved.{IsReceived};
 
-use njh_wire::{Connection, ConnectionFault, Received};
+use njh_wire::{Connection, ConnectionFault, ConnectionRead};
 use std::cell::Cell;
 
 /// The other end of a connection. All bytes count up from 0, modulo 256, so that one that is lost or comes too early
@@ -100,18 +100,18 @@ impl<'a> Connection for MemoryConnection<'a> {
         self.place
     }
 
-    fn receive(&mut self, into: &mut [u8]) -> Result<Received, ConnectionFault> {
+    fn receive(&mut self, into: &mut [u8]) -> Result<ConnectionRead, ConnectionFault> {
         let count = self.fill(into);
         if count > 0 {
-            return Ok(Received::Bytes(count));
+            return Ok(ConnectionRead::Bytes(count));
         }
         if self.peer.broken.get() {
             return Err(ConnectionFault);
         }
         if self.peer.ended.get() {
-            return Ok(Received::Ended);
+            return Ok(ConnectionRead::Ended);
         }
-        Ok(Received::Nothing)
+        Ok(ConnectionRead::Nothing)
     }
 
     fn send(&mut self, bytes: &[u8]) -> Result<usize, ConnectionFault> {

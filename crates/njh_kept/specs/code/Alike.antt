@@ -2,7 +2,7 @@
 use Rattle.std.specs.Prelude.{◌≡◌, ℕ, ◌==◌, ◌||◌, ◌≤◌, Bool, false, List, length, take}
 use Rattle.std.specs.List.{AllZip}
 use Rattle.njh_record.specs.Stored.{Stored}
-use Rattle.njh_store.specs.Kept.{Spool}
+use Rattle.njh_store.specs.Kept.{SpoolContents}
 use Rattle.njh_kept.specs.code.Mirrored.{HasRecords, IsOrdered, WritesUnder}
 
 -- job headers and data set headers
@@ -28,7 +28,7 @@ AreBegun is_old written now before =
     × (is_old ≡ false → before ≡ take written now)
 
 -- then all stand there
-abbrev pub Writes : (is_old : Bool) (key written : ℕ) (now : List Stored) → Spool → Spool → Type 0
+abbrev pub Writes : (is_old : Bool) (key written : ℕ) (now : List Stored) → SpoolContents → SpoolContents → Type 0
 Writes is_old key written now s t =
     (before : List Stored) → IsOrdered s → HasRecords key before s → AreBegun is_old written now before
     → WritesUnder key s t × HasRecords key now t

@@ -14,7 +14,7 @@ use Rattle.njh_store.specs.Steps.{Changes}
 use Rattle.njh_header.specs.WholeFiles.{HasHeaders}
 use Rattle.njh_record.specs.Stored.{Stored}
 use Rattle.njh_spool.specs.CustomerSpool.{WholeFile, max_arrived}
-use Rattle.njh_store.specs.Kept.{File, Spool, records_of, with_changed, with_file}
+use Rattle.njh_store.specs.Kept.{File, SpoolContents, records_of, with_changed, with_file}
 use Rattle.njh_kept.specs.Opened.{is_name_of, is_own}
 use Rattle.njh_kept.specs.declared.own_files.HubFile.{HubFile}
 use Rattle.njh_kept.specs.declared.own_files.OwnFiles as own_files
@@ -41,7 +41,7 @@ claim_of m = claim m.numbers m.own
 
 -- The spool file has these whole files of the customer, each of which has headers that read, and what is written next
 -- stands apart from them.
-pub record HasFiles (m : Memory) (s : Spool) (files : List WholeFile) : Type 0 where
+pub record HasFiles (m : Memory) (s : SpoolContents) (files : List WholeFile) : Type 0 where
   pub ordered : IsOrdered s
   pub below : AreBelow m.numbers.next_id s
   pub apart : AreApart (claim_of m)
@@ -56,14 +56,14 @@ pub data Remain : List KeptPartial → List KeptPartial → Type 0 where
   leaves : (p : KeptPartial) (before now : List KeptPartial) → Remain before now → Remain (p ∷ before) now
 
 -- A call leads there, where these are the customer's whole files; what is kept of files that aren't whole stays.
-pub record GoesTo (m m' : Memory) (s t : Spool) (files : List WholeFile) : Type 0 where
+pub record GoesTo (m m' : Memory) (s t : SpoolContents) (files : List WholeFile) : Type 0 where
   pub moves : Moves (claim_of m) (claim_of m') s t
   pub has : HasFiles m' t files
   pub remain : Remain m.own.partial m'.own.partial
   pub records : AllByRecursion (λ p. records_of p.key t ≡ records_of p.key s) m'.own.partial
 
 -- the same of a connection, where these whole files are given on the spool file
-abbrev pub LeadsFiles : (m m' : Memory) → (Spool → List WholeFile → Type 0) → (List WholeFile → List WholeFile → Type 0)
+abbrev pub LeadsFiles : (m m' : Memory) → (SpoolContents → List WholeFile → Type 0) → (List WholeFile → List WholeFile → Type 0)
     → State → State → Type 0
 LeadsFiles m m' Given Becomes old new =
     Leads (λ s t. (files : List WholeFile) → HasFiles m s files → Given s files
@@ -83,14 +83,14 @@ IsReached None files place = length files ≤ place
 IsReached (Some number) files place = IsFoundAt number files place
 
 -- Of each file that isn't whole what is kept is a front of the records of the file that it became, but for headers.
-pub record IsFrontOf (s : Spool) (p : KeptPartial) (now : List Stored) : Type 0 where
+pub record IsFrontOf (s : SpoolContents) (p : KeptPartial) (now : List Stored) : Type 0 where
   pub before : List Stored
   pub long : length before ≡ p.written
   pub within : p.written ≤ length now
   pub stored : HasRecords p.key before s
   pub alike : AreAlike before (take p.written now)
 
-abbrev pub AreFronts : Spool → List KeptPartial → List WholeFile → Type 0
+abbrev pub AreFronts : SpoolContents → List KeptPartial → List WholeFile → Type 0
 AreFronts s partial files =
     AllByRecursion
     (λ p. AllByRecursion (λ f. f.number ≡ p.number → p.seen ≤ length f.records → IsFrontOf s p f.records) files)
@@ -153,7 +153,7 @@ pub record AddsRow (key : ℕ) (summary : FileSummaryView) (g : WholeFile) (m m'
 
 -- This number is in hand; under it stand so many records, a front of a file's but for headers. The files are what they
 -- were.
-pub record IsInHand (key written : ℕ) (m m' : Memory) (s t : Spool) (files : List WholeFile)
+pub record IsInHand (key written : ℕ) (m m' : Memory) (s t : SpoolContents) (files : List WholeFile)
     (now : List Stored) : Type 0 where
   pub moves : Moves (claim_of m) (with_key key (claim_of m')) s t
   pub text : m'.text ≡ m.text

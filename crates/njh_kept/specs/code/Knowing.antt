@@ -8,7 +8,7 @@ use Rattle.njh_spool.specs.Spools.{IsSound}
 use Rattle.njh_stream.specs.WholeFiles.{HaveHeaders}
 use Rattle.njh_hub.specs.Keeping.{IsLed, kept_file}
 use Rattle.njh_hub.specs.WholeHub.{Part}
-use Rattle.njh_store.specs.Kept.{Spool}
+use Rattle.njh_store.specs.Kept.{SpoolContents}
 use Rattle.njh_kept.specs.Opened.{is_name_of}
 use Rattle.njh_kept.specs.code.Following.{Memory, claim_of}
 use Rattle.njh_kept.specs.code.Leading.{Leads}
@@ -17,7 +17,7 @@ use Rattle.njh_kept.specs.code.Partly.{AllGoOn, AllUpToDate}
 use Rattle.njh_kept.specs.code.Remembered.{AllAreApart, AreApart, AreBelow, Mirrored, Moves, Numbers, OwnFiles}
 
 -- The spool file has a customer's whole files, and of the others the first records. All that the hub has was seen.
-pub record HasSpool (spool : Spool) (own : OwnFiles) (now : CustomerSpool) : Type 0 where
+pub record HasSpool (spool : SpoolContents) (own : OwnFiles) (now : CustomerSpool) : Type 0 where
   pub arrived : own.arrived ≡ now.arrived
   pub mirrored : Mirrored spool own now.whole
   pub up_to_date : AllUpToDate now own
@@ -36,7 +36,7 @@ AreNamedApart owns =
     → AllByRecursion (λ o. o.name ≢ own.name) (remove owns c)
 
 -- It has those of each customer, and what is written next stands apart from them.
-pub record Knows (w : Numbers) (owns : List OwnFiles) (now : List CustomerSpool) (spool : Spool) : Type 0 where
+pub record Knows (w : Numbers) (owns : List OwnFiles) (now : List CustomerSpool) (spool : SpoolContents) : Type 0 where
   pub ordered : IsOrdered spool
   pub below : AreBelow w.next_id spool
   pub apart : AllAreApart w owns
@@ -45,7 +45,7 @@ pub record Knows (w : Numbers) (owns : List OwnFiles) (now : List CustomerSpool)
 -- ---- a customer's step
 
 -- The spool file has a customer's files so, its text is its name, and what is written next stands apart from them.
-pub record HasOwn (m : Memory) (s : Spool) (now : CustomerSpool) : Type 0 where
+pub record HasOwn (m : Memory) (s : SpoolContents) (now : CustomerSpool) : Type 0 where
   pub ordered : IsOrdered s
   pub below : AreBelow m.numbers.next_id s
   pub apart : AreApart (claim_of m)
@@ -54,7 +54,7 @@ pub record HasOwn (m : Memory) (s : Spool) (now : CustomerSpool) : Type 0 where
 
 -- The spool file has its files as they are behind the step, and those of others stay. Where no whole file has changed
 -- since the last commit none had before, and what is kept of them is what it was.
-pub record StepGoes (m m' : Memory) (changed changed' : Bool) (before now : CustomerSpool) (s t : Spool)
+pub record StepGoes (m m' : Memory) (changed changed' : Bool) (before now : CustomerSpool) (s t : SpoolContents)
     : Type 0 where
   pub moves : Moves (claim_of m) (claim_of m') s t
   pub named : is_name_of m'.text m'.own.name ≡ true

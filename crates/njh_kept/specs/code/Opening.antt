@@ -6,8 +6,8 @@ use Rattle.njh_stream.specs.SpoolFiles.{records_in}
 use Rattle.njh_hub.specs.WholeHub.{Part, part}
 use Rattle.njh_table.specs.Accepted.{AreDistinct}
 use Rattle.sqlite.specs.State.{State}
-use Rattle.njh_store.specs.Kept.{File, Spool, entry_of}
-use Rattle.njh_store.specs.Standing.{Standing, Stands}
+use Rattle.njh_store.specs.Kept.{File, SpoolContents, entry_of}
+use Rattle.njh_store.specs.CommitState.{CommitState, Stands}
 use Rattle.njh_store.specs.declared.kept.StoredFile.{StoredFile}
 use Rattle.njh_kept.specs.Opened.{is_own}
 use Rattle.njh_kept.specs.code.Mirrored.{IsOrdered, ReadsAs, WritesRowsOf, own_rows}
@@ -26,13 +26,13 @@ abbrev pub keyed_rows : ℕ → List (ℕ × File) → ℕ
 keyed_rows n rows = keyed (λ e. e.1.key) n rows
 
 -- the hub's file was read from this row, and is Held now or isn't
-abbrev pub IsReadFor : Spool → ℕ × File → WholeFile → Type 0
+abbrev pub IsReadFor : SpoolContents → ℕ × File → WholeFile → Type 0
 IsReadFor spool e g = ReadsAs spool e (record { kind = g.kind; held = e.1.held; records = g.records })
 
 -- The customer's first files are kept as the hub has them, and each other one was read from one of the rows that are
 -- left. Since the spool was that one only rows of the customer changed.
 pub record IsRead (name : List ℕ) (whole : List KeptWhole) (left : List (ℕ × File)) (files : List WholeFile)
-    (from now : Spool) : Type 0 where
+    (from now : SpoolContents) : Type 0 where
   pub rows : List (ℕ × File)
   pub before : List WholeFile
   pub behind : List WholeFile
@@ -50,12 +50,12 @@ AreFound spool = AllByRecursion (λ g. records_in g.number spool ≡ g.records) 
 
 -- The rows that were left are read so, and then these are.
 abbrev pub Reads : (name : List ℕ) (spool : CustomerSpool) (was is : List KeptWhole) (left still : List (ℕ × File))
-    → Spool → Spool → Type 0
+    → SpoolContents → SpoolContents → Type 0
 Reads name spool was is left still s t =
-    (from : Spool) → IsRead name was left spool.whole from s → IsRead name is still spool.whole from t
+    (from : SpoolContents) → IsRead name was left spool.whole from s → IsRead name is still spool.whole from t
 
 -- Of a customer all that its rows say is remembered, and the rows say what the hub has.
-pub record IsRemembered (own : OwnFiles) (files : List WholeFile) (s t : Spool) : Type 0 where
+pub record IsRemembered (own : OwnFiles) (files : List WholeFile) (s t : SpoolContents) : Type 0 where
   pub mirrored : Mirrored t own files
   pub writes : WritesRowsOf own.name s t
   pub below : (end : ℕ) → AreBelow end s → AreBelow end t
@@ -68,7 +68,7 @@ pub record IsOwnOf (name : List ℕ) (spool : CustomerSpool) (own : OwnFiles) : 
   pub partial : own.partial ≡ []
 
 -- these are its rows, and the hub's files were read from them
-abbrev pub Remembering : (name : List ℕ) (rows : List (ℕ × File)) (files : List WholeFile) (own : OwnFiles) → Spool → Spool → Type 0
+abbrev pub Remembering : (name : List ℕ) (rows : List (ℕ × File)) (files : List WholeFile) (own : OwnFiles) → SpoolContents → SpoolContents → Type 0
 Remembering name rows files own s t =
     IsOrdered s → owned_of name rows ≡ own_rows name s → AllZip (IsReadFor s) (own_rows name s) files
     → IsRemembered own files s t
@@ -83,7 +83,7 @@ abbrev pub name_at : List (List ℕ) → ℕ → List ℕ
 name_at names c = slice_index_or names c []
 
 -- what is remembered of customer c
-pub record IsCustomer (names : List (List ℕ)) (hub : List Part) (s t : Spool) (c : ℕ) (own : OwnFiles) : Type 0 where
+pub record IsCustomer (names : List (List ℕ)) (hub : List Part) (s t : SpoolContents) (c : ℕ) (own : OwnFiles) : Type 0 where
   pub name : own.name ≡ name_at names c
   pub arrived : own.arrived ≡ (part c hub).customer.spool.arrived
   pub partial : own.partial ≡ []
@@ -91,7 +91,7 @@ pub record IsCustomer (names : List (List ℕ)) (hub : List Part) (s t : Spool) 
   pub keys : (n : ℕ) → keyed (λ k. k.key) n own.whole ≡ keyed_rows n (own_rows (name_at names c) s)
 
 -- so it is of the first so many customers, and nothing is written of any other
-pub record AreRemembered (names : List (List ℕ)) (hub : List Part) (owns : List OwnFiles) (s t : Spool) : Type 0 where
+pub record AreRemembered (names : List (List ℕ)) (hub : List Part) (owns : List OwnFiles) (s t : SpoolContents) : Type 0 where
   pub each : (c : ℕ) → (own : OwnFiles) → c < length owns → own ≡ slice_index_or owns c own
       → IsCustomer names hub s t c own
   pub records : t.records ≡ s.records
@@ -100,12 +100,12 @@ pub record AreRemembered (names : List (List ℕ)) (hub : List Part) (owns : Lis
   pub below : (end : ℕ) → AreBelow end s → AreBelow end t
 
 -- the hub's files of each customer were read from its rows
-abbrev pub AllAreRead : List (List ℕ) → List Part → Spool → Type 0
+abbrev pub AllAreRead : List (List ℕ) → List Part → SpoolContents → Type 0
 AllAreRead names hub s =
     (c : ℕ) → c < length names → AllZip (IsReadFor s) (own_rows (name_at names c) s) (files_at c hub)
 
 abbrev pub RememberingAll : (names : List (List ℕ)) (hub : List Part) (rows : List (ℕ × File)) (owns : List OwnFiles)
-    → Spool → Spool → Type 0
+    → SpoolContents → SpoolContents → Type 0
 RememberingAll names hub rows owns s t =
     IsOrdered s → rows ≡ s.files → AreDistinct names → AllAreRead names hub s → AreRemembered names hub owns s t
 
@@ -116,14 +116,14 @@ AllAreFound names hub = (c : ℕ) → c < length names → AreFound (part c hub)
 -- ---- the opening
 
 -- Of customer c the spool file has the hub's whole files, and so it is remembered.
-pub record IsOpened (names : List (List ℕ)) (hub : List Part) (now : Spool) (c : ℕ) (own : OwnFiles) : Type 0 where
+pub record IsOpened (names : List (List ℕ)) (hub : List Part) (now : SpoolContents) (c : ℕ) (own : OwnFiles) : Type 0 where
   pub name : own.name ≡ name_at names c
   pub arrived : own.arrived ≡ (part c hub).customer.spool.arrived
   pub partial : own.partial ≡ []
   pub mirrored : Mirrored now own (files_at c hub)
 
 -- So it is of all customers, and what is written next stands apart from it.
-pub record HasBegun (names : List (List ℕ)) (hub : List Part) (owns : List OwnFiles) (w : Numbers) (now : Spool)
+pub record HasBegun (names : List (List ℕ)) (hub : List Part) (owns : List OwnFiles) (w : Numbers) (now : SpoolContents)
     : Type 0 where
   pub count : length owns ≡ length names
   pub each : (c : ℕ) → (own : OwnFiles) → c < length owns → own ≡ slice_index_or owns c own
@@ -135,5 +135,5 @@ pub record HasBegun (names : List (List ℕ)) (hub : List Part) (owns : List Own
 -- From a spool on which the hub's files were read from the rows of these customers it goes there, and is committed.
 abbrev pub Begins : (names : List (List ℕ)) (hub : List Part) (owns : List OwnFiles) (w : Numbers) → State → State → Type 0
 Begins names hub owns w old new =
-    (s : Standing) → Stands s old → AreDistinct names → AllAreFound names hub → AllAreRead names hub s.now
-    → (t : Spool) × HasBegun names hub owns w t × Stands (record { now = t; kept = t }) new
+    (s : CommitState) → Stands s old → AreDistinct names → AllAreFound names hub → AllAreRead names hub s.now
+    → (t : SpoolContents) × HasBegun names hub owns w t × Stands (record { now = t; kept = t }) new

@@ -2,7 +2,7 @@
 use Rattle.std.specs.Prelude.{◌≡◌, ℕ, ◌<◌, ◌≤◌, true, false, List, [], length}
 use Rattle.std.specs.List.{AllByRecursion}
 use Rattle.njh_spool.specs.CustomerSpool.{CustomerSpool, WholeFile, partial_records}
-use Rattle.njh_store.specs.Kept.{Spool}
+use Rattle.njh_store.specs.Kept.{SpoolContents}
 use Rattle.njh_store.specs.Shelf.{shown}
 use Rattle.sqlite.specs.State.{HasCleanDisk}
 use Rattle.sqlite.specs.Store.{Ghosts}
@@ -32,7 +32,7 @@ pub record IsUpToDate (now : CustomerSpool) (p : KeptPartial) : Type 0 where
   pub many : 1366 ≤ p.seen
 
 -- Where it can be the file of its number now, records of that stand there.
-abbrev pub GoesOn : CustomerSpool → Spool → KeptPartial → Type 0
+abbrev pub GoesOn : CustomerSpool → SpoolContents → KeptPartial → Type 0
 GoesOn now spool p = p.seen ≤ length (partial_records p.number now) → IsPartlyKept spool p (partial_records p.number now)
 
 -- each of a customer's
@@ -45,27 +45,27 @@ AllUpToDate now own = AllByRecursion (IsUpToDate now) own.partial
 abbrev pub AllClosed : OwnFiles → Type 0
 AllClosed own = AllByRecursion (λ p. p.is_open ≡ false) own.partial
 
-abbrev pub AllGoOn : CustomerSpool → Spool → OwnFiles → Type 0
+abbrev pub AllGoOn : CustomerSpool → SpoolContents → OwnFiles → Type 0
 AllGoOn now spool own = AllByRecursion (GoesOn now spool) own.partial
 
 -- ---- what calls make of the spool file
 
 -- The whole files are these, and records of the others stand there.
-pub record Goes (a b : Claim) (own : OwnFiles) (now : CustomerSpool) (files : List WholeFile) (s t : Spool) : Type 0 where
+pub record Goes (a b : Claim) (own : OwnFiles) (now : CustomerSpool) (files : List WholeFile) (s t : SpoolContents) : Type 0 where
   pub moves : Moves a b s t
   pub mirrored : Mirrored t own files
   pub go_on : AllGoOn now t own
 
 -- The whole files stay as they are, whichever they are, and records of the others stand there still.
 abbrev pub KeepsOn : (w : Numbers) (own : OwnFiles) (new_w : Numbers) (new_own : OwnFiles) (now : CustomerSpool)
-    → Spool → Spool → Type 0
+    → SpoolContents → SpoolContents → Type 0
 KeepsOn w own new_w new_own now s t =
     (files : List WholeFile) → IsOrdered s → AreApart (claim w own) → Mirrored s own files → AllGoOn now s own
     → Goes (claim w own) (claim new_w new_own) new_own now files s t
 
 -- They do where a number is in hand, under which no records stand.
 abbrev pub KeepsNew : (key : ℕ) (w : Numbers) (own : OwnFiles) (new_w : Numbers) (new_own : OwnFiles)
-    (now : CustomerSpool) → Spool → Spool → Type 0
+    (now : CustomerSpool) → SpoolContents → SpoolContents → Type 0
 KeepsNew key w own new_w new_own now s t =
     (files : List WholeFile) → IsOrdered s → AreApart (with_key key (claim w own)) → HasRecords key [] s
     → Mirrored s own files → AllGoOn now s own

@@ -9,7 +9,7 @@ use Rattle.njh_record.specs.Stored.{Stored}
 use Rattle.njh_record.specs.declared.Kind.{Kind}
 use Rattle.njh_spool.specs.CustomerSpool.{WholeFile}
 use Rattle.njh_spool.specs.declared.State.{State}
-use Rattle.njh_store.specs.Kept.{File, Spool, records_of}
+use Rattle.njh_store.specs.Kept.{File, SpoolContents, records_of}
 use Rattle.njh_hub.specs.Files.{said_destination}
 use Rattle.njh_hub.specs.Keeping.{is_held}
 use Rattle.njh_kept.specs.Opened.{kind_word}
@@ -92,7 +92,7 @@ pub record Remembers (k : KeptWhole) (f : WholeFile) : Type 0 where
   pub mixed : k.is_mixed ≡ false → NameOneNode f.kind f.records
 
 -- it is remembered, and its row and its records are there
-pub record IsKept (spool : Spool) (k : KeptWhole) (e : ℕ × File) (f : WholeFile) : Type 0 where
+pub record IsKept (spool : SpoolContents) (k : KeptWhole) (e : ℕ × File) (f : WholeFile) : Type 0 where
   pub id : e.0 ≡ k.id
   pub row : IsRowOf k.key f e.1
   pub remembers : Remembers k f
@@ -100,16 +100,16 @@ pub record IsKept (spool : Spool) (k : KeptWhole) (e : ℕ × File) (f : WholeFi
   pub fits : AllByRecursion FitsHub f.records
 
 -- the rows of the customer are these files' and no others'
-abbrev pub Mirrored : Spool → OwnFiles → List WholeFile → Type 0
+abbrev pub Mirrored : SpoolContents → OwnFiles → List WholeFile → Type 0
 Mirrored spool own files = AllBeside (IsKept spool) own.whole (own_rows own.name spool) files
 
 -- of a file that isn't whole so many records are there
-pub record IsPartlyKept (spool : Spool) (p : KeptPartial) (records : List Stored) : Type 0 where
+pub record IsPartlyKept (spool : SpoolContents) (p : KeptPartial) (records : List Stored) : Type 0 where
   pub written : p.written ≤ length records
   pub stored : HasRecords p.key (take p.written records) spool
 
 -- of each of a customer's, with its records when it was last seen
-abbrev pub PartlyMirrored : Spool → OwnFiles → List (List Stored) → Type 0
+abbrev pub PartlyMirrored : SpoolContents → OwnFiles → List (List Stored) → Type 0
 PartlyMirrored spool own partial = AllZip (IsPartlyKept spool) own.partial partial
 
 -- ---- under which number records stand
@@ -163,7 +163,7 @@ abbrev pub with_key : ℕ → Claim → Claim
 with_key key a = record { name = a.name; next_id = a.next_id; uses = λ n. one_if (key == n) + a.uses n }
 
 -- the numbers of the rows are below the next one
-abbrev pub AreBelow : ℕ → Spool → Type 0
+abbrev pub AreBelow : ℕ → SpoolContents → Type 0
 AreBelow end spool = AllByRecursion (λ e. e.0 < end) spool.files
 
 -- no number is used twice
@@ -172,7 +172,7 @@ AreApart a = (n : ℕ) → a.uses n ≤ 1
 
 -- Rows of other customers stay, and so do the records under numbers that none of these is. No number is used more
 -- often.
-pub record Moves (a b : Claim) (s t : Spool) : Type 0 where
+pub record Moves (a b : Claim) (s t : SpoolContents) : Type 0 where
   pub name : b.name ≡ a.name
   pub uses : (n : ℕ) → b.uses n ≤ a.uses n
   pub ordered : IsOrdered t

@@ -2,7 +2,7 @@
 use Rattle.std.specs.Prelude.{◌≡◌, ℕ, ◌+◌, ◌<◌, ◌≤◌, List, [], ◌∷◌, length, map, fold, slice_set, if◌then◌else◌}
 use Rattle.std.specs.Prelude.{Option, Some, None, ⊤, All, slice_index_or, take}
 use Rattle.njh_hub.specs.WholeHub.{Part, part}
-use Rattle.njh_store.specs.Kept.{Spool, Whole, whole_in, entry_of}
+use Rattle.njh_store.specs.Kept.{SpoolContents, Whole, whole_in, entry_of}
 use Rattle.njh_store.specs.declared.kept.StoredFile.{StoredFile}
 use Rattle.njh_store.specs.declared.kept.StoredRecord.{StoredRecord}
 use Rattle.njh_kept.specs.Opened.{is_name_of, with_whole, whole_fault}
@@ -41,7 +41,7 @@ NoneFails names parts [] = ⊤
 NoneFails names parts (w ∷ ws) = (hub_fault names parts w ≡ None) × NoneFails names (hub_with names parts w) ws
 
 -- what is read of some files of a spool
-abbrev pub wholes : Spool → List StoredFile → List Whole
+abbrev pub wholes : SpoolContents → List StoredFile → List Whole
 wholes spool files = map (λ f. whole_in spool (entry_of f)) files
 
 -- ---- where it stopped
@@ -57,7 +57,7 @@ StopsOn (cause.Store error) fault = ⊤
 StopsOn (cause.File told) fault = fault ≡ Some told
 
 -- none of the files before it failed, and it did
-pub record StopsAt (names : List (List ℕ)) (parts : List Part) (spool : Spool) (files : List StoredFile) (stop : Stop)
+pub record StopsAt (names : List (List ℕ)) (parts : List Part) (spool : SpoolContents) (files : List StoredFile) (stop : Stop)
     : Type 0 where
   pub before : NoneFails names parts (wholes spool (take stop.at files))
   pub why : (d : StoredFile) → StopsOn stop.cause (hub_fault names

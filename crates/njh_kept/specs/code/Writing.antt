@@ -2,13 +2,13 @@
 use Rattle.std.specs.Prelude.{◌≡◌, ℕ, zero, suc, ◌+◌, ◌-◌, ◌<◌, ◌≤◌, ◌^◌, ◌==◌, ◌||◌, ◌⊎◌, min, max, nat_le, nat_lt}
 use Rattle.std.specs.Prelude.{Bool, true, false, if◌then◌else◌, List, [], ◌∷◌, ◌++◌, fold, slice_index_or, slice_set}
 use Rattle.std.specs.List.{AllByRecursion, list_any}
-use Rattle.njh_store.specs.Kept.{Record, Spool, with_record, without_records}
-use Rattle.njh_store.specs.Standing.{Standing}
+use Rattle.njh_store.specs.Kept.{Record, SpoolContents, with_record, without_records}
+use Rattle.njh_store.specs.CommitState.{CommitState}
 use Rattle.njh_store.specs.declared.kept.StoredFile.{StoredFile}
 use Rattle.njh_kept.specs.declared.writer.Sweep.{Sweep}
 
 -- a record in the place of the one that stood there
-abbrev pub with_replaced : Record → Spool → Spool
+abbrev pub with_replaced : Record → SpoolContents → SpoolContents
 with_replaced r spool = with_record r (without_records r.key r.place (r.place + 1) spool)
 
 -- A number is taken: the last of the free ones, or where none is free the first that was never taken.
@@ -28,7 +28,7 @@ first_of sweep = min sweep.next (2 ^ 23)
 abbrev pub behind_of : Sweep → ℕ
 behind_of sweep = min (min (first_of sweep + 512) sweep.end) (2 ^ 23)
 
-abbrev pub without_swept : Sweep → Spool → Spool
+abbrev pub without_swept : Sweep → SpoolContents → SpoolContents
 without_swept sweep spool = without_records sweep.key (first_of sweep) (behind_of sweep) spool
 
 -- what is to be dropped then, and the key that is free where that is nothing
@@ -90,13 +90,13 @@ abbrev pub below : (end key : ℕ) → List ℕ
 below end key = if nat_lt key end then key ∷ [] else []
 
 -- nothing stands under these numbers any more
-abbrev pub without_keys : List ℕ → Spool → Spool
+abbrev pub without_keys : List ℕ → SpoolContents → SpoolContents
 without_keys keys spool = fold (λ s key. without_records key 0 (2 ^ 23) s) spool keys
 
 -- the spool is another one, and what was committed stays
-abbrev pub shows_now : (Spool → Spool) → Standing → Standing
+abbrev pub shows_now : (SpoolContents → SpoolContents) → CommitState → CommitState
 shows_now change s = record s { now = change s.now }
 
 -- another one, and it is committed
-abbrev pub shows_kept : (Spool → Spool) → Standing → Standing
+abbrev pub shows_kept : (SpoolContents → SpoolContents) → CommitState → CommitState
 shows_kept change s = record { now = change s.now; kept = change s.now }

@@ -13,11 +13,11 @@ use crate::file_slot::{FileSlot, KeptPlaces, RecordPlace};
 use crate::record_places::{RECORD_HEAD, place_of_record, read_head};
 use crate::slot_places::{place, slot_at};
 use crate::spool::Spool;
-use crate::store::Store;
+use crate::store::BlockStore;
 use njh_record::Record;
 
 /// The SRCB of the record at a place, and where the next record begins.
-fn pass_record(store: &Store, at: u32, slot: &FileSlot, from: RecordPlace) -> (u8, RecordPlace)
+fn pass_record(store: &BlockStore, at: u32, slot: &FileSlot, from: RecordPlace) -> (u8, RecordPlace)
     requires range { at < length store.now.chains }
     requires file { IsFile slot.now (chain_at at store.now) }
     requires place { IsPlace (unpacked_records slot.now.count (chain_at at store.now).bytes)

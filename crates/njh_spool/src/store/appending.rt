@@ -3,11 +3,11 @@
 ghost use Rattle.std.specs.Prelude.{◌≡◌, ◌+◌, ◌*◌, ◌<◌, ◌≤◌, ◌++◌, length, drop};
 ghost use Rattle.njh_spool.specs.code.Chains.{Grows, chain_at, with_chain, with_bytes, blocks_of, blocks_used};
 
-use crate::store::Store;
+use crate::store::BlockStore;
 use crate::store::block::{BLOCK_DATA, Block, link, put};
 use crate::store::chain_ends::ChainEnds;
 
-impl Store {
+impl BlockStore {
     /// How many bytes more go into the last block of a chain.
     pub(super) fn room_in_last(&self, chain: u32) -> usize
         requires { chain < length self.now.chains }

@@ -4,12 +4,12 @@ ghost use Rattle.std.specs.Prelude.{◌≡◌, ◌+◌, ◌*◌, ◌<◌, ◌≤
 ghost use Rattle.njh_record.specs.Bytes.{field, with_field};
 ghost use Rattle.njh_spool.specs.code.Chains.{chain_at, with_bytes, IsBlockOf, IsNear};
 
-use crate::store::Store;
+use crate::store::BlockStore;
 use crate::store::block::{BLOCK_DATA, put};
 use crate::store::chain_block::{ChainBlock, FIRST_BLOCK};
 use njh_record::Record;
 
-impl Store {
+impl BlockStore {
     /// The key of a chain's block.
     pub(super) fn key_of(&self, chain: u32, block: ChainBlock) -> u32
         requires chain { chain < length self.now.chains }

@@ -13,7 +13,7 @@ use Rattle.njh_stream.specs.declared.receiver.Progress.{Progress}
 use Rattle.njh_stream.specs.declared.receiver.Progress.TheVariants.{Beginning, JobHeader, Placed}
 use Rattle.njh_stream.specs.declared.receiver.Receiver.{Receiver}
 use Rattle.njh_stream.specs.declared.receiver.Receiver.TheVariants.{Idle, Open, Draining}
-use Rattle.njh_stream.specs.Receiving.{Received, received_end, received_nothing, received_record}
+use Rattle.njh_stream.specs.Receiving.{ReceiverStep, received_end, received_nothing, received_record}
 use Rattle.njh_stream.specs.code.Agreement.{AgreesWith}
 
 abbrev pub stored_of : StreamRecord → Stored
@@ -49,7 +49,7 @@ class_of kind (Open n progress) srcb (b ∷ bytes) =
     class_in (file_with n kind progress) (unread_progress kind progress srcb)
 
 -- what a record of a class does on a line
-abbrev pub received_by : CustomerEntry → ℕ → RecordClass → Stored → CustomerSpool → Received
+abbrev pub received_by : CustomerEntry → ℕ → RecordClass → Stored → CustomerSpool → ReceiverStep
 received_by entry l (classes.GoesBy receiver) r s = received_nothing receiver s
 received_by entry l (classes.Ends file) r s = received_end file.number s
 received_by entry l (classes.Stored file progress) r s = received_record entry l file.kind file.number r s

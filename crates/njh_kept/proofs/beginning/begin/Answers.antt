@@ -5,7 +5,7 @@ use Rattle.std.specs.Prelude.{⊤}
 use Rattle.sqlite.specs.Effect.{Database}
 use Rattle.njh_store.specs.Kept.{Holds}
 use Rattle.njh_store.specs.Shelf.{shown}
-use Rattle.njh_store.specs.Standing.{Stands}
+use Rattle.njh_store.specs.CommitState.{Stands}
 use Rattle.njh_kept.specs.code.Apart.{AreFilesApart, have_low_ids}
 use Rattle.njh_kept.specs.code.Memory.{numbers_of, own_of, sweep_in}
 use Rattle.njh_kept.specs.code.Opening.{AreRemembered, HasBegun, entries}

@@ -4,7 +4,7 @@ use Rattle.njh_hub.specs.Keeping.{is_held}
 use Rattle.njh_hub.specs.Views.{file_summary}
 use Rattle.njh_hub.specs.WholeHub.{part}
 use Rattle.njh_hub.specs.declared.file_summary.FileSummaryView.{FileSummaryView}
-use Rattle.njh_store.specs.Kept.{Spool, entry_of, with_changed}
+use Rattle.njh_store.specs.Kept.{SpoolContents, entry_of, with_changed}
 use Rattle.njh_store.specs.Shelf.{shown}
 use Rattle.njh_kept.specs.code.Memory.{whole_of}
 use Rattle.njh_kept.specs.code.Opening.{IsRead}
@@ -63,7 +63,7 @@ returns-clause-led g c text found clean =
     let summary : c.summary_at-summary.result ≡ file_summary f =
     c.summary_at-summary.ensures.summary ∙ ap file_summary (get_or_default spool.whole c.len-index.result _ f there ∙ sym at_index) in
     subst (λ (ks : List KeptWhole). IsRead name ks left spool.whole from t) (sym now)
-    (subst (λ (u : Spool). IsRead name (whole ++ k ∷ []) left spool.whole from u) (sym (by ∙ ap (λ n. with_changed n changed.row s) c.kept_at-kept.ensures.id.0))
+    (subst (λ (u : SpoolContents). IsRead name (whole ++ k ∷ []) left spool.whole from u) (sym (by ∙ ap (λ n. with_changed n changed.row s) c.kept_at-kept.ensures.id.0))
     (goes_on_anew name whole e left spool from s is k f nx.1 c.kept_at-kept.ensures.id.0 c.kept_at-kept.ensures.id.1 remembers changed.row
     (changed.is_row.owned name text) (changed.is_row.of_file f summary))))
     (leads_by (with_changed kept.id changed.row) old new changed.changes))

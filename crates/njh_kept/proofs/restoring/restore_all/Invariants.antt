@@ -1,7 +1,7 @@
 use Rattle.std.proofs.Common.{◌≡◌, length, take}
 use Rattle.sqlite.specs.State.{HasCleanDisk, Survives}
 use Rattle.njh_hub.specs.WholeHub.{SameLines}
-use Rattle.njh_store.specs.Kept.{Spool, Holds}
+use Rattle.njh_store.specs.Kept.{SpoolContents, Holds}
 use Rattle.njh_store.specs.Shelf.{shown}
 use Rattle.njh_store.specs.Steps.{Stays}
 use Rattle.njh_kept.specs.code.Restoring.{NoneFails, hub_with_all, wholes}
@@ -17,6 +17,6 @@ invariant-files g l =
       lines : SameLines l.fn.hub l.hub;
       crash : Survives old now (λ _. ⊥);
       same : HasCleanDisk now → Stays old now;
-      hub : HasCleanDisk now → (spool : Spool) → Holds spool old.now.trees → l.hub ≡ hub_with_all l.names l.fn.hub (wholes spool (take l.at l.files));
-      back : HasCleanDisk now → (spool : Spool) → Holds spool old.now.trees → NoneFails l.names l.fn.hub (wholes spool (take l.at l.files));
+      hub : HasCleanDisk now → (spool : SpoolContents) → Holds spool old.now.trees → l.hub ≡ hub_with_all l.names l.fn.hub (wholes spool (take l.at l.files));
+      back : HasCleanDisk now → (spool : SpoolContents) → Holds spool old.now.trees → NoneFails l.names l.fn.hub (wholes spool (take l.at l.files));
     }

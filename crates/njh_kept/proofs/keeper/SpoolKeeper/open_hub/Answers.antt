@@ -8,7 +8,7 @@ use Rattle.njh_hub.specs.WholeHub.{Part, SameLines, part_at_open}
 use Rattle.njh_hub.specs.declared.depot.DepotFault.{DepotFault}
 use Rattle.njh_store.specs.Kept.{Holds}
 use Rattle.njh_store.specs.Shelf.{shown}
-use Rattle.njh_store.specs.Standing.{Standing, Stands}
+use Rattle.njh_store.specs.CommitState.{CommitState, Stands}
 use Rattle.njh_store.specs.Origin.{StandsAsFound}
 use Rattle.njh_kept.specs.Keeper.{IsCommitted, IsSettledFrom, KnowsHub, KnowsNow}
 use Rattle.njh_kept.specs.code.Opening.{AllAreFound, AllAreRead}
@@ -33,7 +33,7 @@ pub returns-clause-settled : goal.returns-clause-settled
 returns-clause-settled g c = by c.remember_hub.result c.remember_hub.ensures.hub c.remember_hub.ensures.names c.remember_hub.ensures.kept
   where
     by : (r : Result (List Part) DepotFault) → IfOk r (λ remembered. remembered ≡ c.in-Ok-open_from.hub) → OnOk r (c.remember_hub.new.self.names ≡ c.in-Ok.names.items)
-        → (HasCleanDisk (shown g.S.Store c.remember_hub.new.self.store) → OnOk r ((s : Standing) → Stands s (shown g.S.Store c.open_from.new.store) → AreDistinct c.in-Ok.names.items
+        → (HasCleanDisk (shown g.S.Store c.remember_hub.new.self.store) → OnOk r ((s : CommitState) → Stands s (shown g.S.Store c.open_from.new.store) → AreDistinct c.in-Ok.names.items
         → AllAreFound c.in-Ok.names.items c.in-Ok-open_from.hub → AllAreRead c.in-Ok.names.items c.in-Ok-open_from.hub s.now → length c.in-Ok.names.items ≡ length c.in-Ok-open_from.hub
         → IsCommitted g.S.Store c.remember_hub.new.self c.in-Ok-open_from.hub))
         → IfOk r (λ hub. IsSettledFrom g.S.Store c.args.self.now c.remember_hub.new.self c.args.tables hub)
@@ -54,13 +54,13 @@ pub returns-clause-known : goal.returns-clause-known
 returns-clause-known g c = by c.remember_hub.result c.remember_hub.ensures.hub c.remember_hub.ensures.known
   where
     by : (r : Result (List Part) DepotFault) → IfOk r (λ remembered. remembered ≡ c.in-Ok-open_from.hub)
-        → (HasCleanDisk (shown g.S.Store c.remember_hub.new.self.store) → OnOk r ((s : Standing) → Stands s (shown g.S.Store c.open_from.new.store) → AreDistinct c.in-Ok.names.items
+        → (HasCleanDisk (shown g.S.Store c.remember_hub.new.self.store) → OnOk r ((s : CommitState) → Stands s (shown g.S.Store c.open_from.new.store) → AreDistinct c.in-Ok.names.items
         → AllAreFound c.in-Ok.names.items c.in-Ok-open_from.hub → AllAreRead c.in-Ok.names.items c.in-Ok-open_from.hub s.now → length c.in-Ok.names.items ≡ length c.in-Ok-open_from.hub
         → AllByRecursion HasShortRests c.in-Ok-open_from.hub → KnowsNow g.S.Store c.remember_hub.new.self c.in-Ok-open_from.hub))
         → IfOk r (λ hub. KnowsHub g.S.Store g.S.Origin.found c.remember_hub.new.self hub)
     by (Err e) same known = tt
     by (Ok hub) same known = λ clean began found.
-        let s : Standing = record { now = began; kept = began } in
+        let s : CommitState = record { now = began; kept = began } in
         let early : HasCleanDisk (shown g.S.Store c.open_from.new.store) = omega (arith, clean, c.remember_hub.ensures.crash.clean) in
         let first : HasCleanDisk (shown g.S.Store c.self.inside.writer.store) = omega (arith, early, c.open_from.ensures.crash.clean) in
         let stands = c.self.invariant c.if-not-self.false first began found in

@@ -1,6 +1,6 @@
 use Rattle.std.proofs.Common.{◌≡◌, length, refl, sym, ap, subst, ◌∙◌, arith}
 use Rattle.njh_store.specs.Shelf.{shown}
-use Rattle.njh_store.specs.Standing.{Stands}
+use Rattle.njh_store.specs.CommitState.{Stands}
 use Rattle.njh_table.specs.Accepted.{AreDistinct}
 use Rattle.njh_kept.specs.Keeper.{left_in}
 use Rattle.njh_kept.specs.code.Memory.{numbers_of}

@@ -1,6 +1,6 @@
 use Rattle.std.proofs.Common.{◌≡◌, ◌≤◌, ◌-◌, ◌+◌, ◌^◌, ◌++◌, ◌∙◌, ap, min, subst, arith}
 use Rattle.njh_store.specs.Shelf.{shown}
-use Rattle.njh_store.specs.Standing.{Stands}
+use Rattle.njh_store.specs.CommitState.{Stands}
 use Rattle.njh_store.proofs.ReadingLaws.{ok_then}
 use Rattle.njh_kept.specs.code.Writing.{emptied_at, free_at, shows_now, unmarked, without_keys}
 use Rattle.njh_kept.proofs.OpeningNumbers.{emptied_is, free_is}
