@@ -9,7 +9,7 @@ use Rattle.njh_arguments.specs.declared.arguments.Request.TheVariants as request
 use Rattle.njh_arguments.specs.declared.arguments.Task.{Task}
 use Rattle.njh_arguments.specs.declared.arguments.Task.TheVariants.{Encode}
 use Rattle.njh_encode.specs.declared.fault.EncodeFault.{EncodeFault}
-use Rattle.njh_files.specs.Printed.{IsPrinted, IsPrintedInPart}
+use Rattle.njh_listing.specs.Printed.{IsPrinted, IsPrintedInPart}
 use Rattle.njh_hub.specs.Parts.{entries_of}
 use Rattle.njh_hub.specs.WholeHub.{Part, SameLines, part_at_open}
 use Rattle.njh_hub.specs.declared.fault.HubFault.TheVariants.{Memory}

@@ -6,14 +6,14 @@ ghost use Rattle.njh_encode.specs.declared.fault.EncodeEnd.TheVariants.{BadLine}
 ghost use Rattle.njh_encode.specs.declared.fault.EncodeFault.{EncodeFault};
 ghost use Rattle.njh_program.specs.ProgramOutcome.{AreServedOf, Fails, FindsFault, HasBadWords, IsDone, IsDoneInPart};
 ghost use Rattle.njh_program.specs.ProgramOutcome.{IsFilesEnd};
-ghost use Rattle.njh_files.specs.Printed.{IsPrinted, IsPrintedInPart};
+ghost use Rattle.njh_listing.specs.Printed.{IsPrinted, IsPrintedInPart};
 ghost use Rattle.njh_subcommands.specs.Status.{ComesFirst};
 ghost use Rattle.njh_subcommands.specs.TableBytes.{AreRefused};
 
 use crate::service::{Options, serve_file};
 use crate::spooling::Spooling;
 use njh_arguments::Request;
-use njh_files::Asked;
+use njh_listing::Asked;
 use njh_service::Log;
 use njh_subcommands::{Failure, perform};
 use std::io::{Read, Write};

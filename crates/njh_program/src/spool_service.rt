@@ -2,16 +2,16 @@
 
 ghost use Rattle.std.specs.Prelude.{◌≡◌, ◌⊎◌, Some, OnOk, IfErr};
 ghost use Rattle.njh_program.specs.ProgramOutcome.{AreServedOf, IsFilesEnd};
-ghost use Rattle.njh_store.specs.Origin.{StandsAsFound};
+ghost use Rattle.njh_spoolfile.specs.Origin.{StandsAsFound};
 ghost use Rattle.njh_subcommands.specs.TableBytes.{AreRefused};
 
 use crate::service::{Options, serve_over};
 use crate::start_log::log_failure;
-use njh_files::{FilesFault, SpoolFiles};
-use njh_kept::SpoolKeeper;
+use njh_keeper::SpoolKeeper;
+use njh_listing::{FilesFault, SpoolFiles};
 use njh_serve::utc_seconds;
 use njh_service::Log;
-use njh_store::{Origin, Store};
+use njh_spoolfile::{Origin, Store};
 use njh_subcommands::{Failure, tables_of};
 use std::alloc::Global;
 use std::fmt;

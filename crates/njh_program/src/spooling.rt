@@ -2,14 +2,14 @@
 
 ghost use Rattle.std.specs.Prelude.{◌≡◌, ◌⊎◌, option_map, Some, IfErr, OnErr, OnOk};
 ghost use Rattle.std.specs.Io.KnownBytes.{Keeps};
-ghost use Rattle.njh_files.specs.Faults.{IsOfSpool};
-ghost use Rattle.njh_files.specs.Printed.{IsPrinted, IsPrintedInPart};
+ghost use Rattle.njh_listing.specs.Faults.{IsOfSpool};
+ghost use Rattle.njh_listing.specs.Printed.{IsPrinted, IsPrintedInPart};
 ghost use Rattle.njh_program.specs.ProgramOutcome.{AreServedOf, IsFilesEnd};
 ghost use Rattle.njh_subcommands.specs.TableBytes.{AreRefused};
 
 use crate::service::Options;
 use crate::spool_service::serve_spool_file;
-use njh_files::{Asked, FilesFault, SpoolFiles, print};
+use njh_listing::{Asked, FilesFault, SpoolFiles, print};
 use njh_service::Log;
 use njh_subcommands::Failure;
 use std::io::Write;

@@ -4,7 +4,7 @@ use Rattle.njh_subcommands.specs.declared.failure.Failure.{Failure}
 use Rattle.njh_subcommands.specs.declared.failure.Failure.TheVariants.{Arguments, Encode, Found, Replay, Tables, Trace}
 use Rattle.njh_subcommands.specs.declared.failure.Failure.TheVariants as failure
 use Rattle.njh_encode.specs.declared.fault.EncodeEnd.TheVariants as encode
-use Rattle.njh_files.specs.declared.fault.FilesFault.TheVariants as files
+use Rattle.njh_listing.specs.declared.fault.FilesFault.TheVariants as files
 use Rattle.njh_replay.specs.declared.fault.ReplayFault.TheVariants.{TooLong, Script, Device, Hub}
 use Rattle.njh_table.specs.declared.fault.TableFault.{TableFault}
 use Rattle.njh_trace.specs.declared.fault.TraceFault.TheVariants as trace

@@ -7,8 +7,8 @@ ghost use Rattle.njh_subcommands.specs.Status.{status_of, Becomes};
 
 use clap::error::ErrorKind;
 use njh_encode::EncodeEnd;
-use njh_files::FilesFault;
 use njh_hub::HubFault;
+use njh_listing::FilesFault;
 use njh_replay::ReplayFault;
 use njh_table::TableFault;
 use njh_trace::TraceFault;

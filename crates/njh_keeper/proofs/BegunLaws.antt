@@ -1,0 +1,100 @@
+-- A hub that was just opened from a spool file: what the keeper knows of it, and what has come on its lines.
+use Rattle.std.proofs.Common.{◌≡◌, ◌≢◌, ℕ, zero, suc, ◌<◌, List, [], ◌∷◌, length, get_or, map, remove, Option, Some, None, refl, sym, ap, subst, ◌∙◌, arith}
+use Rattle.std.specs.Prelude.{fold}
+use Rattle.std.specs.List.{AllByRecursion, AllZip}
+use Rattle.njh_customer.specs.Growing.{HasShortRests, IsShortRest}
+use Rattle.njh_customer.specs.Part.{rest_at}
+use Rattle.njh_hub.specs.Restored.{part_with_file}
+use Rattle.njh_hub.specs.WholeHub.{Part, no_entry, no_part, part_at_open}
+use Rattle.njh_spool.specs.Restoring.{KeptFile}
+use Rattle.njh_spoolfile.specs.Kept.{SpoolContents, Whole}
+use Rattle.njh_table.specs.Accepted.{AreDistinct}
+use Rattle.njh_table.specs.Entries.{LineEntry}
+use Rattle.njh_table.specs.TableFile.{NamedCustomer, TableFile, entry_of}
+use Rattle.njh_keeper.specs.Opened.{file_in, hub_opened, own_files, part_opened, with_whole}
+use Rattle.njh_keeper.specs.code.Knowing.{AreNamedApart, HasSpool, Knows}
+use Rattle.njh_keeper.specs.code.Opening.{HasBegun, IsOpened}
+use Rattle.njh_keeper.specs.code.Partly.{GoesOn, IsUpToDate}
+use Rattle.njh_keeper.specs.code.Remembered.{Numbers, OwnFiles}
+use Rattle.njh_keeper.proofs.HubLaws.{apart}
+use Rattle.njh_keeper.proofs.OpeningSettled.{zip_by_place}
+
+-- ---- what has come of a line's next frame
+
+-- nothing on a new customer's lines
+nothing_on : (lines : List LineEntry) (l : ℕ) → IsShortRest (rest_at l (part_at_open (record no_entry { lines = lines })).rests)
+nothing_on [] l = tt
+nothing_on (line ∷ lines) zero = tt
+nothing_on (line ∷ lines) (suc l) = nothing_on lines l
+
+-- a file that is put back leaves that as it is
+still_short : (p : Part) (w : Whole) → HasShortRests p → HasShortRests (with_whole p w)
+still_short p w short l = subst IsShortRest (sym (ap (rest_at l) (same (file_in w.file w.records)))) (short l)
+  where
+    same : (f : Option KeptFile) → (elim f as (λ _. Part) [ None ↦ p | Some back ↦ part_with_file back p ]).rests ≡ p.rests
+    same None = refl
+    same (Some back) = refl
+
+part_rests : (ws : List Whole) (p : Part) → HasShortRests p → HasShortRests (fold with_whole p ws)
+part_rests [] p short = short
+part_rests (w ∷ ws) p short = part_rests ws (with_whole p w) (still_short p w short)
+
+-- on each customer's lines nothing
+pub opened_rests : (table : TableFile) (spool : SpoolContents) → AllByRecursion HasShortRests (hub_opened table spool)
+opened_rests table spool = each table.customers
+  where
+    each : (cs : List NamedCustomer) → AllByRecursion HasShortRests (map (λ c. part_opened (entry_of c) (own_files c.name spool)) cs)
+    each [] = tt
+    each (c ∷ cs) = (part_rests (own_files c.name spool) (part_at_open (entry_of c)) (nothing_on (entry_of c).lines), each cs)
+
+-- ---- what the keeper knows
+
+zip_of_map : {X Y Z : Type 0} (R : X → Z → Type 0) (f : Y → Z) (xs : List X) (ys : List Y) → AllZip (λ x y. R x (f y)) xs ys → AllZip R xs (map f ys)
+zip_of_map R f [] [] h = tt
+zip_of_map R f [] (y ∷ ys) h = h
+zip_of_map R f (x ∷ xs) [] h = h
+zip_of_map R f (x ∷ xs) (y ∷ ys) h = (h.0, zip_of_map R f xs ys h.1)
+
+pub all_by_place : {X : Type 0} (P : X → Type 0) (xs : List X) → ((i : ℕ) → (x : X) → i < length xs → x ≡ get_or xs i x → P x) → AllByRecursion P xs
+all_by_place P [] each = tt
+all_by_place P (x ∷ xs) each = (each 0 x (omega arith) refl, all_by_place P xs (λ i y low is. each (suc i) y (omega (arith, low)) is))
+
+pub others_by_place : {X : Type 0} (P : X → Type 0) (xs : List X) (c : ℕ) → ((i : ℕ) → (x : X) → i < length xs → x ≡ get_or xs i x → i ≢ c → P x) → AllByRecursion P (remove xs c)
+others_by_place P [] zero each = tt
+others_by_place P [] (suc c) each = tt
+others_by_place P (x ∷ xs) zero each = all_by_place P xs (λ i y low is. each (suc i) y (omega (arith, low)) is (λ same. omega (arith, same)))
+others_by_place P (x ∷ xs) (suc c) each = (
+  each 0 x (omega arith) refl (λ same. omega (arith, same)),
+  others_by_place P xs c (λ i y low is other. each (suc i) y (omega (arith, low)) is (λ same. other (omega (arith, same)))),
+)
+
+-- no file is remembered that isn't whole
+opened_spool : (names : List (List ℕ)) (hub : List Part) (t : SpoolContents) (c : ℕ) (own : OwnFiles) → IsOpened names hub t c own → HasSpool t own (get_or hub c no_part).customer.spool
+opened_spool names hub t c own opened =
+    let now = (get_or hub c no_part).customer.spool in
+    record {
+      arrived = opened.arrived;
+      mirrored = opened.mirrored;
+      up_to_date = subst (AllByRecursion (IsUpToDate now)) (sym opened.partial) tt;
+      go_on = subst (AllByRecursion (GoesOn now t)) (sym opened.partial) tt;
+    }
+
+-- all of a hub that was just opened, and which customer is which
+pub begun_is_known : (names : List (List ℕ)) (hub : List Part) (owns : List OwnFiles) (w : Numbers) (t : SpoolContents) → HasBegun names hub owns w t → AreDistinct names → length names ≡ length hub
+    → Knows w owns (map (λ p. p.customer.spool) hub) t × AreNamedApart owns
+begun_is_known names hub owns w t begun distinct long = (
+  record {
+    ordered = begun.ordered;
+    below = begun.below;
+    apart = begun.apart;
+    each =
+        zip_of_map (HasSpool t) (λ (p : Part). p.customer.spool) owns hub
+        (zip_by_place (λ own (p : Part). HasSpool t own p.customer.spool) owns hub no_part (begun.count ∙ long) (λ c own low is. opened_spool names hub t c own (begun.each c own low is)));
+  },
+  λ c own there is.
+      others_by_place (λ o. o.name ≢ own.name) owns c
+      (λ i o low at other same.
+      other
+      (apart names distinct i c (omega (arith, begun.count, low)) (omega (arith, begun.count, there))
+      (sym (begun.each i o low at).name ∙ same ∙ (begun.each c own there is).name))),
+)

@@ -1,0 +1,97 @@
+-- A hub that is opened from a spool file, by what was found in it.
+use Rattle.std.proofs.Common.{◌≡◌, ℕ, ◌+◌, ◌<◌, List, [], ◌∷◌, ◌++◌, length, map, take, drop, get_or, Result, Ok, Err, IfOk, IfErr, OnOk, sym, ap, subst, append_assoc, ◌∙◌}
+use Rattle.std.proofs.lemmas.List.{take-append-drop, take_more, map-append}
+use Rattle.njh_table.specs.Accepted.{AreDistinct}
+use Rattle.njh_table.specs.TableFile.{NamedCustomer, TableFile, entry_of as entry_in}
+use Rattle.njh_hub.specs.WholeHub.{Part, part_at_open}
+use Rattle.njh_spoolfile.specs.Kept.{SpoolContents, Whole, entry_of, kept, whole_in}
+use Rattle.njh_spoolfile.specs.declared.kept.StoredFile.{StoredFile}
+use Rattle.njh_keeper.specs.Faults.{Tells}
+use Rattle.njh_keeper.specs.Opened.{AllAreBack, hub_opened}
+use Rattle.njh_keeper.specs.code.Refusing.{IsRefusalOf, StopsIn}
+use Rattle.njh_keeper.specs.code.Restoring.{NoneFails, StopsAt, StopsOn, hub_fault, hub_with_all, wholes}
+use Rattle.njh_keeper.specs.declared.fault.OpeningFault.{OpeningFault}
+use Rattle.njh_keeper.specs.declared.fault.OpeningFault.TheVariants.{Memory, Store, File as Refused}
+use Rattle.njh_keeper.specs.declared.restoring.Stop.{Stop}
+use Rattle.njh_keeper.specs.declared.restoring.StopCause.{StopCause}
+use Rattle.njh_keeper.specs.declared.restoring.StopCause.TheVariants as cause
+use Rattle.njh_keeper.proofs.HubLaws.{all_back, opened, refused}
+use Rattle.njh_keeper.proofs.StepLaws.{wholes_are}
+
+-- What was found: the customers' names, the files without their records, and the hub as it was opened.
+pub record Finds (table : TableFile) (spool : SpoolContents) (names : List (List ℕ)) (hub : List Part) (files : List StoredFile) : Type 0 where
+  pub distinct : AreDistinct (map (λ c. c.name) table.customers)
+  pub names_are : names ≡ map (λ c. c.name) table.customers
+  pub hub_is : hub ≡ map part_at_open (map entry_in table.customers)
+  pub files_are : map entry_of files ≡ spool.files
+
+around : (files : List StoredFile) (at : ℕ) (f : StoredFile) → at < length files → f ≡ get_or files at f → files ≡ take at files ++ f ∷ drop (at + 1) files
+around files at f low here =
+    sym (take-append-drop (at + 1) files) ∙ ap (λ (xs : List StoredFile). xs ++ drop (at + 1) files) (take_more files at f low)
+    ∙ append_assoc (take at files) (get_or files at f ∷ []) (drop (at + 1) files)
+    ∙ ap (λ (x : StoredFile). take at files ++ x ∷ drop (at + 1) files) (sym here)
+
+module _ {table : TableFile} {spool : SpoolContents} {names : List (List ℕ)} {hub : List Part} {files : List StoredFile} (f : Finds table spool names hub files) where
+  all_are : wholes spool files ≡ kept spool
+  all_are = wholes_are spool files f.files_are
+
+  pub opens : (new : List Part) → new ≡ hub_with_all names hub (wholes spool files) → new ≡ hub_opened table spool
+  opens new is = is ∙ (λ i. hub_with_all (f.names_are i) (f.hub_is i) (all_are i)) ∙ opened table f.distinct spool
+
+  pub come_back : NoneFails names hub (wholes spool files) → AllAreBack table (kept spool)
+  come_back none =
+      let start = map part_at_open (map entry_in table.customers) in
+      all_back table f.distinct (kept spool)
+      (subst (λ (ns : List (List ℕ)). NoneFails ns start (kept spool)) f.names_are
+      (subst (λ (ps : List Part). NoneFails names ps (kept spool)) f.hub_is
+      (subst (NoneFails names hub) all_are none)))
+
+  pub tells : (fault : OpeningFault) → StopsIn names hub spool files fault → Tells table spool fault
+  tells Memory h = tt
+  tells (Store error) h = tt
+  tells (Refused it) h =
+      let at = h.0 in
+      let start = map part_at_open (map entry_in table.customers) in
+      let before = wholes spool (take at files) in
+      let w = whole_in spool (entry_of it.file) in
+      let none : NoneFails (map (λ (c : NamedCustomer). c.name) table.customers) start before =
+      subst (λ (ns : List (List ℕ)). NoneFails ns start before) f.names_are
+      (subst (λ (ps : List Part). NoneFails names ps before) f.hub_is h.1.before) in
+      let names_in : List (List ℕ) = map (λ (c : NamedCustomer). c.name) table.customers in
+      let same : hub_fault names (hub_with_all names hub before) w ≡ hub_fault names_in (hub_with_all names_in start before) w =
+      λ i. hub_fault (f.names_are i) (hub_with_all (f.names_are i) (f.hub_is i) before) w in
+      let G : StoredFile → Whole = λ x. whole_in spool (entry_of x) in
+      let split : kept spool ≡ before ++ w ∷ wholes spool (drop (at + 1) files) =
+      sym all_are ∙ ap (map G) (around files at it.file h.1.there h.1.is) ∙ map-append G (take at files) (it.file ∷ drop (at + 1) files) in
+      refused table f.distinct spool before (wholes spool (drop (at + 1) files)) w it.fault split none
+      (sym same ∙ h.2)
+
+-- ---- the file at which it stopped
+
+pub told_of : (names : List (List ℕ)) (hub : List Part) (spool : SpoolContents) (files : List StoredFile) (stop : Stop) (fault : OpeningFault) → stop.at < length files
+    → StopsAt names hub spool files stop → IsRefusalOf stop.cause stop.at files fault → StopsIn names hub spool files fault
+told_of names hub spool files stop fault low stops told = by stop.cause (λ d. stops.why d) told
+  where
+    by : (why : StopCause) → ((d : StoredFile) → StopsOn why (hub_fault names (hub_with_all names hub (wholes spool (take stop.at files))) (whole_in spool (entry_of (get_or files stop.at d)))))
+        → IsRefusalOf why stop.at files fault → StopsIn names hub spool files fault
+    by (cause.Store error) h told = subst (StopsIn names hub spool files) (sym told) tt
+    by (cause.File why) h told =
+        subst (StopsIn names hub spool files) (sym told.2) (
+          stop.at,
+          record { there = low; is = told.1; before = stops.before },
+          ap (λ (x : StoredFile). hub_fault names (hub_with_all names hub (wholes spool (take stop.at files))) (whole_in spool (entry_of x))) told.1 ∙ h told.0,
+        )
+
+-- ---- what follows of an answer
+
+pub if_ok : {T E : Type 0} (P Q : T → Type 0) → ((x : T) → P x → Q x) → (r : Result T E) → IfOk r P → IfOk r Q
+if_ok P Q f (Ok x) h = f x h
+if_ok P Q f (Err e) h = tt
+
+pub on_ok : {T E : Type 0} (P Q : Type 0) → (P → Q) → (r : Result T E) → OnOk r P → OnOk r Q
+on_ok P Q f (Ok x) h = f h
+on_ok P Q f (Err e) h = tt
+
+pub if_err : {T E : Type 0} (P Q : E → Type 0) → ((e : E) → P e → Q e) → (r : Result T E) → IfErr r P → IfErr r Q
+if_err P Q f (Ok x) h = tt
+if_err P Q f (Err e) h = f e h

@@ -1,0 +1,74 @@
+use Rattle.std.proofs.Common.{◌≡◌, ◌++◌, [], length, map, sym, ap, subst, ◌∙◌, arith}
+use Rattle.std.proofs.lemmas.List.{length-map}
+use Rattle.sqlite.specs.State.{HasCleanDisk, State, Survives}
+use Rattle.std.specs.Prelude.{⊤}
+use Rattle.sqlite.specs.Effect.{Database}
+use Rattle.njh_spoolfile.specs.Kept.{Holds}
+use Rattle.njh_spoolfile.specs.Shelf.{shown}
+use Rattle.njh_spoolfile.specs.CommitState.{Stands}
+use Rattle.njh_keeper.specs.code.Apart.{AreFilesApart, have_low_ids}
+use Rattle.njh_keeper.specs.code.Memory.{numbers_of, own_of, sweep_in}
+use Rattle.njh_keeper.specs.code.Opening.{AreRemembered, HasBegun, entries}
+use Rattle.njh_keeper.specs.code.Writing.{emptied_at, free_at, key_behind, without_keys}
+use Rattle.njh_keeper.specs.declared.writer.SpoolWriter.{SpoolWriter}
+use Rattle.njh_keeper.proofs.OpeningBegun.{has_begun}
+use Rattle.njh_keeper.proofs.RowLaws.{is_ordered}
+use Rattle.njh_keeper.proofs.LeadingLaws.{survives_any}
+use Rattle.njh_keeper.proofs.beginning.begin.Goals as goal
+
+pub returns-clause-begun : goal.returns-clause-begun
+returns-clause-begun g c clean s stands distinct found reads =
+    let old = shown g.S.Store c.args.writer.now.store in
+    let first = shown g.S.Store c.files.new.self in
+    let second = shown g.S.Store c.remember_all.new.writer.store in
+    let third = shown g.S.Store c.forget_numbers.new.self.store in
+    let new = shown g.S.Store c.begin_numbers.new.self.store in
+    let items = c.in_ok-files.files.items in
+    let files = c.deref-3.result.now in
+    let names = c.args.names.now in
+    let hub = c.args.hub.now in
+    let owns = map own_of c.in_ok-owns.owns.items in
+    let w = numbers_of c.begin_numbers.new.self in
+    let same : third ≡ second = ap (λ (x : SpoolWriter g.row.S.Denot). shown g.S.Store x.store) c.forget_numbers.ensures.others in
+    let clean_third : HasCleanDisk third = omega (arith, clean, c.begin_numbers.ensures.crash.clean) in
+    let clean_second : HasCleanDisk second = subst HasCleanDisk same clean_third in
+    let clean_first : HasCleanDisk first = omega (arith, clean_second, c.remember_all.ensures.crash.clean) in
+    let stays = c.in_ok-files.ensures.same clean_first in
+    let read : entries items ≡ s.now.files = c.in_ok-files.ensures.files clean_first s.now stands.now in
+    let rows : entries files ≡ s.now.files = ap entries c.deref-3.ensures.value ∙ read in
+    let same_files : c.deref.result.now ≡ files = c.deref.ensures.value ∙ sym c.deref-3.ensures.value in
+    let there : Stands s first = record {
+      is_open = stays.is_open stands.is_open;
+      now = subst (λ (d : Database). Holds s.now d.trees) (sym stays.now) stands.now;
+      kept = subst (λ (d : Database). Holds s.kept d.trees) (sym stays.committed) stands.kept;
+    } in
+    let led = (c.in_ok-owns.ensures.led found clean_second).leads s there in
+    let all : AreRemembered names hub owns s.now led.0 = led.2 (is_ordered s.now old.now.trees stands.now) (ap entries c.deref-2.ensures.value ∙ read) distinct reads in
+    let long : length owns ≡ length names =
+    (let a = length-map c.in_ok-owns.owns.items own_of in let b = length-map c.in_ok-owns.owns.items (λ own. own.name) in let d = ap length c.in_ok-owns.ensures.names in omega (arith, a, b, d)) in
+    let key = c.forget_numbers.new.self.next_key in
+    let id = c.forget_numbers.new.self.next_id in
+    let numbers = c.in_ok-begin_numbers.ensures.numbers in
+    let sweeps : w.sweeps ≡ [] = ap (λ xs. map sweep_in xs.items) c.begin_numbers.ensures.others.0 ∙ ap (map sweep_in) c.forget_numbers.ensures.none.1 in
+    let free : w.free_keys ≡ free_at files w.next_key = numbers.2 ∙ ap (λ xs. xs ++ free_at files w.next_key) c.forget_numbers.ensures.none.0 in
+    let begun : HasBegun names hub owns w (without_keys (emptied_at files (key_behind key files)) led.0) =
+    has_begun files names hub owns s.now led.0 w id key (subst AreFilesApart same_files c.in_ok-check_numbers.ensures.0) (sym (ap have_low_ids same_files) ∙ c.in_ok-check_numbers.ensures.1) rows distinct long all sweeps free numbers.1 numbers.0 in
+    let moved : Stands (record s { now = led.0 }) third = subst (λ (x : State). Stands (record s { now = led.0 }) x) (sym same) led.1 in
+    (without_keys (emptied_at files (key_behind key files)) led.0, begun, c.in_ok-begin_numbers.ensures.begun clean (record s { now = led.0 }) moved)
+
+pub returns-in_err-owns-clause-crash : goal.returns-in_err-owns-clause-crash
+returns-in_err-owns-clause-crash g c = survives_any _ _ _ _ _ c.files.ensures.crash c.remember_all.ensures.crash
+
+pub returns-in_err-begin_numbers-clause-crash : goal.returns-in_err-begin_numbers-clause-crash
+returns-in_err-begin_numbers-clause-crash g c =
+    let same = ap (λ (x : SpoolWriter g.row.S.Denot). shown g.S.Store x.store) c.forget_numbers.ensures.others in
+    survives_any _ _ _ _ _ c.files.ensures.crash
+    (survives_any _ _ _ _ _ c.remember_all.ensures.crash
+    (subst (λ (x : State). Survives x (shown g.S.Store c.begin_numbers.new.self.store) (λ _. ⊤)) same c.begin_numbers.ensures.crash))
+
+pub returns-clause-crash : goal.returns-clause-crash
+returns-clause-crash g c =
+    let same = ap (λ (x : SpoolWriter g.row.S.Denot). shown g.S.Store x.store) c.forget_numbers.ensures.others in
+    survives_any _ _ _ _ _ c.files.ensures.crash
+    (survives_any _ _ _ _ _ c.remember_all.ensures.crash
+    (subst (λ (x : State). Survives x (shown g.S.Store c.begin_numbers.new.self.store) (λ _. ⊤)) same c.begin_numbers.ensures.crash))

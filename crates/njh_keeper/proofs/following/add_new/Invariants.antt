@@ -1,0 +1,22 @@
+use Rattle.std.proofs.Common.{◌≡◌, take}
+use Rattle.sqlite.specs.State.{HasCleanDisk, Survives}
+use Rattle.njh_hub.specs.WholeHub.{part}
+use Rattle.njh_spoolfile.specs.Shelf.{shown}
+use Rattle.njh_keeper.specs.code.Following.{AreFronts, IsQuiet, LeadsFiles, memory_of}
+use Rattle.njh_keeper.specs.code.Memory.{own_of}
+use Rattle.njh_keeper.specs.code.Walking.{AreNumbered}
+use Rattle.njh_keeper.proofs.following.add_new.Given as goal
+
+-- so many files are there
+abbrev pub invariant-new : goal.invariant-new
+invariant-new g l =
+    let first = shown g.S.Store l.fn.writer.store in
+    let now = shown g.S.Store l.writer.store in
+    let whole = (part l.customer l.hub).customer.spool.whole in
+    record {
+      crash : Survives first now (λ _. ⊥);
+      led : AreNumbered whole → HasCleanDisk now
+          → LeadsFiles (memory_of l.fn.writer l.fn.own) (memory_of l.writer l.own) (λ s files. (files ≡ take l.old whole) × AreFronts s (own_of l.fn.own).partial whole)
+          (λ files here. here ≡ take l.index whole) first now;
+      quiet : IsQuiet l.fn.writer l.writer;
+    }

@@ -1,0 +1,56 @@
+use Rattle.std.proofs.Common.{rules, ◌≡◌, [], ◌∷◌, map, refl, ap, subst, ◌∙◌}
+use Rattle.std.proofs.lemmas.List.{map-append}
+use Rattle.njh_hub.specs.declared.file_summary.FileSummaryView.{FileSummaryView}
+use Rattle.njh_spoolfile.proofs.ReadingLaws.{ok_then}
+use Rattle.njh_spoolfile.specs.Kept.{file_of, with_file}
+use Rattle.njh_spoolfile.specs.Shelf.{shown}
+use Rattle.njh_spoolfile.specs.Steps.{Changes}
+use Rattle.njh_keeper.specs.declared.own_files.KeptWhole as declared
+use Rattle.njh_keeper.specs.declared.writer.SpoolWriter.{SpoolWriter}
+use Rattle.njh_keeper.specs.code.Following.{IsRowFor, memory_of}
+use Rattle.njh_keeper.specs.code.Memory.{numbers_of, whole_of}
+use Rattle.njh_hub.proofs.KeepingLaws.{on_ok}
+use Rattle.njh_keeper.proofs.following.add_row.Goals as goal
+
+pub returns-clause-added : goal.returns-clause-added
+returns-clause-added g c f hub_file clean =
+    let new = shown g.S.Store c.add_file-added.new.self.store in
+    let m = memory_of c.args.writer.now c.args.own.now in
+    let summary = c.args.summary.now in
+    let now : declared.KeptWhole = record {
+      id = c.in_ok-take_id.field-0;
+      key = c.args.key;
+      number = c.args.file.number;
+      records = summary.records;
+      state = summary.state;
+      destination = summary.destination;
+      is_mixed = c.names_several.result;
+      came = c.take_id.new.self.now;
+    } in
+    let row = file_of c.in_ok-row.row in
+    let before : shown g.S.Store c.take_id.new.self.store ≡ shown g.S.Store c.args.writer.now.store = ap (λ (x : SpoolWriter g.row.S.Denot). shown g.S.Store x.store) c.in_ok-take_id.ensures.others in
+    ok_then c.add_file-added.result _ _
+    (λ changed. record {
+      kept = whole_of now;
+      row = row;
+      id = c.in_ok-take_id.ensures.taken;
+      key_is = refl;
+      remembers = record {
+        number = hub_file.number_is;
+        records = ap (λ (x : FileSummaryView). x.records) hub_file.summary_is;
+        state = ap (λ (x : FileSummaryView). x.state) hub_file.summary_is;
+        destination = ap (λ (x : FileSummaryView). x.destination) hub_file.summary_is;
+        mixed = λ none. c.names_several.ensures f hub_file none;
+      };
+      memory = λ j. record {
+        numbers = (ap numbers_of c.add_file-added.ensures.others ∙ ap numbers_of c.in_ok-take_id.ensures.others) j;
+        own = record m.own { whole = (ap (map whole_of) c.in_ok-push.ensures.items ∙ map-append whole_of c.args.own.now.whole.items (now ∷ [])) j };
+        text = m.text;
+      };
+      is_row = (let is : IsRowFor m.text c.args.key summary row = search rules in is);
+      changes = subst (λ x. Changes (with_file now.id row) x new) before changed;
+    })
+    (c.add_file-added.ensures.changed clean)
+
+pub returns-clause-due : goal.returns-clause-due
+returns-clause-due g c = on_ok c.add_file-added.result (ap (λ (x : SpoolWriter g.row.S.Denot). x.is_changed) c.add_file-added.ensures.others)

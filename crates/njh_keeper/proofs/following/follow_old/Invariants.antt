@@ -1,0 +1,23 @@
+use Rattle.std.proofs.Common.{◌≡◌, take}
+use Rattle.sqlite.specs.State.{HasCleanDisk, Survives}
+use Rattle.njh_customer.specs.Surviving.{Survive}
+use Rattle.njh_hub.specs.WholeHub.{part}
+use Rattle.njh_spoolfile.specs.Shelf.{shown}
+use Rattle.njh_keeper.specs.code.Following.{IsQuiet, LeadsFiles, memory_of}
+use Rattle.njh_keeper.specs.code.Walking.{AreNumbered, IsWalkedTo}
+use Rattle.njh_keeper.proofs.following.follow_old.Given as goal
+
+-- so many files were followed
+abbrev pub invariant-old : goal.invariant-old
+invariant-old g l =
+    let first = shown g.S.Store l.fn.writer.store in
+    let now = shown g.S.Store l.writer.store in
+    let whole = (part l.customer l.hub).customer.spool.whole in
+    record {
+      crash : Survives first now (λ _. ⊥);
+      place : l.place ≡ l.index;
+      led : AreNumbered whole → HasCleanDisk now
+          → LeadsFiles (memory_of l.fn.writer l.fn.own) (memory_of l.writer l.own) (λ s files. Survive files (take l.old whole) × AreNumbered files)
+          (λ files here. IsWalkedTo (take l.old whole) here l.index) first now;
+      quiet : IsQuiet l.fn.writer l.writer;
+    }

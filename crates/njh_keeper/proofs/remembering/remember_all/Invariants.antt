@@ -1,0 +1,23 @@
+use Rattle.std.proofs.Common.{◌≡◌, true, map, take, string_bytes}
+use Rattle.std.specs.List.{AllByRecursion}
+use Rattle.sqlite.specs.State.{HasCleanDisk, Survives}
+use Rattle.njh_spoolfile.specs.Shelf.{shown}
+use Rattle.njh_keeper.specs.Opened.{is_name_of}
+use Rattle.njh_keeper.specs.code.Leading.{Leads}
+use Rattle.njh_keeper.specs.code.Memory.{own_of}
+use Rattle.njh_keeper.specs.code.Opening.{AllAreFound, RememberingAll, entries}
+use Rattle.njh_keeper.proofs.remembering.remember_all.Given as goal
+
+-- so many customers' files are remembered
+abbrev pub invariant-names : goal.invariant-names
+invariant-names g l =
+    let old = shown g.S.Store l.fn.writer.store in
+    let now = shown g.S.Store l.writer.store in
+    record {
+      crash : Survives old now (λ _. ⊥);
+      writer : l.writer ≡ record l.fn.writer { store = l.writer.store; is_changed = l.writer.is_changed };
+      names : map (λ own. own.name) l.customers.items ≡ take l.place l.names;
+      texts : AllByRecursion (λ own. is_name_of (string_bytes own.text) own.name ≡ true) l.customers.items;
+      led : AllAreFound l.names l.hub → HasCleanDisk now
+          → Leads (RememberingAll l.names l.hub (entries l.files) (map own_of l.customers.items)) old now;
+    }

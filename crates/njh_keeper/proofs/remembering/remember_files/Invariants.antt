@@ -1,0 +1,25 @@
+use Rattle.std.proofs.Common.{◌≡◌, true, drop, map, string_bytes}
+use Rattle.sqlite.specs.State.{HasCleanDisk, Survives}
+use Rattle.njh_hub.specs.WholeHub.{part}
+use Rattle.njh_spoolfile.specs.Shelf.{shown}
+use Rattle.njh_keeper.specs.Opened.{is_name_of}
+use Rattle.njh_keeper.specs.code.Leading.{Leads}
+use Rattle.njh_keeper.specs.code.Memory.{whole_of}
+use Rattle.njh_keeper.specs.code.Opening.{AreFound, Reads, entries, owned_of}
+use Rattle.njh_keeper.proofs.remembering.remember_files.Given as goal
+
+-- the customer's rows among the first so many were read
+abbrev pub invariant-files : goal.invariant-files
+invariant-files g l =
+    let old = shown g.S.Store l.fn.writer.store in
+    let now = shown g.S.Store l.writer.store in
+    let name = l.fn.own.name in
+    let spool = (part l.customer l.hub).customer.spool in
+    record {
+      crash : Survives old now (λ _. ⊥);
+      writer : l.writer ≡ record l.fn.writer { store = l.writer.store; is_changed = l.writer.is_changed };
+      others : l.own ≡ record l.fn.own { whole = l.own.whole };
+      led : is_name_of (string_bytes l.fn.own.text) name ≡ true → AreFound spool → HasCleanDisk now
+          → Leads (Reads name spool (map whole_of l.fn.own.whole.items) (map whole_of l.own.whole.items)
+          (owned_of name (entries l.files)) (owned_of name (entries (drop l.at l.files)))) old now;
+    }

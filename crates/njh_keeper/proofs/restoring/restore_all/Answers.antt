@@ -1,0 +1,41 @@
+use Rattle.std.proofs.Common.{◌∙◌, subst, sym, arith}
+use Rattle.sqlite.specs.State.{HasCleanDisk}
+use Rattle.sqlite.specs.Effect.{Database}
+use Rattle.sqlite.proofs.StateLemmas.{survives_then}
+use Rattle.njh_spoolfile.specs.Kept.{Holds}
+use Rattle.njh_spoolfile.specs.Shelf.{shown}
+use Rattle.njh_keeper.proofs.StepLaws.{hub_more, none_more, stays_then}
+use Rattle.njh_keeper.proofs.LeadingLaws.{survives_both}
+use Rattle.njh_keeper.proofs.restoring.restore_all.Goals as goal
+
+pub files-preserved : goal.files-preserved
+files-preserved g c =
+    let old = shown g.S.Store c.args.store.now in
+    let mid = shown g.S.Store c.files.store in
+    let new = shown g.S.Store c.restore_one.new.store in
+    let done = c.in-Ok.ensures in
+    let so_far = c.files.invariant in
+    let early : HasCleanDisk new → HasCleanDisk mid = λ clean. omega (arith, c.restore_one.ensures.crash.clean) in
+    record {
+      count = c.restore_one.ensures.count ∙ so_far.count;
+      lines = λ d. c.restore_one.ensures.lines d ∙ so_far.lines d;
+      crash = survives_then old mid new _ _ (λ _. ⊥) (λ _ db none. none) (λ _ db none. none) so_far.crash c.restore_one.ensures.crash;
+      same = λ clean. stays_then old mid new (so_far.same (early clean)) (done.same clean);
+      hub = λ clean spool held.
+          let now : Holds spool mid.now.trees = subst (λ (d : Database). Holds spool d.trees) (sym (so_far.same (early clean)).now) held in
+          hub_more c.args.names.now c.args.hub.now c.files.hub c.restore_one.new.hub spool c.args.files.now c.files.at c.index-files-at.result c.files-test.true c.index-files-at.is
+          (so_far.hub (early clean) spool held) (done.ok clean spool now).0;
+      back = λ clean spool held.
+          let now : Holds spool mid.now.trees = subst (λ (d : Database). Holds spool d.trees) (sym (so_far.same (early clean)).now) held in
+          none_more c.args.names.now c.args.hub.now c.files.hub spool c.args.files.now c.files.at c.index-files-at.result c.files-test.true c.index-files-at.is
+          (so_far.hub (early clean) spool held) (so_far.back (early clean) spool held) (done.ok clean spool now).1;
+    }
+
+pub returns-in-Err-clause-lines : goal.returns-in-Err-clause-lines
+returns-in-Err-clause-lines g c = λ d. c.restore_one.ensures.lines d ∙ c.files.invariant.lines d
+
+pub returns-clause-lines : goal.returns-clause-lines
+returns-clause-lines g c = c.files.invariant.lines
+
+pub returns-in-Err-clause-crash : goal.returns-in-Err-clause-crash
+returns-in-Err-clause-crash g c = survives_both _ _ _ c.files.invariant.crash c.restore_one.ensures.crash

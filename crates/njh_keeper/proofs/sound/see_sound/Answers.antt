@@ -1,0 +1,17 @@
+use Rattle.std.proofs.Common.{◌≡◌, inl, inr, subst, arith}
+use Rattle.std.proofs.lemmas.Bool.{cases_lt}
+use Rattle.njh_spool.specs.Spools.{IsSound}
+use Rattle.njh_stream.specs.WholeFiles.{HaveHeaders}
+use Rattle.njh_hub.specs.WholeHub.{part}
+use Rattle.njh_keeper.proofs.sound.see_sound.Goals as goal
+
+pub customers-preserved : goal.customers-preserved
+customers-preserved c = record {
+  sound = λ d low. elim (cases_lt d c.customers.at) [
+    | inl before ↦ c.customers.invariant.sound d before
+    | inr not_before ↦
+        (let is : c.in-Ok.customer ≡ d = omega (arith, c.in-Ok.ensures, not_before, low) in
+        subst (λ n. IsSound (part n c.args.hub.now).customer.spool × HaveHeaders (part n c.args.hub.now).customer.spool.whole) is
+        (c.files_are_sound.ensures.sound, c.files_are_sound.ensures.headers))
+  ];
+}

@@ -1,0 +1,11 @@
+use Rattle.std.proofs.Common.{ℕ, ◌<◌}
+use Rattle.njh_spool.specs.Spools.{IsSound}
+use Rattle.njh_stream.specs.WholeFiles.{HaveHeaders}
+use Rattle.njh_hub.specs.WholeHub.{part}
+use Rattle.njh_keeper.proofs.sound.see_sound.Given as goal
+
+-- so it is of those before this one
+abbrev pub invariant-customers : goal.invariant-customers
+invariant-customers l = record {
+  sound : (c : ℕ) → c < l.at → IsSound (part c l.hub).customer.spool × HaveHeaders (part c l.hub).customer.spool.whole;
+}

@@ -1,0 +1,18 @@
+use Rattle.std.proofs.Common.{◌≡◌, ◌++◌, min}
+use Rattle.sqlite.specs.State.{HasCleanDisk, Survives}
+use Rattle.njh_spoolfile.specs.Shelf.{shown}
+use Rattle.njh_spoolfile.specs.CommitState.{CommitState, Stands}
+use Rattle.njh_keeper.specs.code.Writing.{shows_now, unmarked, without_keys}
+use Rattle.njh_keeper.proofs.writer.SpoolWriter.empty_unmarked.Given as goal
+
+-- so many numbers were looked at
+abbrev pub invariant-keys : goal.invariant-keys
+invariant-keys g l =
+    let old = shown g.S.Store l.fn.self.store in
+    let now = shown g.S.Store l.self.store in
+    record {
+      crash : Survives old now (λ _. ⊥);
+      emptied : HasCleanDisk now → (s : CommitState) → Stands s old → Stands (shows_now (without_keys (unmarked l.marks l.key)) s) now;
+      free : l.self.free_keys.items ≡ l.fn.self.free_keys.items ++ unmarked l.marks (min l.key l.fn.self.next_key);
+      others : l.self ≡ record l.fn.self { store = l.self.store; free_keys = l.self.free_keys };
+    }

@@ -1,0 +1,120 @@
+-- What a hub has that is opened from a spool file: each customer its own whole files, put back in their order.
+use Rattle.std.specs.Prelude.{◌≡◌, ℕ, ◌+◌, ◌<◌, ◌==◌, Bool, true, false, ◌&&◌, nat_lt, nat_le, if◌then◌else◌, bytes_eq}
+use Rattle.std.specs.Prelude.{List, [], ◌∷◌, ◌++◌, length, map, filter, fold, codes, Option, Some, None, option_map, Ok}
+use Rattle.std.specs.Prelude.{Err, ⊤}
+use Rattle.njh_ebcdic.specs.Reading.{name_of_text}
+use Rattle.njh_record.specs.Stored.{Stored}
+use Rattle.njh_record.specs.declared.Kind.{Kind}
+use Rattle.njh_record.specs.declared.Kind.TheVariants.{In, Out}
+use Rattle.njh_spool.specs.Restoring.{KeptFile, restore_fault}
+use Rattle.njh_table.specs.Entries.{CustomerEntry}
+use Rattle.njh_table.specs.TableFile.{TableFile, customer_at, entry_of}
+use Rattle.njh_hub.specs.Restored.{part_with_file}
+use Rattle.njh_hub.specs.WholeHub.{Part, part_at_open}
+use Rattle.njh_spoolfile.specs.Kept.{File, SpoolContents, Whole, kept}
+use Rattle.njh_spoolfile.specs.Lists.{kept_where}
+use Rattle.njh_keeper.specs.declared.fault.FileFault.{FileFault}
+use Rattle.njh_keeper.specs.declared.fault.FileFault.TheVariants.{BadFile, Refused}
+
+-- ---- a whole file of a spool file as a hub has it
+
+-- of a record its place, its SRCB and its bytes
+abbrev pub Contents : Type 0
+Contents = ℕ × ℕ × List ℕ
+
+abbrev pub as_stored : Contents → Stored
+as_stored r = record { srcb = r.1; bytes = r.2 }
+
+-- the word for a kind of file
+abbrev pub kind_word : Kind → List ℕ
+kind_word In = codes "SYSIN"
+kind_word Out = codes "SYSOUT"
+
+abbrev pub kind_of_word : List ℕ → Option Kind
+kind_of_word word =
+    if bytes_eq word (codes "SYSIN") then Some In else if bytes_eq word (codes "SYSOUT") then Some Out else None
+
+-- at this place, with an SRCB that is a byte, and at most 256 bytes
+abbrev pub is_record_at : ℕ → Contents → Bool
+is_record_at place r = (r.0 == place) && (nat_lt r.1 256 && nat_le (length r.2) 256)
+
+-- at the places from this one on, without a hole
+abbrev pub are_records_from : ℕ → List Contents → Bool
+are_records_from place [] = true
+are_records_from place (r ∷ rs) = is_record_at place r && are_records_from (place + 1) rs
+
+-- all the records that a file says it has
+abbrev pub are_records_of : File → List Contents → Bool
+are_records_of file records = (length records == file.records) && are_records_from 0 records
+
+-- The file as a hub has it: its kind, whether it is Held, and its records. None where its records aren't all there, or
+-- its kind is none.
+abbrev pub file_in : File → List Contents → Option KeptFile
+file_in file records =
+    if are_records_of file records then option_map
+    (λ kind. record { kind = kind; held = file.held; records = map as_stored records })
+    (kind_of_word file.kind) else None
+
+-- ---- it is put back, or isn't
+
+abbrev pub file_fault : Part → File → List Contents → Option FileFault
+file_fault p file records = elim (file_in file records)
+    [ None ↦ Some BadFile | Some f ↦ option_map Refused (restore_fault f p.customer.spool) ]
+
+abbrev pub with_file : Part → File → List Contents → Part
+with_file p file records = elim (file_in file records) [ None ↦ p | Some f ↦ part_with_file f p ]
+
+-- why a whole file of a spool isn't put back into a customer's part, and the part with it
+abbrev pub whole_fault : Part → Whole → Option FileFault
+whole_fault p w = file_fault p w.file w.records
+
+abbrev pub with_whole : Part → Whole → Part
+with_whole p w = with_file p w.file w.records
+
+-- ---- a customer alone
+
+-- a text is this customer's name
+abbrev pub is_name_of : List ℕ → List ℕ → Bool
+is_name_of text name = elim (name_of_text text) [ Ok read ↦ bytes_eq read name | Err fault ↦ false ]
+
+abbrev pub is_own : List ℕ → File → Bool
+is_own name file = is_name_of file.customer name
+
+-- of some whole files those of the customer of this name
+abbrev pub own : List ℕ → List Whole → List Whole
+own name ws = filter (λ w. is_own name w.file) ws
+
+-- a customer's whole files on a spool file, in their order of arrival
+abbrev pub own_files : List ℕ → SpoolContents → List Whole
+own_files name spool = kept_where (is_own name) spool
+
+-- A customer's part of a hub that was opened from these files of its own: each is put back, one after the other.
+abbrev pub part_opened : CustomerEntry → List Whole → Part
+part_opened entry ws = fold with_whole (part_at_open entry) ws
+
+-- each of them could be put back
+abbrev pub AreBack : Part → List Whole → Type 0
+AreBack p [] = ⊤
+AreBack p (w ∷ ws) = (whole_fault p w ≡ None) × AreBack (with_whole p w) ws
+
+-- ---- the hub
+
+abbrev pub hub_opened : TableFile → SpoolContents → List Part
+hub_opened table spool = map (λ c. part_opened (entry_of c) (own_files c.name spool)) table.customers
+
+-- the files of each customer of the tables could be put back
+abbrev pub AllAreBack : TableFile → List Whole → Type 0
+AllAreBack table ws = (c : ℕ) → c < length table.customers
+    → AreBack (part_at_open (entry_of (customer_at table c))) (own (customer_at table c).name ws)
+
+-- The first whole file of a spool that isn't put back, and why: those before it were, and it is of this customer.
+pub record IsRefused (table : TableFile) (spool : SpoolContents) (w : Whole) (fault : FileFault) : Type 0 where
+  pub before : List Whole
+  pub after : List Whole
+  pub customer : ℕ
+  pub split : kept spool ≡ before ++ w ∷ after
+  pub back : AllAreBack table before
+  pub there : customer < length table.customers
+  pub owned : is_own (customer_at table customer).name w.file ≡ true
+  pub why : whole_fault (part_opened (entry_of (customer_at table customer))
+      (own (customer_at table customer).name before)) w ≡ Some fault

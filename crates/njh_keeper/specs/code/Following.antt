@@ -1,0 +1,192 @@
+-- What calls of the keeper make of a customer's whole files on a spool file.
+use Rattle.std.specs.Prelude.{◌≡◌, ℕ, ◌+◌, ◌<◌, ◌≤◌, true, false, List, [], ◌∷◌, ◌++◌, length, get_or, take, string_bytes}
+use Rattle.std.specs.Prelude.{Option, Some, None}
+use Rattle.std.specs.List.{AllByRecursion}
+use Rattle.sqlite.specs.State.{State}
+use Rattle.njh_customer.specs.Surviving.{FilesGoOn, IsStill}
+use Rattle.njh_customer.specs.Customer.{Customer}
+use Rattle.njh_customer.specs.OutgoingFiles.{outgoing}
+use Rattle.njh_stream.specs.SpoolFiles.{records_in}
+use Rattle.njh_hub.specs.Views.{file_summary}
+use Rattle.njh_hub.specs.WholeHub.{Part, part}
+use Rattle.njh_hub.specs.declared.file_summary.FileSummaryView.{FileSummaryView}
+use Rattle.njh_spoolfile.specs.Steps.{Changes}
+use Rattle.njh_header.specs.WholeFiles.{HasHeaders}
+use Rattle.njh_record.specs.Stored.{Stored}
+use Rattle.njh_spool.specs.CustomerSpool.{WholeFile, max_arrived}
+use Rattle.njh_spoolfile.specs.Kept.{File, SpoolContents, records_of, with_changed, with_file}
+use Rattle.njh_keeper.specs.Opened.{is_name_of, is_own}
+use Rattle.njh_keeper.specs.declared.own_files.HubFile.{HubFile}
+use Rattle.njh_keeper.specs.declared.own_files.OwnFiles as own_files
+use Rattle.njh_keeper.specs.declared.writer.SpoolWriter as spool_writer
+use Rattle.njh_keeper.specs.code.Leading.{Leads}
+use Rattle.njh_keeper.specs.code.Memory.{numbers_of, own_of}
+use Rattle.njh_keeper.specs.code.Mirrored.{HasRecords, IsOrdered}
+use Rattle.njh_keeper.specs.code.Remembered.{AreApart, AreBelow, Claim, IsRowOf, KeptPartial, KeptWhole, Mirrored, Moves}
+use Rattle.njh_keeper.specs.code.Remembered.{Numbers, OwnFiles, Remembers, claim, with_key}
+use Rattle.njh_keeper.specs.code.Alike.{AreAlike}
+use Rattle.njh_keeper.specs.code.Walking.{AreNumbered}
+
+-- what is remembered of a customer and of the numbers, and the customer's name as each row has it
+pub record Memory : Type 0 where
+  pub numbers : Numbers
+  pub own : OwnFiles
+  pub text : List ℕ
+
+abbrev pub memory_of : {S : Type 0} → spool_writer.SpoolWriter S → own_files.OwnFiles → Memory
+memory_of w own = record { numbers = numbers_of w; own = own_of own; text = string_bytes own.text }
+
+abbrev pub claim_of : Memory → Claim
+claim_of m = claim m.numbers m.own
+
+-- The spool file has these whole files of the customer, each of which has headers that read, and what is written next
+-- stands apart from them.
+pub record HasFiles (m : Memory) (s : SpoolContents) (files : List WholeFile) : Type 0 where
+  pub ordered : IsOrdered s
+  pub below : AreBelow m.numbers.next_id s
+  pub apart : AreApart (claim_of m)
+  pub named : is_name_of m.text m.own.name ≡ true
+  pub mirrored : Mirrored s m.own files
+  pub headers : AllByRecursion (λ f. HasHeaders f.kind f.records) files
+
+-- of some files that aren't whole these are remembered still
+pub data Remain : List KeptPartial → List KeptPartial → Type 0 where
+  none : Remain [] []
+  stays : (p : KeptPartial) (before now : List KeptPartial) → Remain before now → Remain (p ∷ before) (p ∷ now)
+  leaves : (p : KeptPartial) (before now : List KeptPartial) → Remain before now → Remain (p ∷ before) now
+
+-- A call leads there, where these are the customer's whole files; what is kept of files that aren't whole stays.
+pub record GoesTo (m m' : Memory) (s t : SpoolContents) (files : List WholeFile) : Type 0 where
+  pub moves : Moves (claim_of m) (claim_of m') s t
+  pub has : HasFiles m' t files
+  pub remain : Remain m.own.partial m'.own.partial
+  pub records : AllByRecursion (λ p. records_of p.key t ≡ records_of p.key s) m'.own.partial
+
+-- the same of a connection, where these whole files are given on the spool file
+abbrev pub LeadsFiles : (m m' : Memory) → (SpoolContents → List WholeFile → Type 0) → (List WholeFile → List WholeFile → Type 0)
+    → State → State → Type 0
+LeadsFiles m m' Given Becomes old new =
+    Leads (λ s t. (files : List WholeFile) → HasFiles m s files → Given s files
+    → (now : List WholeFile) × Becomes files now × GoesTo m m' s t now) old new
+
+-- ---- beside the hub's files
+
+-- At the place stands a file of this number; where none is given, no file does.
+pub record IsFoundAt (number : ℕ) (files : List WholeFile) (place : ℕ) : Type 0 where
+  pub file : WholeFile
+  pub there : place < length files
+  pub is : file ≡ get_or files place file
+  pub number_is : file.number ≡ number
+
+abbrev pub IsReached : Option ℕ → List WholeFile → ℕ → Type 0
+IsReached None files place = length files ≤ place
+IsReached (Some number) files place = IsFoundAt number files place
+
+-- Of each file that isn't whole what is kept is a front of the records of the file that it became, but for headers.
+pub record IsFrontOf (s : SpoolContents) (p : KeptPartial) (now : List Stored) : Type 0 where
+  pub before : List Stored
+  pub long : length before ≡ p.written
+  pub within : p.written ≤ length now
+  pub stored : HasRecords p.key before s
+  pub alike : AreAlike before (take p.written now)
+
+abbrev pub AreFronts : SpoolContents → List KeptPartial → List WholeFile → Type 0
+AreFronts s partial files =
+    AllByRecursion
+    (λ p. AllByRecursion (λ f. f.number ≡ p.number → p.seen ≤ length f.records → IsFrontOf s p f.records) files)
+    partial
+
+-- This is the number of the next one of those that are still there; none where no further one is.
+pub record IsNextNumber (number : ℕ) (still : List WholeFile) (place : ℕ) : Type 0 where
+  pub file : WholeFile
+  pub there : place < length still
+  pub is : file ≡ get_or still place file
+  pub number_is : file.number ≡ number
+
+abbrev pub IsNext : Option ℕ → List WholeFile → ℕ → Type 0
+IsNext None still place = length still ≤ place
+IsNext (Some number) still place = IsNextNumber number still place
+
+-- The file of this number of a customer of a hub is this one, and so its summary says.
+pub record IsHubFile (hub : List Part) (file : HubFile) (summary : FileSummaryView) (g : WholeFile) : Type 0 where
+  pub summary_is : summary ≡ file_summary g
+  pub number_is : file.number ≡ g.number
+  pub records_are : records_in file.number (part file.customer hub).customer.spool ≡ g.records
+  pub headers : HasHeaders g.kind g.records
+
+-- the file at the place is this one now
+pub record IsStillAt (files : List WholeFile) (place : ℕ) (now : WholeFile) : Type 0 where
+  pub before : WholeFile
+  pub is : before ≡ get_or files place before
+  pub still : IsStill before now
+
+-- ---- rows
+
+-- the row of a customer's file of which this is said
+pub record IsRowFor (text : List ℕ) (key : ℕ) (summary : FileSummaryView) (row : File) : Type 0 where
+  pub of_file : (f : WholeFile) → summary ≡ file_summary f → IsRowOf key f row
+  pub owned : (name : List ℕ) → is_name_of text name ≡ true → is_own name row ≡ true
+
+-- such a row takes the place of one
+pub record ChangesRow (text : List ℕ) (id key : ℕ) (summary : FileSummaryView) (old new : State) : Type 0 where
+  pub row : File
+  pub is_row : IsRowFor text key summary row
+  pub changes : Changes (with_changed id row) old new
+
+-- It is remembered as one more, under the number in hand, and so is its row added.
+pub record AddsRow (key : ℕ) (summary : FileSummaryView) (g : WholeFile) (m m' : Memory)
+    (old new : State) : Type 0 where
+  pub kept : KeptWhole
+  pub row : File
+  pub id : kept.id ≡ m.numbers.next_id
+  pub key_is : kept.key ≡ key
+  pub remembers : Remembers kept g
+  pub memory : m' ≡ record {
+    numbers = record m.numbers { next_id = m.numbers.next_id + 1 };
+    own = record m.own { whole = m.own.whole ++ kept ∷ [] };
+    text = m.text;
+  }
+  pub is_row : IsRowFor m.text key summary row
+  pub changes : Changes (with_file kept.id row) old new
+
+-- ---- a number in hand
+
+-- This number is in hand; under it stand so many records, a front of a file's but for headers. The files are what they
+-- were.
+pub record IsInHand (key written : ℕ) (m m' : Memory) (s t : SpoolContents) (files : List WholeFile)
+    (now : List Stored) : Type 0 where
+  pub moves : Moves (claim_of m) (with_key key (claim_of m')) s t
+  pub text : m'.text ≡ m.text
+  pub mirrored : Mirrored t m'.own files
+  pub remain : Remain m.own.partial m'.own.partial
+  pub records : AllByRecursion (λ p. records_of p.key t ≡ records_of p.key s) m'.own.partial
+  pub before : List Stored
+  pub long : length before ≡ written
+  pub within : written ≤ length now
+  pub stored : HasRecords key before t
+  pub alike : AreAlike before (take written now)
+
+abbrev pub LeadsInHand : (key written : ℕ) → WholeFile → (m m' : Memory) → State → State → Type 0
+LeadsInHand key written g m m' old new =
+    Leads (λ s t. (files : List WholeFile) → HasFiles m s files → AreFronts s m.own.partial (g ∷ [])
+    → IsInHand key written m m' s t files g.records) old new
+
+-- ---- all of a hub's files
+
+-- this is the file at the place
+pub record IsAt (files : List WholeFile) (place : ℕ) (file : WholeFile) : Type 0 where
+  pub there : place < length files
+  pub is : file ≡ get_or files place file
+
+-- These were a customer's whole files when so many had become whole; since then they went on to be those that it has
+-- now.
+pub record GoOnIn (arrived : ℕ) (files : List WholeFile) (now : Customer) : Type 0 where
+  pub numbered : AreNumbered files
+  pub goes : now.spool.arrived < max_arrived
+      → FilesGoOn (record (outgoing now) { files = files; arrived = arrived }) (outgoing now)
+
+-- ---- where nothing is written
+
+-- Where no whole file has changed since the last commit, none had before either, and the spool file is as it was.
+abbrev pub IsQuiet : {S : Type 0} → spool_writer.SpoolWriter S → spool_writer.SpoolWriter S → Type 0
+IsQuiet old new = new.is_changed ≡ false → (old.is_changed ≡ false) × (new.store ≡ old.store)

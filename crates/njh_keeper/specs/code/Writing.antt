@@ -1,0 +1,102 @@
+-- What the calls of a writer do to a spool, and to what is next to be written.
+use Rattle.std.specs.Prelude.{◌≡◌, ℕ, zero, suc, ◌+◌, ◌-◌, ◌<◌, ◌≤◌, ◌^◌, ◌==◌, ◌||◌, ◌⊎◌, min, max, nat_le, nat_lt}
+use Rattle.std.specs.Prelude.{Bool, true, false, if◌then◌else◌, List, [], ◌∷◌, ◌++◌, fold, slice_index_or, slice_set}
+use Rattle.std.specs.List.{AllByRecursion, list_any}
+use Rattle.njh_spoolfile.specs.Kept.{Record, SpoolContents, with_record, without_records}
+use Rattle.njh_spoolfile.specs.CommitState.{CommitState}
+use Rattle.njh_spoolfile.specs.declared.kept.StoredFile.{StoredFile}
+use Rattle.njh_keeper.specs.declared.writer.Sweep.{Sweep}
+
+-- a record in the place of the one that stood there
+abbrev pub with_replaced : Record → SpoolContents → SpoolContents
+with_replaced r spool = with_record r (without_records r.key r.place (r.place + 1) spool)
+
+-- A number is taken: the last of the free ones, or where none is free the first that was never taken.
+abbrev pub IsTaken : (free : List ℕ) (next key : ℕ) (left : List ℕ) (behind : ℕ) → Type 0
+IsTaken free next key left behind =
+    ((free ≡ left ++ key ∷ []) × (behind ≡ next))
+    ⊎ ((free ≡ []) × (left ≡ []) × (key ≡ next) × (behind ≡ next + 1) × (behind < 2 ^ 32))
+
+-- so many records under a key are to be dropped, of those that a file may have
+abbrev pub sweep_of : (key end : ℕ) → Sweep
+sweep_of key end = record { key = key; next = 0; end = min end (2 ^ 23) }
+
+-- from where on records are dropped next, and which aren't any more: 512 at once
+abbrev pub first_of : Sweep → ℕ
+first_of sweep = min sweep.next (2 ^ 23)
+
+abbrev pub behind_of : Sweep → ℕ
+behind_of sweep = min (min (first_of sweep + 512) sweep.end) (2 ^ 23)
+
+abbrev pub without_swept : Sweep → SpoolContents → SpoolContents
+without_swept sweep spool = without_records sweep.key (first_of sweep) (behind_of sweep) spool
+
+-- what is to be dropped then, and the key that is free where that is nothing
+abbrev pub is_left : Sweep → Bool
+is_left sweep = nat_lt (behind_of sweep) sweep.end
+
+abbrev pub left_of : Sweep → List Sweep
+left_of sweep = if is_left sweep then record sweep { next = behind_of sweep } ∷ [] else []
+
+abbrev pub freed_by : Sweep → List ℕ
+freed_by sweep = if is_left sweep then [] else sweep.key ∷ []
+
+-- whole files changed since the last commit, or 4,096 records were written or dropped
+abbrev pub is_due : (is_changed : Bool) (waiting : ℕ) → Bool
+is_due is_changed waiting = is_changed || nat_le 4096 waiting
+
+-- ---- the opening
+
+-- the first number, not below this one, behind those of whole files, and behind those that their records stand under
+abbrev pub id_behind : ℕ → List StoredFile → ℕ
+id_behind next files = fold (λ n f. max n (min (f.id + 1) (2 ^ 32 - 1))) next files
+
+abbrev pub key_behind : ℕ → List StoredFile → ℕ
+key_behind next files = fold (λ n f. max n (min (f.file.key + 1) (2 ^ 32 - 1))) next files
+
+-- records of one of these files stand under this number
+abbrev pub is_used : List StoredFile → ℕ → Bool
+is_used files key = list_any (λ f. f.file.key == key) files
+
+-- the numbers below this one but for those that pass
+abbrev pub numbers_but : (ℕ → Bool) → ℕ → List ℕ
+numbers_but passes zero = []
+numbers_but passes (suc key) = if passes key then numbers_but passes key else numbers_but passes key ++ key ∷ []
+
+-- the numbers that files' records stand under are marked
+abbrev pub is_marked : List Bool → ℕ → Bool
+is_marked marks key = slice_index_or marks key false
+
+abbrev pub unmarked : List Bool → ℕ → List ℕ
+unmarked marks end = numbers_but (is_marked marks) end
+
+abbrev pub marked_by : List Bool → List StoredFile → List Bool
+marked_by marks files = fold (λ m f. slice_set m f.file.key true) marks files
+
+-- The numbers under which all is dropped: those that no file's records stand under, up to 64 behind the next one. Of them
+-- those below that one are free. Where more than 200,000 were taken none is looked for.
+abbrev pub emptied_at : List StoredFile → ℕ → List ℕ
+emptied_at files next = if nat_lt 200000 next then [] else numbers_but (is_used files) (next + 64)
+
+abbrev pub free_at : List StoredFile → ℕ → List ℕ
+free_at files next = if nat_lt 200000 next then [] else numbers_but (is_used files) next
+
+-- the records of each file stand under a number below this one, where no more than 200,000 were taken
+abbrev pub AreBelow : List StoredFile → ℕ → Type 0
+AreBelow files next = next ≤ 200000 → AllByRecursion (λ f. f.file.key < next) files
+
+-- a number where it is below another one
+abbrev pub below : (end key : ℕ) → List ℕ
+below end key = if nat_lt key end then key ∷ [] else []
+
+-- nothing stands under these numbers any more
+abbrev pub without_keys : List ℕ → SpoolContents → SpoolContents
+without_keys keys spool = fold (λ s key. without_records key 0 (2 ^ 23) s) spool keys
+
+-- the spool is another one, and what was committed stays
+abbrev pub shows_now : (SpoolContents → SpoolContents) → CommitState → CommitState
+shows_now change s = record s { now = change s.now }
+
+-- another one, and it is committed
+abbrev pub shows_kept : (SpoolContents → SpoolContents) → CommitState → CommitState
+shows_kept change s = record { now = change s.now; kept = change s.now }

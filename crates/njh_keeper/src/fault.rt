@@ -1,0 +1,60 @@
+//! Why no hub is opened from a spool file.
+
+use njh_hub::RestoreFault;
+use njh_spoolfile::StoredFile;
+use std::alloc::AllocError;
+use thiserror::Error;
+
+/// Why a whole file isn't put back.
+#[derive(Clone, Copy, Debug, PartialEq, Eq, Error)]
+pub enum FileFault {
+    /// It isn't all there, or is no file of a hub: it has another number of records than it says, a record isn't at its
+    /// place, has more than 256 bytes or an SRCB that is no byte, or the file's kind is neither SYSIN nor SYSOUT.
+    #[error("O4 BadFile")]
+    BadFile,
+    /// Its customer has no room for it, or its headers don't read.
+    #[error("{0}")]
+    Refused(RestoreFault),
+}
+
+/// A whole file of a spool file that isn't put back, and why.
+#[derive(Debug, Drop)]
+pub struct RefusedFile {
+    /// The file.
+    pub file: StoredFile,
+    /// Why it isn't put back.
+    pub fault: FileFault,
+}
+
+/// Why no hub is opened from a spool file. Nothing in that has changed.
+#[derive(Debug, Drop)]
+pub enum OpeningFault {
+    /// There was no memory for the hub, or for the list of files.
+    Memory,
+    /// The spool file can't be read, and why.
+    Store(sqlite::Error),
+    /// A whole file can't be put back.
+    File(RefusedFile),
+}
+
+impl From<AllocError> for OpeningFault {
+    ghost use Rattle.std.specs.Prelude.{◌≡◌};
+    ghost use Rattle.njh_keeper.specs.declared.fault.OpeningFault.TheVariants.{Memory};
+
+    ghost from_gives = { λ _ fault. fault ≡ Memory };
+
+    fn from(_error: AllocError) -> OpeningFault {
+        OpeningFault::Memory
+    }
+}
+
+impl From<sqlite::Error> for OpeningFault {
+    ghost use Rattle.std.specs.Prelude.{◌≡◌};
+    ghost use Rattle.njh_keeper.specs.declared.fault.OpeningFault.TheVariants.{Store};
+
+    ghost from_gives = { λ error fault. fault ≡ Store error };
+
+    fn from(error: sqlite::Error) -> OpeningFault {
+        OpeningFault::Store(error)
+    }
+}

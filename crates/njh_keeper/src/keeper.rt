@@ -1,0 +1,361 @@
+//! The whole files of a hub's customers are kept in a spool file.
+
+ghost use Rattle.std.specs.Prelude.{◌≡◌, ◌⊎◌, ◌<◌, ◌≤◌, List, [], false, true, length, ⊤, IfOk, OnOk};
+ghost use Rattle.std.specs.List.{AllByRecursion};
+ghost use Rattle.sqlite.specs.State.{HasCleanDisk, Survives};
+ghost use Rattle.njh_customer.specs.Growing.{HasShortRests};
+ghost use Rattle.njh_hub.specs.Keeping.{LeadsHub};
+ghost use Rattle.njh_hub.specs.Sent.{IsCounted};
+ghost use Rattle.njh_hub.specs.WholeHub.{Part, part};
+ghost use Rattle.njh_spool.specs.Restoring.{KeptFile};
+ghost use Rattle.njh_spool.specs.Spools.{IsSound};
+ghost use Rattle.njh_spoolfile.specs.Kept.{SpoolContents, Holds};
+ghost use Rattle.njh_spoolfile.specs.Origin.{StandsAsFound};
+ghost use Rattle.njh_spoolfile.specs.Shelf.{shown};
+ghost use Rattle.njh_spoolfile.specs.CommitState.{CommitState, Stands};
+ghost use Rattle.njh_spoolfile.specs.Steps.{Stays};
+ghost use Rattle.njh_stream.specs.WholeFiles.{HaveHeaders};
+ghost use Rattle.njh_keeper.specs.Keeper.{IsAsKept, IsCommitted, IsKeptNow, IsOpenedFrom, IsSettledFrom, KnowsHub};
+ghost use Rattle.njh_keeper.specs.Keeper.{KnowsNow, MayLeave, left_in};
+ghost use Rattle.njh_keeper.specs.code.Following.{memory_of};
+ghost use Rattle.njh_keeper.specs.code.Knowing.{LeadsStep};
+ghost use Rattle.njh_keeper.specs.code.Opening.{AllAreFound, AllAreRead};
+ghost use Rattle.njh_table.specs.Accepted.{AreDistinct};
+
+use crate::beginning::begin;
+use crate::fault::{OpeningFault, RefusedFile};
+use crate::laws::a_crash_leaves_what_was_committed;
+use crate::names::{names_of, number_among};
+use crate::opening::open_from;
+use crate::own_files::OwnFiles;
+use crate::sound::see_sound;
+use crate::step::keep_step;
+use crate::writer::SpoolWriter;
+use njh_ebcdic::Name;
+use njh_hub::{Depot, DepotFault, Hub, KeepFault, Keeper};
+use njh_spool::next_number_is_least;
+use njh_spoolfile::{Origin, Store, StoredFile};
+use njh_table::Tables;
+use sqlite::{Alter, Error, ErrorCode};
+use std::alloc::Global;
+use std::marker::Model;
+use std::rt::Clock;
+use std::time::{SystemTime, UNIX_EPOCH};
+
+/// Keeps the whole files of a hub's customers in a spool file: a depot for `serve`. It opens one hub. After a failure
+/// each further call fails.
+#[derive(Drop)]
+pub struct SpoolKeeper<'a, R, S: Origin + Drop> {
+    rt: &'a R,
+    writer: SpoolWriter<S>,
+    /// In the order of the tables.
+    names: Vec<Name>,
+    customers: Vec<OwnFiles>,
+    refused: Option<RefusedFile>,
+    failures: u64,
+    /// Whether no hub was opened yet.
+    is_fresh: bool,
+}
+
+impl<'a, R, S: Origin + Drop> Model for SpoolKeeper<'a, R, S> {
+    ghost use Rattle.std.specs.Prelude.{◌≡◌, map, true};
+    ghost use Rattle.njh_spoolfile.specs.Origin.{StandsAsFound};
+    ghost use Rattle.njh_keeper.specs.Keeper.{Keeping, keeping_code};
+    ghost use Rattle.njh_keeper.specs.code.Memory.{numbers_of, own_memory_of};
+
+    ghost Value = { Keeping S };
+
+    ghost coded = { keeping_code S.code };
+
+    ghost view = { λ keeper. record {
+      store = keeper.writer.store;
+      failures = keeper.failures;
+      names = keeper.names.items;
+      is_changed = keeper.writer.is_changed;
+      waiting = keeper.writer.waiting;
+      numbers = numbers_of keeper.writer;
+      customers = map own_memory_of keeper.customers.items;
+      is_fresh = keeper.is_fresh;
+    } };
+
+    ghost invariant = { λ keeper. keeper.is_fresh ≡ true → StandsAsFound S.Store S.found keeper.writer.store };
+}
+
+impl<'a, R: Clock, S: Origin + Drop> SpoolKeeper<'a, R, S> {
+    /// Keeps files in a spool file that was just opened. Each row has the time by this clock.
+    pub fn new(rt: &'a R, alloc: Global, store: Store<S>) -> SpoolKeeper<'a, R, S>
+        requires { StandsAsFound S.Store S.found store }
+        ensures { (result.store ≡ store) × (result.failures ≡ 0) × (result.is_fresh ≡ true) }
+    {
+        SpoolKeeper {
+            rt,
+            writer: SpoolWriter::new(alloc, store),
+            names: Vec::new(alloc),
+            customers: Vec::new(alloc),
+            refused: None,
+            failures: 0,
+            is_fresh: true,
+        }
+    }
+}
+
+impl<'a, R: Clock, S: Origin + Drop> SpoolKeeper<'a, R, S> {
+    /// The whole file that couldn't be put back when a hub was opened, and why; none where there is no such file.
+    pub fn refused(&self) -> Option<&RefusedFile> {
+        self.refused.as_ref()
+    }
+
+    /// How many whole files of the spool file are of customers that these tables don't have. They stay there.
+    pub fn strangers(&mut self, alloc: Global, tables: &Tables) -> Result<u32, Error>
+        ensures same { self.new.failures ≡ self.old.failures }
+        ensures stays { HasCleanDisk (shown S.Store self.new.store) → OnOk result (Stays (shown S.Store self.old.store)
+            (shown S.Store self.new.store)) }
+        ensures crash { Survives (shown S.Store self.old.store) (shown S.Store self.new.store) (λ _. ⊥) }
+    {
+        let names = names_of(alloc, tables)?;
+        let files = match self.writer.store.files(alloc) {
+            Ok(files) => files,
+            Err(error) => {
+                self.is_fresh = false;
+                drop(names);
+                return Err(error);
+            }
+        };
+        let count = count_strangers(&names, &files);
+        drop(names);
+        drop(files);
+        Ok(count)
+    }
+
+    /// The spool file. What isn't committed is dropped when it is closed.
+    pub fn into_store(self) -> Store<S>
+        ensures { result ≡ self.entry.store }
+    {
+        let SpoolKeeper {
+            writer,
+            names,
+            customers,
+            ..
+        } = self;
+        drop(names);
+        drop(customers);
+        writer.into_store()
+    }
+
+    /// Writes what a step made of a customer's files. Nothing of it is committed.
+    fn follow_files(&mut self, hub: &Hub, customer: u16) -> Result<(), Error>
+        ensures same { (self.new.failures ≡ self.old.failures) × (self.new.names ≡ self.old.names)
+            × (self.new.is_fresh ≡ false) }
+        ensures known { (before : List Part) → LeadsHub customer before hub.now → KnowsHub S.Store S.found self.old before
+            → OnOk result (KnowsHub S.Store S.found self.new hub.now) }
+        ensures crash { Survives (shown S.Store self.old.store) (shown S.Store self.new.store) (λ _. ⊥) }
+    {
+        self.is_fresh = false;
+        if self.failures > 0 || usize::from(customer) >= self.customers.len() {
+            return Err(Error::SqliteFailure(ErrorCode::Closed));
+        }
+        hub.files_are_sound(customer);
+        self.writer.now = seconds_on(self.rt);
+        let own = &mut self.customers[usize::from(customer)];
+        keep_step(&mut self.writer, own, hub, customer)
+    }
+
+    /// Commits what was written, where whole files changed or much waits.
+    fn settle_files(&mut self) -> Result<(), Error>
+        ensures same { (self.new.failures ≡ self.old.failures) × (self.new.names ≡ self.old.names)
+            × (self.new.customers ≡ self.old.customers) × (self.new.is_fresh ≡ false) }
+        ensures numbers { OnOk result (self.new.numbers ≡ self.old.numbers) }
+        ensures settled { HasCleanDisk (shown S.Store self.new.store) → OnOk result ((s : CommitState)
+            → Stands s (shown S.Store self.old.store) → IsAsKept self.old s → IsKeptNow S.Store self.new s.now) }
+        ensures clean { HasCleanDisk (shown S.Store self.new.store) → HasCleanDisk (shown S.Store self.old.store) }
+        ensures crash { (left : List (List KeptFile)) → MayLeave S.Store self.new left
+            → MayLeave S.Store self.old left ⊎ ((now : SpoolContents) → Holds now (shown S.Store self.old.store).now.trees
+            → left ≡ left_in self.old.names now) }
+    {
+        self.is_fresh = false;
+        if self.failures > 0 {
+            return Err(Error::SqliteFailure(ErrorCode::Closed));
+        }
+        self.writer.settle()
+    }
+
+    /// Counts a failure.
+    fn fail(&mut self)
+        ensures counts { self.old.failures ≤ self.new.failures }
+        ensures counted { IsCounted self.old.failures self.new.failures }
+        ensures others { self.new ≡ record self.old { failures = self.new.failures } }
+    {
+        self.failures = self.failures.saturating_add(1);
+    }
+
+    /// Notes why no hub could be opened.
+    fn refuse(&mut self, fault: OpeningFault) -> DepotFault
+        ensures { self.new ≡ self.old }
+    {
+        match fault {
+            OpeningFault::Memory => DepotFault::Memory,
+            OpeningFault::Store(error) => depot_fault(error),
+            OpeningFault::File(file) => {
+                self.refused = Some(file);
+                DepotFault::Refused
+            }
+        }
+    }
+
+    /// Remembers what is kept of the files of a hub that was opened from the spool file, for customers of its names. From
+    /// then on the spool file has them as the hub has.
+    fn remember(&mut self, hub: &Hub) -> Result<(), Error>
+        ensures same { (self.new.failures ≡ self.old.failures) × (self.new.names ≡ self.old.names)
+            × (self.new.is_fresh ≡ false) }
+        ensures settled { OnOk result ((self.new.is_changed ≡ false) × (self.new.waiting ≡ 0)) }
+        ensures kept { HasCleanDisk (shown S.Store self.new.store) → OnOk result ((s : CommitState)
+            → Stands s (shown S.Store self.old.store) → AreDistinct self.old.names
+            → AllAreFound self.old.names hub.now → AllAreRead self.old.names hub.now s.now
+            → length self.old.names ≡ length hub.now → IsCommitted S.Store self.new hub.now) }
+        ensures known { HasCleanDisk (shown S.Store self.new.store) → OnOk result ((s : CommitState)
+            → Stands s (shown S.Store self.old.store) → AreDistinct self.old.names
+            → AllAreFound self.old.names hub.now → AllAreRead self.old.names hub.now s.now
+            → length self.old.names ≡ length hub.now → AllByRecursion HasShortRests hub.now
+            → KnowsNow S.Store self.new hub.now) }
+        ensures crash { Survives (shown S.Store self.old.store) (shown S.Store self.new.store) (λ _. ⊤) }
+    {
+        self.is_fresh = false;
+        see_sound(hub, self.names.len())?;
+        let customers = begin(&mut self.writer, hub, &self.names)?;
+        self.customers = customers;
+        Ok(())
+    }
+
+    /// Opens a hub of these tables from the spool file, and remembers what it has. Once it did so, or failed, it opens
+    /// no other.
+    fn open_hub(&mut self, alloc: Global, tables: Tables) -> Result<Hub, DepotFault>
+        ensures opened { IfOk result (λ hub. IsOpenedFrom S.Store self.old self.new tables hub) }
+        ensures settled { IfOk result (λ hub. IsSettledFrom S.Store self.old self.new tables hub) }
+        ensures known { IfOk result (λ hub. KnowsHub S.Store S.found self.new hub) }
+        ensures stood { OnOk result (StandsAsFound S.Store S.found self.old.store) }
+        ensures clean { HasCleanDisk (shown S.Store self.new.store)
+            → OnOk result (HasCleanDisk (shown S.Store self.old.store)) }
+    {
+        if !self.is_fresh {
+            drop(tables);
+            return Err(DepotFault::Device);
+        }
+        self.is_fresh = false;
+        next_number_is_least();
+        let names = match names_of(alloc, &tables) {
+            Ok(names) => names,
+            Err(_) => {
+                drop(tables);
+                return Err(DepotFault::Memory);
+            }
+        };
+        let hub = match open_from(alloc, tables, &mut self.writer.store) {
+            Ok(hub) => hub,
+            Err(fault) => {
+                drop(names);
+                return Err(self.refuse(fault));
+            }
+        };
+        self.remember_hub(hub, names)
+    }
+
+    /// Gives the hub back once it is remembered.
+    fn remember_hub(&mut self, hub: Hub, names: Vec<Name>) -> Result<Hub, DepotFault>
+        ensures hub { IfOk result (λ remembered. remembered ≡ hub) }
+        ensures names { OnOk result (self.new.names ≡ names.items) }
+        ensures kept { HasCleanDisk (shown S.Store self.new.store) → OnOk result ((s : CommitState)
+            → Stands s (shown S.Store self.old.store) → AreDistinct names.items → AllAreFound names.items hub
+            → AllAreRead names.items hub s.now → length names.items ≡ length hub → IsCommitted S.Store self.new hub) }
+        ensures known { HasCleanDisk (shown S.Store self.new.store) → OnOk result ((s : CommitState)
+            → Stands s (shown S.Store self.old.store) → AreDistinct names.items → AllAreFound names.items hub
+            → AllAreRead names.items hub s.now → length names.items ≡ length hub → AllByRecursion HasShortRests hub
+            → KnowsNow S.Store self.new hub) }
+        ensures crash { Survives (shown S.Store self.old.store) (shown S.Store self.new.store) (λ _. ⊤) }
+    {
+        self.names = names;
+        match self.remember(&hub) {
+            Ok(()) => Ok(hub),
+            Err(error) => {
+                drop(hub);
+                Err(depot_fault(error))
+            }
+        }
+    }
+}
+
+impl<'a, R: Clock, S: Origin + Drop> Keeper for SpoolKeeper<'a, R, S> {
+    ghost use Rattle.njh_keeper.specs.Keeper.{KnowsHub, MayLeaveOf};
+
+    ghost may_leave = { MayLeaveOf S.Store S.found };
+
+    ghost knows = { KnowsHub S.Store S.found };
+
+    ghost count = { λ keeper. keeper.failures };
+
+    fn failures(&self) -> u64 {
+        self.failures
+    }
+
+    fn follow(&mut self, hub: &Hub, customer: u16) -> Result<(), KeepFault> {
+        match self.follow_files(hub, customer) {
+            Ok(()) => Ok(()),
+            Err(_) => {
+                self.fail();
+                Err(KeepFault)
+            }
+        }
+    }
+
+    fn settle(&mut self) -> Result<(), KeepFault> {
+        a_crash_leaves_what_was_committed::<S>();
+        match self.settle_files() {
+            Ok(()) => Ok(()),
+            Err(_) => {
+                self.fail();
+                Err(KeepFault)
+            }
+        }
+    }
+}
+
+impl<'a, R: Clock, S: Origin + Drop> Depot for SpoolKeeper<'a, R, S> {
+    ghost use Rattle.njh_keeper.specs.Keeper.{IsOpenedFrom, IsSettledFrom};
+
+    ghost opens = { λ before behind table parts. IsOpenedFrom S.Store before behind table parts
+        × IsSettledFrom S.Store before behind table parts };
+
+    fn open(&mut self, alloc: Global, tables: Tables) -> Result<Hub, DepotFault> {
+        a_crash_leaves_what_was_committed::<S>();
+        self.open_hub(alloc, tables)
+    }
+}
+
+/// Why no hub is opened, where the spool file fails.
+fn depot_fault(error: Error) -> DepotFault {
+    match error {
+        Error::SqliteFailure(ErrorCode::OutOfMemory) => DepotFault::Memory,
+        _ => DepotFault::Device,
+    }
+}
+
+/// How many of these whole files are of customers without such a name.
+fn count_strangers(names: &[Name], files: &[StoredFile]) -> u32 {
+    let mut count = 0u32;
+    for stored in files {
+        if number_among(names, stored.file.customer.as_str()).is_none() {
+            count = count.saturating_add(1);
+        }
+    }
+    count
+}
+
+/// Seconds since the beginning of 1970 by the clock; 0 where it fails, stands before that, or past the year 2105.
+fn seconds_on<R: Clock>(rt: &R) -> u32 {
+    match SystemTime::now(rt) {
+        Ok(time) => match time.duration_since(UNIX_EPOCH) {
+            Ok(since) => u32::try_from(since.as_secs()).unwrap_or(0),
+            Err(_) => 0,
+        },
+        Err(_) => 0,
+    }
+}

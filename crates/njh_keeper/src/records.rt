@@ -1,0 +1,79 @@
+//! The records of a whole file that was read from a store.
+
+ghost use Rattle.std.specs.Prelude.{◌≡◌, map, MatchOption, false, true};
+ghost use Rattle.njh_keeper.specs.Opened.{are_records_from, are_records_of, as_stored, is_record_at};
+ghost use Rattle.njh_spoolfile.specs.Kept.{contents_of, file_of};
+
+use njh_header::FileRecords;
+use njh_record::{Record, put_bytes};
+use njh_spoolfile::{FileRow, StoredRecord};
+use std::marker::Model;
+
+/// All records of a file, as a hub has them.
+#[derive(Drop)]
+pub(crate) struct FileContents {
+    records: Vec<StoredRecord>,
+}
+
+impl Model for FileContents {
+    ghost use Rattle.std.specs.Prelude.{◌<◌, ◌^◌, List, length, map};
+    ghost use Rattle.njh_record.specs.Stored.{Stored};
+    ghost use Rattle.njh_spoolfile.specs.Kept.{contents_of};
+    ghost use Rattle.njh_keeper.specs.Opened.{as_stored};
+    ghost use Rattle.njh_keeper.specs.code.Restoring.{HaveRoom};
+
+    ghost Value = { List Stored };
+
+    ghost view = { λ x. map as_stored (map contents_of x.records.items) };
+
+    ghost invariant = { λ x. (length x.records.items < 2 ^ 32) × HaveRoom x.records.items };
+}
+
+impl FileContents {
+    /// The records that were read of a file; none where they aren't all of its own.
+    pub(crate) fn of(file: &FileRow, records: Vec<StoredRecord>) -> Option<FileContents>
+        ensures { MatchOption result (are_records_of (file_of file.now) (map contents_of records.items) ≡ false)
+            (λ contents. (are_records_of (file_of file.now) (map contents_of records.items) ≡ true)
+            × (contents ≡ map as_stored (map contents_of records.items))) }
+    {
+        let count = file.records;
+        if records.len() != count as usize || !are_records(records.as_slice()) {
+            return None;
+        }
+        Some(FileContents { records })
+    }
+}
+
+/// Whether records stand at the places from 0 on, each as a hub has records.
+fn are_records(records: &[StoredRecord]) -> bool
+    ensures { result ≡ are_records_from 0 (map contents_of records.now) }
+{
+    for (place, stored) in records.iter().enumerate() {
+        if !is_record_at(place, stored) {
+            return false;
+        }
+    }
+    true
+}
+
+/// Whether a record stands at this place, as a hub has records.
+fn is_record_at(place: usize, stored: &StoredRecord) -> bool
+    ensures { result ≡ is_record_at place (contents_of stored.now) }
+{
+    stored.place as usize == place && stored.srcb < 256 && stored.bytes.len() <= 256
+}
+
+impl FileRecords for FileContents {
+    ghost records = { λ records. records };
+
+    fn count(&self) -> u32 {
+        self.records.len() as u32
+    }
+
+    fn copy_to(&self, n: u32, into: &mut Record) -> u8 {
+        let record = &self.records[n as usize];
+        into.clear();
+        put_bytes(into, record.bytes.as_slice());
+        record.srcb as u8
+    }
+}

@@ -1,6 +1,0 @@
-use Rattle.std.proofs.Common.{refl}
-use Rattle.njh_kept.proofs.KeeperLaws.{commit_leaves}
-use Rattle.njh_kept.proofs.keeper.SpoolKeeper.settle_files.Goals as goal
-
-pub returns-clause-crash : goal.returns-clause-crash
-returns-clause-crash g c left = rw (← c.self.view_is) (commit_leaves g.S.Store _ _ refl c.settle.ensures.crash left)

@@ -1,6 +1,0 @@
-use Rattle.std.proofs.Common.{ap}
-use Rattle.njh_kept.specs.Opened.{is_own, part_opened}
-use Rattle.njh_kept.proofs.laws.a_file_of_another_does_not_show.Goals as goal
-
-pub returns : goal.returns
-returns c entry name id file spool above other = ap (part_opened entry) (c.others_do_not_show.ensures (is_own name) id file spool above other)

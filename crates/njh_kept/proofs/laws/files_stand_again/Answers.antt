@@ -1,5 +1,0 @@
-use Rattle.njh_kept.proofs.OpenedLaws.{opened_files}
-use Rattle.njh_kept.proofs.laws.files_stand_again.Goals as goal
-
-pub returns : goal.returns
-returns c = opened_files

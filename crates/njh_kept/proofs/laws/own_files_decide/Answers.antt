@@ -1,5 +1,0 @@
-use Rattle.njh_kept.proofs.HubLaws.{own_decide}
-use Rattle.njh_kept.proofs.laws.own_files_decide.Goals as goal
-
-pub returns : goal.returns
-returns c = own_decide

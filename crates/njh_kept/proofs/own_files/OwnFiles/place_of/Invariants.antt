@@ -1,8 +1,0 @@
-use Rattle.std.proofs.Common.{take}
-use Rattle.std.specs.List.{AllByRecursion}
-use Rattle.njh_kept.specs.code.Partly.{IsAnother}
-use Rattle.njh_kept.proofs.own_files.OwnFiles.place_of.Given as goal
-
--- none before the place is the file
-abbrev pub invariant-loop-place : goal.invariant-loop-place
-invariant-loop-place l = AllByRecursion (IsAnother l.number l.records) (take l.place l.self.partial.items)

@@ -1,0 +1,23 @@
+-- Faults of the spool file, of the writer and of memory, which say nothing of what is asked for.
+use Rattle.std.proofs.Common.{ℕ, List, Result, Ok, Err}
+use Rattle.std.specs.Prelude.{IfErr}
+use Rattle.njh_listing.specs.Asked.{FitsFault}
+use Rattle.njh_listing.specs.Faults.{IsOfSpool}
+use Rattle.njh_listing.specs.declared.fault.FilesFault.{FilesFault}
+use Rattle.njh_listing.specs.declared.fault.FilesFault.TheVariants.{Damaged, Device, InUse, Memory, NoFile, NotASpool, OtherVersion, Refused, Several}
+
+pub spool_fits : (keys : List ℕ) (fault : FilesFault) → IsOfSpool fault → FitsFault keys fault
+spool_fits keys (NoFile name) is = absurd is
+spool_fits keys (Several list) is = absurd is
+spool_fits keys (Refused why) is = absurd is
+spool_fits keys InUse is = tt
+spool_fits keys NotASpool is = tt
+spool_fits keys OtherVersion is = tt
+spool_fits keys Damaged is = tt
+spool_fits keys Device is = tt
+spool_fits keys Memory is = tt
+
+-- what is said of an answer's fault says something else of it
+pub if_err : {T E : Type 0} (P Q : E → Type 0) → ((e : E) → P e → Q e) → (r : Result T E) → IfErr r P → IfErr r Q
+if_err P Q f (Ok x) h = tt
+if_err P Q f (Err e) h = f e h

@@ -1,0 +1,41 @@
+-- Which of the files of a spool file is asked for.
+use Rattle.std.specs.Prelude.{map, ◌≡◌, ℕ, ◌<◌, ◌-◌, Bool, true, List, [], filter, take, drop, length, bytes_eq}
+use Rattle.std.specs.Prelude.{Option, None, Some, ⊤}
+use Rattle.njh_spoolfile.specs.Kept.{File}
+use Rattle.njh_listing.specs.Listed.{name_text}
+use Rattle.njh_listing.specs.declared.fault.FilesFault.{FilesFault}
+use Rattle.njh_listing.specs.declared.fault.FilesFault.TheVariants.{NoFile, Several}
+
+-- a customer's; any where no customer is named
+abbrev pub is_own : Option (List ℕ) → ℕ × File → Bool
+is_own None e = true
+is_own (Some customer) e = bytes_eq e.1.customer customer
+
+-- called so, as LYON.42
+abbrev pub is_called : List ℕ → ℕ × File → Bool
+is_called name e = bytes_eq (name_text e.1) name
+
+-- the one of this number, counted from 1 on; all where no number is given
+abbrev pub at_number : {X : Type 0} → Option ℕ → List X → List X
+at_number None xs = xs
+at_number (Some n) xs = drop (n - 1) (take n xs)
+
+-- of the customer's files, in their order of arrival, those of the name; with a number none but the one of that number
+abbrev pub asked_of : (customer : Option (List ℕ)) → (number : Option ℕ) → (name : List ℕ) → List (ℕ × File)
+    → List (ℕ × File)
+asked_of customer number name es = filter (is_called name) (at_number number (filter (is_own customer) es))
+
+-- the number under which a file's records stand
+abbrev pub key_in : ℕ × File → ℕ
+key_in e = e.1.key
+
+-- Where it isn't one file that is asked for: none, or several.
+abbrev pub FitsFault : (keys : List ℕ) → FilesFault → Type 0
+FitsFault keys (NoFile name) = keys ≡ []
+FitsFault keys (Several list) = 1 < length keys
+FitsFault keys fault = ⊤
+
+-- as these files say it of those that are asked for
+abbrev pub IsRefusedOf : (customer : Option (List ℕ)) → (number : Option ℕ) → (name : List ℕ) → List (ℕ × File)
+    → FilesFault → Type 0
+IsRefusedOf customer number name es fault = FitsFault (map key_in (asked_of customer number name es)) fault

@@ -1,0 +1,100 @@
+//! Why nothing, or not all, is printed of a spool file.
+
+ghost use Rattle.njh_listing.specs.Faults.{IsOfSpool};
+
+use njh_io::WriteFault;
+use njh_spoolfile::OpenFault;
+use sqlite::{Error, ErrorCode};
+use std::alloc::{AllocError, AllocFailed};
+use std::fmt;
+
+/// Why nothing, or not all, is printed of a spool file, or no hub is opened from it.
+#[derive(Debug, Drop)]
+pub enum FilesFault {
+    /// The customer has no such file; with what it was called.
+    NoFile(String),
+    /// The customer has several such files; with the end of a line and a line for each of them.
+    Several(String),
+    /// A whole file can't be put back into a hub; with why, and whose it is.
+    Refused(String),
+    /// Another program has the spool file open.
+    InUse,
+    /// It is a database with other tables than a spool's.
+    NotASpool,
+    /// It is a spool of another version.
+    OtherVersion,
+    /// It is no database, or is damaged.
+    Damaged,
+    /// The file can't be opened or read, or a write failed. A beginning of what was to be written is written.
+    Device,
+    /// Memory was refused.
+    Memory,
+}
+
+impl fmt::Display for FilesFault {
+    /// One line without its end; for several files a further one for each of them.
+    fn fmt<W: fmt::Write>(&self, f: &mut fmt::Formatter<W>) -> fmt::Result {
+        match self {
+            FilesFault::NoFile(name) => write!(f, "no file {name}"),
+            FilesFault::Several(list) => write!(f, "several files, say which by --number{list}"),
+            FilesFault::Refused(why) => f.write_str(why.as_str()),
+            FilesFault::InUse => f.write_str("spool in use"),
+            FilesFault::NotASpool => f.write_str("spool is another database"),
+            FilesFault::OtherVersion => f.write_str("spool of another version"),
+            FilesFault::Damaged => f.write_str("spool damaged, or no database"),
+            FilesFault::Device => f.write_str("device"),
+            FilesFault::Memory => f.write_str("U3 Memory"),
+        }
+    }
+}
+
+impl From<Error> for FilesFault {
+    ghost from_gives = { λ _ fault. IsOfSpool fault };
+
+    fn from(error: Error) -> FilesFault {
+        match error {
+            Error::SqliteFailure(ErrorCode::OutOfMemory) => FilesFault::Memory,
+            Error::SqliteFailure(ErrorCode::DatabaseBusy) => FilesFault::InUse,
+            Error::SqliteFailure(
+                ErrorCode::CannotOpen | ErrorCode::SystemIoFailure | ErrorCode::DiskFull,
+            ) => FilesFault::Device,
+            _ => FilesFault::Damaged,
+        }
+    }
+}
+
+impl From<OpenFault> for FilesFault {
+    ghost from_gives = { λ _ fault. IsOfSpool fault };
+
+    fn from(fault: OpenFault) -> FilesFault {
+        match fault {
+            OpenFault::Database(error) => FilesFault::from(error),
+            OpenFault::NotASpool => FilesFault::NotASpool,
+            OpenFault::OtherVersion => FilesFault::OtherVersion,
+        }
+    }
+}
+
+impl From<AllocError> for FilesFault {
+    ghost from_gives = { λ _ fault. IsOfSpool fault };
+
+    fn from(_error: AllocError) -> FilesFault {
+        FilesFault::Memory
+    }
+}
+
+impl<T: Drop> From<AllocFailed<T>> for FilesFault {
+    ghost from_gives = { λ _ fault. IsOfSpool fault };
+
+    fn from(_error: AllocFailed<T>) -> FilesFault {
+        FilesFault::Memory
+    }
+}
+
+impl From<WriteFault> for FilesFault {
+    ghost from_gives = { λ _ fault. IsOfSpool fault };
+
+    fn from(_fault: WriteFault) -> FilesFault {
+        FilesFault::Device
+    }
+}

@@ -1,0 +1,232 @@
+//! Prints the whole files of a spool file.
+
+ghost use Rattle.std.specs.Prelude.{◌≡◌, ◌++◌, ◌⊎◌, ℕ, List, map, option_map, string_bytes, IfErr, IfOk};
+ghost use Rattle.std.specs.Prelude.{OnErr, OnOk, bytes_eq, flat_map, length, ◌<◌, take};
+ghost use Rattle.std.specs.List.{list_any};
+ghost use Rattle.std.specs.Io.KnownBytes.{Appends, Keeps};
+ghost use Rattle.sqlite.specs.State.{HasCleanDisk, Survives};
+ghost use Rattle.njh_listing.specs.Faults.{IsOfSpool};
+ghost use Rattle.njh_listing.specs.Listed.{file_line, kind_words, first_listing, line_of, listing_up_to};
+ghost use Rattle.njh_listing.specs.Listed.{IsListed, IsListedInPart, listing_text, name_text, said_of, state_words};
+ghost use Rattle.njh_listing.specs.Listed.{user_words};
+ghost use Rattle.njh_spoolfile.specs.Kept.{File, Holds, SpoolContents, entry_of, file_of};
+ghost use Rattle.njh_spoolfile.specs.Shelf.{shown};
+
+use crate::fault::FilesFault;
+use crate::writing::write_text;
+use njh_spoolfile::{FileRow, Store, StoredFile};
+use sqlite::Alter;
+use std::alloc::{AllocError, Global};
+use std::io::Write;
+
+/// A file's name: node, full stop, number.
+#[tactic(auto, unfolding(crate::specs::Listed::name_text))]
+pub(crate) fn name_text(alloc: Global, file: &FileRow) -> Result<String, AllocError>
+    ensures { IfOk result (λ text. string_bytes text ≡ name_text (file_of file.now)) }
+{
+    let node = file.owner_node.as_str();
+    let number = file.number;
+    format!(in alloc; "{node}.{number}")
+}
+
+/// A blank and a user, where there is one.
+#[tactic(auto, unfolding(crate::specs::Listed::user_words))]
+fn user_words(alloc: Global, user: &str) -> Result<String, AllocError>
+    ensures { IfOk result (λ text. string_bytes text ≡ user_words user.now) }
+{
+    if user == "" {
+        return String::from_str(alloc, "");
+    }
+    format!(in alloc; " {user}")
+}
+
+/// What kind of file it is.
+#[tactic(auto, unfolding(crate::specs::Listed::kind_words))]
+fn kind_words(kind: &str) -> &str
+    ensures { result.now ≡ kind_words kind.now }
+{
+    if kind == "SYSIN" {
+        return "IN";
+    }
+    if kind == "SYSOUT" {
+        return "OUT";
+    }
+    kind
+}
+
+/// A file's state.
+#[tactic(auto, unfolding(crate::specs::Listed::state_words))]
+fn state_words(held: bool) -> &'static str
+    ensures { result.now ≡ state_words held }
+{
+    if held { "HELD" } else { "READY" }
+}
+
+/// What NJH001 says of a file, behind its number.
+#[tactic(auto, unfolding(crate::specs::Listed::said_of))]
+pub(crate) fn said_of(alloc: Global, file: &FileRow) -> Result<String, AllocError>
+    ensures { IfOk result (λ text. string_bytes text ≡ said_of (file_of file.now)) }
+{
+    let name = name_text(alloc, file)?;
+    let user = user_words(alloc, file.to_user.as_str())?;
+    let node = file.to_node.as_str();
+    let kind = kind_words(file.kind.as_str());
+    let records = file.records;
+    let state = state_words(file.held);
+    format!(in alloc; "{name} TO {node}{user} {kind} {records} RECORDS {state}")
+}
+
+/// The line of a file.
+#[tactic(auto, unfolding(crate::specs::Listed::file_line))]
+fn file_line(alloc: Global, file: &FileRow) -> Result<String, AllocError>
+    ensures { IfOk result (λ line. string_bytes line ≡ file_line (file_of file.now)) }
+{
+    let said = said_of(alloc, file)?;
+    let customer = file.customer.as_str();
+    format!(in alloc; "{customer} {said}\n")
+}
+
+/// Appends the line of a file where it is a customer's.
+#[tactic(auto, unfolding(crate::specs::Listed::line_of))]
+fn put_own(
+    alloc: Global,
+    text: &mut Vec<u8>,
+    customer: &str,
+    stored: &StoredFile,
+) -> Result<(), AllocError>
+    ensures { OnOk result (text.new.items ≡ text.old.items ++ line_of customer.now (entry_of stored.now)) }
+{
+    if stored.file.customer.as_str() == customer {
+        let line = file_line(alloc, &stored.file)?;
+        text.extend_from_slice(line.as_bytes())?;
+    }
+    Ok(())
+}
+
+/// Appends the lines of a customer's files.
+fn put_customer(
+    alloc: Global,
+    text: &mut Vec<u8>,
+    customer: &str,
+    files: &[StoredFile],
+) -> Result<(), AllocError>
+    ensures { OnOk result (text.new.items ≡ text.old.items ++ flat_map (λ s. line_of customer.now (entry_of s)) files.now) }
+{
+    for stored in files {
+        put_own(alloc, text, customer, stored)?;
+    }
+    Ok(())
+}
+
+/// Whether a file is a customer's.
+fn is_own(customer: &str, stored: &StoredFile) -> bool
+    ensures { result ≡ bytes_eq (string_bytes stored.now.file.customer) customer.now }
+{
+    stored.file.customer.as_str() == customer
+}
+
+/// Whether one of some files is a customer's.
+fn has_customer(customer: &str, files: &[StoredFile]) -> bool
+    ensures { result ≡ list_any (λ s. bytes_eq (string_bytes s.file.customer) customer.now) files.now }
+{
+    files.iter().any(|stored| is_own(customer, stored))
+}
+
+/// Appends the lines of the files of a file's customer, where no earlier file is this customer's.
+fn put_first(
+    alloc: Global,
+    text: &mut Vec<u8>,
+    files: &[StoredFile],
+    at: usize,
+) -> Result<(), AllocError>
+    requires { at < length files.now }
+    ensures { OnOk result (text.new.items ≡ text.old.items ++ first_listing at (map entry_of files.now)) }
+{
+    let customer = files[at].file.customer.as_str();
+    if has_customer(customer, &files[..at]) {
+        return Ok(());
+    }
+    put_customer(alloc, text, customer, files)
+}
+
+/// Appends the lines of all files, the customers in the order of their first files.
+fn put_all(alloc: Global, text: &mut Vec<u8>, files: &[StoredFile]) -> Result<(), AllocError>
+    ensures { OnOk result (text.new.items ≡ text.old.items
+        ++ listing_up_to (length files.now) (map entry_of files.now)) }
+{
+    for at in 0..files.len() {
+        put_first(alloc, text, files, at)?;
+    }
+    Ok(())
+}
+
+/// The lines of all files.
+fn all_text(alloc: Global, files: &[StoredFile]) -> Result<Vec<u8>, AllocError>
+    ensures { IfOk result (λ text. text.items ≡ listing_up_to (length files.now) (map entry_of files.now)) }
+{
+    let mut text = Vec::new(alloc);
+    put_all(alloc, &mut text, files)?;
+    Ok(text)
+}
+
+/// The lines of a customer's files.
+fn customer_text(alloc: Global, customer: &str, files: &[StoredFile]) -> Result<Vec<u8>, AllocError>
+    ensures { IfOk result (λ text. text.items ≡ flat_map (λ s. line_of customer.now (entry_of s)) files.now) }
+{
+    let mut text = Vec::new(alloc);
+    put_customer(alloc, &mut text, customer, files)?;
+    Ok(text)
+}
+
+/// The lines of all files, or of a customer's.
+fn listing_text(
+    alloc: Global,
+    customer: Option<&str>,
+    files: &[StoredFile],
+) -> Result<Vec<u8>, AllocError>
+    ensures { IfOk result (λ text. text.items
+        ≡ listing_text (option_map (λ c. c.now) customer.entry) (map entry_of files.now)) }
+{
+    match customer {
+        None => all_text(alloc, files),
+        Some(customer) => customer_text(alloc, customer, files),
+    }
+}
+
+/// The lines of all files of a spool file, or of a customer's.
+fn listing<S: Alter>(
+    alloc: Global,
+    store: &mut Store<S>,
+    customer: Option<&str>,
+) -> Result<Vec<u8>, FilesFault>
+    ensures kept { HasCleanDisk (shown S.Store store.new) → IfOk result (λ text. (spool : SpoolContents)
+        → Holds spool (shown S.Store store.old).now.trees
+        → text.items ≡ listing_text (option_map (λ c. c.now) customer.entry) spool.files) }
+    ensures some { IfOk result (λ text. (files : List (ℕ × File))
+        × (text.items ≡ listing_text (option_map (λ c. c.now) customer.entry) files)) }
+    ensures fault { IfErr result IsOfSpool }
+{
+    let files = store.files(alloc)?;
+    Ok(listing_text(alloc, customer, files.as_slice())?)
+}
+
+/// Prints the whole files that a spool file has, a line a file: all, the customers in the order of their first files
+/// there, or one customer's; each customer's in their order of arrival. After a fault a beginning of them was printed.
+pub fn print_files<S: Alter, W: Write>(
+    alloc: Global,
+    store: &mut Store<S>,
+    customer: Option<&str>,
+    out: &mut W,
+) -> Result<(), FilesFault>
+    ensures kept { HasCleanDisk (shown S.Store store.new) → OnOk result ((spool : SpoolContents)
+        → Holds spool (shown S.Store store.old).now.trees → Appends (W.contents out.old) (W.contents out.new)
+        (listing_text (option_map (λ c. c.now) customer.entry) spool.files)) }
+    ensures done { OnOk result (IsListed (option_map (λ c. c.now) customer.entry) (W.contents out.old)
+        (W.contents out.new)) }
+    ensures begun { OnErr result (Keeps (W.contents out.old) (W.contents out.new)
+        ⊎ IsListedInPart (option_map (λ c. c.now) customer.entry) (W.contents out.old) (W.contents out.new)) }
+    ensures fault { IfErr result IsOfSpool }
+{
+    let text = listing(alloc, store, customer)?;
+    write_text(out, &text)
+}

@@ -1,0 +1,47 @@
+//! Prints what is asked for.
+
+ghost use Rattle.std.specs.Prelude.{◌⊎◌, option_map, IfErr, OnErr, OnOk};
+ghost use Rattle.std.specs.Io.KnownBytes.{Keeps};
+ghost use Rattle.njh_listing.specs.Faults.{IsOfSpool};
+ghost use Rattle.njh_listing.specs.Printed.{IsFaultOf, IsPrinted, IsPrintedInPart, IsPrintedOf};
+ghost use Rattle.njh_spoolfile.specs.Kept.{Holds, SpoolContents};
+ghost use Rattle.njh_spoolfile.specs.Shelf.{shown};
+ghost use Rattle.sqlite.specs.State.{HasCleanDisk};
+
+use crate::exporting::export_file;
+use crate::fault::FilesFault;
+use crate::finding::Asked;
+use crate::listing::print_files;
+use njh_spoolfile::Store;
+use sqlite::Alter;
+use std::alloc::Global;
+use std::io::Write;
+
+/// Prints what is asked for: the list of the files (`print_files`), or the records of a file: those of data as
+/// characters of code page 37, a line a record, or all as they are. Where there is no such file, or several and no
+/// number is asked for, nothing was written; after another fault a beginning of it was.
+pub fn print<S: Alter, W: Write>(
+    alloc: Global,
+    store: &mut Store<S>,
+    asked: &Asked<'_>,
+    out: &mut W,
+) -> Result<(), FilesFault>
+    ensures kept { HasCleanDisk (shown S.Store store.new) → OnOk result ((spool : SpoolContents)
+        → Holds spool (shown S.Store store.old).now.trees → IsPrintedOf (option_map (λ c. c.now) asked.now.customer)
+        (option_map (λ f. f.now) asked.now.file) asked.now.number asked.now.raw spool (W.contents out.old)
+        (W.contents out.new)) }
+    ensures refused { HasCleanDisk (shown S.Store store.new) → IfErr result (λ fault. (spool : SpoolContents)
+        → Holds spool (shown S.Store store.old).now.trees → IsFaultOf (option_map (λ c. c.now) asked.now.customer)
+        (option_map (λ f. f.now) asked.now.file) asked.now.number spool fault) }
+    ensures done { OnOk result (IsPrinted (option_map (λ c. c.now) asked.now.customer) asked.now.file asked.now.raw
+        (W.contents out.old) (W.contents out.new)) }
+    ensures begun { OnErr result (Keeps (W.contents out.old) (W.contents out.new)
+        ⊎ IsPrintedInPart (option_map (λ c. c.now) asked.now.customer) asked.now.file asked.now.raw
+        (W.contents out.old) (W.contents out.new)) }
+    ensures silent { IfErr result (λ fault. Keeps (W.contents out.old) (W.contents out.new) ⊎ IsOfSpool fault) }
+{
+    match asked.file {
+        None => print_files(alloc, store, asked.customer, out),
+        Some(name) => export_file(alloc, store, asked, name, out),
+    }
+}

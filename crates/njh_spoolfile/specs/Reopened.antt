@@ -1,0 +1,29 @@
+-- What an open of a spool file finds.
+use Rattle.std.specs.Prelude.{◌≡◌, ◌⊎◌}
+use Rattle.sqlite.specs.Recovery.{Image}
+use Rattle.sqlite.specs.Tree.{Trees}
+use Rattle.sqlite.specs.Files.{HoldsDatabase, AreFoundIn}
+use Rattle.sqlite_catalog.specs.Listing.{IsSound}
+use Rattle.sqlite.specs.State.{State, HasCleanDisk, IsLive}
+use Rattle.njh_spoolfile.specs.Kept.{Holds, no_files}
+use Rattle.njh_spoolfile.specs.Steps.{IsIdle, Stays}
+use Rattle.njh_spoolfile.specs.Tables.{no_tables}
+
+-- it is there as it was, or it had no table and is now a spool with no file
+abbrev pub IsOrBecomes : Trees → Trees → Type 0
+IsOrBecomes found now = (now ≡ found) ⊎ (IsSound no_tables found × Holds no_files now)
+
+-- what an open shows of files that held this
+pub record OpensFrom (image : Image) (now : Trees) : Type 0 where
+  pub found : Trees
+  pub holds : (db : Trees) → HoldsDatabase image db → found ≡ db
+  pub reads : AreFoundIn image found
+  pub kept : IsOrBecomes found now
+
+-- A database that was just opened is a spool: as it was, or made now where it had no table.
+pub record BecomesSpool (old new : State) : Type 0 where
+  pub clean : HasCleanDisk new → HasCleanDisk old
+  pub live : IsLive new
+  pub idle : HasCleanDisk new → IsIdle new
+  pub outcome : HasCleanDisk new
+      → Stays old new ⊎ ((old.now.schema ≡ no_tables) × Holds no_files new.now.trees)

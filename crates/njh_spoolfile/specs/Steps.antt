@@ -1,0 +1,86 @@
+-- What a statement does to the connection of a spool.
+use Rattle.std.specs.Prelude.{◌≡◌, ℕ, true, false, IsTrue, []}
+use Rattle.sqlite.specs.State.{State, HasCleanDisk}
+use Rattle.sqlite.specs.Schema.{Schema}
+use Rattle.sqlite_catalog.specs.Change.{KeepsRows}
+use Rattle.njh_spoolfile.specs.Kept.{SpoolContents, Holds, no_files}
+use Rattle.njh_spoolfile.specs.Tables.{spool_schema}
+
+-- the connection's file has the spool's tables, as far as the disk told the truth
+abbrev pub IsReady : State → Type 0
+IsReady s = HasCleanDisk s → s.now.schema ≡ spool_schema
+
+-- it has these tables, and what changes waits for the commit
+abbrev pub IsWriting : Schema → State → Type 0
+IsWriting schema s = HasCleanDisk s → (s.now.schema ≡ schema) × (s.in_transaction ≡ true)
+
+-- a transaction begins
+pub record Begins (old new : State) : Type 0 where
+  pub is_open : IsTrue new.is_open
+  pub now : new.now ≡ old.now
+  pub committed : new.committed ≡ old.committed
+  pub waits : new.in_transaction ≡ true
+
+-- a change that waits for the commit
+pub record Changes (change : SpoolContents → SpoolContents) (old new : State) : Type 0 where
+  pub is_open : IsTrue new.is_open
+  pub schema : new.now.schema ≡ spool_schema
+  pub waits : new.in_transaction ≡ true
+  pub committed : new.committed ≡ old.committed
+  pub holds : (spool : SpoolContents) → Holds spool old.now.trees → Holds (change spool) new.now.trees
+
+-- what waited is kept
+pub record Commits (old new : State) : Type 0 where
+  pub is_open : IsTrue new.is_open
+  pub now : new.now ≡ old.now
+  pub committed : new.committed ≡ old.now
+  pub ended : new.in_transaction ≡ false
+
+-- what the connection shows stays the same
+pub record Stays (old new : State) : Type 0 where
+  pub is_open : IsTrue old.is_open → IsTrue new.is_open
+  pub now : new.now ≡ old.now
+  pub committed : new.committed ≡ old.committed
+  pub mode : new.in_transaction ≡ old.in_transaction
+
+-- a new table, which has no row and waits for the commit
+pub record Makes (after : Schema) (tree : ℕ) (old new : State) : Type 0 where
+  pub is_open : IsTrue new.is_open
+  pub schema : new.now.schema ≡ after
+  pub waits : new.in_transaction ≡ true
+  pub committed : new.committed ≡ old.committed
+  pub empty : new.now.trees tree ≡ []
+  pub others : KeepsRows old.now.schema.tables old.now.trees new.now.trees
+
+-- the three tables, which have no row and wait for the commit
+pub record MakesAll (old new : State) : Type 0 where
+  pub is_open : IsTrue new.is_open
+  pub schema : new.now.schema ≡ spool_schema
+  pub waits : new.in_transaction ≡ true
+  pub committed : new.committed ≡ old.committed
+  pub no_version : new.now.trees 0 ≡ []
+  pub no_files : new.now.trees 1 ≡ []
+  pub no_records : new.now.trees 2 ≡ []
+
+-- the version is set, and waits for the commit
+pub record Sets (old new : State) : Type 0 where
+  pub is_open : IsTrue new.is_open
+  pub schema : new.now.schema ≡ spool_schema
+  pub waits : new.in_transaction ≡ true
+  pub committed : new.committed ≡ old.committed
+  pub holds : old.now.trees 0 ≡ [] → old.now.trees 1 ≡ [] → old.now.trees 2 ≡ [] → Holds no_files new.now.trees
+
+-- the tables of a spool that has no file, which wait for the commit
+pub record StartsEmpty (old new : State) : Type 0 where
+  pub is_open : IsTrue new.is_open
+  pub schema : new.now.schema ≡ spool_schema
+  pub waits : new.in_transaction ≡ true
+  pub committed : new.committed ≡ old.committed
+  pub holds : Holds no_files new.now.trees
+
+-- the connection is open and has a spool's tables, and nothing waits
+pub record IsIdle (s : State) : Type 0 where
+  pub is_open : IsTrue s.is_open
+  pub schema : s.now.schema ≡ spool_schema
+  pub kept : s.committed ≡ s.now
+  pub autocommit : s.in_transaction ≡ false

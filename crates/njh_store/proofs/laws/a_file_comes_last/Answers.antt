@@ -1,5 +1,0 @@
-use Rattle.njh_store.proofs.ListLaws.{comes_last}
-use Rattle.njh_store.proofs.laws.a_file_comes_last.Goals as goal
-
-pub returns : goal.returns
-returns c = comes_last

@@ -1,5 +1,0 @@
-use Rattle.njh_store.proofs.ListLaws.{keeps_place}
-use Rattle.njh_store.proofs.laws.a_file_keeps_its_place.Goals as goal
-
-pub returns : goal.returns
-returns c = keeps_place

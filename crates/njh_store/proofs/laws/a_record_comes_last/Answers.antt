@@ -1,5 +1,0 @@
-use Rattle.njh_store.proofs.ListLaws.{last}
-use Rattle.njh_store.proofs.laws.a_record_comes_last.Goals as goal
-
-pub returns : goal.returns
-returns c r spool numbered up low lower = last r low spool.records numbered up lower

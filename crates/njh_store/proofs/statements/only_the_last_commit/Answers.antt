@@ -1,4 +1,0 @@
-use Rattle.njh_store.proofs.statements.only_the_last_commit.Goals as goal
-
-pub returns : goal.returns
-returns g c conn is_open trees left = g.met.S.Store.settled conn.store trees is_open left

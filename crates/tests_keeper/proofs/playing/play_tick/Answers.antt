@@ -1,0 +1,6 @@
+use Rattle.std.proofs.Common.{refl}
+use Rattle.njh_hub.specs.Keeping.{by_signal}
+use Rattle.tests_keeper.proofs.playing.play_tick.Goals as goal
+
+pub keep-requires : goal.keep-requires
+keep-requires g c = (c.args.hub.now, c.requires, (_, by_signal c.args.id.number _ refl, c.in_ok-tick.ensures.hub))

@@ -1,0 +1,222 @@
+//! Plays what peers send, in words, on a hub whose files are kept after each step, and looks at what is kept.
+
+ghost use Rattle.std.specs.Prelude.{List, OnOk};
+ghost use Rattle.njh_hub.specs.Keeping.{LeadsHub};
+ghost use Rattle.njh_hub.specs.WholeHub.{Part};
+ghost use Rattle.njh_spoolfile.specs.Origin.{StandsAsFound};
+
+use crate::networks::{CUSTOMERS, customer_of, line_of};
+use crate::numbered_lines::NumberedLines;
+use crate::same::{check_same, listing};
+use crate::spool_files::{SpoolFiles, kill};
+use njh_encode::encode_script;
+use njh_hub::{Depot, Hub, KeepFault, Keeper};
+use njh_spoolfile::{Origin, Store};
+use njh_table::LineId;
+use sqlite::{Start, Unknown};
+use std::alloc::Global;
+use std::rt::HostRuntime;
+use std::str;
+use std::test::Fail;
+
+/// Behind this line the program is killed, and begins again.
+const KILL: &str = "# kill\n";
+
+/// With this line a run begins in which no route leads to NICE.
+const WITHOUT_NICE: &str = "# NICE has no route\n";
+
+/// Plays lines of words. Beside those of `encode` these are known:
+///
+/// `# kill`: the program is killed and begins again, with all lines down.
+/// `# NICE has no route`, directly behind that: in this run no route leads to NICE.
+/// `# cut 20`: of the file that follows 20 blocks come, up to `# uncut`.
+/// `# ACME has LYON.42 TO METZ PAUL OUT 4 RECORDS READY, ..`: these whole files of the customer are kept. Then and
+/// before the program is killed all that is kept is what the hub has.
+pub fn play(rt: &HostRuntime, name: &str, words: &str) -> Result<(), Fail> {
+    let alloc = rt.alloc();
+    let mut files = SpoolFiles::of(rt, name)?;
+    let mut script = Vec::new(alloc);
+    encode_script(alloc, &mut words.as_bytes(), &NumberedLines, &mut script)?;
+    for run in str::from_utf8(&script)?.split(KILL) {
+        files.give_routes(!run.starts_with(WITHOUT_NICE))?;
+        play_run(&files, run, Unknown)?;
+    }
+    Ok(())
+}
+
+/// Plays a run of the program, at whose end it is killed.
+fn play_run<S: Start>(files: &SpoolFiles<'_>, run: &str, start: S) -> Result<(), Fail> {
+    let store = files.open(start)?;
+    let (played, store) = play_over(files, run, store);
+    kill(store);
+    played
+}
+
+/// Plays a run over a spool file that is open, and gives that back.
+fn play_over<S: Origin + Drop>(
+    files: &SpoolFiles<'_>,
+    run: &str,
+    store: Store<S>,
+) -> (Result<(), Fail>, Store<S>)
+    requires { StandsAsFound S.Store S.found store }
+{
+    let mut keeper = files.keeper(store);
+    let played = play_kept(files, &mut keeper, run);
+    (played, keeper.into_store())
+}
+
+/// Plays a run with a keeper.
+fn play_kept<D: Depot>(files: &SpoolFiles<'_>, keeper: &mut D, run: &str) -> Result<(), Fail> {
+    let mut hub = files.hub_of(keeper)?;
+    let mut left = u32::MAX;
+    'lines: for line in run.lines() {
+        if let Some(note) = line.strip_prefix("# ") {
+            left = take_note(files, &hub, note, left)?;
+        } else if left > 0 && !line.is_empty() {
+            left = left.saturating_sub(1);
+            play_event(files, keeper, &mut hub, line)?;
+        }
+    }
+    check_kept(files, &hub, "at the end", None)
+}
+
+/// Does what a note says, and answers how many blocks come from now on.
+fn take_note(files: &SpoolFiles<'_>, hub: &Hub, note: &str, left: u32) -> Result<u32, Fail> {
+    let (word, rest) = note.split_once(" ").unwrap_or((note, ""));
+    if word == "cut" {
+        return Ok(rest.parse::<u32>()?);
+    }
+    if word == "uncut" {
+        return Ok(u32::MAX);
+    }
+    if let (Some(customer), Some(wanted)) = (customer_of(word), rest.strip_prefix("has")) {
+        check_kept(files, hub, note, Some((customer, wanted.trim())))?;
+    }
+    Ok(left)
+}
+
+/// Plays a line of a script.
+fn play_event<K: Keeper>(
+    files: &SpoolFiles<'_>,
+    keeper: &mut K,
+    hub: &mut Hub,
+    line: &str,
+) -> Result<(), Fail>
+    requires { K.knows keeper.old hub.old }
+    ensures { OnOk result (K.knows keeper.new hub.new) }
+{
+    let (event, rest) = line.split_once(" ").ok_or("no event")?;
+    let (name, digits) = rest.split_once(" ").unwrap_or((rest, ""));
+    let id = line_of(name).ok_or("no line")?;
+    match event {
+        "BYTES" => play_bytes(files, keeper, hub, id, digits),
+        "TICK" => play_tick(files.allocator(), keeper, hub, id),
+        "LOST" => play_loss(files.allocator(), keeper, hub, id),
+        _ => Err("no such event".into()),
+    }
+}
+
+/// Plays a tick.
+fn play_tick<K: Keeper>(
+    alloc: Global,
+    keeper: &mut K,
+    hub: &mut Hub,
+    id: LineId,
+) -> Result<(), Fail>
+    requires { K.knows keeper.old hub.old }
+    ensures { OnOk result (K.knows keeper.new hub.new) }
+{
+    let mut out = Vec::new(alloc);
+    hub.tick(id, &mut out)?;
+    drop(out);
+    keep(keeper, hub, id.customer)?;
+    Ok(())
+}
+
+/// Plays the loss of a line.
+fn play_loss<K: Keeper>(
+    alloc: Global,
+    keeper: &mut K,
+    hub: &mut Hub,
+    id: LineId,
+) -> Result<(), Fail>
+    requires { K.knows keeper.old hub.old }
+    ensures { OnOk result (K.knows keeper.new hub.new) }
+{
+    let mut out = Vec::new(alloc);
+    hub.lost(id, &mut out)?;
+    drop(out);
+    keep(keeper, hub, id.customer)?;
+    Ok(())
+}
+
+/// Plays bytes, in as many steps as they need.
+fn play_bytes<K: Keeper>(
+    files: &SpoolFiles<'_>,
+    keeper: &mut K,
+    hub: &mut Hub,
+    id: LineId,
+    digits: &str,
+) -> Result<(), Fail>
+    requires { K.knows keeper.old hub.old }
+    ensures { OnOk result (K.knows keeper.new hub.new) }
+{
+    let bytes = hex::decode(files.allocator(), digits)?;
+    let mut left = bytes.as_slice();
+    'steps: for _ in 0..bytes.len() {
+        if left.is_empty() {
+            return Ok(());
+        }
+        let taken = play_step(files.allocator(), keeper, hub, id, left)?;
+        left = left.get(taken..).unwrap_or(&[]);
+    }
+    Ok(())
+}
+
+/// Plays a step by bytes, and answers how many it took.
+fn play_step<K: Keeper>(
+    alloc: Global,
+    keeper: &mut K,
+    hub: &mut Hub,
+    id: LineId,
+    piece: &[u8],
+) -> Result<usize, Fail>
+    requires { K.knows keeper.old hub.old }
+    ensures { OnOk result (K.knows keeper.new hub.new) }
+{
+    let mut out = Vec::new(alloc);
+    let taken = hub.take(id, piece, &mut out)?;
+    drop(out);
+    keep(keeper, hub, id.customer)?;
+    Ok(taken)
+}
+
+/// Keeps what a step of a customer made of its files, as at the end of a round.
+fn keep<K: Keeper>(keeper: &mut K, hub: &Hub, customer: u16) -> Result<(), KeepFault>
+    requires { (before : List Part) × K.knows keeper.old before × LeadsHub customer before hub.now }
+    ensures { OnOk result (K.knows keeper.new hub.now) }
+{
+    keeper.follow(hub, customer)?;
+    keeper.settle()
+}
+
+/// Checks that what is kept is what the hub has, and that these files of a customer are, where they are given.
+fn check_kept(
+    files: &SpoolFiles<'_>,
+    hub: &Hub,
+    moment: &str,
+    wanted: Option<(u16, &str)>,
+) -> Result<(), Fail> {
+    let kept = files.hub_left()?;
+    for customer in CUSTOMERS {
+        check_same(&kept, hub, customer, moment)?;
+    }
+    let Some((customer, wanted)) = wanted else {
+        return Ok(());
+    };
+    let found = listing(files.allocator(), &kept, customer)?;
+    if found.as_str() != wanted {
+        return Err(Fail::new(format_args!("{found} is kept, and not {wanted}")));
+    }
+    Ok(())
+}

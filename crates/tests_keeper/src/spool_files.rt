@@ -1,0 +1,140 @@
+//! The files of a test: a spool file with its log, and a copy of both as they are at some moment.
+
+ghost use Rattle.std.specs.Prelude.{IfOk};
+ghost use Rattle.sqlite.specs.Files.{file_state};
+ghost use Rattle.sqlite.specs.State.{HasCleanDisk};
+ghost use Rattle.sqlite.specs.WalFiles.{image_at};
+ghost use Rattle.njh_spoolfile.specs.Kept.{SpoolContents};
+ghost use Rattle.njh_spoolfile.specs.Origin.{IsFoundIn, StandsAsFound};
+ghost use Rattle.njh_spoolfile.specs.CommitState.{Stands};
+
+use crate::networks::tables;
+use njh_hub::{Depot, DepotFault, Hub};
+use njh_keeper::{SpoolKeeper, open_from};
+use njh_spoolfile::{OpenFault, Origin, Store};
+use njh_table::Tables;
+use sqlite::{Error, ErrorCode, FileFrom, FileStore, Start, Unknown};
+use std::alloc::Global;
+use std::fs;
+use std::rt::HostRuntime;
+use std::test::Fail;
+
+/// What a spool file is refused for that is open already.
+const IN_USE: OpenFault = OpenFault::Database(Error::SqliteFailure(ErrorCode::DatabaseBusy));
+
+/// Their names, and the machine that they are on.
+#[derive(Drop)]
+pub struct SpoolFiles<'a> {
+    rt: &'a HostRuntime,
+    kept: String,
+    kept_log: String,
+    left: String,
+    left_log: String,
+    tables: String,
+}
+
+impl<'a> SpoolFiles<'a> {
+    /// Those of the test of this name. None of them is there.
+    pub fn of(rt: &'a HostRuntime, name: &str) -> Result<SpoolFiles<'a>, Fail> {
+        let files = SpoolFiles::left_by(rt, name)?;
+        let _ = fs::remove_file(rt, files.kept.as_str());
+        let _ = fs::remove_file(rt, files.kept_log.as_str());
+        Ok(files)
+    }
+
+    /// Those of the test of this name, as it left them.
+    pub fn left_by(rt: &'a HostRuntime, name: &str) -> Result<SpoolFiles<'a>, Fail> {
+        let alloc = rt.alloc();
+        Ok(SpoolFiles {
+            rt,
+            kept: format!(in alloc; "{name}.db")?,
+            kept_log: format!(in alloc; "{name}.db-wal")?,
+            left: format!(in alloc; "{name}_left.db")?,
+            left_log: format!(in alloc; "{name}_left.db-wal")?,
+            tables: tables(alloc, true)?,
+        })
+    }
+
+    /// From the next hub on there is a route to NICE, or there is none.
+    pub fn give_routes(&mut self, has_nice: bool) -> Result<(), Fail> {
+        self.tables = tables(self.rt.alloc(), has_nice)?;
+        Ok(())
+    }
+
+    /// Where memory comes from.
+    pub fn allocator(&self) -> Global {
+        self.rt.alloc()
+    }
+
+    /// The spool file, opened or made.
+    pub fn open<S: Start>(&self, start: S) -> Result<Store<FileStore<FileFrom<S>>>, Fail>
+        ensures { IfOk result (λ store. HasCleanDisk (file_state store.conn) → (spool : SpoolContents)
+            → IsFoundIn (image_at S.Start) spool
+            → Stands (record { now = spool; kept = spool }) (file_state store.conn)) }
+    {
+        Ok(Store::open(self.rt, self.kept.as_str(), start)?)
+    }
+
+    /// Whether the spool file is refused as one that is open already.
+    pub fn is_in_use(&self) -> bool {
+        match Store::open(self.rt, self.kept.as_str(), Unknown) {
+            Ok(store) => {
+                kill(store);
+                false
+            }
+            Err(fault) => fault == IN_USE,
+        }
+    }
+
+    /// A keeper of a spool file that is open.
+    pub fn keeper<S: Origin + Drop>(&self, store: Store<S>) -> SpoolKeeper<'a, HostRuntime, S>
+        requires { StandsAsFound S.Store S.found store }
+    {
+        SpoolKeeper::new(self.rt, self.rt.alloc(), store)
+    }
+
+    /// A hub of the tables that a depot opens.
+    pub fn hub_of<D: Depot>(&self, keeper: &mut D) -> Result<Hub, Fail>
+        ensures { IfOk result (λ hub. D.knows keeper.new hub) }
+    {
+        Ok(self.opening(keeper)??)
+    }
+
+    /// What a depot answers that is to open a hub of the tables.
+    pub fn opening<D: Depot>(&self, depot: &mut D) -> Result<Result<Hub, DepotFault>, Fail>
+        ensures { IfOk result (λ opened. IfOk opened (λ hub. D.knows depot.new hub)) }
+    {
+        let alloc = self.rt.alloc();
+        let tables = Tables::read(alloc, self.tables.as_str())?;
+        Ok(depot.open(alloc, tables))
+    }
+
+    /// The hub that is opened from the spool file where the program is killed now.
+    pub fn hub_left(&self) -> Result<Hub, Fail> {
+        let _ = fs::remove_file(self.rt, self.left.as_str());
+        let _ = fs::remove_file(self.rt, self.left_log.as_str());
+        fs::copy(self.rt, self.kept.as_str(), self.left.as_str())?;
+        if fs::exists(self.rt, self.kept_log.as_str())? {
+            fs::copy(self.rt, self.kept_log.as_str(), self.left_log.as_str())?;
+        }
+        let mut store = Store::open(self.rt, self.left.as_str(), Unknown)?;
+        let opened = hub_in(self.rt.alloc(), self.tables.as_str(), &mut store);
+        kill(store);
+        opened
+    }
+}
+
+/// The hub of these tables that is opened from a spool file.
+fn hub_in(
+    alloc: Global,
+    tables: &str,
+    store: &mut Store<FileStore<FileFrom<Unknown>>>,
+) -> Result<Hub, Fail> {
+    let tables = Tables::read(alloc, tables)?;
+    Ok(open_from(alloc, tables, store)?)
+}
+
+/// Lets go of a spool file as a program does that is killed.
+pub fn kill<S: Start>(store: Store<FileStore<FileFrom<S>>>) {
+    drop(store);
+}
