@@ -17,14 +17,16 @@ use Rattle.clap.specs.declared.parser.matches.ArgMatches.TheViews.{out-ArgMatche
 use Rattle.njh_arguments.specs.declared.arguments.Request.{Request}
 use Rattle.njh_arguments.specs.declared.serve_options.Unasked.{Unasked}
 use Rattle.njh_arguments.specs.declared.serve_options.Unasked.TheVariants.{Missing, NoAddress, Nothing}
-use Rattle.njh_arguments.specs.Arguments.{AsksFor, AsksIn, HasNoAddress, HasNothing, IsUnasked, IsUnaskedBy, program_app}
+use Rattle.njh_arguments.specs.Arguments.{AsksFor, AsksIn, HasNoAddress, HasNothing, IsUnasked, IsUnaskedBy}
+use Rattle.njh_arguments.specs.Arguments.{program_app}
 
 cond-map : {X Y : Type 0} (f : X → Y) (b : Bool) (x : X) (o : Option Y) (later : Option X) → o ≡ option_map f later
     → cond b (Some (f x)) o ≡ option_map f (cond b (Some x) later)
 cond-map f true x o later same = refl
 cond-map f false x o later same = same
 
-find-map : {X Y : Type 0} (f : X → Y) (p : Y → Bool) (xs : List X) → find p (map f xs) ≡ option_map f (find (λ x. p (f x)) xs)
+find-map : {X Y : Type 0} (f : X → Y) (p : Y → Bool) (xs : List X)
+    → find p (map f xs) ≡ option_map f (find (λ x. p (f x)) xs)
 find-map f p [] = refl
 find-map f p (x ∷ xs) = cond-map f (p (f x)) x (find p (map f xs)) (find (λ y. p (f y)) xs) (find-map f p xs)
 
@@ -38,7 +40,8 @@ at_entry (Some x) to read row same = same x
 pub first_value-rows : (m : ArgMatches) (id : Text) → first_value (found_of m) id ≡ first_of id (rows_of (found_of m))
 first_value-rows m id =
     let entries = (found_of m).entries.items in
-    at_entry (find (λ e. bytes_eq e.0.now id) entries) (λ e. e.1) (λ a. option_map (λ s. s.now) (slice_get a.vals.items 0)) row_of
+    at_entry (find (λ e. bytes_eq e.0.now id) entries) (λ e. e.1)
+    (λ a. option_map (λ s. s.now) (slice_get a.vals.items 0)) row_of
     (λ e. sym (slice_get-map (λ s. s.now) e.1.vals.items 0))
     ∙ ap (option_and_then (λ r. slice_get r.values 0)) (sym (find-map row_of (λ r. bytes_eq r.id id) entries))
 
@@ -55,7 +58,8 @@ pair_of f g (Some x) name rows first second =
 
 -- the subcommand of a parse, by its name and its rows
 pub subcommand_is : (m : ArgMatches) (name : Text) (rows : List Row) → Some name ≡ subcommand_name_of m
-    → Some rows ≡ option_map (λ (p : Text × List Row). p.1) (subcommand_rows_of m) → subcommand_rows_of m ≡ Some (name, rows)
+    → Some rows ≡ option_map (λ (p : Text × List Row). p.1) (subcommand_rows_of m)
+    → subcommand_rows_of m ≡ Some (name, rows)
 subcommand_is m name rows named rowed =
     pair_of (λ b. (out-SubCommand (box_value b)).name.now)
     (λ b. rows_of (found_of (out-SubCommand (box_value b)).matches)) (out-ArgMatches m).subcommand name rows named rowed
@@ -84,7 +88,8 @@ pub asks_in : {A : Type 0} (m : ArgMatches) (named : Text × List Row) → subco
 asks_in m named is (Err why) asks = tt
 asks_in m named is (Ok request) asks = subst (λ (o : Option (Text × List Row)). AsksIn o request) (sym is) asks
 
-pub serves_refused : (m : ArgMatches) (named : Text × List Row) → subcommand_rows_of m ≡ Some named → (r : Result Request Unasked)
+pub serves_refused : (m : ArgMatches) (named : Text × List Row) → subcommand_rows_of m ≡ Some named
+    → (r : Result Request Unasked)
     → IfErr r (IsUnasked named.1) → IfErr r (IsUnaskedBy (subcommand_rows_of m))
 serves_refused m named is (Ok request) unasked = tt
 serves_refused m named is (Err Missing) unasked = tt

@@ -9,7 +9,8 @@ use Rattle.clap.specs.Words.{App, HasKind, Row, Rule, Text, fault_of, first_of, 
 use Rattle.clap.specs.Words.{subcommand_of, with_rule, with_subcommand}
 use Rattle.clap.specs.declared.builder.ArgAction.TheVariants.{Set, SetTrue}
 use Rattle.clap.specs.declared.error.Error.{Error}
-use Rattle.clap.specs.declared.error.kind.ErrorKind.TheVariants.{MissingRequiredArgument, MissingSubcommand, ValueValidation}
+use Rattle.clap.specs.declared.error.kind.ErrorKind.TheVariants.{MissingRequiredArgument, MissingSubcommand}
+use Rattle.clap.specs.declared.error.kind.ErrorKind.TheVariants.{ValueValidation}
 use Rattle.njh_arguments.specs.declared.arguments.Request.{Request}
 use Rattle.njh_arguments.specs.declared.arguments.Request.TheVariants.{Files, Serve}
 use Rattle.njh_arguments.specs.declared.arguments.Request.TheVariants as request
@@ -87,7 +88,8 @@ script_rule = record (new_rule (codes "script")) {
 abbrev pub check_app : App
 check_app = with_rule (with_rule (new_app (codes "check")) tables_rule) script_rule
 
--- `files`, and its options: a spool file, which it must have, a customer, a file's name and number, and the flag `--raw`
+-- `files`, and its options: a spool file, which it must have, a customer, a file's name and number, and the flag
+-- `--raw`
 abbrev pub wanted_spool_rule : Rule
 wanted_spool_rule = record spool_rule { required = true }
 

@@ -1,11 +1,14 @@
 //! The arguments of the command line.
 
 ghost use Rattle.std.specs.Prelude.{◌≡◌, ◌≢◌, [], ◌∷◌, false, map, codes, IfOk, IfErr, OnOk};
-ghost use Rattle.clap.specs.Words.{App, app_of, fault_of, found_of, kind_of, rows_of, subcommand_of, subcommand_rows_of};
+ghost use Rattle.clap.specs.Words.{App, app_of, fault_of, found_of, kind_of, rows_of, subcommand_of};
+ghost use Rattle.clap.specs.Words.{subcommand_rows_of};
 ghost use Rattle.clap.specs.Words.{HasKind, with_subcommand};
 ghost use Rattle.clap.specs.declared.builder.command.Command.TheViews.{out-Command};
-ghost use Rattle.njh_arguments.specs.Arguments.{AreRefusedBy, Asks, AsksFor, AsksIn, IsRefusalOf, IsUnasked, IsUnaskedBy};
-ghost use Rattle.njh_arguments.specs.Arguments.{bare_app, checking_app, decoding_app, encoding_app, program_app, replaying_app, serving_app};
+ghost use Rattle.njh_arguments.specs.Arguments.{AreRefusedBy, Asks, AsksFor, AsksIn, IsRefusalOf, IsUnasked};
+ghost use Rattle.njh_arguments.specs.Arguments.{IsUnaskedBy};
+ghost use Rattle.njh_arguments.specs.Arguments.{bare_app, checking_app, decoding_app, encoding_app, program_app};
+ghost use Rattle.njh_arguments.specs.Arguments.{replaying_app, serving_app};
 
 use crate::check_options::{check_command, checked_in};
 use crate::decode_options::{decode_command, decoded_in};
@@ -83,8 +86,8 @@ pub enum Task<'a> {
     },
 }
 
-/// What the arguments ask for, of which the first is the program's name. A refusal has the text for the user, and
-/// `--help` is one. Both are as `clap`'s definitions say of this program.
+/// What the arguments ask for, of which the first is the program's name. A refusal has the text for
+/// the user, and `--help` is one. Both are as `clap`'s definitions say of this program.
 pub fn request_of<'a, S: AsStr>(alloc: Global, arguments: &'a [S]) -> Result<Request<'a>, Error>
     ensures asked { IfOk result (Asks (map S.text arguments.entry.now)) }
     ensures taken { OnOk result (fault_of program_app (map S.text arguments.entry.now) ≡ []) }

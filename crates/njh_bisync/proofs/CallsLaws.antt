@@ -47,11 +47,13 @@ left_of_taken rest (piece ∷ pieces) =
     ∙ (ap (λ r. rest_after r later) (takes_front rest piece).left ∙ left_of_taken f.rest pieces)
 
 pub reads_taken : (pieces : List (List ℕ))
-    → Reads (taken_by Nothing (map Feed pieces)) (given_by Nothing (map Feed pieces)) (left_by Nothing (map Feed pieces))
+    → Reads (taken_by Nothing (map Feed pieces)) (given_by Nothing (map Feed pieces))
+    (left_by Nothing (map Feed pieces))
 reads_taken pieces =
     let bytes = taken_by Nothing (map Feed pieces) in
     subst (λ (r : Rest). Reads bytes (given_by Nothing (map Feed pieces)) r) (left_of_taken Nothing pieces)
-    (subst (λ (l : List Received). Reads bytes l (rest_after Nothing bytes)) (given_of_taken Nothing pieces) (reads_from bytes))
+    (subst (λ (l : List Received). Reads bytes l (rest_after Nothing bytes)) (given_of_taken Nothing pieces)
+    (reads_from bytes))
 
 pub only_taken : (pieces : List (List ℕ)) (frames : List Received) (rest : Rest)
     → Reads (taken_by Nothing (map Feed pieces)) frames rest

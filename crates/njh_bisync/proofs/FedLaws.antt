@@ -23,7 +23,8 @@ frames_after-append rest (byte ∷ front) back =
     ∙ cons_option-append (rest_step rest byte).frame (frames_after (rest_step rest byte).rest front)
     (frames_after (rest_after (rest_step rest byte).rest front) back)
 
-pub rest_after-append : (rest : Rest) (front back : List ℕ) → rest_after rest (front ++ back) ≡ rest_after (rest_after rest front) back
+pub rest_after-append : (rest : Rest) (front back : List ℕ)
+    → rest_after rest (front ++ back) ≡ rest_after (rest_after rest front) back
 rest_after-append rest [] back = refl
 rest_after-append rest (byte ∷ front) back = rest_after-append (rest_step rest byte).rest front back
 
@@ -49,13 +50,16 @@ none_before-end : (rest : Rest) (piece : List ℕ) (k : ℕ) → k < 1 → frame
 none_before-end rest piece zero below = refl
 none_before-end rest piece (suc k) below = absurd (omega arith)
 
-none_before-later : (rest next : Rest) (byte : ℕ) (bytes : List ℕ) (n k : ℕ) → rest_step rest byte ≡ record { frame = None; rest = next }
-    → ((j : ℕ) → j < n → frames_after next (take j bytes) ≡ []) → k < 1 + n → frames_after rest (take k (byte ∷ bytes)) ≡ []
+none_before-later : (rest next : Rest) (byte : ℕ) (bytes : List ℕ) (n k : ℕ)
+    → rest_step rest byte ≡ record { frame = None; rest = next }
+    → ((j : ℕ) → j < n → frames_after next (take j bytes) ≡ []) → k < 1 + n
+    → frames_after rest (take k (byte ∷ bytes)) ≡ []
 none_before-later rest next byte bytes n zero turned later below = refl
 none_before-later rest next byte bytes n (suc k) turned later below =
     frames_after-turned rest byte (take k bytes) _ turned ∙ later k (omega arith)
 
-one_more : (rest next : Rest) (frame : Option Received) (byte : ℕ) (bytes : List ℕ) → rest_step rest byte ≡ record { frame = frame; rest = next }
+one_more : (rest next : Rest) (frame : Option Received) (byte : ℕ) (bytes : List ℕ)
+    → rest_step rest byte ≡ record { frame = frame; rest = next }
     → TakesFront next bytes (feed_outcome next bytes) → TakesFront rest (byte ∷ bytes)
     (stop_or (record { frame = frame; rest = next }) (feed_outcome next bytes))
 one_more rest next (Some frame) byte bytes turned later = record {
@@ -69,9 +73,11 @@ one_more rest next (Some frame) byte bytes turned later = record {
 one_more rest next None byte bytes turned later = record {
   within = omega arith;
   some = λ h. omega arith;
-  frames = rw one-add (frames_after-turned rest byte (take (feed_outcome next bytes).taken bytes) _ turned ∙ later.frames);
+  frames = rw one-add (frames_after-turned rest byte (take (feed_outcome next bytes).taken bytes) _ turned
+      ∙ later.frames);
   left = rw one-add (rest_after-turned rest byte (take (feed_outcome next bytes).taken bytes) _ turned ∙ later.left);
-  none_before = λ k below. none_before-later rest next byte bytes (feed_outcome next bytes).taken k turned later.none_before below;
+  none_before = λ k below. none_before-later rest next byte bytes (feed_outcome next bytes).taken k turned
+      later.none_before below;
   all = λ h. omega (arith, later.all h);
 }
 
@@ -86,10 +92,12 @@ takes_front rest [] =
       all = λ h. refl;
     }
 takes_front rest (byte ∷ bytes) =
-    one_more rest (rest_step rest byte).rest (rest_step rest byte).frame byte bytes refl (takes_front (rest_step rest byte).rest bytes)
+    one_more rest (rest_step rest byte).rest (rest_step rest byte).frame byte bytes refl
+    (takes_front (rest_step rest byte).rest bytes)
 
 -- cut where it was taken, a piece gives its first frame and then those of what is left
-pub goes_on : (rest : Rest) (piece : List ℕ) → GoesOn rest piece (feed_outcome rest piece).taken (feed_outcome rest piece).frame (feed_outcome rest piece).rest
+pub goes_on : (rest : Rest) (piece : List ℕ)
+    → GoesOn rest piece (feed_outcome rest piece).taken (feed_outcome rest piece).frame (feed_outcome rest piece).rest
 goes_on rest piece =
     let f = feed_outcome rest piece in
     let front = takes_front rest piece in
@@ -107,11 +115,17 @@ goes_on rest piece =
     }
 
 pub taken_all : (rest : Rest) (piece : List ℕ) → (feed_outcome rest piece).frame ≡ None
-    → ((feed_outcome rest piece).taken ≡ length piece) × ((feed_outcome rest piece).rest ≡ rest_after rest piece) × (frames_after rest piece ≡ [])
+    → ((feed_outcome rest piece).taken ≡ length piece) × ((feed_outcome rest piece).rest ≡ rest_after rest piece)
+    × (frames_after rest piece ≡ [])
 taken_all rest piece none =
     let front = takes_front rest piece in
-    let whole : take (feed_outcome rest piece).taken piece ≡ piece = take_all (feed_outcome rest piece).taken piece (omega (arith, front.all none)) in
-    (front.all none, sym front.left ∙ ap (rest_after rest) whole, ap (frames_after rest) (sym whole) ∙ (front.frames ∙ ap frame_list none))
+    let whole : take (feed_outcome rest piece).taken piece ≡ piece =
+    take_all (feed_outcome rest piece).taken piece (omega (arith, front.all none)) in (
+      front.all none,
+      sym front.left ∙ ap (rest_after rest) whole,
+      ap (frames_after rest) (sym whole)
+          ∙ (front.frames ∙ ap frame_list none),
+    )
 
 -- a piece after one in which no frame ends
 on_one_more : (frame : Option Received) (next : Rest) (first whole : Fed) (n : ℕ) (later : Rest → Fed)
@@ -126,20 +140,24 @@ on_one_more None next first whole n later more none =
 
 pub fed-append_none : (rest : Rest) (front back : List ℕ) → (feed_outcome rest front).frame ≡ None
     → feed_outcome rest (front ++ back) ≡ ahead (length front) (feed_outcome (feed_outcome rest front).rest back)
-fed-append_none rest [] back none = ap (λ (k : ℕ). record (feed_outcome rest back) { taken = k }) (sym (zero-add (feed_outcome rest back).taken))
+fed-append_none rest [] back none = ap (λ (k : ℕ). record (feed_outcome rest back) { taken = k })
+    (sym (zero-add (feed_outcome rest back).taken))
 fed-append_none rest (byte ∷ front) back none =
     let next = (rest_step rest byte).rest in
-    on_one_more (rest_step rest byte).frame next (feed_outcome next front) (feed_outcome next (front ++ back)) (length front) (λ r. feed_outcome r back)
+    on_one_more (rest_step rest byte).frame next (feed_outcome next front) (feed_outcome next (front ++ back))
+    (length front) (λ r. feed_outcome r back)
     (fed-append_none next front back) none
 
 -- and after one in which one ends
-ended_one_more : (ended : Option Received) (next : Rest) (first whole : Fed) (frame : Received) → (first.frame ≡ Some frame → whole ≡ first)
+ended_one_more : (ended : Option Received) (next : Rest) (first whole : Fed) (frame : Received)
+    → (first.frame ≡ Some frame → whole ≡ first)
     → (stop_or (record { frame = ended; rest = next }) first).frame ≡ Some frame
     → stop_or (record { frame = ended; rest = next }) whole ≡ stop_or (record { frame = ended; rest = next }) first
 ended_one_more (Some ended) next first whole frame more some = refl
 ended_one_more None next first whole frame more some = ap (ahead 1) (more some)
 
-pub fed-append_some : (rest : Rest) (front back : List ℕ) (frame : Received) → (feed_outcome rest front).frame ≡ Some frame
+pub fed-append_some : (rest : Rest) (front back : List ℕ) (frame : Received)
+    → (feed_outcome rest front).frame ≡ Some frame
     → feed_outcome rest (front ++ back) ≡ feed_outcome rest front
 fed-append_some rest [] back frame some = cc
 fed-append_some rest (byte ∷ front) back frame some =
@@ -151,19 +169,22 @@ fed-append_some rest (byte ∷ front) back frame some =
 
 pub one_splitting : (bytes : List ℕ) (units : List LineUnit) (partial : Partial) → Splits bytes units partial
     → run nothing bytes ≡ record { units = units; partial = partial }
-one_splitting bytes units partial splits = ap (run nothing) splits.whole ∙ run-split units partial splits.each splits.partial
+one_splitting bytes units partial splits =
+    ap (run nothing) splits.whole ∙ run-split units partial splits.each splits.partial
 
 pub a_splitting : (bytes : List ℕ) → Splits bytes (run nothing bytes).units (run nothing bytes).partial
 a_splitting bytes =
     let read = runs_as nothing bytes tt in
     record { whole = read.whole; each = read.each; partial = read.is_partial }
 
-pub reads_frames : (bytes : List ℕ) (frames : List Received) (rest : Rest) → Reads bytes frames rest → frames ≡ frames_after Nothing bytes
+pub reads_frames : (bytes : List ℕ) (frames : List Received) (rest : Rest) → Reads bytes frames rest
+    → frames ≡ frames_after Nothing bytes
 reads_frames bytes frames rest reads =
     reads.frames_are ∙ (ap (λ r. frames_of r.units) (sym (one_splitting bytes reads.units reads.partial reads.splits))
     ∙ sym (runs_as nothing bytes tt).frames)
 
-pub reads_rest : (bytes : List ℕ) (frames : List Received) (rest : Rest) → Reads bytes frames rest → rest ≡ rest_after Nothing bytes
+pub reads_rest : (bytes : List ℕ) (frames : List Received) (rest : Rest) → Reads bytes frames rest
+    → rest ≡ rest_after Nothing bytes
 reads_rest bytes frames rest reads =
     reads.rest_is ∙ (ap (λ r. rest_of r.partial) (sym (one_splitting bytes reads.units reads.partial reads.splits))
     ∙ sym (runs_as nothing bytes tt).rest)
@@ -190,10 +211,12 @@ reads_more seen frames rest more reads =
     let rest_then : rest_after Nothing (seen ++ more) ≡ rest_after rest more =
     rest_after-append Nothing seen more ∙ ap (λ r. rest_after r more) (sym rest_is) in
     subst (λ (r : Rest). Reads (seen ++ more) (frames ++ frames_after rest more) r) rest_then
-    (subst (λ (l : List Received). Reads (seen ++ more) l (rest_after Nothing (seen ++ more))) frames_then (reads_from (seen ++ more)))
+    (subst (λ (l : List Received). Reads (seen ++ more) l (rest_after Nothing (seen ++ more))) frames_then
+    (reads_from (seen ++ more)))
 
 pub takes_first : (seen : List ℕ) (frames : List Received) (rest : Rest) (piece : List ℕ) → Reads seen frames rest
-    → TakesFirst seen frames piece (feed_outcome rest piece).taken (feed_outcome rest piece).frame (feed_outcome rest piece).rest
+    → TakesFirst seen frames piece (feed_outcome rest piece).taken (feed_outcome rest piece).frame
+    (feed_outcome rest piece).rest
 takes_first seen frames rest piece reads =
     let f = feed_outcome rest piece in
     let front = takes_front rest piece in
@@ -218,7 +241,8 @@ pub record Feeds (rest : Rest) (piece : List ℕ) (taken : ℕ) (frame : Option 
       → TakesFirst seen frames piece taken frame (feed_outcome rest piece).rest
   pub goes_on : GoesOn rest piece taken frame (feed_outcome rest piece).rest
 
-pub feeds : (rest : Rest) (piece : List ℕ) (taken : ℕ) (frame : Option Received) → taken ≡ (feed_outcome rest piece).taken
+pub feeds : (rest : Rest) (piece : List ℕ) (taken : ℕ) (frame : Option Received)
+    → taken ≡ (feed_outcome rest piece).taken
     → frame ≡ (feed_outcome rest piece).frame → Feeds rest piece taken frame
 feeds rest piece taken frame taken_is frame_is =
     subst (λ (n : ℕ). Feeds rest piece n frame) (sym taken_is)
@@ -227,7 +251,8 @@ feeds rest piece taken frame taken_is frame_is =
 
 -- what is one frame to the turns is one frame to the grammar
 pub reads_one : (bytes : List ℕ) (frame : Received)
-    → feed_outcome Nothing bytes ≡ record { taken = length bytes; frame = Some frame; rest = Nothing } → Reads bytes (frame ∷ []) Nothing
+    → feed_outcome Nothing bytes ≡ record { taken = length bytes; frame = Some frame; rest = Nothing }
+    → Reads bytes (frame ∷ []) Nothing
 reads_one bytes frame is =
     let first = takes_first [] [] Nothing bytes (reads_from []) in
     let whole : take (length bytes) bytes ≡ bytes = take_all (length bytes) bytes (omega arith) in

@@ -15,11 +15,13 @@ abbrev kept_of : Bool → List ℕ → Option (List ℕ)
 kept_of bad held = if bad || nat_lt 4096 (length held) then None else Some held
 
 -- where there is no room for one more the data is lost, by what it was already or by the new byte
-full-kept_with : (t : Bool) (held : List ℕ) (byte : ℕ) → 4096 ≤ length held → kept_with (if t then None else Some held) byte ≡ None
+full-kept_with : (t : Bool) (held : List ℕ) (byte : ℕ) → 4096 ≤ length held
+    → kept_with (if t then None else Some held) byte ≡ None
 full-kept_with true held byte full = refl
 full-kept_with false held byte full = rw (le-ltb (length held) 4096 full)
 
-kept_of-push : (bad : Bool) (held : List ℕ) (byte : ℕ) → kept_of (bad || false) (held ++ byte ∷ []) ≡ kept_with (kept_of bad held) byte
+kept_of-push : (bad : Bool) (held : List ℕ) (byte : ℕ)
+    → kept_of (bad || false) (held ++ byte ∷ []) ≡ kept_with (kept_of bad held) byte
 kept_of-push true held byte = refl
 kept_of-push false held byte =
     elim (cases_lt (length held) 4096) [
@@ -51,15 +53,22 @@ kept-append : (inners : List Inner) (inner : Inner)
     → data_so_far (inners ++ inner ∷ []) ≡ kept_of (list_any is_stray inners || (is_stray inner || false))
     (flat_map data_of_inner inners ++ (data_of_inner inner ++ []))
 unfolding data_so_far
-kept-append inners inner = rw (list_any-append is_stray inners (inner ∷ []), flat_map-append data_of_inner inners (inner ∷ []))
+kept-append inners inner = rw (
+  list_any-append is_stray inners (inner ∷ []),
+  flat_map-append data_of_inner inners
+      (inner ∷ []),
+)
 
-pub kept-plain : (inners : List Inner) (byte : ℕ) → data_so_far (inners ++ plain byte ∷ []) ≡ kept_with (data_so_far inners) byte
+pub kept-plain : (inners : List Inner) (byte : ℕ)
+    → data_so_far (inners ++ plain byte ∷ []) ≡ kept_with (data_so_far inners) byte
 unfolding data_so_far
-kept-plain inners byte = kept-append inners (plain byte) ∙ kept_of-push (list_any is_stray inners) (flat_map data_of_inner inners) byte
+kept-plain inners byte = kept-append inners (plain byte)
+    ∙ kept_of-push (list_any is_stray inners) (flat_map data_of_inner inners) byte
 
 pub kept-doubled : (inners : List Inner) → data_so_far (inners ++ doubled ∷ []) ≡ kept_with (data_so_far inners) 0x10
 unfolding data_so_far
-kept-doubled inners = kept-append inners doubled ∙ kept_of-push (list_any is_stray inners) (flat_map data_of_inner inners) 0x10
+kept-doubled inners = kept-append inners doubled
+    ∙ kept_of-push (list_any is_stray inners) (flat_map data_of_inner inners) 0x10
 
 pub kept-fill : (inners : List Inner) → data_so_far (inners ++ fill ∷ []) ≡ data_so_far inners
 unfolding data_so_far
@@ -70,7 +79,8 @@ kept-fill inners =
 
 pub kept-stray : (inners : List Inner) (byte : ℕ) → data_so_far (inners ++ stray byte ∷ []) ≡ None
 unfolding data_so_far
-kept-stray inners byte = kept-append inners (stray byte) ∙ kept_of-stray (list_any is_stray inners) (flat_map data_of_inner inners ++ [])
+kept-stray inners byte = kept-append inners (stray byte)
+    ∙ kept_of-stray (list_any is_stray inners) (flat_map data_of_inner inners ++ [])
 
 pub kept-none : InText (Some []) false ≡ InText (data_so_far []) false
 unfolding data_so_far

@@ -12,7 +12,8 @@ use Rattle.njh_bisync.specs.declared.frame.Control.{Control}
 use Rattle.njh_bisync.specs.declared.frame.Control.TheVariants.{Enquiry, Ack0, Nak}
 use Rattle.njh_bisync.proofs.FedLaws.{reads_one}
 
-room-kept_with : (held : List ℕ) (byte : ℕ) → length held < longest_text → kept_with (Some held) byte ≡ Some (held ++ byte ∷ [])
+room-kept_with : (held : List ℕ) (byte : ℕ) → length held < longest_text
+    → kept_with (Some held) byte ≡ Some (held ++ byte ∷ [])
 room-kept_with held byte room = rw (lt-ltb (length held) longest_text room)
 
 ahead-ahead : (f : Fed) → ahead 1 (ahead 1 f) ≡ ahead 2 f
@@ -21,9 +22,11 @@ ahead-ahead f =
     ap (λ (n : ℕ). record f { taken = n }) e
 
 -- one byte of data, as it is written
-data_byte-fed : (held : List ℕ) (byte : ℕ) (same : Bool) (more : List ℕ) → (byte == 0x10) ≡ same → length held < longest_text
+data_byte-fed : (held : List ℕ) (byte : ℕ) (same : Bool) (more : List ℕ) → (byte == 0x10) ≡ same
+    → length held < longest_text
     → feed_outcome (InText (Some held) false) ((if same then 0x10 ∷ 0x10 ∷ [] else byte ∷ []) ++ more)
-    ≡ ahead (length (if same then 0x10 ∷ 0x10 ∷ [] else byte ∷ [])) (feed_outcome (InText (Some (held ++ byte ∷ [])) false) more)
+    ≡ ahead (length (if same then 0x10 ∷ 0x10 ∷ [] else byte ∷ []))
+    (feed_outcome (InText (Some (held ++ byte ∷ [])) false) more)
 unfolding rest_step
 data_byte-fed held byte true more is room =
     ahead-ahead (feed_outcome (InText (kept_with (Some held) 0x10) false) more)
@@ -42,18 +45,21 @@ unfolding rest_step
 read_data done [] more room = ap (told 2) (sym (append-nil done))
 read_data done (byte ∷ held) more room =
     let rest = flat_map bytes_of_data held ++ (0x10 ∷ 0x26 ∷ more) in
-    let longer : length (done ++ byte ∷ []) + length held ≤ longest_text = omega (arith, length-append done (byte ∷ [])) in
+    let longer : length (done ++ byte ∷ []) + length held ≤ longest_text =
+    omega (arith, length-append done (byte ∷ [])) in
     let added : length (bytes_of_data byte) + (length (flat_map bytes_of_data held) + 2) ≡ length
     (bytes_of_data byte ++ flat_map bytes_of_data held) + 2 =
     omega (arith, length-append (bytes_of_data byte) (flat_map bytes_of_data held)) in
-    ap (feed_outcome (InText (Some done) false)) (append_assoc (bytes_of_data byte) (flat_map bytes_of_data held) (0x10 ∷ 0x26 ∷ more))
+    ap (feed_outcome (InText (Some done) false))
+    (append_assoc (bytes_of_data byte) (flat_map bytes_of_data held) (0x10 ∷ 0x26 ∷ more))
     ∙ (data_byte-fed done byte (byte == 0x10) rest refl (omega arith)
     ∙ (ap (ahead (length (bytes_of_data byte))) (read_data (done ++ byte ∷ []) held more longer)
     ∙ (ap (λ n. told n ((done ++ byte ∷ []) ++ held)) added
     ∙ ap (told (length (bytes_of_data byte ++ flat_map bytes_of_data held) + 2)) (append_assoc done (byte ∷ []) held))))
 
 pub text_read_back : (held more : List ℕ) → length held ≤ longest_text
-    → feed_outcome Nothing (text_bytes held ++ more) ≡ record { taken = length (text_bytes held); frame = Some (Text held); rest = Nothing }
+    → feed_outcome Nothing (text_bytes held ++ more)
+    ≡ record { taken = length (text_bytes held); frame = Some (Text held); rest = Nothing }
 unfolding rest_step text_bytes
 text_read_back held more room =
     let long : 1 + (1 + (length (flat_map bytes_of_data held) + 2)) ≡ length
@@ -66,7 +72,8 @@ text_read_back held more room =
 
 pub text_reads : (held : List ℕ) → length held ≤ longest_text → Reads (text_bytes held) (Text held ∷ []) Nothing
 text_reads held room =
-    reads_one (text_bytes held) (Text held) (ap (feed_outcome Nothing) (sym (append-nil (text_bytes held))) ∙ text_read_back held [] room)
+    reads_one (text_bytes held) (Text held)
+    (ap (feed_outcome Nothing) (sym (append-nil (text_bytes held))) ∙ text_read_back held [] room)
 
 pub control_read_back : (control : Control) (more : List ℕ)
     → feed_outcome Nothing (control_bytes control ++ more)

@@ -80,13 +80,15 @@ bytes-dangling inners inner byte is =
 
 -- an open 10 and the byte after it are an end
 bytes-ended : (inners : List Inner) (end : End) (byte : ℕ) → 0x10 ∷ byte ∷ [] ≡ bytes_of_end end
-    → (flat_map bytes_of_inner inners ++ 0x10 ∷ []) ++ byte ∷ [] ≡ ((flat_map bytes_of_inner inners ++ bytes_of_end end) ++ []) ++ []
+    → (flat_map bytes_of_inner inners ++ 0x10 ∷ []) ++ byte ∷ []
+    ≡ ((flat_map bytes_of_inner inners ++ bytes_of_end end) ++ []) ++ []
 bytes-ended inners end byte is =
     append_assoc (flat_map bytes_of_inner inners) (0x10 ∷ []) (byte ∷ [])
     ∙ (ap (λ bytes. flat_map bytes_of_inner inners ++ bytes) is ∙ (sym (append-nil _) ∙ sym (append-nil _)))
 
 -- an open 10 and the byte after it go on with the text
-inside : (inners : List Inner) (inner : Inner) (byte : ℕ) (held : Option (List ℕ)) → AllByRecursion IsInner inners → IsInner inner
+inside : (inners : List Inner) (inner : Inner) (byte : ℕ) (held : Option (List ℕ)) → AllByRecursion IsInner inners
+    → IsInner inner
     → 0x10 ∷ byte ∷ [] ≡ bytes_of_inner inner → InText held false ≡ InText (data_so_far (inners ++ inner ∷ [])) false
     → Agrees (unended inners true) byte (on_to (InText held false)) (goes_on (unended (inners ++ inner ∷ []) false))
 inside inners inner byte held each is bytes rest = record {
@@ -109,7 +111,8 @@ ended inners end byte frame each bytes is = record {
   rest = refl;
 }
 
-pub agrees : (partial : Partial) (byte : ℕ) → IsPartial partial → Agrees partial byte (rest_step (rest_of partial) byte) (step partial byte)
+pub agrees : (partial : Partial) (byte : ℕ) → IsPartial partial
+    → Agrees partial byte (rest_step (rest_of partial) byte) (step partial byte)
 unfolding rest_step
 agrees nothing byte is =
     tested nothing byte 0x01 _ _ _ _
@@ -117,19 +120,30 @@ agrees nothing byte is =
     tested nothing byte 0x10 _ _ _ _
     (λ e. record { bytes = ap (λ b. b ∷ []) e; each = tt; is_partial = tt; frame = refl; rest = refl }) (λ not_dle.
     tested nothing byte 0x3D _ _ _ _
-    (λ e. record { bytes = ap (λ b. b ∷ []) e; each = (tt, tt); is_partial = tt; frame = refl; rest = refl }) (λ not_nak.
+    (λ e. record { bytes = ap (λ b. b ∷ []) e; each = (tt, tt); is_partial = tt; frame = refl; rest = refl })
+    (λ not_nak.
     tested nothing byte 0x37 _ _ _ _
-    (λ e. record { bytes = ap (λ b. b ∷ []) e; each = (tt, tt); is_partial = tt; frame = refl; rest = refl }) (λ not_eot.
-    record { bytes = refl; each = ((not_soh, not_dle, not_nak, not_eot), tt); is_partial = tt; frame = refl; rest = refl }))))
+    (λ e. record { bytes = ap (λ b. b ∷ []) e; each = (tt, tt); is_partial = tt; frame = refl; rest = refl })
+    (λ not_eot.
+    record {
+      bytes = refl;
+      each = ((not_soh, not_dle, not_nak, not_eot), tt);
+      is_partial = tt;
+      frame = refl;
+      rest = refl;
+    }))))
 agrees soh byte is =
     tested soh byte 0x2D _ _ _ _
-    (λ e. record { bytes = ap (λ b. 0x01 ∷ b ∷ []) e; each = (tt, tt); is_partial = tt; frame = refl; rest = refl }) (λ not_enq.
+    (λ e. record { bytes = ap (λ b. 0x01 ∷ b ∷ []) e; each = (tt, tt); is_partial = tt; frame = refl; rest = refl })
+    (λ not_enq.
     record { bytes = refl; each = (not_enq, tt); is_partial = tt; frame = refl; rest = refl })
 agrees dle byte is =
     tested dle byte 0x70 _ _ _ _
-    (λ e. record { bytes = ap (λ b. 0x10 ∷ b ∷ []) e; each = (tt, tt); is_partial = tt; frame = refl; rest = refl }) (λ not_ack.
+    (λ e. record { bytes = ap (λ b. 0x10 ∷ b ∷ []) e; each = (tt, tt); is_partial = tt; frame = refl; rest = refl })
+    (λ not_ack.
     tested dle byte 0x02 _ _ _ _
-    (λ e. record { bytes = ap (λ b. 0x10 ∷ b ∷ []) e; each = tt; is_partial = tt; frame = refl; rest = kept-none }) (λ not_stx.
+    (λ e. record { bytes = ap (λ b. 0x10 ∷ b ∷ []) e; each = tt; is_partial = tt; frame = refl; rest = kept-none })
+    (λ not_stx.
     record { bytes = refl; each = ((not_ack, not_stx), tt); is_partial = tt; frame = refl; rest = refl }))
 agrees (unended inners false) byte is =
     tested (unended inners false) byte 0x10 _ _ _ _
@@ -187,13 +201,15 @@ joined : (front next read read_later last : List ℕ) (byte : ℕ) (bytes : List
     → front ++ byte ∷ bytes ≡ (read ++ read_later) ++ last
 joined front next read read_later last byte bytes one more =
     sym (append_assoc front (byte ∷ []) bytes)
-    ∙ (ap (λ l. l ++ bytes) one ∙ (append_assoc read next bytes ∙ (ap (λ l. read ++ l) more ∙ sym (append_assoc read read_later last))))
+    ∙ (ap (λ l. l ++ bytes) one ∙ (append_assoc read next bytes
+    ∙ (ap (λ l. read ++ l) more ∙ sym (append_assoc read read_later last))))
 
 -- one more unit, or none, before the units of a run
 whole-after : (unit : Option LineUnit) (partial next : Partial) (byte : ℕ) (bytes : List ℕ) (r : Run)
     → bytes_of_partial partial ++ byte ∷ [] ≡ flat_map bytes_of_unit (option_to_list unit) ++ bytes_of_partial next
     → bytes_of_partial next ++ bytes ≡ flat_map bytes_of_unit r.units ++ bytes_of_partial r.partial
-    → bytes_of_partial partial ++ byte ∷ bytes ≡ flat_map bytes_of_unit (cons_option unit r.units) ++ bytes_of_partial r.partial
+    → bytes_of_partial partial ++ byte ∷ bytes ≡ flat_map bytes_of_unit (cons_option unit r.units) ++ bytes_of_partial
+    r.partial
 whole-after None partial next byte bytes r one more =
     joined (bytes_of_partial partial) (bytes_of_partial next) [] (flat_map bytes_of_unit r.units)
     (bytes_of_partial r.partial) byte bytes one more
@@ -222,7 +238,8 @@ runs_as partial (byte ∷ bytes) is =
           (run (step partial byte).partial bytes) one.bytes more.whole;
       each = each-after (step partial byte).unit _ one.each more.each;
       is_partial = more.is_partial;
-      frames = rw (one.frame, one.rest, more.frames) (frames-after (step partial byte).unit (run (step partial byte).partial bytes).units);
+      frames = rw (one.frame, one.rest, more.frames)
+          (frames-after (step partial byte).unit (run (step partial byte).partial bytes).units);
       rest = rw one.rest more.rest;
     }
 
@@ -234,7 +251,14 @@ step-plain inners byte is = rw (ne_eqb byte 0x10 is)
 step-stray : (inners : List Inner) (byte : ℕ) → IsInner (stray byte)
     → step (unended inners true) byte ≡ goes_on (unended (inners ++ stray byte ∷ []) false)
 step-stray inners byte is =
-    rw (ne_eqb byte 0x10 is.0, ne_eqb byte 0x32 is.1, ne_eqb byte 0x26 is.2, ne_eqb byte 0x03 is.3, ne_eqb byte 0x2D is.4)
+    rw (
+      ne_eqb byte 0x10 is.0,
+      ne_eqb byte 0x32 is.1,
+      ne_eqb byte 0x26 is.2,
+      ne_eqb byte 0x03 is.3,
+      ne_eqb byte 0x2D
+          is.4,
+    )
 
 step-after_soh : (byte : ℕ) → byte ≢ 0x2D → step soh byte ≡ whole_unit (after_soh byte)
 step-after_soh byte is = rw (ne_eqb byte 0x2D is)
@@ -259,8 +283,10 @@ run-inners done [] more each = ap (λ all. run (unended all false) more) (sym (a
 run-inners done (plain byte ∷ inners) more each =
     ap (run_after (flat_map bytes_of_inner inners ++ more)) (step-plain done byte each.0)
     ∙ (run-inners (done ++ plain byte ∷ []) inners more each.1 ∙ regrouped done inners (plain byte) more)
-run-inners done (doubled ∷ inners) more each = run-inners (done ++ doubled ∷ []) inners more each.1 ∙ regrouped done inners doubled more
-run-inners done (fill ∷ inners) more each = run-inners (done ++ fill ∷ []) inners more each.1 ∙ regrouped done inners fill more
+run-inners done (doubled ∷ inners) more each =
+    run-inners (done ++ doubled ∷ []) inners more each.1 ∙ regrouped done inners doubled more
+run-inners done (fill ∷ inners) more each =
+    run-inners (done ++ fill ∷ []) inners more each.1 ∙ regrouped done inners fill more
 run-inners done (stray byte ∷ inners) more each =
     ap (run_after (flat_map bytes_of_inner inners ++ more)) (step-stray done byte each.0)
     ∙ (run-inners (done ++ stray byte ∷ []) inners more each.1 ∙ regrouped done inners (stray byte) more)
@@ -284,7 +310,8 @@ run-unit (after_soh byte) more is = ap (run_after more) (step-after_soh byte is)
 run-unit (after_dle byte) more is = ap (run_after more) (step-after_dle byte is)
 run-unit (single byte) more is = ap (run_after more) (step-single byte is)
 
-run-partial : (partial : Partial) → IsPartial partial → run nothing (bytes_of_partial partial) ≡ record { units = []; partial = partial }
+run-partial : (partial : Partial) → IsPartial partial
+    → run nothing (bytes_of_partial partial) ≡ record { units = []; partial = partial }
 run-partial nothing is = refl
 run-partial soh is = refl
 run-partial dle is = refl
@@ -293,7 +320,8 @@ run-partial (unended inners false) is =
 run-partial (unended inners true) is = run-inners [] inners (0x10 ∷ []) is
 
 pub run-split : (units : List LineUnit) (partial : Partial) → AllByRecursion IsUnit units → IsPartial partial
-    → run nothing (flat_map bytes_of_unit units ++ bytes_of_partial partial) ≡ record { units = units; partial = partial }
+    → run nothing (flat_map bytes_of_unit units ++ bytes_of_partial partial)
+    ≡ record { units = units; partial = partial }
 run-split [] partial each is = run-partial partial is
 run-split (unit ∷ units) partial each is =
     ap (run nothing) (append_assoc (bytes_of_unit unit) (flat_map bytes_of_unit units) (bytes_of_partial partial))

@@ -6,11 +6,13 @@ use Rattle.std.proofs.lemmas.List.Sums.{count_by-le-length, sum_by-cons}
 use Rattle.njh_bisync.specs.Written.{bytes_of_data, text_bytes}
 
 -- the test of `count`, on one byte
-length-if_doubled : (same : Bool) (byte : ℕ) → length (if same then 0x10 ∷ 0x10 ∷ [] else byte ∷ []) ≡ 1 + (if same then 1 else 0)
+length-if_doubled : (same : Bool) (byte : ℕ)
+    → length (if same then 0x10 ∷ 0x10 ∷ [] else byte ∷ []) ≡ 1 + (if same then 1 else 0)
 length-if_doubled true byte = refl
 length-if_doubled false byte = refl
 
-pub length-data_bytes : (held : List ℕ) → length (flat_map bytes_of_data held) ≡ length held + count_by (λ byte. byte == 0x10) held
+pub length-data_bytes : (held : List ℕ) → length (flat_map bytes_of_data held) ≡ length held + count_by
+    (λ byte. byte == 0x10) held
 length-data_bytes [] = refl
 length-data_bytes (byte ∷ held) =
     omega (

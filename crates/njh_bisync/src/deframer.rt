@@ -11,9 +11,11 @@ use crate::scanner::Scanner;
 use std::alloc::{AllocError, Global};
 use std::marker::Model;
 
-/// Finds the frames in the bytes of a line, in whatever pieces they come (IBM GA27-3004, transparent text).
+/// Finds the frames in the bytes of a line, in whatever pieces they come (IBM GA27-3004,
+/// transparent text).
 ///
-/// A clause sees the rest of the bytes so far: what is no whole unit yet, as far as it matters for what follows.
+/// A clause sees the rest of the bytes so far: what is no whole unit yet, as far as it matters for
+/// what follows.
 #[derive(Debug, Drop)]
 pub struct Deframer {
     scanner: Scanner,
@@ -41,7 +43,8 @@ impl Deframer {
         })
     }
 
-    /// Takes the bytes up to and including the end of the first frame, or the whole piece where no frame ends in it.
+    /// Takes the bytes up to and including the end of the first frame, or the whole piece where no
+    /// frame ends in it.
     ///
     /// It answers how many bytes that is, and the frame, whose text is lent until the next call.
     pub fn feed(&mut self, piece: &[u8]) -> (usize, Option<Frame<'_>>)

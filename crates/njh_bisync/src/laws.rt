@@ -18,8 +18,8 @@ pub fn one_splitting()
         → Splits bytes units rest → Splits bytes others other → (units ≡ others) × (rest ≡ other) }
 {}
 
-/// The frames of bytes, and what of their rest matters, by the grammar and by the turns of single bytes: they are the
-/// same.
+/// The frames of bytes, and what of their rest matters, by the grammar and by the turns of single
+/// bytes: they are the same.
 pub fn one_reading()
     ensures some { (bytes : List ℕ)
         → Reads bytes (frames_after Nothing bytes) (rest_after Nothing bytes) }
@@ -28,8 +28,8 @@ pub fn one_reading()
         → (frames ≡ frames_after Nothing bytes) × (rest ≡ rest_after Nothing bytes) }
 {}
 
-/// The frames of bytes and more bytes are those of the first, then those that the others give after the rest of the
-/// first.
+/// The frames of bytes and more bytes are those of the first, then those that the others give after
+/// the rest of the first.
 pub fn frames_of_both()
     ensures reads { (front back : List ℕ) (frames : List Received) (rest : Rest)
         → Reads front frames rest

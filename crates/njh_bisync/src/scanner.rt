@@ -47,7 +47,8 @@ pub enum Ended {
     Spoiled,
 }
 
-/// What has come of a frame. `held` has the data of the text, with a capacity that was reserved once.
+/// What has come of a frame. `held` has the data of the text, with a capacity that was reserved
+/// once.
 #[derive(Debug, Drop)]
 pub struct Scanner {
     place: Place,
@@ -112,8 +113,8 @@ impl Scanner {
         self.place = Place::Between;
     }
 
-    /// Takes one byte, or the two that begin a text, or in a text all that stand before the next DLE, or that DLE and
-    /// the byte behind it: how many, and the frame that they end.
+    /// Takes one byte, or the two that begin a text, or in a text all that stand before the next
+    /// DLE, or that DLE and the byte behind it: how many, and the frame that they end.
     fn take_some(&mut self, bytes: &[u8]) -> (usize, Option<Ended>)
         requires { 0 < length bytes.now }
         ensures some { 0 < result.0 }
@@ -143,7 +144,8 @@ impl Scanner {
         (1, self.take(bytes[0]))
     }
 
-    /// In a text: takes all bytes that stand before the next DLE, or that DLE and the byte behind it.
+    /// In a text: takes all bytes that stand before the next DLE, or that DLE and the byte behind
+    /// it.
     fn take_inside(&mut self, bytes: &[u8]) -> (usize, Option<Ended>)
         requires place { self.old.place ≡ Place.Inside }
         requires some { 0 < length bytes.now }

@@ -35,7 +35,8 @@ pub fn put_text(data: &[u8], out: &mut Vec<u8>) -> Result<(), AllocError>
     Ok(())
 }
 
-/// Appends a control frame, of at most 2 bytes. Where `out` has the room for it no memory is asked for.
+/// Appends a control frame, of at most 2 bytes. Where `out` has the room for it no memory is asked
+/// for.
 pub fn put_control(control: Control, out: &mut Vec<u8>) -> Result<(), AllocError>
     ensures ok { OnOk result (out.new.items ≡ out.old.items ++ control_bytes control) }
     ensures err { OnErr result
@@ -92,7 +93,8 @@ fn text_len(data: &[u8]) -> usize
     FRAMING + data.len() + doubled
 }
 
-/// Makes room for a text, whose bytes are counted only where the room for as many DLE might be missing.
+/// Makes room for a text, whose bytes are counted only where the room for as many DLE might be
+/// missing.
 #[tactic(auto, using(crate::proofs::WrittenLaws::lengths))]
 fn make_text_room(data: &[u8], out: &mut Vec<u8>) -> Result<(), AllocError>
     requires { length «data».now ≤ longest_text }
@@ -131,7 +133,8 @@ fn put_bytes(bytes: &[u8], out: &mut Vec<u8>)
     ensures items { out.new.items ≡ out.old.items ++ bytes.now }
     ensures capacity { vec_capacity out.new ≡ vec_capacity out.old }
 {
-    // While it is filled it stands apart, where no byte that is written can change its length or its place.
+    // While it is filled it stands apart, where no byte that is written can change its length or
+    // its place.
     let mut filled = mem::replace(out, Vec::new(*out.allocator()));
     for byte in bytes {
         filled.push_reserved(*byte);

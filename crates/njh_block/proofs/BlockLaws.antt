@@ -26,7 +26,8 @@ abbrev pub Tells : List ℕ → Result Block BlockFault → Type 0
 Tells text (Ok block) = IsBlock text block
 Tells text (Err e) = IsFault text e
 
-stops : (b f g : ℕ) (rest : List ℕ) (items : List Item) (IsBad : List ℕ → Type 0) → IsTrue (is_bcb b) → IsTrue (is_fcs (f, g))
+stops : (b f g : ℕ) (rest : List ℕ) (items : List Item) (IsBad : List ℕ → Type 0) → IsTrue (is_bcb b)
+    → IsTrue (is_fcs (f, g))
     → Split rest items IsBad → StopsAt IsBad (b ∷ f ∷ g ∷ rest)
 stops b f g rest items IsBad good_bcb good_fcs s =
     record {
@@ -34,26 +35,37 @@ stops b f g rest items IsBad good_bcb good_fcs s =
       fcs = (f, g);
       parts = s.parts;
       after = s.after;
-      front = record
-          { good_bcb = good_bcb; good_fcs = good_fcs; joined = ap (λ (bytes : List ℕ). b ∷ f ∷ g ∷ bytes) s.joined; each = s.each };
+      front = record {
+        good_bcb = good_bcb;
+        good_fcs = good_fcs;
+        joined = ap (λ (bytes : List ℕ). b ∷ f ∷ g ∷ bytes) s.joined;
+        each = s.each;
+      };
       bad =
           s.then;
     }
 
-block_with-tells : (b f g : ℕ) (rest : List ℕ) (read : Result (List Item) BlockFault) → IsTrue (is_bcb b) → IsTrue (is_fcs (f, g))
+block_with-tells : (b f g : ℕ) (rest : List ℕ) (read : Result (List Item) BlockFault) → IsTrue (is_bcb b)
+    → IsTrue (is_fcs (f, g))
     → Reads rest read → Tells (b ∷ f ∷ g ∷ rest) (block_with b (f, g) read)
 block_with-tells b f g rest (Ok items) good_bcb good_fcs s =
     record {
       parts = s.parts;
       after = s.after;
-      front = record
-          { good_bcb = good_bcb; good_fcs = good_fcs; joined = ap (λ (bytes : List ℕ). b ∷ f ∷ g ∷ bytes) s.joined; each = s.each };
+      front = record {
+        good_bcb = good_bcb;
+        good_fcs = good_fcs;
+        joined = ap (λ (bytes : List ℕ). b ∷ f ∷ g ∷ bytes) s.joined;
+        each = s.each;
+      };
       ends =
           s.then;
       items = s.items_are;
     }
-block_with-tells b f g rest (Err BadRcb) good_bcb good_fcs (items, s) = stops b f g rest items IsBadRcb good_bcb good_fcs s
-block_with-tells b f g rest (Err BadRecord) good_bcb good_fcs (items, s) = stops b f g rest items IsBadRecord good_bcb good_fcs s
+block_with-tells b f g rest (Err BadRcb) good_bcb good_fcs (items, s) =
+    stops b f g rest items IsBadRcb good_bcb good_fcs s
+block_with-tells b f g rest (Err BadRecord) good_bcb good_fcs (items, s) =
+    stops b f g rest items IsBadRecord good_bcb good_fcs s
 block_with-tells b f g rest (Err TooShort) good_bcb good_fcs reads = absurd reads
 block_with-tells b f g rest (Err BadBcb) good_bcb good_fcs reads = absurd reads
 block_with-tells b f g rest (Err BadFcs) good_bcb good_fcs reads = absurd reads
@@ -62,7 +74,8 @@ block_with-tells b f g rest (Err BadFcs) good_bcb good_fcs reads = absurd reads
 module _ (found : (bytes : List ℕ) → AreBytes bytes → ReadsAs bytes (record_at_front bytes))
     (again : (spelling contents rest : List ℕ) (end : End) → Spelling spelling contents end
     → record_at_front (spelling ++ rest) ≡ Ok (record { contents = contents; end = end; rest = rest })) where
-  where_good-tells : (b f g : ℕ) (rest : List ℕ) (t u : Bool) → is_bcb b ≡ t → is_fcs (f, g) ≡ u → Reads rest (items_in rest)
+  where_good-tells : (b f g : ℕ) (rest : List ℕ) (t u : Bool) → is_bcb b ≡ t → is_fcs (f, g) ≡ u
+      → Reads rest (items_in rest)
       → Tells (b ∷ f ∷ g ∷ rest) (where_good t u (block_with b (f, g) (items_in rest)))
   where_good-tells b f g rest false u is_t is_u reads = (omega arith, is_t)
   where_good-tells b f g rest true false is_t is_u reads = (omega arith, is_t, is_u)
@@ -78,12 +91,15 @@ module _ (found : (bytes : List ℕ) → AreBytes bytes → ReadsAs bytes (recor
 
   -- ---- from the grammar to the reading
 
-  front-read : (text : List ℕ) (bcb : ℕ) (fcs : ℕ × ℕ) (parts : List TextRecord) (after : List ℕ) → Front text bcb fcs parts after
+  front-read : (text : List ℕ) (bcb : ℕ) (fcs : ℕ × ℕ) (parts : List TextRecord) (after : List ℕ)
+      → Front text bcb fcs parts after
       → read_block text ≡ block_with bcb fcs (with_items (items_of parts) (items_in after))
   front-read text bcb fcs parts after front =
       ap read_block front.joined
-      ∙ (ap (λ (t : Bool). where_good t (is_fcs fcs) (block_with bcb fcs (items_in (covered_bytes parts ++ after)))) front.good_bcb
-      ∙ (ap (λ (t : Bool). where_good true t (block_with bcb fcs (items_in (covered_bytes parts ++ after)))) front.good_fcs
+      ∙ (ap (λ (t : Bool). where_good t (is_fcs fcs) (block_with bcb fcs (items_in (covered_bytes parts ++ after))))
+      front.good_bcb
+      ∙ (ap (λ (t : Bool). where_good true t (block_with bcb fcs (items_in (covered_bytes parts ++ after))))
+      front.good_fcs
       ∙ ap (block_with bcb fcs) (items_in-parts found again parts after front.each)))
 
   pub IsBlock-read : (text : List ℕ) (block : Block) → IsBlock text block → read_block text ≡ Ok block
@@ -95,14 +111,16 @@ module _ (found : (bytes : List ℕ) → AreBytes bytes → ReadsAs bytes (recor
       ∙ ap (λ (items : List Item). Ok (record { bcb = block.bcb; fcs = block.fcs; items = items }))
       (append-nil (items_of is.parts) ∙ sym is.items)))
 
-  stops-read : (text : List ℕ) (IsBad : List ℕ → Type 0) (e : BlockFault) (s : StopsAt IsBad text) → items_in s.after ≡ Err e
+  stops-read : (text : List ℕ) (IsBad : List ℕ → Type 0) (e : BlockFault) (s : StopsAt IsBad text)
+      → items_in s.after ≡ Err e
       → read_block text ≡ Err e
   stops-read text IsBad e s is =
       front-read text s.bcb s.fcs s.parts s.after s.front
       ∙ (ap (λ (r : Result (List Item) BlockFault). block_with s.bcb s.fcs (with_items (items_of s.parts) r)) is
       ∙ ap (block_with s.bcb s.fcs) (with_items-Err (items_of s.parts) e))
 
-  AreBytes-after : (text : List ℕ) (bcb : ℕ) (fcs : ℕ × ℕ) (parts : List TextRecord) (after : List ℕ) → Front text bcb fcs parts after
+  AreBytes-after : (text : List ℕ) (bcb : ℕ) (fcs : ℕ × ℕ) (parts : List TextRecord) (after : List ℕ)
+      → Front text bcb fcs parts after
       → AreBytes text → AreBytes after
   AreBytes-after text bcb fcs parts after front are =
       AreBytes-drop (covered_bytes parts) after
@@ -116,7 +134,8 @@ module _ (found : (bytes : List ℕ) → AreBytes bytes → ReadsAs bytes (recor
   IsFault-read [] BadBcb are is = absurd (omega arith)
   IsFault-read (b ∷ []) BadBcb are is = absurd (omega arith)
   IsFault-read (b ∷ f ∷ []) BadBcb are is = absurd (omega arith)
-  IsFault-read (b ∷ f ∷ g ∷ rest) BadBcb are is = ap (λ (t : Bool). where_good t (is_fcs (f, g)) (block_with b (f, g) (items_in rest))) is.1
+  IsFault-read (b ∷ f ∷ g ∷ rest) BadBcb are is =
+      ap (λ (t : Bool). where_good t (is_fcs (f, g)) (block_with b (f, g) (items_in rest))) is.1
   IsFault-read [] BadFcs are is = absurd (omega arith)
   IsFault-read (b ∷ []) BadFcs are is = absurd (omega arith)
   IsFault-read (b ∷ f ∷ []) BadFcs are is = absurd (omega arith)
@@ -126,7 +145,8 @@ module _ (found : (bytes : List ℕ) → AreBytes bytes → ReadsAs bytes (recor
   IsFault-read text BadRcb are is = stops-read text IsBadRcb BadRcb is (items_in-bad_rcb is.after is.bad)
   IsFault-read text BadRecord are is =
       stops-read text IsBadRecord BadRecord is
-      (items_in-bad_record found again is.after (AreBytes-after text is.bcb is.fcs is.parts is.after is.front are) is.bad)
+      (items_in-bad_record found again is.after (AreBytes-after text is.bcb is.fcs is.parts is.after is.front are)
+      is.bad)
 
   -- ---- both ways
 
@@ -140,4 +160,5 @@ module _ (found : (bytes : List ℕ) → AreBytes bytes → ReadsAs bytes (recor
 
   pub one_block : (text : List ℕ) (a b : Block) → IsBlock text a → IsBlock text b → a ≡ b
   one_block text a b is_a is_b =
-      let one : ◌≡◌ {A = Result Block BlockFault} (Ok a) (Ok b) = sym (IsBlock-read text a is_a) ∙ IsBlock-read text b is_b in cc
+      let one : ◌≡◌ {A = Result Block BlockFault} (Ok a) (Ok b) =
+      sym (IsBlock-read text a is_a) ∙ IsBlock-read text b is_b in cc

@@ -6,7 +6,8 @@ use Rattle.njh_block.specs.declared.fault.BlockFault.{BlockFault}
 use Rattle.njh_block.specs.Blocks.{Item, First, first_record, with_item, items_in}
 use Rattle.njh_block.proofs.ReadingLaws.{items_from, items_in_step, items_or_none}
 
-with_item-some : (i : Item) (read : Result (List Item) BlockFault) → IsOk (with_item i read) → items_or_none (with_item i read) ≡ [] → ⊥
+with_item-some : (i : Item) (read : Result (List Item) BlockFault) → IsOk (with_item i read)
+    → items_or_none (with_item i read) ≡ [] → ⊥
 with_item-some i (Ok items) ok none = cc
 with_item-some i (Err e) ok none = false≢true ok
 
@@ -16,7 +17,8 @@ none_found (Ok None) onward ok none = refl
 none_found (Ok (Some x)) onward ok none = absurd (with_item-some x.item (onward x.rest) ok none)
 none_found (Err e) onward ok none = absurd (false≢true ok)
 
-pub none_left : (bytes : List ℕ) → IsOk (items_in bytes) → items_or_none (items_in bytes) ≡ [] → first_record bytes ≡ Ok None
+pub none_left : (bytes : List ℕ) → IsOk (items_in bytes) → items_or_none (items_in bytes) ≡ []
+    → first_record bytes ≡ Ok None
 none_left bytes ok none =
     none_found (first_record bytes) items_in (rw (← items_in_step bytes) ok) (rw (← items_in_step bytes) none)
 

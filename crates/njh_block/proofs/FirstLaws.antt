@@ -67,15 +67,21 @@ control-stands c rcb srcb (b ∷ []) is = (rcb ∷ srcb ∷ [], refl, (c, is, in
 control-stands c rcb srcb (b ∷ d ∷ rest) is =
     cond_both (eqb b 0) (d ∷ rest) (b ∷ d ∷ rest)
     (λ after. Stands (rcb ∷ srcb ∷ b ∷ d ∷ rest) (Ok (Some (record { item = Control rcb srcb; rest = after }))))
-    (λ e. (rcb ∷ srcb ∷ 0 ∷ [], ap (λ (x : ℕ). rcb ∷ srcb ∷ x ∷ d ∷ rest) (eqb-true b 0 e), (c, is, inr (refl, omega arith))))
+    (λ e. (
+      rcb ∷ srcb ∷ 0 ∷ [],
+      ap (λ (x : ℕ). rcb ∷ srcb ∷ x ∷ d ∷ rest) (eqb-true b 0 e),
+      (c, is, inr (refl, omega arith)),
+    ))
     (λ n. (rcb ∷ srcb ∷ [], refl, (c, is, inl (refl, λ h. eqb-false b 0 n h))))
 
-item-covers : (rcb srcb : ℕ) (end : End) (contents rest spelling : List ℕ) → form_of rcb ≡ form.Spelled → Spelling spelling contents end
+item-covers : (rcb srcb : ℕ) (end : End) (contents rest spelling : List ℕ) → form_of rcb ≡ form.Spelled
+    → Spelling spelling contents end
     → Covers (item_of rcb srcb (record { contents = contents; end = end; rest = rest })) (rcb ∷ srcb ∷ spelling) rest
 item-covers rcb srcb Record contents rest spelling is s =
     let whole : IsSpelled rcb srcb contents Record (rcb ∷ srcb ∷ spelling) =
     record { form = is; spelling = spelling; parts = refl; spelled = s } in
-    cond_both (leb (length contents) 256) (Data rcb srcb contents) (Long rcb srcb) (λ i. Covers i (rcb ∷ srcb ∷ spelling) rest)
+    cond_both (leb (length contents) 256) (Data rcb srcb contents) (Long rcb srcb)
+    (λ i. Covers i (rcb ∷ srcb ∷ spelling) rest)
     (λ e. (whole, leb-true _ _ e)) (λ n. (contents, whole, leb-false _ _ n))
 item-covers rcb srcb Abort contents rest spelling is s =
     (contents, record { form = is; spelling = spelling; parts = refl; spelled = s })
@@ -84,7 +90,8 @@ item-covers rcb srcb Abort contents rest spelling is s =
 module _ (found : (bytes : List ℕ) → AreBytes bytes → ReadsAs bytes (record_at_front bytes))
     (again : (spelling contents rest : List ℕ) (end : End) → Spelling spelling contents end
     → record_at_front (spelling ++ rest) ≡ Ok (record { contents = contents; end = end; rest = rest })) where
-  record_of_spelling-stands : (rcb srcb : ℕ) (rest : List ℕ) (read : Result Unspelled Fault) → form_of rcb ≡ form.Spelled → 0x80 ≤ rcb
+  record_of_spelling-stands : (rcb srcb : ℕ) (rest : List ℕ) (read : Result Unspelled Fault)
+      → form_of rcb ≡ form.Spelled → 0x80 ≤ rcb
       → ReadsAs rest read → Stands (rcb ∷ srcb ∷ rest) (record_of_spelling rcb srcb read)
   record_of_spelling-stands rcb srcb rest (Ok r) is high reads = (
     rcb ∷ srcb ∷ reads.0,
@@ -113,9 +120,13 @@ module _ (found : (bytes : List ℕ) → AreBytes bytes → ReadsAs bytes (recor
 
   -- ---- from the grammar to the reading
 
-  record_of_spelling-first : (rcb srcb : ℕ) (contents : List ℕ) (end : End) (bytes after : List ℕ) → IsSpelled rcb srcb contents end bytes
+  record_of_spelling-first : (rcb srcb : ℕ) (contents : List ℕ) (end : End) (bytes after : List ℕ)
+      → IsSpelled rcb srcb contents end bytes
       → first_record (bytes ++ after)
-      ≡ Ok (Some (record { item = item_of rcb srcb (record { contents = contents; end = end; rest = after }); rest = after }))
+      ≡ Ok (Some (record {
+        item = item_of rcb srcb (record { contents = contents; end = end; rest = after });
+        rest = after;
+      }))
   record_of_spelling-first rcb srcb contents end bytes after s =
       ap (λ (b : List ℕ). first_record (b ++ after)) s.parts
       ∙ (record_of_form-first form.Spelled rcb srcb (s.spelling ++ after) s.form
@@ -131,15 +142,18 @@ module _ (found : (bytes : List ℕ) → AreBytes bytes → ReadsAs bytes (recor
       record_of_spelling-first rcb srcb contents Record bytes after s
       ∙ ap (λ (i : Item). Ok (Some (record { item = i; rest = after })))
       (cond-false (leb (length contents) 256) (Data rcb srcb contents) (Long rcb srcb) (lt-leb _ _ long))
-  Covers-first (Aborted rcb srcb) bytes after (contents, s) = record_of_spelling-first rcb srcb contents Abort bytes after s
+  Covers-first (Aborted rcb srcb) bytes after (contents, s) =
+      record_of_spelling-first rcb srcb contents Abort bytes after s
   Covers-first (Control rcb srcb) bytes after (c, is, inl (two, none)) =
       ap (λ (b : List ℕ). first_record (b ++ after)) two
       ∙ (record_of_form-first (form.Control c) rcb srcb after (ap form_of is ∙ form_of-control c)
-      ∙ ap (λ (rest : List ℕ). Ok (Some (record { item = Control rcb srcb; rest = rest }))) (after_control-none after none))
+      ∙ ap (λ (rest : List ℕ). Ok (Some (record { item = Control rcb srcb; rest = rest })))
+      (after_control-none after none))
   Covers-first (Control rcb srcb) bytes after (c, is, inr (three, some)) =
       ap (λ (b : List ℕ). first_record (b ++ after)) three
       ∙ (record_of_form-first (form.Control c) rcb srcb (0 ∷ after) (ap form_of is ∙ form_of-control c)
-      ∙ ap (λ (rest : List ℕ). Ok (Some (record { item = Control rcb srcb; rest = rest }))) (after_control-own after some))
+      ∙ ap (λ (rest : List ℕ). Ok (Some (record { item = Control rcb srcb; rest = rest })))
+      (after_control-own after some))
   Covers-first (General srcb rest) bytes after (is, none) =
       ap (λ (b : List ℕ). first_record (b ++ after)) is
       ∙ (ap (λ (b : List ℕ). first_record ((0xf0 ∷ srcb ∷ rest) ++ b)) none

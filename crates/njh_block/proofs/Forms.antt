@@ -31,7 +31,8 @@ form_fact rcb =
     let Fact : Form → Type 0 = λ f. FormFact f rcb in
     cond_both (eqb rcb 0) form.End _ Fact (eqb-true rcb 0) (λ n.
     cond_both (ltb rcb 0x80) form.Bad _ Fact (λ e. (omega (arith, eqb-false rcb 0 n), ltb-true rcb 0x80 e)) (λ m.
-    cond_both (eqb rcb 0xf0) form.General (control_or_spelled rcb) Fact (eqb-true rcb 0xf0) (λ _. control_fact rcb (ltb-false rcb 0x80 m))))
+    cond_both (eqb rcb 0xf0) form.General (control_or_spelled rcb) Fact (eqb-true rcb 0xf0)
+    (λ _. control_fact rcb (ltb-false rcb 0x80 m))))
 
 -- a control record's byte is of its form
 pub form_of-control : (c : ControlRcb) → form_of (control_byte c) ≡ form.Control c

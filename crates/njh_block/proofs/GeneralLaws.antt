@@ -31,28 +31,34 @@ general_first-other (General srcb rest) (Ok items) other = absurd cc
 item_of-other : (rcb srcb : ℕ) (end : End) (contents rest : List ℕ)
     → general_first (item_of rcb srcb (record { contents = contents; end = end; rest = rest }) ∷ []) ≡ None
 item_of-other rcb srcb Record contents rest =
-    cond_both (leb (length contents) 256) (Data rcb srcb contents) (Long rcb srcb) (λ i. general_first (i ∷ []) ≡ None) (λ _. refl)
+    cond_both (leb (length contents) 256) (Data rcb srcb contents) (Long rcb srcb) (λ i. general_first (i ∷ []) ≡ None)
+    (λ _. refl)
     (λ _. refl)
 item_of-other rcb srcb Abort contents rest = refl
 
-record_of_spelling-other : (rcb srcb : ℕ) (read : Result Unspelled Fault) (onward : List ℕ → Result (List Item) BlockFault)
+record_of_spelling-other : (rcb srcb : ℕ) (read : Result Unspelled Fault)
+    (onward : List ℕ → Result (List Item) BlockFault)
     → general_first (items_or_none (items_from (record_of_spelling rcb srcb read) onward)) ≡ None
 record_of_spelling-other rcb srcb (Ok r) onward =
     general_first-other (item_of rcb srcb r) (onward r.rest) (item_of-other rcb srcb r.end r.contents r.rest)
 record_of_spelling-other rcb srcb (Err e) onward = refl
 
 record_of_form-general : (f : Form) (rcb srcb : ℕ) (rest : List ℕ) → form_of rcb ≡ f → FormFact f rcb
-    → general_first (items_or_none (items_from (record_of_form f rcb srcb rest) items_in)) ≡ general_at (rcb ∷ srcb ∷ rest)
+    → general_first (items_or_none (items_from (record_of_form f rcb srcb rest) items_in))
+    ≡ general_at (rcb ∷ srcb ∷ rest)
 record_of_form-general form.End rcb srcb rest is fact = general_at-other form.End rcb srcb rest is (λ e. cc)
 record_of_form-general form.Bad rcb srcb rest is fact = general_at-other form.Bad rcb srcb rest is (λ e. cc)
-record_of_form-general form.General rcb srcb rest is fact = sym (cond-true (eqb rcb 0xf0) (Some (srcb, rest)) None (eq-eqb rcb 0xf0 fact))
+record_of_form-general form.General rcb srcb rest is fact =
+    sym (cond-true (eqb rcb 0xf0) (Some (srcb, rest)) None (eq-eqb rcb 0xf0 fact))
 record_of_form-general (form.Control c) rcb srcb rest is fact =
     general_first-other (Control rcb srcb) (items_in (after_control rest)) refl
     ∙ general_at-other (form.Control c) rcb srcb rest is (λ e. cc)
 record_of_form-general form.Spelled rcb srcb rest is fact =
-    record_of_spelling-other rcb srcb (record_at_front rest) items_in ∙ general_at-other form.Spelled rcb srcb rest is (λ e. cc)
+    record_of_spelling-other rcb srcb (record_at_front rest) items_in
+    ∙ general_at-other form.Spelled rcb srcb rest is (λ e. cc)
 
-record_of_one_byte-general : (f : Form) → general_first (items_or_none (items_from (record_of_one_byte f) items_in)) ≡ None
+record_of_one_byte-general : (f : Form) → general_first (items_or_none (items_from (record_of_one_byte f) items_in))
+    ≡ None
 record_of_one_byte-general form.End = refl
 record_of_one_byte-general form.Bad = refl
 record_of_one_byte-general form.General = refl

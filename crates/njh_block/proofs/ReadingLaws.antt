@@ -12,7 +12,8 @@ use Rattle.njh_block.specs.Blocks.{record_of_form, first_record, with_item, read
 use Rattle.njh_block.proofs.Unspelling.{RestWithin, unspelled-within}
 
 -- the items where the first record is this, and onward reads what follows it
-abbrev pub items_from : Result (Option First) BlockFault → (List ℕ → Result (List Item) BlockFault) → Result (List Item) BlockFault
+abbrev pub items_from : Result (Option First) BlockFault → (List ℕ → Result (List Item) BlockFault)
+    → Result (List Item) BlockFault
 items_from found onward =
     elim found [
       | Ok first ↦ elim first [ None ↦ Ok [] | Some x ↦ with_item x.item (onward x.rest) ]
@@ -46,7 +47,8 @@ record_of_one_byte-shorter form.General n = tt
 record_of_one_byte-shorter (form.Control c) n = tt
 record_of_one_byte-shorter form.Spelled n = tt
 
-record_of_form-shorter : (f : Form) (rcb srcb : ℕ) (rest : List ℕ) → Shorter (suc (length rest)) (record_of_form f rcb srcb rest)
+record_of_form-shorter : (f : Form) (rcb srcb : ℕ) (rest : List ℕ)
+    → Shorter (suc (length rest)) (record_of_form f rcb srcb rest)
 record_of_form-shorter form.End rcb srcb rest = tt
 record_of_form-shorter form.Bad rcb srcb rest = tt
 record_of_form-shorter form.General rcb srcb rest = omega arith
@@ -63,15 +65,19 @@ pub first_record-shorter : (bytes : List ℕ) → Shorter (length bytes) (first_
 first_record-shorter [] = tt
 first_record-shorter (rcb ∷ []) = record_of_one_byte-shorter (form_of rcb) 1
 first_record-shorter (rcb ∷ srcb ∷ rest) =
-    Shorter-more (suc (length rest)) (record_of_form (form_of rcb) rcb srcb rest) (record_of_form-shorter (form_of rcb) rcb srcb rest)
+    Shorter-more (suc (length rest)) (record_of_form (form_of rcb) rcb srcb rest)
+    (record_of_form-shorter (form_of rcb) rcb srcb rest)
 
-items_from-agree : (n : ℕ) (found : Result (Option First) BlockFault) (one other : List ℕ → Result (List Item) BlockFault)
-    → Shorter n found → ((bytes : List ℕ) → length bytes < n → one bytes ≡ other bytes) → items_from found one ≡ items_from found other
+items_from-agree : (n : ℕ) (found : Result (Option First) BlockFault)
+    (one other : List ℕ → Result (List Item) BlockFault)
+    → Shorter n found → ((bytes : List ℕ) → length bytes < n → one bytes ≡ other bytes)
+    → items_from found one ≡ items_from found other
 items_from-agree n (Ok None) one other shorter agree = refl
 items_from-agree n (Ok (Some x)) one other shorter agree = ap (with_item x.item) (agree x.rest shorter)
 items_from-agree n (Err e) one other shorter agree = refl
 
-read_items-enough : (k j : ℕ) (bytes : List ℕ) → length bytes ≤ k → length bytes ≤ j → read_items k bytes ≡ read_items j bytes
+read_items-enough : (k j : ℕ) (bytes : List ℕ) → length bytes ≤ k → length bytes ≤ j
+    → read_items k bytes ≡ read_items j bytes
 read_items-enough zero zero bytes p q = refl
 read_items-enough zero (suc j) [] p q = refl
 read_items-enough zero (suc j) (b ∷ rest) p q = absurd (omega arith)
@@ -84,7 +90,8 @@ read_items-enough (suc k) (suc j) bytes p q =
 pub items_in_step : (bytes : List ℕ) → items_in bytes ≡ items_from (first_record bytes) items_in
 items_in_step [] = refl
 items_in_step (b ∷ rest) =
-    items_from-agree (length (b ∷ rest)) (first_record (b ∷ rest)) (read_items (length rest)) items_in (first_record-shorter (b ∷ rest))
+    items_from-agree (length (b ∷ rest)) (first_record (b ∷ rest)) (read_items (length rest)) items_in
+    (first_record-shorter (b ∷ rest))
     (λ bytes less. read_items-enough (length rest) (length bytes) bytes (omega arith) (omega arith))
 
 -- ---- faults
@@ -115,12 +122,15 @@ takes_first bytes rest i is ok =
     took i (items_in rest) (items_in bytes)
     (items_in_step bytes ∙ ap (λ (f : Result (Option First) BlockFault). items_from f items_in) is) ok
 
-pub first_leaves_less : (bytes rest : List ℕ) (i : Item) → first_record bytes ≡ Ok (Some (record { item = i; rest = rest }))
+pub first_leaves_less : (bytes rest : List ℕ) (i : Item)
+    → first_record bytes ≡ Ok (Some (record { item = i; rest = rest }))
     → length rest < length bytes
 first_leaves_less bytes rest i is = rw is at (first_record-shorter bytes)
 
-pub fault_in-first : (bytes rest : List ℕ) (i : Item) → first_record bytes ≡ Ok (Some (record { item = i; rest = rest }))
+pub fault_in-first : (bytes rest : List ℕ) (i : Item)
+    → first_record bytes ≡ Ok (Some (record { item = i; rest = rest }))
     → fault_in (items_in rest) ≡ fault_in (items_in bytes)
 fault_in-first bytes rest i is =
     sym (ap fault_in (items_in_step bytes)
-    ∙ (ap (λ (f : Result (Option First) BlockFault). fault_in (items_from f items_in)) is ∙ fault_in-with_item i (items_in rest)))
+    ∙ (ap (λ (f : Result (Option First) BlockFault). fault_in (items_from f items_in)) is
+    ∙ fault_in-with_item i (items_in rest)))

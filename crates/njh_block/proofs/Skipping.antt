@@ -22,7 +22,8 @@ behind_spelling rcb srcb (Err e) found is = ap spelled_behind is
 
 -- ---- a record after the other
 
-less : (n : ℕ) (found : Result (Option First) BlockFault) (rest : List ℕ) → Ok (Some rest) ≡ rest_behind found → Shorter n found → length rest < n
+less : (n : ℕ) (found : Result (Option First) BlockFault) (rest : List ℕ) → Ok (Some rest) ≡ rest_behind found
+    → Shorter n found → length rest < n
 less n (Ok None) rest is shorter = absurd cc
 less n (Ok (Some x)) rest is shorter = let same : rest ≡ x.rest = cc in rw same shorter
 less n (Err e) rest is shorter = absurd cc

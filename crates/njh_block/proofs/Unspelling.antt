@@ -25,7 +25,8 @@ FrontWithin n (OfEnd end rest) = length rest ≤ n
 FrontWithin n Bad = Unit {0}
 FrontWithin n Cut = Unit {0}
 
-either-within : (t : Bool) (n : ℕ) (one other : Front) → FrontWithin n one → FrontWithin n other → FrontWithin n (cond t one other)
+either-within : (t : Bool) (n : ℕ) (one other : Front) → FrontWithin n one → FrontWithin n other
+    → FrontWithin n (cond t one other)
 either-within true n one other within others = within
 either-within false n one other within others = others
 
@@ -40,7 +41,8 @@ literal-within n rest =
 
 counted-within : (b : ℕ) (rest : List ℕ)
     → FrontWithin (length rest)
-    (cond (ltb b 0xA0) (OfItem (blanks (b - 0x80)) rest) (cond (ltb b 0xC0) (repeat_front (b - 0xA0) rest) (literal_front (b - 0xC0) rest)))
+    (cond (ltb b 0xA0) (OfItem (blanks (b - 0x80)) rest)
+    (cond (ltb b 0xC0) (repeat_front (b - 0xA0) rest) (literal_front (b - 0xC0) rest)))
 counted-within b rest =
     either-within (ltb b 0xA0) (length rest) (OfItem (blanks (b - 0x80)) rest)
     (cond (ltb b 0xC0) (repeat_front (b - 0xA0) rest) (literal_front (b - 0xC0) rest)) (omega arith)
@@ -50,7 +52,8 @@ counted-within b rest =
 front-within : (b : ℕ) (rest : List ℕ) → FrontWithin (length rest) (front_of (b ∷ rest))
 front-within b rest =
     either-within (eqb b 0x00) (length rest) _ _ (omega arith)
-    (either-within (eqb b 0x40) (length rest) _ _ (omega arith) (either-within (ltb b 0x80) (length rest) _ _ tt (counted-within b rest)))
+    (either-within (eqb b 0x40) (length rest) _ _ (omega arith)
+    (either-within (ltb b 0x80) (length rest) _ _ tt (counted-within b rest)))
 
 abbrev pub RestWithin : ℕ → Result Unspelled Fault → Type 0
 RestWithin n (Ok r) = length r.rest ≤ n
@@ -66,7 +69,8 @@ within_steps zero bytes = tt
 within_steps (suc k) [] = tt
 within_steps (suc k) (b ∷ rest) = go (front_of (b ∷ rest)) (front-within b rest) (within_steps k)
   where
-    go : (front : Front) → FrontWithin (length rest) front → ((after : List ℕ) → RestWithin (length after) (unspelled_within k after))
+    go : (front : Front) → FrontWithin (length rest) front
+        → ((after : List ℕ) → RestWithin (length after) (unspelled_within k after))
         → RestWithin (suc (length rest))
         (elim front [
           | OfItem item after ↦ with_front (added_bytes item) (unspelled_within k after)
@@ -76,7 +80,8 @@ within_steps (suc k) (b ∷ rest) = go (front_of (b ∷ rest)) (front-within b r
           | Cut ↦ Err Truncated
         ])
     go (OfItem item after) within again =
-        with_front-within (length after) (suc (length rest)) (added_bytes item) (unspelled_within k after) (omega arith) (again after)
+        with_front-within (length after) (suc (length rest)) (added_bytes item) (unspelled_within k after) (omega arith)
+        (again after)
     go (OfEnd end after) within again = omega arith
     go Bad within again = tt
     go Cut within again = tt
@@ -88,9 +93,12 @@ unspelled-within bytes = within_steps (length bytes) bytes
 
 -- the record of a block that an answer makes, where it leaves these contents
 abbrev pub answered : ℕ → ℕ → List ℕ → List ℕ → Result (ℕ × End) RecordFault → Result (Option First) BlockFault
-answered rcb srcb bytes contents (Ok (used, Record)) = Ok (Some (record { item = Data rcb srcb contents; rest = drop used bytes }))
-answered rcb srcb bytes contents (Ok (used, Abort)) = Ok (Some (record { item = Aborted rcb srcb; rest = drop used bytes }))
-answered rcb srcb bytes contents (Err (faults.TooLong used)) = Ok (Some (record { item = Long rcb srcb; rest = drop used bytes }))
+answered rcb srcb bytes contents (Ok (used, Record)) =
+    Ok (Some (record { item = Data rcb srcb contents; rest = drop used bytes }))
+answered rcb srcb bytes contents (Ok (used, Abort)) =
+    Ok (Some (record { item = Aborted rcb srcb; rest = drop used bytes }))
+answered rcb srcb bytes contents (Err (faults.TooLong used)) =
+    Ok (Some (record { item = Long rcb srcb; rest = drop used bytes }))
 answered rcb srcb bytes contents (Err faults.BadScb) = Err BadRecord
 answered rcb srcb bytes contents (Err faults.Truncated) = Err BadRecord
 
@@ -106,16 +114,19 @@ module _ (only : (bytes : List ℕ) (read : Result Unspelled Fault) → ReadsAs 
       ∙ ap (record_of_spelling rcb srcb) (again (take used bytes) contents (drop used bytes) end begins.spelling)
 
   pub record_of_spelling-unspells : (rcb srcb : ℕ) (bytes contents : List ℕ) (answer : Result (ℕ × End) RecordFault)
-      → Unspells bytes answer contents → record_of_spelling rcb srcb (record_at_front bytes) ≡ answered rcb srcb bytes contents answer
+      → Unspells bytes answer contents → record_of_spelling rcb srcb (record_at_front bytes) ≡ answered rcb srcb bytes
+      contents answer
   record_of_spelling-unspells rcb srcb bytes contents (Ok (used, Record)) (begins, fits) =
       begins-spelled rcb srcb bytes contents used Record begins
-      ∙ ap (λ (t : Bool). Ok (Some (record { item = cond t (Data rcb srcb contents) (Long rcb srcb); rest = drop used bytes })))
+      ∙ ap (λ (t : Bool). Ok (Some (record
+      { item = cond t (Data rcb srcb contents) (Long rcb srcb); rest = drop used bytes })))
       (le-leb (length contents) 256 fits)
   record_of_spelling-unspells rcb srcb bytes contents (Ok (used, Abort)) ((given_up, begins), none) =
       begins-spelled rcb srcb bytes given_up used Abort begins
   record_of_spelling-unspells rcb srcb bytes contents (Err (faults.TooLong used)) ((long, begins, over), none) =
       begins-spelled rcb srcb bytes long used Record begins
-      ∙ ap (λ (t : Bool). Ok (Some (record { item = cond t (Data rcb srcb long) (Long rcb srcb); rest = drop used bytes })))
+      ∙ ap (λ (t : Bool). Ok (Some (record
+      { item = cond t (Data rcb srcb long) (Long rcb srcb); rest = drop used bytes })))
       (lt-leb (length long) 256 over)
   record_of_spelling-unspells rcb srcb bytes contents (Err faults.BadScb) (bad, none) =
       ap (record_of_spelling rcb srcb) (only bytes (Err BadScb) bad)
@@ -125,7 +136,8 @@ module _ (only : (bytes : List ℕ) (read : Result Unspelled Fault) → ReadsAs 
   pub record_of_spelling-left : (rcb srcb : ℕ) (bytes contents : List ℕ) (answer : Result (ℕ × End) RecordFault)
       → Unspells bytes answer contents → contents ≡ contents_after (record_of_spelling rcb srcb (record_at_front bytes))
   record_of_spelling-left rcb srcb bytes contents answer unspells =
-      left answer unspells ∙ ap contents_after (sym (record_of_spelling-unspells rcb srcb bytes contents answer unspells))
+      left answer unspells ∙ ap contents_after
+      (sym (record_of_spelling-unspells rcb srcb bytes contents answer unspells))
     where
       left : (answer : Result (ℕ × End) RecordFault) → Unspells bytes answer contents
           → contents ≡ contents_after (answered rcb srcb bytes contents answer)

@@ -28,7 +28,8 @@ use Rattle.njh_block.proofs.BlockLaws.{where_good}
 
 -- ---- one more record
 
-general-last : (items : List Item) (i : Item) → list_any is_general items ≡ false → is_general i ≡ list_any is_general (items ++ i ∷ [])
+general-last : (items : List Item) (i : Item) → list_any is_general items ≡ false
+    → is_general i ≡ list_any is_general (items ++ i ∷ [])
 general-last [] i none = or-false (is_general i)
   where
     or-false : (t : Bool) → t ≡ (t || false)
@@ -50,7 +51,8 @@ abbrev pub front_of : Writing → List ℕ
 front_of w = w.bcb ∷ w.fcs.0 ∷ w.fcs.1 ∷ flat_map written_bytes w.items
 
 without_end-closed : (bytes : List ℕ) → without_end (bytes ++ 0 ∷ []) ≡ bytes
-without_end-closed bytes = take_at bytes (0 ∷ []) (length (bytes ++ 0 ∷ []) - 1) (omega (arith, length-append bytes (0 ∷ [])))
+without_end-closed bytes = take_at bytes (0 ∷ []) (length (bytes ++ 0 ∷ []) - 1)
+    (omega (arith, length-append bytes (0 ∷ [])))
 
 front-last : (w : Writing) (i : Item) → front_of w ++ written_bytes i ≡ front_of (with_last i w)
 front-last w i =
@@ -65,11 +67,13 @@ pub record Adds (w : Writing) (i : Item) (text : List ℕ) : Type 0 where
 
 -- back: what is written of a record is read back, whatever follows it
 module _ (back : (contents rest : List ℕ)
-    → record_at_front (spelling_of contents ++ rest) ≡ Ok (record { contents = contents; end = Record; rest = rest })) where
+    → record_at_front (spelling_of contents ++ rest)
+    ≡ Ok (record { contents = contents; end = Record; rest = rest })) where
   -- ---- one record
 
   data-first : (rcb srcb : ℕ) (bytes after : List ℕ) → form_of rcb ≡ form.Spelled → length bytes ≤ 256
-      → first_record (written_bytes (Data rcb srcb bytes) ++ after) ≡ Ok (Some (record { item = Data rcb srcb bytes; rest = after }))
+      → first_record (written_bytes (Data rcb srcb bytes) ++ after)
+      ≡ Ok (Some (record { item = Data rcb srcb bytes; rest = after }))
   data-first rcb srcb bytes after is short =
       record_of_form-first form.Spelled rcb srcb (spelling_of bytes ++ after) is
       ∙ (ap (record_of_spelling rcb srcb) (back bytes after)
@@ -109,17 +113,20 @@ module _ (back : (contents rest : List ℕ)
       written_bytes-read (Data rcb srcb bytes) (flat_map written_bytes is) are.0 refl
       ∙ ap (with_item (Data rcb srcb bytes)) (all-read is are.2)
   all-read (Aborted rcb srcb ∷ is) are =
-      written_bytes-read (Aborted rcb srcb) (flat_map written_bytes is) are.0 refl ∙ ap (with_item (Aborted rcb srcb)) (all-read is are.2)
+      written_bytes-read (Aborted rcb srcb) (flat_map written_bytes is) are.0 refl
+      ∙ ap (with_item (Aborted rcb srcb)) (all-read is are.2)
   all-read (Long rcb srcb ∷ is) are = absurd are.0
   all-read (Control rcb srcb ∷ is) are =
-      written_bytes-read (Control rcb srcb) (flat_map written_bytes is) are.0 refl ∙ ap (with_item (Control rcb srcb)) (all-read is are.2)
+      written_bytes-read (Control rcb srcb) (flat_map written_bytes is) are.0 refl
+      ∙ ap (with_item (Control rcb srcb)) (all-read is are.2)
   all-read (General srcb rest ∷ is) are =
       ap (λ (js : List Item). items_in (written_bytes (General srcb rest) ++ flat_map written_bytes js)) (are.1 refl)
       ∙ (ap items_in (append-nil (written_bytes (General srcb rest)))
       ∙ (general-read srcb rest
       ∙ ap (λ (js : List Item). Ok (General srcb rest ∷ js)) (sym (are.1 refl))))
 
-  closed-read : (items : List Item) → AreWritten items → items_in (flat_map written_bytes items ++ 0 ∷ []) ≡ Ok (read_back items)
+  closed-read : (items : List Item) → AreWritten items
+      → items_in (flat_map written_bytes items ++ 0 ∷ []) ≡ Ok (read_back items)
   closed-read [] are = refl
   closed-read (Data rcb srcb bytes ∷ is) are =
       ap items_in (append_assoc (written_bytes (Data rcb srcb bytes)) (flat_map written_bytes is) (0 ∷ []))
@@ -135,12 +142,14 @@ module _ (back : (contents rest : List ℕ)
       ∙ (written_bytes-read (Control rcb srcb) (flat_map written_bytes is ++ 0 ∷ []) are.0 refl
       ∙ ap (with_item (Control rcb srcb)) (closed-read is are.2))
   closed-read (General srcb rest ∷ is) are =
-      ap (λ (js : List Item). items_in ((written_bytes (General srcb rest) ++ flat_map written_bytes js) ++ 0 ∷ [])) (are.1 refl)
+      ap (λ (js : List Item). items_in ((written_bytes (General srcb rest) ++ flat_map written_bytes js) ++ 0 ∷ []))
+      (are.1 refl)
       ∙ (ap (λ (bytes : List ℕ). items_in (bytes ++ 0 ∷ [])) (append-nil (written_bytes (General srcb rest)))
       ∙ (general-read srcb (rest ++ 0 ∷ [])
       ∙ ap (λ (js : List Item). Ok (General srcb (rest ++ 0 ∷ []) ∷ read_back js)) (sym (are.1 refl))))
 
-  pub text-read : (bcb : ℕ) (fcs : ℕ × ℕ) (items : List Item) → IsTrue (is_bcb bcb) → IsTrue (is_fcs fcs) → AreWritten items
+  pub text-read : (bcb : ℕ) (fcs : ℕ × ℕ) (items : List Item) → IsTrue (is_bcb bcb) → IsTrue (is_fcs fcs)
+      → AreWritten items
       → read_block (text_of bcb fcs items) ≡ Ok (record { bcb = bcb; fcs = fcs; items = read_back items })
   text-read bcb fcs items good_bcb good_fcs are =
       let bytes = flat_map written_bytes items ++ 0 ∷ [] in
@@ -153,20 +162,29 @@ module _ (back : (contents rest : List ℕ)
   -- the text of some items is seen as the writing of them
   writing_of-closed : (w : Writing) → AreWritten w.items → writing_of w.limit (front_of w ++ 0 ∷ []) ≡ w
   writing_of-closed w are =
-      ap (λ (bytes : List ℕ). record { limit = w.limit; bcb = w.bcb; fcs = w.fcs; items = result_unwrap_or (items_in (drop 3 bytes)) [] })
+      ap (λ (bytes : List ℕ). record {
+        limit = w.limit;
+        bcb = w.bcb;
+        fcs = w.fcs;
+        items = result_unwrap_or
+            (items_in (drop 3 bytes)) [];
+      })
       (without_end-closed (front_of w))
       ∙ ap (λ (read : Result (List Item) BlockFault). record
       { limit = w.limit; bcb = w.bcb; fcs = w.fcs; items = result_unwrap_or read [] }) (all-read w.items are)
 
-  pub written_on : (w : Writing) (text : List ℕ) (ended : Bool) (i : Item) → IsWriting w text ended → IsWritten i → IsTrue (has_room w i)
+  pub written_on : (w : Writing) (text : List ℕ) (ended : Bool) (i : Item) → IsWriting w text ended → IsWritten i
+      → IsTrue (has_room w i)
       → Adds w i ((without_end text ++ written_bytes i) ++ 0 ∷ [])
   written_on w text ended i is is_written room =
-      let parts = and_parts (not (list_any is_general w.items)) (nat_le (length (text_of w.bcb w.fcs (w.items ++ i ∷ []))) w.limit) room in
+      let parts = and_parts (not (list_any is_general w.items))
+      (nat_le (length (text_of w.bcb w.fcs (w.items ++ i ∷ []))) w.limit) room in
       let none : list_any is_general w.items ≡ false = not-true (list_any is_general w.items) parts.0 in
       let are : AreWritten (w.items ++ i ∷ []) = AreWritten-last w.items i is.each none is_written in
       let front : without_end text ≡ front_of w = ap without_end is.bytes ∙ without_end-closed (front_of w) in
       let bytes : (without_end text ++ written_bytes i) ++ 0 ∷ [] ≡ front_of (with_last i w) ++ 0 ∷ [] =
-      ap (λ (before : List ℕ). (before ++ written_bytes i) ++ 0 ∷ []) front ∙ ap (λ (before : List ℕ). before ++ 0 ∷ []) (front-last w i) in
+      ap (λ (before : List ℕ). (before ++ written_bytes i) ++ 0 ∷ []) front
+      ∙ ap (λ (before : List ℕ). before ++ 0 ∷ []) (front-last w i) in
       let seen : writing_of w.limit ((without_end text ++ written_bytes i) ++ 0 ∷ []) ≡ with_last i w =
       ap (writing_of w.limit) bytes ∙ writing_of-closed (with_last i w) are in
       let whole : IsWriting (with_last i w) ((without_end text ++ written_bytes i) ++ 0 ∷ []) (is_general i) = record {
@@ -177,7 +195,12 @@ module _ (back : (contents rest : List ℕ)
         bytes = bytes;
         each = are;
         general = general-last w.items i none;
-        within = omega (arith, ap length bytes, leb-true (length (text_of w.bcb w.fcs (w.items ++ i ∷ []))) w.limit parts.1);
+        within = omega (
+          arith,
+          ap length bytes,
+          leb-true (length (text_of w.bcb w.fcs (w.items ++ i ∷ []))) w.limit
+              parts.1,
+        );
       } in
       record {
         seen = seen;

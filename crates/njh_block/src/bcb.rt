@@ -17,8 +17,8 @@ pub enum Numbering {
     Setting,
 }
 
-/// A block control byte, bits 1 NNN CCCC: how the block is numbered, and its count modulo 16 (IBM SC23-0070,
-/// "Multileaving"). A contract sees it as the byte.
+/// A block control byte, bits 1 NNN CCCC: how the block is numbered, and its count modulo 16 (IBM
+/// SC23-0070, "Multileaving"). A contract sees it as the byte.
 #[derive(Clone, Copy, Debug, PartialEq, Eq)]
 pub struct Bcb {
     byte: u8,

@@ -14,7 +14,8 @@ use crate::laws::one_reading;
 use njh_record::Record;
 use std::marker::Model;
 
-/// A block of which a text is the whole, and how far its records were taken. A contract sees the records that are left.
+/// A block of which a text is the whole, and how far its records were taken. A contract sees the
+/// records that are left.
 #[derive(Drop)]
 pub struct Block<'a> {
     bcb: Bcb,
@@ -35,8 +36,8 @@ impl<'a> Model for Block<'a> {
 }
 
 impl<'a> Block<'a> {
-    /// Reads a text (IBM SC23-0070, "Multileaving"). It is checked to its end before any record is given: `TooShort`
-    /// comes first, and then the first fault from the left is told.
+    /// Reads a text (IBM SC23-0070, "Multileaving"). It is checked to its end before any record is
+    /// given: `TooShort` comes first, and then the first fault from the left is told.
     pub fn read(text: &'a [u8]) -> Result<Self, BlockFault>
         // It is the block that the text is by the grammar, or the fault that the text has by it.
         ensures block { (block : Seen) → (result ≡ Ok block) ↔ IsBlock text.now block }
@@ -89,7 +90,8 @@ impl<'a> Block<'a> {
         read_general(self.rest)
     }
 
-    /// Takes the next record. The bytes of a `Data` are put in `contents`, which any other leaves empty.
+    /// Takes the next record. The bytes of a `Data` are put in `contents`, which any other leaves
+    /// empty.
     pub fn next(&mut self, contents: &mut Record) -> Option<Item<'a>>
         ensures first { option_map (given_item contents.new.items) result ≡ slice_get self.old.items 0 }
         ensures bytes { contents.new.items ≡ first_contents self.old.items }

@@ -7,9 +7,9 @@ use crate::stream::Stream;
 use njh_record::Kind;
 use std::marker::Model;
 
-/// A function control sequence, bits 1 S RR ABCD and 1 T RR WXYZ: which streams may go on (IBM SC23-0070,
-/// "Multileaving"). S suspends all, T lets nodal messages go on, A to D and W to Z let SYSIN 1 to 4 and SYSOUT 1 to 4
-/// go on. A contract sees it as the two bytes.
+/// A function control sequence, bits 1 S RR ABCD and 1 T RR WXYZ: which streams may go on (IBM
+/// SC23-0070, "Multileaving"). S suspends all, T lets nodal messages go on, A to D and W to Z let
+/// SYSIN 1 to 4 and SYSOUT 1 to 4 go on. A contract sees it as the two bytes.
 #[derive(Clone, Copy, Debug, PartialEq, Eq)]
 pub struct Fcs {
     first: u8,

@@ -71,8 +71,8 @@ fn read_formed<'a>(
     Ok(Some((item, rest)))
 }
 
-/// The record at the front of the bytes behind a function control sequence; none where the block ends. A record other
-/// than `Data` leaves `contents` empty.
+/// The record at the front of the bytes behind a function control sequence; none where the block
+/// ends. A record other than `Data` leaves `contents` empty.
 #[inline(always)]
 pub(crate) fn read_first<'a>(
     bytes: &'a [u8],
@@ -93,7 +93,8 @@ pub(crate) fn read_first<'a>(
     }
 }
 
-/// Whether no record is at the front of the bytes behind a function control sequence: they end, or the block does.
+/// Whether no record is at the front of the bytes behind a function control sequence: they end, or
+/// the block does.
 pub(crate) fn ends(bytes: &[u8]) -> bool
     ensures { IsTrue result ↔ (first_record bytes.now ≡ Ok None) }
 {
@@ -103,8 +104,8 @@ pub(crate) fn ends(bytes: &[u8]) -> bool
     }
 }
 
-/// Whether the bytes behind a function control sequence are whole records up to their end, or the first fault from the
-/// left.
+/// Whether the bytes behind a function control sequence are whole records up to their end, or the
+/// first fault from the left.
 pub(crate) fn check_records(bytes: &[u8]) -> Result<(), BlockFault>
     ensures { MatchResult result (λ _. IsOk (items_in bytes.now)) (λ e. items_in bytes.now ≡ Err e) }
 {
@@ -126,7 +127,8 @@ fn check_each(bytes: &[u8]) -> Result<(), BlockFault>
     Ok(())
 }
 
-/// What follows the record at the front of the bytes behind a function control sequence; none where the block ends.
+/// What follows the record at the front of the bytes behind a function control sequence; none where
+/// the block ends.
 fn skip_first(bytes: &[u8]) -> Result<Option<&[u8]>, BlockFault>
     ensures { rest_shown result ≡ rest_behind (first_record bytes.now) }
 {

@@ -8,8 +8,8 @@ ghost use Rattle.njh_block.specs.Grammar.{IsBlock, IsFault};
 
 use crate::fault::BlockFault;
 
-/// Reading gives exactly the block that a text is by the grammar, or the first fault from the left. So a text has one
-/// reading.
+/// Reading gives exactly the block that a text is by the grammar, or the first fault from the left.
+/// So a text has one reading.
 pub fn one_reading()
     ensures block { (text : List ℕ) (b : Block) → AreBytes text → (read_block text ≡ Ok b) ↔ IsBlock text b }
     ensures fault { (text : List ℕ) (f : BlockFault) → AreBytes text → (read_block text ≡ Err f) ↔ IsFault text f }
@@ -19,7 +19,8 @@ pub fn one_reading()
     njh_record::reads_spellings();
 }
 
-/// What is written is read back as the items that were written; a general one has taken the closing 00 too.
+/// What is written is read back as the items that were written; a general one has taken the closing
+/// 00 too.
 pub fn reads_back()
     ensures { (bcb : ℕ) (fcs : ℕ × ℕ) (items : List Item) → IsTrue (is_bcb bcb) → IsTrue (is_fcs fcs) → AreWritten items
         → read_block (text_of bcb fcs items) ≡ Ok (record { bcb = bcb; fcs = fcs; items = read_back items }) }

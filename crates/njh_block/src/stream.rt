@@ -8,7 +8,8 @@ use crate::rcb::{FIRST_OF_STREAMS, Form, Rcb, STEP, SYSIN, SYSOUT};
 use njh_record::Kind;
 use std::marker::Model;
 
-/// A stream of a line: SYSIN 1 to 4 or SYSOUT 1 to 4. A contract sees it as its place: 0 to 3 are SYSIN, 4 to 7 SYSOUT.
+/// A stream of a line: SYSIN 1 to 4 or SYSOUT 1 to 4. A contract sees it as its place: 0 to 3 are
+/// SYSIN, 4 to 7 SYSOUT.
 #[derive(Clone, Copy, Debug, PartialEq, Eq)]
 pub struct Stream {
     place: u8,

@@ -83,10 +83,11 @@ fn put_record(text: &mut BlockText, out: Out<'_>)
     }
 }
 
-/// A block that is being written, in a text of at most so many bytes. A contract sees the records that were added.
+/// A block that is being written, in a text of at most so many bytes. A contract sees the records
+/// that were added.
 ///
-/// The text lies in the writer itself, and making one clears all its 4,096 bytes: a writer that is kept, `restart`ed
-/// for each block and read by `text` clears and copies no more than was written.
+/// The text lies in the writer itself, and making one clears all its 4,096 bytes: a writer that is
+/// kept, `restart`ed for each block and read by `text` clears and copies no more than was written.
 #[derive(Drop)]
 pub struct BlockWriter {
     limit: usize,
@@ -139,8 +140,8 @@ impl BlockWriter {
         self.text.len() == WITHOUT_RECORDS
     }
 
-    /// Whether a record has room, with the closing 00 behind it. Behind a general one nothing has, and in a block
-    /// without records each has.
+    /// Whether a record has room, with the closing 00 behind it. Behind a general one nothing has,
+    /// and in a block without records each has.
     pub fn fits(&self, out: &Out<'_>) -> bool
         requires { IsWritable out.now }
         ensures exact { result ≡ has_room self.now (outgoing_item out.now) }

@@ -1,6 +1,7 @@
 //! Checks a table file and tells what it says.
 
-ghost use Rattle.std.specs.Prelude.{◌≡◌, ◌≢◌, ◌≤◌, ◌++◌, ◌∷◌, [], ℕ, List, Option, IfErr, IfOk, OnOk, None, Err, length};
+ghost use Rattle.std.specs.Prelude.{◌≡◌, ◌≢◌, ◌≤◌, ◌++◌, ◌∷◌, [], ℕ, List, Option, IfErr, IfOk, OnOk, None, Err};
+ghost use Rattle.std.specs.Prelude.{length};
 ghost use Rattle.std.specs.Prelude.{MatchOption, option_map};
 ghost use Rattle.std.specs.Prelude.{string_bytes};
 ghost use Rattle.std.specs.Io.KnownBytes.{Appends};
@@ -75,8 +76,8 @@ fn first_fault(alloc: Global, text: &str) -> Result<Option<PlacedFault>, CheckFa
     }
 }
 
-/// The text of the first fault of a table file, in one line of ASCII without its end; none where the tables are right.
-/// Want of memory is the only refusal. It reads a file with a fault twice.
+/// The text of the first fault of a table file, in one line of ASCII without its end; none where
+/// the tables are right. Want of memory is the only refusal. It reads a file with a fault twice.
 pub fn fault_text(alloc: Global, text: &str) -> Result<Option<String>, CheckFault>
     ensures told { IfOk result (λ found. TellsFault text.now (option_map string_bytes found)) }
     ensures memory { IfErr result (λ fault. fault ≡ CheckFault.Memory) }
@@ -135,12 +136,12 @@ fn fault_outcome(
     Ok((Some(found), fault_line(alloc, text, found)?))
 }
 
-/// Checks a table file, and writes the report of its tables, or the line of its first fault. Answers that fault, or
-/// none where the tables are right.
+/// Checks a table file, and writes the report of its tables, or the line of its first fault.
+/// Answers that fault, or none where the tables are right.
 ///
-/// The report has a line for each customer, behind it one for each of its lines and one for each of its routes, and at
-/// the end one for the spool. The line of a fault is `fault_text`, ended by 0A. Where memory is refused nothing was
-/// written.
+/// The report has a line for each customer, behind it one for each of its lines and one for each of
+/// its routes, and at the end one for the spool. The line of a fault is `fault_text`, ended by 0A.
+/// Where memory is refused nothing was written.
 pub fn check<W: Write>(
     alloc: Global,
     text: &str,

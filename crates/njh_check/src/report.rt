@@ -213,8 +213,8 @@ fn capacity_text(alloc: Global, capacity: u64, quotas: u64) -> Result<String, Al
     format!(in alloc; "capacity {capacity} blocks, quotas {quotas}, left {left}\n")
 }
 
-/// The report of tables: a line for each customer, for each of its lines and for each of its routes, and one for the
-/// spool. Want of memory is the only refusal.
+/// The report of tables: a line for each customer, for each of its lines and for each of its
+/// routes, and one for the spool. Want of memory is the only refusal.
 #[tactic(auto, unfolding(crate::specs::Reports::report_of))]
 pub(crate) fn report_of(alloc: Global, tables: &Tables) -> Result<Vec<u8>, AllocError>
     ensures { IfOk result (λ report. report.items ≡ report_of tables.now) }

@@ -6,7 +6,8 @@ use Rattle.njh_spool.specs.CustomerSpool.{CustomerSpool, WholeFile, whole_number
 use Rattle.njh_command.specs.Files.{file_at, no_file, with_file, without_at}
 use Rattle.njh_stream.proofs.OnlyOneLaws.{only_found, only_changed, only_removed}
 
-pub number_at : (xs : List WholeFile) (i n : ℕ) (d : WholeFile) → IsSomeAnd (slice_get xs i) (λ f. n ≡ f.number) → (get_or xs i
+pub number_at : (xs : List WholeFile) (i n : ℕ) (d : WholeFile) → IsSomeAnd (slice_get xs i) (λ f. n ≡ f.number)
+    → (get_or xs i
     d).number ≡ n
 number_at [] i n d is = absurd (search is)
 number_at (x ∷ xs) zero n d is = let same : n ≡ x.number = search is in sym same
@@ -24,7 +25,9 @@ module _ (s : CustomerSpool) (i n : ℕ) (sound : IsSound s) (inside : i < lengt
   found = only_found (λ f. f.number == n) s.whole i no_file inside passes few
 
   pub alone : (f : WholeFile → WholeFile) → on_file n f s ≡ with_file i (f (file_at i s)) s
-  alone f = ap (λ files. record s { whole = files }) (only_changed (λ x. x.number == n) f s.whole i no_file inside passes few)
+  alone f = ap (λ files. record s { whole = files })
+      (only_changed (λ x. x.number == n) f s.whole i no_file inside passes few)
 
   pub gone : without_whole n s ≡ without_at i s
-  gone = ap (λ files. record s { whole = files }) (only_removed (λ x. x.number == n) s.whole i no_file inside passes few)
+  gone = ap (λ files. record s { whole = files })
+      (only_removed (λ x. x.number == n) s.whole i no_file inside passes few)

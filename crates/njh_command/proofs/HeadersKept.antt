@@ -11,7 +11,8 @@ use Rattle.njh_spool.specs.CustomerSpool.{WholeFile}
 use Rattle.njh_spool.specs.declared.State.TheVariants.{Ready, Held}
 use Rattle.njh_stream.specs.WholeFiles.{HaveHeaders}
 use Rattle.njh_table.specs.Entries.{CustomerEntry}
-use Rattle.njh_command.specs.Commands.{CommandOutcome, changed_file, file_in_state, is_of_name, may_change, message_outcome}
+use Rattle.njh_command.specs.Commands.{CommandOutcome, changed_file, file_in_state, is_of_name, may_change}
+use Rattle.njh_command.specs.Commands.{message_outcome}
 use Rattle.njh_command.specs.Commands.{with_new_destination}
 use Rattle.njh_command.specs.CommandLaws.{FilesMove, CommandsKeepHeaders, ReroutesNameNodes, stay, held, released}
 use Rattle.njh_command.specs.CommandLaws.{rerouted, cancelled}
@@ -27,7 +28,8 @@ Reads f = HasHeaders f.kind f.records
 
 -- a change that leaves each file's headers readable
 changed_headers : (p : WholeFile → Bool) (change : WholeFile → WholeFile) (files : List WholeFile)
-    → ((f : WholeFile) → Reads f → Reads (change f)) → HaveHeaders files → HaveHeaders (map (changed_file p change) files)
+    → ((f : WholeFile) → Reads f → Reads (change f)) → HaveHeaders files
+    → HaveHeaders (map (changed_file p change) files)
 changed_headers p change files kept have =
     All-map Reads (changed_file p change) files (All-weaker Reads (λ f. Reads (changed_file p change f)) one files have)
   where
@@ -39,7 +41,8 @@ changed_headers p change files kept have =
     one f reads = where_tested (may_change p f) f reads
 
 module _ (names : ReroutesNameNodes) (redirected : RedirectedHaveHeaders) where
-  moved_headers : (entry : CustomerEntry) (who : User) (message : List ℕ) (files : List WholeFile) (done : CommandOutcome)
+  moved_headers : (entry : CustomerEntry) (who : User) (message : List ℕ) (files : List WholeFile)
+      (done : CommandOutcome)
       → FilesMove entry who message files done → HaveHeaders files → HaveHeaders done.files
   moved_headers entry who message files done (stay same none) have = All-same Reads done.files files same have
   moved_headers entry who message files done (held name said same none) have =
@@ -58,4 +61,5 @@ module _ (names : ReroutesNameNodes) (redirected : RedirectedHaveHeaders) where
 
   pub headers_kept : CommandsKeepHeaders
   headers_kept entry who message s have =
-      moved_headers entry who message s.whole (message_outcome entry who message s) (files_move entry who message s) have
+      moved_headers entry who message s.whole (message_outcome entry who message s) (files_move entry who message s)
+      have

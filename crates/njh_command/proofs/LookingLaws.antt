@@ -26,7 +26,8 @@ looked_within In n (suc m) h = omega (arith, h, first_alone m)
 looked_within Out n m h = h
 
 -- behind its first record a job's file names no destination
-jobs_stay : (node : List ℕ) (before : ℕ) (records : List Stored) → records_to_node In node (Some before) records ≡ records
+jobs_stay : (node : List ℕ) (before : ℕ) (records : List Stored)
+    → records_to_node In node (Some before) records ≡ records
 jobs_stay node before [] = refl
 jobs_stay node before (r ∷ rs) = ap (λ rest. r ∷ rest) (jobs_stay node r.srcb rs)
 

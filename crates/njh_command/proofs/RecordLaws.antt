@@ -21,7 +21,8 @@ record_is (x ∷ xs) zero r e = some_is e
     some_is same = ap or_none same
 record_is (x ∷ xs) (suc n) r e = record_is xs n r e
 
-pub at_index_is : (n : ℕ) (f : Stored → Stored) (records : List Stored) → at_index n f records ≡ set records n (f (stored_at n records))
+pub at_index_is : (n : ℕ) (f : Stored → Stored) (records : List Stored)
+    → at_index n f records ≡ set records n (f (stored_at n records))
 at_index_is zero f [] = refl
 at_index_is (suc n) f [] = refl
 at_index_is zero f (r ∷ rs) = refl
@@ -29,7 +30,8 @@ at_index_is (suc n) f (r ∷ rs) = ap (λ rest. r ∷ rest) (at_index_is n f rs)
 
 -- it is rewritten where it names a node
 pub redirected_here :
-    (kind : Kind) (before : Option ℕ) (node : List ℕ) (n place : ℕ) (records : List Stored) (r : Stored) → slice_get records n ≡ Some r
+    (kind : Kind) (before : Option ℕ) (node : List ℕ) (n place : ℕ) (records : List Stored) (r : Stored)
+    → slice_get records n ≡ Some r
     → destination_place kind before r ≡ Some place
     → at_index n (rewritten_record place node) records ≡ with_redirected kind before node n records
 redirected_here kind before node n place records r read named =
@@ -39,7 +41,8 @@ redirected_here kind before node n place records r read named =
 
 -- and stays where it names none
 pub redirected_nowhere :
-    (kind : Kind) (before : Option ℕ) (node : List ℕ) (n : ℕ) (records : List Stored) (r : Stored) → slice_get records n ≡ Some r
+    (kind : Kind) (before : Option ℕ) (node : List ℕ) (n : ℕ) (records : List Stored) (r : Stored)
+    → slice_get records n ≡ Some r
     → destination_place kind before r ≡ None → records ≡ with_redirected kind before node n records
 redirected_nowhere kind before node n records r read named =
     sym (set-get_or records n no_record)
@@ -57,14 +60,16 @@ before_from before (suc n) records = Some (stored_at n records).srcb
 more_from :
     (kind : Kind) (before : Option ℕ) (node : List ℕ) (n : ℕ) (records : List Stored) → n < length records
     → set (records_to_node kind node before (take n records) ++ drop n records) n
-    (redirected_record node (destination_place kind (before_from before n records) (stored_at n records)) (stored_at n records))
+    (redirected_record node (destination_place kind (before_from before n records) (stored_at n records))
+    (stored_at n records))
     ≡ records_to_node kind node before (take (suc n) records) ++ drop (suc n) records
 more_from kind before node n [] h = absurd (not-suc-le-zero h)
 more_from kind before node zero (r ∷ rs) h = refl
 more_from kind before node (suc zero) (r ∷ []) h = absurd (not-suc-le-zero (le_of_suc-le-suc h))
 more_from kind before node (suc zero) (r ∷ s ∷ rs) h = refl
 more_from kind before node (suc (suc n)) (r ∷ rs) h =
-    ap (λ rest. redirected_record node (destination_place kind before r) r ∷ rest) (more_from kind (Some r.srcb) node (suc n) rs
+    ap (λ rest. redirected_record node (destination_place kind before r) r ∷ rest)
+    (more_from kind (Some r.srcb) node (suc n) rs
     (le_of_suc-le-suc h))
 
 -- the n-th isn't changed yet
@@ -84,12 +89,15 @@ pub not_yet : (kind : Kind) (node : List ℕ) (n : ℕ) (records : List Stored) 
 not_yet kind node n records h = not_yet_from kind None node n records h
 
 pub one_more : (kind : Kind) (node : List ℕ) (n : ℕ) (records : List Stored) → n < length records
-    → with_redirected kind (srcb_before n records) node n (redirected_up_to kind node n records) ≡ redirected_up_to kind node (suc n)
+    → with_redirected kind (srcb_before n records) node n (redirected_up_to kind node n records) ≡ redirected_up_to kind
+    node (suc n)
     records
 one_more kind node n records h =
-    ap (λ r. set (redirected_up_to kind node n records) n (redirected_record node (destination_place kind (srcb_before n records) r) r))
+    ap (λ r. set (redirected_up_to kind node n records) n
+    (redirected_record node (destination_place kind (srcb_before n records) r) r))
     (not_yet kind node n records h)
-    ∙ ap (λ o. set (redirected_up_to kind node n records) n (redirected_record node (destination_place kind o (stored_at n records))
+    ∙ ap (λ o. set (redirected_up_to kind node n records) n
+    (redirected_record node (destination_place kind o (stored_at n records))
     (stored_at n records)))
     (sym (same_before n records))
     ∙ more_from kind None node n records h

@@ -31,10 +31,12 @@ none_more shown xs x full =
 
 -- a text in the place of the one behind the first, and one pushed behind them
 
-pub replaced : {X : Type 0} (xs : List X) (n : ℕ) (x : X) → n < length xs → take (n + 1) (slice_set xs n x) ≡ take n xs ++ x ∷ []
+pub replaced : {X : Type 0} (xs : List X) (n : ℕ) (x : X) → n < length xs
+    → take (n + 1) (slice_set xs n x) ≡ take n xs ++ x ∷ []
 replaced xs n x within = take_more_set xs n x within
 
-pub pushed : {X : Type 0} (xs : List X) (n : ℕ) (x : X) → n ≡ length xs → take (n + 1) (xs ++ x ∷ []) ≡ take n xs ++ x ∷ []
+pub pushed : {X : Type 0} (xs : List X) (n : ℕ) (x : X) → n ≡ length xs
+    → take (n + 1) (xs ++ x ∷ []) ≡ take n xs ++ x ∷ []
 pushed xs n x all =
     take_all (n + 1) (xs ++ x ∷ []) (omega (arith, length-append xs (x ∷ []), all))
     ∙ ap (λ front. front ++ x ∷ []) (sym (take_all n xs (omega (arith, all))))
@@ -49,9 +51,11 @@ pub one_more_of : {X : Type 0} (shown : X → List ℕ) (olds news : List X) (n 
     → map shown (take (n + 1) news) ≡ take 64 (map shown (take n olds) ++ shown x ∷ [])
 one_more_of shown olds news n x within room is =
     ap (map shown) is
-    ∙ one_more shown (take n olds) x (omega (arith, length-take n olds)) (λ full. not_full n (length olds) (length (take n olds)) within room (length-take n olds) full)
+    ∙ one_more shown (take n olds) x (omega (arith, length-take n olds))
+    (λ full. not_full n (length olds) (length (take n olds)) within room (length-take n olds) full)
 
-pub none_more_of : {X : Type 0} (shown : X → List ℕ) (olds : List X) (n : ℕ) (x : X) → n ≤ length olds → length olds ≤ 64 → 64 ≤ n
+pub none_more_of : {X : Type 0} (shown : X → List ℕ) (olds : List X) (n : ℕ) (x : X) → n ≤ length olds
+    → length olds ≤ 64 → 64 ≤ n
     → map shown (take n olds) ≡ take 64 (map shown (take n olds) ++ shown x ∷ [])
 none_more_of shown olds n x within fits full = none_more shown (take n olds) x (omega (arith, length-take n olds))
 
@@ -60,7 +64,8 @@ none_more_of shown olds n x within fits full = none_more shown (take n olds) x (
 pub place_made : {X : Type 0} (xs : List X) (n : ℕ) (x : X) → n ≡ length xs → take n (xs ++ x ∷ []) ≡ take n xs
 place_made xs n x all = one_too_many n xs (x ∷ []) (omega (arith, all))
 
-pub written : {X : Type 0} (shown : X → List ℕ) (olds places news : List X) (n : ℕ) (x : X) (text : List ℕ) → n < length places
+pub written : {X : Type 0} (shown : X → List ℕ) (olds places news : List X) (n : ℕ) (x : X) (text : List ℕ)
+    → n < length places
     → take n places ≡ take n olds → news ≡ slice_set places n x → shown x ≡ text
     → map shown (take (n + 1) news) ≡ map shown (take n olds) ++ text ∷ []
 written shown olds places news n x text within front set is =
@@ -70,16 +75,21 @@ written shown olds places news n x text within front set is =
     ∙ ap (λ texts. map shown texts ++ shown x ∷ []) front
     ∙ ap (λ t. map shown (take n olds) ++ t ∷ []) is
 
-pub one_more_written : {X : Type 0} (shown : X → List ℕ) (olds news : List X) (n : ℕ) (text : List ℕ) → n ≤ length olds → n < 64
+pub one_more_written : {X : Type 0} (shown : X → List ℕ) (olds news : List X) (n : ℕ) (text : List ℕ) → n ≤ length olds
+    → n < 64
     → map shown (take (n + 1) news) ≡ map shown (take n olds) ++ text ∷ []
     → map shown (take (n + 1) news) ≡ take 64 (map shown (take n olds) ++ text ∷ [])
 one_more_written shown olds news n text within room is =
     is
     ∙ sym (take_all 64 (map shown (take n olds) ++ text ∷ [])
-    (rw (length-append (map shown (take n olds)) (text ∷ []), length-map (take n olds) shown) (omega (arith, length-take n olds, within, room))))
+    (rw (length-append (map shown (take n olds)) (text ∷ []), length-map (take n olds) shown)
+    (omega (arith, length-take n olds, within, room))))
 
-pub none_more_written : {X : Type 0} (shown : X → List ℕ) (olds : List X) (n : ℕ) (text : List ℕ) → n ≤ length olds → length olds ≤ 64
+pub none_more_written : {X : Type 0} (shown : X → List ℕ) (olds : List X) (n : ℕ) (text : List ℕ) → n ≤ length olds
+    → length olds ≤ 64
     → 64 ≤ n → map shown (take n olds) ≡ take 64 (map shown (take n olds) ++ text ∷ [])
 none_more_written shown olds n text within fits full =
-    sym (one_too_many 64 (map shown (take n olds)) (text ∷ []) (rw (length-map (take n olds) shown) (omega (arith, length-take n olds, within, full)))
-    ∙ take_all 64 (map shown (take n olds)) (rw (length-map (take n olds) shown) (omega (arith, length-take n olds, within, fits))))
+    sym (one_too_many 64 (map shown (take n olds)) (text ∷ [])
+    (rw (length-map (take n olds) shown) (omega (arith, length-take n olds, within, full)))
+    ∙ take_all 64 (map shown (take n olds))
+    (rw (length-map (take n olds) shown) (omega (arith, length-take n olds, within, fits))))

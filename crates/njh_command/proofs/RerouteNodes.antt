@@ -1,5 +1,6 @@
 -- The node of REROUTE is a name.
-use Rattle.std.proofs.Common.{◌≡◌, ℕ, ◌+◌, ◌-◌, ◌≤◌, Bool, true, false, cond, not, ◌&&◌, List, [], ◌∷◌, length, replicate}
+use Rattle.std.proofs.Common.{◌≡◌, ℕ, ◌+◌, ◌-◌, ◌≤◌, Bool, true, false, cond, not, ◌&&◌, List, [], ◌∷◌, length}
+use Rattle.std.proofs.Common.{replicate}
 use Rattle.std.proofs.Common.{Option, Some, None, Result, Ok, Err, nat_lt, refl, ap, subst, ◌∙◌, arith, eq-eqb}
 use Rattle.std.proofs.lemmas.Bool.{ltb-false}
 use Rattle.std.proofs.lemmas.List.{length-append, length-replicate}
@@ -31,11 +32,13 @@ abbrev name_where : Bool → Bool → Bool → List ℕ → Result (List ℕ) Na
 name_where empty long good word =
     cond empty (Err Empty) (cond long (Err TooLong) (cond good (Ok (padded_field word)) (Err BadCharacter)))
 
-padded_is_name : (word : List ℕ) → PaddingComesOff → length word ≤ 8 → is_empty word ≡ false → list_all is_name_byte word ≡ true
+padded_is_name : (word : List ℕ) → PaddingComesOff → length word ≤ 8 → is_empty word ≡ false
+    → list_all is_name_byte word ≡ true
     → is_name (padded_field word) ≡ true
 padded_is_name word padding short some good =
     let field = padded_field word in
-    ap (λ (b : Bool). b && (not (is_empty (without_end_blanks field)) && list_all is_name_byte (without_end_blanks field)))
+    ap (λ (b : Bool). b && (not (is_empty (without_end_blanks field)) && list_all is_name_byte
+    (without_end_blanks field)))
     (eq-eqb (length field) 8 (padded_eight word short))
     ∙ ap (λ (w : List ℕ). not (is_empty w) && list_all is_name_byte w) (padding word good)
     ∙ ap (λ (b : Bool). not b && list_all is_name_byte word) some
@@ -43,10 +46,12 @@ padded_is_name word padding short some good =
 
 module _ (padding : PaddingComesOff) where
   node_named : (word node : List ℕ) → node_in word ≡ Some node → is_name node ≡ true
-  node_named word node e = at_tests (is_empty word) (nat_lt 8 (length word)) (list_all is_name_byte word) refl refl refl e
+  node_named word node e = at_tests (is_empty word) (nat_lt 8 (length word)) (list_all is_name_byte word) refl refl refl
+      e
     where
       at_tests :
-          (empty long good : Bool) → is_empty word ≡ empty → nat_lt 8 (length word) ≡ long → list_all is_name_byte word ≡ good
+          (empty long good : Bool) → is_empty word ≡ empty → nat_lt 8 (length word) ≡ long
+          → list_all is_name_byte word ≡ good
           → result_ok (name_where empty long good word) ≡ Some node → is_name node ≡ true
       at_tests true long good some h all e = absurd (cc e)
       at_tests false true good some h all e = absurd (cc e)
@@ -90,7 +95,8 @@ module _ (padding : PaddingComesOff) where
       at_verb :
           (b : Bool) (other : FileName) (found : List ℕ) → node_in to ≡ Some found
           → HasName (cond b (Some (commands.Reroute other found)) None) name node
-      at_verb true other found at e = let same : found ≡ node = cc e in subst (λ n. is_name n ≡ true) same (node_named to found at)
+      at_verb true other found at e = let same : found ≡ node =
+          cc e in subst (λ n. is_name n ≡ true) same (node_named to found at)
       at_verb false other found at e = absurd (cc e)
 
       at_node :

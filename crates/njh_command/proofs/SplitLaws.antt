@@ -29,7 +29,8 @@ large b h = by_test (within 0x81 0x89 b || (within 0x91 0x99 b || within 0xa2 0x
 folds : (byte b : ℕ) → byte < 0x81 → (upper b == byte) ≡ (b == byte)
 folds byte b h =
     elim (leb_tells 0x81 b) [
-      | inl above ↦ ne_eqb (upper b) byte (λ same. omega (arith, large b above.1)) ∙ sym (ne_eqb b byte (λ same. omega (arith, above.1)))
+      | inl above ↦ ne_eqb (upper b) byte (λ same. omega (arith, large b above.1))
+          ∙ sym (ne_eqb b byte (λ same. omega (arith, above.1)))
       | inr below ↦ ap (λ x. x == byte) (small b below.1)
     ]
 
@@ -63,23 +64,28 @@ module _ (p : ℕ → Bool) (stays : (b : ℕ) → p (upper b) ≡ p b) where
           (t : Bool) → p b ≡ t → (position_or_len p bytes ≡ length bytes → slice_split p bytes ≡ bytes ∷ [])
           → cond t ([] ∷ slice_split p bytes) (onto_first b (slice_split p bytes)) ≡ (b ∷ bytes) ∷ []
       by_test true f more =
-          let no : 0 ≡ suc (length bytes) = sym (ap (λ t. cond (not t) (1 + position_or_len p bytes) 0) f) ∙ e in absurd (omega (arith, no))
+          let no : 0 ≡ suc (length bytes) = sym (ap (λ t. cond (not t) (1 + position_or_len p bytes) 0) f)
+          ∙ e in absurd (omega (arith, no))
       by_test false f more =
-          let one : 1 + position_or_len p bytes ≡ suc (length bytes) = sym (ap (λ t. cond (not t) (1 + position_or_len p bytes) 0) f) ∙ e in
+          let one : 1 + position_or_len p bytes ≡ suc (length bytes) =
+          sym (ap (λ t. cond (not t) (1 + position_or_len p bytes) 0) f) ∙ e in
           ap (onto_first b) (more (omega (arith, one)))
 
-  pub whole_folded : (bytes : List ℕ) → position_or_len p bytes ≡ length bytes → slice_split p (map upper bytes) ≡ map upper bytes ∷ []
+  pub whole_folded : (bytes : List ℕ) → position_or_len p bytes ≡ length bytes
+      → slice_split p (map upper bytes) ≡ map upper bytes ∷ []
   whole_folded bytes e = last_part (map upper bytes) (position_folded bytes ∙ e ∙ sym (length_folded bytes))
 
   pub first_folded :
       (bytes : List ℕ) → position_or_len p bytes < length bytes
       → slice_split p (map upper bytes)
-      ≡ map upper (take (position_or_len p bytes) bytes) ∷ slice_split p (map upper (drop (position_or_len p bytes + 1) bytes))
+      ≡ map upper (take (position_or_len p bytes) bytes) ∷ slice_split p
+      (map upper (drop (position_or_len p bytes + 1) bytes))
   first_folded bytes h =
       slice_split_first p (map upper bytes) 0 (rw (position_folded bytes, length_folded bytes) h)
       ∙ ap₂ (λ first rest. first ∷ slice_split p rest)
       (ap (λ n. take n (map upper bytes)) (position_folded bytes) ∙ take-map upper (position_or_len p bytes) bytes)
-      (ap (λ n. drop (n + 1) (map upper bytes)) (position_folded bytes) ∙ drop_folded (position_or_len p bytes + 1) bytes)
+      (ap (λ n. drop (n + 1) (map upper bytes)) (position_folded bytes)
+      ∙ drop_folded (position_or_len p bytes + 1) bytes)
 
 -- ---- where a byte stands first
 
@@ -88,7 +94,8 @@ module _ {X : Type 0} (p : X → Bool) where
   position_within [] = omega arith
   position_within (x ∷ xs) = by_test (p x) (position_within xs)
     where
-      by_test : (t : Bool) → position_or_len p xs ≤ length xs → cond (not t) (1 + position_or_len p xs) 0 ≤ suc (length xs)
+      by_test : (t : Bool) → position_or_len p xs ≤ length xs
+          → cond (not t) (1 + position_or_len p xs) 0 ≤ suc (length xs)
       by_test true more = omega arith
       by_test false more = omega (arith, more)
 
@@ -102,7 +109,8 @@ module _ {X : Type 0} (p : X → Bool) where
   pub missing : (xs : List X) → position p xs ≡ None → position_or_len p xs ≡ length xs
   missing xs e =
       elim (cases_lt (position_or_len p xs) (length xs)) [
-        | inl inside ↦ absurd (by_test (ltb (position_or_len p xs) (length xs)) (lt-ltb (position_or_len p xs) (length xs) inside) e)
+        | inl inside ↦ absurd (by_test (ltb (position_or_len p xs) (length xs))
+            (lt-ltb (position_or_len p xs) (length xs) inside) e)
         | inr past ↦ omega (arith, past, position_within xs)
       ]
     where
@@ -126,7 +134,8 @@ parts_of (b ∷ bytes) =
     n = position_or_len is_blank bytes
 
     split : Bool → List (List ℕ)
-    split u = cond u ([] ∷ slice_split is_blank (map upper bytes)) (onto_first (upper b) (slice_split is_blank (map upper bytes)))
+    split u = cond u ([] ∷ slice_split is_blank (map upper bytes))
+        (onto_first (upper b) (slice_split is_blank (map upper bytes)))
 
     Parts : Bool → ℕ → Type 0
     Parts t m =
@@ -139,11 +148,17 @@ parts_of (b ∷ bytes) =
         → (others : List (List ℕ)) × (slice_split is_blank (map upper bytes) ≡ map upper (take n bytes) ∷ others)
         × (filter is_word others ≡ words (drop n bytes))
         → Parts t (suc n)
-    by_test true folded more = (slice_split is_blank (map upper bytes), ap split folded, sym (ap (λ u. filter is_word (split u)) folded))
+    by_test true folded more = (
+      slice_split is_blank (map upper bytes),
+      ap split folded,
+      sym
+          (ap (λ u. filter is_word (split u)) folded),
+    )
     by_test false folded more = (more.0, ap split folded ∙ ap (onto_first (upper b)) more.1, more.2)
 
 pub word_in_front : (bytes : List ℕ) → (position_or_len is_blank bytes ≡ 0 → ⊥)
-    → words bytes ≡ map upper (take (position_or_len is_blank bytes) bytes) ∷ words (drop (position_or_len is_blank bytes) bytes)
+    → words bytes ≡ map upper (take (position_or_len is_blank bytes) bytes) ∷ words
+    (drop (position_or_len is_blank bytes) bytes)
 word_in_front [] some = absurd (some refl)
 word_in_front (b ∷ bytes) some =
     ap (filter is_word) (parts_of (b ∷ bytes)).1
@@ -153,7 +168,8 @@ word_in_front (b ∷ bytes) some =
     others : List (List ℕ)
     others = (parts_of (b ∷ bytes)).0
 
-    by_place : (n : ℕ) → (n ≡ 0 → ⊥) → filter is_word (map upper (take n (b ∷ bytes)) ∷ others) ≡ map upper (take n (b ∷ bytes)) ∷
+    by_place : (n : ℕ) → (n ≡ 0 → ⊥) → filter is_word (map upper (take n (b ∷ bytes)) ∷ others)
+        ≡ map upper (take n (b ∷ bytes)) ∷
         filter is_word others
     by_place zero differs = absurd (differs refl)
     by_place (suc n) differs = refl
@@ -168,7 +184,8 @@ too_many : (node number bytes : List ℕ) → name_of_parts (node ∷ number ∷
 too_many node number [] = refl
 too_many node number (b ∷ bytes) = by_test (is_full_stop b) (slice_split is_full_stop bytes)
   where
-    by_test : (t : Bool) (rest : List (List ℕ)) → name_of_parts (node ∷ number ∷ cond t ([] ∷ rest) (onto_first b rest)) ≡ None
+    by_test : (t : Bool) (rest : List (List ℕ)) → name_of_parts (node ∷ number ∷ cond t ([] ∷ rest) (onto_first b rest))
+        ≡ None
     by_test true rest = refl
     by_test false [] = refl
     by_test false (part ∷ parts) = refl
@@ -179,18 +196,24 @@ stop word = position_or_len is_full_stop word
 pub without_stop : (word : List ℕ) → stop word ≡ length word → name_in (map upper word) ≡ None
 without_stop word e = ap name_of_parts (whole_folded is_full_stop full_stops_stay word e)
 
-pub with_stops : (word : List ℕ) → stop word < length word → stop (drop (stop word + 1) word) < length (drop (stop word + 1) word)
+pub with_stops : (word : List ℕ) → stop word < length word
+    → stop (drop (stop word + 1) word) < length (drop (stop word + 1) word)
     → name_in (map upper word) ≡ None
 with_stops word h more =
     ap name_of_parts (first_folded is_full_stop full_stops_stay word h)
-    ∙ ap (λ parts. name_of_parts (map upper (take (stop word) word) ∷ parts)) (first_folded is_full_stop full_stops_stay (drop (stop
+    ∙ ap (λ parts. name_of_parts (map upper (take (stop word) word) ∷ parts))
+    (first_folded is_full_stop full_stops_stay (drop (stop
     word + 1) word) more)
-    ∙ too_many (map upper (take (stop word) word)) (map upper (take (stop (drop (stop word + 1) word)) (drop (stop word + 1) word)))
+    ∙ too_many (map upper (take (stop word) word))
+    (map upper (take (stop (drop (stop word + 1) word)) (drop (stop word + 1) word)))
     (map upper (drop (stop (drop (stop word + 1) word) + 1) (drop (stop word + 1) word)))
 
-pub with_stop : (word : List ℕ) → stop word < length word → stop (drop (stop word + 1) word) ≡ length (drop (stop word + 1) word)
-    → name_in (map upper word) ≡ name_of_parts (map upper (take (stop word) word) ∷ map upper (drop (stop word + 1) word) ∷ [])
+pub with_stop : (word : List ℕ) → stop word < length word
+    → stop (drop (stop word + 1) word) ≡ length (drop (stop word + 1) word)
+    → name_in (map upper word) ≡ name_of_parts
+    (map upper (take (stop word) word) ∷ map upper (drop (stop word + 1) word) ∷ [])
 with_stop word h last =
     ap name_of_parts (first_folded is_full_stop full_stops_stay word h)
-    ∙ ap (λ parts. name_of_parts (map upper (take (stop word) word) ∷ parts)) (whole_folded is_full_stop full_stops_stay (drop (stop
+    ∙ ap (λ parts. name_of_parts (map upper (take (stop word) word) ∷ parts))
+    (whole_folded is_full_stop full_stops_stay (drop (stop
     word + 1) word) last)

@@ -27,11 +27,13 @@ pub same_file : (s : CustomerSpool) (i : ℕ) → s ≡ with_file i (file_at i s
 same_file s i = ap (λ files. record s { whole = files }) (sym (set-get_or s.whole i no_file))
 
 -- a customer's spool that moves twice
-pub part_of : (old now : List CustomerSpool) (c : ℕ) (x : CustomerSpool) → c < length old → now ≡ slice_set old c x → spool_at c now ≡ x
+pub part_of : (old now : List CustomerSpool) (c : ℕ) (x : CustomerSpool) → c < length old → now ≡ slice_set old c x
+    → spool_at c now ≡ x
 part_of old now c x range now_is = ap (spool_at c) now_is ∙ get_or-set_same old c x no_spool range
 
 pub moved_twice :
-    (old now new : List CustomerSpool) (c : ℕ) (x : CustomerSpool) (f : CustomerSpool → CustomerSpool) → c < length old → now ≡
+    (old now new : List CustomerSpool) (c : ℕ) (x : CustomerSpool) (f : CustomerSpool → CustomerSpool) → c < length old
+    → now ≡
     slice_set old c x
     → new ≡ slice_set now c (f (spool_at c now)) → new ≡ slice_set old c (f x)
 moved_twice old now new c x f range now_is new_is =
@@ -50,12 +52,14 @@ file_twice s i f g = ap (λ files. record s { whole = files }) (set-set s.whole 
 
 -- it counts where it passes
 pub counted_more :
-    (p : WholeFile → Bool) (b : Bool) (s : CustomerSpool) (i n m : ℕ) → i < length s.whole → p (file_at i s) ≡ b → n ≡ count_up_to p i s
+    (p : WholeFile → Bool) (b : Bool) (s : CustomerSpool) (i n m : ℕ) → i < length s.whole → p (file_at i s) ≡ b
+    → n ≡ count_up_to p i s
     → m ≡ n + cond b 1 0 → m ≡ count_up_to p (i + 1) s
 counted_more p b s i n m inside passes so_far more =
     more ∙ ap₂ (λ k t. k + cond t 1 0) so_far (sym passes) ∙ sym (length-filter_more p s.whole i no_file inside)
 
-pub changed_not_yet : (g : WholeFile → WholeFile) (i : ℕ) (s : CustomerSpool) → i < length s.whole → file_at i (changed_up_to g i s) ≡
+pub changed_not_yet : (g : WholeFile → WholeFile) (i : ℕ) (s : CustomerSpool) → i < length s.whole
+    → file_at i (changed_up_to g i s) ≡
     file_at i s
 changed_not_yet g i s inside = not_yet g i s.whole no_file inside
 
@@ -74,7 +78,8 @@ left_more p i s inside = filter_more (λ f. not (p f)) s.whole i no_file inside
 pub removed_not_yet : (p : WholeFile → Bool) (i : ℕ) (s : CustomerSpool) → i < length s.whole
     → file_at (length (left_up_to p i s)) (removed_up_to p i s) ≡ file_at i s
 removed_not_yet p i s inside =
-    ap (λ rest. get_or (left_up_to p i s ++ rest) (length (left_up_to p i s)) no_file) (drop_more s.whole i no_file inside)
+    ap (λ rest. get_or (left_up_to p i s ++ rest) (length (left_up_to p i s)) no_file)
+    (drop_more s.whole i no_file inside)
     ∙ get_or_at (left_up_to p i s) (file_at i s) (drop (i + 1) s.whole) no_file (length (left_up_to p i s)) refl
 
 remove_at : (xs : List WholeFile) (y : WholeFile) (ys : List WholeFile) → remove (xs ++ y ∷ ys) (length xs) ≡ xs ++ ys
@@ -84,7 +89,8 @@ remove_at (x ∷ xs) y ys = ap (λ rest. x ∷ rest) (remove_at xs y ys)
 pub removed_one_more : (p : WholeFile → Bool) (i : ℕ) (s : CustomerSpool) → i < length s.whole
     → without_where (p (file_at i s)) (length (left_up_to p i s)) (removed_up_to p i s) ≡ removed_up_to p (i + 1) s
 removed_one_more p i s inside =
-    by_test (p (file_at i s)) ∙ ap (λ files. record s { whole = files ++ drop (i + 1) s.whole }) (sym (left_more p i s inside))
+    by_test (p (file_at i s)) ∙ ap (λ files. record s { whole = files ++ drop (i + 1) s.whole })
+    (sym (left_more p i s inside))
   where
     by_test : (b : Bool) → without_where b (length (left_up_to p i s)) (removed_up_to p i s)
         ≡ record s { whole = (left_up_to p i s ++ cond (not b) (file_at i s ∷ []) []) ++ drop (i + 1) s.whole }
@@ -103,7 +109,8 @@ pub index_more :
     (p : WholeFile → Bool) (b : Bool) (s : CustomerSpool) (i n m : ℕ) → i < length s.whole → p (file_at i s) ≡ b
     → n ≡ length (left_up_to p i s) → m ≡ n + cond (not b) 1 0 → m ≡ length (left_up_to p (i + 1) s)
 index_more p b s i n m inside passes so_far more =
-    more ∙ ap₂ (λ k t. k + cond (not t) 1 0) so_far (sym passes) ∙ sym (length-filter_more (λ f. not (p f)) s.whole i no_file inside)
+    more ∙ ap₂ (λ k t. k + cond (not t) 1 0) so_far (sym passes)
+    ∙ sym (length-filter_more (λ f. not (p f)) s.whole i no_file inside)
 
 pub numbers_more : (p : WholeFile → Bool) (i : ℕ) (s : CustomerSpool) → i < length s.whole
     → map (λ f. f.number) (filter p (take (i + 1) s.whole))
@@ -127,24 +134,28 @@ all_looked_at xs n h = take_all n xs h
 
 -- ---- what a file is to a change
 
-pub as_other : (passes sending : Bool) → file_class_by passes sending ≡ Other → ((passes && not sending) ≡ false) × ((passes && sending)
+pub as_other : (passes sending : Bool) → file_class_by passes sending ≡ Other → ((passes && not sending) ≡ false)
+    × ((passes && sending)
     ≡ false)
 as_other false sending e = (refl, refl)
 as_other true true e = absurd (cc e)
 as_other true false e = absurd (cc e)
 
-pub as_busy : (passes sending : Bool) → file_class_by passes sending ≡ Busy → ((passes && not sending) ≡ false) × ((passes && sending) ≡ true)
+pub as_busy : (passes sending : Bool) → file_class_by passes sending ≡ Busy → ((passes && not sending) ≡ false)
+    × ((passes && sending) ≡ true)
 as_busy false sending e = absurd (cc e)
 as_busy true true e = (refl, refl)
 as_busy true false e = absurd (cc e)
 
-pub as_idle : (passes sending : Bool) → file_class_by passes sending ≡ Idle → ((passes && not sending) ≡ true) × ((passes && sending) ≡ false)
+pub as_idle : (passes sending : Bool) → file_class_by passes sending ≡ Idle → ((passes && not sending) ≡ true)
+    × ((passes && sending) ≡ false)
 as_idle false sending e = absurd (cc e)
 as_idle true true e = absurd (cc e)
 as_idle true false e = (refl, refl)
 
 -- a file that isn't changed
-pub unchanged : (p : WholeFile → Bool) (g : WholeFile → WholeFile) (f : WholeFile) → may_change p f ≡ false → f ≡ changed_file p g f
+pub unchanged : (p : WholeFile → Bool) (g : WholeFile → WholeFile) (f : WholeFile) → may_change p f ≡ false
+    → f ≡ changed_file p g f
 unchanged p g f e = sym (ap (λ b. cond b (g f) f) e)
 
 -- ---- a line of LIST more

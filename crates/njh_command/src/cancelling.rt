@@ -14,7 +14,8 @@ use crate::senders::Senders;
 use njh_spool::Spool;
 use njh_texts::{cancelled, not_found};
 
-/// Removes the files, and says how many. The streams of those that are being sent give them up, in order.
+/// Removes the files, and says how many. The streams of those that are being sent give them up, in
+/// order.
 pub(crate) fn cancel_files<S: Senders>(
     choice: &Choice,
     spool: &mut Spool,

@@ -5,8 +5,8 @@ use njh_ebcdic::Name;
 use njh_header::FileName;
 use thiserror::Error;
 
-/// What a user may say to the hub. A command is for the user's own files alone; names of files aren't unique, and it is
-/// for each file of the name.
+/// What a user may say to the hub. A command is for the user's own files alone; names of files
+/// aren't unique, and it is for each file of the name.
 #[derive(Clone, Copy, Debug, PartialEq, Eq)]
 pub enum Command {
     /// Tell of each file.
@@ -21,8 +21,8 @@ pub enum Command {
     Reroute(FileName, Name),
 }
 
-/// The message is no command: its first word is none of the hub's, it has a word too many or too few, or a word isn't a
-/// file's name or a node where one has to stand.
+/// The message is no command: its first word is none of the hub's, it has a word too many or too
+/// few, or a word isn't a file's name or a node where one has to stand.
 #[derive(Clone, Copy, Debug, PartialEq, Eq, Error)]
 #[error("NJH011 BAD COMMAND")]
 pub struct BadCommand;
@@ -32,9 +32,9 @@ impl Command {
     ghost use Rattle.std.specs.Result.{result_ok};
     ghost use Rattle.njh_command.specs.Words.{command_of};
 
-    /// The command that a message is: LIST, HOLD name, RELEASE name, CANCEL name or REROUTE name node, in capitals or
-    /// not, with blanks between the words and round them. A name is a node, a full stop and 1 to 5 digits of value at
-    /// most 65,535.
+    /// The command that a message is: LIST, HOLD name, RELEASE name, CANCEL name or REROUTE name
+    /// node, in capitals or not, with blanks between the words and round them. A name is a node, a
+    /// full stop and 1 to 5 digits of value at most 65,535.
     pub fn read(message: &[u8]) -> Result<Command, BadCommand>
         ensures { result_ok result ≡ command_of message.now }
     {

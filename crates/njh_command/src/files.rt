@@ -68,8 +68,8 @@ pub(crate) fn summary_of(spool: &Spool, customer: u16, index: u32) -> FileSummar
     spool.summary_at(customer, index)
 }
 
-/// Puts the bytes of the file's n-th record in place of what `into` held, and gives its SRCB. The next record is read
-/// on from there.
+/// Puts the bytes of the file's n-th record in place of what `into` held, and gives its SRCB. The
+/// next record is read on from there.
 pub(crate) fn read_record(
     spool: &mut Spool,
     customer: u16,

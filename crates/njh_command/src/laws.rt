@@ -5,9 +5,9 @@ ghost use Rattle.njh_command.specs.CommandLaws.{CommandsKeepHeaders, CommandsMov
 use njh_ebcdic::trimming;
 use njh_header::redirected_files_have_headers;
 
-/// A message of a user moves no whole file, or the user's own of one name, and these in one of four ways: they are held
-/// or released, go to another node, or are cancelled. A command that does one of these or nothing is known to all that
-/// stands on this law.
+/// A message of a user moves no whole file, or the user's own of one name, and these in one of four
+/// ways: they are held or released, go to another node, or are cancelled. A command that does one
+/// of these or nothing is known to all that stands on this law.
 pub fn commands_move_files_so()
     ensures { CommandsMoveFilesSo }
 {}

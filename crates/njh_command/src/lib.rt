@@ -1,5 +1,5 @@
-//! Commands in nodal messages (IBM SC23-0070, "Nodal message record"): what a user may say to the hub, and what becomes
-//! of the user's files.
+//! Commands in nodal messages (IBM SC23-0070, "Nodal message record"): what a user may say to the
+//! hub, and what becomes of the user's files.
 #![tactic(auto)]
 
 mod cancelling;

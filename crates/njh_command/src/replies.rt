@@ -15,8 +15,8 @@ pub const MAX_REPLIES: usize = 64;
 /// The replies to a command, in order: messages in EBCDIC. They are at most 64, and take no memory.
 #[derive(Debug, Drop)]
 pub struct Replies {
-    /// The replies, and behind them texts of earlier commands, in whose places later ones come: none is cleared for a
-    /// command.
+    /// The replies, and behind them texts of earlier commands, in whose places later ones come:
+    /// none is cleared for a command.
     texts: ArrayVec<MessageText, MAX_REPLIES>,
     /// How many replies there are.
     count: usize,
@@ -33,8 +33,8 @@ impl Model for Replies {
 }
 
 impl Replies {
-    /// No replies yet. They take ten thousand bytes, so a caller makes room for them once, and lends it to each
-    /// command.
+    /// No replies yet. They take ten thousand bytes, so a caller makes room for them once, and
+    /// lends it to each command.
     pub fn new() -> Self
         ensures { result ≡ [] }
     {

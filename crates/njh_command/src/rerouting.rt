@@ -22,7 +22,8 @@ struct Redirection {
     node: Name,
 }
 
-/// The file at a place goes to another node: its headers say so, and it is Ready where it was Refused.
+/// The file at a place goes to another node: its headers say so, and it is Ready where it was
+/// Refused.
 pub(crate) fn reroute(node: Name, spool: &mut Spool, customer: u16, index: u32)
     requires range { customer < length spool.old }
     requires within { index < length (spool_at customer spool.old).whole }
@@ -35,7 +36,8 @@ pub(crate) fn reroute(node: Name, spool: &mut Spool, customer: u16, index: u32)
     try_again(spool, customer, index);
 }
 
-/// The headers of the file at a place name another node. Each record is gone past by its SRCB, in order.
+/// The headers of the file at a place name another node. Each record is gone past by its SRCB, in
+/// order.
 fn redirect(node: Name, spool: &mut Spool, customer: u16, index: u32)
     requires range { customer < length spool.old }
     requires within { index < length (spool_at customer spool.old).whole }
@@ -65,8 +67,8 @@ fn count_looked_at(kind: Kind, spool: &Spool, customer: u16, index: u32) -> u32
     }
 }
 
-/// The n-th record of the file at a place names another node, where it names one. It gives the record's SRCB, and
-/// reads the record itself only where its SRCB is that of such a header.
+/// The n-th record of the file at a place names another node, where it names one. It gives the
+/// record's SRCB, and reads the record itself only where its SRCB is that of such a header.
 fn redirect_by_srcb(
     to: &Redirection,
     before: Option<u8>,

@@ -56,8 +56,9 @@ pub fn obey<S: Senders>(
     }
 }
 
-/// Does what a user commands, to the user's own whole files alone, in their order of arrival, and says what is replied.
-/// A file that is removed while it is being sent is given up by the customer's streams.
+/// Does what a user commands, to the user's own whole files alone, in their order of arrival, and
+/// says what is replied. A file that is removed while it is being sent is given up by the
+/// customer's streams.
 pub fn run<S: Senders>(
     command: Command,
     from: Originator,

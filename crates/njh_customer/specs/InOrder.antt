@@ -16,7 +16,8 @@ use Rattle.njh_line.specs.declared.Phase.TheVariants.{Down}
 use Rattle.njh_bisync.specs.Reading.{Nothing}
 use Rattle.njh_table.specs.Entries.{CustomerEntry, RouteEntry}
 use Rattle.njh_customer.specs.declared.signal.Signal.TheVariants.{Lost}
-use Rattle.njh_customer.specs.Customer.{Customer, CustomerLine, config_of, fresh_customer, line_at, receiver_at, sender_at}
+use Rattle.njh_customer.specs.Customer.{Customer, CustomerLine, config_of, fresh_customer, line_at, receiver_at}
+use Rattle.njh_customer.specs.Customer.{sender_at}
 use Rattle.njh_customer.specs.NewRoutes.{customer_with_routes}
 use Rattle.njh_customer.specs.OutgoingFiles.{Outgoing, outgoing, has_file, sender_on, streams_of}
 use Rattle.njh_customer.specs.Part.{Part, rest_on}
@@ -35,8 +36,8 @@ pub record IsOnStream (n : ℕ) (x : Outgoing) : Type 0 where
   pub stream : ℕ
   pub about : IsAbout line stream n x
 
--- Each line has eight streams from the hub. The file that one is about is there, and is being sent; no two are about the
--- same file; and no file is being sent but those.
+-- Each line has eight streams from the hub. The file that one is about is there, and is being sent; no two are about
+-- the same file; and no file is being sent but those.
 pub record AreBeingSent (x : Outgoing) : Type 0 where
   pub eight : (l : ℕ) → l < length x.streams → length (streams_of l x) ≡ 8
   pub there : (l k n : ℕ) → IsAbout l k n x → has_file n x ≡ true
@@ -90,13 +91,15 @@ pub record IsInOrder (c : Customer) : Type 0 where
   pub idle : IdleUnlessUp c.lines
   pub set_up : AreSetUp c
 
--- So it is when it is opened, and stays so: whatever comes, by routes that are given, and where a whole file is put back.
+-- So it is when it is opened, and stays so: whatever comes, by routes that are given, and where a whole file is put
+-- back.
 pub record StaysInOrder : Type 0 where
   pub opened : (entry : CustomerEntry) → All (λ line. line.streams ≤ 4) entry.lines → IsInOrder (fresh_customer entry)
   pub events : (p : Part) (event : OwnEvent) → IsInOrder p.customer → IsInOrder (event_run p event).after.customer
   pub routes : (routes : List RouteEntry) (c : Customer) → IsInOrder c → IsInOrder (customer_with_routes routes c)
   pub put_back : (f : WholeFile) (c : Customer) → is_number f.number c.spool ≡ false → HasHeaders f.kind f.records
-      → (f.state ≡ Sending → ⊥) → IsWithinQuota (with_arrived f c.spool) → IsInOrder c → IsInOrder (customer_with_last_file f c)
+      → (f.state ≡ Sending → ⊥) → IsWithinQuota (with_arrived f c.spool) → IsInOrder c
+      → IsInOrder (customer_with_last_file f c)
 
 -- ---- the loss of all lines
 

@@ -193,7 +193,8 @@ pub data FileMoves (entry : CustomerEntry) (items : List Item) (x : Outgoing) (g
       (i : Item) (who : User) (name : FileName) (node : List ℕ) (f : WholeFile) → Contains items i
       → Commands entry who (Reroute name node) i → Contains x.files f → is_of_name who name f ≡ true
       → is_sending f.state ≡ false
-      → g.number ≡ f.number → g.kind ≡ f.kind → is_name node ≡ true → g.records ≡ records_to_node f.kind node None f.records
+      → g.number ≡ f.number → g.kind ≡ f.kind → is_name node ≡ true
+      → g.records ≡ records_to_node f.kind node None f.records
       → FileMoves entry items x g
 
 -- By new routes a file is what it was; or it was Ready or Refused, its node has no route now, and it is Held.

@@ -24,7 +24,8 @@ use njh_texts::node_unknown;
 impl Shared {
     ghost use Rattle.njh_customer.specs.CustomerSteps.{ChangesFilesBy, IsReady, RecordsActBy};
 
-    /// The records of a block act in their order, up to one that ends the session. Says whether one did.
+    /// The records of a block act in their order, up to one that ends the session. Says whether one
+    /// did.
     pub(crate) fn all_act(
         &mut self,
         id: LineId,
@@ -142,7 +143,8 @@ impl Shared {
         }
     }
 
-    /// The peer's answer to a stream from the hub: permission, refusal, completion, or what isn't one.
+    /// The peer's answer to a stream from the hub: permission, refusal, completion, or what isn't
+    /// one.
     fn take_answer(
         &mut self,
         id: LineId,
@@ -237,7 +239,8 @@ impl Shared {
     }
 }
 
-/// The refusal of a request for a stream that the line doesn't have: none where the RCB is no stream's.
+/// The refusal of a request for a stream that the line doesn't have: none where the RCB is no
+/// stream's.
 fn refusal_of(named: Rcb) -> Option<Answer>
     ensures { result ≡ acting.refusal_of named.byte (stream_number named.byte) }
 {
@@ -269,8 +272,8 @@ fn tell_unknown(customer: &NamedCustomer, message: &Nmr, lines: &mut CustomerLin
     lines.say(customer, message.origin(), message.user(), &text);
 }
 
-/// Whether a record ends the session: a count that the peer didn't expect, a sign-on I, J or K, or the sign-off B (IBM
-/// SC23-0070, "Multileaving").
+/// Whether a record ends the session: a count that the peer didn't expect, a sign-on I, J or K, or
+/// the sign-off B (IBM SC23-0070, "Multileaving").
 fn ends_session(item: &Item<'_>) -> bool
     ensures { (bytes : List ℕ) → result ≡ acting.ends_session (given_item bytes item.now) }
 {

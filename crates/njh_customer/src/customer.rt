@@ -1,5 +1,5 @@
-//! What a frame or a signal on one of a customer's lines does. The frame that answers it is put into `out`, which is
-//! empty then where none does.
+//! What a frame or a signal on one of a customer's lines does. The frame that answers it is put
+//! into `out`, which is empty then where none does.
 
 ghost use Rattle.std.specs.Prelude.{◌≡◌, ◌<◌, ◌&&◌, length, not};
 ghost use Rattle.std.specs.Option.{option_map};
@@ -66,7 +66,8 @@ impl Shared {
         ensures { LeavesReadyBy id self.old lines.old self.new lines.new out.new
             (alone.after_signal id.number signal) }
     {
-        // Lent out of an `Option`: the borrow checker's proof of a lent `Input` must have met that type.
+        // Lent out of an `Option`: the borrow checker's proof of a lent `Input` must have met that
+        // type.
         let input = Some(signal_input(signal));
         if let Some(input) = &input {
             self.take_input(id, input, lines, out);
@@ -90,7 +91,8 @@ impl Shared {
         self.carry_out(id, verdict, lines, out);
     }
 
-    /// A good block comes on a line: its records act where the line table says so, and then it is answered.
+    /// A good block comes on a line: its records act where the line table says so, and then it is
+    /// answered.
     fn take_block(
         &mut self,
         id: LineId,
@@ -119,7 +121,8 @@ impl Shared {
         }
     }
 
-    /// The line table judges what comes to a line. A line that goes up by it counts as up from then on.
+    /// The line table judges what comes to a line. A line that goes up by it counts as up from then
+    /// on.
     fn accept(&mut self, id: LineId, input: &Input<'_>, lines: &mut CustomerLines) -> Verdict
         requires ready { IsReady id self.old lines.old }
         ensures verdict { result

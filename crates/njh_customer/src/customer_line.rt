@@ -41,7 +41,8 @@ pub(crate) struct CustomerLine {
     streams: u8,
     /// The streams to the hub: SYSIN 1 to 4, SYSOUT 1 to 4.
     receivers: [Receiver; 8],
-    /// On each of these, what the owner of the file that was refused last was told: none once another file opens.
+    /// On each of these, what the owner of the file that was refused last was told: none once
+    /// another file opens.
     notices: [Option<Notice>; 8],
     /// The streams from the hub.
     senders: [Sender; 8],
@@ -68,7 +69,8 @@ impl Model for CustomerLine {
 }
 
 impl CustomerLine {
-    /// A line that is down, none of whose streams is about a file. Want of memory is the only refusal.
+    /// A line that is down, none of whose streams is about a file. Want of memory is the only
+    /// refusal.
     pub(crate) fn new(alloc: Global, config: Config, streams: u8) -> Result<Self, AllocError>
         requires config { IsConfig config }
         requires streams { streams ≤ 4 }
@@ -106,7 +108,8 @@ impl CustomerLine {
         self.receivers[usize::from(stream.place())] = receiver;
     }
 
-    /// Keeps what the owner of a file that came on a stream was told, up to the next file that opens there.
+    /// Keeps what the owner of a file that came on a stream was told, up to the next file that
+    /// opens there.
     pub(crate) fn note(&mut self, stream: Stream, receiver: Receiver, notice: Option<Notice>)
         ensures { self.new ≡ with_notice stream receiver notice self.old }
     {
@@ -162,7 +165,8 @@ impl CustomerLine {
         &self.receivers
     }
 
-    /// On each of its streams to the hub, what the owner of the file that was refused last was told.
+    /// On each of its streams to the hub, what the owner of the file that was refused last was
+    /// told.
     pub(crate) fn notices(&self) -> &[Option<Notice>]
         ensures same { result.now ≡ self.now.notices }
         ensures eight { length result.now ≡ 8 }
@@ -274,8 +278,9 @@ impl CustomerLine {
         send_written(&mut self.line, or_ack0, &shared.block, fcs, out);
     }
 
-    /// The end of a session: the files that were being sent may go again, and so may those that were refused and go by
-    /// this line; the files that came in are gone, and so are the answers; SYSOUT 4 counts as served last.
+    /// The end of a session: the files that were being sent may go again, and so may those that
+    /// were refused and go by this line; the files that came in are gone, and so are the answers;
+    /// SYSOUT 4 counts as served last.
     pub(crate) fn end_session(&mut self, id: LineId, tables: &Tables, spool: &mut Spool)
         requires known { id.customer < length tables.now.customers }
         requires spooled { id.customer < length spool.old }

@@ -148,8 +148,8 @@ impl CustomerLines {
         self.lines[usize::from(id.number)].send_reply(id, reply, shared, out);
     }
 
-    /// The end of a line's session, by the marks as they are: what becomes of its streams' files, and its answers are
-    /// gone.
+    /// The end of a line's session, by the marks as they are: what becomes of its streams' files,
+    /// and its answers are gone.
     pub(crate) fn end_session(&mut self, id: LineId, shared: &mut Shared)
         requires there { IsThere id shared.old self.old }
         ensures { ChangesFilesBy id shared.old self.old shared.new self.new (session_closed id.number) }
@@ -229,7 +229,8 @@ impl CustomerLines {
         }
     }
 
-    /// Keeps what the owner of a file that came on a stream of a line was told, if the line is there.
+    /// Keeps what the owner of a file that came on a stream of a line was told, if the line is
+    /// there.
     pub(crate) fn note(
         &mut self,
         line: u16,

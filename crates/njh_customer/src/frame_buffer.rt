@@ -7,7 +7,8 @@ ghost use Rattle.njh_bisync.specs.Written.{text_bytes, control_bytes};
 use njh_bisync::{Control, LONGEST_FRAME, LONGEST_TEXT, put_control, put_text};
 use std::marker::Model;
 
-/// One frame, or nothing where none is sent, with the room for the longest. A caller sees its bytes.
+/// One frame, or nothing where none is sent, with the room for the longest. A caller sees its
+/// bytes.
 #[derive(Drop)]
 pub struct FrameBuffer {
     bytes: Vec<u8>,

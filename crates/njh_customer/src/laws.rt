@@ -48,9 +48,9 @@ pub fn first_bytes_send_first()
     ensures { FirstBytesSendFirst }
 {}
 
-/// An event changes a customer's routes and the marks of its lines alone in what the tables say of it, so the same
-/// routes may be given to it before the event and behind it; and it has as many lines. A step by bytes changes the
-/// marks alone.
+/// An event changes a customer's routes and the marks of its lines alone in what the tables say of
+/// it, so the same routes may be given to it before the event and behind it; and it has as many
+/// lines. A step by bytes changes the marks alone.
 pub fn events_keep_entries()
     ensures entry { EventsKeepEntries }
     ensures takes { TakesKeepEntries }
@@ -60,7 +60,8 @@ pub fn events_keep_entries()
     frames_do_so();
 }
 
-/// The lines that are marked as up are those that are up, when a customer is opened and whatever comes to it.
+/// The lines that are marked as up are those that are up, when a customer is opened and whatever
+/// comes to it.
 pub fn marks_are_right()
     ensures { MarksAreRight }
 {
@@ -75,11 +76,12 @@ pub fn opened_is_coherent()
     streams_stay_tied();
 }
 
-/// A customer's streams, files and lines agree with each other, when it is opened, whatever comes to it, by routes that
-/// it is given, and where a whole file is put back: no two files have one number, and they stay within the customer's
-/// quota and limit; those that are being sent are those that a stream from the hub is about, each on one stream; a line
-/// that isn't up has no stream about a file and no answer that waits; a partial file comes on a stream; each line is
-/// set up as the entry says.
+/// A customer's streams, files and lines agree with each other, when it is opened, whatever comes
+/// to it, by routes that it is given, and where a whole file is put back: no two files have one
+/// number, and they stay within the customer's quota and limit; those that are being sent are those
+/// that a stream from the hub is about, each on one stream; a line that isn't up has no stream
+/// about a file and no answer that waits; a partial file comes on a stream; each line is set up as
+/// the entry says.
 pub fn customers_stay_in_order()
     ensures { StaysInOrder }
 {
@@ -92,20 +94,22 @@ pub fn customers_stay_in_order()
     whole_files_have_headers();
 }
 
-/// A customer that loses the sessions of all its lines has all its whole files, in their order and with their records,
-/// Held where they were Held, and none that is being sent. It has no other file, no line is up, no stream is about a
-/// file, no answer waits, and nothing has come of a frame.
+/// A customer that loses the sessions of all its lines has all its whole files, in their order and
+/// with their records, Held where they were Held, and none that is being sent. It has no other
+/// file, no line is up, no stream is about a file, no answer waits, and nothing has come of a
+/// frame.
 pub fn lost_lines_leave_files()
     ensures { LossesLeaveFiles }
 {
     customers_stay_in_order();
 }
 
-/// What each frame and each signal does to the customer's whole files and to its streams from the hub: its records act,
-/// a frame goes out, and the session goes on or ends. A new block carries, under each stream's RCB, the stream's file
-/// from its place before the block to its place behind it, each record once and in order, and the end of file only
-/// behind the last. Any other frame moves nothing, the last transmission that goes out again among them. New routes
-/// move no line and send nothing.
+/// What each frame and each signal does to the customer's whole files and to its streams from the
+/// hub: its records act, a frame goes out, and the session goes on or ends. A new block carries,
+/// under each stream's RCB, the stream's file from its place before the block to its place behind
+/// it, each record once and in order, and the end of file only behind the last. Any other frame
+/// moves nothing, the last transmission that goes out again among them. New routes move no line and
+/// send nothing.
 pub fn frames_do_so()
     ensures frames { FramesDoSo }
     ensures signals { SignalsDoSo }
@@ -118,9 +122,9 @@ pub fn frames_do_so()
     commands_move_files_so();
 }
 
-/// An event, and a step by bytes, move the customer's whole files and its streams from the hub by a few kinds of moves
-/// and no others. New routes move no stream, and of the files those alone that are Ready or Refused and whose node has
-/// no route by them: these are Held.
+/// An event, and a step by bytes, move the customer's whole files and its streams from the hub by a
+/// few kinds of moves and no others. New routes move no stream, and of the files those alone that
+/// are Ready or Refused and whose node has no route by them: these are Held.
 pub fn events_move_so()
     ensures events { EventsMoveSo }
     ensures takes { TakesMoveSo }
@@ -128,17 +132,18 @@ pub fn events_move_so()
     frames_do_so();
 }
 
-/// A whole file leaves the spool only by the command CANCEL of its owner by its name, or by C0 to the stream that has
-/// sent its end of file; by new routes none does.
+/// A whole file leaves the spool only by the command CANCEL of its owner by its name, or by C0 to
+/// the stream that has sent its end of file; by new routes none does.
 pub fn files_leave_so()
     ensures one { FilesLeaveSo }
     ensures between { FilesLeaveSoBetween }
 {}
 
-/// Which whole files are new: after all that comes, the files are some of those that were there, in their order and
-/// each of its number, of its kind and with its records but for what REROUTE wrote, and behind them others, at most as
-/// many as were counted (`arrived`). So all but the last, as many as the count went on by, were there, and the number
-/// of each says which it was. The count mustn't be at its greatest.
+/// Which whole files are new: after all that comes, the files are some of those that were there, in
+/// their order and each of its number, of its kind and with its records but for what REROUTE wrote,
+/// and behind them others, at most as many as were counted (`arrived`). So all but the last, as
+/// many as the count went on by, were there, and the number of each says which it was. The count
+/// mustn't be at its greatest.
 pub fn files_survive()
     ensures moves { FilesSurvive }
     ensures events { EventsKeepFiles }
@@ -153,14 +158,15 @@ pub fn files_survive()
     events_move_so();
 }
 
-/// What becomes of a customer's files whose end hasn't come, in a step by bytes of a line, by a signal and by new
-/// routes. A file that becomes whole, and a file that is partial afterwards, goes on from a partial file of its number
-/// and its kind: it has that one's records, and behind them at most as many as the step brought; or it has no more
-/// than these. So a file with more has that partial file's records, but for what REROUTE wrote once it was whole. The
-/// records of one block at most act in a step, of which fewer than 1,366 have data; by a signal and by new routes none
-/// comes. What has come of a line's next frame must be of no more than the 4,096 bytes of a text, and it is, whatever
-/// came since the customer was opened. Which partial file it was says its number. A file that was given up just isn't
-/// there.
+/// What becomes of a customer's files whose end hasn't come, in a step by bytes of a line, by a
+/// signal and by new routes. A file that becomes whole, and a file that is partial afterwards, goes
+/// on from a partial file of its number and its kind: it has that one's records, and behind them at
+/// most as many as the step brought; or it has no more than these. So a file with more has that
+/// partial file's records, but for what REROUTE wrote once it was whole. The records of one block
+/// at most act in a step, of which fewer than 1,366 have data; by a signal and by new routes none
+/// comes. What has come of a line's next frame must be of no more than the 4,096 bytes of a text,
+/// and it is, whatever came since the customer was opened. Which partial file it was says its
+/// number. A file that was given up just isn't there.
 pub fn files_grow()
     ensures takes { TakesGrowFiles }
     ensures signals { SignalsGrowFiles }
@@ -179,17 +185,18 @@ pub fn files_grow()
     inputs_are_answered();
 }
 
-/// How a stream from the hub moves. It takes a file only where it is idle. A0 makes it send the file it asked for, from
-/// place 0 on. From then on its place moves only by the file's record at it going out in a new block, by one; and where
-/// there is no record at it the end of file goes out, and that alone makes it wait for C0. By new routes none moves.
+/// How a stream from the hub moves. It takes a file only where it is idle. A0 makes it send the
+/// file it asked for, from place 0 on. From then on its place moves only by the file's record at it
+/// going out in a new block, by one; and where there is no record at it the end of file goes out,
+/// and that alone makes it wait for C0. By new routes none moves.
 pub fn streams_move_so()
     ensures each { StreamsMoveSo }
     ensures taken { IdleStreamsTakeFiles }
 {}
 
-/// A whole file's records change by the command REROUTE of its owner by its name alone, in the eight bytes of a
-/// destination's node, and not while it is being sent. New routes change of a file at most its state, from Ready or
-/// Refused to Held.
+/// A whole file's records change by the command REROUTE of its owner by its name alone, in the
+/// eight bytes of a destination's node, and not while it is being sent. New routes change of a file
+/// at most its state, from Ready or Refused to Held.
 pub fn records_change_so()
     ensures { RecordsChangeSo }
 {
@@ -197,8 +204,9 @@ pub fn records_change_so()
     reroutes_name_nodes();
 }
 
-/// A text that is spoiled or is no block, and a block whose check failed, change no file, no stream and nothing that
-/// waits, on no line; but where five tries were made before, the line's session ends.
+/// A text that is spoiled or is no block, and a block whose check failed, change no file, no stream
+/// and nothing that waits, on no line; but where five tries were made before, the line's session
+/// ends.
 pub fn bad_texts_change_nothing()
     ensures spoiled { SpoiledIsDisregarded }
     ensures bad { BadBlocksAreDisregarded }

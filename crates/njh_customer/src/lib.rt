@@ -1,4 +1,5 @@
-//! A customer by itself: its files and its lines, and what bytes and signals on one of these do and send.
+//! A customer by itself: its files and its lines, and what bytes and signals on one of these do and
+//! send.
 //!
 //! No step reads or changes another customer's entry or files.
 #![tactic(auto)]

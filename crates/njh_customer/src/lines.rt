@@ -26,7 +26,8 @@ use std::marker::Model;
 
 /// The lines of one customer, each with what has come of its next frame.
 ///
-/// The deframers stand beside the lines, so that a text may stay lent from one while its records act on any line.
+/// The deframers stand beside the lines, so that a text may stay lent from one while its records
+/// act on any line.
 #[derive(Drop)]
 pub struct Lines {
     deframers: Vec<Deframer>,
@@ -49,7 +50,8 @@ impl Lines {
     ghost use Rattle.njh_table.specs.Accepted.{IsLine};
     ghost use Rattle.njh_customer.specs.Part.{part_at_open, part_with, part_after_bytes, part_after_signal};
 
-    /// The lines of a customer's entry, each down, with no stream about a file. Want of memory is the only refusal.
+    /// The lines of a customer's entry, each down, with no stream about a file. Want of memory is
+    /// the only refusal.
     pub fn open(alloc: Global, customer: &NamedCustomer) -> Result<Lines, AllocError>
         requires { All IsLine customer.now.lines }
         ensures { IfOk result (λ lines.
@@ -98,8 +100,8 @@ impl Lines {
         self.lines.line(line).receivers()
     }
 
-    /// On each of a line's streams to the hub, what the owner of the file that was refused last was told, up to the
-    /// next file there.
+    /// On each of a line's streams to the hub, what the owner of the file that was refused last was
+    /// told, up to the next file there.
     pub fn notices(&self, line: u16) -> &[Option<Notice>]
         requires { line < length self.now.lines }
         ensures same { result.now ≡ (line_at line self.now.lines).notices }
@@ -117,9 +119,9 @@ impl Lines {
         self.lines.line(line).senders()
     }
 
-    /// One step by bytes of a line: those up to the end of the first frame that is answered, or all. Says how many. The
-    /// frame that is sent is put into `out`, which is empty then where none is. Nothing depends on what room `shared`
-    /// has.
+    /// One step by bytes of a line: those up to the end of the first frame that is answered, or
+    /// all. Says how many. The frame that is sent is put into `out`, which is empty then where none
+    /// is. Nothing depends on what room `shared` has.
     pub fn take_bytes(
         &mut self,
         id: LineId,
@@ -171,8 +173,8 @@ impl Lines {
         taken
     }
 
-    /// One step by a signal on a line: a frame that isn't whole is dropped first. The frame that is sent is put into
-    /// `out`, which is empty then where none is.
+    /// One step by a signal on a line: a frame that isn't whole is dropped first. The frame that is
+    /// sent is put into `out`, which is empty then where none is.
     pub fn take_signal(
         &mut self,
         id: LineId,

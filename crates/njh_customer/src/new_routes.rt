@@ -13,8 +13,8 @@ use njh_stream::{hold_unrouted, streams_stay_tied};
 use njh_table::Tables;
 
 impl Lines {
-    /// The tables have new routes for the customer: its files that are Ready or Refused and whose node has no route now
-    /// are Held. Its lines stay as they are, and no frame goes out.
+    /// The tables have new routes for the customer: its files that are Ready or Refused and whose
+    /// node has no route now are Held. Its lines stay as they are, and no frame goes out.
     pub fn set_routes(&self, customer: u16, tables: &Tables, spool: &mut Spool)
         requires known { customer < length tables.now.customers }
         requires spooled { customer < length spool.old }
@@ -34,7 +34,8 @@ pub fn routes_keep_coherent()
     streams_stay_tied();
 }
 
-/// A file whose node has no route goes by no line: none asks for it, also where its session ends and it is Ready again.
+/// A file whose node has no route goes by no line: none asks for it, also where its session ends
+/// and it is Ready again.
 pub fn unrouted_files_stay()
     ensures { UnroutedFilesStay }
 {}

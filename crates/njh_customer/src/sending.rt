@@ -1,5 +1,5 @@
-//! What a line sends. Every frame is put into `out`, which is empty then where none is sent, and the line keeps what it
-//! sent.
+//! What a line sends. Every frame is put into `out`, which is empty then where none is sent, and
+//! the line keeps what it sent.
 
 ghost use Rattle.std.specs.Prelude.{◌≡◌, ◌≤◌, ◌||◌};
 ghost use Rattle.njh_block.specs.Blocks.{all_suspended, same_fcs};
@@ -104,7 +104,8 @@ fn send_no_block(line: &mut Line, or_ack0: bool, out: &mut FrameBuffer)
     }
 }
 
-/// Whether a block without records isn't sent: the peer suspends all, or it tells no new function control sequence.
+/// Whether a block without records isn't sent: the peer suspends all, or it tells no new function
+/// control sequence.
 fn tells_nothing(line: &Line, fcs: Fcs) -> bool
     ensures { result ≡ (all_suspended line.now.session.peer_fcs || same_fcs fcs line.now.session.own_fcs) }
 {

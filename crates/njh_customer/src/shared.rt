@@ -7,8 +7,8 @@ use njh_command::Replies;
 use njh_spool::Spool;
 use njh_table::Tables;
 
-/// The tables and the files of all customers, and what a step writes in. Making it clears fourteen thousand bytes, so
-/// it is made once, and lent to each step.
+/// The tables and the files of all customers, and what a step writes in. Making it clears fourteen
+/// thousand bytes, so it is made once, and lent to each step.
 #[derive(Drop)]
 pub struct Shared {
     /// What each customer may do, and which of its lines are up.

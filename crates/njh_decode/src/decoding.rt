@@ -11,12 +11,13 @@ use crate::frames::put_frame;
 use njh_bisync::{Deframer, Frame, frames_of_both};
 use std::alloc::AllocError;
 
-/// Appends the lines of each frame (IBM GA27-3004) that ends in a piece of a line's bytes, in order, none left out:
-/// those that `put_frame` has for it. Bytes that belong to no frame have no words.
+/// Appends the lines of each frame (IBM GA27-3004) that ends in a piece of a line's bytes, in
+/// order, none left out: those that `put_frame` has for it. Bytes that belong to no frame have no
+/// words.
 ///
-/// The deframer is that of one line in one direction, and keeps what has come of a frame that isn't whole;
-/// `Deframer::reset` drops that, as after a loss. Want of memory is the only refusal. Then some of the frames are not
-/// told, and the deframer may have taken them.
+/// The deframer is that of one line in one direction, and keeps what has come of a frame that isn't
+/// whole; `Deframer::reset` drops that, as after a loss. Want of memory is the only refusal. Then
+/// some of the frames are not told, and the deframer may have taken them.
 pub fn decode(
     deframer: &mut Deframer,
     piece: &[u8],

@@ -17,13 +17,15 @@ use njh_block::{Block, BlockFault, Item};
 use njh_record::Record;
 use std::alloc::AllocError;
 
-/// Appends the lines of a frame, in UTF-8, each ended by 0A. Of a text that is a block (IBM SC23-0070, "Multileaving")
-/// these are one for its head, one for each record, and one for bytes behind its end, where there are any. Of a text
-/// that is none the one line tells its first fault (B1 to B5) and the place of that, in bytes from 0. A text has at
-/// most 4,096 bytes, as each that a `Deframer` gives.
+/// Appends the lines of a frame, in UTF-8, each ended by 0A. Of a text that is a block (IBM
+/// SC23-0070, "Multileaving") these are one for its head, one for each record, and one for bytes
+/// behind its end, where there are any. Of a text that is none the one line tells its first fault
+/// (B1 to B5) and the place of that, in bytes from 0. A text has at most 4,096 bytes, as each that
+/// a `Deframer` gives.
 ///
-/// `hex` puts the bytes of a compressed record beside its words, uncompressed and in hexadecimal. The passwords of a
-/// sign-on are never told. Want of memory is the only refusal; then a part of the lines may have been appended.
+/// `hex` puts the bytes of a compressed record beside its words, uncompressed and in hexadecimal.
+/// The passwords of a sign-on are never told. Want of memory is the only refusal; then a part of
+/// the lines may have been appended.
 #[tactic(auto, unfolding(crate::specs::Frames::frame_lines))]
 pub fn put_frame(lines: &mut Vec<u8>, frame: Frame<'_>, hex: bool) -> Result<(), AllocError>
     requires { IsShort (received_of frame) }

@@ -1,4 +1,5 @@
-//! What the bytes of a line say, in words: a line of text for each frame, and for each record of its block.
+//! What the bytes of a line say, in words: a line of text for each frame, and for each record of
+//! its block.
 //!
 //! A block that asks for SYSOUT 1 and ends its job file on SYSIN 1 is told so:
 //!

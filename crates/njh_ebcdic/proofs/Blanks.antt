@@ -28,17 +28,20 @@ trimmed-push [] b other = lone b (eqb b 0x40) other
 trimmed-push (x ∷ xs) b other = ap (in_front x) (trimmed-push xs b other) ∙ in_front-push x xs b
 
 -- a blank at the end goes
-pub trimmed-blank : (bytes front : List ℕ) (last : ℕ) → bytes ≡ front ++ last ∷ [] → last ≡ 0x40 → without_end_blanks bytes ≡ without_end_blanks front
+pub trimmed-blank : (bytes front : List ℕ) (last : ℕ) → bytes ≡ front ++ last ∷ [] → last ≡ 0x40
+    → without_end_blanks bytes ≡ without_end_blanks front
 trimmed-blank bytes front last is blank =
     ap without_end_blanks (is ∙ ap (λ b. front ++ b ∷ []) blank) ∙ trimmed-push_blank front
 
 -- with another byte at the end nothing goes
-pub trimmed-other : (bytes front : List ℕ) (last : ℕ) → bytes ≡ front ++ last ∷ [] → last ≢ 0x40 → without_end_blanks bytes ≡ bytes
+pub trimmed-other : (bytes front : List ℕ) (last : ℕ) → bytes ≡ front ++ last ∷ [] → last ≢ 0x40
+    → without_end_blanks bytes ≡ bytes
 trimmed-other bytes front last is other =
     ap without_end_blanks is ∙ trimmed-push front last (ne_eqb last 0x40 other) ∙ sym is
 
 -- blanks behind go
-pub trimmed-append_blanks : (bytes : List ℕ) (count : ℕ) → without_end_blanks (bytes ++ replicate count 0x40) ≡ without_end_blanks bytes
+pub trimmed-append_blanks : (bytes : List ℕ) (count : ℕ)
+    → without_end_blanks (bytes ++ replicate count 0x40) ≡ without_end_blanks bytes
 trimmed-append_blanks bytes zero = ap without_end_blanks (append-nil bytes)
 trimmed-append_blanks bytes (suc count) =
     ap without_end_blanks (sym (append_snoc bytes 0x40 (replicate count 0x40)))
@@ -59,13 +62,19 @@ trimmed-name_bytes (b ∷ bytes) named =
     let parts = and_parts (is_name_byte b) (list_all is_name_byte bytes) named in
     ap (in_front b) (trimmed-name_bytes bytes parts.1) ∙ in_front-other b bytes (not_blank b parts.0)
 
-pub trimmed-padded : (bytes : List ℕ) → list_all is_name_byte bytes ≡ true → without_end_blanks (padded_field bytes) ≡ bytes
+pub trimmed-padded : (bytes : List ℕ) → list_all is_name_byte bytes ≡ true
+    → without_end_blanks (padded_field bytes) ≡ bytes
 trimmed-padded bytes named =
     trimmed-append_blanks bytes (8 - length bytes) ∙ trimmed-name_bytes bytes named
 
 length-padded : (bytes : List ℕ) → length bytes ≤ 8 → length (padded_field bytes) ≡ 8
 length-padded bytes few =
-    omega (arith, length-append bytes (replicate (8 - length bytes) 0x40), length-replicate {A = ℕ} (8 - length bytes) 0x40)
+    omega (
+      arith,
+      length-append bytes (replicate (8 - length bytes) 0x40),
+      length-replicate {A = ℕ} (8 - length bytes)
+          0x40,
+    )
 
 -- 1 to 8 bytes of a name, padded, are one
 pub is_name-padded : (bytes : List ℕ) → 0 < length bytes → length bytes ≤ 8 → list_all is_name_byte bytes ≡ true
@@ -77,16 +86,19 @@ is_name-padded (b ∷ bytes) some few named =
     (and_from _ _ (ap (λ t. not (is_empty t)) whole) (ap (list_all is_name_byte) whole ∙ named))
 
 -- a word laid over blanks
-pub padded-overlay : (front word : List ℕ) → front ≡ word → front ++ drop (length word) (replicate 8 0x40) ≡ padded_field word
+pub padded-overlay : (front word : List ℕ) → front ≡ word
+    → front ++ drop (length word) (replicate 8 0x40) ≡ padded_field word
 padded-overlay front word same =
-    ap (λ bytes. bytes ++ drop (length word) (replicate 8 0x40)) same ∙ ap (λ blanks. word ++ blanks) (drop-replicate (length word) 8 0x40)
+    ap (λ bytes. bytes ++ drop (length word) (replicate 8 0x40)) same
+    ∙ ap (λ blanks. word ++ blanks) (drop-replicate (length word) 8 0x40)
 
 -- a byte in front of bytes that are followed by blanks
 lone-blanks : (b : ℕ) (bytes : List ℕ) (t : Bool) → (t ≡ true → b ≡ 0x40) → replicate (length bytes) 0x40 ≡ bytes
     → cond t [] (b ∷ []) ++ replicate (suc (length bytes) - length (cond t [] (b ∷ []))) 0x40 ≡ b ∷ bytes
 lone-blanks b bytes true blank is =
     let same : suc (length bytes) - 0 ≡ suc (length bytes) = omega arith in
-    ap (λ count. replicate {A = ℕ} count 0x40) same ∙ (ap (λ all. 0x40 ∷ all) is ∙ ap (λ first. first ∷ bytes) (sym (blank refl)))
+    ap (λ count. replicate {A = ℕ} count 0x40) same
+    ∙ (ap (λ all. 0x40 ∷ all) is ∙ ap (λ first. first ∷ bytes) (sym (blank refl)))
 lone-blanks b bytes false blank is =
     let same : suc (length bytes) - 1 ≡ length bytes = omega arith in
     ap (λ count. b ∷ replicate count 0x40) same ∙ ap (λ all. b ∷ all) is
@@ -101,17 +113,24 @@ in_front-blanks b (r ∷ rs) bytes is =
     ap (λ count. b ∷ ((r ∷ rs) ++ replicate count 0x40)) same ∙ ap (λ all. b ∷ all) is
 
 -- what was trimmed were blanks
-pub trimmed-blanks : (bytes : List ℕ) → without_end_blanks bytes ++ replicate (length bytes - length (without_end_blanks bytes)) 0x40 ≡ bytes
+pub trimmed-blanks : (bytes : List ℕ) → without_end_blanks bytes ++ replicate
+    (length bytes - length (without_end_blanks bytes)) 0x40 ≡ bytes
 trimmed-blanks [] = refl
 trimmed-blanks (b ∷ bytes) = in_front-blanks b (without_end_blanks bytes) bytes (trimmed-blanks bytes)
 
 pub trimmed-trimmed : (bytes : List ℕ) → without_end_blanks (without_end_blanks bytes) ≡ without_end_blanks bytes
 trimmed-trimmed bytes =
-    sym (trimmed-append_blanks (without_end_blanks bytes) (length bytes - length (without_end_blanks bytes))) ∙ ap without_end_blanks (trimmed-blanks bytes)
+    sym (trimmed-append_blanks (without_end_blanks bytes) (length bytes - length (without_end_blanks bytes)))
+    ∙ ap without_end_blanks (trimmed-blanks bytes)
 
 length-trimmed : (bytes : List ℕ) → length (without_end_blanks bytes) ≤ length bytes
 length-trimmed bytes =
-    omega (arith, length-append (without_end_blanks bytes) (replicate (length bytes - length (without_end_blanks bytes)) 0x40), ap length (trimmed-blanks bytes))
+    omega (
+      arith,
+      length-append (without_end_blanks bytes)
+          (replicate (length bytes - length (without_end_blanks bytes)) 0x40),
+      ap length (trimmed-blanks bytes),
+    )
 
 -- what makes a field a name
 pub record IsNamed (field : List ℕ) : Type 0 where
@@ -129,5 +148,6 @@ IsNamed-is_name field name =
       some = not-true _ inner.0;
       few = omega (arith, length-trimmed field);
       named = inner.1;
-      whole = ap (λ count. without_end_blanks field ++ replicate (count - length (without_end_blanks field)) 0x40) (sym size) ∙ trimmed-blanks field;
+      whole = ap (λ count. without_end_blanks field ++ replicate (count - length (without_end_blanks field)) 0x40)
+          (sym size) ∙ trimmed-blanks field;
     }

@@ -12,7 +12,8 @@ pub record IsTurn (characters : List ℕ) (n place character : ℕ) : Type 0 whe
   pub that : character ≡ get_or characters n character
 
 pub IsTurn-enumerated : (characters : List ℕ) (n place character : ℕ) → n < length (enumerate_from 0 characters)
-    → ◌≡◌ {A = ℕ × ℕ} (place, character) (get_or (enumerate_from 0 characters) n (place, character)) → IsTurn characters n place character
+    → ◌≡◌ {A = ℕ × ℕ} (place, character) (get_or (enumerate_from 0 characters) n (place, character))
+    → IsTurn characters n place character
 IsTurn-enumerated characters n place character within is =
     let more : n < length characters = omega (arith, length-enumerate_from 0 characters) in
     let same = is ∙ get_or-enumerate_from 0 characters n (place, character) more in
@@ -24,11 +25,14 @@ pub record IsFilledTo (characters word : List ℕ) (n : ℕ) : Type 0 where
   pub size : length word ≡ 8
   pub same : take n word ≡ take n (bytes_or_blanks characters)
 
-pub IsFilledTo-more : (characters word : List ℕ) (n place character byte : ℕ) → IsTurn characters n place character → n < 8
-    → byte ≡ byte_or_blank character → IsFilledTo characters word n → IsFilledTo characters (set word place byte) (n + 1)
+pub IsFilledTo-more : (characters word : List ℕ) (n place character byte : ℕ) → IsTurn characters n place character
+    → n < 8
+    → byte ≡ byte_or_blank character → IsFilledTo characters word n
+    → IsFilledTo characters (set word place byte) (n + 1)
 IsFilledTo-more characters word n place character byte turn room is so_far =
     let fits : n < length word = omega (arith, so_far.size) in
-    let more : n < length (bytes_or_blanks characters) = omega (arith, length-map characters byte_or_blank, turn.more) in
+    let more : n < length (bytes_or_blanks characters) =
+    omega (arith, length-map characters byte_or_blank, turn.more) in
     let next : byte ≡ get_or (bytes_or_blanks characters) n 0 =
     is ∙ (ap byte_or_blank turn.that ∙ sym (get_or-map byte_or_blank characters n character 0 turn.more)) in
     rw turn.there (record {
@@ -42,4 +46,5 @@ IsFilledTo-more characters word n place character byte turn room is so_far =
 pub IsFilledTo-all : (characters word : List ℕ) → IsFilledTo characters word (length characters)
     → take (length characters) word ≡ bytes_or_blanks characters
 IsFilledTo-all characters word all =
-    all.same ∙ take_all (length characters) (bytes_or_blanks characters) (omega (arith, length-map characters byte_or_blank))
+    all.same ∙ take_all (length characters) (bytes_or_blanks characters)
+    (omega (arith, length-map characters byte_or_blank))

@@ -1,11 +1,13 @@
 -- The characters of names, users and replies in the code page: what it says of a byte and of a character.
-use Rattle.std.proofs.Common.{◌≡◌, ℕ, zero, suc, ◌+◌, ◌<◌, Bool, true, false, cond, eqb, ltb, not, ◌||◌, Option, Some, None}
+use Rattle.std.proofs.Common.{◌≡◌, ℕ, zero, suc, ◌+◌, ◌<◌, Bool, true, false, cond, eqb, ltb, not, ◌||◌, Option, Some}
+use Rattle.std.proofs.Common.{None}
 use Rattle.std.proofs.Common.{List, [], ◌∷◌, ◌++◌, length, take, get_or, refl, sym, ap, ◌∙◌, arith, unwrap_or}
 use Rattle.std.proofs.Common.{find, position}
 use Rattle.std.specs.Prelude.{encode_utf8}
 use Rattle.std.specs.List.{list_all}
 use Rattle.std.specs.Option.{option_map}
-use Rattle.std.proofs.lemmas.Bool.{agree_below_at, and_parts, cond-false, cond-true, cond_both, eqb-true, false≢true, ltb-true}
+use Rattle.std.proofs.lemmas.Bool.{agree_below_at, and_parts, cond-false, cond-true, cond_both, eqb-true, false≢true}
+use Rattle.std.proofs.lemmas.Bool.{ltb-true}
 use Rattle.std.proofs.lemmas.Bool.Decides.{nat_tests}
 use Rattle.std.proofs.lemmas.List.{take_more, map-append}
 use Rattle.std.proofs.lemmas.List.Quantifiers.{position-Some}
@@ -20,7 +22,8 @@ shown-page : (byte : ℕ) → byte < 256
 unfolding character_of
 shown-page byte small =
     let all = agree_below_at
-    (λ k. eqb (printed_character k) (cond (is_written (get_or PAGE k 0)) (get_or PAGE k 0) 63)) (λ _. true) 256 byte refl small in
+    (λ k. eqb (printed_character k) (cond (is_written (get_or PAGE k 0)) (get_or PAGE k 0) 63)) (λ _. true) 256 byte
+    refl small in
     eqb-true _ _ all
 
 pub shown-written : (byte character : ℕ) → byte < 256 → character ≡ get_or PAGE byte 0 → is_written character ≡ true
@@ -55,7 +58,8 @@ pub place-page : (c : ℕ) → is_written c ≡ true → byte_of_character c ≡
 unfolding byte_of_character
 place-page c written =
     let all = agree_below_at
-    (λ k. not (is_written k) || agree (byte_of_character k) (position (λ known. eqb known k) PAGE)) (λ _. true) 128 c refl
+    (λ k. not (is_written k) || agree (byte_of_character k) (position (λ known. eqb known k) PAGE)) (λ _. true) 128 c
+    refl
     (written_below c written) in
     agree-true _ _ (brings _ _ all written)
 
@@ -75,7 +79,8 @@ unfolding page_character
 seen-page byte small = agree_below_at (λ k. is_seen (page_character k)) (λ _. true) 256 byte refl small
 
 -- the character at a place of the page
-character-at : (character place : ℕ) → get_or PAGE place 0 ≡ character → 0 < character → page_character place ≡ character
+character-at : (character place : ℕ) → get_or PAGE place 0 ≡ character → 0 < character
+    → page_character place ≡ character
 unfolding page_character
 character-at character place is some =
     let here : eqb character 0 ≡ false = grind (arith, nat_tests) in
@@ -116,4 +121,5 @@ pub shown_text-more : (bytes : List ℕ) (i d c : ℕ) → i < length bytes → 
 shown_text-more bytes i d c within is =
     let ascii : c < 128 = rw is (shown-ascii (get_or bytes i d)) in
     ap (λ text. shown_text (take i bytes) ++ text) (encode_ascii c ascii ∙ ap (λ e. e ∷ []) is)
-    ∙ sym (ap shown_text (take_more bytes i d within) ∙ map-append printed_character (take i bytes) (get_or bytes i d ∷ []))
+    ∙ sym (ap shown_text (take_more bytes i d within)
+    ∙ map-append printed_character (take i bytes) (get_or bytes i d ∷ []))

@@ -23,16 +23,19 @@ shown_text-ascii [] i = omega arith
 shown_text-ascii (b ∷ bytes) zero = shown-ascii b
 shown_text-ascii (b ∷ bytes) (suc i) = shown_text-ascii bytes i
 
-bytes_or_blanks-shown_text : (bytes : List ℕ) → list_all is_name_byte bytes ≡ true → bytes_or_blanks (shown_text bytes) ≡ bytes
+bytes_or_blanks-shown_text : (bytes : List ℕ) → list_all is_name_byte bytes ≡ true
+    → bytes_or_blanks (shown_text bytes) ≡ bytes
 bytes_or_blanks-shown_text [] named = refl
 bytes_or_blanks-shown_text (b ∷ bytes) named =
     let parts = and_parts (is_name_byte b) (list_all is_name_byte bytes) named in
     ap (λ first. first ∷ bytes_or_blanks (shown_text bytes)) (byte_or_blank-shown b parts.0)
     ∙ ap (λ rest. b ∷ rest) (bytes_or_blanks-shown_text bytes parts.1)
 
-pub name_of_text-shown_text : (name : List ℕ) → is_name name ≡ true → name_of_text (shown_text (without_end_blanks name)) ≡ Ok name
+pub name_of_text-shown_text : (name : List ℕ) → is_name name ≡ true
+    → name_of_text (shown_text (without_end_blanks name)) ≡ Ok name
 name_of_text-shown_text name is =
     let parts = IsNamed-is_name name is in
-    let same = ap bytes_or_blanks (chars-IsAscii (shown_text (without_end_blanks name)) (shown_text-ascii (without_end_blanks name)))
+    let same = ap bytes_or_blanks (chars-IsAscii (shown_text (without_end_blanks name))
+    (shown_text-ascii (without_end_blanks name)))
     ∙ bytes_or_blanks-shown_text (without_end_blanks name) parts.named in
     ap name_of_word same ∙ name_of_word-trimmed name is

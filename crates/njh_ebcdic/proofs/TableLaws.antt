@@ -18,7 +18,8 @@ is_just-true : (n : ℕ) (o : Option ℕ) → is_just n o ≡ true → o ≡ Som
 is_just-true n None is = absurd (false≢true is)
 is_just-true n (Some m) is = ap Some (eqb-true m n is)
 
-option_map-some : (f : ℕ × ℕ → ℕ) (o : Option (ℕ × ℕ)) (n : ℕ) → option_map f o ≡ Some n → (pair : ℕ × ℕ) × (o ≡ Some pair) × (f pair ≡ n)
+option_map-some : (f : ℕ × ℕ → ℕ) (o : Option (ℕ × ℕ)) (n : ℕ) → option_map f o ≡ Some n
+    → (pair : ℕ × ℕ) × (o ≡ Some pair) × (f pair ≡ n)
 option_map-some f None n is = cc
 option_map-some f (Some pair) n is = (pair, refl, cc)
 
@@ -29,13 +30,15 @@ found-all test fact [] pair found all = cc
 found-all test fact (p ∷ ps) pair found all =
     let parts = and_parts (fact p) (list_all fact ps) all in
     ⊎_elim (λ (yes' : test p ≡ true).
-    let same : p ≡ pair = let first : Some p ≡ Some pair = sym (cond-true (test p) (Some p) (find test ps) yes') ∙ found in cc in
+    let same : p ≡ pair = let first : Some p ≡ Some pair =
+    sym (cond-true (test p) (Some p) (find test ps) yes') ∙ found in cc in
     (ap test (sym same) ∙ yes', ap fact (sym same) ∙ parts.0))
     (λ (no' : test p ≡ false).
     found-all test fact ps pair (sym (cond-false (test p) (Some p) (find test ps) no') ∙ found) parts.1)
     (cases_Bool (test p))
 
-pub byte_of_character-character : (byte character : ℕ) → character_of byte ≡ Some character → byte_of_character character ≡ Some byte
+pub byte_of_character-character : (byte character : ℕ) → character_of byte ≡ Some character
+    → byte_of_character character ≡ Some byte
 unfolding character_of byte_of_character
 byte_of_character-character byte character is =
     let at = option_map-some (λ pair. pair.1) (find (λ (pair : ℕ × ℕ). eqb pair.0 byte) table) character is in
@@ -44,7 +47,8 @@ byte_of_character-character byte character is =
     (option_map (λ (other : ℕ × ℕ). other.0) (find (λ other. eqb other.1 pair.1) table))) table at.0 at.1 refl in
     ap byte_of_character (sym at.2) ∙ (is_just-true _ _ known.1 ∙ ap Some (eqb-true _ byte known.0))
 
-pub character_of-byte : (byte character : ℕ) → byte_of_character character ≡ Some byte → character_of byte ≡ Some character
+pub character_of-byte : (byte character : ℕ) → byte_of_character character ≡ Some byte
+    → character_of byte ≡ Some character
 unfolding character_of byte_of_character
 character_of-byte byte character is =
     let at = option_map-some (λ pair. pair.0) (find (λ (pair : ℕ × ℕ). eqb pair.1 character) table) byte is in
@@ -64,20 +68,24 @@ plain_below c plain = grind (arith, nat_tests)
 pub byte_of_character-plain : (c : ℕ) → is_plain c ≡ true → byte_of_character c ≡ Some (ebcdic_byte c)
 unfolding byte_of_character
 byte_of_character-plain c plain =
-    let all = agree_below_at (λ k. not (is_plain k) || is_just (ebcdic_byte k) (byte_of_character k)) (λ _. true) 91 c refl
+    let all = agree_below_at (λ k. not (is_plain k) || is_just (ebcdic_byte k) (byte_of_character k)) (λ _. true) 91 c
+    refl
     (plain_below c plain) in
     is_just-true _ _ (brings _ _ all plain)
 
-pub shown-upper : (byte : ℕ) → byte < 256 → within 97 122 (printed_character byte) ≡ true → printed_character (upper byte) ≡ printed_character byte - 32
+pub shown-upper : (byte : ℕ) → byte < 256 → within 97 122 (printed_character byte) ≡ true
+    → printed_character (upper byte) ≡ printed_character byte - 32
 unfolding character_of
 shown-upper byte small letter =
-    let all = agree_below_at (λ k. not (within 97 122 (printed_character k)) || eqb (printed_character (upper k)) (printed_character k - 32)) (λ _. true) 256 byte refl small in
+    let all = agree_below_at (λ k. not (within 97 122 (printed_character k)) || eqb (printed_character (upper k))
+    (printed_character k - 32)) (λ _. true) 256 byte refl small in
     eqb-true _ _ (brings _ _ all letter)
 
 pub upper-other : (byte : ℕ) → byte < 256 → within 97 122 (printed_character byte) ≡ false → upper byte ≡ byte
 unfolding character_of
 upper-other byte small other =
-    let all = agree_below_at (λ k. not (not (within 97 122 (printed_character k))) || eqb (upper k) k) (λ _. true) 256 byte refl small in
+    let all = agree_below_at (λ k. not (not (within 97 122 (printed_character k))) || eqb (upper k) k) (λ _. true) 256
+    byte refl small in
     eqb-true _ _ (brings _ _ all (ap not other))
 
 name_byte_below : (b : ℕ) → is_name_byte b ≡ true → b < 256
@@ -86,6 +94,7 @@ name_byte_below b name = grind (arith, nat_tests)
 pub byte_or_blank-shown : (b : ℕ) → is_name_byte b ≡ true → byte_or_blank (printed_character b) ≡ b
 unfolding character_of byte_of_character
 byte_or_blank-shown b name =
-    let all = agree_below_at (λ k. not (is_name_byte k) || eqb (byte_or_blank (printed_character k)) k) (λ _. true) 256 b refl
+    let all = agree_below_at (λ k. not (is_name_byte k) || eqb (byte_or_blank (printed_character k)) k) (λ _. true) 256
+    b refl
     (name_byte_below b name) in
     eqb-true _ _ (brings _ _ all name)

@@ -50,12 +50,14 @@ fn paged_byte(character: char) -> Option<u8>
     Some(place as u8)
 }
 
-/// The byte of a capital letter, a digit, a full stop or a blank of ASCII: a character of the hub's own words.
+/// The byte of a capital letter, a digit, a full stop or a blank of ASCII: a character of the hub's
+/// own words.
 pub fn plain_byte(character: u8) -> u8
     requires { IsTrue (is_plain character) }
     ensures { result ≡ ebcdic_byte character }
 {
-    // The letters from A to I follow one another, those from J to R, those from S to Z, and the digits.
+    // The letters from A to I follow one another, those from J to R, those from S to Z, and the
+    // digits.
     match character {
         b'A'..=b'I' => character - b'A' + 0xc1,
         b'J'..=b'R' => character - b'J' + 0xd1,

@@ -7,8 +7,9 @@ ghost use Rattle.njh_ebcdic.specs.CodePage.{character_words, is_seen, page_byte,
 
 use std::alloc::AllocError;
 
-/// The character of each byte, by its number in Unicode, and 0 where nothing is seen: of controls, of the blank that
-/// doesn't break (41) and of the hyphen that is seen only where a word is parted (CA).
+/// The character of each byte, by its number in Unicode, and 0 where nothing is seen: of controls,
+/// of the blank that doesn't break (41) and of the hyphen that is seen only where a word is parted
+/// (CA).
 static PAGE: [u8; 256] = [
     0x00, 0x00, 0x00, 0x00, 0x00, 0x00, 0x00, 0x00, 0x00, 0x00, 0x00, 0x00, 0x00, 0x00, 0x00, 0x00,
     0x00, 0x00, 0x00, 0x00, 0x00, 0x00, 0x00, 0x00, 0x00, 0x00, 0x00, 0x00, 0x00, 0x00, 0x00, 0x00,

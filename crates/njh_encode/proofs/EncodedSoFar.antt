@@ -7,7 +7,8 @@ use Rattle.std.proofs.KnownBytes.{Appends-nil, Appends-trans, Consumes-nil, Cons
 use Rattle.njh_io.specs.Written.{AppendsBeginning}
 use Rattle.njh_encode.specs.declared.fault.EncodeFault.{EncodeFault}
 use Rattle.njh_io.specs.Lines.{lines_from}
-use Rattle.njh_encode.specs.Scripts.{Becomes, Encoding, IsEncodedInPart, IsEncodedTo, Texts, behind_script, encoding_of_lines}
+use Rattle.njh_encode.specs.Scripts.{Becomes, Encoding, IsEncodedInPart, IsEncodedTo, Texts, behind_script}
+use Rattle.njh_encode.specs.Scripts.{encoding_of_lines}
 use Rattle.njh_encode.specs.code.Reading.{BecomesBehind, EndsBad, IsWritten, IsWrittenInPart, Progress, Takes}
 use Rattle.njh_encode.proofs.LineLaws.{becomes, some_texts}
 use Rattle.njh_encode.proofs.ReadingLaws.{known_then, Takes-bad, Takes-none, Takes-then, text-as}
@@ -34,8 +35,10 @@ IsEncoded-none known left held = record {
 }
 
 -- a piece more
-pub IsEncoded-more : (known : Option Texts) (first now later old then new : Option (List ℕ)) (a b : Progress) (piece lines : List ℕ)
-    → IsEncoded known first now old then a → Consumes now later piece → Appends then new lines → Takes known a piece lines b
+pub IsEncoded-more : (known : Option Texts) (first now later old then new : Option (List ℕ)) (a b : Progress)
+    (piece lines : List ℕ)
+    → IsEncoded known first now old then a → Consumes now later piece → Appends then new lines
+    → Takes known a piece lines b
     → IsEncoded known first later old new b
 IsEncoded-more known first now later old then new a b piece lines x read written takes = record {
   seen = x.seen ++ piece;
@@ -46,7 +49,8 @@ IsEncoded-more known first now later old then new a b piece lines x read written
 }
 
 -- a whole text, by what still becomes of it
-whole-of : (known : Option Texts) (old then new : Option (List ℕ)) (bad : Option EncodeFault) (text lines : List ℕ) (e : Encoding)
+whole-of : (known : Option Texts) (old then new : Option (List ℕ)) (bad : Option EncodeFault) (text lines : List ℕ)
+    (e : Encoding)
     → Becomes known text (behind_script lines e) → Appends old then lines → e.bad ≡ bad → Appends then new e.script
     → IsEncodedTo known bad old new text
 whole-of known old then new bad text lines e is before ended after =
@@ -69,12 +73,14 @@ all-of known at seen lines e takes last =
     text-as known start (seen ++ []) seen (behind_script lines e) (append-nil seen) (takes [] e last)
 
 -- all was read, and then the last line was taken
-pub IsEncoded-whole : (known : Option Texts) (first now old then new : Option (List ℕ)) (bad : Option EncodeFault) (at : Progress)
+pub IsEncoded-whole : (known : Option Texts) (first now old then new : Option (List ℕ)) (bad : Option EncodeFault)
+    (at : Progress)
     → IsEncoded known first now old then at → IsAtEnd now → IsWritten known bad at then new
     → IfSome first (IsEncodedTo known bad old new)
 IsEncoded-whole known first now old then new bad at x end last =
     Consumes-whole first now x.seen (IsEncodedTo known bad old new) x.read end
-    (whole-of known old then new bad x.seen x.lines last.0 (all-of known at x.seen x.lines last.0 x.takes last.1) x.written
+    (whole-of known old then new bad x.seen x.lines last.0 (all-of known at x.seen x.lines last.0 x.takes last.1)
+    x.written
     last.2 last.3)
 
 -- the last line was written in part
@@ -83,10 +89,12 @@ pub IsEncoded-last_part : (known : Option Texts) (first now old then new : Optio
     → IfSome first (IsEncodedInPart known old new)
 IsEncoded-last_part known first now old then new at x end begun =
     Consumes-whole first now x.seen (IsEncodedInPart known old new) x.read end
-    (begun-of known old then new x.seen x.lines begun.0 (all-of known at x.seen x.lines begun.0 x.takes begun.1) x.written begun.2)
+    (begun-of known old then new x.seen x.lines begun.0 (all-of known at x.seen x.lines begun.0 x.takes begun.1)
+    x.written begun.2)
 
 -- a piece has a bad line
-pub IsEncoded-bad : (known : Option Texts) (first now later old then new : Option (List ℕ)) (at : Progress) (piece lines : List ℕ)
+pub IsEncoded-bad : (known : Option Texts) (first now later old then new : Option (List ℕ)) (at : Progress)
+    (piece lines : List ℕ)
     (fault : EncodeFault) → IsEncoded known first now old then at → Consumes now later piece → Appends then new lines
     → EndsBad known at piece (record { script = lines; bad = Some fault })
     → IfSome first (IsEncodedTo known (Some fault) old new)
@@ -98,7 +106,8 @@ IsEncoded-bad known first now later old then new at piece lines fault x read wri
     (Takes-bad known start at x.seen piece x.lines e x.takes bad more) x.written refl written)
 
 -- a piece was written in part
-pub IsEncoded-part : (known : Option Texts) (first now later old then new : Option (List ℕ)) (at : Progress) (piece : List ℕ)
+pub IsEncoded-part : (known : Option Texts) (first now later old then new : Option (List ℕ)) (at : Progress)
+    (piece : List ℕ)
     → IsEncoded known first now old then at → Consumes now later piece
     → ((more : List ℕ) → IsWrittenInPart known at then new (piece ++ more))
     → IfSome first (IsEncodedInPart known old new)
@@ -112,12 +121,17 @@ IsEncoded-part known first now later old then new at piece x read begun =
     (sym (append_assoc x.seen piece more)) (x.takes (piece ++ more) part.0 part.1)) x.written part.2)
 
 -- something becomes of what follows
-pub rest_becomes : (known : Option Texts) (at : Progress) (text : List ℕ) → (e : Encoding) × BecomesBehind known at text e
-rest_becomes known at text =
-    (encoding_of_lines (some_texts known) at.states at.number (lines_from at.front text), becomes known (lines_from at.front text) at.states at.number)
+pub rest_becomes : (known : Option Texts) (at : Progress) (text : List ℕ)
+    → (e : Encoding) × BecomesBehind known at text e
+rest_becomes known at text = (
+  encoding_of_lines (some_texts known) at.states at.number (lines_from at.front text),
+  becomes known
+      (lines_from at.front text) at.states at.number,
+)
 
 -- it ended where all that was read is written
-pub IsEncoded-begun : (known : Option Texts) (first now old new : Option (List ℕ)) (at : Progress) → IsEncoded known first now old new at
+pub IsEncoded-begun : (known : Option Texts) (first now old new : Option (List ℕ)) (at : Progress)
+    → IsEncoded known first now old new at
     → IfSome first (IsEncodedInPart known old new)
 IsEncoded-begun known first now old new at x =
     known_then first now x.seen (IsEncodedInPart known old new) x.read
@@ -133,22 +147,26 @@ none_written known at held text =
     (rest.0, rest.1, beginning-none held rest.0.script)
 
 -- what a piece's lines become was appended to nothing, and then written
-pub written_whole : (known : Option Texts) (old new : Option (List ℕ)) (a b : Progress) (piece before after written : List ℕ)
+pub written_whole : (known : Option Texts) (old new : Option (List ℕ)) (a b : Progress)
+    (piece before after written : List ℕ)
     → before ≡ [] → written ≡ after → ((lines : List ℕ) × (after ≡ before ++ lines) × Takes known a piece lines b)
     → Appends old new written → (lines : List ℕ) × Appends old new lines × Takes known a piece lines b
 written_whole known old new a b piece before after written empty same t wrote =
     (t.0, subst (Appends old new) (same ∙ t.1 ∙ ap (λ (xs : List ℕ). xs ++ t.0) empty) wrote, t.2)
 
-pub written_bad : (known : Option Texts) (old new : Option (List ℕ)) (a : Progress) (piece before after written : List ℕ) (fault : EncodeFault)
+pub written_bad : (known : Option Texts) (old new : Option (List ℕ)) (a : Progress)
+    (piece before after written : List ℕ) (fault : EncodeFault)
     → before ≡ [] → written ≡ after
-    → ((lines : List ℕ) × (after ≡ before ++ lines) × EndsBad known a piece (record { script = lines; bad = Some fault }))
+    → ((lines : List ℕ) × (after ≡ before ++ lines)
+    × EndsBad known a piece (record { script = lines; bad = Some fault }))
     → Appends old new written
     → (lines : List ℕ) × Appends old new lines × EndsBad known a piece (record { script = lines; bad = Some fault })
 written_bad known old new a piece before after written fault empty same t wrote =
     (t.0, subst (Appends old new) (same ∙ t.1 ∙ ap (λ (xs : List ℕ). xs ++ t.0) empty) wrote, t.2)
 
 -- or was written in part
-pub written_part : (known : Option Texts) (old new : Option (List ℕ)) (a b : Progress) (piece before after written : List ℕ)
+pub written_part : (known : Option Texts) (old new : Option (List ℕ)) (a b : Progress)
+    (piece before after written : List ℕ)
     → before ≡ [] → written ≡ after → ((lines : List ℕ) × (after ≡ before ++ lines) × Takes known a piece lines b)
     → AppendsBeginning old new written → (more : List ℕ) → IsWrittenInPart known a old new (piece ++ more)
 written_part known old new a b piece before after written empty same t begun more =
@@ -165,9 +183,11 @@ written_part known old new a b piece before after written empty same t begun mor
       ),
     )
 
-pub bad_part : (known : Option Texts) (old new : Option (List ℕ)) (a : Progress) (piece before after written : List ℕ) (fault : EncodeFault)
+pub bad_part : (known : Option Texts) (old new : Option (List ℕ)) (a : Progress) (piece before after written : List ℕ)
+    (fault : EncodeFault)
     → before ≡ [] → written ≡ after
-    → ((lines : List ℕ) × (after ≡ before ++ lines) × EndsBad known a piece (record { script = lines; bad = Some fault }))
+    → ((lines : List ℕ) × (after ≡ before ++ lines)
+    × EndsBad known a piece (record { script = lines; bad = Some fault }))
     → AppendsBeginning old new written → (more : List ℕ) → IsWrittenInPart known a old new (piece ++ more)
 bad_part known old new a piece before after written fault empty same t begun more =
     let is : written ≡ t.0 = same ∙ t.1 ∙ ap (λ (xs : List ℕ). xs ++ t.0) empty in
@@ -178,12 +198,14 @@ on_err_of (Ok x) P so = tt
 on_err_of (Err e) P so = so
 
 -- a read that gave nothing came to the end
-pub at_end : (now later : Option (List ℕ)) (bytes : List ℕ) → Consumes now later bytes → bytes ≡ [] → IsAtEnd later → IsAtEnd now
+pub at_end : (now later : Option (List ℕ)) (bytes : List ℕ) → Consumes now later bytes → bytes ≡ [] → IsAtEnd later
+    → IsAtEnd now
 at_end None later bytes read none end = tt
 at_end (Some xs) None bytes read none end = absurd read
 at_end (Some xs) (Some ys) bytes read none end = read ∙ ap (λ (zs : List ℕ). zs ++ ys) none ∙ end
 
-pub read_nothing : {E : Type 0} (r : Result ℕ E) (first now later : Option (List ℕ)) (n : ℕ) (buf : List ℕ) → Consumes first now []
+pub read_nothing : {E : Type 0} (r : Result ℕ E) (first now later : Option (List ℕ)) (n : ℕ) (buf : List ℕ)
+    → Consumes first now []
     → ReadConsumes now later r buf → r ≡ Ok n → n ≡ 0 → 0 < length buf → IsAtEnd first
 read_nothing {E} r first now later n buf none read is zero room =
     let P : Result ℕ E → Type 0 = λ x. ReadConsumes {E = E} now later x buf in
@@ -193,13 +215,15 @@ read_nothing {E} r first now later n buf none read is zero room =
 
 -- what a read answered
 pub end_read : (read : Option ℕ) (now later : Option (List ℕ)) (piece : List ℕ)
-    → MatchOption read (IsAtEnd now) (λ count. (count ≤ length piece) × Consumes now later (take count piece)) → read ≡ None
+    → MatchOption read (IsAtEnd now) (λ count. (count ≤ length piece) × Consumes now later (take count piece))
+    → read ≡ None
     → IsAtEnd now
 end_read None now later piece said is = said
 end_read (Some n) now later piece said is = absurd (cc is)
 
 pub piece_read : (read : Option ℕ) (n : ℕ) (now later : Option (List ℕ)) (piece front : List ℕ)
-    → MatchOption read (IsAtEnd now) (λ count. (count ≤ length piece) × Consumes now later (take count piece)) → read ≡ Some n
+    → MatchOption read (IsAtEnd now) (λ count. (count ≤ length piece) × Consumes now later (take count piece))
+    → read ≡ Some n
     → front ≡ take n piece → Consumes now later front
 piece_read None n now later piece front said is at = absurd (cc is)
 piece_read (Some m) n now later piece front said is at =
@@ -207,27 +231,35 @@ piece_read (Some m) n now later piece front said is at =
     subst (Consumes now later) (ap (λ (k : ℕ). take k piece) same ∙ sym at) said.1
 
 -- on Ok, and on Err, of the last line
-pub whole-on_ok : {T E : Type 0} (known : Option Texts) (r : Result T E) (first now old then new : Option (List ℕ)) (at : Progress)
+pub whole-on_ok : {T E : Type 0} (known : Option Texts) (r : Result T E) (first now old then new : Option (List ℕ))
+    (at : Progress)
     → IsEncoded known first now old then at → IsAtEnd now → OnOk r (IsWritten known None at then new)
     → OnOk r (IfSome first (IsEncodedTo known None old new))
-whole-on_ok known (Ok x) first now old then new at read end last = IsEncoded-whole known first now old then new None at read end last
+whole-on_ok known (Ok x) first now old then new at read end last =
+    IsEncoded-whole known first now old then new None at read end last
 whole-on_ok known (Err e) first now old then new at read end last = tt
 
-pub part-on_err : {T E : Type 0} (known : Option Texts) (r : Result T E) (first now old then new : Option (List ℕ)) (at : Progress)
+pub part-on_err : {T E : Type 0} (known : Option Texts) (r : Result T E) (first now old then new : Option (List ℕ))
+    (at : Progress)
     → IsEncoded known first now old then at → IsAtEnd now → OnErr r (IsWrittenInPart known at then new [])
     → OnErr r (IfSome first (IsEncodedInPart known old new))
 part-on_err known (Ok x) first now old then new at read end last = tt
-part-on_err known (Err e) first now old then new at read end last = IsEncoded-last_part known first now old then new at read end last
+part-on_err known (Err e) first now old then new at read end last =
+    IsEncoded-last_part known first now old then new at read end last
 
 -- a bad last line: nothing came of it
-pub last_bad_whole : (known : Option Texts) (at : Progress) (old new : Option (List ℕ)) (before after written : List ℕ) (fault : EncodeFault)
-    → before ≡ [] → written ≡ after → after ≡ before → BecomesBehind known at [] (record { script = []; bad = Some fault })
+pub last_bad_whole : (known : Option Texts) (at : Progress) (old new : Option (List ℕ)) (before after written : List ℕ)
+    (fault : EncodeFault)
+    → before ≡ [] → written ≡ after → after ≡ before
+    → BecomesBehind known at [] (record { script = []; bad = Some fault })
     → Appends old new written → IsWritten known (Some fault) at old new
 last_bad_whole known at old new before after written fault empty same kept becomes wrote =
     (record { script = []; bad = Some fault }, becomes, refl, subst (Appends old new) (same ∙ kept ∙ empty) wrote)
 
-pub last_bad_part : (known : Option Texts) (at : Progress) (old new : Option (List ℕ)) (before after written : List ℕ) (fault : EncodeFault)
-    → before ≡ [] → written ≡ after → after ≡ before → BecomesBehind known at [] (record { script = []; bad = Some fault })
+pub last_bad_part : (known : Option Texts) (at : Progress) (old new : Option (List ℕ)) (before after written : List ℕ)
+    (fault : EncodeFault)
+    → before ≡ [] → written ≡ after → after ≡ before
+    → BecomesBehind known at [] (record { script = []; bad = Some fault })
     → AppendsBeginning old new written → IsWrittenInPart known at old new []
 last_bad_part known at old new before after written fault empty same kept becomes wrote =
     (record { script = []; bad = Some fault }, becomes, subst (AppendsBeginning old new) (same ∙ kept ∙ empty) wrote)

@@ -15,8 +15,10 @@ use Rattle.njh_encode.specs.declared.line_states.LineState.{LineState}
 use Rattle.njh_io.specs.Lines.{is_first_long, is_long_line, lines_of, max_line_bytes}
 use Rattle.njh_encode.specs.Encoded.{Outcome, line_outcome}
 use Rattle.njh_encode.specs.Posted.{is_of_file}
-use Rattle.njh_encode.specs.Scripts.{AreAnswered, Becomes, BecomesThen, Encoding, LinesBecome, Texts, bad_line, behind_script}
-use Rattle.njh_encode.specs.Scripts.{bytes_taken, encoding_of, encoding_of_lines, file_taken, outcome_in_text, then_lines}
+use Rattle.njh_encode.specs.Scripts.{AreAnswered, Becomes, BecomesThen, Encoding, LinesBecome, Texts, bad_line}
+use Rattle.njh_encode.specs.Scripts.{behind_script}
+use Rattle.njh_encode.specs.Scripts.{bytes_taken, encoding_of, encoding_of_lines, file_taken, outcome_in_text}
+use Rattle.njh_encode.specs.Scripts.{then_lines}
 use Rattle.njh_encode.specs.Scripts.{words_taken}
 
 -- a line that is too long is bad
@@ -40,7 +42,8 @@ abbrev pub answered : Option Texts → Result (List ℕ) LetterFault → Texts
 answered None given = λ name. given
 answered (Some known) given = known
 
-pub are_answered : (known : Option Texts) (given : Result (List ℕ) LetterFault) → AreAnswered known (answered known given)
+pub are_answered : (known : Option Texts) (given : Result (List ℕ) LetterFault)
+    → AreAnswered known (answered known given)
 are_answered None given = tt
 are_answered (Some known) given = refl
 
@@ -83,7 +86,8 @@ pub bad-becomes : (known : Option Texts) (texts : Texts) (states : List LineStat
     (rest : List (List ℕ)) (reason : Reason) → AreAnswered known texts → outcome_in_text texts states line ≡ Err reason
     → LinesBecome known states number (line ∷ rest) (bad_line number reason)
 bad-becomes known texts states number line rest reason may is =
-    let P : Result Outcome Reason → Type 0 = λ o. BecomesThen number o (λ after. LinesBecome known after (number + 1) rest)
+    let P : Result Outcome Reason → Type 0 =
+    λ o. BecomesThen number o (λ after. LinesBecome known after (number + 1) rest)
     (bad_line number reason) in
     (texts, may, subst P (sym is) refl)
 
@@ -108,7 +112,8 @@ text_taken texts states line words same text =
     ap (λ (t : Bool). cond t (words_taken texts states line) (Err NoText)) (is_utf8-from_IsUtf8 line text)
     ∙ ap (words_taken texts states) (sym same)
 
-pub no_text_taken : (texts : Texts) (states : List LineState) (line : List ℕ) → (IsUtf8 line → ⊥) → bytes_taken texts states line ≡ Err NoText
+pub no_text_taken : (texts : Texts) (states : List LineState) (line : List ℕ) → (IsUtf8 line → ⊥)
+    → bytes_taken texts states line ≡ Err NoText
 unfolding bytes_taken
 no_text_taken texts states line broken =
     ap (λ (t : Bool). cond t (words_taken texts states line) (Err NoText))
@@ -119,7 +124,8 @@ no_text_taken texts states line broken =
 then-settles : (number : ℕ) (o : Result Outcome Reason) (behind : List LineState → Encoding → Type 0)
     (next : List LineState → Encoding) → ((states : List LineState) (e : Encoding) → behind states e → e ≡ next states)
     → (e : Encoding) → BecomesThen number o behind e → e ≡ then_lines number o next
-then-settles number (Ok outcome) behind next each e b = b.2 ∙ ap (behind_script outcome.script) (each outcome.states b.0 b.1)
+then-settles number (Ok outcome) behind next each e b =
+    b.2 ∙ ap (behind_script outcome.script) (each outcome.states b.0 b.1)
 then-settles number (Err reason) behind next each e b = b
 
 -- each line becomes the same by all texts by which it may be taken
@@ -127,14 +133,16 @@ abbrev pub IsSettled : (known : Option Texts) (texts : Texts) (line : List ℕ) 
 IsSettled known texts line = (answer : Texts) → AreAnswered known answer → (states : List LineState)
     → outcome_in_text answer states line ≡ outcome_in_text texts states line
 
-settle : (known : Option Texts) (texts : Texts) (lines : List (List ℕ)) (states : List LineState) (number : ℕ) (e : Encoding)
+settle : (known : Option Texts) (texts : Texts) (lines : List (List ℕ)) (states : List LineState) (number : ℕ)
+    (e : Encoding)
     → AllByRecursion (IsSettled known texts) lines → LinesBecome known states number lines e
     → e ≡ encoding_of_lines texts states number lines
 settle known texts [] states number e each b = b
 settle known texts (line ∷ lines) states number e each b =
     let Behind : List LineState → Encoding → Type 0 = λ after. LinesBecome known after (number + 1) lines in
     let P : Result Outcome Reason → Type 0 = λ o. BecomesThen number o Behind e in
-    then-settles number (outcome_in_text texts states line) Behind (λ after. encoding_of_lines texts after (number + 1) lines)
+    then-settles number (outcome_in_text texts states line) Behind
+    (λ after. encoding_of_lines texts after (number + 1) lines)
     (λ after rest r. settle known texts lines after (number + 1) rest each.1 r) e (subst P (each.0 b.0 b.1 states) b.2)
 
 -- texts that are known
@@ -143,7 +151,8 @@ known-each texts [] = tt
 known-each texts (line ∷ lines) =
     (λ answer is states. ap (λ (t : Texts). outcome_in_text t states line) is, known-each texts lines)
 
-pub known_settles : (texts : Texts) (text : List ℕ) (e : Encoding) → Becomes (Some texts) text e → e ≡ encoding_of texts text
+pub known_settles : (texts : Texts) (text : List ℕ) (e : Encoding) → Becomes (Some texts) text e
+    → e ≡ encoding_of texts text
 known_settles texts text e b = settle (Some texts) texts (lines_of text) [] 1 e (known-each texts (lines_of text)) b
 
 -- lines that say no file
@@ -153,7 +162,8 @@ unfolding words_taken
 no-file-words texts states line none =
     ap (λ (t : Bool). cond t (file_taken texts states line) (line_outcome states line)) none
 
-no-file-line : (known : Option Texts) (texts : Texts) (line : List ℕ) → is_of_file line ≡ false → IsSettled known texts line
+no-file-line : (known : Option Texts) (texts : Texts) (line : List ℕ) → is_of_file line ≡ false
+    → IsSettled known texts line
 unfolding outcome_in_text bytes_taken
 no-file-line known texts line none answer may states =
     ap (λ (w : Result Outcome Reason). cond (is_long_line line) (Err LongLine) (cond (is_utf8 line) w (Err NoText)))
@@ -162,9 +172,11 @@ no-file-line known texts line none answer may states =
 no-file-each : (known : Option Texts) (texts : Texts) (lines : List (List ℕ))
     → AllByRecursion (λ line. is_of_file line ≡ false) lines → AllByRecursion (IsSettled known texts) lines
 no-file-each known texts [] none = tt
-no-file-each known texts (line ∷ lines) none = (no-file-line known texts line none.0, no-file-each known texts lines none.1)
+no-file-each known texts (line ∷ lines) none =
+    (no-file-line known texts line none.0, no-file-each known texts lines none.1)
 
 pub no_file_settles : (known : Option Texts) (texts : Texts) (text : List ℕ) (e : Encoding)
     → All (λ line. is_of_file line ≡ false) (lines_of text) → Becomes known text e → e ≡ encoding_of texts text
 no_file_settles known texts text e none b =
-    settle known texts (lines_of text) [] 1 e (no-file-each known texts (lines_of text) (recursion_from_All _ (lines_of text) none)) b
+    settle known texts (lines_of text) [] 1 e
+    (no-file-each known texts (lines_of text) (recursion_from_All _ (lines_of text) none)) b

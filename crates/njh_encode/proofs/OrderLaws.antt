@@ -11,7 +11,10 @@ order-cond : (t : Bool) (state : LineState) (begun : List Item) (i : Item) (is :
     → items_of_blocks (packed state (begun ++ i ∷ []) is) ≡ (begun ++ i ∷ []) ++ is
     → items_of_blocks (packed (counted state) (i ∷ []) is) ≡ i ∷ is
     → items_of_blocks
-    (elim t [ true ↦ packed state (begun ++ i ∷ []) is | false ↦ block_of state begun ∷ packed (counted state) (i ∷ []) is ])
+    (elim t [
+      | true ↦ packed state (begun ++ i ∷ []) is
+      | false ↦ block_of state begun ∷ packed (counted state) (i ∷ []) is
+    ])
     ≡ begun ++ i ∷ is
 order-cond true state begun i is fits next = fits ∙ append_assoc begun (i ∷ []) is
 order-cond false state begun i is fits next =
@@ -19,7 +22,8 @@ order-cond false state begun i is fits next =
     ∙ ap (λ (xs : List Item). begun ++ xs) next
 
 -- those of the block that is open come first
-pub packed_order : (is : List Item) (state : LineState) (begun : List Item) → items_of_blocks (packed state begun is) ≡ begun ++ is
+pub packed_order : (is : List Item) (state : LineState) (begun : List Item)
+    → items_of_blocks (packed state begun is) ≡ begun ++ is
 packed_order [] state begun = flat_map-cons (λ (b : Block). b.items) (block_of state begun) []
 packed_order (i ∷ is) state begun =
     order-cond (has_room (writing_on state begun) i) state begun i is (packed_order is state (begun ++ i ∷ []))

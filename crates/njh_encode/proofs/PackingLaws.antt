@@ -9,7 +9,8 @@ use Rattle.njh_encode.specs.LineStates.{counted}
 use Rattle.njh_encode.specs.Packing.{block_of, blocks_script, counted_by, packed, writing_on}
 use Rattle.njh_encode.specs.code.Puts.{OpenBlock, Puts}
 
-pub counted_by-append : (xs ys : List Block) (state : LineState) → counted_by (xs ++ ys) state ≡ counted_by ys (counted_by xs state)
+pub counted_by-append : (xs ys : List Block) (state : LineState)
+    → counted_by (xs ++ ys) state ≡ counted_by ys (counted_by xs state)
 counted_by-append [] ys state = refl
 counted_by-append (x ∷ xs) ys state = counted_by-append xs ys (counted state)
 
@@ -17,7 +18,8 @@ pub Puts-none : (name : List ℕ) (at : OpenBlock) (script : List ℕ) → Puts 
 Puts-none name at script = record { full = []; blocks = λ next. refl; counts = refl; lines = sym (append-nil script) }
 
 -- records, and then others
-pub Puts-then : (name : List ℕ) (a b c : OpenBlock) (xs ys : List Item) (s t u : List ℕ) → Puts name a xs b s t → Puts name b ys c t u
+pub Puts-then : (name : List ℕ) (a b c : OpenBlock) (xs ys : List Item) (s t u : List ℕ) → Puts name a xs b s t
+    → Puts name b ys c t u
     → Puts name a (xs ++ ys) c s u
 Puts-then name a b c xs ys s t u x y = record {
   full = x.full ++ y.full;
@@ -34,11 +36,15 @@ Puts-then name a b c xs ys s t u x y = record {
 }
 
 -- a record that has room
-pub Puts-fits : (name : List ℕ) (a : OpenBlock) (item : Item) (script : List ℕ) → has_room (writing_on a.state a.items) item ≡ true
+pub Puts-fits : (name : List ℕ) (a : OpenBlock) (item : Item) (script : List ℕ)
+    → has_room (writing_on a.state a.items) item ≡ true
     → Puts name a (item ∷ []) (record a { items = a.items ++ item ∷ [] }) script script
 Puts-fits name a item script room = record {
   full = [];
-  blocks = λ next. ap (λ (t : Bool). elim t [ true ↦ packed a.state (a.items ++ item ∷ []) next | false ↦ block_of a.state a.items ∷ packed (counted a.state) (item ∷ []) next ]) room;
+  blocks = λ next. ap (λ (t : Bool). elim t [
+    | true ↦ packed a.state (a.items ++ item ∷ []) next
+    | false ↦ block_of a.state a.items ∷ packed (counted a.state) (item ∷ []) next
+  ]) room;
   counts = refl;
   lines = sym (append-nil script);
 }
@@ -50,7 +56,10 @@ pub Puts-next : (name : List ℕ) (a : OpenBlock) (item : Item) (script grown : 
     → Puts name a (item ∷ []) (record { state = counted a.state; items = item ∷ [] }) script grown
 Puts-next name a item script grown none is = record {
   full = block_of a.state a.items ∷ [];
-  blocks = λ next. ap (λ (t : Bool). elim t [ true ↦ packed a.state (a.items ++ item ∷ []) next | false ↦ block_of a.state a.items ∷ packed (counted a.state) (item ∷ []) next ]) none;
+  blocks = λ next. ap (λ (t : Bool). elim t [
+    | true ↦ packed a.state (a.items ++ item ∷ []) next
+    | false ↦ block_of a.state a.items ∷ packed (counted a.state) (item ∷ []) next
+  ]) none;
   counts = refl;
   lines = is;
 }

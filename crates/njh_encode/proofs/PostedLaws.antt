@@ -16,8 +16,10 @@ use Rattle.njh_encode.specs.Characters.{bytes_of_text}
 use Rattle.njh_encode.specs.Encoded.{bytes_line, bytes_of_frame, frame_of_block, next_block}
 use Rattle.njh_encode.specs.LineStates.{counted}
 use Rattle.njh_io.specs.Lines.{lines_of}
-use Rattle.njh_encode.specs.Packing.{block_of, blocks_script, counted_by, data_set_record, file_blocks, file_items, job_record}
-use Rattle.njh_encode.specs.Packing.{onto_records, packed, record_of_line, records_of, sysout, then_records, trailer_record}
+use Rattle.njh_encode.specs.Packing.{block_of, blocks_script, counted_by, data_set_record, file_blocks, file_items}
+use Rattle.njh_encode.specs.Packing.{job_record}
+use Rattle.njh_encode.specs.Packing.{onto_records, packed, record_of_line, records_of, sysout, then_records}
+use Rattle.njh_encode.specs.Packing.{trailer_record}
 use Rattle.njh_encode.specs.code.Puts.{OpenBlock, Puts}
 use Rattle.njh_encode.proofs.PackingLaws.{counted_by-append, Puts-none, Puts-then}
 
@@ -38,14 +40,16 @@ pub record_text : (line text : List ℕ) → 0 < length line → text ≡ line �
     → record_of_line line ≡ bytes_of_text 256 text
 unfolding record_of_line
 record_text line text some same utf8 =
-    ap (λ (t : Bool). cond t (Ok (0x40 ∷ [])) (cond (is_utf8 line) (bytes_of_text 256 line) (Err NoText))) (some_bytes line some)
+    ap (λ (t : Bool). cond t (Ok (0x40 ∷ [])) (cond (is_utf8 line) (bytes_of_text 256 line) (Err NoText)))
+    (some_bytes line some)
     ∙ ap (λ (t : Bool). cond t (bytes_of_text 256 line) (Err NoText)) (is_utf8-from_IsUtf8 line utf8)
     ∙ ap (bytes_of_text 256) (sym same)
 
 pub record_no_text : (line : List ℕ) → 0 < length line → (IsUtf8 line → ⊥) → record_of_line line ≡ Err NoText
 unfolding record_of_line
 record_no_text line some broken =
-    ap (λ (t : Bool). cond t (Ok (0x40 ∷ [])) (cond (is_utf8 line) (bytes_of_text 256 line) (Err NoText))) (some_bytes line some)
+    ap (λ (t : Bool). cond t (Ok (0x40 ∷ [])) (cond (is_utf8 line) (bytes_of_text 256 line) (Err NoText)))
+    (some_bytes line some)
     ∙ ap (λ (t : Bool). cond t (bytes_of_text 256 line) (Err NoText))
     (false_from_ne_true _ (λ text. broken (IsUtf8-from_is_utf8 line text)))
 
@@ -70,16 +74,19 @@ front_records-ok [] ys = refl
 front_records-ok (x ∷ xs) ys = ap (onto_records x) (front_records-ok xs ys)
 
 -- how far a text was put
-abbrev pub IsPutUpTo : (name text : List ℕ) (first : OpenBlock) (script left : List ℕ) (at : OpenBlock) (grown : List ℕ) → Type 0
+abbrev pub IsPutUpTo : (name text : List ℕ) (first : OpenBlock) (script left : List ℕ) (at : OpenBlock) (grown : List ℕ)
+    → Type 0
 IsPutUpTo name text first script left at grown = (records : List (List ℕ))
     × (records_of (lines_of text) ≡ front_records records (records_of (lines_of left)))
     × Puts name first (map (sysout 0x80) records) at script grown
 
-pub put-none : (name text : List ℕ) (first : OpenBlock) (script : List ℕ) → IsPutUpTo name text first script text first script
+pub put-none : (name text : List ℕ) (first : OpenBlock) (script : List ℕ)
+    → IsPutUpTo name text first script text first script
 put-none name text first script = ([], refl, Puts-none name first script)
 
 -- a line more
-pub put-line : (name text : List ℕ) (first : OpenBlock) (script left : List ℕ) (b c : OpenBlock) (t u line behind : List ℕ)
+pub put-line : (name text : List ℕ) (first : OpenBlock) (script left : List ℕ) (b c : OpenBlock)
+    (t u line behind : List ℕ)
     → IsPutUpTo name text first script left b t → lines_of left ≡ line ∷ lines_of behind
     → ((bytes : List ℕ) × (record_of_line line ≡ Ok bytes) × Puts name b (sysout 0x80 bytes ∷ []) c t u)
     → IsPutUpTo name text first script behind c u
@@ -96,7 +103,8 @@ put-line name text first script left b c t u line behind x parts r =
     )
 
 -- a bad line
-pub put-bad : (name text : List ℕ) (first : OpenBlock) (script left : List ℕ) (b : OpenBlock) (t line behind : List ℕ) (reason : Reason)
+pub put-bad : (name text : List ℕ) (first : OpenBlock) (script left : List ℕ) (b : OpenBlock) (t line behind : List ℕ)
+    (reason : Reason)
     → IsPutUpTo name text first script left b t → lines_of left ≡ line ∷ lines_of behind
     → record_of_line line ≡ Err reason → records_of (lines_of text) ≡ Err reason
 put-bad name text first script left b t line behind reason x parts bad =
@@ -119,11 +127,13 @@ put-all name text first script left b t x none = (
 -- ---- a file
 
 -- the blocks of a file, by what was put record by record
-pub record IsPosted (name : List ℕ) (state : LineState) (p : Posting) (lines : List (List ℕ)) (after : LineState) (script grown : List ℕ) : Type 0 where
+pub record IsPosted (name : List ℕ) (state : LineState) (p : Posting) (lines : List (List ℕ)) (after : LineState)
+    (script grown : List ℕ) : Type 0 where
   pub text : grown ≡ script ++ blocks_script name (file_blocks state p lines)
   pub counts : after ≡ counted_by (file_blocks state p lines) state
 
-pub posted-of : (name : List ℕ) (state : LineState) (p : Posting) (lines : List (List ℕ)) (last : OpenBlock) (a b c script : List ℕ)
+pub posted-of : (name : List ℕ) (state : LineState) (p : Posting) (lines : List (List ℕ)) (last : OpenBlock)
+    (a b c script : List ℕ)
     → a ≡ script ++ blocks_script name (next_block state (Control 0x90 0x99) ∷ [])
     → Puts name (record { state = counted state; items = [] }) (file_items p lines) last a b
     → c ≡ b ++ blocks_script name (block_of last.state last.items ∷ [])
@@ -142,15 +152,18 @@ posted-of name state p lines last a b c script begun put end =
           ∙ append_assoc (script ++ lines_of_blocks (request ∷ [])) (lines_of_blocks put.full) (lines_of_blocks final)
           ∙ append_assoc script (lines_of_blocks (request ∷ [])) (lines_of_blocks put.full ++ lines_of_blocks final)
           ∙ ap (λ (s : List ℕ). script ++ s)
-          (ap (λ (s : List ℕ). lines_of_blocks (request ∷ []) ++ s) (sym (flat_map-append (λ (b : Block). bytes_line name (bytes_of_frame (frame_of_block b))) put.full final))
-          ∙ sym (flat_map-append (λ (b : Block). bytes_line name (bytes_of_frame (frame_of_block b))) (request ∷ []) (put.full ++ final)) ∙ ap lines_of_blocks (sym all));
+          (ap (λ (s : List ℕ). lines_of_blocks (request ∷ []) ++ s)
+          (sym (flat_map-append (λ (b : Block). bytes_line name (bytes_of_frame (frame_of_block b))) put.full final))
+          ∙ sym (flat_map-append (λ (b : Block). bytes_line name (bytes_of_frame (frame_of_block b))) (request ∷ [])
+          (put.full ++ final)) ∙ ap lines_of_blocks (sym all));
       counts =
           ap counted put.counts ∙ sym (counted_by-append put.full final (counted state))
           ∙ ap (λ (bs : List Block). counted_by bs state) (sym all);
     }
 
 -- on Err, from another refusal
-pub if_err_from : {T : Type 0} (r : Result T Reason) (P Q : Reason → Type 0) → ((e : Reason) → P e → Q e) → IfErr r P → IfErr r Q
+pub if_err_from : {T : Type 0} (r : Result T Reason) (P Q : Reason → Type 0) → ((e : Reason) → P e → Q e) → IfErr r P
+    → IfErr r Q
 if_err_from (Ok x) P Q step holds = tt
 if_err_from (Err e) P Q step holds = step e holds
 
@@ -172,12 +185,15 @@ pub posted-all : (name : List ℕ) (state : LineState) (p : Posting) (lines : Li
     → g ≡ record { state = counted f.state; items = [] } → after ≡ g.state → IsPosted name state p lines after script s6
 posted-all name state p lines job data_set a b c d e f g after script s0 s1 s2 s3 s4 s5 s6 begun first job_is set_is
     put_job put_set put_lines put_trailer put_end end last after_is =
-    let ending = Puts-then name d e f (sysout 0xd0 trailer_record ∷ []) (sysout 0x80 [] ∷ []) s3 s4 s5 put_trailer put_end in
-    let body = Puts-then name c d f (map (sysout 0x80) lines) (sysout 0xd0 trailer_record ∷ sysout 0x80 [] ∷ []) s2 s3 s5 put_lines ending in
+    let ending = Puts-then name d e f (sysout 0xd0 trailer_record ∷ []) (sysout 0x80 [] ∷ []) s3 s4 s5 put_trailer
+    put_end in
+    let body = Puts-then name c d f (map (sysout 0x80) lines) (sysout 0xd0 trailer_record ∷ sysout 0x80 [] ∷ []) s2 s3
+    s5 put_lines ending in
     let P : List ℕ → Type 0 = λ bytes. Puts name b (sysout 0xe0 bytes ∷ []) c s1 s2 in
     let Q : List ℕ → Type 0 = λ bytes. Puts name a (sysout 0xc0 bytes ∷ []) b s0 s1 in
     let with_set = Puts-then name b c f (sysout 0xe0 (data_set_record p) ∷ [])
-    (map (sysout 0x80) lines ++ sysout 0xd0 trailer_record ∷ sysout 0x80 [] ∷ []) s1 s2 s5 (subst P set_is put_set) body in
+    (map (sysout 0x80) lines ++ sysout 0xd0 trailer_record ∷ sysout 0x80 [] ∷ []) s1 s2 s5 (subst P set_is put_set) body
+    in
     let whole = Puts-then name a b f (sysout 0xc0 (job_record p) ∷ [])
     (sysout 0xe0 (data_set_record p) ∷ map (sysout 0x80) lines ++ sysout 0xd0 trailer_record ∷ sysout 0x80 [] ∷ [])
     s0 s1 s5 (subst Q job_is put_job) with_set in

@@ -1,5 +1,6 @@
 -- What the texts of packed blocks read as.
-use Rattle.std.proofs.Common.{◌≡◌, ℕ, ◌+◌, ◌%◌, ◌<◌, Bool, true, false, List, [], ◌∷◌, ◌++◌, refl, ap, ◌∙◌, arith, Ok, IsTrue}
+use Rattle.std.proofs.Common.{◌≡◌, ℕ, ◌+◌, ◌%◌, ◌<◌, Bool, true, false, List, [], ◌∷◌, ◌++◌, refl, ap, ◌∙◌, arith, Ok}
+use Rattle.std.proofs.Common.{IsTrue}
 use Rattle.std.specs.List.{All, AllByRecursion}
 use Rattle.std.proofs.lemmas.Bool.{le-leb, lt-ltb}
 use Rattle.std.proofs.lemmas.List.Elements.{All-append, All-cons, All-nil, recursion_from_All}
@@ -37,23 +38,30 @@ good-bcb n below =
     let high = lt-ltb (0x80 + n) 0xb0 (omega (arith, below)) in
     rw (low, high) refl
 
-block-reads : ReadsBack → (state : LineState) (begun : List Item) → All IsData begun → ReadsItself (block_of state begun)
+block-reads : ReadsBack → (state : LineState) (begun : List Item) → All IsData begun
+    → ReadsItself (block_of state begun)
 block-reads law state begun each =
     let all = recursion_from_All IsData begun each in
-    law (0x80 + state.count % 16) (0x8f, 0xcf) begun (good-bcb (state.count % 16) (mod_below state.count 16 (omega arith))) refl
+    law (0x80 + state.count % 16) (0x8f, 0xcf) begun
+    (good-bcb (state.count % 16) (mod_below state.count 16 (omega arith))) refl
     (are-written begun all)
-    ∙ ap (λ (items : List Item). Ok (record { bcb = 0x80 + state.count % 16; fcs = (0x8f, 0xcf); items = items })) (same-back begun all)
+    ∙ ap (λ (items : List Item). Ok (record { bcb = 0x80 + state.count % 16; fcs = (0x8f, 0xcf); items = items }))
+    (same-back begun all)
 
 reads-cond : (t : Bool) (state : LineState) (begun : List Item) (i : Item) (is : List Item)
     → All ReadsItself (packed state (begun ++ i ∷ []) is) → ReadsItself (block_of state begun)
     → All ReadsItself (packed (counted state) (i ∷ []) is)
     → All ReadsItself
-    (elim t [ true ↦ packed state (begun ++ i ∷ []) is | false ↦ block_of state begun ∷ packed (counted state) (i ∷ []) is ])
+    (elim t [
+      | true ↦ packed state (begun ++ i ∷ []) is
+      | false ↦ block_of state begun ∷ packed (counted state) (i ∷ []) is
+    ])
 reads-cond true state begun i is fits this next = fits
 reads-cond false state begun i is fits this next =
     All-cons ReadsItself (block_of state begun) (packed (counted state) (i ∷ []) is) this next
 
-pub packed_reads : ReadsBack → (is : List Item) (state : LineState) (begun : List Item) → AllByRecursion IsData is → All IsData begun
+pub packed_reads : ReadsBack → (is : List Item) (state : LineState) (begun : List Item) → AllByRecursion IsData is
+    → All IsData begun
     → All ReadsItself (packed state begun is)
 packed_reads law [] state begun each held =
     All-cons ReadsItself (block_of state begun) [] (block-reads law state begun held) (All-nil ReadsItself)

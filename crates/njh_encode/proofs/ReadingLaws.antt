@@ -9,19 +9,22 @@ use Rattle.njh_encode.specs.declared.fault.Reason.TheVariants.{LongLine}
 use Rattle.njh_encode.specs.declared.line_states.LineState.{LineState}
 use Rattle.njh_encode.specs.Encoded.{IsDone, Outcome}
 use Rattle.njh_io.specs.Lines.{is_first_long, lines_from, lines_of}
-use Rattle.njh_encode.specs.Scripts.{AreAnswered, BecomesThen, Encoding, LinesBecome, Texts, behind_script, outcome_in_text}
+use Rattle.njh_encode.specs.Scripts.{AreAnswered, BecomesThen, Encoding, LinesBecome, Texts, behind_script}
+use Rattle.njh_encode.specs.Scripts.{outcome_in_text}
 use Rattle.njh_encode.specs.code.Reading.{BecomesBehind, EndsBad, IsBadLine, Progress, Takes, TakesLine}
 use Rattle.njh_encode.proofs.LineLaws.{long-first}
 
 -- ---- one line
 
 -- it was taken
-abbrev pub IsLineTaken : (known : Option Texts) (states after : List LineState) (number : ℕ) (line script grown : List ℕ) → Type 0
+abbrev pub IsLineTaken : (known : Option Texts) (states after : List LineState) (number : ℕ)
+    (line script grown : List ℕ) → Type 0
 IsLineTaken known states after number line script grown = (lines : List ℕ) × (grown ≡ script ++ lines)
     × ((rest : List (List ℕ)) (e : Encoding) → LinesBecome known after (number + 1) rest e
     → LinesBecome known states number (line ∷ rest) (behind_script lines e))
 
-line-of : (known : Option Texts) (texts : Texts) (states after : List LineState) (number : ℕ) (line script grown : List ℕ)
+line-of : (known : Option Texts) (texts : Texts) (states after : List LineState) (number : ℕ)
+    (line script grown : List ℕ)
     (outcome : Result Outcome Reason) → AreAnswered known texts → outcome_in_text texts states line ≡ outcome
     → IsDone outcome after script grown → IsLineTaken known states after number line script grown
 line-of known texts states after number line script grown (Err reason) may is done = absurd done
@@ -35,7 +38,8 @@ line-of known texts states after number line script grown (Ok outcome) may is do
       (texts, may, subst P (sym is) (e, subst Q done.kept b, refl)),
 )
 
-pub line_taken : (known : Option Texts) (texts : Texts) (states after : List LineState) (number : ℕ) (line script grown : List ℕ)
+pub line_taken : (known : Option Texts) (texts : Texts) (states after : List LineState) (number : ℕ)
+    (line script grown : List ℕ)
     → AreAnswered known texts → IsDone (outcome_in_text texts states line) after script grown
     → IsLineTaken known states after number line script grown
 line_taken known texts states after number line script grown may done =
@@ -50,23 +54,27 @@ last-line (b ∷ bs) some = refl
 -- the same text, put otherwise
 pub text-as : (known : Option Texts) (at : Progress) (a b : List ℕ) (e : Encoding) → a ≡ b → BecomesBehind known at a e
     → BecomesBehind known at b e
-text-as known at a b e same becomes = let P : List ℕ → Type 0 = λ text. BecomesBehind known at text e in subst P same becomes
+text-as known at a b e same becomes = let P : List ℕ → Type 0 =
+    λ text. BecomesBehind known at text e in subst P same becomes
 
 -- nothing was read
 pub Takes-none : (known : Option Texts) (at : Progress) → Takes known at [] [] at
 Takes-none known at = λ more e b. b
 
 -- a piece, and then the next
-pub Takes-then : (known : Option Texts) (a b c : Progress) (piece next lines others : List ℕ) → Takes known a piece lines b
+pub Takes-then : (known : Option Texts) (a b c : Progress) (piece next lines others : List ℕ)
+    → Takes known a piece lines b
     → Takes known b next others c → Takes known a (piece ++ next) (lines ++ others) c
 Takes-then known a b c piece next lines others x y = λ more e z.
-    let Q : List ℕ → Type 0 = λ script. BecomesBehind known a ((piece ++ next) ++ more) (record { script = script; bad = e.bad }) in
+    let Q : List ℕ → Type 0 = λ script. BecomesBehind known a ((piece ++ next) ++ more)
+    (record { script = script; bad = e.bad }) in
     subst Q (sym (append_assoc lines others e.script))
     (text-as known a (piece ++ (next ++ more)) ((piece ++ next) ++ more) (behind_script lines (behind_script others e))
     (sym (append_assoc piece next more)) (x (next ++ more) (behind_script others e) (y more e z)))
 
 -- a piece, and then one with a bad line
-pub Takes-bad : (known : Option Texts) (a b : Progress) (piece next lines : List ℕ) (e : Encoding) → Takes known a piece lines b
+pub Takes-bad : (known : Option Texts) (a b : Progress) (piece next lines : List ℕ) (e : Encoding)
+    → Takes known a piece lines b
     → EndsBad known b next e → EndsBad known a (piece ++ next) (behind_script lines e)
 Takes-bad known a b piece next lines e x y = λ more.
     text-as known a (piece ++ (next ++ more)) ((piece ++ next) ++ more) (behind_script lines e)
@@ -82,16 +90,19 @@ known_then (Some xs) (Some ys) seen P taken holds = subst P (sym taken) (holds y
 -- ---- how far a piece was read
 
 -- What was taken of it became these lines of a script, and what is left comes behind what was kept.
-abbrev pub IsReadUpTo : (known : Option Texts) (a : Progress) (piece old_script left script : List ℕ) (b : Progress) → Type 0
+abbrev pub IsReadUpTo : (known : Option Texts) (a : Progress) (piece old_script left script : List ℕ) (b : Progress)
+    → Type 0
 IsReadUpTo known a piece old_script left script b = (lines : List ℕ) × (script ≡ old_script ++ lines)
     × ((more : List ℕ) (e : Encoding) → BecomesBehind known b (left ++ more) e
     → BecomesBehind known a (piece ++ more) (behind_script lines e))
 
-pub read-none : (known : Option Texts) (a : Progress) (piece script : List ℕ) → IsReadUpTo known a piece script piece script a
+pub read-none : (known : Option Texts) (a : Progress) (piece script : List ℕ)
+    → IsReadUpTo known a piece script piece script a
 read-none known a piece script = ([], sym (append-nil script), λ more e b. b)
 
 -- the same lines, put otherwise
-become-as : (known : Option Texts) (s t : List LineState) (m n : ℕ) (xs ys : List (List ℕ)) (e : Encoding) → s ≡ t → m ≡ n
+become-as : (known : Option Texts) (s t : List LineState) (m n : ℕ) (xs ys : List (List ℕ)) (e : Encoding) → s ≡ t
+    → m ≡ n
     → xs ≡ ys → LinesBecome known s m xs e → LinesBecome known t n ys e
 become-as known s t m n xs ys e states number lines becomes =
     let S : List LineState → Type 0 = λ s. LinesBecome known s m xs e in
@@ -137,11 +148,13 @@ read-all known a b kept piece old_script left script x line same = (
 )
 
 -- up to a bad line
-abbrev pub IsBadIn : (known : Option Texts) (a : Progress) (piece old_script new_script : List ℕ) (fault : EncodeFault) → Type 0
+abbrev pub IsBadIn : (known : Option Texts) (a : Progress) (piece old_script new_script : List ℕ) (fault : EncodeFault)
+    → Type 0
 IsBadIn known a piece old_script new_script fault = (lines : List ℕ) × (new_script ≡ old_script ++ lines)
     × EndsBad known a piece (record { script = lines; bad = Some fault })
 
-bad-in : (known : Option Texts) (a b : Progress) (piece old_script left script new_script : List ℕ) (fault : EncodeFault)
+bad-in : (known : Option Texts) (a b : Progress) (piece old_script left script new_script : List ℕ)
+    (fault : EncodeFault)
     → IsReadUpTo known a piece old_script left script b → new_script ≡ script
     → ((more : List ℕ) → BecomesBehind known b (left ++ more) (record { script = []; bad = Some fault }))
     → IsBadIn known a piece old_script new_script fault
@@ -172,7 +185,8 @@ read-bad known a b kept piece old_script left script behind new_script fault x l
     bad-in known a b piece old_script left script new_script fault x grown
     (λ more.
     become-as known kept.states b.states kept.number b.number (kept.front ∷ lines_of (behind ++ more))
-    (lines_from b.front (left ++ more)) (record { script = []; bad = Some fault }) same.states same.number (sym (line more))
+    (lines_from b.front (left ++ more)) (record { script = []; bad = Some fault }) same.states same.number
+    (sym (line more))
     (bad (lines_of (behind ++ more))))
 
 -- the last line, which has no end of its own
@@ -182,18 +196,22 @@ last-text known at e some becomes =
     let P : List (List ℕ) → Type 0 = λ lines. LinesBecome known at.states at.number lines e in
     subst P (sym (last-line at.front some)) becomes
 
-pub last-taken : {T E : Type 0} (known : Option Texts) (r : Result T E) (at new : Progress) (script grown : List ℕ) → 0 < length at.front
+pub last-taken : {T E : Type 0} (known : Option Texts) (r : Result T E) (at new : Progress) (script grown : List ℕ)
+    → 0 < length at.front
     → OnOk r ((lines : List ℕ) × (grown ≡ script ++ lines) × TakesLine known at at.front lines new)
-    → OnOk r ((lines : List ℕ) × (grown ≡ script ++ lines) × BecomesBehind known at [] (record { script = lines; bad = None }))
+    → OnOk r ((lines : List ℕ) × (grown ≡ script ++ lines)
+    × BecomesBehind known at [] (record { script = lines; bad = None }))
 last-taken known (Err e) at new script grown some t = tt
 last-taken known (Ok x) at new script grown some t =
-    let P : List ℕ → Type 0 = λ lines. LinesBecome known at.states at.number (at.front ∷ []) (record { script = lines; bad = None }) in (
+    let P : List ℕ → Type 0 = λ lines. LinesBecome known at.states at.number (at.front ∷ [])
+    (record { script = lines; bad = None }) in (
       t.0,
       t.1,
       last-text known at (record { script = t.0; bad = None }) some
           (subst P (append-nil t.0) (t.2 [] (record { script = []; bad = None }) refl)),
     )
 
-pub last-bad : (known : Option Texts) (at : Progress) (e : Encoding) → 0 < length at.front → IsBadLine known at at.front e
+pub last-bad : (known : Option Texts) (at : Progress) (e : Encoding) → 0 < length at.front
+    → IsBadLine known at at.front e
     → BecomesBehind known at [] e
 last-bad known at e some bad = last-text known at e some (bad [])

@@ -30,7 +30,8 @@ unfoldable pub posting_in : List ℕ → Option Posting
 posting_in text =
     let file = first_word (front 44 text) in
     option_and_then
-    (λ origin. option_and_then (λ number. posting_from origin number (behind (front 44 text))) (number_in (back 46 file)))
+    (λ origin. option_and_then (λ number. posting_from origin number (behind (front 44 text)))
+    (number_in (back 46 file)))
     (name_in (front 46 file))
 
 -- behind the comma: a text's name, which has one byte at least

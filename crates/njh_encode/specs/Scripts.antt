@@ -44,7 +44,8 @@ posted_of states field name p (Ok letter) = posted states field name p (records_
 posted_of states field name p (Err fault) = Err (reason_of fault)
 
 -- by its words: what stands before the comma, and the text behind it
-abbrev pub posted_by : Texts → List LineState → List ℕ → List ℕ → Option Posting → Option (List ℕ) → Result Outcome Reason
+abbrev pub posted_by : Texts → List LineState → List ℕ → List ℕ → Option Posting → Option (List ℕ)
+    → Result Outcome Reason
 posted_by texts states field name None letter = Err NoFile
 posted_by texts states field name (Some p) None = Err NoFile
 posted_by texts states field name (Some p) (Some letter) = posted_of states field name p (texts letter)

@@ -11,8 +11,8 @@ use crate::words::{LINE_NAME, is_name, line_of, next_word, parted};
 use std::alloc::{AllocError, Global};
 use std::marker::Model;
 
-/// What is kept of each line of the hub while a script is encoded: the count of its next block, and the size that it
-/// signed on with.
+/// What is kept of each line of the hub while a script is encoded: the count of its next block, and
+/// the size that it signed on with.
 #[derive(Drop)]
 pub struct Encoder {
     states: Vec<LineState>,
@@ -43,19 +43,19 @@ impl Encoder {
         }
     }
 
-    /// Takes a line of words, without its end, and appends what it becomes to the script. After a refusal nothing has
-    /// changed, but where memory was refused.
+    /// Takes a line of words, without its end, and appends what it becomes to the script. After a
+    /// refusal nothing has changed, but where memory was refused.
     pub fn take_line(&mut self, line: &str, script: &mut Vec<u8>) -> Result<(), Reason>
-        // What is appended, and what is then kept of each line, are as the definitions have it; or the line is refused
-        // for the reason that they have.
+        // What is appended, and what is then kept of each line, are as the definitions have it; or
+        // the line is refused for the reason that they have.
         ensures { IsAppended result (line_outcome self.old line.now) self.old self.new script.old.items
             script.new.items }
     {
         put_any_line(line, &mut self.states, script)
     }
 
-    /// Appends the lines of a file on a line of the hub with this name, and keeps its count. The file has the lines of
-    /// a text.
+    /// Appends the lines of a file on a line of the hub with this name, and keeps its count. The
+    /// file has the lines of a text.
     pub(crate) fn take_file(
         &mut self,
         field: [u8; LINE_NAME],

@@ -10,7 +10,8 @@ pub enum Reason {
     /// What stands left of the colon isn't 1 to 8 letters and digits of ASCII.
     #[error("no line's name before the colon")]
     NoLine,
-    /// What stands right of the colon begins with none of the words that there are, or goes on where it has to end.
+    /// What stands right of the colon begins with none of the words that there are, or goes on
+    /// where it has to end.
     #[error("no such words")]
     NoSuchWords,
     /// A request or an answer names no stream: SYSIN 1 to 4, SYSOUT 1 to 4.
@@ -75,7 +76,8 @@ pub struct EncodeFault {
     pub reason: Reason,
 }
 
-/// Why a text in words isn't encoded to its end. What the lines before it become is written, or a beginning of it.
+/// Why a text in words isn't encoded to its end. What the lines before it become is written, or a
+/// beginning of it.
 #[derive(Clone, Copy, Debug, PartialEq, Eq, Error)]
 pub enum EncodeEnd {
     /// A line is bad, for any reason but want of memory.

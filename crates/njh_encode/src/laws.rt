@@ -21,7 +21,8 @@ pub fn packed_reads_back()
     njh_block::reads_back();
 }
 
-/// The bytes of each packed block's frame read as that frame and nothing else, by the grammar of frames.
+/// The bytes of each packed block's frame read as that frame and nothing else, by the grammar of
+/// frames.
 pub fn packed_frames_read_back()
     ensures { (state : declared.LineState) (items : List Item) → All IsData items
         → All ReadsAsFrame (packed state [] items) }

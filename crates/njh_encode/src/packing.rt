@@ -38,7 +38,8 @@ fn text_limit(size: u16) -> usize
     }
 }
 
-/// Records that go out on a line, block by block: what is kept of the line, and the block that is open.
+/// Records that go out on a line, block by block: what is kept of the line, and the block that is
+/// open.
 #[derive(Drop)]
 pub(crate) struct Packing {
     state: LineState,
@@ -76,7 +77,8 @@ impl Packing {
         self.state
     }
 
-    /// Adds a record of the file. Where the block has no room for it, the block's line is appended first.
+    /// Adds a record of the file. Where the block has no room for it, the block's line is appended
+    /// first.
     pub(crate) fn add(
         &mut self,
         script: &mut Vec<u8>,

@@ -26,7 +26,8 @@ const LINE: u8 = 0x80;
 /// A blank.
 const BLANK: u8 = 0x40;
 
-/// The prefix of a job header, and its general section up to the job's number: their lengths are 100 and 96.
+/// The prefix of a job header, and its general section up to the job's number: their lengths are
+/// 100 and 96.
 const JOB_HEAD: [u8; 8] = [0, 100, 0, 0, 0, 96, 0, 0];
 
 /// What stands between the job's number and its name.
@@ -35,7 +36,8 @@ const BEHIND_NUMBER: [u8; 18] = [0; 18];
 /// What stands between the user who gave the job and its origin.
 const BEHIND_USER: [u8; 24] = [0; 24];
 
-/// The prefix of a data set header, and its general section up to its destination: their lengths are 24 and 20.
+/// The prefix of a data set header, and its general section up to its destination: their lengths
+/// are 24 and 20.
 const DATA_SET_HEAD: [u8; 8] = [0, 24, 0, 0, 0, 20, 0, 0];
 
 /// A job trailer: a prefix alone.
@@ -74,7 +76,8 @@ impl Posting {
     }
 }
 
-/// The record of a line of text. An empty line is a blank, since a record without bytes ends a file.
+/// The record of a line of text. An empty line is a blank, since a record without bytes ends a
+/// file.
 fn record_of_line(line: &[u8]) -> Result<Record, Reason>
     ensures taken { MatchResult result (λ taken. record_of_line line.now ≡ Ok taken.items)
         (λ reason. record_of_line line.now ≡ Err reason) }
@@ -126,7 +129,8 @@ fn put_lines(
     Ok(())
 }
 
-/// Appends the lines of a file that has the lines of a text, and answers what is kept of the hub's line then.
+/// Appends the lines of a file that has the lines of a text, and answers what is kept of the hub's
+/// line then.
 pub(crate) fn put_file(
     script: &mut Vec<u8>,
     state: LineState,

@@ -18,8 +18,8 @@ use std::alloc::Global;
 use std::marker::Model;
 use std::str;
 
-/// How far a text was read: what is kept of each line of the hub, the number of the next line of the text, and what has
-/// come of it.
+/// How far a text was read: what is kept of each line of the hub, the number of the next line of
+/// the text, and what has come of it.
 #[derive(Drop)]
 pub(crate) struct Reading {
     encoder: Encoder,
@@ -87,7 +87,8 @@ impl Reading {
         }
     }
 
-    /// Takes a piece up to the end of a line, and answers what stands behind that; or keeps all of it.
+    /// Takes a piece up to the end of a line, and answers what stands behind that; or keeps all of
+    /// it.
     fn read<'p>(&mut self, piece: &'p [u8]) -> Result<Option<&'p [u8]>, EncodeEnd>
         ensures lines { IfOk result (λ behind. (more : List ℕ) → MatchOption behind
             (lines_from self.old.front (piece.now ++ more) ≡ lines_from self.new.front more)

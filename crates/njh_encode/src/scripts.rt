@@ -17,11 +17,11 @@ use std::io::{ErrorKind, Read, Write};
 /// How many bytes are asked for at once: 64 kB.
 const PIECE: usize = 65_536;
 
-/// Writes the lines of a script that lines of words become, up to the first bad one. What the lines of a piece become
-/// is written before the next piece is read.
+/// Writes the lines of a script that lines of words become, up to the first bad one. What the lines
+/// of a piece become is written before the next piece is read.
 ///
-/// A line has 1,048,576 bytes at most. A read or a write that was only interrupted is tried again. A text of more lines
-/// than a number of 64 bits can count is a `Device`.
+/// A line has 1,048,576 bytes at most. A read or a write that was only interrupted is tried again.
+/// A text of more lines than a number of 64 bits can count is a `Device`.
 pub fn encode_script<R: Read, L: Letters, W: Write>(
     alloc: Global,
     input: &mut R,
@@ -94,7 +94,8 @@ fn read_piece<R: Read>(input: &mut R, piece: &mut [u8]) -> Result<Option<usize>,
     Err(EncodeEnd::Device)
 }
 
-/// Takes a piece, and writes what each line becomes that ends in it, up to a bad one. `script` is room for that.
+/// Takes a piece, and writes what each line becomes that ends in it, up to a bad one. `script` is
+/// room for that.
 fn encode_piece<L: Letters, W: Write>(
     reading: &mut Reading,
     piece: &[u8],

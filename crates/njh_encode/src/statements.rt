@@ -23,7 +23,8 @@ const INITIAL: u8 = 0xc9;
 
 const RESPONSE: u8 = 0xd1;
 
-/// The flags of a nodal message: its user field holds its receiver; it is a command, of the user there.
+/// The flags of a nodal message: its user field holds its receiver; it is a command, of the user
+/// there.
 const MESSAGE: u8 = 0x20;
 
 const COMMAND: u8 = 0xa0;

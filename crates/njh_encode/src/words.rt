@@ -12,7 +12,8 @@ use njh_ebcdic::Name;
 /// How many bytes a name of a line has at most.
 pub(crate) const LINE_NAME: usize = 8;
 
-/// What stands before the first of a mark, or all where there is none, and what stands behind it, or nothing.
+/// What stands before the first of a mark, or all where there is none, and what stands behind it,
+/// or nothing.
 #[tactic(auto, unfolding(crate::specs::Words::front, crate::specs::Words::back))]
 pub(crate) fn parted(text: &str, mark: char) -> (&str, &str)
     requires { mark < 128 }

@@ -9,7 +9,8 @@ use Rattle.njh_record.specs.Stored.{Stored}
 use Rattle.njh_header.specs.Headers.{DataSetHeader, data_set_header}
 use Rattle.njh_header.specs.FileHeaders.{data_set_header_of}
 
-drop_at_get : (records : List Stored) (n : ℕ) (r : Stored) → slice_get records n ≡ Some r → drop n records ≡ r ∷ drop (n + 1) records
+drop_at_get : (records : List Stored) (n : ℕ) (r : Stored) → slice_get records n ≡ Some r
+    → drop n records ≡ r ∷ drop (n + 1) records
 drop_at_get records n r at =
     drop_more records n r (slice_get_within records n r at)
     ∙ ap (λ (x : Stored). x ∷ drop (n + 1) records) (get_or_from_slice_get records n r r at)
@@ -23,7 +24,8 @@ pub behind_job_header : (records : List Stored) (n : ℕ) (r : Stored) → slice
 unfolding said
 behind_job_header records n r at job =
     ap data_set_header_of (drop_at_get records n r at)
-    ∙ ap (λ (job : Bool). said r (data_set_header_of (drop (n + 1) records)) job (r.srcb == 0xe0)) (eq-eqb r.srcb 0xc0 job)
+    ∙ ap (λ (job : Bool). said r (data_set_header_of (drop (n + 1) records)) job (r.srcb == 0xe0))
+    (eq-eqb r.srcb 0xc0 job)
 
 pub at_data_set_header : (records : List Stored) (n : ℕ) (r : Stored) → slice_get records n ≡ Some r → r.srcb ≡ 0xe0
     → data_set_header_of (drop n records) ≡ result_ok (data_set_header r.bytes)
@@ -32,10 +34,13 @@ at_data_set_header records n r at data_set =
     ap data_set_header_of (drop_at_get records n r at)
     ∙ ap (λ (srcb : ℕ). said r (data_set_header_of (drop (n + 1) records)) (srcb == 0xc0) (srcb == 0xe0)) data_set
 
-pub at_other : (records : List Stored) (n : ℕ) (r : Stored) → slice_get records n ≡ Some r → r.srcb ≢ 0xc0 → r.srcb ≢ 0xe0
+pub at_other : (records : List Stored) (n : ℕ) (r : Stored) → slice_get records n ≡ Some r → r.srcb ≢ 0xc0
+    → r.srcb ≢ 0xe0
     → data_set_header_of (drop n records) ≡ None
 unfolding said
 at_other records n r at job data_set =
     ap data_set_header_of (drop_at_get records n r at)
-    ∙ ap (λ (job : Bool). said r (data_set_header_of (drop (n + 1) records)) job (r.srcb == 0xe0)) (ne_eqb r.srcb 0xc0 job)
-    ∙ ap (λ (data_set : Bool). said r (data_set_header_of (drop (n + 1) records)) false data_set) (ne_eqb r.srcb 0xe0 data_set)
+    ∙ ap (λ (job : Bool). said r (data_set_header_of (drop (n + 1) records)) job (r.srcb == 0xe0))
+    (ne_eqb r.srcb 0xc0 job)
+    ∙ ap (λ (data_set : Bool). said r (data_set_header_of (drop (n + 1) records)) false data_set)
+    (ne_eqb r.srcb 0xe0 data_set)

@@ -18,8 +18,10 @@ module _ {H : Type 0} (size name : ℕ) (fields : List ℕ → ℕ → H) where
   -- what the place of the general section gives
   abbrev pub read_at : List ℕ → Result ℕ HeaderFault → Result H HeaderFault
   read_at bytes place =
-      elim place
-      [ Ok section ↦ cond (is_name (field (section + name) 8 bytes)) (Ok (fields bytes section)) (Err BadName) | Err fault ↦ Err fault ]
+      elim place [
+        | Ok section ↦ cond (is_name (field (section + name) 8 bytes)) (Ok (fields bytes section)) (Err BadName)
+        | Err fault ↦ Err fault
+      ]
 
   named_tells : (bytes : List ℕ) (section : ℕ) (named : Bool) → is_name (field (section + name) 8 bytes) ≡ named
       → HasGeneral size bytes section
@@ -33,20 +35,23 @@ module _ {H : Type 0} (size name : ℕ) (fields : List ℕ → ℕ → H) where
   lacks_tells bytes SectionOverrun lacks = lacks
   lacks_tells bytes BadName lacks = absurd lacks
 
-  read_tells : (bytes : List ℕ) (place : Result ℕ HeaderFault) → Finds size bytes place → Tells bytes (read_at bytes place)
+  read_tells : (bytes : List ℕ) (place : Result ℕ HeaderFault) → Finds size bytes place
+      → Tells bytes (read_at bytes place)
   read_tells bytes (Ok section) finds = named_tells bytes section (is_name (field (section + name) 8 bytes)) refl finds
   read_tells bytes (Err fault) finds = lacks_tells bytes fault finds
 
   pub header_of-tells : (bytes : List ℕ) → Tells bytes (header_of size name fields bytes)
   header_of-tells bytes = read_tells bytes (general_section size bytes) (found size bytes)
 
-  pub IsHeader-read : (bytes : List ℕ) (header : H) → IsHeader size name fields bytes header → header_of size name fields bytes ≡ Ok header
+  pub IsHeader-read : (bytes : List ℕ) (header : H) → IsHeader size name fields bytes header
+      → header_of size name fields bytes ≡ Ok header
   IsHeader-read bytes header is =
       ap (read_at bytes) (general_found size bytes is.section is.general)
       ∙ (ap (λ (named : Bool). cond named (Ok (fields bytes is.section)) (Err BadName)) is.named
       ∙ ap (λ (h : H). Ok h) (sym is.says))
 
-  pub IsFault-read : (bytes : List ℕ) (fault : HeaderFault) → IsFault size name bytes fault → header_of size name fields bytes ≡ Err fault
+  pub IsFault-read : (bytes : List ℕ) (fault : HeaderFault) → IsFault size name bytes fault
+      → header_of size name fields bytes ≡ Err fault
   IsFault-read bytes TooShort is = ap (read_at bytes) (lack_found size bytes TooShort is)
   IsFault-read bytes NoGeneralSection is = ap (read_at bytes) (lack_found size bytes NoGeneralSection is)
   IsFault-read bytes SectionOverrun is = ap (read_at bytes) (lack_found size bytes SectionOverrun is)
@@ -58,11 +63,13 @@ module _ {H : Type 0} (size name : ℕ) (fields : List ℕ → ℕ → H) where
 
   pub header_law : (bytes : List ℕ) (header : H)
       → (header_of size name fields bytes
-      ≡ Ok header → IsHeader size name fields bytes header) × (IsHeader size name fields bytes header → header_of size name fields bytes
+      ≡ Ok header → IsHeader size name fields bytes header)
+      × (IsHeader size name fields bytes header → header_of size name fields bytes
       ≡ Ok header)
   header_law bytes header = (λ is. subst (Tells bytes) is (header_of-tells bytes), IsHeader-read bytes header)
 
   pub fault_law : (bytes : List ℕ) (fault : HeaderFault)
       → (header_of size name fields bytes
-      ≡ Err fault → IsFault size name bytes fault) × (IsFault size name bytes fault → header_of size name fields bytes ≡ Err fault)
+      ≡ Err fault → IsFault size name bytes fault)
+      × (IsFault size name bytes fault → header_of size name fields bytes ≡ Err fault)
   fault_law bytes fault = (λ is. subst (Tells bytes) is (header_of-tells bytes), IsFault-read bytes fault)

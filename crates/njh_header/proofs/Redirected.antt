@@ -38,12 +38,15 @@ data_sets : (node : List ℕ) (before : Option ℕ) (records : List Stored)
     → records_to_node Out node before records ≡ with_data_set_nodes node (is_after_header before) records
 data_sets node before [] = refl
 data_sets node before (r ∷ rs) =
-    ap (λ (x : Stored). x ∷ records_to_node Out node (Some r.srcb) rs) (where_tested node r (has_srcb 0xe0 r && not (is_after_header before)))
-    ∙ ap (λ (more : List Stored). cond (has_srcb 0xe0 r && not (is_after_header before)) (with_data_set_node node r) r ∷ more)
+    ap (λ (x : Stored). x ∷ records_to_node Out node (Some r.srcb) rs)
+    (where_tested node r (has_srcb 0xe0 r && not (is_after_header before)))
+    ∙ ap (λ (more : List Stored). cond (has_srcb 0xe0 r && not (is_after_header before)) (with_data_set_node node r)
+    r ∷ more)
     (data_sets node (Some r.srcb) rs)
 
 pub redirected_is : (kind : Kind) (node : List ℕ) (records : List Stored)
     → records_to_node kind node None records ≡ with_destination kind node records
 redirected_is In node [] = refl
-redirected_is In node (r ∷ rs) = job_record node r rs (records_to_node In node (Some r.srcb) rs) (job_header r.bytes) (kept node r.srcb rs)
+redirected_is In node (r ∷ rs) = job_record node r rs (records_to_node In node (Some r.srcb) rs) (job_header r.bytes)
+    (kept node r.srcb rs)
 redirected_is Out node records = data_sets node None records

@@ -1,5 +1,6 @@
 -- A file whose headers read has headers that read when its destination is another.
-use Rattle.std.proofs.Common.{◌≡◌, ℕ, ◌+◌, ◌≤◌, Bool, true, false, List, [], ◌∷◌, ◌++◌, length, take, drop, Option, Some, None}
+use Rattle.std.proofs.Common.{◌≡◌, ℕ, ◌+◌, ◌≤◌, Bool, true, false, List, [], ◌∷◌, ◌++◌, length, take, drop, Option}
+use Rattle.std.proofs.Common.{Some, None}
 use Rattle.std.proofs.Common.{Result, Ok, Err, ◌==◌, ◌&&◌, cond, refl, sym, ap, subst, ◌∙◌, arith, rules, append_assoc}
 use Rattle.std.proofs.Common.{length-drop, length-append, eqb-true}
 use Rattle.std.specs.Option.{option_map}
@@ -40,12 +41,14 @@ field_before k size at new bytes before within =
     same_lists _ _ (search (rules, places)) (λ i d h. grind (arith, places))
 
 -- itself
-field_itself : (at : ℕ) (new bytes : List ℕ) → at ≤ length bytes → length new ≡ 8 → field at 8 (with_field at new bytes) ≡ new
+field_itself : (at : ℕ) (new bytes : List ℕ) → at ≤ length bytes → length new ≡ 8
+    → field at 8 (with_field at new bytes) ≡ new
 field_itself at new bytes within eight =
     ap (field at 8) (append_assoc (take at bytes) new (drop (at + length new) bytes))
     ∙ field_at (take at bytes) new (drop (at + length new) bytes) at 8 (length-take-le at bytes within) eight
 
-length_still : (at : ℕ) (new bytes : List ℕ) → at + length new ≤ length bytes → length (with_field at new bytes) ≡ length bytes
+length_still : (at : ℕ) (new bytes : List ℕ) → at + length new ≤ length bytes
+    → length (with_field at new bytes) ≡ length bytes
 length_still at new bytes within =
     let front = length-take-le at bytes (omega arith) in
     let back = length-drop (at + length new) bytes in
@@ -54,7 +57,8 @@ length_still at new bytes within =
     omega arith
 
 -- a field behind some bytes
-field_behind : (at : ℕ) (new front rest : List ℕ) → with_field (length front + at) new (front ++ rest) ≡ front ++ with_field at new rest
+field_behind : (at : ℕ) (new front rest : List ℕ)
+    → with_field (length front + at) new (front ++ rest) ≡ front ++ with_field at new rest
 field_behind at new front rest =
     same_lists _ _ (search (rules, places)) (λ i d h. grind (arith, places))
 
@@ -96,15 +100,24 @@ module _ (size at : ℕ) (new : List ℕ) where
       }
 
   -- it reads, where its name is one
-  header_still : {H : Type 0} (name : ℕ) (fields : List ℕ → ℕ → H) (bytes : List ℕ) (place : ℕ) → HasGeneral size bytes place
+  header_still : {H : Type 0} (name : ℕ) (fields : List ℕ → ℕ → H) (bytes : List ℕ) (place : ℕ)
+      → HasGeneral size bytes place
       → 4 ≤ at → at + length new ≤ size → is_name (field (place + name) 8 (with_field (place + at) new bytes)) ≡ true
-      → header_of size name fields (with_field (place + at) new bytes) ≡ Ok (fields (with_field (place + at) new bytes) place)
+      → header_of size name fields (with_field (place + at) new bytes)
+      ≡ Ok (fields (with_field (place + at) new bytes) place)
   header_still name fields bytes place general behind within named =
-      (header_law size name fields (with_field (place + at) new bytes) (fields (with_field (place + at) new bytes) place)).1
-      (record { section = place; general = general_still bytes place general behind within; named = named; says = refl })
+      (header_law size name fields (with_field (place + at) new bytes)
+      (fields (with_field (place + at) new bytes) place)).1
+      (record {
+        section = place;
+        general = general_still bytes place general behind within;
+        named = named;
+        says = refl;
+      })
 
 -- bytes up to a place in the general section
-within_general : (size place at : ℕ) (bytes : List ℕ) → HasGeneral size bytes place → at ≤ size → place + at ≤ length bytes
+within_general : (size place at : ℕ) (bytes : List ℕ) → HasGeneral size bytes place → at ≤ size
+    → place + at ≤ length bytes
 within_general size place at bytes general inside =
     let passes = general.passes in
     let sections : List ℕ = flat_map (λ section. section) passes.sections in
@@ -123,17 +136,24 @@ module _ (node : List ℕ) (named : is_name node ≡ true) (eight : length node 
   job_still bytes h reads =
       let is = (header_law 96 64 job_fields bytes h).0 reads in
       let place : h.place ≡ is.section + 80 = ap (λ (x : JobHeader). x.place) is.says in
-      let before = field_before (is.section + 64) 8 (is.section + 80) node bytes (omega arith) (within_general 96 is.section 80 bytes is.general (omega arith)) in
-      let still = header_still 96 80 node 64 job_fields bytes is.section is.general (omega arith) (omega arith) (ap is_name before ∙ is.named) in
-      subst (λ p. JobReads (with_field p node bytes)) (sym place) (job_fields (with_field (is.section + 80) node bytes) is.section, still)
+      let before = field_before (is.section + 64) 8 (is.section + 80) node bytes (omega arith)
+      (within_general 96 is.section 80 bytes is.general (omega arith)) in
+      let still = header_still 96 80 node 64 job_fields bytes is.section is.general (omega arith) (omega arith)
+      (ap is_name before ∙ is.named) in
+      subst (λ p. JobReads (with_field p node bytes)) (sym place)
+      (job_fields (with_field (is.section + 80) node bytes) is.section, still)
 
-  data_set_still : (bytes : List ℕ) (h : DataSetHeader) → data_set_header bytes ≡ Ok h → DataSetReads (with_field h.place node bytes)
+  data_set_still : (bytes : List ℕ) (h : DataSetHeader) → data_set_header bytes ≡ Ok h
+      → DataSetReads (with_field h.place node bytes)
   data_set_still bytes h reads =
       let is = (header_law 20 4 data_set_fields bytes h).0 reads in
       let place : h.place ≡ is.section + 4 = ap (λ (x : DataSetHeader). x.place) is.says in
-      let there = field_itself (is.section + 4) node bytes (within_general 20 is.section 4 bytes is.general (omega arith)) eight in
-      let still = header_still 20 4 node 4 data_set_fields bytes is.section is.general (omega arith) (omega arith) (ap is_name there ∙ named) in
-      subst (λ p. DataSetReads (with_field p node bytes)) (sym place) (data_set_fields (with_field (is.section + 4) node bytes) is.section, still)
+      let there = field_itself (is.section + 4) node bytes
+      (within_general 20 is.section 4 bytes is.general (omega arith)) eight in
+      let still = header_still 20 4 node 4 data_set_fields bytes is.section is.general (omega arith) (omega arith)
+      (ap is_name there ∙ named) in
+      subst (λ p. DataSetReads (with_field p node bytes)) (sym place)
+      (data_set_fields (with_field (is.section + 4) node bytes) is.section, still)
 
 -- ---- a file
 
@@ -141,7 +161,8 @@ under : {A B : Type 0} (f : A → B) (o : Option A) (b : B) → option_map f o �
 under f None b e = absurd (cc e)
 under f (Some a) b e = (a, refl)
 
-read_where : {H : Type 0} (test : Bool) (header : Result H HeaderFault) (h : H) → cond test (result_ok header) None ≡ Some h
+read_where : {H : Type 0} (test : Bool) (header : Result H HeaderFault) (h : H)
+    → cond test (result_ok header) None ≡ Some h
     → (test ≡ true) × (header ≡ Ok h)
 read_where false header h e = absurd (cc e)
 read_where true (Err fault) h e = absurd (cc e)
@@ -172,7 +193,8 @@ module _ (node : List ℕ) (named : is_name node ≡ true) (eight : length node 
   output_job (r ∷ rs) h e =
       let read = read_where (r.srcb == 0xc0) (job_header r.bytes) h e in
       let other : has_srcb 0xe0 r ≡ false = ap (λ n. n == 0xe0) (eqb-true r.srcb 0xc0 read.0) in
-      ap (λ (b : Bool). job_header_of (cond (b && true) (with_data_set_node node r) r ∷ with_data_set_nodes node b rs)) other ∙ e
+      ap (λ (b : Bool). job_header_of (cond (b && true) (with_data_set_node node r) r ∷ with_data_set_nodes node b rs))
+      other ∙ e
 
   -- and its first data set header
   abbrev pub StillDataSet : List Stored → Type 0
@@ -182,20 +204,23 @@ module _ (node : List ℕ) (named : is_name node ≡ true) (eight : length node 
       → data_set_header_of (with_data_set_nodes node false rs) ≡ Some g
       → data_set_header_of (with_data_set_nodes node false (r ∷ rs)) ≡ Some g
   passed r rs g is other later =
-      ap (λ (b : Bool). data_set_header_of (cond (b && true) (with_data_set_node node r) r ∷ with_data_set_nodes node b rs)) other
+      ap (λ (b : Bool). data_set_header_of
+      (cond (b && true) (with_data_set_node node r) r ∷ with_data_set_nodes node b rs)) other
       ∙ ap (λ (b : Bool). elim b as (λ _. Option DataSetHeader) [
         | true ↦ data_set_header_of (with_data_set_nodes node false rs)
         | false ↦ cond (r.srcb == 0xe0) (result_ok (data_set_header r.bytes)) None
       ]) is
       ∙ later
 
-  data_set_kept : (r : Stored) (rs : List Stored) (h g : DataSetHeader) → (r.srcb == 0xc0) ≡ false → (r.srcb == 0xe0) ≡ true
+  data_set_kept : (r : Stored) (rs : List Stored) (h g : DataSetHeader) → (r.srcb == 0xc0) ≡ false
+      → (r.srcb == 0xe0) ≡ true
       → data_set_header r.bytes ≡ Ok h → data_set_header (with_field h.place node r.bytes) ≡ Ok g
       → data_set_header_of (with_data_set_nodes node false (r ∷ rs)) ≡ Some g
   data_set_kept r rs h g none is read still =
       let after : List Stored = with_data_set_nodes node true rs in
       let changed : Stored = with_node_at h.place node r in
-      ap (λ (b : Bool). data_set_header_of (cond (b && true) (with_data_set_node node r) r ∷ with_data_set_nodes node b rs)) is
+      ap (λ (b : Bool). data_set_header_of
+      (cond (b && true) (with_data_set_node node r) r ∷ with_data_set_nodes node b rs)) is
       ∙ ap (λ (x : Result DataSetHeader HeaderFault). data_set_header_of (elim x as (λ _. Stored)
       [ Ok d ↦ with_node_at d.place node r | Err e ↦ r ] ∷ after)) read
       ∙ ap (λ (b : Bool). elim b as (λ _. Option DataSetHeader) [
@@ -220,7 +245,8 @@ module _ (node : List ℕ) (named : is_name node ≡ true) (eight : length node 
       let still = data_set_still node named eight r.bytes h read.1 in
       (still.0, data_set_kept r rs h still.0 is read.0 read.1 still.1)
 
-  output_data_set : (records : List Stored) (h : DataSetHeader) → data_set_header_of records ≡ Some h → StillDataSet records
+  output_data_set : (records : List Stored) (h : DataSetHeader) → data_set_header_of records ≡ Some h
+      → StillDataSet records
   output_data_set [] h e = absurd (cc e)
   output_data_set (r ∷ rs) h e = at_record r rs h (r.srcb == 0xc0) refl (output_data_set rs h) e
 
@@ -240,7 +266,8 @@ module _ (node : List ℕ) (named : is_name node ≡ true) (eight : length node 
   redirected_headers Out records has =
       let job = under job_name (job_header_of records) has.name has.named in
       let job_still = output_job records job.0 job.1 in
-      let data_set = under (λ (h : DataSetHeader). h.destination) (data_set_header_of records) has.destination has.goes in
+      let data_set = under (λ (h : DataSetHeader). h.destination) (data_set_header_of records) has.destination has.goes
+      in
       let still = output_data_set records data_set.0 data_set.1 in
       record {
         name = job_name job.0;
@@ -252,11 +279,13 @@ module _ (node : List ℕ) (named : is_name node ≡ true) (eight : length node 
       }
 
 -- a name is eight bytes
-name_eight : (node : List ℕ) (eight : Bool) (more : Bool) → (length node == 8) ≡ eight → (eight && more) ≡ true → length node ≡ 8
+name_eight : (node : List ℕ) (eight : Bool) (more : Bool) → (length node == 8) ≡ eight → (eight && more) ≡ true
+    → length node ≡ 8
 name_eight node true more is e = eqb-true (length node) 8 is
 name_eight node false more is e = absurd (cc e)
 
-pub still_has_headers : (kind : Kind) (node : List ℕ) (records : List Stored) → is_name node ≡ true → HasHeaders kind records
+pub still_has_headers : (kind : Kind) (node : List ℕ) (records : List Stored) → is_name node ≡ true
+    → HasHeaders kind records
     → HasHeaders kind (with_destination kind node records)
 still_has_headers kind node records named has =
     redirected_headers node named (name_eight node (length node == 8) _ refl named) kind records has

@@ -24,7 +24,8 @@ IsFront size rest General = BeginsGeneral rest × (size ≤ number_at 0 rest) ×
 IsFront size rest Other = BeginsOther rest
 
 cut_front : (size : ℕ) (rest : List ℕ) → 0 < length rest
-    → (length rest < 4) ⊎ ((number_at 0 rest < 4) ⊎ ((number_at 2 rest ≢ 0) × (length rest < number_at 0 rest))) → front_of size rest ≡ Cut
+    → (length rest < 4) ⊎ ((number_at 0 rest < 4) ⊎ ((number_at 2 rest ≢ 0) × (length rest < number_at 0 rest)))
+    → front_of size rest ≡ Cut
 cut_front size rest some_left (inl few) = grind (arith, nat_tests)
 cut_front size rest some_left (inr (inl short)) = grind (arith, nat_tests)
 cut_front size rest some_left (inr (inr over)) = grind (arith, nat_tests)
@@ -57,7 +58,8 @@ decided_same Small place m n same = refl
 decided_same General place m n same = refl
 decided_same Other place m n same = same refl
 
-pub walk_fuel : (k m size place : ℕ) (rest : List ℕ) → length rest ≤ k → length rest ≤ m → walk k size place rest ≡ walk m size place rest
+pub walk_fuel : (k m size place : ℕ) (rest : List ℕ) → length rest ≤ k → length rest ≤ m
+    → walk k size place rest ≡ walk m size place rest
 walk_fuel zero zero size place rest h i = refl
 walk_fuel zero (suc m) size place [] h i = refl
 walk_fuel zero (suc m) size place (b ∷ rest) h i = absurd (omega arith)
@@ -81,11 +83,14 @@ walk_at size place rest =
     (λ e.
     let other = other_front size rest e in
     let shorter = length-drop (number_at 0 rest) rest in
-    walk_fuel (length rest) (length (drop (number_at 0 rest) rest)) size (place + number_at 0 rest) (drop (number_at 0 rest) rest)
+    walk_fuel (length rest) (length (drop (number_at 0 rest) rest)) size (place + number_at 0 rest)
+    (drop (number_at 0 rest) rest)
     (omega arith) (omega arith))
 
-pub walk_front : (size place : ℕ) (rest : List ℕ) (front : Front) → IsFront size rest front → walk (length rest) size place rest
-    ≡ decided front place (walk (length (drop (number_at 0 rest) rest)) size (place + number_at 0 rest) (drop (number_at 0 rest) rest))
+pub walk_front : (size place : ℕ) (rest : List ℕ) (front : Front) → IsFront size rest front
+    → walk (length rest) size place rest
+    ≡ decided front place (walk (length (drop (number_at 0 rest) rest)) size (place + number_at 0 rest)
+    (drop (number_at 0 rest) rest))
 walk_front size place rest front is =
     walk_at size place rest
     ∙ ap (λ (f : Front). decided f place
@@ -103,11 +108,13 @@ walk_begins size bytes rest enough is =
     walk_fuel (length rest) (length bytes) size (length bytes - length rest) rest (omega arith) (omega arith)
     ∙ ap (λ (place : ℕ). walk (length bytes) size place rest) at_four
     ∙ ap (λ (r : List ℕ). walk (length bytes) size 4 r) is
-    ∙ sym (cond-false (nat_lt (length bytes) 4) (Err TooShort) (walk (length bytes) size 4 (drop 4 bytes)) (le-ltb (length bytes) 4 enough))
+    ∙ sym (cond-false (nat_lt (length bytes) 4) (Err TooShort) (walk (length bytes) size 4 (drop 4 bytes))
+    (le-ltb (length bytes) 4 enough))
 
 pub walk_passes : (size : ℕ) (bytes rest after : List ℕ) → length rest ≤ length bytes → BeginsOther rest
     → after ≡ drop (number_at 0 rest) rest
-    → walk (length after) size (length bytes - length after) after ≡ walk (length rest) size (length bytes - length rest) rest
+    → walk (length after) size (length bytes - length after) after ≡ walk (length rest) size
+    (length bytes - length rest) rest
 walk_passes size bytes rest after within other is =
     let shorter : length after + number_at 0 rest ≡ length rest =
     omega (arith, ap length is, length-drop (number_at 0 rest) rest, other.within) in

@@ -2,7 +2,8 @@
 
 use thiserror::Error;
 
-/// Why a record is no header, or no sign-on. Of a header they come in the order of its bytes, and `BadName` last.
+/// Why a record is no header, or no sign-on. Of a header they come in the order of its bytes, and
+/// `BadName` last.
 #[derive(Clone, Copy, Debug, PartialEq, Eq, Error)]
 pub enum HeaderFault {
     /// The record or its general section is too short.

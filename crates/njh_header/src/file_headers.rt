@@ -19,7 +19,8 @@ pub trait FileRecords {
     fn count(&self) -> u32
         ensures { result ≡ length (records self.now) };
 
-    /// Puts the bytes of the n-th record, counted from 0, in place of what `into` held, and gives its SRCB.
+    /// Puts the bytes of the n-th record, counted from 0, in place of what `into` held, and gives
+    /// its SRCB.
     fn copy_to(&self, n: u32, into: &mut Record) -> u8
         requires { n < length (records self.now) }
         ensures { slice_get (records self.now) n ≡ Some (record { srcb = result; bytes = into.new.items }) };
@@ -39,8 +40,8 @@ pub fn job_header_of<F: FileRecords>(file: &F) -> Option<JobHeader>
     }
 }
 
-/// The first data set header of a file: the first record behind its job header and the continuations of that, where it
-/// reads.
+/// The first data set header of a file: the first record behind its job header and the
+/// continuations of that, where it reads.
 pub fn data_set_header_of<F: FileRecords>(file: &F) -> Option<DataSetHeader>
     ensures { result ≡ headers.data_set_header_of (F.records file.now) }
 {

@@ -14,7 +14,8 @@ ghost use Rattle.njh_header.specs.WholeFiles.{HasHeaders};
 
 use crate::fault::HeaderFault;
 
-/// The walk over a header's sections gives where the general one begins, or why there is none, and nothing else.
+/// The walk over a header's sections gives where the general one begins, or why there is none, and
+/// nothing else.
 pub fn one_general_section()
     ensures found { (size : ℕ) (header : List ℕ) (place : ℕ)
         → (general_section size header ≡ Ok place) ↔ HasGeneral size header place }

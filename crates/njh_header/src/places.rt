@@ -1,7 +1,8 @@
 //! Where the fields of headers and sign-ons (IBM SC23-0070) stand.
 //!
-//! Each place is a count of bytes from the beginning of the part that its module names. Nodes, users, names and
-//! passwords are fields of eight bytes in EBCDIC, and numbers are of two bytes, the high byte first.
+//! Each place is a count of bytes from the beginning of the part that its module names. Nodes,
+//! users, names and passwords are fields of eight bytes in EBCDIC, and numbers are of two bytes,
+//! the high byte first.
 
 /// The prefix of a header: length (2), flags (1), sequence (1).
 pub mod prefix {
@@ -9,7 +10,8 @@ pub mod prefix {
     pub const SIZE: usize = 4;
 }
 
-/// What each section begins with: its length, of all its bytes (2), its type (1) and its modifier (1).
+/// What each section begins with: its length, of all its bytes (2), its type (1) and its modifier
+/// (1).
 pub mod head {
     /// How many bytes it has.
     pub const SIZE: usize = 4;
@@ -63,9 +65,9 @@ pub mod data_set {
     pub const DESTINATION_USER: usize = 12;
 }
 
-/// A sign-on from its length byte on, behind RCB and SRCB. Between these fields and behind them stand length (1) at 0,
-/// qualifier (1) at 9, event sequence (4), resistance (2), the node's own password (8) at 26, flag (1) and features
-/// (4).
+/// A sign-on from its length byte on, behind RCB and SRCB. Between these fields and behind them
+/// stand length (1) at 0, qualifier (1) at 9, event sequence (4), resistance (2), the node's own
+/// password (8) at 26, flag (1) and features (4).
 pub mod sign_on {
     /// What has to be there: all up to the block size.
     pub const SIZE: usize = 18;

@@ -11,8 +11,8 @@ use crate::job_header::JobHeader;
 use crate::srcb;
 use njh_record::Kind;
 
-/// Where a record of a file names the node that a change of the file's destination replaces, if it does. `before` is
-/// the SRCB of the record before it, and `None` at the file's first.
+/// Where a record of a file names the node that a change of the file's destination replaces, if it
+/// does. `before` is the SRCB of the record before it, and `None` at the file's first.
 pub fn destination_place(kind: Kind, before: Option<u8>, srcb: u8, bytes: &[u8]) -> Option<usize>
     ensures place { result ≡ redirecting.destination_place kind before (record { srcb = srcb; bytes = bytes.now }) }
     ensures within { IfSome result (λ place. place + 8 ≤ length bytes.now) }

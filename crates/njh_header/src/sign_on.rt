@@ -49,8 +49,8 @@ impl SignOn {
     ghost use Rattle.std.specs.Prelude.{◌≡◌, List, ℕ, Ok, ◌++◌};
     ghost use Rattle.njh_header.specs.SignOns.{sign_on, sign_on_bytes};
 
-    /// The sign-on at the front of some bytes. The length byte isn't read; a password that isn't whole counts as
-    /// blanks.
+    /// The sign-on at the front of some bytes. The length byte isn't read; a password that isn't
+    /// whole counts as blanks.
     pub fn read(bytes: &[u8]) -> Result<SignOn, HeaderFault>
         ensures { result ≡ sign_on bytes.now }
     {

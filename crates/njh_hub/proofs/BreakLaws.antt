@@ -18,7 +18,8 @@ use Rattle.njh_hub.specs.declared.event.Event.{Event}
 use Rattle.njh_hub.specs.declared.event.Event.TheVariants.{Bytes}
 use Rattle.njh_hub.specs.declared.wire_reading.Reading.{Reading}
 use Rattle.njh_hub.specs.declared.wire_reading.WireFault.{WireFault}
-use Rattle.njh_hub.specs.Breaks.{Break, AtStep, AtLoss, AreWithheld, BrokenTurn, EventBreaks, IsAtLoss, RoundStops, RoutesBreak}
+use Rattle.njh_hub.specs.Breaks.{Break, AtStep, AtLoss, AreWithheld, BrokenTurn, EventBreaks, IsAtLoss, RoundStops}
+use Rattle.njh_hub.specs.Breaks.{RoutesBreak}
 use Rattle.njh_hub.specs.Breaks.{TurnBreaks, acts_before}
 use Rattle.njh_hub.specs.Keeping.{LeavesEither}
 use Rattle.njh_hub.specs.OwnEvents.{event_by, first_bytes}
@@ -29,7 +30,8 @@ use Rattle.njh_hub.specs.Wires.{Failed, IsDone, WireAct, Unsent, answer_acts, cu
 use Rattle.njh_hub.proofs.PieceLaws.{after_bytes}
 use Rattle.njh_hub.proofs.RunningLaws.{GoesOn, counted_from, part_done, routes_done, signal_done, step_done, whole_done}
 use Rattle.njh_hub.proofs.TurnLaws.{counted_on, failed-err}
-use Rattle.njh_hub.proofs.WireLaws.{cut_to-event_by, lost_after, lost_next, signal_stops, signal_unsent, step_stops, step_unsent}
+use Rattle.njh_hub.proofs.WireLaws.{cut_to-event_by, lost_after, lost_next, signal_stops, signal_unsent, step_stops}
+use Rattle.njh_hub.proofs.WireLaws.{step_unsent}
 
 -- ---- a step by bytes
 
@@ -39,12 +41,14 @@ one_sent id [] = omega arith
 one_sent id (b ∷ frame) = omega arith
 
 -- a step by bytes of a piece, and the keeper that failed behind it
-pub bytes_break : {S : Type 0} (passed : S → S → List WireAct → Type 0) (count : S → ℕ) (wire now_wire : S) → NoBytesDoNothing →
+pub bytes_break : {S : Type 0} (passed : S → S → List WireAct → Type 0) (count : S → ℕ) (wire now_wire : S)
+    → NoBytesDoNothing →
     {start now after : List Part} {id : LineId} {piece left : List ℕ} {before used : ℕ} {frame : List ℕ} →
     GoesOn start now after id piece left before used frame → before + used ≤ length piece →
     passed wire now_wire (map sent_act (after_bytes start id (take before piece)).sent) → count wire ≤ count now_wire →
     EventBreaks passed count start (Bytes id piece) (AtStep before (before + used)) wire after now_wire
-bytes_break passed count wire now_wire nothing {start} {now} {after} {id} {piece} {left} {before} {used} {frame} h within acts
+bytes_break passed count wire now_wire nothing {start} {now} {after} {id} {piece} {left} {before} {used} {frame} h
+    within acts
     counts =
     let e = Bytes id piece in
     let sent = (after_bytes start id (take before piece)).sent in
@@ -73,14 +77,17 @@ bytes_break passed count wire now_wire nothing {start} {now} {after} {id} {piece
 -- a step by bytes whose frame could not be written, and the loss of the line behind it
 pub bytes_unsent : {S : Type 0} (passed : S → S → List WireAct → Type 0) (count : S → ℕ) (wire now_wire new_wire : S) →
     ((a b c : S) (xs ys : List WireAct) → passed a b xs → passed b c ys → passed a c (xs ++ ys)) → CutsAreLike →
-    {start now after : List Part} {id : LineId} {piece left : List ℕ} {before used : ℕ} {frame : List ℕ} (new : List Part) →
-    GoesOn start now after id piece left before used frame → 0 < length frame → 0 < used → before + used ≤ length piece →
+    {start now after : List Part} {id : LineId} {piece left : List ℕ} {before used : ℕ} {frame : List ℕ}
+    (new : List Part) →
+    GoesOn start now after id piece left before used frame → 0 < length frame → 0 < used
+    → before + used ≤ length piece →
     passed wire now_wire (map sent_act (after_bytes start id (take before piece)).sent) → count wire ≤ count now_wire →
     passed now_wire new_wire (Unsent frame ∷ []) → count now_wire ≤ count new_wire →
     IsCounted (count now_wire) (count new_wire) →
     new ≡ set after id.customer (part_after_signal (part id.customer after) id.number signal.Lost).after →
     IsDone passed count start (Bytes id piece) (Some (before + used)) wire new new_wire
-bytes_unsent {S} passed count wire now_wire new_wire more cuts {start} {now} {after} {id} {piece} {left} {before} {used} {frame} new h
+bytes_unsent {S} passed count wire now_wire new_wire more cuts {start} {now} {after} {id} {piece} {left} {before} {used}
+    {frame} new h
     some any within acts counts unsent counts_then counted lost =
     let n = before + used in
     let sent = map sent_act (after_bytes start id (take before piece)).sent in
@@ -96,7 +103,8 @@ bytes_unsent {S} passed count wire now_wire new_wire more cuts {start} {now} {af
     }
 
 -- the keeper that failed at the loss of a line
-pub loss_breaks : {S : Type 0} (passed : S → S → List WireAct → Type 0) (count : S → ℕ) (parts new : List Part) (event : Event)
+pub loss_breaks : {S : Type 0} (passed : S → S → List WireAct → Type 0) (count : S → ℕ) (parts new : List Part)
+    (event : Event)
     (n : ℕ) (wire new_wire : S) → IsDone passed count parts event (Some n) wire new new_wire →
     EventBreaks passed count parts event (AtLoss n) wire new new_wire
 loss_breaks passed count parts new event n wire new_wire d = record {
@@ -123,7 +131,8 @@ first_none signal.Garbled id = refl
 first_none signal.Lost id = refl
 
 -- a signal, and the keeper that failed behind it
-pub signal_breaks : {S : Type 0} (passed : S → S → List WireAct → Type 0) (count : S → ℕ) (start after : List Part) (s : Signal)
+pub signal_breaks : {S : Type 0} (passed : S → S → List WireAct → Type 0) (count : S → ℕ) (start after : List Part)
+    (s : Signal)
     (id : LineId) (wire : S) → passed wire wire [] →
     after ≡ set start id.customer (part_after_signal (part id.customer start) id.number s).after →
     EventBreaks passed count start (event_by s id) (AtStep 0 0) wire after wire
@@ -148,7 +157,8 @@ signal_breaks passed count start after s id wire none is =
     }
 
 -- a signal whose frame could not be written, and the loss of the line behind it
-pub signal_lost : {S : Type 0} (passed : S → S → List WireAct → Type 0) (count : S → ℕ) (start after new : List Part) (s : Signal)
+pub signal_lost : {S : Type 0} (passed : S → S → List WireAct → Type 0) (count : S → ℕ) (start after new : List Part)
+    (s : Signal)
     (id : LineId) (frame : List ℕ) (wire new_wire : S) →
     after ≡ set start id.customer (part_after_signal (part id.customer start) id.number s).after →
     frame ≡ (part_after_signal (part id.customer start) id.number s).frame → 0 < length frame →
@@ -168,37 +178,46 @@ signal_lost {S} passed count start after new s id frame wire new_wire is sends s
 -- ---- a turn
 
 -- a turn of a read and of what came of its answer
-pub turn_breaks : {S : Type 0} (passed : S → S → List WireAct → Type 0) (count : S → ℕ) (parts new : List Part) (id : LineId)
-    (quiet : ℕ) (answer : Result Reading WireFault) (buffer : List ℕ) (event : Event) (break : Break) (wire read new_wire : S) →
+pub turn_breaks : {S : Type 0} (passed : S → S → List WireAct → Type 0) (count : S → ℕ) (parts new : List Part)
+    (id : LineId)
+    (quiet : ℕ) (answer : Result Reading WireFault) (buffer : List ℕ) (event : Event) (break : Break)
+    (wire read new_wire : S) →
     ((a b c : S) (xs ys : List WireAct) → passed a b xs → passed b c ys → passed a c (xs ++ ys)) →
     passed wire read (answer_acts (heard_of answer buffer)) → count wire ≤ count read →
     OnErr answer (IsCounted (count wire) (count read)) → wire_event id quiet (heard_of answer buffer) ≡ Some event →
     EventBreaks passed count parts event break read new new_wire →
-    TurnBreaks passed count parts id quiet (record { heard = heard_of answer buffer; event = event; break = break }) wire new new_wire
-turn_breaks passed count parts new id quiet answer buffer event break wire read new_wire more answered counts counted told b = record {
-  told = told;
-  hub = b.hub;
-  acts = more wire read new_wire (answer_acts (heard_of answer buffer)) (acts_before parts break event) answered b.acts;
-  stop = b.stop;
-  counts = omega (arith, counts, b.counts);
-  counted = λ fault. ⊎_elim (λ (w : heard_of answer buffer ≡ Failed). counted_on (count wire) (count read) (count new_wire) counts
-      b.counts (failed-err answer buffer w counted))
-      (λ (w : IsAtLoss break). counted_from (count wire) (count read) (count new_wire) counts (b.counted w)) fault;
-}
+    TurnBreaks passed count parts id quiet (record { heard = heard_of answer buffer; event = event; break = break })
+    wire new new_wire
+turn_breaks passed count parts new id quiet answer buffer event break wire read new_wire more answered counts counted
+    told b = record {
+      told = told;
+      hub = b.hub;
+      acts = more wire read new_wire (answer_acts (heard_of answer buffer)) (acts_before parts break event) answered
+          b.acts;
+      stop = b.stop;
+      counts = omega (arith, counts, b.counts);
+      counted = λ fault. ⊎_elim (λ (w : heard_of answer buffer ≡ Failed). counted_on (count wire) (count read)
+          (count new_wire) counts
+          b.counts (failed-err answer buffer w counted))
+          (λ (w : IsAtLoss break). counted_from (count wire) (count read) (count new_wire) counts (b.counted w)) fault;
+    }
 
 -- ---- a round
 
 -- some wires had their turns, and the next one's was broken off
-pub round_stops : {S : Type 0} {passed : S → S → List WireAct → Type 0} {count : S → ℕ} {lines : List LineId} {parts : List Part}
+pub round_stops : {S : Type 0} {passed : S → S → List WireAct → Type 0} {count : S → ℕ} {lines : List LineId}
+    {parts : List Part}
     {quiets : List ℕ} {wires : List S} {turns : List Turn} {now : List Part} {now_quiets : List ℕ} {now_wires : List S}
     {new : List Part} {new_wire : S} (i : ℕ) (wire : S) (turn : BrokenTurn) →
     IsRound passed count lines parts quiets wires turns now now_quiets now_wires → length turns ≡ i → i < length lines →
     i < length now_wires → wire ≡ get_or now_wires i wire →
     TurnBreaks passed count now (get_or lines i no_line_id) (get_or now_quiets i 0) turn wire new new_wire →
     RoundStops passed count lines parts quiets wires new (set now_wires i new_wire)
-round_stops {S} {passed} {count} {lines} {parts} {quiets} {wires} {turns} {now} {now_quiets} {now_wires} {new} {new_wire} i wire turn
+round_stops {S} {passed} {count} {lines} {parts} {quiets} {wires} {turns} {now} {now_quiets} {now_wires} {new}
+    {new_wire} i wire turn
     so_far at within wires_left wire_is broke =
-    let P : ℕ → S → Type 0 = λ k w. TurnBreaks passed count now (get_or lines k no_line_id) (get_or now_quiets k 0) turn w new
+    let P : ℕ → S → Type 0 = λ k w. TurnBreaks passed count now (get_or lines k no_line_id) (get_or now_quiets k 0) turn
+    w new
     new_wire in
     record {
       turns = turns;
@@ -217,9 +236,11 @@ round_stops {S} {passed} {count} {lines} {parts} {quiets} {wires} {turns} {now} 
     }
 
 -- the next wire had its turn, or the beginning of one, and no byte went out of it
-pub withheld_on : {S : Type 0} (withheld : S → S → Type 0) → ((a b c : S) → withheld a b → withheld b c → withheld a c) →
+pub withheld_on : {S : Type 0} (withheld : S → S → Type 0)
+    → ((a b c : S) → withheld a b → withheld b c → withheld a c) →
     (wires now_wires : List S) (i : ℕ) (wire new_wire : S) → i < length now_wires → wire ≡ get_or now_wires i wire →
-    AreWithheld withheld wires now_wires → withheld wire new_wire → AreWithheld withheld wires (set now_wires i new_wire)
+    AreWithheld withheld wires now_wires → withheld wire new_wire
+    → AreWithheld withheld wires (set now_wires i new_wire)
 withheld_on {S} withheld more wires now_wires i wire new_wire there wire_is so_far this = λ k d. at k d (cases_eq k i)
   where
     at : (k : ℕ) (d : S) → (k ≡ i) ⊎ (k ≢ i) → withheld (get_or wires k d) (get_or (set now_wires i new_wire) k d)
@@ -239,8 +260,10 @@ withheld_on {S} withheld more wires now_wires i wire new_wire there wire_is so_f
 -- new routes, and the keeper that failed behind them
 pub routes_break : {K : Type 0} (may_leave : K → List (List KeptFile) → Type 0) (parts new : List Part) (c : ℕ)
     (routes : List GivenRoute) (keeper : K) →
-    new ≡ set parts c (part_after_routes (entries_of_routes (new_routes_of c routes)) (part c parts)) → c < length parts →
-    routes_checked (part c parts).customer.entry (new_routes_of c routes) ≡ Ok tt → LeavesEither may_leave keeper parts new →
+    new ≡ set parts c (part_after_routes (entries_of_routes (new_routes_of c routes)) (part c parts))
+    → c < length parts →
+    routes_checked (part c parts).customer.entry (new_routes_of c routes) ≡ Ok tt
+    → LeavesEither may_leave keeper parts new →
     RoutesBreak may_leave parts (c, routes) new keeper
 routes_break may_leave parts new c routes keeper is known checked leaves = record {
   named = (known, checked);

@@ -19,11 +19,13 @@ is_partial_on kind Idle s sound agrees = tt
 is_partial_on kind (Open n progress) s sound agrees = partial_records_in kind progress n s sound agrees
 is_partial_on kind Draining s sound agrees = tt
 
-all_at_places : {X : Type 0} (P : X → Type 0) (none : X) (xs : List X) → ((k : ℕ) → P (slice_index_or xs k none)) → AllByRecursion P xs
+all_at_places : {X : Type 0} (P : X → Type 0) (none : X) (xs : List X) → ((k : ℕ) → P (slice_index_or xs k none))
+    → AllByRecursion P xs
 all_at_places P none [] each = tt
 all_at_places P none (x ∷ xs) each = (each 0, all_at_places P none xs (λ k. each (suc k)))
 
-receivers_at : (lines : List CustomerLine) (l : ℕ) → slice_index_or (streams_to_hub lines) l [] ≡ (line_at l lines).receivers
+receivers_at : (lines : List CustomerLine) (l : ℕ)
+    → slice_index_or (streams_to_hub lines) l [] ≡ (line_at l lines).receivers
 receivers_at [] l = refl
 receivers_at (line ∷ lines) zero = refl
 receivers_at (line ∷ lines) (suc l) = receivers_at lines l
@@ -34,7 +36,8 @@ pub all_are_partial : (lines : List CustomerLine) (s : CustomerSpool) (l : ℕ) 
 all_are_partial lines s l kind sound agree =
     subst (AllByRecursion (IsPartialOn s)) (receivers_at lines l)
     (all_at_places (IsPartialOn s) Idle (slice_index_or (streams_to_hub lines) l [])
-    (λ k. is_partial_on (kind k) (slice_index_or (slice_index_or (streams_to_hub lines) l []) k Idle) s sound (agree k)))
+    (λ k. is_partial_on (kind k) (slice_index_or (slice_index_or (streams_to_hub lines) l []) k Idle) s sound
+    (agree k)))
 
 -- ---- a customer that isn't there
 

@@ -21,27 +21,33 @@ on_err (Ok x) p = cc
 on_err (Err e) p = p
 
 -- and none goes
-pub still_there : (parts new : List Part) (c : ℕ) (after : Part) → new ≡ set parts c after → c < length parts → c < length new
-still_there parts new c after is there = omega (arith, there, ap (λ (ps : List Part). length ps) is, length-set parts c after)
+pub still_there : (parts new : List Part) (c : ℕ) (after : Part) → new ≡ set parts c after → c < length parts
+    → c < length new
+still_there parts new c after is there = omega
+    (arith, there, ap (λ (ps : List Part). length ps) is, length-set parts c after)
 
 -- what a crash leaves behind a call that keeps nothing more
-pub leaves_only : {K : Type 0} (may_leave : K → List (List KeptFile) → Type 0) (keeper new_keeper : K) (parts : List Part) →
+pub leaves_only : {K : Type 0} (may_leave : K → List (List KeptFile) → Type 0) (keeper new_keeper : K)
+    (parts : List Part) →
     LeavesOnly may_leave keeper parts → LeavesNoMore may_leave keeper new_keeper → LeavesOnly may_leave new_keeper parts
 leaves_only may_leave keeper new_keeper parts only no_more = λ left now. only left (no_more left now)
 
 -- behind one call and then another
-pub no_more_then : {K : Type 0} (may_leave : K → List (List KeptFile) → Type 0) (a b c : K) → LeavesNoMore may_leave a b →
+pub no_more_then : {K : Type 0} (may_leave : K → List (List KeptFile) → Type 0) (a b c : K)
+    → LeavesNoMore may_leave a b →
     LeavesNoMore may_leave b c → LeavesNoMore may_leave a c
 no_more_then may_leave a b c first then = λ left now. first left (then left now)
 
-pub either_of_only : {K : Type 0} (may_leave : K → List (List KeptFile) → Type 0) (keeper : K) (before behind : List Part) →
+pub either_of_only : {K : Type 0} (may_leave : K → List (List KeptFile) → Type 0) (keeper : K)
+    (before behind : List Part) →
     LeavesOnly may_leave keeper before → LeavesEither may_leave keeper before behind
 either_of_only may_leave keeper before behind only = λ left now. inl (only left now)
 
 -- ---- turns
 
 -- the keeper was called before
-pub follows_on : {K A E : Type 0} (may_leave : K → List (List KeptFile) → Type 0) (knows : K → List Part → Type 0) (count : K → ℕ)
+pub follows_on : {K A E : Type 0} (may_leave : K → List (List KeptFile) → Type 0) (knows : K → List Part → Type 0)
+    (count : K → ℕ)
     (first keeper new_keeper : K) (result : Result A E) (parts : List Part) → LeavesNoMore may_leave first keeper →
     count keeper ≡ count first → Follows may_leave knows count keeper result parts new_keeper →
     Follows may_leave knows count first result parts new_keeper
@@ -61,9 +67,12 @@ follows_on may_leave knows count first keeper new_keeper (Err e) parts no_more b
 }
 
 -- all went well
-pub follows_well : {K A E : Type 0} (may_leave : K → List (List KeptFile) → Type 0) (knows : K → List Part → Type 0) (count : K → ℕ)
-    (keeper new_keeper : K) (x : A) (parts : List Part) → knows new_keeper parts → LeavesNoMore may_leave keeper new_keeper →
-    count new_keeper ≡ count keeper → Follows {K = K} {A = A} {E = E} may_leave knows count keeper (Ok x) parts new_keeper
+pub follows_well : {K A E : Type 0} (may_leave : K → List (List KeptFile) → Type 0) (knows : K → List Part → Type 0)
+    (count : K → ℕ)
+    (keeper new_keeper : K) (x : A) (parts : List Part) → knows new_keeper parts
+    → LeavesNoMore may_leave keeper new_keeper →
+    count new_keeper ≡ count keeper → Follows {K = K} {A = A} {E = E} may_leave knows count keeper (Ok x) parts
+    new_keeper
 follows_well may_leave knows count keeper new_keeper x parts known no_more faultless = record {
   known = known;
   leaves = no_more;
@@ -73,7 +82,8 @@ follows_well may_leave knows count keeper new_keeper x parts known no_more fault
 }
 
 -- the keeper failed
-pub follows_ill : {K A E : Type 0} (may_leave : K → List (List KeptFile) → Type 0) (knows : K → List Part → Type 0) (count : K → ℕ)
+pub follows_ill : {K A E : Type 0} (may_leave : K → List (List KeptFile) → Type 0) (knows : K → List Part → Type 0)
+    (count : K → ℕ)
     (keeper new_keeper : K) (e : E) (parts : List Part) → LeavesNoMore may_leave keeper new_keeper →
     count keeper ≤ count new_keeper → IsCounted (count keeper) (count new_keeper) →
     Follows {K = K} {A = A} {E = E} may_leave knows count keeper (Err e) parts new_keeper
@@ -88,7 +98,8 @@ follows_ill may_leave knows count keeper new_keeper e parts no_more counts count
 -- ---- rounds
 
 -- all went well
-pub keeps_well : {K A E : Type 0} (may_leave : K → List (List KeptFile) → Type 0) (knows : K → List Part → Type 0) (count : K → ℕ)
+pub keeps_well : {K A E : Type 0} (may_leave : K → List (List KeptFile) → Type 0) (knows : K → List Part → Type 0)
+    (count : K → ℕ)
     (keeper new_keeper : K) (x : A) (parts : List Part) → IsSettled may_leave knows new_keeper parts →
     count new_keeper ≡ count keeper → Keeps {K = K} {A = A} {E = E} may_leave knows count keeper (Ok x) parts new_keeper
 keeps_well may_leave knows count keeper new_keeper x parts settled faultless = record {
@@ -99,7 +110,8 @@ keeps_well may_leave knows count keeper new_keeper x parts settled faultless = r
 }
 
 -- the keeper failed
-pub keeps_ill : {K A E : Type 0} (may_leave : K → List (List KeptFile) → Type 0) (knows : K → List Part → Type 0) (count : K → ℕ)
+pub keeps_ill : {K A E : Type 0} (may_leave : K → List (List KeptFile) → Type 0) (knows : K → List Part → Type 0)
+    (count : K → ℕ)
     (keeper new_keeper : K) (e : E) (parts : List Part) → count keeper ≤ count new_keeper →
     IsCounted (count keeper) (count new_keeper) →
     Keeps {K = K} {A = A} {E = E} may_leave knows count keeper (Err e) parts new_keeper

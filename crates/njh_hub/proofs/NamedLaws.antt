@@ -32,7 +32,8 @@ hub_run-length parts (event ∷ events) =
 alone_run-checked : EventsKeepFaults → (p : Part) (events : List OwnEvent) (routes : List NewRoute) →
     routes_checked (alone_run p events).after.customer.entry routes ≡ routes_checked p.customer.entry routes
 alone_run-checked kept p [] routes = refl
-alone_run-checked kept p (event ∷ events) routes = alone_run-checked kept (event_run p event).after events routes ∙ kept p event routes
+alone_run-checked kept p (event ∷ events) routes = alone_run-checked kept (event_run p event).after events routes
+    ∙ kept p event routes
 
 -- A hub that some events led on has the same lines and customers, and refuses the same routes.
 pub record LedOn (start now : List Part) : Type 0 where
@@ -41,7 +42,8 @@ pub record LedOn (start now : List Part) : Type 0 where
   pub checked : (c : ℕ) → c < length start → (routes : List NewRoute)
       → routes_checked (part c now).customer.entry routes ≡ routes_checked (part c start).customer.entry routes
 
-pub led_on : EventsKeepFaults → (start now : List Part) (events : List Event) → now ≡ (hub_run start events).parts → SameLines start now
+pub led_on : EventsKeepFaults → (start now : List Part) (events : List Event) → now ≡ (hub_run start events).parts
+    → SameLines start now
     → LedOn start now
 led_on kept start now events leads same = record {
   many = ap (λ (ps : List Part). length ps) leads ∙ hub_run-length start events;
@@ -58,13 +60,16 @@ named-before start now on (Tick id) known = omega (arith, known, on.lines id.cus
 named-before start now on (Garbled id) known = omega (arith, known, on.lines id.customer)
 named-before start now on (Lost id) known = omega (arith, known, on.lines id.customer)
 named-before start now on (Routes c routes) known =
-    let there : c < length start = omega (arith, known.0, on.many) in (there, sym (on.checked c there (new_routes_of c routes)) ∙ known.1)
+    let there : c < length start = omega (arith, known.0, on.many)
+    in (there, sym (on.checked c there (new_routes_of c routes)) ∙ known.1)
 
-IsSomeAnd-weaker : {X : Type 0} (P Q : X → Type 0) → ((x : X) → P x → Q x) → (o : Option X) → IsSomeAnd o P → IsSomeAnd o Q
+IsSomeAnd-weaker : {X : Type 0} (P Q : X → Type 0) → ((x : X) → P x → Q x) → (o : Option X) → IsSomeAnd o P
+    → IsSomeAnd o Q
 IsSomeAnd-weaker P Q weaker None is = is
 IsSomeAnd-weaker P Q weaker (Some x) is = weaker x is
 
-pub refused-before : (start now : List Part) → LedOn start now → (event : Event) (why : HubFault) → IsRefused now event why →
+pub refused-before : (start now : List Part) → LedOn start now → (event : Event) (why : HubFault)
+    → IsRefused now event why →
     IsRefused start event why
 refused-before start now on event UnknownLine refused = IsSomeAnd-weaker _ _
     (λ line nowhere known. nowhere (omega (arith, known, on.lines line.customer))) (line_of_event event) refused
@@ -87,7 +92,8 @@ step-refused parts event id on named UnknownCustomer unknown memory =
 step-refused parts event id on named (BadRoutes cause) unknown memory =
     let never : HasLine parts id → ⊥ = λ known. cc (memory known) in cc (unknown never)
 step-refused parts event id on named Memory unknown memory =
-    ⊎_elim named (λ (w : length (part id.customer parts).customer.lines ≤ id.number). absurd (let never : HasLine parts id →
+    ⊎_elim named (λ (w : length (part id.customer parts).customer.lines ≤ id.number). absurd
+    (let never : HasLine parts id →
     ⊥ = λ known. omega arith in cc (unknown never)))
     (cases_lt id.number (length (part id.customer parts).customer.lines))
 
@@ -100,7 +106,8 @@ either_event (Lost id) = inl refl
 either_event (Routes c routes) = inr refl
 
 -- of one event more
-pub All-more : (P : Event → Type 0) (events : List Event) (i : ℕ) (event : Event) → i < length events → event ≡ get_or events i event →
+pub All-more : (P : Event → Type 0) (events : List Event) (i : ℕ) (event : Event) → i < length events
+    → event ≡ get_or events i event →
     All P (take i events) → P event → All P (take (i + 1) events)
 All-more P events i event within found before here = All-same P _ _
     (take_more events i event within ∙ ap (λ (x : Event). take i events ++ x ∷ []) (sym found))
@@ -120,20 +127,24 @@ behind-known start events i n bytes event within found stop behind known =
     stop
 
 -- the event at which a run stopped
-pub found_at : (events : List Event) (i n : ℕ) (event : Event) → i < length events → event ≡ get_or events i event → n ≡ 0 →
+pub found_at : (events : List Event) (i n : ℕ) (event : Event) → i < length events → event ≡ get_or events i event
+    → n ≡ 0 →
     slice_get events (i + n) ≡ Some event
 found_at events i n event within found here =
     let e : i + n ≡ i = omega arith in
     ap (slice_get events) e ∙ slice_get-get_or events i event within ∙ ap Some (sym found)
 
-IfHub-weaker : (P Q : HubFault → Type 0) → ((why : HubFault) → P why → Q why) → (cause : Cause) → IfHub cause P → IfHub cause Q
+IfHub-weaker : (P Q : HubFault → Type 0) → ((why : HubFault) → P why → Q why) → (cause : Cause) → IfHub cause P
+    → IfHub cause Q
 IfHub-weaker P Q weaker (Hub why) is = weaker why is
 IfHub-weaker P Q weaker Sink is = tt
 
 -- it is refused, where the hub is the cause
-pub refused_at : (start now : List Part) → LedOn start now → (events : List Event) (i n : ℕ) (event : Event) → i < length events →
+pub refused_at : (start now : List Part) → LedOn start now → (events : List Event) (i n : ℕ) (event : Event)
+    → i < length events →
     event ≡ get_or events i event → (cause : Cause) → IfHub cause (λ why. (n ≡ 0) × IsRefused now event why) →
     IfHub cause (λ why. IsSomeAnd (slice_get events (i + n)) (λ e. IsRefused start e why))
 refused_at start now on events i n event within found cause stopped = IfHub-weaker _ _
-    (λ why told. subst (λ (o : Option Event). IsSomeAnd o (λ e. IsRefused start e why)) (sym (found_at events i n event within found told.0))
+    (λ why told. subst (λ (o : Option Event). IsSomeAnd o (λ e. IsRefused start e why))
+    (sym (found_at events i n event within found told.0))
     (refused-before start now on event why told.1)) cause stopped

@@ -20,7 +20,8 @@ use Rattle.njh_hub.proofs.PartsLaws.{length-parts_of, part-there}
 -- All marks of a table were taken away, and the files and the lines of its customers were opened.
 pub record AreOpened (from table : TableFile) (files : List CustomerSpool) (lines : List Lines) : Type 0 where
   pub down : table ≡ without_marks from
-  pub entries : (t : TableFile) (c : ℕ) → c < length t.customers → entry_of (customer_at (without_marks t) c) ≡ entry_unmarked (entry_of (customer_at t c))
+  pub entries : (t : TableFile) (c : ℕ) → c < length t.customers
+      → entry_of (customer_at (without_marks t) c) ≡ entry_unmarked (entry_of (customer_at t c))
   pub empty : files ≡ map empty_files table.customers
   pub count : length lines ≡ length table.customers
   pub each : (c : ℕ) → c < length table.customers →
@@ -28,19 +29,24 @@ pub record AreOpened (from table : TableFile) (files : List CustomerSpool) (line
       ≡ part_at_open (entry_of (customer_at table c))
 
 -- there are as many customers, with the entries that they had, without their marks
-pub as_many : {from table : TableFile} {files : List CustomerSpool} {lines : List Lines} → AreOpened from table files lines
+pub as_many : {from table : TableFile} {files : List CustomerSpool} {lines : List Lines}
+    → AreOpened from table files lines
     → length table.customers ≡ length from.customers
 as_many {from} {table} {files} {lines} o =
     ap (λ (t : TableFile). length t.customers) o.down ∙ length-map from.customers customer_unmarked
 
-pub entry-down : {from table : TableFile} {files : List CustomerSpool} {lines : List Lines} → AreOpened from table files lines
-    → (c : ℕ) → c < length table.customers → entry_of (customer_at table c) ≡ entry_unmarked (entry_of (customer_at from c))
+pub entry-down : {from table : TableFile} {files : List CustomerSpool} {lines : List Lines}
+    → AreOpened from table files lines
+    → (c : ℕ) → c < length table.customers
+    → entry_of (customer_at table c) ≡ entry_unmarked (entry_of (customer_at from c))
 entry-down {from} {table} {files} {lines} o c there =
     ap (λ t. entry_of (customer_at t c)) o.down ∙ o.entries from c (omega (arith, there, as_many o))
 
 -- the part of each is that of a customer just opened
-pub held-opened : {from table : TableFile} {files : List CustomerSpool} {lines : List Lines} → AreOpened from table files lines
-    → (c : ℕ) → c < length table.customers → part_held table files lines c ≡ part_at_open (entry_of (customer_at table c))
+pub held-opened : {from table : TableFile} {files : List CustomerSpool} {lines : List Lines}
+    → AreOpened from table files lines
+    → (c : ℕ) → c < length table.customers
+    → part_held table files lines c ≡ part_at_open (entry_of (customer_at table c))
 held-opened {from} {table} {files} {lines} o c there =
     let is : entry_of (customer_at table c) ≡ entry_unmarked (entry_of (customer_at table c)) =
     entry-down o c there ∙ ap entry_unmarked (sym (entry-down o c there)) in
@@ -49,7 +55,8 @@ held-opened {from} {table} {files} {lines} o c there =
     ∙ o.each c there
 
 -- the list of all parts
-pub parts-opened : {from table : TableFile} {files : List CustomerSpool} {lines : List Lines} → AreOpened from table files lines
+pub parts-opened : {from table : TableFile} {files : List CustomerSpool} {lines : List Lines}
+    → AreOpened from table files lines
     → parts_of table files lines ≡ map part_at_open (entries_of from)
 parts-opened {from} {table} {files} {lines} o =
     let long = length-parts_of table files lines in
@@ -64,7 +71,8 @@ parts-opened {from} {table} {files} {lines} o =
     ∙ sym (get_or-map part_at_open (entries_of from) c no_entry no_part (omega (arith, was_there, entries))))
 
 -- it belongs together
-pub hub-opened : {from table : TableFile} {files : List CustomerSpool} {lines : List Lines} → AreOpened from table files lines
+pub hub-opened : {from table : TableFile} {files : List CustomerSpool} {lines : List Lines}
+    → AreOpened from table files lines
     → IsAccepted table
     → ((entry : CustomerEntry) → All (λ line. line.streams ≤ 4) entry.lines → IsCoherent (fresh_customer entry))
     → ((entry : CustomerEntry) → IsMarked (fresh_customer entry))

@@ -11,7 +11,8 @@ use Rattle.njh_hub.specs.OwnEvents.{first_bytes, first_events}
 use Rattle.njh_hub.specs.WholeHub.{Part, part, sent_by, hub_event, hub_run}
 use Rattle.njh_hub.proofs.PieceLaws.{sent_by-append}
 
-sent_by-begins : (c : ℕ) (front whole : List (ℕ × List ℕ)) → Begins front whole → Begins (sent_by c front ++ []) (sent_by c whole)
+sent_by-begins : (c : ℕ) (front whole : List (ℕ × List ℕ)) → Begins front whole
+    → Begins (sent_by c front ++ []) (sent_by c whole)
 sent_by-begins c front whole begins = (
   sent_by c begins.0,
   ap (λ (s : List (LineId × List ℕ)). s ++ sent_by c begins.0) (append-nil (sent_by c front))
@@ -26,8 +27,10 @@ event-begins first parts (Bytes id piece) (suc n) =
     let p = part id.customer parts in
     let front = take (suc n) piece in
     let sent = (event_run p (OwnBytes id.number front)).sent in
-    let P : List ℕ → Type 0 = λ bytes. Begins (sent_by id.customer sent ++ []) (sent_by id.customer (event_run p (OwnBytes id.number bytes)).sent) in
-    subst P (take-append-drop (suc n) piece) (sent_by-begins id.customer sent _ (first p id.number front (drop (suc n) piece)))
+    let P : List ℕ → Type 0 = λ bytes. Begins (sent_by id.customer sent ++ [])
+    (sent_by id.customer (event_run p (OwnBytes id.number bytes)).sent) in
+    subst P (take-append-drop (suc n) piece)
+    (sent_by-begins id.customer sent _ (first p id.number front (drop (suc n) piece)))
 event-begins first parts (Tick id) (suc n) = ((hub_event parts (Tick id)).sent, refl)
 event-begins first parts (Garbled id) (suc n) = ((hub_event parts (Garbled id)).sent, refl)
 event-begins first parts (Lost id) (suc n) = ((hub_event parts (Lost id)).sent, refl)

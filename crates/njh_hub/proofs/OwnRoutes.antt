@@ -32,7 +32,8 @@ own_service c lines quiets (Round turns ∷ story) =
     ∙ ap (λ (es : List OwnEvent). events_of c first ++ es) (own_service c lines (quiets_after quiets turns) story)
     ∙ ap (λ (qs : List ℕ). events_of c first ++ events_of c (service_events mine qs (own_story c lines story)))
     (own_quiets c lines quiets turns)
-    ∙ sym (events_of-append c first (service_events mine (quiets_after (own_wires c lines quiets) (own_wires c lines turns))
+    ∙ sym (events_of-append c first (service_events mine
+    (quiets_after (own_wires c lines quiets) (own_wires c lines turns))
     (own_story c lines story)))
 own_service c lines quiets (NewRoutes d routes ∷ story) =
     routes_first c d routes (own_wires c lines lines) (own_wires c lines quiets) (own_story c lines story)

@@ -20,7 +20,8 @@ first-append false x xs ys zs e = e
 pub events_of-append : (c : ℕ) (xs ys : List Event) → events_of c (xs ++ ys) ≡ events_of c xs ++ events_of c ys
 events_of-append c [] ys = refl
 events_of-append c (x ∷ xs) ys =
-    first-append (eqb (customer_of_event x) c) (own x) (events_of c (xs ++ ys)) (events_of c xs) (events_of c ys) (events_of-append c xs ys)
+    first-append (eqb (customer_of_event x) c) (own x) (events_of c (xs ++ ys)) (events_of c xs) (events_of c ys)
+    (events_of-append c xs ys)
 
 -- ---- a turn of another customer's wire
 
@@ -58,24 +59,30 @@ customer_of-on (Garbled l) id on = same_customer l id on
 customer_of-on (Lost l) id on = same_customer l id on
 customer_of-on (Routes c routes) id on = cc on
 
-told-other : (c : ℕ) (id : LineId) (cut : Option ℕ) (event : Event) → line_of_event event ≡ Some id → eqb id.customer c ≡ false →
+told-other : (c : ℕ) (id : LineId) (cut : Option ℕ) (event : Event) → line_of_event event ≡ Some id
+    → eqb id.customer c ≡ false →
     events_of c (heard_events cut event) ≡ []
 told-other c id None event on other =
-    ap (λ (d : ℕ). cond (eqb d c) (own event ∷ []) []) (customer_of-on event id on) ∙ ap (λ (b : Bool). cond b (own event ∷ []) []) other
+    ap (λ (d : ℕ). cond (eqb d c) (own event ∷ []) []) (customer_of-on event id on)
+    ∙ ap (λ (b : Bool). cond b (own event ∷ []) []) other
 told-other c id (Some n) event on other =
     let last : List OwnEvent = events_of c (loss_of (line_of_event event)) in
-    ap (λ (d : ℕ). cond (eqb d c) (own (cut_to n event) ∷ last) last) (customer_of-cut n event ∙ customer_of-on event id on)
+    ap (λ (d : ℕ). cond (eqb d c) (own (cut_to n event) ∷ last) last)
+    (customer_of-cut n event ∙ customer_of-on event id on)
     ∙ ap (λ (b : Bool). cond b (own (cut_to n event) ∷ last) last) other
     ∙ ap (λ (o : Option LineId). events_of c (loss_of o)) on
     ∙ ap (λ (b : Bool). cond b (own (Lost id) ∷ []) []) other
 
-where-other : (c : ℕ) (id : LineId) (cut : Option ℕ) (event : Option Event) → OnLine id event → eqb id.customer c ≡ false →
+where-other : (c : ℕ) (id : LineId) (cut : Option ℕ) (event : Option Event) → OnLine id event
+    → eqb id.customer c ≡ false →
     events_of c (told_where cut event) ≡ []
 where-other c id cut None on other = refl
 where-other c id cut (Some event) on other = told-other c id cut event on other
 
-turn-other : (c : ℕ) (id : LineId) (quiet : ℕ) (turn : Turn) → eqb id.customer c ≡ false → events_of c (turn_events id quiet turn) ≡ []
-turn-other c id quiet turn other = where-other c id turn.cut (wire_event id quiet turn.heard) (event_on id quiet turn.heard) other
+turn-other : (c : ℕ) (id : LineId) (quiet : ℕ) (turn : Turn) → eqb id.customer c ≡ false
+    → events_of c (turn_events id quiet turn) ≡ []
+turn-other c id quiet turn other = where-other c id turn.cut (wire_event id quiet turn.heard)
+    (event_on id quiet turn.heard) other
 
 -- ---- a round
 
@@ -83,9 +90,11 @@ round_events-no_quiets : (lines : List LineId) (turns : List Turn) → round_eve
 round_events-no_quiets [] turns = refl
 round_events-no_quiets (line ∷ lines) turns = refl
 
-own_turn : (c : ℕ) (id : LineId) (quiet : ℕ) (turn : Turn) (lines : List LineId) (quiets : List ℕ) (turns : List Turn) (b : Bool) →
+own_turn : (c : ℕ) (id : LineId) (quiet : ℕ) (turn : Turn) (lines : List LineId) (quiets : List ℕ) (turns : List Turn)
+    (b : Bool) →
     eqb id.customer c ≡ b → events_of c (turn_events id quiet turn) ++ events_of c (round_events lines quiets turns)
-    ≡ events_of c (round_events (cond b (id ∷ lines) lines) (cond b (quiet ∷ quiets) quiets) (cond b (turn ∷ turns) turns))
+    ≡ events_of c (round_events (cond b (id ∷ lines) lines) (cond b (quiet ∷ quiets) quiets)
+    (cond b (turn ∷ turns) turns))
 own_turn c id quiet turn lines quiets turns true is =
     sym (events_of-append c (turn_events id quiet turn) (round_events lines quiets turns))
 own_turn c id quiet turn lines quiets turns false is =
@@ -96,9 +105,11 @@ pub own_round : (c : ℕ) (lines : List LineId) (quiets : List ℕ) (turns : Lis
     ≡ events_of c (round_events (own_wires c lines lines) (own_wires c lines quiets) (own_wires c lines turns))
 own_round c [] quiets turns = refl
 own_round c (line ∷ lines) [] turns =
-    sym (ap (events_of c) (round_events-no_quiets (own_wires c (line ∷ lines) (line ∷ lines)) (own_wires c (line ∷ lines) turns)))
+    sym (ap (events_of c) (round_events-no_quiets (own_wires c (line ∷ lines) (line ∷ lines))
+    (own_wires c (line ∷ lines) turns)))
 own_round c (line ∷ lines) (quiet ∷ quiets) [] =
-    sym (ap (events_of c) (round_events-none (own_wires c (line ∷ lines) (line ∷ lines)) (own_wires c (line ∷ lines) (quiet ∷ quiets))))
+    sym (ap (events_of c) (round_events-none (own_wires c (line ∷ lines) (line ∷ lines))
+    (own_wires c (line ∷ lines) (quiet ∷ quiets))))
 own_round c (line ∷ lines) (quiet ∷ quiets) (turn ∷ turns) =
     events_of-append c (turn_events line quiet turn) (round_events lines quiets turns)
     ∙ ap (λ (es : List OwnEvent). events_of c (turn_events line quiet turn) ++ es) (own_round c lines quiets turns)
@@ -117,7 +128,8 @@ own_quiets c [] quiets turns = refl
 own_quiets c (line ∷ lines) [] turns = refl
 own_quiets c (line ∷ lines) (quiet ∷ quiets) [] = quiets_after-none (own_wires c (line ∷ lines) (quiet ∷ quiets))
 own_quiets c (line ∷ lines) (quiet ∷ quiets) (turn ∷ turns) =
-    ap (λ (qs : List ℕ). cond (eqb line.customer c) (quiet_after quiet turn.heard ∷ qs) qs) (own_quiets c lines quiets turns)
+    ap (λ (qs : List ℕ). cond (eqb line.customer c) (quiet_after quiet turn.heard ∷ qs) qs)
+    (own_quiets c lines quiets turns)
     ∙ own_quiets-where quiet turn (own_wires c lines quiets) (own_wires c lines turns) (eqb line.customer c)
 
 no_quiets-where : (id : LineId) (lines : List LineId) (b : Bool) →
@@ -125,7 +137,8 @@ no_quiets-where : (id : LineId) (lines : List LineId) (b : Bool) →
 no_quiets-where id lines true = refl
 no_quiets-where id lines false = refl
 
-own_no_quiets : (c : ℕ) (lines : List LineId) → own_wires c lines (no_quiets lines) ≡ no_quiets (own_wires c lines lines)
+own_no_quiets : (c : ℕ) (lines : List LineId)
+    → own_wires c lines (no_quiets lines) ≡ no_quiets (own_wires c lines lines)
 own_no_quiets c [] = refl
 own_no_quiets c (line ∷ lines) =
     ap (λ (qs : List ℕ). cond (eqb line.customer c) (0 ∷ qs) qs) (own_no_quiets c lines)
@@ -141,7 +154,8 @@ own_rounds c lines quiets (round ∷ rounds) =
     let mine = own_wires c lines lines in
     let first = round_events mine (own_wires c lines quiets) (own_wires c lines round) in
     events_of-append c (round_events lines quiets round) (all_events lines (quiets_after quiets round) rounds)
-    ∙ ap (λ (es : List OwnEvent). es ++ events_of c (all_events lines (quiets_after quiets round) rounds)) (own_round c lines quiets round)
+    ∙ ap (λ (es : List OwnEvent). es ++ events_of c (all_events lines (quiets_after quiets round) rounds))
+    (own_round c lines quiets round)
     ∙ ap (λ (es : List OwnEvent). events_of c first ++ es) (own_rounds c lines (quiets_after quiets round) rounds)
     ∙ ap (λ (qs : List ℕ). events_of c first ++ events_of c (all_events mine qs (map (own_wires c lines) rounds)))
     (own_quiets c lines quiets round)
@@ -151,4 +165,5 @@ own_rounds c lines quiets (round ∷ rounds) =
 pub own_wires_decide : OwnWiresDecide
 own_wires_decide c lines rounds =
     own_rounds c lines (no_quiets lines) rounds
-    ∙ ap (λ (qs : List ℕ). events_of c (all_events (own_wires c lines lines) qs (map (own_wires c lines) rounds))) (own_no_quiets c lines)
+    ∙ ap (λ (qs : List ℕ). events_of c (all_events (own_wires c lines lines) qs (map (own_wires c lines) rounds)))
+    (own_no_quiets c lines)

@@ -59,5 +59,7 @@ after_bytes-step follow parts id a left there within =
     let P : Part → Type 0 = λ q. Goes parts id a left q in
     subst P (sym moved) (
     ap (λ (r : Run). run_with (set parts c r.after) (sent_by c r.sent)) (follow p l a left inside)
-    ∙ ap (λ (s : List (LineId × List ℕ)). run_with (set parts c t.after) s) (sent_by-append c x.sent (sent_on l t.frame))
-    ∙ ap (λ (ps : List Part). run_with ps (sent_by c x.sent ++ sent_by c (sent_on l t.frame))) (sym (set-set parts c x.after t.after)))
+    ∙ ap (λ (s : List (LineId × List ℕ)). run_with (set parts c t.after) s)
+    (sent_by-append c x.sent (sent_on l t.frame))
+    ∙ ap (λ (ps : List Part). run_with ps (sent_by c x.sent ++ sent_by c (sent_on l t.frame)))
+    (sym (set-set parts c x.after t.after)))

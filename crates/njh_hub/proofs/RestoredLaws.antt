@@ -1,5 +1,6 @@
 -- A hub of which one customer has a whole file more.
-use Rattle.std.proofs.Common.{◌≡◌, ℕ, ◌<◌, Bool, true, false, cond, ◌&&◌, List, length, set, slice_set, Option, Some, None}
+use Rattle.std.proofs.Common.{◌≡◌, ℕ, ◌<◌, Bool, true, false, cond, ◌&&◌, List, length, set, slice_set, Option, Some}
+use Rattle.std.proofs.Common.{None}
 use Rattle.std.proofs.Common.{Result, Ok, Err, IsOk, MatchOption, is_some, refl, sym, ap, subst, ◌∙◌, arith}
 use Rattle.std.proofs.lemmas.List.{get_or-set_same, length-set, set-set}
 use Rattle.std.proofs.lemmas.List.Elements.{All-push}
@@ -27,7 +28,8 @@ use Rattle.njh_hub.specs.code.HubInvariant.{IsHub}
 use Rattle.njh_hub.proofs.PartsLaws.{DifferAt, Moves, differ-nowhere, differ-set, part-there, parts-moved}
 
 abbrev NothingUnties : Type 0
-NothingUnties = (lines : List (List Receiver)) (s t : CustomerSpool) → t.partial ≡ s.partial → AreTied lines s → AreTied lines t
+NothingUnties = (lines : List (List Receiver)) (s t : CustomerSpool) → t.partial ≡ s.partial → AreTied lines s
+    → AreTied lines t
 
 -- ---- the file's headers read
 
@@ -41,7 +43,8 @@ both false b e = absurd (cc e)
 
 pub headers_by : (kind : Kind) (records : List Stored) → has_headers kind records ≡ true → HasHeaders kind records
 headers_by kind records reads =
-    let first = both (is_some (name_of records)) (is_some (file_owner records) && is_some (destination_of kind records)) reads in
+    let first = both (is_some (name_of records)) (is_some (file_owner records) && is_some (destination_of kind records))
+    reads in
     let rest = both (is_some (file_owner records)) (is_some (destination_of kind records)) first.1 in
     let name = some_of (name_of records) first.0 in
     let owner = some_of (file_owner records) rest.0 in
@@ -67,7 +70,8 @@ restored-headers f s r x told is =
 
 -- ---- the customer stays coherent
 
-coherent-restored : (f : KeptFile) (c : Customer) → NothingUnties → RoutesKeepCoherent → HasHeaders f.kind f.records → IsCoherent c
+coherent-restored : (f : KeptFile) (c : Customer) → NothingUnties → RoutesKeepCoherent → HasHeaders f.kind f.records
+    → IsCoherent c
     → IsCoherent (customer_with_file f c)
 coherent-restored f c untied kept reads coherent =
     let d : Customer = record c { spool = with_restored f c.spool } in
@@ -76,7 +80,8 @@ coherent-restored f c untied kept reads coherent =
       streamed = coherent.streamed;
       headers =
           All-push (λ (g : WholeFile). HasHeaders g.kind g.records) c.spool.whole
-          (record { number = next_number c.spool; kind = f.kind; records = f.records; state = state_back f.held }) coherent.headers reads;
+          (record { number = next_number c.spool; kind = f.kind; records = f.records; state = state_back f.held })
+          coherent.headers reads;
       quota = coherent.quota;
       limit = coherent.limit;
       marks = coherent.marks;
@@ -98,7 +103,8 @@ pub record Restores (table : TableFile) (files : List CustomerSpool) (lines : Li
   pub kept : RoutesKeepCoherent
 
 module _ {table : TableFile} {files : List CustomerSpool} {lines : List Lines} {c : ℕ} {f : KeptFile}
-    {between after : List CustomerSpool} {entry : NamedCustomer} (r : Restores table files lines c f between after entry) where
+    {between after : List CustomerSpool} {entry : NamedCustomer}
+    (r : Restores table files lines c f between after entry) where
   abbrev own : CustomerSpool
   own = spools.spool_at c files
 
@@ -111,8 +117,10 @@ module _ {table : TableFile} {files : List CustomerSpool} {lines : List Lines} {
   now_is : unrouted_held (entry_of entry) (spools.spool_at c between) ≡ now
   now_is =
       ap (λ (e : NamedCustomer). unrouted_held (entry_of e) (spools.spool_at c between)) r.is_entry
-      ∙ ap (λ (ss : List CustomerSpool). unrouted_held (entry_of (customer_at table c)) (spools.spool_at c ss)) r.restored
-      ∙ ap (unrouted_held (entry_of (customer_at table c))) (get_or-set_same files c (with_restored f own) spools.no_spool range)
+      ∙ ap (λ (ss : List CustomerSpool). unrouted_held (entry_of (customer_at table c)) (spools.spool_at c ss))
+      r.restored
+      ∙ ap (unrouted_held (entry_of (customer_at table c)))
+      (get_or-set_same files c (with_restored f own) spools.no_spool range)
 
   files_are : after ≡ slice_set files c now
   files_are =
@@ -134,21 +142,31 @@ module _ {table : TableFile} {files : List CustomerSpool} {lines : List Lines} {
         (differ-set spools.no_spool c files now);
     in_lines = differ-nowhere no_lines c lines;
     coherent = subst (λ (p : Part). IsCoherent p.customer) (sym held-restored)
-        (coherent-restored f (part_held table files lines c).customer r.untied r.kept r.reads (r.hub.coherent c r.there));
+        (coherent-restored f (part_held table files lines c).customer r.untied r.kept r.reads
+        (r.hub.coherent c r.there));
     marked = subst (λ (p : Part). IsMarked p.customer) (sym held-restored) (r.hub.marked c r.there);
   }
 
-  pub parts-restored : parts_of table after lines ≡ set (parts_of table files lines) c (part_with_file f (part c (parts_of table files lines)))
+  pub parts-restored : parts_of table after lines ≡ set (parts_of table files lines) c
+      (part_with_file f (part c (parts_of table files lines)))
   parts-restored =
       parts-moved restores
-      ∙ ap (set (parts_of table files lines) c) (held-restored ∙ ap (part_with_file f) (sym (part-there table files lines c r.there)))
+      ∙ ap (set (parts_of table files lines) c)
+      (held-restored ∙ ap (part_with_file f) (sym (part-there table files lines c r.there)))
 
 -- the customer's files, as the hub shows them
-pub spool-there : (table : TableFile) (files : List CustomerSpool) (lines : List Lines) (c : ℕ) → c < length table.customers
+pub spool-there : (table : TableFile) (files : List CustomerSpool) (lines : List Lines) (c : ℕ)
+    → c < length table.customers
     → (part c (parts_of table files lines)).customer.spool ≡ spools.spool_at c files
 spool-there table files lines c there = ap (λ (p : Part). p.customer.spool) (part-there table files lines c there)
 
 pub restored-range : (files between : List CustomerSpool) (c : ℕ) (f : KeptFile)
     → between ≡ slice_set files c (with_restored f (spools.spool_at c files)) → c < length files → c < length between
 restored-range files between c f restored range =
-    omega (arith, range, ap (λ (ss : List CustomerSpool). length ss) restored, length-set files c (with_restored f (spools.spool_at c files)))
+    omega (
+      arith,
+      range,
+      ap (λ (ss : List CustomerSpool). length ss) restored,
+      length-set files c
+          (with_restored f (spools.spool_at c files)),
+    )

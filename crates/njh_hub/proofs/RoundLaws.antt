@@ -28,7 +28,8 @@ round_events-none (line ∷ lines) (quiet ∷ quiets) = refl
 
 pub round_events-more : (lines : List LineId) (quiets : List ℕ) (turns : List Turn) (turn : Turn) →
     length turns < length lines → length turns < length quiets → round_events lines quiets (turns ++ turn ∷ [])
-    ≡ round_events lines quiets turns ++ turn_events (get_or lines (length turns) no_line_id) (get_or quiets (length turns) 0) turn
+    ≡ round_events lines quiets turns ++ turn_events (get_or lines (length turns) no_line_id)
+    (get_or quiets (length turns) 0) turn
 round_events-more [] quiets turns turn h k = absurd (omega arith)
 round_events-more (l ∷ ls) [] turns turn h k = absurd (omega arith)
 round_events-more (l ∷ ls) (q ∷ qs) [] turn h k =
@@ -54,7 +55,8 @@ pub quiets_after-more : (quiets : List ℕ) (turns : List Turn) (turn : Turn) �
 quiets_after-more [] turns turn = refl
 quiets_after-more (q ∷ []) [] turn = refl
 quiets_after-more (q ∷ r ∷ qs) [] turn = refl
-quiets_after-more (q ∷ qs) (t ∷ ts) turn = ap (λ (xs : List ℕ). quiet_after q t.heard ∷ xs) (quiets_after-more qs ts turn)
+quiets_after-more (q ∷ qs) (t ∷ ts) turn =
+    ap (λ (xs : List ℕ). quiet_after q t.heard ∷ xs) (quiets_after-more qs ts turn)
 
 pub length-quiets_after : (quiets : List ℕ) (turns : List Turn) → length (quiets_after quiets turns) ≡ length quiets
 length-quiets_after [] turns = refl
@@ -68,7 +70,8 @@ placed-before parts lines quiets i turns turn h =
     ap (λ (ts : List Turn). record (turn_at parts lines quiets i (turns ++ turn ∷ [])) {
       parts = (hub_run parts (round_events lines quiets ts)).parts;
     }) (take-append-le i turns (turn ∷ []) (omega arith))
-    ∙ ap (λ (t : Turn). record (turn_at parts lines quiets i turns) { turn = t }) (get_or_append_left turns (turn ∷ []) no_turn i h)
+    ∙ ap (λ (t : Turn). record (turn_at parts lines quiets i turns) { turn = t })
+    (get_or_append_left turns (turn ∷ []) no_turn i h)
 
 placed-here : (parts : List Part) (lines : List LineId) (quiets : List ℕ) (turns : List Turn) (turn : Turn) →
     turn_at parts lines quiets (length turns) (turns ++ turn ∷ []) ≡ record {
@@ -87,8 +90,10 @@ placed-here parts lines quiets turns turn =
     }) (get_or-append_seam turns turn [] no_turn)
 
 -- One wire more had its turn.
-pub record GoesRound {S : Type 0} (passed : S → S → List WireAct → Type 0) (count : S → ℕ) (lines : List LineId) (parts : List Part)
-    (quiets : List ℕ) (wires : List S) (turns : List Turn) (now : List Part) (now_quiets : List ℕ) (now_wires : List S) (i : ℕ)
+pub record GoesRound {S : Type 0} (passed : S → S → List WireAct → Type 0) (count : S → ℕ) (lines : List LineId)
+    (parts : List Part)
+    (quiets : List ℕ) (wires : List S) (turns : List Turn) (now : List Part) (now_quiets : List ℕ) (now_wires : List S)
+    (i : ℕ)
     (id : LineId) (quiet : ℕ) (turn : Turn) (wire : S) (new : List Part) (new_wire : S) : Type 0 where
   pub so_far : IsRound passed count lines parts quiets wires turns now now_quiets now_wires
   pub at : length turns ≡ i
@@ -101,14 +106,18 @@ pub record GoesRound {S : Type 0} (passed : S → S → List WireAct → Type 0)
   pub did : IsTurn passed count now id quiet turn wire new new_wire
 
 -- the wires that had their turn, that one among them
-round_had : {S : Type 0} {passed : S → S → List WireAct → Type 0} {count : S → ℕ} {lines : List LineId} {parts : List Part}
-    {quiets : List ℕ} {wires : List S} {turns : List Turn} {now : List Part} {now_quiets : List ℕ} {now_wires : List S} {i : ℕ}
+round_had : {S : Type 0} {passed : S → S → List WireAct → Type 0} {count : S → ℕ} {lines : List LineId}
+    {parts : List Part}
+    {quiets : List ℕ} {wires : List S} {turns : List Turn} {now : List Part} {now_quiets : List ℕ} {now_wires : List S}
+    {i : ℕ}
     {id : LineId} {quiet : ℕ} {turn : Turn} {wire : S} {new : List Part} {new_wire : S} →
     GoesRound passed count lines parts quiets wires turns now now_quiets now_wires i id quiet turn wire new new_wire →
     HadTurn passed count (turn_at parts lines quiets (length turns) (turns ++ turn ∷ [])) wire new_wire →
     (k : ℕ) (d : S) → k < length (turns ++ turn ∷ []) → (k < length turns) ⊎ (length turns ≤ k) →
-    HadTurn passed count (turn_at parts lines quiets k (turns ++ turn ∷ [])) (get_or wires k d) (get_or (set now_wires i new_wire) k d)
-round_had {S} {passed} {count} {lines} {parts} {quiets} {wires} {turns} {now} {now_quiets} {now_wires} {i} {id} {quiet} {turn} {wire}
+    HadTurn passed count (turn_at parts lines quiets k (turns ++ turn ∷ [])) (get_or wires k d)
+    (get_or (set now_wires i new_wire) k d)
+round_had {S} {passed} {count} {lines} {parts} {quiets} {wires} {turns} {now} {now_quiets} {now_wires} {i} {id} {quiet}
+    {turn} {wire}
     {new} {new_wire} g this k d within which =
     ⊎_elim (λ (w : k < length turns).
     let P : Placed → Type 0 = λ p. HadTurn passed count p (get_or wires k d) (get_or (set now_wires i new_wire) k d) in
@@ -122,33 +131,43 @@ round_had {S} {passed} {count} {lines} {parts} {quiets} {wires} {turns} {now} {n
     let old : wire ≡ get_or wires k d = get_or_read now_wires i wire g.wires_left g.wire_is d
     ∙ ap (λ (n : ℕ). get_or now_wires n d) (sym at) ∙ g.so_far.rest k d w in
     let new_is : new_wire ≡ get_or (set now_wires i new_wire) k d =
-    sym (ap (λ (n : ℕ). get_or (set now_wires i new_wire) n d) at ∙ get_or-set_same now_wires i new_wire d g.wires_left) in
+    sym (ap (λ (n : ℕ). get_or (set now_wires i new_wire) n d) at ∙ get_or-set_same now_wires i new_wire d g.wires_left)
+    in
     let P : ℕ → Type 0 = λ n. HadTurn passed count (turn_at parts lines quiets n (turns ++ turn ∷ [])) wire new_wire in
     let Q : S → Type 0 = λ s. HadTurn passed count (turn_at parts lines quiets k (turns ++ turn ∷ [])) s new_wire in
-    let R : S → Type 0 = λ s. HadTurn passed count (turn_at parts lines quiets k (turns ++ turn ∷ [])) (get_or wires k d) s in
+    let R : S → Type 0 = λ s. HadTurn passed count (turn_at parts lines quiets k (turns ++ turn ∷ []))
+    (get_or wires k d) s in
     subst R new_is (subst Q old (subst P same this))) which
 
-pub round_more : {S : Type 0} {passed : S → S → List WireAct → Type 0} {count : S → ℕ} {lines : List LineId} {parts : List Part}
-    {quiets : List ℕ} {wires : List S} {turns : List Turn} {now : List Part} {now_quiets : List ℕ} {now_wires : List S} {i : ℕ}
+pub round_more : {S : Type 0} {passed : S → S → List WireAct → Type 0} {count : S → ℕ} {lines : List LineId}
+    {parts : List Part}
+    {quiets : List ℕ} {wires : List S} {turns : List Turn} {now : List Part} {now_quiets : List ℕ} {now_wires : List S}
+    {i : ℕ}
     {id : LineId} {quiet : ℕ} {turn : Turn} {wire : S} {new : List Part} {new_wire : S} →
     GoesRound passed count lines parts quiets wires turns now now_quiets now_wires i id quiet turn wire new new_wire →
-    IsRound passed count lines parts quiets wires (turns ++ turn ∷ []) new (set now_quiets i (quiet_after quiet turn.heard))
+    IsRound passed count lines parts quiets wires (turns ++ turn ∷ []) new
+    (set now_quiets i (quiet_after quiet turn.heard))
     (set now_wires i new_wire)
-round_more {S} {passed} {count} {lines} {parts} {quiets} {wires} {turns} {now} {now_quiets} {now_wires} {i} {id} {quiet} {turn} {wire}
+round_more {S} {passed} {count} {lines} {parts} {quiets} {wires} {turns} {now} {now_quiets} {now_wires} {i} {id} {quiet}
+    {turn} {wire}
     {new} {new_wire} g =
     let before = round_events lines quiets turns in
-    let line_is : id ≡ get_or lines (length turns) no_line_id = g.line_is ∙ ap (λ (n : ℕ). get_or lines n no_line_id) (sym g.at) in
+    let line_is : id ≡ get_or lines (length turns) no_line_id =
+    g.line_is ∙ ap (λ (n : ℕ). get_or lines n no_line_id) (sym g.at) in
     let quiet_is : quiet ≡ get_or quiets (length turns) 0 =
-    g.quiet_is ∙ ap (λ (n : ℕ). get_or now_quiets n 0) (sym g.at) ∙ ap (λ (qs : List ℕ). get_or qs (length turns) 0) g.so_far.calm
+    g.quiet_is ∙ ap (λ (n : ℕ). get_or now_quiets n 0) (sym g.at)
+    ∙ ap (λ (qs : List ℕ). get_or qs (length turns) 0) g.so_far.calm
     ∙ quiets_after-here quiets turns in
-    let here : turn_events id quiet turn ≡ turn_events (get_or lines (length turns) no_line_id) (get_or quiets (length turns) 0) turn =
+    let here : turn_events id quiet turn ≡ turn_events (get_or lines (length turns) no_line_id)
+    (get_or quiets (length turns) 0) turn =
     ap (λ (l : LineId). turn_events l quiet turn) line_is
     ∙ ap (λ (q : ℕ). turn_events (get_or lines (length turns) no_line_id) q turn) quiet_is in
     let events : round_events lines quiets (turns ++ turn ∷ []) ≡ before ++ turn_events id quiet turn =
     round_events-more lines quiets turns turn (omega (arith, g.at, g.lines_left)) (omega (arith, g.at, g.quiets_left))
     ∙ ap (λ (es : List Event). before ++ es) (sym here) in
     let P : Placed → Type 0 = λ p. HadTurn passed count p wire new_wire in
-    let place : record { parts = now; line = id; quiet = quiet; turn = turn } ≡ turn_at parts lines quiets (length turns) (turns ++ turn ∷ []) =
+    let place : record { parts = now; line = id; quiet = quiet; turn = turn } ≡ turn_at parts lines quiets
+    (length turns) (turns ++ turn ∷ []) =
     ap (λ (ps : List Part). record { parts = ps; line = id; quiet = quiet; turn = turn }) g.so_far.hub
     ∙ ap (λ (l : LineId). record { parts = (hub_run parts before).parts; line = l; quiet = quiet; turn = turn }) line_is
     ∙ ap (λ (q : ℕ). record {
@@ -168,7 +187,8 @@ round_more {S} {passed} {count} {lines} {parts} {quiets} {wires} {turns} {now} {
           ∙ ap (λ (q : ℕ). set (quiets_after quiets turns) (length turns) (quiet_after q turn.heard)) quiet_is
           ∙ quiets_after-more quiets turns turn;
       had = λ k d within. round_had g this k d within (cases_lt k (length turns));
-      rest = λ k d past. get_or-set_other now_wires i k new_wire d (omega (arith, g.at, past, length-append turns (turn ∷ [])))
+      rest = λ k d past. get_or-set_other now_wires i k new_wire d
+          (omega (arith, g.at, past, length-append turns (turn ∷ [])))
           ∙ g.so_far.rest k d (omega (arith, past, length-append turns (turn ∷ [])));
     }
 
@@ -176,17 +196,22 @@ round_more {S} {passed} {count} {lines} {parts} {quiets} {wires} {turns} {now} {
 abbrev pub passed_over : Turn
 passed_over = record { heard = Pending; cut = None }
 
-pub round_over : {S : Type 0} {passed : S → S → List WireAct → Type 0} {count : S → ℕ} {lines : List LineId} {parts : List Part}
-    {quiets : List ℕ} {wires : List S} {turns : List Turn} {now : List Part} {now_quiets : List ℕ} (now_wires : List S) {i : ℕ} →
-    ((s : S) → passed s s []) → IsRound passed count lines parts quiets wires turns now now_quiets now_wires → length turns ≡ i →
+pub round_over : {S : Type 0} {passed : S → S → List WireAct → Type 0} {count : S → ℕ} {lines : List LineId}
+    {parts : List Part}
+    {quiets : List ℕ} {wires : List S} {turns : List Turn} {now : List Part} {now_quiets : List ℕ} (now_wires : List S)
+    {i : ℕ} →
+    ((s : S) → passed s s []) → IsRound passed count lines parts quiets wires turns now now_quiets now_wires
+    → length turns ≡ i →
     i < length lines → i < length quiets → i < length now_wires →
     IsRound passed count lines parts quiets wires (turns ++ passed_over ∷ []) now now_quiets now_wires
 round_over [] none h at lines_left quiets_left wires_left = absurd (omega (arith, wires_left))
-round_over {S} {passed} {count} {lines} {parts} {quiets} {wires} {turns} {now} {now_quiets} (w ∷ ws) {i} none h at lines_left quiets_left
+round_over {S} {passed} {count} {lines} {parts} {quiets} {wires} {turns} {now} {now_quiets} (w ∷ ws) {i} none h at
+    lines_left quiets_left
     wires_left =
     let now_wires : List S = w ∷ ws in
     let wire : S = get_or now_wires i w in
-    let goes : GoesRound passed count lines parts quiets wires turns now now_quiets now_wires i (get_or lines i no_line_id)
+    let goes : GoesRound passed count lines parts quiets wires turns now now_quiets now_wires i
+    (get_or lines i no_line_id)
     (get_or now_quiets i 0) passed_over wire now wire = record {
       so_far = h;
       at = at;
@@ -204,12 +229,15 @@ round_over {S} {passed} {count} {lines} {parts} {quiets} {wires} {turns} {now} {
         counted = λ fault. ⊎_elim (λ (never : Pending ≡ Failed). cc) (λ (never : IsSome passed_over.cut). cc) fault;
       };
     } in
-    let P : List ℕ → Type 0 = λ qs. IsRound passed count lines parts quiets wires (turns ++ passed_over ∷ []) now qs (set now_wires i wire) in
-    let Q : List S → Type 0 = λ ss. IsRound passed count lines parts quiets wires (turns ++ passed_over ∷ []) now now_quiets ss in
+    let P : List ℕ → Type 0 = λ qs. IsRound passed count lines parts quiets wires (turns ++ passed_over ∷ []) now qs
+    (set now_wires i wire) in
+    let Q : List S → Type 0 = λ ss. IsRound passed count lines parts quiets wires (turns ++ passed_over ∷ []) now
+    now_quiets ss in
     subst Q (set-get_or now_wires i w) (subst P (set-get_or now_quiets i 0) (round_more goes))
 
 -- no wire had a turn yet
-pub round_none : {S : Type 0} (passed : S → S → List WireAct → Type 0) (count : S → ℕ) (lines : List LineId) (parts : List Part)
+pub round_none : {S : Type 0} (passed : S → S → List WireAct → Type 0) (count : S → ℕ) (lines : List LineId)
+    (parts : List Part)
     (quiets : List ℕ) (wires : List S) → IsRound passed count lines parts quiets wires [] parts quiets wires
 round_none passed count lines parts quiets wires = record {
   hub = sym (ap (λ (es : List Event). (hub_run parts es).parts) (round_events-none lines quiets));
@@ -220,12 +248,14 @@ round_none passed count lines parts quiets wires = record {
 
 -- ---- one round more
 
-pub had_more : {S : Type 0} (passed : S → S → List WireAct → Type 0) (count : S → ℕ) (turns : List Placed) (p : Placed) (a b c : S) →
+pub had_more : {S : Type 0} (passed : S → S → List WireAct → Type 0) (count : S → ℕ) (turns : List Placed) (p : Placed)
+    (a b c : S) →
     ((a b c : S) (xs ys : List WireAct) → passed a b xs → passed b c ys → passed a c (xs ++ ys)) →
     HadTurns passed count turns a b → HadTurn passed count p b c → HadTurns passed count (turns ++ p ∷ []) a c
 had_more {S} passed count turns p a b c more h t =
     let acts : flat_map placed_acts (turns ++ p ∷ []) ≡ flat_map placed_acts turns ++ placed_acts p =
-    flat_map-append placed_acts turns (p ∷ []) ∙ ap (λ (xs : List WireAct). flat_map placed_acts turns ++ xs) (append-nil (placed_acts p)) in
+    flat_map-append placed_acts turns (p ∷ []) ∙ ap (λ (xs : List WireAct). flat_map placed_acts turns ++ xs)
+    (append-nil (placed_acts p)) in
     let P : List WireAct → Type 0 = λ xs. passed a c xs in
     record {
       acts = subst P (sym acts) (more a b c (flat_map placed_acts turns) (placed_acts p) h.acts t.acts);

@@ -48,7 +48,8 @@ pub whole_done : (parts : List Part) (event : Event) → hub_run parts (event �
 whole_done parts event = only_one (hub_event parts event)
 
 -- A step by bytes of a piece, so many of which were taken before.
-pub record GoesOn (start now after : List Part) (id : LineId) (piece left : List ℕ) (before used : ℕ) (frame : List ℕ) : Type 0 where
+pub record GoesOn (start now after : List Part) (id : LineId) (piece left : List ℕ) (before used : ℕ)
+    (frame : List ℕ) : Type 0 where
   pub follow : StepsFollowBytes
   pub known : HasLine start id
   pub now_is : now ≡ (after_bytes start id (take before piece)).parts
@@ -82,13 +83,15 @@ step_done {start} {now} {after} {id} {piece} {left} {before} {used} {frame} h =
     let o = part_after_bytes (part id.customer old.parts) id.number left in
     let same : t ≡ o = ap (λ (ps : List Part). part_after_bytes (part id.customer ps) id.number left) h.now_is in
     let cut : take (before + used) piece ≡ front ++ take o.taken left =
-    take-add before used piece ∙ ap (λ (n : ℕ). front ++ take n (drop before piece)) (h.used_is ∙ ap (λ x. x.taken) same)
+    take-add before used piece ∙ ap (λ (n : ℕ). front ++ take n (drop before piece))
+    (h.used_is ∙ ap (λ x. x.taken) same)
     ∙ ap (λ (bs : List ℕ). front ++ take o.taken bs) (sym h.left_is) in
     ap (after_bytes start id) cut ∙ after_bytes-step h.follow start id front left there rests
     ∙ ap (λ (ps : List Part). step_from ps id old.sent left) (sym h.now_is)
     ∙ ap (λ (ps : List Part). record { parts = ps; sent = old.sent ++ sent_by id.customer (sent_on id.number t.frame) })
     (sym h.after_is)
-    ∙ ap (λ (b : List ℕ). record { parts = after; sent = old.sent ++ sent_by id.customer (sent_on id.number b) }) (sym h.frame_is)
+    ∙ ap (λ (b : List ℕ). record { parts = after; sent = old.sent ++ sent_by id.customer (sent_on id.number b) })
+    (sym h.frame_is)
 
 -- the same, where a sink refused the frame: the event is done with its last step
 pub sink_done : NoBytesDoNothing → (parts : List Part) (id : LineId) (piece : List ℕ) (taken events bytes : ℕ) →
@@ -98,7 +101,8 @@ sink_done nothing parts id piece taken events bytes whole part =
     ⊎_elim (λ (w : taken < length piece).
     let e = part w in
     ap (λ (n : ℕ). hub_run parts (first_events (Bytes id piece ∷ []) n bytes)) e.0
-    ∙ ap (λ (n : ℕ). hub_run parts (first_events (Bytes id piece ∷ []) 0 n)) e.1 ∙ part_done nothing parts id piece taken)
+    ∙ ap (λ (n : ℕ). hub_run parts (first_events (Bytes id piece ∷ []) 0 n)) e.1
+    ∙ part_done nothing parts id piece taken)
     (λ (w : length piece ≤ taken).
     let e = whole w in
     ap (λ (n : ℕ). hub_run parts (first_events (Bytes id piece ∷ []) n bytes)) e.0
@@ -107,12 +111,14 @@ sink_done nothing parts id piece taken events bytes whole part =
     (cases_lt taken (length piece))
 
 -- a frame that was sent, with its line
-pub sent_pair : (id : LineId) (frame : List ℕ) → 0 < length frame → sent_by id.customer (sent_on id.number frame) ≡ (id, frame) ∷ []
+pub sent_pair : (id : LineId) (frame : List ℕ) → 0 < length frame
+    → sent_by id.customer (sent_on id.number frame) ≡ (id, frame) ∷ []
 sent_pair id [] some = absurd (omega arith)
 sent_pair id (b ∷ frame) some = refl
 
 pub counted_from : (before now after : ℕ) → before ≤ now → IsCounted now after → IsCounted before after
-counted_from before now after h c = ⊎_elim (λ (w : now < after). inl (omega arith)) (λ (w : after ≡ 18446744073709551615). inr w) c
+counted_from before now after h c = ⊎_elim (λ (w : now < after). inl (omega arith))
+    (λ (w : after ≡ 18446744073709551615). inr w) c
 
 pub hub_run-append : (parts : List Part) (a b : List Event) →
     hub_run parts (a ++ b) ≡ record {
@@ -128,13 +134,16 @@ hub_run-append parts (event ∷ a) b =
     (sym (append_assoc x.sent r.sent (hub_run r.parts b).sent))
 
 -- the events that happened where a run stopped within the next one
-pub first_of-later : (events : List Event) (i n bytes : ℕ) (event : Event) → i < length events → event ≡ get_or events i event →
-    ((n ≡ 0) ⊎ ((n ≡ 1) × (bytes ≡ 0))) → first_events events (i + n) bytes ≡ take i events ++ first_events (event ∷ []) n bytes
+pub first_of-later : (events : List Event) (i n bytes : ℕ) (event : Event) → i < length events
+    → event ≡ get_or events i event →
+    ((n ≡ 0) ⊎ ((n ≡ 1) × (bytes ≡ 0))) → first_events events (i + n) bytes ≡ take i events ++ first_events (event ∷ [])
+    n bytes
 first_of-later events i n bytes event within found stop =
     ⊎_elim (λ (w : n ≡ 0).
     let e : i + n ≡ i = omega arith in
     ap (λ (k : ℕ). first_events events k bytes) e
-    ∙ ap (λ (o : Option Event). take i events ++ first_bytes o bytes) (slice_get-get_or events i event within ∙ ap Some (sym found))
+    ∙ ap (λ (o : Option Event). take i events ++ first_bytes o bytes)
+    (slice_get-get_or events i event within ∙ ap Some (sym found))
     ∙ ap (λ (k : ℕ). take i events ++ first_events (event ∷ []) k bytes) (sym w))
     (λ (w : (n ≡ 1) × (bytes ≡ 0)).
     let e : i + n ≡ i + 1 = omega arith in
@@ -146,7 +155,8 @@ first_of-later events i n bytes event within found stop =
     stop
 
 -- What a sink took before, and then up to a stop.
-pub HandedUntil-after : {S : Type 0} (took : S → S → List (LineId × List ℕ) → Type 0) (refused : S → S → LineId × List ℕ → Type 0)
+pub HandedUntil-after : {S : Type 0} (took : S → S → List (LineId × List ℕ) → Type 0)
+    (refused : S → S → LineId × List ℕ → Type 0)
     (cause : Cause) (a b c : S) (xs ys : List (LineId × List ℕ)) →
     ((a b c : S) (xs ys : List (LineId × List ℕ)) → took a b xs → took b c ys → took a c (xs ++ ys)) →
     took a b xs → HandedUntil took refused cause b c ys → HandedUntil took refused cause a c (xs ++ ys)
@@ -161,7 +171,8 @@ HandedUntil-after took refused Sink a b c xs ys more before here = record {
 }
 
 -- a sink that refused has refused a frame
-pub HandedUntil-some : {S : Type 0} (took : S → S → List (LineId × List ℕ) → Type 0) (refused : S → S → LineId × List ℕ → Type 0)
+pub HandedUntil-some : {S : Type 0} (took : S → S → List (LineId × List ℕ) → Type 0)
+    (refused : S → S → LineId × List ℕ → Type 0)
     (cause : Cause) (a c : S) (sent : List (LineId × List ℕ)) →
     cause ≡ Sink → HandedUntil took refused cause a c sent → 0 < length sent
 HandedUntil-some took refused (Hub fault) a c sent is here = cc
@@ -173,17 +184,21 @@ abbrev pub later_than : List Part → List (LineId × List ℕ) → List Event �
 later_than now sent events = record { parts = (hub_run now events).parts; sent = sent ++ (hub_run now events).sent }
 
 -- so many events happened, and then what a stop within the next leaves of it
-pub stopped_in : (start now : List Part) (events : List Event) (k n bytes : ℕ) (event : Event) → k < length events → event
+pub stopped_in : (start now : List Part) (events : List Event) (k n bytes : ℕ) (event : Event) → k < length events
+    → event
     ≡ get_or events k event →
     ((n ≡ 0) ⊎ ((n ≡ 1) × (bytes ≡ 0))) → now ≡ (hub_run start (take k events)).parts →
-    hub_run start (first_events events (k + n) bytes) ≡ later_than now (hub_run start (take k events)).sent (first_events (event ∷ []) n bytes)
+    hub_run start (first_events events (k + n) bytes) ≡ later_than now (hub_run start (take k events)).sent
+    (first_events (event ∷ []) n bytes)
 stopped_in start now events k n bytes event within found stop here =
     ap (hub_run start) (first_of-later events k n bytes event within found stop)
     ∙ hub_run-append start (take k events) (first_events (event ∷ []) n bytes)
-    ∙ ap (λ (ps : List Part). later_than ps (hub_run start (take k events)).sent (first_events (event ∷ []) n bytes)) (sym here)
+    ∙ ap (λ (ps : List Part). later_than ps (hub_run start (take k events)).sent (first_events (event ∷ []) n bytes))
+    (sym here)
 
 -- one event more
-pub went_on : (start now : List Part) (events : List Event) (k : ℕ) (event : Event) → k < length events → event ≡ get_or events k event →
+pub went_on : (start now : List Part) (events : List Event) (k : ℕ) (event : Event) → k < length events
+    → event ≡ get_or events k event →
     now ≡ (hub_run start (take k events)).parts → hub_run start (take (k + 1) events)
     ≡ later_than now (hub_run start (take k events)).sent (event ∷ [])
 went_on start now events k event within found here =
@@ -221,7 +236,10 @@ pub routes_done : (parts : List Part) (c : ℕ) (routes : List GivenRoute) →
       sent = [];
     }
 routes_done parts c routes checked =
-    ap (λ (w : Walked (Unit {0})). record { parts = set parts c (taken_where w (new_routes_of c routes) (part c parts)); sent = [] }) checked
+    ap (λ (w : Walked (Unit {0})). record {
+      parts = set parts c (taken_where w (new_routes_of c routes) (part c parts));
+      sent = [];
+    }) checked
 
 -- a sink's stop is within the event
 pub is_within_one : (id : LineId) (piece : List ℕ) (taken : ℕ) (fault : RunFault) →

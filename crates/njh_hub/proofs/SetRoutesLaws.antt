@@ -16,10 +16,14 @@ use Rattle.njh_hub.proofs.PartsLaws.{DifferAt, Moves, differ-nowhere, differ-set
 
 -- the tables with other routes for a customer
 abbrev pub table_with : ℕ → List RouteEntry → TableFile → TableFile
-table_with c routes table = record table { customers = slice_set table.customers c (record (customer_at table c) { routes = routes }) }
+table_with c routes table = record table {
+  customers = slice_set table.customers c
+      (record (customer_at table c) { routes = routes });
+}
 
 -- The tables have other routes for a customer, and its files have become others.
-pub record SetsRoutes (table : TableFile) (files : List CustomerSpool) (lines : List Lines) (c : ℕ) (routes : List RouteEntry)
+pub record SetsRoutes (table : TableFile) (files : List CustomerSpool) (lines : List Lines) (c : ℕ)
+    (routes : List RouteEntry)
     (new : TableFile) (after : List CustomerSpool) : Type 0 where
   pub hub : IsHub table files lines
   pub there : c < length table.customers
@@ -31,17 +35,21 @@ pub record SetsRoutes (table : TableFile) (files : List CustomerSpool) (lines : 
   pub kept : RoutesKeepCoherent
 
 -- its part is another
-pub held-new : {table : TableFile} {files : List CustomerSpool} {lines : List Lines} {c : ℕ} {routes : List RouteEntry} {new : TableFile}
+pub held-new : {table : TableFile} {files : List CustomerSpool} {lines : List Lines} {c : ℕ} {routes : List RouteEntry}
+    {new : TableFile}
     {after : List CustomerSpool} → SetsRoutes table files lines c routes new after
     → part_held new after lines c ≡ part_after_routes routes (part_held table files lines c)
 held-new {table} {files} {lines} {c} {routes} {new} {after} r =
     let now = record (customer_at table c) { routes = routes } in
     let the_customer : customer_at new c ≡ now =
     ap (λ t. customer_at t c) r.tables ∙ get_or-set_same table.customers c now no_customer r.there in
-    r.is ∙ ap (λ x. part_after_routes (entry_of x).routes (part_with (entry_of x) (spools.spool_at c files) (lines_at c lines))) the_customer
+    r.is ∙ ap (λ x. part_after_routes (entry_of x).routes
+    (part_with (entry_of x) (spools.spool_at c files) (lines_at c lines))) the_customer
 
-pub sets_routes : {table : TableFile} {files : List CustomerSpool} {lines : List Lines} {c : ℕ} {routes : List RouteEntry} {new : TableFile}
-    {after : List CustomerSpool} → SetsRoutes table files lines c routes new after → Moves table files lines c new after lines
+pub sets_routes : {table : TableFile} {files : List CustomerSpool} {lines : List Lines} {c : ℕ}
+    {routes : List RouteEntry} {new : TableFile}
+    {after : List CustomerSpool} → SetsRoutes table files lines c routes new after
+    → Moves table files lines c new after lines
 sets_routes {table} {files} {lines} {c} {routes} {new} {after} r =
     let now = record (customer_at table c) { routes = routes } in
     record {
@@ -57,9 +65,11 @@ sets_routes {table} {files} {lines} {c} {routes} {new} {after} r =
       marked = subst (λ (p : Part). IsMarked p.customer) (sym (held-new r)) (r.hub.marked c r.there);
     }
 
-pub parts-set_routes : {table : TableFile} {files : List CustomerSpool} {lines : List Lines} {c : ℕ} {routes : List RouteEntry}
+pub parts-set_routes : {table : TableFile} {files : List CustomerSpool} {lines : List Lines} {c : ℕ}
+    {routes : List RouteEntry}
     {new : TableFile} {after : List CustomerSpool} → SetsRoutes table files lines c routes new after
-    → parts_of new after lines ≡ set (parts_of table files lines) c (part_after_routes routes (part c (parts_of table files lines)))
+    → parts_of new after lines ≡ set (parts_of table files lines) c
+    (part_after_routes routes (part c (parts_of table files lines)))
 parts-set_routes {table} {files} {lines} {c} {routes} {new} {after} r =
     let old = parts_of table files lines in
     parts-moved (sets_routes r)

@@ -1,5 +1,6 @@
 -- What is shown of a whole file: its headers read, so it has a name, an owner and a destination.
-use Rattle.std.proofs.Common.{◌≡◌, ℕ, Bool, true, false, cond, ◌==◌, List, [], ◌∷◌, All, find, Option, Some, None, IsSome, is_some}
+use Rattle.std.proofs.Common.{◌≡◌, ℕ, Bool, true, false, cond, ◌==◌, List, [], ◌∷◌, All, find, Option, Some, None}
+use Rattle.std.proofs.Common.{IsSome, is_some}
 use Rattle.std.proofs.Common.{refl, ap, subst}
 use Rattle.std.specs.Option.{option_map}
 use Rattle.std.specs.Result.{result_ok}

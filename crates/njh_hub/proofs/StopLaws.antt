@@ -1,5 +1,6 @@
 -- Where a run stops whose sink refuses a frame: right behind that frame.
-use Rattle.std.proofs.Common.{◌≡◌, ℕ, ◌+◌, ◌<◌, ◌≤◌, List, [], ◌∷◌, length, take, refl, ap, sym, subst, ◌∙◌, ⊎_elim, arith, inl, inr}
+use Rattle.std.proofs.Common.{◌≡◌, ℕ, ◌+◌, ◌<◌, ◌≤◌, List, [], ◌∷◌, length, take, refl, ap, sym, subst, ◌∙◌, ⊎_elim}
+use Rattle.std.proofs.Common.{arith, inl, inr}
 use Rattle.std.proofs.Common.{Option, Some, get_or}
 use Rattle.std.proofs.lemmas.Bool.{cases_lt}
 use Rattle.std.proofs.lemmas.Option.{slice_get-get_or}
@@ -42,10 +43,12 @@ bytes_stop parts id piece taken fault sends whole part = record {
 pub stop_later : (start now : List Part) (events : List Event) (k : ℕ) (event : Event) (fault after : RunFault) →
     k < length events → event ≡ get_or events k event → now ≡ (hub_run start (take k events)).parts →
     after ≡ record fault { events = k + fault.events } → IsBehindFrame now 0 event fault →
-    (whole : ℕ) × IsSomeAnd (slice_get events whole) (λ e. IsBehindFrame (hub_run start (take whole events)).parts whole e after)
+    (whole : ℕ) × IsSomeAnd (slice_get events whole)
+    (λ e. IsBehindFrame (hub_run start (take whole events)).parts whole e after)
 stop_later start now events k event fault after within found here is stop =
     let at : slice_get events k ≡ Some event = slice_get-get_or events k event within ∙ ap Some (sym found) in
-    let P : Option Event → Type 0 = λ o. IsSomeAnd o (λ e. IsBehindFrame (hub_run start (take k events)).parts k e after) in
+    let P : Option Event → Type 0 = λ o. IsSomeAnd o
+    (λ e. IsBehindFrame (hub_run start (take k events)).parts k e after) in
     let Q : List Part → Type 0 = λ ps. SendsAt ps event stop.used in
     let many : after.events ≡ k + fault.events = ap (λ (f : RunFault). f.events) is in
     let bytes : after.bytes ≡ fault.bytes = ap (λ (f : RunFault). f.bytes) is in

@@ -13,7 +13,8 @@ use Rattle.njh_hub.specs.Wires.{Failed, heard_of, WireAct, answer_acts}
 use Rattle.njh_hub.proofs.RunningLaws.{counted_from}
 
 -- an answer that is a failure is a fault
-pub failed-err : {P : Type 0} (answer : Result Reading WireFault) (buffer : List ℕ) → heard_of answer buffer ≡ Failed → OnErr answer P → P
+pub failed-err : {P : Type 0} (answer : Result Reading WireFault) (buffer : List ℕ) → heard_of answer buffer ≡ Failed
+    → OnErr answer P → P
 failed-err (Ok (reading.Bytes n)) buffer is told = cc
 failed-err (Ok reading.Quiet) buffer is told = cc
 failed-err (Ok reading.Pending) buffer is told = cc
@@ -25,11 +26,13 @@ failed-err (Err fault) buffer is told = told
 pub counted_on : (before now after : ℕ) → before ≤ now → now ≤ after → IsCounted before now → IsCounted before after
 counted_on before now after first then c =
     ⊎_elim (λ (w : before < now). inl (omega arith))
-    (λ (w : now ≡ 18446744073709551615). ⊎_elim (λ (m : now < after). inl (omega arith)) (λ (m : after ≤ now). inr (omega arith))
+    (λ (w : now ≡ 18446744073709551615). ⊎_elim (λ (m : now < after). inl (omega arith))
+    (λ (m : after ≤ now). inr (omega arith))
     (cases_lt now after)) c
 
 -- a turn of a read and of what came of its answer
-pub read_turn : {S : Type 0} (passed : S → S → List WireAct → Type 0) (count : S → ℕ) (parts new : List Part) (id : LineId)
+pub read_turn : {S : Type 0} (passed : S → S → List WireAct → Type 0) (count : S → ℕ) (parts new : List Part)
+    (id : LineId)
     (quiet : ℕ) (answer : Result Reading WireFault) (buffer : List ℕ) (cut : Option ℕ) (wire read new_wire : S) →
     ((a b c : S) (xs ys : List WireAct) → passed a b xs → passed b c ys → passed a c (xs ++ ys)) →
     passed wire read (answer_acts (heard_of answer buffer)) → count wire ≤ count read →
@@ -38,11 +41,13 @@ pub read_turn : {S : Type 0} (passed : S → S → List WireAct → Type 0) (cou
     IsTurn passed count parts id quiet (record { heard = heard_of answer buffer; cut = cut }) wire new new_wire
 read_turn passed count parts new id quiet answer buffer cut wire read new_wire more answered counts counted h = record {
   hub = h.hub;
-  acts = more wire read new_wire (answer_acts (heard_of answer buffer)) (written_where parts cut (wire_event id quiet (heard_of answer buffer)))
+  acts = more wire read new_wire (answer_acts (heard_of answer buffer))
+      (written_where parts cut (wire_event id quiet (heard_of answer buffer)))
       answered h.acts;
   stop = h.stop;
   counts = omega (arith, counts, h.counts);
-  counted = λ fault. ⊎_elim (λ (w : heard_of answer buffer ≡ Failed). counted_on (count wire) (count read) (count new_wire) counts
+  counted = λ fault. ⊎_elim (λ (w : heard_of answer buffer ≡ Failed). counted_on (count wire) (count read)
+      (count new_wire) counts
       h.counts (failed-err answer buffer w counted))
       (λ (w : IsSome cut). counted_from (count wire) (count read) (count new_wire) counts (h.counted w)) fault;
 }

@@ -23,24 +23,28 @@ use Rattle.njh_hub.proofs.RunningLaws.{line-event_by}
 
 -- ---- the last byte of a step
 
-first_silent : (frame : List ℕ) (rest : Rest) (after : Customer) (l : ℕ) (later : Taking) (sent : List (ℕ × List ℕ)) (k : ℕ) →
+first_silent : (frame : List ℕ) (rest : Rest) (after : Customer) (l : ℕ) (later : Taking) (sent : List (ℕ × List ℕ))
+    (k : ℕ) →
     suc k < (or_later 1 rest (record { after = after; frame = frame }) later).taken → (k < later.taken → sent ≡ []) →
     sent_on l frame ++ sent ≡ []
 first_silent [] rest after l later sent k within silent = silent (omega arith)
 first_silent (b ∷ frame) rest after l later sent k within silent = absurd (omega arith)
 
 -- of the bytes of a step only the last sends a frame
-pub silent_before : (rest : Rest) (c : Customer) (l : ℕ) (bytes : List ℕ) (k : ℕ) → k < (take_step rest c l bytes).taken →
+pub silent_before : (rest : Rest) (c : Customer) (l : ℕ) (bytes : List ℕ) (k : ℕ)
+    → k < (take_step rest c l bytes).taken →
     (bytes_run rest c l (take k bytes)).sent ≡ []
 silent_before rest c l [] k within = absurd (omega arith)
 silent_before rest c l (byte ∷ bytes) zero within = refl
 silent_before rest c l (byte ∷ bytes) (suc k) within =
     let x = byte_step rest c l byte in
-    first_silent x.frame x.rest x.after l (take_step x.rest x.after l bytes) (bytes_run x.rest x.after l (take k bytes)).sent k within
+    first_silent x.frame x.rest x.after l (take_step x.rest x.after l bytes)
+    (bytes_run x.rest x.after l (take k bytes)).sent k within
     (silent_before x.rest x.after l bytes k)
 
 -- a byte less than a step takes sends no frame of it
-pub byte_less : CutsAreLike → {start now after : List Part} {id : LineId} {piece left : List ℕ} {before used : ℕ} {frame : List ℕ} →
+pub byte_less : CutsAreLike → {start now after : List Part} {id : LineId} {piece left : List ℕ} {before used : ℕ}
+    {frame : List ℕ} →
     GoesOn start now after id piece left before used frame → 0 < used →
     (after_bytes start id (take (before + used - 1) piece)).sent ≡ (after_bytes start id (take before piece)).sent
 byte_less cuts {start} {now} {after} {id} {piece} {left} {before} {used} {frame} h some =
@@ -50,7 +54,8 @@ byte_less cuts {start} {now} {after} {id} {piece} {left} {before} {used} {frame}
     let front = take before piece in
     let x = event_run p (OwnBytes l front) in
     let k = used - 1 in
-    let moved : part c now ≡ x.after = ap (part c) h.now_is ∙ get_or-set_same start c x.after no_part (known-there start id h.known) in
+    let moved : part c now ≡ x.after = ap (part c) h.now_is
+    ∙ get_or-set_same start c x.after no_part (known-there start id h.known) in
     let inside : l < length p.rests = omega (
       arith,
       h.rests,
@@ -59,7 +64,8 @@ byte_less cuts {start} {now} {after} {id} {piece} {left} {before} {used} {frame}
     ) in
     let same : before + used - 1 ≡ before + k = omega arith in
     let cut : take (before + used - 1) piece ≡ front ++ take k left =
-    ap (λ (n : ℕ). take n piece) same ∙ take-add before k piece ∙ ap (λ (bs : List ℕ). front ++ take k bs) (sym h.left_is) in
+    ap (λ (n : ℕ). take n piece) same ∙ take-add before k piece
+    ∙ ap (λ (bs : List ℕ). front ++ take k bs) (sym h.left_is) in
     let silent : (event_run (part c now) (OwnBytes l (take k left))).sent ≡ [] =
     silent_before (rest_on l (part c now)) (part c now).customer l left k (omega (arith, h.used_is, some)) in
     let P : Part → Type 0 = λ q. (event_run q (OwnBytes l (take k left))).sent ≡ [] in
@@ -72,7 +78,8 @@ byte_less cuts {start} {now} {after} {id} {piece} {left} {before} {used} {frame}
 
 -- ---- what is written
 
-pub frame_acts-sent : (id : LineId) (frame : List ℕ) → map sent_act (sent_by id.customer (sent_on id.number frame)) ≡ frame_acts frame
+pub frame_acts-sent : (id : LineId) (frame : List ℕ)
+    → map sent_act (sent_by id.customer (sent_on id.number frame)) ≡ frame_acts frame
 frame_acts-sent id [] = refl
 frame_acts-sent id (b ∷ frame) = refl
 
@@ -80,10 +87,12 @@ pub last_unsent-append : (front : List (LineId × List ℕ)) (pair : LineId × L
     last_unsent (front ++ pair ∷ []) ≡ map sent_act front ++ Unsent pair.1 ∷ []
 last_unsent-append [] pair = refl
 last_unsent-append (x ∷ []) pair = refl
-last_unsent-append (x ∷ y ∷ front) pair = ap (λ (s : List WireAct). sent_act x ∷ s) (last_unsent-append (y ∷ front) pair)
+last_unsent-append (x ∷ y ∷ front) pair = ap (λ (s : List WireAct). sent_act x ∷ s)
+    (last_unsent-append (y ∷ front) pair)
 
 -- a step's frame is written behind those before it
-pub step_written : {start now after : List Part} {id : LineId} {piece left : List ℕ} {before used : ℕ} {frame : List ℕ} →
+pub step_written : {start now after : List Part} {id : LineId} {piece left : List ℕ} {before used : ℕ} {frame : List ℕ}
+    →
     GoesOn start now after id piece left before used frame →
     map sent_act (after_bytes start id (take (before + used) piece)).sent
     ≡ map sent_act (after_bytes start id (take before piece)).sent ++ frame_acts frame
@@ -96,7 +105,8 @@ step_written {start} {now} {after} {id} {piece} {left} {before} {used} {frame} h
 -- the frames up to a step that sends one
 pub step_sends : {start now after : List Part} {id : LineId} {piece left : List ℕ} {before used : ℕ} {frame : List ℕ} →
     GoesOn start now after id piece left before used frame → 0 < length frame →
-    (run_until start (before + used) (Bytes id piece)).sent ≡ (after_bytes start id (take before piece)).sent ++ (id, frame) ∷ []
+    (run_until start (before + used) (Bytes id piece)).sent ≡ (after_bytes start id (take before piece)).sent
+    ++ (id, frame) ∷ []
 step_sends {start} {now} {after} {id} {piece} {left} {before} {used} {frame} h some =
     let sent = (after_bytes start id (take before piece)).sent in
     ap (λ (r : HubRun). r.sent) (whole_done start (Bytes id (take (before + used) piece)) ∙ step_done h)
@@ -110,8 +120,10 @@ pub step_unsent : {start now after : List Part} {id : LineId} {piece left : List
 step_unsent {start} {now} {after} {id} {piece} {left} {before} {used} {frame} h some =
     ap last_unsent (step_sends h some) ∙ last_unsent-append (after_bytes start id (take before piece)).sent (id, frame)
 
-pub step_stops : CutsAreLike → {start now after : List Part} {id : LineId} {piece left : List ℕ} {before used : ℕ} {frame : List ℕ} →
-    GoesOn start now after id piece left before used frame → 0 < length frame → 0 < used → before + used ≤ length piece →
+pub step_stops : CutsAreLike → {start now after : List Part} {id : LineId} {piece left : List ℕ} {before used : ℕ}
+    {frame : List ℕ} →
+    GoesOn start now after id piece left before used frame → 0 < length frame → 0 < used
+    → before + used ≤ length piece →
     SendsAt start (Bytes id piece) (before + used)
 step_stops cuts {start} {now} {after} {id} {piece} {left} {before} {used} {frame} h some any within =
     let sent = (after_bytes start id (take before piece)).sent in
@@ -131,7 +143,8 @@ cut_to-event_by n signal.Lost id = refl
 
 -- an event, and then the loss of its line
 pub lost_next : (start now new : List Part) (event : Event) (id : LineId) → Some id ≡ line_of_event event →
-    now ≡ (hub_run start (event ∷ [])).parts → new ≡ set now id.customer (part_after_signal (part id.customer now) id.number signal.Lost).after →
+    now ≡ (hub_run start (event ∷ [])).parts
+    → new ≡ set now id.customer (part_after_signal (part id.customer now) id.number signal.Lost).after →
     new ≡ (hub_run start (event ∷ loss_of (line_of_event event))).parts
 lost_next start now new event id on before after =
     after ∙ sym (ap (λ (h : HubRun). h.parts) (signal_done now signal.Lost id))
@@ -144,19 +157,23 @@ pub lost_after : (start now new : List Part) (s : Signal) (id : LineId) →
     new ≡ set now id.customer (part_after_signal (part id.customer now) id.number signal.Lost).after →
     new ≡ (hub_run start (cut_to 0 (event_by s id) ∷ loss_of (line_of_event (event_by s id)))).parts
 lost_after start now new s id before after =
-    let on : Some id ≡ line_of_event (cut_to 0 (event_by s id)) = sym (ap line_of_event (cut_to-event_by 0 s id) ∙ line-event_by s id) in
+    let on : Some id ≡ line_of_event (cut_to 0 (event_by s id)) =
+    sym (ap line_of_event (cut_to-event_by 0 s id) ∙ line-event_by s id) in
     lost_next start now new (cut_to 0 (event_by s id)) id on before after
-    ∙ ap (λ (e : Event). (hub_run start (cut_to 0 (event_by s id) ∷ loss_of (line_of_event e))).parts) (cut_to-event_by 0 s id)
+    ∙ ap (λ (e : Event). (hub_run start (cut_to 0 (event_by s id) ∷ loss_of (line_of_event e))).parts)
+    (cut_to-event_by 0 s id)
 
 -- a signal whose frame could not be written
 pub signal_stops : (parts : List Part) (s : Signal) (id : LineId) (frame : List ℕ) →
-    frame ≡ (part_after_signal (part id.customer parts) id.number s).frame → 0 < length frame → SendsAt parts (event_by s id) 0
+    frame ≡ (part_after_signal (part id.customer parts) id.number s).frame → 0 < length frame
+    → SendsAt parts (event_by s id) 0
 signal_stops parts s id frame is some =
     let sent : (run_until parts 0 (event_by s id)).sent ≡ (id, frame) ∷ [] =
     ap (λ (e : Event). (hub_run parts (e ∷ [])).sent) (cut_to-event_by 0 s id)
     ∙ ap (λ (h : HubRun). h.sent) (signal_done parts s id)
     ∙ ap (λ (b : List ℕ). sent_by id.customer (sent_on id.number b)) (sym is) ∙ sent_pair id frame some in
-    let one : length (run_until parts 0 (event_by s id)).sent ≡ 1 = ap (λ (s : List (LineId × List ℕ)). length s) sent in
+    let one : length (run_until parts 0 (event_by s id)).sent ≡ 1 =
+    ap (λ (s : List (LineId × List ℕ)). length s) sent in
     record { within = omega arith; some = omega (arith, one); last = λ none. absurd (omega (arith, none)) }
 
 pub signal_unsent : (parts : List Part) (s : Signal) (id : LineId) (frame : List ℕ) →

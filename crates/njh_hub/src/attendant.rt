@@ -17,8 +17,9 @@ pub struct NewRoutes {
     pub routes: GivenRoutes,
 }
 
-/// Sees to the wires before and after each round of a service, says which of them are visited in it, and brings new
-/// routes. Nothing is read or written by it: it may let out what was written. The hub is told of the routes alone.
+/// Sees to the wires before and after each round of a service, says which of them are visited in
+/// it, and brings new routes. Nothing is read or written by it: it may let out what was written.
+/// The hub is told of the routes alone.
 pub trait Attendant<W: Wire> {
     ghost use Rattle.std.specs.Prelude.{⊤};
 
@@ -36,8 +37,8 @@ pub trait Attendant<W: Wire> {
     /// What came of the routes that it brought: those of `Hub::set_routes`.
     fn routes_given(&mut self, customer: u16, answer: Result<(), HubFault>);
 
-    /// Whether the wire at this place is visited in this round. One that isn't has the turn of an answer `Pending`: no
-    /// event, and its count of quiets stays.
+    /// Whether the wire at this place is visited in this round. One that isn't has the turn of an
+    /// answer `Pending`: no event, and its count of quiets stays.
     fn is_due(&self, place: usize) -> bool;
 
     /// Comes after each round.

@@ -31,8 +31,8 @@ pub trait Depot: Keeper {
     ghost use Rattle.njh_table.specs.TableFile.{TableFile};
     ghost use Rattle.njh_hub.specs.WholeHub.{Part};
 
-    /// Which customers' parts a hub of tables has that was just opened, by what was kept before the opening, and by the
-    /// depot behind it.
+    /// Which customers' parts a hub of tables has that was just opened, by what was kept before the
+    /// opening, and by the depot behind it.
     ghost opens: { Self → Self → TableFile → List Part → Type 0 };
 
     /// Opens a hub of these tables. All lines are down, and each customer has those of its entry.

@@ -73,8 +73,8 @@ pub enum Cause {
 
 /// Where a run stopped: after so many whole events and so many bytes of the next.
 ///
-/// With cause `Hub` the refused step hasn't happened. With cause `Sink` it has, and is counted; its frame
-/// alone is missing.
+/// With cause `Hub` the refused step hasn't happened. With cause `Sink` it has, and is counted; its
+/// frame alone is missing.
 #[derive(Clone, Copy, Debug, PartialEq, Eq, Error)]
 #[error("{cause}: after {events} events and {bytes} bytes of the next")]
 pub struct RunFault {

@@ -80,8 +80,8 @@ impl Model for Records {
 }
 
 impl Records {
-    /// The records of the file of a number, whole or partial; none where there is no such file. Out of memory is the
-    /// only refusal.
+    /// The records of the file of a number, whole or partial; none where there is no such file. Out
+    /// of memory is the only refusal.
     fn of(alloc: Global, spool: &Spool, customer: u16, file: FileId) -> Result<Records, AllocError>
         requires { customer < length spool.now }
         ensures { IfOk result (λ records. records ≡ records_in file (spool_at customer spool.now)) }
@@ -95,7 +95,8 @@ impl Records {
     }
 }
 
-/// Copies of the records that a reader has left, of which there are so many. Out of memory is the only refusal.
+/// Copies of the records that a reader has left, of which there are so many. Out of memory is the
+/// only refusal.
 fn copy_records(
     alloc: Global,
     mut reader: RecordReader<'_>,

@@ -1,4 +1,5 @@
-//! The headline, on the calls themselves: hubs are opened and run, and a customer's files are asked for.
+//! The headline, on the calls themselves: hubs are opened and run, and a customer's files are asked
+//! for.
 
 ghost use Rattle.std.specs.Prelude.{◌≡◌, IfOk};
 ghost use Rattle.njh_hub.specs.Outcome.{alone, entry_at, AgreeButForMarks, AreEqual, IsOutcome};
@@ -13,8 +14,8 @@ use crate::sink::Sink;
 use njh_table::Tables;
 use std::alloc::Global;
 
-/// Tables of a hub that is to be opened, the customer whose frames and files are asked for, by its number, and the
-/// events of all.
+/// Tables of a hub that is to be opened, the customer whose frames and files are asked for, by its
+/// number, and the events of all.
 #[derive(Drop)]
 pub struct Trial<'a> {
     /// What the hub is opened with.
@@ -27,8 +28,8 @@ pub struct Trial<'a> {
 
 /// Opens the hub of a trial, works off its events, and gives the customer's files.
 ///
-/// Where all of that was done, the frames on the customer's lines and its files are those of the customer alone on a
-/// hub of its own.
+/// Where all of that was done, the frames on the customer's lines and its files are those of the
+/// customer alone on a hub of its own.
 pub fn outcome<S: Sink>(
     alloc: Global,
     trial: Trial<'_>,
@@ -52,9 +53,9 @@ pub fn outcome<S: Sink>(
     }
 }
 
-/// Two trials, of tables that agree on a customer and of events with the same events of it: the frames on its lines
-/// are equal, and so are its files. Its number may differ between the two; all other customers, and all their events,
-/// are free.
+/// Two trials, of tables that agree on a customer and of events with the same events of it: the
+/// frames on its lines are equal, and so are its files. Its number may differ between the two; all
+/// other customers, and all their events, are free.
 pub fn two_runs<S: Sink, Z: Sink>(
     alloc: Global,
     one: Trial<'_>,

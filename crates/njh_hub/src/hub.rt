@@ -29,8 +29,8 @@ use std::alloc::Global;
 use std::marker::Model;
 use std::mem;
 
-/// Customers with files and lines of their own, over one table and one spool. A caller sees it as the list of the
-/// customers' parts.
+/// Customers with files and lines of their own, over one table and one spool. A caller sees it as
+/// the list of the customers' parts.
 #[derive(Drop)]
 pub struct Hub {
     /// The tables and the files, and what a step writes in; it is lent to each customer in turn.
@@ -57,8 +57,8 @@ impl Hub {
     ghost use Rattle.njh_hub.specs.WholeHub.{part_at_open};
     ghost use Rattle.njh_hub.specs.Parts.{entries_of};
 
-    /// A hub of these tables, with all the room that its files and lines need. No line is up at first, whatever the
-    /// tables held. Want of memory is the only refusal.
+    /// A hub of these tables, with all the room that its files and lines need. No line is up at
+    /// first, whatever the tables held. Want of memory is the only refusal.
     pub fn open(alloc: Global, tables: Tables) -> Result<Hub, HubFault>
         ensures opened { IfOk result (λ hub. hub ≡ map part_at_open (entries_of tables)) }
         ensures memory { OnErr result (result ≡ Err HubFault.Memory) }
@@ -90,7 +90,8 @@ impl Hub {
 
     /// A customer's whole files in their order of arrival, each with all its records.
     ///
-    /// `UnknownCustomer` comes where the hub has no such customer, else `Memory` where there was none for the copies.
+    /// `UnknownCustomer` comes where the hub has no such customer, else `Memory` where there was
+    /// none for the copies.
     pub fn files(&self, customer: u16) -> Result<Vec<FileView>, HubFault>
         ensures files { IfOk result (λ files. files.items ≡ files_at customer self.now) }
         ensures headers { OnOk result (HaveHeaders (part customer self.now).customer.spool.whole) }
@@ -105,8 +106,8 @@ impl Hub {
         Ok(files)
     }
 
-    /// How many blocks a customer's files take, partial ones too: at most its quota. Nor has it more files than its
-    /// entry allows. `UnknownCustomer` where the hub has no such customer.
+    /// How many blocks a customer's files take, partial ones too: at most its quota. Nor has it
+    /// more files than its entry allows. `UnknownCustomer` where the hub has no such customer.
     pub fn used(&self, customer: u16) -> Result<u32, HubFault>
         ensures used { IfOk result (λ blocks. blocks ≡ used_blocks (part customer self.now).customer.spool) }
         ensures quota { IfOk result (λ blocks. blocks ≤ (part customer self.now).customer.entry.quota) }
@@ -123,8 +124,8 @@ impl Hub {
         Ok(self.shared.spool.used(customer))
     }
 
-    /// Law: no two of a customer's files, whole or partial, have one number, they stand within its quota, and the
-    /// headers of its whole files read.
+    /// Law: no two of a customer's files, whole or partial, have one number, they stand within its
+    /// quota, and the headers of its whole files read.
     pub fn files_are_sound(&self, customer: u16)
         ensures sound { IsSound (part customer self.now).customer.spool }
         ensures headers { HaveHeaders (part customer self.now).customer.spool.whole }
@@ -134,8 +135,8 @@ impl Hub {
         }
     }
 
-    /// Law: which of a customer's lines count as up where a route has a second line: those whose sessions are up, and
-    /// no others.
+    /// Law: which of a customer's lines count as up where a route has a second line: those whose
+    /// sessions are up, and no others.
     pub(crate) fn marks_hold(&self, customer: u16)
         requires { customer < length self.now }
         ensures { IsMarked (part customer self.now).customer }
@@ -157,11 +158,12 @@ impl Hub {
         self.alloc
     }
 
-    /// One step by bytes of a line: those up to the end of the first frame that is answered, or all. Answers how many
-    /// were taken, and puts the frame that is sent in the place of what `out` held; nothing where none is.
+    /// One step by bytes of a line: those up to the end of the first frame that is answered, or
+    /// all. Answers how many were taken, and puts the frame that is sent in the place of what `out`
+    /// held; nothing where none is.
     ///
-    /// `UnknownLine` comes where the hub has no such line, `Memory` where `out` found no room for a frame past what it
-    /// held.
+    /// `UnknownLine` comes where the hub has no such line, `Memory` where `out` found no room for a
+    /// frame past what it held.
     pub fn take(&mut self, id: LineId, piece: &[u8], out: &mut Vec<u8>) -> Result<usize, HubFault>
         ensures taken { IfOk result (λ taken. taken
             ≡ (part_after_bytes (part id.customer self.old) id.number piece.now).taken) }
@@ -186,7 +188,8 @@ impl Hub {
         self.signal(id, Signal::Tick, out)
     }
 
-    /// The adapter's word that a block check failed on a line. Refusals and `out` are those of `take`.
+    /// The adapter's word that a block check failed on a line. Refusals and `out` are those of
+    /// `take`.
     pub fn garbled(&mut self, id: LineId, out: &mut Vec<u8>) -> Result<(), HubFault>
         ensures { let t = part_after_signal (part id.customer self.old) id.number Signal.Garbled in
             IsStep self.old id t.after t.frame out.old result self.new out.new }
@@ -220,7 +223,8 @@ impl Hub {
         Ok(())
     }
 
-    /// The room of `out` for the frame of a step on a line. Where the step is refused `out` stays as it was.
+    /// The room of `out` for the frame of a step on a line. Where the step is refused `out` stays
+    /// as it was.
     fn frame_buffer(&self, id: LineId, out: &mut Vec<u8>) -> Result<FrameBuffer, HubFault>
         ensures known { OnOk result (HasLine self.now id) }
         ensures rests { OnOk result (id.number < length (part id.customer self.now).rests) }

@@ -15,15 +15,16 @@ pub struct KeepFault;
 
 /// Keeps the whole files of a hub's customers, so that they are found again after a crash.
 ///
-/// It follows each step of a customer, and settles once a round, before the round's frames go out. A fault is answered
-/// only where the count of failures rose, or stands at its greatest value; else it stays.
+/// It follows each step of a customer, and settles once a round, before the round's frames go out.
+/// A fault is answered only where the count of failures rose, or stands at its greatest value; else
+/// it stays.
 pub trait Keeper {
     ghost use Rattle.std.specs.Prelude.{ℕ, List};
     ghost use Rattle.njh_spool.specs.Restoring.{KeptFile};
     ghost use Rattle.njh_hub.specs.WholeHub.{Part};
 
-    /// What a crash at this moment may leave: of each customer, by its number, what is kept of its whole files, in
-    /// their order of arrival.
+    /// What a crash at this moment may leave: of each customer, by its number, what is kept of its
+    /// whole files, in their order of arrival.
     ghost may_leave: { Self → List (List KeptFile) → Type 0 };
 
     /// It has taken in all that a hub whose customers have these parts has of files.
@@ -36,7 +37,8 @@ pub trait Keeper {
     fn failures(&self) -> u64
         ensures { result ≡ count self.now };
 
-    /// Takes in what one step of a customer, or new routes of it, made of its files. Nothing more is kept by that.
+    /// Takes in what one step of a customer, or new routes of it, made of its files. Nothing more
+    /// is kept by that.
     fn follow(&mut self, hub: &Hub, customer: u16) -> Result<(), KeepFault>
         requires led { (before : List Part) × knows self.old before × LeadsHub customer before hub.now }
         ensures known { OnOk result (knows self.new hub.now) }
@@ -45,8 +47,8 @@ pub trait Keeper {
         ensures counts { count self.old ≤ count self.new }
         ensures counted { OnErr result (IsCounted (count self.old) (count self.new)) };
 
-    /// Keeps all that it has taken in. After a fault, or where the call itself is broken off, a crash leaves what was
-    /// kept before, or all.
+    /// Keeps all that it has taken in. After a fault, or where the call itself is broken off, a
+    /// crash leaves what was kept before, or all.
     fn settle(&mut self) -> Result<(), KeepFault>
         ensures settled { OnOk result ((parts : List Part) → knows self.old parts
             → IsSettled may_leave knows self.new parts) }
@@ -81,8 +83,8 @@ impl Keeper for KeepsNothing {
     }
 }
 
-/// Law: whatever events come, and whosever they are, what is to be kept of a customer's files, and the frames on its
-/// lines, are those of that customer alone over its own events.
+/// Law: whatever events come, and whosever they are, what is to be kept of a customer's files, and
+/// the frames on its lines, are those of that customer alone over its own events.
 pub fn kept_is_own()
     ensures { KeptIsOwn }
 {}

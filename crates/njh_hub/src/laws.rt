@@ -5,26 +5,27 @@ ghost use Rattle.njh_hub.specs.Laws.{SentInOrder};
 
 use njh_customer::first_bytes_send_first;
 
-/// Whatever events come, each customer's part of the hub and the frames on its lines are those of that customer alone
-/// over its own events.
+/// Whatever events come, each customer's part of the hub and the frames on its lines are those of
+/// that customer alone over its own events.
 pub fn each_is_alone()
     ensures { EachIsAlone }
 {}
 
-/// Any two lists of events with the same events of a customer lead it to the same frames and the same part, on hubs
-/// where it stands alike.
+/// Any two lists of events with the same events of a customer lead it to the same frames and the
+/// same part, on hubs where it stands alike.
 pub fn two_lists_are_like()
     ensures { TwoListsAreLike }
 {}
 
-/// The headline: on any two hubs that were just opened on tables that agree on a customer, after any two lists of
-/// events with the same events of that customer, the frames on its lines and its files are equal, and are those of that
-/// customer alone on a hub of its own.
+/// The headline: on any two hubs that were just opened on tables that agree on a customer, after
+/// any two lists of events with the same events of that customer, the frames on its lines and its
+/// files are equal, and are those of that customer alone on a hub of its own.
 pub fn customers_never_meet()
     ensures { CustomersNeverMeet }
 {}
 
-/// A step on another customer's line leaves a customer's part as it is, whatever becomes of the blocks that they share.
+/// A step on another customer's line leaves a customer's part as it is, whatever becomes of the
+/// blocks that they share.
 pub fn others_stay()
     ensures { OthersStay }
 {}
@@ -34,7 +35,8 @@ pub fn own_step_is_own()
     ensures { OwnStepIsOwn }
 {}
 
-/// The frames of the first events, and of the first bytes of the next, come first of the frames of all.
+/// The frames of the first events, and of the first bytes of the next, come first of the frames of
+/// all.
 pub fn sent_in_order()
     ensures { SentInOrder }
 {

@@ -1,5 +1,5 @@
-//! What a hub keeps of its tables, just opened: these without marks, a spool under its customers' quotas, and their
-//! lines.
+//! What a hub keeps of its tables, just opened: these without marks, a spool under its customers'
+//! quotas, and their lines.
 
 ghost use Rattle.std.specs.Prelude.{◌≡◌, ℕ, ◌<◌, length, map, IfOk, OnErr, Err};
 ghost use Rattle.njh_customer.specs.Part.{part_at_open, part_with};
@@ -23,7 +23,8 @@ pub(crate) fn all_down(tables: Tables) -> Tables
     tables
 }
 
-/// A spool without files, under the quotas of the tables' customers. Want of memory is the only refusal.
+/// A spool without files, under the quotas of the tables' customers. Want of memory is the only
+/// refusal.
 pub(crate) fn open_spool(alloc: Global, tables: &Tables) -> Result<Spool, HubFault>
     ensures empty { IfOk result (λ spool. spool ≡ map empty_files tables.now.customers) }
     ensures memory { OnErr result (result ≡ Err HubFault.Memory) }
@@ -57,8 +58,8 @@ fn quota_of(customer: &NamedCustomer) -> Quota
     }
 }
 
-/// The lines of each customer of the tables, each down, with no stream about a file. Want of memory is the only
-/// refusal.
+/// The lines of each customer of the tables, each down, with no stream about a file. Want of memory
+/// is the only refusal.
 pub(crate) fn open_lines(alloc: Global, tables: &Tables) -> Result<Vec<Lines>, AllocError>
     ensures count { IfOk result (λ lines. length lines.items ≡ length tables.now.customers) }
     ensures opened { IfOk result (λ lines. (c : ℕ) → c < length tables.now.customers →

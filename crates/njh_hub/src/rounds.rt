@@ -37,7 +37,8 @@ impl Model for Rounds {
 }
 
 impl Rounds {
-    /// Rounds of the wires of these lines, on which no quiet came yet. Want of memory is the only refusal.
+    /// Rounds of the wires of these lines, on which no quiet came yet. Want of memory is the only
+    /// refusal.
     pub fn new(alloc: Global, lines: &[LineId]) -> Result<Rounds, HubFault>
         ensures lines { IfOk result (λ rounds. rounds.lines ≡ lines.now) }
         ensures calm { IfOk result (λ rounds. rounds.quiets ≡ no_quiets lines.now) }
@@ -57,9 +58,9 @@ impl Rounds {
         self.lines.as_slice()
     }
 
-    /// One turn of each wire, in the order of the lines, and then what the turns made of the files is kept; up to a
-    /// fault of the keeper. Only those wires are visited that are due: any other has the turn of an answer `Pending`.
-    /// No byte goes out. Takes no memory.
+    /// One turn of each wire, in the order of the lines, and then what the turns made of the files
+    /// is kept; up to a fault of the keeper. Only those wires are visited that are due: any other
+    /// has the turn of an answer `Pending`. No byte goes out. Takes no memory.
     pub fn take_due<W: Wire, K: Keeper, A: Attendant<W>>(
         &mut self,
         hub: &mut Hub,

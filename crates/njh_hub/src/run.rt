@@ -22,12 +22,14 @@ use njh_table::LineId;
 impl Hub {
     ghost use Rattle.njh_table.specs.declared.LineId.{LineId};
 
-    /// Works off the events in order, and hands each frame that is sent to the sink. Stops at the first fault.
+    /// Works off the events in order, and hands each frame that is sent to the sink. Stops at the
+    /// first fault.
     ///
-    /// For every customer, whatever the others do: its part of the hub is what its own events lead it to by itself, and
-    /// the sink was handed on its lines what it sends by itself.
+    /// For every customer, whatever the others do: its part of the hub is what its own events lead
+    /// it to by itself, and the sink was handed on its lines what it sends by itself.
     pub fn run<S: Sink>(&mut self, events: &[Event], sink: &mut S) -> Result<(), RunFault>
-        // For each customer: its part, and in order the frames on its lines, are those of that customer alone.
+        // For each customer: its part, and in order the frames on its lines, are those of that
+        // customer alone.
         ensures parts { (c : ℕ) → c < length self.old →
             part c self.new ≡ (alone_run (part c self.old) (events_of c (done events.now result))).after }
         ensures sent { OnOk result ((pairs : List (LineId × List ℕ)) × S.took sink.old sink.new pairs ×
@@ -44,8 +46,8 @@ impl Hub {
         ensures customers { length self.new ≡ length self.old }
         ensures lines { SameLines self.old self.new }
 
-        // When it stops, and where: every event before the stop names a line of the hub, or a customer of it with
-        // routes that aren't refused.
+        // When it stops, and where: every event before the stop names a line of the hub, or a
+        // customer of it with routes that aren't refused.
         ensures known { OnOk result (All (IsNamed self.old) events.now) }
         ensures before { IfErr result (λ fault. All (IsNamed self.old) (take fault.events events.now)) }
         ensures few { IfErr result (λ fault. fault.events ≤ length events.now) }
@@ -55,8 +57,8 @@ impl Hub {
             IsSomeAnd (slice_get events.now fault.events) (λ event. IsRefused self.old event why))) }
         ensures memory { IfErr result (λ fault. fault.cause ≡ Cause.Hub HubFault.Memory → (fault.bytes ≡ 0) ×
             (IsSomeAnd (slice_get events.now fault.events) IsRoutes ⊎ All IsRoutes (take fault.events events.now))) }
-        // Where the hub refused an event, none of its bytes are done; where the sink refused a frame, the stop is right
-        // behind the byte, or the signal, that sent it.
+        // Where the hub refused an event, none of its bytes are done; where the sink refused a
+        // frame, the stop is right behind the byte, or the signal, that sent it.
         ensures begun { IfErr result (λ fault. IfHub fault.cause (λ why. fault.bytes ≡ 0)) }
         ensures behind { IfErr result (λ fault. fault.cause ≡ Cause.Sink → (whole : ℕ) ×
             IsSomeAnd (slice_get events.now whole) (λ event.
@@ -168,8 +170,8 @@ impl Hub {
     }
 }
 
-/// Where a run stands whose sink refused the frame of a step that took bytes up to here: the event is done with its
-/// last step.
+/// Where a run stands whose sink refused the frame of a step that took bytes up to here: the event
+/// is done with its last step.
 fn after_sink(taken: usize, len: usize) -> RunFault
     ensures cause { result.cause ≡ Cause.Sink }
     ensures whole { len ≤ taken → (result.events ≡ 1) × (result.bytes ≡ 0) }

@@ -17,12 +17,12 @@ use crate::wire::Wire;
 use njh_table::LineId;
 use std::alloc::Global;
 
-/// So many turns of the wires of a hub's lines: in each, one wire after the other is read once, and what comes of that
-/// is done.
+/// So many turns of the wires of a hub's lines: in each, one wire after the other is read once, and
+/// what comes of that is done.
 ///
-/// What fails on a wire loses its own line and no other; the wire is read again in the next turn. `Memory` comes where
-/// there is no room for a turn, or for a line and a count a wire, before the first read. Where the keeper fails
-/// nothing is done after that.
+/// What fails on a wire loses its own line and no other; the wire is read again in the next turn.
+/// `Memory` comes where there is no room for a turn, or for a line and a count a wire, before the
+/// first read. Where the keeper fails nothing is done after that.
 pub fn serve_turns<W: Wire, K: Keeper>(
     alloc: Global,
     hub: &mut Hub,

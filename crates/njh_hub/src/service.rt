@@ -14,11 +14,13 @@ use crate::keeper::{KeepFault, Keeper};
 use crate::rounds::Rounds;
 use crate::wire::Wire;
 
-/// So many rounds of a hub's wires, in each of which those are visited that the attendant calls due. Before each the
-/// attendant comes, and a customer is given new routes where it brings some; after each it comes again.
+/// So many rounds of a hub's wires, in each of which those are visited that the attendant calls
+/// due. Before each the attendant comes, and a customer is given new routes where it brings some;
+/// after each it comes again.
 ///
-/// Routes that `Hub::set_routes` refuses change nothing; the attendant is told. What fails on a wire loses its own line
-/// and no other. Where the keeper fails nothing is done after that, and the attendant isn't told.
+/// Routes that `Hub::set_routes` refuses change nothing; the attendant is told. What fails on a
+/// wire loses its own line and no other. Where the keeper fails nothing is done after that, and the
+/// attendant isn't told.
 pub fn attend<W: Wire, K: Keeper, A: Attendant<W>>(
     hub: &mut Hub,
     keeper: &mut K,
@@ -53,7 +55,8 @@ pub fn attend<W: Wire, K: Keeper, A: Attendant<W>>(
     Ok(())
 }
 
-/// Gives a customer new routes, where the attendant brings some, and keeps what they make of its files.
+/// Gives a customer new routes, where the attendant brings some, and keeps what they make of its
+/// files.
 fn give_routes<W: Wire, K: Keeper, A: Attendant<W>>(
     hub: &mut Hub,
     keeper: &mut K,
@@ -73,7 +76,8 @@ fn give_routes<W: Wire, K: Keeper, A: Attendant<W>>(
     }
 }
 
-/// Gives a customer these routes, keeps what they make of its files, and tells the attendant what came of the routes.
+/// Gives a customer these routes, keeps what they make of its files, and tells the attendant what
+/// came of the routes.
 fn give<W: Wire, K: Keeper, A: Attendant<W>>(
     hub: &mut Hub,
     keeper: &mut K,
@@ -94,7 +98,8 @@ fn give<W: Wire, K: Keeper, A: Attendant<W>>(
     Ok(())
 }
 
-/// Gives a customer these routes, and keeps what they make of its files. Answers what came of the routes.
+/// Gives a customer these routes, and keeps what they make of its files. Answers what came of the
+/// routes.
 fn set_kept<K: Keeper>(
     hub: &mut Hub,
     keeper: &mut K,

@@ -7,7 +7,8 @@ ghost use Rattle.njh_hub.specs.Views.{session_view};
 use njh_line::{Phase, Session};
 use njh_table::Role;
 
-/// How many milliseconds without a byte are a quiet where the hub is to ask or to send, and where nobody called.
+/// How many milliseconds without a byte are a quiet where the hub is to ask or to send, and where
+/// nobody called.
 pub const QUIET_TIME: u64 = 100;
 
 /// How many are one where the peer has the turn and the hub calls.
@@ -42,11 +43,12 @@ impl SessionView {
         }
     }
 
-    /// How many milliseconds without a byte are a quiet on the line: 100 where the session is up and the turn is the
-    /// hub's, and where the line calls or is down; else 200 where the hub calls, and 250 where it answers.
+    /// How many milliseconds without a byte are a quiet on the line: 100 where the session is up
+    /// and the turn is the hub's, and where the line calls or is down; else 200 where the hub
+    /// calls, and 250 where it answers.
     ///
-    /// A tenth quiet in a row is a tick. So an end with the turn has sent before its peer asks for what doesn't come,
-    /// and two ends of which neither has the turn ask at different moments.
+    /// A tenth quiet in a row is a tick. So an end with the turn has sent before its peer asks for
+    /// what doesn't come, and two ends of which neither has the turn ask at different moments.
     pub fn quiet_time(&self) -> u64
         ensures { result ≡ quiet_time self.now }
     {

@@ -13,8 +13,9 @@ pub struct SinkFault;
 
 /// Takes the frames that a run sends, each with its line.
 ///
-/// A sink in memory takes pairs by keeping them; one that writes on a socket or a terminal, by writing their
-/// text. A fault is answered only where the count of failures rose, or stands at its greatest value.
+/// A sink in memory takes pairs by keeping them; one that writes on a socket or a terminal, by
+/// writing their text. A fault is answered only where the count of failures rose, or stands at its
+/// greatest value.
 pub trait Sink {
     ghost use Rattle.std.specs.Prelude.{ℕ, List};
     ghost use Rattle.njh_table.specs.declared.LineId.{LineId};

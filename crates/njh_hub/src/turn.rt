@@ -31,8 +31,8 @@ const READ_SIZE: usize = 4096;
 /// How many quiets in a row are no tick.
 const QUIETS: u8 = 9;
 
-/// What turns are taken in: the bytes that a read fills, and the room of the longest frame. It serves one turn after
-/// the other, of any wires, and says nothing of any.
+/// What turns are taken in: the bytes that a read fills, and the room of the longest frame. It
+/// serves one turn after the other, of any wires, and says nothing of any.
 #[derive(Drop)]
 pub struct TurnRoom {
     buffer: Vec<u8>,
@@ -51,8 +51,8 @@ impl Model for TurnRoom {
     ghost invariant = { λ room. (0 < length room.buffer.items) × (longest_frame ≤ vec_capacity room.out) };
 }
 
-/// What a read answered, and the buffer that it was given: bytes that came stand at its front. So many quiets in a row
-/// came before.
+/// What a read answered, and the buffer that it was given: bytes that came stand at its front. So
+/// many quiets in a row came before.
 #[derive(Clone, Copy)]
 struct Answer<'a> {
     reading: Result<Reading, WireFault>,
@@ -72,14 +72,15 @@ impl TurnRoom {
     }
 }
 
-/// One turn of a wire of a line: reads it once, hands the hub what came of that, and writes each frame that the hub
-/// sends, once the keeper has taken in what the step made of the customer's files. No byte goes out: what is written
-/// waits until it is kept.
+/// One turn of a wire of a line: reads it once, hands the hub what came of that, and writes each
+/// frame that the hub sends, once the keeper has taken in what the step made of the customer's
+/// files. No byte goes out: what is written waits until it is kept.
 ///
-/// Bytes that came are handed over until they are used. Each tenth quiet in a row is a tick; `quiet` is how many came
-/// before, and the answer how many there are now: as many as before where the wire's answer is pending. A wire that is
-/// closed or can't be read loses its line. So does one that can't be written, and what was left of the bytes is
-/// dropped. Takes no memory, and clears none.
+/// Bytes that came are handed over until they are used. Each tenth quiet in a row is a tick;
+/// `quiet` is how many came before, and the answer how many there are now: as many as before where
+/// the wire's answer is pending. A wire that is closed or can't be read loses its line. So does one
+/// that can't be written, and what was left of the bytes is dropped. Takes no memory, and clears
+/// none.
 ///
 /// Where the keeper fails the frame of that step isn't written, and nothing is done after it.
 pub fn wire_turn<W: Wire, K: Keeper>(
@@ -183,8 +184,8 @@ fn act_on<W: Wire, K: Keeper>(
     }
 }
 
-/// Hands the hub bytes of a line and writes each frame that it sends, once the keeper has followed the step. Where a
-/// write fails the line is lost.
+/// Hands the hub bytes of a line and writes each frame that it sends, once the keeper has followed
+/// the step. Where a write fails the line is lost.
 fn pass_bytes<W: Wire, K: Keeper>(
     hub: &mut Hub,
     keeper: &mut K,
@@ -225,8 +226,8 @@ fn pass_bytes<W: Wire, K: Keeper>(
     Ok(())
 }
 
-/// Hands the hub a signal on a line and writes the frame that it sends, once the keeper has followed the step. Where
-/// the write fails the line is lost.
+/// Hands the hub a signal on a line and writes the frame that it sends, once the keeper has
+/// followed the step. Where the write fails the line is lost.
 fn pass_signal<W: Wire, K: Keeper>(
     hub: &mut Hub,
     keeper: &mut K,

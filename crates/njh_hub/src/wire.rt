@@ -8,8 +8,8 @@ use crate::wire_reading::{Reading, WireFault};
 
 /// A wire of a line: bytes come on it, and frames go out.
 ///
-/// A wire in memory keeps what passes on it; one on a socket doesn't. A fault is answered only where the count of
-/// failures rose, or stands at its greatest value.
+/// A wire in memory keeps what passes on it; one on a socket doesn't. A fault is answered only
+/// where the count of failures rose, or stands at its greatest value.
 pub trait Wire {
     ghost use Rattle.std.specs.Prelude.{ℕ, List};
     ghost use Rattle.njh_hub.specs.Wires.{WireAct};

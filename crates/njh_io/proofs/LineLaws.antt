@@ -1,6 +1,7 @@
 -- The lines of a text that comes in pieces.
 use Rattle.std.proofs.Common.{◌≡◌, ℕ, ◌+◌, ◌<◌, Bool, true, false, eqb, List, [], ◌∷◌, ◌++◌, length, sym, ap, ◌∙◌}
-use Rattle.std.proofs.Common.{append_assoc, append-nil, length-append, arith, cond, refl, None, Some, get_or, take, drop}
+use Rattle.std.proofs.Common.{append_assoc, append-nil, length-append, arith, cond, refl, None, Some, get_or, take}
+use Rattle.std.proofs.Common.{drop}
 use Rattle.std.proofs.Common.{take-append-drop}
 use Rattle.std.specs.List.{All, AllByRecursion}
 use Rattle.std.proofs.lemmas.Bool.{eqb-true, false_from_ne_true, lt-ltb}
@@ -45,7 +46,8 @@ lines_from-some front text more place line end behind first line_is end_is behin
     sym (take-append-drop place text) ∙ ap (λ (xs : List ℕ). take place text ++ xs) head
     ∙ ap (λ (b : ℕ). take place text ++ b ∷ drop (place + 1) text) here
     ∙ ap (λ (xs : List ℕ). take place text ++ 10 ∷ xs) (sym tail) in
-    let none : All (λ b. eqb b 10 ≡ false) (take place text) = All-from_get_or (λ b. eqb b 10 ≡ false) (take place text) 0
+    let none : All (λ b. eqb b 10 ≡ false) (take place text) =
+    All-from_get_or (λ b. eqb b 10 ≡ false) (take place text) 0
     (λ k less.
     let low : k < place = omega (arith, length-take place text) in
     rw (get_or-take place text k 0 low)

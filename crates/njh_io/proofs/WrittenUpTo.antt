@@ -23,7 +23,8 @@ IsWrittenUpTo-more bytes rest front after first then last so_far cut written = (
 pub IsWrittenUpTo-none : (bytes rest : List ℕ) (first last : Option (List ℕ)) → IsWrittenUpTo rest bytes first last
     → rest ≡ [] → Appends first last bytes
 IsWrittenUpTo-none bytes rest first last so_far none =
-    let all : so_far.0 ≡ bytes = sym (append-nil so_far.0) ∙ ap (λ (text : List ℕ). so_far.0 ++ text) (sym none) ∙ so_far.2 in
+    let all : so_far.0 ≡ bytes = sym (append-nil so_far.0) ∙ ap (λ (text : List ℕ). so_far.0 ++ text) (sym none)
+    ∙ so_far.2 in
     rw (← all) so_far.1
 
 pub IsWrittenUpTo-part : (bytes rest : List ℕ) (first last later : Option (List ℕ))

@@ -1,4 +1,5 @@
-//! Whole texts are read up to a limit, texts in pieces line by line, and bytes are written to their end.
+//! Whole texts are read up to a limit, texts in pieces line by line, and bytes are written to their
+//! end.
 #![tactic(auto)]
 
 mod fault;

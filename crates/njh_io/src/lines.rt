@@ -1,6 +1,7 @@
 //! The lines of a text, also of one that comes in pieces.
 
-ghost use Rattle.std.specs.Prelude.{◌≡◌, ◌≢◌, ℕ, ◌<◌, ◌≤◌, ◌∷◌, ◌++◌, [], List, length, true, IfOk, IfSome, MatchOption};
+ghost use Rattle.std.specs.Prelude.{◌≡◌, ◌≢◌, ℕ, ◌<◌, ◌≤◌, ◌∷◌, ◌++◌, [], List, length, true, IfOk, IfSome};
+ghost use Rattle.std.specs.Prelude.{MatchOption};
 ghost use Rattle.std.specs.Prelude.{OnErr, OnOk, Err};
 ghost use Rattle.njh_io.specs.Lines.{is_first_long, lines_from, lines_of};
 
@@ -70,8 +71,8 @@ impl LineReader {
         }
     }
 
-    /// Takes a piece up to the first end of a line, and answers what stands behind that: then the line is whole. Where
-    /// no line ends in it the piece is kept.
+    /// Takes a piece up to the first end of a line, and answers what stands behind that: then the
+    /// line is whole. Where no line ends in it the piece is kept.
     pub fn take<'p>(&mut self, piece: &'p [u8]) -> Result<Option<&'p [u8]>, ReadFault>
         ensures lines { IfOk result (λ behind. (more : List ℕ) → MatchOption behind
             (lines_from self.old (piece.now ++ more) ≡ lines_from self.new more)

@@ -1,5 +1,6 @@
 -- Records of a file that was sent elsewhere are those that they were, but for headers.
-use Rattle.std.proofs.Common.{◌≡◌, ℕ, zero, suc, ◌<◌, ◌≤◌, ◌==◌, ◌&&◌, ◌||◌, ◌⊎◌, inl, inr, Bool, true, false, cond, not, List, [], ◌∷◌, length, get_or, take, Option, Some, None}
+use Rattle.std.proofs.Common.{◌≡◌, ℕ, zero, suc, ◌<◌, ◌≤◌, ◌==◌, ◌&&◌, ◌||◌, ◌⊎◌, inl, inr, Bool, true, false, cond}
+use Rattle.std.proofs.Common.{not, List, [], ◌∷◌, length, get_or, take, Option, Some, None}
 use Rattle.std.proofs.Common.{Result, refl, sym, ap, subst, ◌∙◌, arith}
 use Rattle.std.specs.Prelude.{unwrap_or}
 use Rattle.std.specs.List.{AllByRecursion}
@@ -38,7 +39,8 @@ either_header false b (inr is) = is
 
 module _ (node : List ℕ) (named : is_name node ≡ true) where
   -- where the destination stands in a header
-  alike_record : (kind : Kind) (before : Option ℕ) (r : Stored) → ((p : ℕ) → destination_place kind before r ≡ Some p → is_header r.srcb ≡ true)
+  alike_record : (kind : Kind) (before : Option ℕ) (r : Stored)
+      → ((p : ℕ) → destination_place kind before r ≡ Some p → is_header r.srcb ≡ true)
       → IsAlike r (redirected_record node (destination_place kind before r) r)
   alike_record kind before r in_header = at_place (destination_place kind before r) refl
     where
@@ -57,38 +59,57 @@ module _ (node : List ℕ) (named : is_name node ≡ true) where
   rest_alike before [] = tt
   rest_alike before (r ∷ rs) = (alike_itself r, rest_alike r.srcb rs)
 
-  in_data_set_header : (before : Option ℕ) (r : Stored) (p : ℕ) → destination_place Out before r ≡ Some p → is_header r.srcb ≡ true
+  in_data_set_header : (before : Option ℕ) (r : Stored) (p : ℕ) → destination_place Out before r ≡ Some p
+      → is_header r.srcb ≡ true
   in_data_set_header before r p is = at_test (r.srcb == 0xe0) refl is
     where
-      at_test : (b : Bool) → (r.srcb == 0xe0) ≡ b → cond (b && not (is_after_header before)) (option_map (λ h. h.place) (result_ok (data_set_header r.bytes))) None ≡ Some p
+      at_test : (b : Bool) → (r.srcb == 0xe0) ≡ b
+          → cond (b && not (is_after_header before)) (option_map (λ h. h.place) (result_ok (data_set_header r.bytes)))
+          None ≡ Some p
           → is_header r.srcb ≡ true
       at_test true test is = either_header (r.srcb == 0xc0) (r.srcb == 0xe0) (inr test)
       at_test false test is = absurd (cc is)
 
   output_alike : (before : Option ℕ) (rs : List Stored) → AreAlike rs (records_to_node Out node before rs)
   output_alike before [] = tt
-  output_alike before (r ∷ rs) = (alike_record Out before r (in_data_set_header before r), output_alike (Some r.srcb) rs)
+  output_alike before (r ∷ rs) = (
+    alike_record Out before r (in_data_set_header before r),
+    output_alike (Some r.srcb)
+        rs,
+  )
 
-  sent_alike : (kind : Kind) (rs : List Stored) (d : User) → destination_of kind rs ≡ Some d → AreAlike rs (records_to_node kind node None rs)
+  sent_alike : (kind : Kind) (rs : List Stored) (d : User) → destination_of kind rs ≡ Some d
+      → AreAlike rs (records_to_node kind node None rs)
   sent_alike In [] d is = tt
   sent_alike In (r ∷ rs) d is =
       let job = under (λ (h : JobHeader). h.execution) (job_header_of (r ∷ rs)) d is in
-      let read = read_where (r.srcb == 0xc0) (job_header r.bytes) job.0 job.1 in
-      (alike_record In None r (λ p there. either_header (r.srcb == 0xc0) (r.srcb == 0xe0) (inl read.0)), rest_alike r.srcb rs)
+      let read = read_where (r.srcb == 0xc0) (job_header r.bytes) job.0 job.1 in (
+        alike_record In None r (λ p there. either_header (r.srcb == 0xc0) (r.srcb == 0xe0) (inl read.0)),
+        rest_alike
+            r.srcb rs,
+      )
   sent_alike Out rs d is = output_alike None rs
 
   -- the same where the destination reads now
-  sent_alike_now : (kind : Kind) (rs : List Stored) (d : User) → destination_of kind (records_to_node kind node None rs) ≡ Some d → AreAlike rs (records_to_node kind node None rs)
+  sent_alike_now : (kind : Kind) (rs : List Stored) (d : User)
+      → destination_of kind (records_to_node kind node None rs) ≡ Some d
+      → AreAlike rs (records_to_node kind node None rs)
   sent_alike_now In [] d is = tt
   sent_alike_now In (r ∷ rs) d is =
       let now : Stored = redirected_record node (destination_place In None r) r in
-      let job = under (λ (h : JobHeader). h.execution) (job_header_of (now ∷ records_to_node In node (Some r.srcb) rs)) d is in
+      let job = under (λ (h : JobHeader). h.execution) (job_header_of (now ∷ records_to_node In node (Some r.srcb) rs))
+      d is in
       let read = read_where (now.srcb == 0xc0) (job_header now.bytes) job.0 job.1 in
-      let test : (r.srcb == 0xc0) ≡ true = ap (λ n. n == 0xc0) (sym (srcb_still node (destination_place In None r) r)) ∙ read.0 in
-      (alike_record In None r (λ p there. either_header (r.srcb == 0xc0) (r.srcb == 0xe0) (inl test)), rest_alike r.srcb rs)
+      let test : (r.srcb == 0xc0) ≡ true = ap (λ n. n == 0xc0) (sym (srcb_still node (destination_place In None r) r))
+      ∙ read.0 in (
+        alike_record In None r (λ p there. either_header (r.srcb == 0xc0) (r.srcb == 0xe0) (inl test)),
+        rest_alike r.srcb
+            rs,
+      )
   sent_alike_now Out rs d is = output_alike None rs
 
-pub rerouted_alike : (kind : Kind) (before now : List Stored) (d : User) → destination_of kind before ≡ Some d → IsRerouted kind before now → AreAlike before now
+pub rerouted_alike : (kind : Kind) (before now : List Stored) (d : User) → destination_of kind before ≡ Some d
+    → IsRerouted kind before now → AreAlike before now
 rerouted_alike kind before now d reads rerouted = either (last_decides kind before now rerouted)
   where
     either : (now ≡ before) ⊎ AreSentTo kind before now → AreAlike before now
@@ -96,14 +117,16 @@ rerouted_alike kind before now d reads rerouted = either (last_decides kind befo
     either (inr sent) = subst (AreAlike before) (sym sent.are) (sent_alike sent.node sent.named kind before d reads)
 
 -- so it is where the destination reads behind the last command
-pub alike_where_it_reads : (kind : Kind) (before now : List Stored) (d : User) → destination_of kind now ≡ Some d → IsRerouted kind before now → AreAlike before now
+pub alike_where_it_reads : (kind : Kind) (before now : List Stored) (d : User) → destination_of kind now ≡ Some d
+    → IsRerouted kind before now → AreAlike before now
 alike_where_it_reads kind before now d reads rerouted = either (last_decides kind before now rerouted)
   where
     either : (now ≡ before) ⊎ AreSentTo kind before now → AreAlike before now
     either (inl same) = subst (AreAlike before) (sym same) (all_alike before)
     either (inr sent) =
         subst (AreAlike before) (sym sent.are)
-        (sent_alike_now sent.node sent.named kind before d (subst (λ rs. destination_of kind rs ≡ Some d) sent.are reads))
+        (sent_alike_now sent.node sent.named kind before d
+        (subst (λ rs. destination_of kind rs ≡ Some d) sent.are reads))
 
 -- ---- what is read from it
 
@@ -125,7 +148,8 @@ begun_all before now alike = (
   λ e. absurd (cc e),
 )
 
-pub alike_fit : (before now : List Stored) → AreAlike before now → AllByRecursion FitsHub before → AllByRecursion FitsHub now
+pub alike_fit : (before now : List Stored) → AreAlike before now → AllByRecursion FitsHub before
+    → AllByRecursion FitsHub now
 alike_fit [] [] h fit = tt
 alike_fit [] (y ∷ ys) h fit = absurd h
 alike_fit (x ∷ xs) [] h fit = absurd h
@@ -135,11 +159,13 @@ alike_fit (x ∷ xs) (y ∷ ys) h fit = (
 )
 
 -- a record that is no header was there
-pub alike_at : (before now : List Stored) (i : ℕ) (r : Stored) → AreAlike before now → i < length now → r ≡ get_or now i r → is_header r.srcb ≡ false → get_or before i r ≡ get_or now i r
+pub alike_at : (before now : List Stored) (i : ℕ) (r : Stored) → AreAlike before now → i < length now
+    → r ≡ get_or now i r → is_header r.srcb ≡ false → get_or before i r ≡ get_or now i r
 alike_at [] [] i r h there is other = absurd (omega (arith, there))
 alike_at [] (y ∷ ys) i r h there is other = absurd h
 alike_at (x ∷ xs) [] i r h there is other = absurd h
-alike_at (x ∷ xs) (y ∷ ys) zero r h there is other = sym (h.0.same (ap (λ (z : Stored). is_header z.srcb) (sym is) ∙ other))
+alike_at (x ∷ xs) (y ∷ ys) zero r h there is other =
+    sym (h.0.same (ap (λ (z : Stored). is_header z.srcb) (sym is) ∙ other))
 alike_at (x ∷ xs) (y ∷ ys) (suc i) r h there is other = alike_at xs ys i r h.1 (omega (arith, there)) is other
 
 -- ---- a job's file names one node
@@ -155,8 +181,11 @@ job_names_one (r ∷ rs) d is =
     let read = read_where (r.srcb == 0xc0) (job_header r.bytes) job.0 job.1 in
     let h = job.0 in
     let said : (said_destination In (r ∷ rs)).node ≡ h.execution.node =
-    ap (λ (o : Option JobHeader). (unwrap_or (option_map (λ (g : JobHeader). g.execution) o) (record { node = []; user = [] })).node) job.1 in
-    let place : destination_place In None r ≡ Some h.place = ap (λ (x : Result JobHeader HeaderFault). option_map (λ g. g.place) (result_ok x)) read.1 in
+    ap (λ (o : Option JobHeader). (unwrap_or (option_map (λ (g : JobHeader). g.execution) o)
+    (record { node = []; user = [] })).node) job.1 in
+    let place : destination_place In None r ≡ Some h.place =
+    ap (λ (x : Result JobHeader HeaderFault). option_map (λ g. g.place) (result_ok x)) read.1 in
     let first : redirected_record h.execution.node (destination_place In None r) r ≡ r =
-    ap (λ o. redirected_record h.execution.node o r) place ∙ ap (λ bytes. record r { bytes = bytes }) (job_stands r.bytes h read.1) in
+    ap (λ o. redirected_record h.execution.node o r) place
+    ∙ ap (λ bytes. record r { bytes = bytes }) (job_stands r.bytes h read.1) in
     ap (λ node. records_to_node In node None (r ∷ rs)) said ∙ (λ i. first i ∷ job_alone h.execution.node r.srcb rs i)

@@ -1,5 +1,6 @@
 -- A hub that was just opened from a spool file: what the keeper knows of it, and what has come on its lines.
-use Rattle.std.proofs.Common.{◌≡◌, ◌≢◌, ℕ, zero, suc, ◌<◌, List, [], ◌∷◌, length, get_or, map, remove, Option, Some, None, refl, sym, ap, subst, ◌∙◌, arith}
+use Rattle.std.proofs.Common.{◌≡◌, ◌≢◌, ℕ, zero, suc, ◌<◌, List, [], ◌∷◌, length, get_or, map, remove, Option, Some}
+use Rattle.std.proofs.Common.{None, refl, sym, ap, subst, ◌∙◌, arith}
 use Rattle.std.specs.Prelude.{fold}
 use Rattle.std.specs.List.{AllByRecursion, AllZip}
 use Rattle.njh_customer.specs.Growing.{HasShortRests, IsShortRest}
@@ -22,7 +23,8 @@ use Rattle.njh_keeper.proofs.OpeningSettled.{zip_by_place}
 -- ---- what has come of a line's next frame
 
 -- nothing on a new customer's lines
-nothing_on : (lines : List LineEntry) (l : ℕ) → IsShortRest (rest_at l (part_at_open (record no_entry { lines = lines })).rests)
+nothing_on : (lines : List LineEntry) (l : ℕ)
+    → IsShortRest (rest_at l (part_at_open (record no_entry { lines = lines })).rests)
 nothing_on [] l = tt
 nothing_on (line ∷ lines) zero = tt
 nothing_on (line ∷ lines) (suc l) = nothing_on lines l
@@ -31,7 +33,8 @@ nothing_on (line ∷ lines) (suc l) = nothing_on lines l
 still_short : (p : Part) (w : Whole) → HasShortRests p → HasShortRests (with_whole p w)
 still_short p w short l = subst IsShortRest (sym (ap (rest_at l) (same (file_in w.file w.records)))) (short l)
   where
-    same : (f : Option KeptFile) → (elim f as (λ _. Part) [ None ↦ p | Some back ↦ part_with_file back p ]).rests ≡ p.rests
+    same : (f : Option KeptFile) → (elim f as (λ _. Part) [ None ↦ p | Some back ↦ part_with_file back p ]).rests
+        ≡ p.rests
     same None = refl
     same (Some back) = refl
 
@@ -43,33 +46,47 @@ part_rests (w ∷ ws) p short = part_rests ws (with_whole p w) (still_short p w 
 pub opened_rests : (table : TableFile) (spool : SpoolContents) → AllByRecursion HasShortRests (hub_opened table spool)
 opened_rests table spool = each table.customers
   where
-    each : (cs : List NamedCustomer) → AllByRecursion HasShortRests (map (λ c. part_opened (entry_of c) (own_files c.name spool)) cs)
+    each : (cs : List NamedCustomer) → AllByRecursion HasShortRests
+        (map (λ c. part_opened (entry_of c) (own_files c.name spool)) cs)
     each [] = tt
-    each (c ∷ cs) = (part_rests (own_files c.name spool) (part_at_open (entry_of c)) (nothing_on (entry_of c).lines), each cs)
+    each (c ∷ cs) = (
+      part_rests (own_files c.name spool) (part_at_open (entry_of c)) (nothing_on (entry_of c).lines),
+      each cs,
+    )
 
 -- ---- what the keeper knows
 
-zip_of_map : {X Y Z : Type 0} (R : X → Z → Type 0) (f : Y → Z) (xs : List X) (ys : List Y) → AllZip (λ x y. R x (f y)) xs ys → AllZip R xs (map f ys)
+zip_of_map : {X Y Z : Type 0} (R : X → Z → Type 0) (f : Y → Z) (xs : List X) (ys : List Y)
+    → AllZip (λ x y. R x (f y)) xs ys → AllZip R xs (map f ys)
 zip_of_map R f [] [] h = tt
 zip_of_map R f [] (y ∷ ys) h = h
 zip_of_map R f (x ∷ xs) [] h = h
 zip_of_map R f (x ∷ xs) (y ∷ ys) h = (h.0, zip_of_map R f xs ys h.1)
 
-pub all_by_place : {X : Type 0} (P : X → Type 0) (xs : List X) → ((i : ℕ) → (x : X) → i < length xs → x ≡ get_or xs i x → P x) → AllByRecursion P xs
+pub all_by_place : {X : Type 0} (P : X → Type 0) (xs : List X)
+    → ((i : ℕ) → (x : X) → i < length xs → x ≡ get_or xs i x → P x) → AllByRecursion P xs
 all_by_place P [] each = tt
-all_by_place P (x ∷ xs) each = (each 0 x (omega arith) refl, all_by_place P xs (λ i y low is. each (suc i) y (omega (arith, low)) is))
+all_by_place P (x ∷ xs) each = (
+  each 0 x (omega arith) refl,
+  all_by_place P xs
+      (λ i y low is. each (suc i) y (omega (arith, low)) is),
+)
 
-pub others_by_place : {X : Type 0} (P : X → Type 0) (xs : List X) (c : ℕ) → ((i : ℕ) → (x : X) → i < length xs → x ≡ get_or xs i x → i ≢ c → P x) → AllByRecursion P (remove xs c)
+pub others_by_place : {X : Type 0} (P : X → Type 0) (xs : List X) (c : ℕ)
+    → ((i : ℕ) → (x : X) → i < length xs → x ≡ get_or xs i x → i ≢ c → P x) → AllByRecursion P (remove xs c)
 others_by_place P [] zero each = tt
 others_by_place P [] (suc c) each = tt
-others_by_place P (x ∷ xs) zero each = all_by_place P xs (λ i y low is. each (suc i) y (omega (arith, low)) is (λ same. omega (arith, same)))
+others_by_place P (x ∷ xs) zero each = all_by_place P xs
+    (λ i y low is. each (suc i) y (omega (arith, low)) is (λ same. omega (arith, same)))
 others_by_place P (x ∷ xs) (suc c) each = (
   each 0 x (omega arith) refl (λ same. omega (arith, same)),
-  others_by_place P xs c (λ i y low is other. each (suc i) y (omega (arith, low)) is (λ same. other (omega (arith, same)))),
+  others_by_place P xs c (λ i y low is other. each (suc i) y (omega (arith, low)) is
+      (λ same. other (omega (arith, same)))),
 )
 
 -- no file is remembered that isn't whole
-opened_spool : (names : List (List ℕ)) (hub : List Part) (t : SpoolContents) (c : ℕ) (own : OwnFiles) → IsOpened names hub t c own → HasSpool t own (get_or hub c no_part).customer.spool
+opened_spool : (names : List (List ℕ)) (hub : List Part) (t : SpoolContents) (c : ℕ) (own : OwnFiles)
+    → IsOpened names hub t c own → HasSpool t own (get_or hub c no_part).customer.spool
 opened_spool names hub t c own opened =
     let now = (get_or hub c no_part).customer.spool in
     record {
@@ -80,7 +97,8 @@ opened_spool names hub t c own opened =
     }
 
 -- all of a hub that was just opened, and which customer is which
-pub begun_is_known : (names : List (List ℕ)) (hub : List Part) (owns : List OwnFiles) (w : Numbers) (t : SpoolContents) → HasBegun names hub owns w t → AreDistinct names → length names ≡ length hub
+pub begun_is_known : (names : List (List ℕ)) (hub : List Part) (owns : List OwnFiles) (w : Numbers) (t : SpoolContents)
+    → HasBegun names hub owns w t → AreDistinct names → length names ≡ length hub
     → Knows w owns (map (λ p. p.customer.spool) hub) t × AreNamedApart owns
 begun_is_known names hub owns w t begun distinct long = (
   record {
@@ -89,7 +107,8 @@ begun_is_known names hub owns w t begun distinct long = (
     apart = begun.apart;
     each =
         zip_of_map (HasSpool t) (λ (p : Part). p.customer.spool) owns hub
-        (zip_by_place (λ own (p : Part). HasSpool t own p.customer.spool) owns hub no_part (begun.count ∙ long) (λ c own low is. opened_spool names hub t c own (begun.each c own low is)));
+        (zip_by_place (λ own (p : Part). HasSpool t own p.customer.spool) owns hub no_part (begun.count ∙ long)
+        (λ c own low is. opened_spool names hub t c own (begun.each c own low is)));
   },
   λ c own there is.
       others_by_place (λ o. o.name ≢ own.name) owns c

@@ -1,44 +1,56 @@
 -- What each call of the keeper comes to: what it makes of the spool file, and that this has the hub's files still.
-use Rattle.std.proofs.Common.{◌≡◌, ℕ, ◌+◌, ◌^◌, ◌<◌, ◌≤◌, true, List, [], ◌∷◌, ◌++◌, length, get_or, set, remove, refl, sym, subst, arith}
+use Rattle.std.proofs.Common.{◌≡◌, ℕ, ◌+◌, ◌^◌, ◌<◌, ◌≤◌, true, List, [], ◌∷◌, ◌++◌, length, get_or, set, remove, refl}
+use Rattle.std.proofs.Common.{sym, subst, arith}
 use Rattle.std.specs.List.{AllByRecursion}
 use Rattle.njh_spool.specs.CustomerSpool.{WholeFile}
 use Rattle.njh_spoolfile.specs.Kept.{File, SpoolContents, with_changed, with_file, without_file, without_records}
 use Rattle.njh_hub.specs.Keeping.{is_held}
 use Rattle.njh_keeper.specs.Opened.{is_own}
 use Rattle.njh_keeper.specs.code.Mirrored.{FitsHub, HasRecords, IsOrdered, WritesUnder}
-use Rattle.njh_keeper.specs.code.Remembered.{AreApart, AreBelow, Claim, IsRowOf, KeptWhole, Mirrored, Moves, Numbers, OwnFiles, Remembers, Sweep, claim, keyed, uses, with_key}
+use Rattle.njh_keeper.specs.code.Remembered.{AreApart, AreBelow, Claim, IsRowOf, KeptWhole, Mirrored, Moves, Numbers}
+use Rattle.njh_keeper.specs.code.Remembered.{OwnFiles, Remembers, Sweep, claim, keyed, uses, with_key}
 use Rattle.njh_keeper.proofs.FrameLaws.{drops_records}
-use Rattle.njh_keeper.proofs.MirrorLaws.{changing_moves, coming_moves, file_changes, file_comes, file_leaves, leaving_moves, mirrored_under, state_changes}
+use Rattle.njh_keeper.proofs.MirrorLaws.{changing_moves, coming_moves, file_changes, file_comes, file_leaves}
+use Rattle.njh_keeper.proofs.MirrorLaws.{leaving_moves, mirrored_under, state_changes}
 use Rattle.njh_keeper.proofs.MovesLaws.{moves_memory, moves_then, moves_under}
 use Rattle.njh_keeper.proofs.RecordLaws.{all_leave}
-use Rattle.njh_keeper.proofs.UsesLaws.{in_hand_alone, in_hand_is_used, uses_as_one_changes, uses_as_one_comes, uses_as_one_leaves, whole_are_used, whole_once}
+use Rattle.njh_keeper.proofs.UsesLaws.{in_hand_alone, in_hand_is_used, uses_as_one_changes, uses_as_one_comes}
+use Rattle.njh_keeper.proofs.UsesLaws.{uses_as_one_leaves, whole_are_used, whole_once}
 
 -- A call moves there, and what is kept then are these files.
 pub record MovesTo (a b : Claim) (own : OwnFiles) (s t : SpoolContents) (files : List WholeFile) : Type 0 where
   pub moves : Moves a b s t
   pub mirrored : Mirrored t own files
 
-module _ (w : Numbers) (own : OwnFiles) (s : SpoolContents) (files : List WholeFile) (h : IsOrdered s) (all : Mirrored s own files) where
+module _ (w : Numbers) (own : OwnFiles) (s : SpoolContents) (files : List WholeFile) (h : IsOrdered s)
+    (all : Mirrored s own files) where
   abbrev swept : Sweep → Numbers
   swept sweep = record w { sweeps = w.sweeps ++ sweep ∷ [] }
 
   -- a file is taken out, and its records are dropped later
-  pub drop_follows : (i : ℕ) (k : KeptWhole) (sweep : Sweep) → i < length own.whole → k ≡ get_or own.whole i k → sweep.key ≡ k.key
-      → let own' = record own { whole = remove own.whole i } in MovesTo (claim w own) (claim (swept sweep) own') own' s (without_file k.id s) (remove files i)
+  pub drop_follows : (i : ℕ) (k : KeptWhole) (sweep : Sweep) → i < length own.whole → k ≡ get_or own.whole i k
+      → sweep.key ≡ k.key
+      → let own' = record own { whole = remove own.whole i } in MovesTo (claim w own) (claim (swept sweep) own') own' s
+      (without_file k.id s) (remove files i)
   drop_follows i k sweep there is same = record {
     moves =
-        leaving_moves s own files h all i k there is (claim w own) (claim (swept sweep) (record own { whole = remove own.whole i })) refl refl refl
+        leaving_moves s own files h all i k there is (claim w own)
+        (claim (swept sweep) (record own { whole = remove own.whole i })) refl refl refl
         (uses_as_one_leaves w own i k sweep there is same);
     mirrored = file_leaves s own files h all i k there is;
   }
 
   -- a file's row is another, and maybe its records
-  pub change_follows : (i : ℕ) (k now : KeptWhole) (g : WholeFile) (t : SpoolContents) (file : File) → i < length own.whole → k ≡ get_or own.whole i k → AreApart (claim w own)
-      → WritesUnder k.key s t → is_own own.name file ≡ true → now.id ≡ k.id → now.key ≡ k.key → IsRowOf k.key g file → Remembers now g → HasRecords k.key g.records t
+  pub change_follows : (i : ℕ) (k now : KeptWhole) (g : WholeFile) (t : SpoolContents) (file : File)
+      → i < length own.whole → k ≡ get_or own.whole i k → AreApart (claim w own)
+      → WritesUnder k.key s t → is_own own.name file ≡ true → now.id ≡ k.id → now.key ≡ k.key → IsRowOf k.key g file
+      → Remembers now g → HasRecords k.key g.records t
       → AllByRecursion FitsHub g.records
-      → let own' = record own { whole = set own.whole i now } in MovesTo (claim w own) (claim w own') own' s (with_changed k.id file t) (set files i g)
+      → let own' = record own { whole = set own.whole i now } in MovesTo (claim w own) (claim w own') own' s
+      (with_changed k.id file t) (set files i g)
   change_follows i k now g t file there is apart under owned id key row remembers stored fits =
-      let moves = changing_moves s own files h all i k there is t under file owned (claim w own) refl (whole_are_used w own) in
+      let moves = changing_moves s own files h all i k there is t under file owned (claim w own) refl
+      (whole_are_used w own) in
       record {
         moves = record {
           name = refl;
@@ -49,7 +61,8 @@ module _ (w : Numbers) (own : OwnFiles) (s : SpoolContents) (files : List WholeF
           records = moves.records;
           rows = moves.rows;
         };
-        mirrored = file_changes s own files h all i k there is t under file owned g now (whole_once w own apart k.key) id key row remembers stored fits;
+        mirrored = file_changes s own files h all i k there is t under file owned g now (whole_once w own apart k.key)
+            id key row remembers stored fits;
       }
 
   -- a number is taken, under which no records stand then
@@ -63,10 +76,12 @@ module _ (w : Numbers) (own : OwnFiles) (s : SpoolContents) (files : List WholeF
     pub taken_is_empty : HasRecords key [] emptied
     taken_is_empty = all_leave key s h
 
-    pub take_follows : w'.next_id ≡ w.next_id → AreApart (claim w own) → MovesTo (claim w own) (with_key key (claim w' own)) own s emptied files
+    pub take_follows : w'.next_id ≡ w.next_id → AreApart (claim w own)
+        → MovesTo (claim w own) (with_key key (claim w' own)) own s emptied files
     take_follows next apart = record {
       moves =
-          moves_under (claim w own) (with_key key (claim w' own)) s refl (λ n. let same = taken n in omega (arith, same)) key emptied writes
+          moves_under (claim w own) (with_key key (claim w' own)) s refl
+          (λ n. let same = taken n in omega (arith, same)) key emptied writes
           (let same = taken key in let busy = in_hand_is_used w' own key in omega (arith, same, busy)) next;
       mirrored =
           mirrored_under s emptied own files all key writes
@@ -74,41 +89,55 @@ module _ (w : Numbers) (own : OwnFiles) (s : SpoolContents) (files : List WholeF
     }
 
   -- a file is added, whose records stand under the number in hand
-  pub add_follows : (k : KeptWhole) (g : WholeFile) (t : SpoolContents) (file : File) → k.id ≡ w.next_id → AreBelow w.next_id s → AreApart (with_key k.key (claim w own))
-      → WritesUnder k.key s t → is_own own.name file ≡ true → IsRowOf k.key g file → Remembers k g → HasRecords k.key g.records t → AllByRecursion FitsHub g.records
+  pub add_follows : (k : KeptWhole) (g : WholeFile) (t : SpoolContents) (file : File) → k.id ≡ w.next_id
+      → AreBelow w.next_id s → AreApart (with_key k.key (claim w own))
+      → WritesUnder k.key s t → is_own own.name file ≡ true → IsRowOf k.key g file → Remembers k g
+      → HasRecords k.key g.records t → AllByRecursion FitsHub g.records
       → let own' = record own { whole = own.whole ++ k ∷ [] } in
-      MovesTo (with_key k.key (claim w own)) (claim (record w { next_id = w.next_id + 1 }) own') own' s (with_file k.id file t) (files ++ g ∷ [])
+      MovesTo (with_key k.key (claim w own)) (claim (record w { next_id = w.next_id + 1 }) own') own' s
+      (with_file k.id file t) (files ++ g ∷ [])
   add_follows k g t file id below apart under owned row remembers stored fits =
       let low : AreBelow k.id s = subst (λ end. AreBelow end s) (sym id) below in
       record {
         moves =
-            coming_moves s t own files all k under file owned low (with_key k.key (claim w own)) (claim (record w { next_id = w.next_id + 1 }) (record own { whole = own.whole ++ k ∷ [] }))
-            refl refl (sym id) (let next : w.next_id + 1 ≡ k.id + 1 = omega (arith, id) in next) (in_hand_is_used w own k.key)
+            coming_moves s t own files all k under file owned low (with_key k.key (claim w own))
+            (claim (record w { next_id = w.next_id + 1 }) (record own { whole = own.whole ++ k ∷ [] }))
+            refl refl (sym id) (let next : w.next_id + 1 ≡ k.id + 1 = omega (arith, id) in next)
+            (in_hand_is_used w own k.key)
             (λ n. let same = uses_as_one_comes w own k n in omega (arith, same));
-        mirrored = file_comes s t own files all k under file owned low g (in_hand_alone w own k.key apart) row remembers stored fits;
+        mirrored = file_comes s t own files all k under file owned low g (in_hand_alone w own k.key apart) row remembers
+            stored fits;
       }
 
 -- one call after another
-pub follows_then : (a b c : Claim) (own own' : OwnFiles) (s t u : SpoolContents) (files files' : List WholeFile) → MovesTo a b own s t files → MovesTo b c own' t u files' → MovesTo a c own' s u files'
-follows_then a b c own own' s t u files files' one more = record { moves = moves_then a b c s t u one.moves more.moves; mirrored = more.mirrored }
+pub follows_then : (a b c : Claim) (own own' : OwnFiles) (s t u : SpoolContents) (files files' : List WholeFile)
+    → MovesTo a b own s t files → MovesTo b c own' t u files' → MovesTo a c own' s u files'
+follows_then a b c own own' s t u files files' one more =
+    record { moves = moves_then a b c s t u one.moves more.moves; mirrored = more.mirrored }
 
-module _ (a b : Claim) (own : OwnFiles) (s : SpoolContents) (files : List WholeFile) (all : Mirrored s own files) (name : b.name ≡ a.name) (fewer : (n : ℕ) → b.uses n ≤ a.uses n) where
+module _ (a b : Claim) (own : OwnFiles) (s : SpoolContents) (files : List WholeFile) (all : Mirrored s own files)
+    (name : b.name ≡ a.name) (fewer : (n : ℕ) → b.uses n ≤ a.uses n) where
   -- nothing is written
   pub memory_follows : IsOrdered s → a.next_id ≤ b.next_id → MovesTo a b own s s files
   memory_follows h more = record { moves = moves_memory a b s name fewer h more; mirrored = all }
 
   -- records come or leave under a number that is no whole file's
-  pub portion_follows : (key : ℕ) (t : SpoolContents) → WritesUnder key s t → keyed (λ (k : KeptWhole). k.key) key own.whole ≡ 0 → 1 ≤ a.uses key → b.next_id ≡ a.next_id → MovesTo a b own s t files
+  pub portion_follows : (key : ℕ) (t : SpoolContents) → WritesUnder key s t
+      → keyed (λ (k : KeptWhole). k.key) key own.whole ≡ 0 → 1 ≤ a.uses key → b.next_id ≡ a.next_id
+      → MovesTo a b own s t files
   portion_follows key t under foreign busy next = record {
     moves = moves_under a b s name fewer key t under busy next;
     mirrored = mirrored_under s t own files all key under foreign;
   }
 
 -- a file changed in its state alone, and neither became Held nor was released: nothing is written
-pub state_follows : (w : Numbers) (own : OwnFiles) (s : SpoolContents) (files : List WholeFile) (h : IsOrdered s) (all : Mirrored s own files) (i : ℕ) (k now : KeptWhole) (f g : WholeFile)
-    → i < length own.whole → k ≡ get_or own.whole i k → f ≡ get_or files i f → g.kind ≡ f.kind → is_held g.state ≡ is_held f.state → g.records ≡ f.records
+pub state_follows : (w : Numbers) (own : OwnFiles) (s : SpoolContents) (files : List WholeFile) (h : IsOrdered s)
+    (all : Mirrored s own files) (i : ℕ) (k now : KeptWhole) (f g : WholeFile)
+    → i < length own.whole → k ≡ get_or own.whole i k → f ≡ get_or files i f → g.kind ≡ f.kind
+    → is_held g.state ≡ is_held f.state → g.records ≡ f.records
     → now.id ≡ k.id → now.key ≡ k.key → Remembers now g
-    → let own' = record own { whole = set own.whole i now } in MovesTo (claim w own) (claim w own') own' s s (set files i g)
+    → let own' = record own { whole = set own.whole i now } in MovesTo (claim w own) (claim w own') own' s s
+    (set files i g)
 state_follows w own s files h all i k now f g there is found kind held records id key remembers = record {
   moves =
       moves_memory (claim w own) (claim w (record own { whole = set own.whole i now })) s refl

@@ -1,5 +1,7 @@
 -- A whole file of a spool file, as a hub has it.
-use Rattle.std.proofs.Common.{◌≡◌, ℕ, zero, suc, get_or, ◌+◌, ◌<◌, ◌≤◌, ◌==◌, nat_lt, nat_le, Bool, true, false, cond, ◌&&◌, List, [], ◌∷◌, length, map, Option, Some, None, option_map, Result, Ok, Err, IsOk, MatchOption, refl, sym, ap, subst, ◌∙◌, arith}
+use Rattle.std.proofs.Common.{◌≡◌, ℕ, zero, suc, get_or, ◌+◌, ◌<◌, ◌≤◌, ◌==◌, nat_lt, nat_le, Bool, true, false, cond}
+use Rattle.std.proofs.Common.{◌&&◌, List, [], ◌∷◌, length, map, Option, Some, None, option_map, Result, Ok, Err, IsOk}
+use Rattle.std.proofs.Common.{MatchOption, refl, sym, ap, subst, ◌∙◌, arith}
 use Rattle.std.specs.Prelude.{slice_get}
 use Rattle.std.specs.List.{AllByRecursion}
 use Rattle.std.proofs.lemmas.List.Elements.{All-from_recursion}
@@ -10,7 +12,8 @@ use Rattle.njh_spool.specs.declared.restoring.fault.RestoreFault.{RestoreFault}
 use Rattle.njh_hub.specs.WholeHub.{Part}
 use Rattle.njh_spoolfile.specs.Kept.{File, contents_of}
 use Rattle.njh_spoolfile.specs.declared.kept.StoredRecord.{StoredRecord}
-use Rattle.njh_keeper.specs.Opened.{Contents, as_stored, are_records_from, are_records_of, file_in, file_fault, is_record_at, kind_of_word}
+use Rattle.njh_keeper.specs.Opened.{Contents, as_stored, are_records_from, are_records_of, file_in, file_fault}
+use Rattle.njh_keeper.specs.Opened.{is_record_at, kind_of_word}
 use Rattle.njh_keeper.specs.code.Restoring.{HaveRoom}
 use Rattle.njh_keeper.specs.declared.fault.FileFault.TheVariants.{BadFile, Refused}
 
@@ -29,7 +32,8 @@ fits_one place r is =
     let each = both (nat_lt r.srcb 256) (nat_le (length r.bytes.items) 256) rest in
     (grind (arith, nat_tests, each.0), grind (arith, nat_tests, each.1))
 
-fits_each : (place : ℕ) (rs : List StoredRecord) → are_records_from place (map contents_of rs) ≡ true → AllByRecursion Fits-record rs
+fits_each : (place : ℕ) (rs : List StoredRecord) → are_records_from place (map contents_of rs) ≡ true
+    → AllByRecursion Fits-record rs
 fits_each place [] is = tt
 fits_each place (r ∷ rs) is =
     let each = both (is_record_at place (contents_of r)) (are_records_from (place + 1) (map contents_of rs)) is in
@@ -43,39 +47,53 @@ have_room rs is = All-from_recursion Fits-record rs (fits_each 0 rs is)
 abbrev pub as_kept : File → List Contents → Kind → KeptFile
 as_kept file records kind = record { kind = kind; held = file.held; records = map as_stored records }
 
-pub is_file : (file : File) (records : List Contents) (kind : Kind) → are_records_of file records ≡ true → kind_of_word file.kind ≡ Some kind
+pub is_file : (file : File) (records : List Contents) (kind : Kind) → are_records_of file records ≡ true
+    → kind_of_word file.kind ≡ Some kind
     → file_in file records ≡ Some (as_kept file records kind)
 is_file file records kind all word =
-    ap (λ b. cond b (option_map (as_kept file records) (kind_of_word file.kind)) None) all ∙ ap (option_map (as_kept file records)) word
+    ap (λ b. cond b (option_map (as_kept file records) (kind_of_word file.kind)) None) all
+    ∙ ap (option_map (as_kept file records)) word
 
 pub no_kind : (file : File) (records : List Contents) → kind_of_word file.kind ≡ None → file_in file records ≡ None
-no_kind file records word = ap (λ o. cond (are_records_of file records) (option_map (as_kept file records) o) None) word ∙ either (are_records_of file records)
+no_kind file records word = ap (λ o. cond (are_records_of file records) (option_map (as_kept file records) o) None) word
+    ∙ either (are_records_of file records)
   where
     either : (b : Bool) → ◌≡◌ {A = Option KeptFile} (cond b None None) None
     either true = refl
     either false = refl
 
-pub not_all : (file : File) (records : List Contents) → are_records_of file records ≡ false → file_in file records ≡ None
+pub not_all : (file : File) (records : List Contents) → are_records_of file records ≡ false
+    → file_in file records ≡ None
 not_all file records all = ap (λ b. cond b (option_map (as_kept file records) (kind_of_word file.kind)) None) all
 
 -- ---- why it isn't put back
 
-pub bad_file : (p : Part) (file : File) (records : List Contents) → file_in file records ≡ None → file_fault p file records ≡ Some BadFile
-bad_file p file records none = ap (λ (o : Option KeptFile). elim o [ None ↦ Some BadFile | Some f ↦ option_map Refused (restore_fault f p.customer.spool) ]) none
+pub bad_file : (p : Part) (file : File) (records : List Contents) → file_in file records ≡ None
+    → file_fault p file records ≡ Some BadFile
+bad_file p file records none = ap (λ (o : Option KeptFile). elim o
+    [ None ↦ Some BadFile | Some f ↦ option_map Refused (restore_fault f p.customer.spool) ]) none
 
-pub by_restore : (p : Part) (file : File) (records : List Contents) (f : KeptFile) (fault : Option RestoreFault) → file_in file records ≡ Some f
+pub by_restore : (p : Part) (file : File) (records : List Contents) (f : KeptFile) (fault : Option RestoreFault)
+    → file_in file records ≡ Some f
     → restore_fault f p.customer.spool ≡ fault → file_fault p file records ≡ option_map Refused fault
 by_restore p file records f fault is told =
-    ap (λ (o : Option KeptFile). elim o [ None ↦ Some BadFile | Some g ↦ option_map Refused (restore_fault g p.customer.spool) ]) is
+    ap (λ (o : Option KeptFile). elim o [
+      | None ↦ Some BadFile
+      | Some g ↦ option_map Refused (restore_fault g p.customer.spool)
+    ]) is
     ∙ ap (option_map Refused) told
 
-pub no_fault : {E : Type 0} (o : Option E) (r : Result (Unit {0}) E) (x : Unit {0}) → MatchOption o (IsOk r) (λ fault. r ≡ Err fault) → r ≡ Ok x → o ≡ None
+pub no_fault : {E : Type 0} (o : Option E) (r : Result (Unit {0}) E) (x : Unit {0})
+    → MatchOption o (IsOk r) (λ fault. r ≡ Err fault) → r ≡ Ok x → o ≡ None
 no_fault None r x told is = refl
-no_fault {E} (Some fault) r x told is = absurd (let h : ◌≡◌ {A = Result (Unit {0}) E} (Err fault) (Ok x) = sym told ∙ is in cc)
+no_fault {E} (Some fault) r x told is = absurd
+    (let h : ◌≡◌ {A = Result (Unit {0}) E} (Err fault) (Ok x) = sym told ∙ is in cc)
 
-pub this_fault : {E : Type 0} (o : Option E) (r : Result (Unit {0}) E) (fault : E) → MatchOption o (IsOk r) (λ told. r ≡ Err told) → r ≡ Err fault → o ≡ Some fault
+pub this_fault : {E : Type 0} (o : Option E) (r : Result (Unit {0}) E) (fault : E)
+    → MatchOption o (IsOk r) (λ told. r ≡ Err told) → r ≡ Err fault → o ≡ Some fault
 this_fault {E} None r fault told is = absurd (let h = subst (λ (x : Result (Unit {0}) E). IsOk x) is told in cc)
-this_fault {E} (Some other) r fault told is = let h : ◌≡◌ {A = Result (Unit {0}) E} (Err other) (Err fault) = sym told ∙ is in cc
+this_fault {E} (Some other) r fault told is = let h : ◌≡◌ {A = Result (Unit {0}) E} (Err other) (Err fault) =
+    sym told ∙ is in cc
 
 -- a record by its place
 pub got : (rs : List StoredRecord) (n : ℕ) (r : StoredRecord) → n < length rs → r ≡ get_or rs n r

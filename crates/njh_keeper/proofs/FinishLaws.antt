@@ -1,5 +1,6 @@
 -- A file's records are finished: of those that stand there the headers are written anew, and the others are added.
-use Rattle.std.proofs.Common.{◌≡◌, ℕ, zero, suc, ◌+◌, ◌<◌, ◌≤◌, false, List, [], ◌∷◌, ◌++◌, length, get_or, take, drop, sym, ap, subst, ◌∙◌, append-nil, arith}
+use Rattle.std.proofs.Common.{◌≡◌, ℕ, zero, suc, ◌+◌, ◌<◌, ◌≤◌, false, List, [], ◌∷◌, ◌++◌, length, get_or, take, drop}
+use Rattle.std.proofs.Common.{sym, ap, subst, ◌∙◌, append-nil, arith}
 use Rattle.std.proofs.lemmas.List.{drop_all, get_or-take, length-take-le, take-take, take_all}
 use Rattle.njh_record.specs.Stored.{Stored}
 use Rattle.njh_spoolfile.specs.Kept.{Record, SpoolContents, with_record, without_records}
@@ -16,7 +17,8 @@ front_alike (suc n) (x ∷ xs) [] h = absurd h
 front_alike (suc n) (x ∷ xs) (y ∷ ys) h = (h.0, front_alike n xs ys h.1)
 
 -- these stood there, and are alike to the first of what is to stand there
-module _ (before now : List Stored) (shorter : length before ≤ length now) (alike : AreAlike before (take (length before) now)) (at : ℕ) where
+module _ (before now : List Stored) (shorter : length before ≤ length now)
+    (alike : AreAlike before (take (length before) now)) (at : ℕ) where
   abbrev front : List Stored
   front = take (length before) now
 
@@ -27,7 +29,8 @@ module _ (before now : List Stored) (shorter : length before ≤ length now) (al
   of_front n within = ap (λ rs. rs ++ drop n before) (take-take n (length before) now within)
 
   -- one that is no header is passed over
-  pub finish_passes : (r : Stored) → at < length before → r ≡ get_or now at r → is_header r.srcb ≡ false → records_midway (at + 1) now before ≡ records_midway at now before
+  pub finish_passes : (r : Stored) → at < length before → r ≡ get_or now at r → is_header r.srcb ≡ false
+      → records_midway (at + 1) now before ≡ records_midway at now before
   finish_passes r within is other =
       let there : at < length front = omega (arith, within, front_long) in
       let here : r ≡ get_or front at r = is ∙ sym (get_or-take (length before) now at r within) in
@@ -35,21 +38,30 @@ module _ (before now : List Stored) (shorter : length before ≤ length now) (al
       ∙ next_is_the_same at front before front_long there r (alike_at before front at r alike there here other)
       ∙ of_front at (omega (arith, within))
 
-  module _ (key : ℕ) (r : Record) (spool : SpoolContents) (h : IsOrdered spool) (has : HasRecords key (records_midway at now before) spool) (mine : r.key ≡ key) (place : r.place ≡ at) (is : stored_of r ≡ get_or now at (stored_of r)) where
+  module _ (key : ℕ) (r : Record) (spool : SpoolContents) (h : IsOrdered spool)
+      (has : HasRecords key (records_midway at now before) spool) (mine : r.key ≡ key) (place : r.place ≡ at)
+      (is : stored_of r ≡ get_or now at (stored_of r)) where
     -- a header is written anew
-    pub finish_rewrites : at < length before → HasRecords key (records_midway (at + 1) now before) (with_record r (without_records key at (at + 1) spool))
+    pub finish_rewrites : at < length before
+        → HasRecords key (records_midway (at + 1) now before) (with_record r (without_records key at (at + 1) spool))
     finish_rewrites within =
         let there : at < length front = omega (arith, within, front_long) in
-        let has_front : HasRecords key (records_midway at front before) spool = subst (λ rs. HasRecords key rs spool) (sym (of_front at (omega (arith, within)))) has in
-        subst (λ rs. HasRecords key rs (with_record r (without_records key at (at + 1) spool))) (of_front (at + 1) (omega (arith, within)))
-        (next_is_rewritten at front before front_long there key r spool h has_front mine place (is ∙ sym (get_or-take (length before) now at (stored_of r) within)))
+        let has_front : HasRecords key (records_midway at front before) spool =
+        subst (λ rs. HasRecords key rs spool) (sym (of_front at (omega (arith, within)))) has in
+        subst (λ rs. HasRecords key rs (with_record r (without_records key at (at + 1) spool)))
+        (of_front (at + 1) (omega (arith, within)))
+        (next_is_rewritten at front before front_long there key r spool h has_front mine place
+        (is ∙ sym (get_or-take (length before) now at (stored_of r) within)))
 
     -- one behind them is added
-    pub finish_adds : length before ≤ at → at < length now → HasRecords key (records_midway (at + 1) now before) (with_record r spool)
+    pub finish_adds : length before ≤ at → at < length now
+        → HasRecords key (records_midway (at + 1) now before) (with_record r spool)
     finish_adds behind within =
-        let none : (n : ℕ) → length before ≤ n → records_midway n now before ≡ take n now = λ n past. ap (λ rs. take n now ++ rs) (drop_all n before past) ∙ append-nil (take n now) in
+        let none : (n : ℕ) → length before ≤ n → records_midway n now before ≡ take n now =
+        λ n past. ap (λ rs. take n now ++ rs) (drop_all n before past) ∙ append-nil (take n now) in
         subst (λ rs. HasRecords key rs (with_record r spool)) (sym (none (at + 1) (omega (arith, behind))))
-        (next_is_written key at now r spool h (subst (λ rs. HasRecords key rs spool) (none at behind) has) within mine place is)
+        (next_is_written key at now r spool h (subst (λ rs. HasRecords key rs spool) (none at behind) has) within mine
+        place is)
 
   -- then all stand there
   pub finish_ends : length now ≤ at → records_midway at now before ≡ now

@@ -1,5 +1,6 @@
 -- Calls of the keeper one after the other, with what is kept of a customer's files.
-use Rattle.std.proofs.Common.{◌≡◌, ℕ, zero, suc, ◌<◌, List, [], ◌∷◌, ◌++◌, length, get_or, set, remove, map, Result, Ok, Err, OnOk, refl, ap, ◌∙◌}
+use Rattle.std.proofs.Common.{◌≡◌, ℕ, zero, suc, ◌<◌, List, [], ◌∷◌, ◌++◌, length, get_or, set, remove, map, Result, Ok}
+use Rattle.std.proofs.Common.{Err, OnOk, refl, ap, ◌∙◌}
 use Rattle.std.specs.List.{AllByRecursion}
 use Rattle.njh_header.specs.WholeFiles.{HasHeaders}
 use Rattle.njh_spool.specs.CustomerSpool.{WholeFile}
@@ -29,18 +30,21 @@ remain_then _ _ _ (stays p ps qs one) (stays _ _ rs more) = stays p ps rs (remai
 remain_then _ _ _ (stays p ps qs one) (leaves _ _ rs more) = leaves p ps rs (remain_then ps qs rs one more)
 remain_then _ _ rs (leaves p ps qs one) more = leaves p ps rs (remain_then ps qs rs one more)
 
-pub all_remain : (P : KeptPartial → Type 0) (ps qs : List KeptPartial) → Remain ps qs → AllByRecursion P ps → AllByRecursion P qs
+pub all_remain : (P : KeptPartial → Type 0) (ps qs : List KeptPartial) → Remain ps qs → AllByRecursion P ps
+    → AllByRecursion P qs
 all_remain P _ _ none all = tt
 all_remain P _ _ (stays p ps qs more) all = (all.0, all_remain P ps qs more all.1)
 all_remain P _ _ (leaves p ps qs more) all = all_remain P ps qs more all.1
 
-pub all_both : {X : Type 0} (P Q R : X → Type 0) → ((x : X) → P x → Q x → R x) → (xs : List X) → AllByRecursion P xs → AllByRecursion Q xs → AllByRecursion R xs
+pub all_both : {X : Type 0} (P Q R : X → Type 0) → ((x : X) → P x → Q x → R x) → (xs : List X) → AllByRecursion P xs
+    → AllByRecursion Q xs → AllByRecursion R xs
 all_both P Q R f [] one more = tt
 all_both P Q R f (x ∷ xs) one more = (f x one.0 more.0, all_both P Q R f xs one.1 more.1)
 
 -- ---- calls
 
-pub goes : (m m' : Memory) (s t : SpoolContents) (files now : List WholeFile) → HasFiles m s files → Moves (claim_of m) (claim_of m') s t → Mirrored t m'.own now
+pub goes : (m m' : Memory) (s t : SpoolContents) (files now : List WholeFile) → HasFiles m s files
+    → Moves (claim_of m) (claim_of m') s t → Mirrored t m'.own now
     → m'.text ≡ m.text → AllByRecursion (λ f. HasHeaders f.kind f.records) now → Remain m.own.partial m'.own.partial
     → AllByRecursion (λ p. records_of p.key t ≡ records_of p.key s) m'.own.partial → GoesTo m m' s t now
 goes m m' s t files now has moves mirrored text headers remain records = record {
@@ -65,15 +69,18 @@ goes_nowhere m s files has = record {
   records = all_of (λ (p : KeptPartial). records_of p.key s ≡ records_of p.key s) (λ p. refl) m.own.partial;
 }
 
-pub goes_then : (a b c : Memory) (s t u : SpoolContents) (files now : List WholeFile) → GoesTo a b s t files → GoesTo b c t u now → GoesTo a c s u now
+pub goes_then : (a b c : Memory) (s t u : SpoolContents) (files now : List WholeFile) → GoesTo a b s t files
+    → GoesTo b c t u now → GoesTo a c s u now
 goes_then a b c s t u files now one more = record {
   moves = moves_then (claim_of a) (claim_of b) (claim_of c) s t u one.moves more.moves;
   has = more.has;
   remain = remain_then a.own.partial b.own.partial c.own.partial one.remain more.remain;
   records =
-      all_both (λ (p : KeptPartial). records_of p.key t ≡ records_of p.key s) (λ p. records_of p.key u ≡ records_of p.key t) (λ p. records_of p.key u ≡ records_of p.key s)
+      all_both (λ (p : KeptPartial). records_of p.key t ≡ records_of p.key s)
+      (λ p. records_of p.key u ≡ records_of p.key t) (λ p. records_of p.key u ≡ records_of p.key s)
       (λ p first next. next ∙ first) c.own.partial
-      (all_remain (λ (p : KeptPartial). records_of p.key t ≡ records_of p.key s) b.own.partial c.own.partial more.remain one.records) more.records;
+      (all_remain (λ (p : KeptPartial). records_of p.key t ≡ records_of p.key s) b.own.partial c.own.partial more.remain
+      one.records) more.records;
 }
 
 -- ---- lists of what is remembered
@@ -84,20 +91,23 @@ map-remove f [] (suc i) = refl
 map-remove f (x ∷ xs) zero = refl
 map-remove f (x ∷ xs) (suc i) = ap (λ ys. f x ∷ ys) (map-remove f xs i)
 
-pub all-remove : {X : Type 0} (P : X → Type 0) (xs : List X) (i : ℕ) → AllByRecursion P xs → AllByRecursion P (remove xs i)
+pub all-remove : {X : Type 0} (P : X → Type 0) (xs : List X) (i : ℕ) → AllByRecursion P xs
+    → AllByRecursion P (remove xs i)
 all-remove P [] zero all = tt
 all-remove P [] (suc i) all = tt
 all-remove P (x ∷ xs) zero all = all.1
 all-remove P (x ∷ xs) (suc i) all = (all.0, all-remove P xs i all.1)
 
-pub all-set : {X : Type 0} (P : X → Type 0) (xs : List X) (i : ℕ) (x : X) → AllByRecursion P xs → P x → AllByRecursion P (set xs i x)
+pub all-set : {X : Type 0} (P : X → Type 0) (xs : List X) (i : ℕ) (x : X) → AllByRecursion P xs → P x
+    → AllByRecursion P (set xs i x)
 all-set P [] i x all one = tt
 all-set P (y ∷ xs) zero x all one = (one, all.1)
 all-set P (y ∷ xs) (suc i) x all one = (all.0, all-set P xs i x all.1 one)
 
 -- ---- a file is taken out
 
-module _ (m : Memory) (i : ℕ) (k : KeptWhole) (sweep : Sweep) (there : i < length m.own.whole) (is : k ≡ get_or m.own.whole i k) (same : sweep.key ≡ k.key) where
+module _ (m : Memory) (i : ℕ) (k : KeptWhole) (sweep : Sweep) (there : i < length m.own.whole)
+    (is : k ≡ get_or m.own.whole i k) (same : sweep.key ≡ k.key) where
   abbrev pub memory_without : Memory
   memory_without = record {
     numbers = record m.numbers { sweeps = m.numbers.sweeps ++ sweep ∷ [] };
@@ -105,7 +115,8 @@ module _ (m : Memory) (i : ℕ) (k : KeptWhole) (sweep : Sweep) (there : i < len
     text = m.text;
   }
 
-  pub file_goes : (s : SpoolContents) (files : List WholeFile) → HasFiles m s files → GoesTo m memory_without s (without_file k.id s) (remove files i)
+  pub file_goes : (s : SpoolContents) (files : List WholeFile) → HasFiles m s files
+      → GoesTo m memory_without s (without_file k.id s) (remove files i)
   file_goes s files has =
       let by = drop_follows m.numbers m.own s files has.ordered has.mirrored i k sweep there is same in
       goes m memory_without s (without_file k.id s) files (remove files i) has by.moves by.mirrored refl

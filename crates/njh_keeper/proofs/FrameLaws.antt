@@ -1,14 +1,19 @@
 -- What stays of the records under other keys, and of the rows of other customers.
-use Rattle.std.proofs.Common.{◌≡◌, ◌≢◌, ℕ, ◌+◌, ◌^◌, ◌<◌, ◌≤◌, List, length, get_or, map, true, false, refl, sym, ap, ◌∙◌, arith}
+use Rattle.std.proofs.Common.{◌≡◌, ◌≢◌, ℕ, ◌+◌, ◌^◌, ◌<◌, ◌≤◌, List, length, get_or, map, true, false, refl, sym, ap}
+use Rattle.std.proofs.Common.{◌∙◌, arith}
 use Rattle.std.specs.List.{AllByRecursion}
 use Rattle.njh_record.specs.Stored.{Stored}
-use Rattle.njh_spoolfile.specs.Kept.{File, Record, SpoolContents, contents, records_of, with_changed, with_file, with_record, without_file, without_records}
+use Rattle.njh_spoolfile.specs.Kept.{File, Record, SpoolContents, contents, records_of, with_changed, with_file}
+use Rattle.njh_spoolfile.specs.Kept.{with_record, without_file, without_records}
 use Rattle.njh_keeper.specs.Opened.{is_own, own_files}
 use Rattle.njh_keeper.specs.code.Mirrored.{HasRecords, IsOrdered, WritesRowsOf, WritesUnder, own_rows}
 use Rattle.njh_keeper.proofs.NumberedLaws.{all_weaker}
 use Rattle.njh_keeper.proofs.OwnFileLaws.{own_files_by_rows, own_files_same}
-use Rattle.njh_keeper.proofs.RecordLaws.{records_of_another_come, records_of_another_leave, with_record_ordered, without_records_ordered}
-use Rattle.njh_keeper.proofs.RowLaws.{owned_once, row_is_own, row_of_another_changes, row_of_another_comes, row_of_another_leaves, with_changed_ordered, with_file_ordered, without_file_ordered}
+use Rattle.njh_keeper.proofs.RecordLaws.{records_of_another_come, records_of_another_leave, with_record_ordered}
+use Rattle.njh_keeper.proofs.RecordLaws.{without_records_ordered}
+use Rattle.njh_keeper.proofs.RowLaws.{owned_once, row_is_own, row_of_another_changes, row_of_another_comes}
+use Rattle.njh_keeper.proofs.RowLaws.{row_of_another_leaves, with_changed_ordered, with_file_ordered}
+use Rattle.njh_keeper.proofs.RowLaws.{without_file_ordered}
 
 -- ---- records under one key
 
@@ -23,36 +28,43 @@ module _ (key : ℕ) where
     others = λ other apart. more.others other apart ∙ one.others other apart;
   }
 
-  pub writes_record : (r : Record) (s : SpoolContents) → IsOrdered s → r.place < 2 ^ 23 → r.key ≡ key → WritesUnder key s (with_record r s)
+  pub writes_record : (r : Record) (s : SpoolContents) → IsOrdered s → r.place < 2 ^ 23 → r.key ≡ key
+      → WritesUnder key s (with_record r s)
   writes_record r s h low mine = record {
     files = refl;
     ordered = with_record_ordered r s h low;
     others = λ other apart. records_of_another_come other r s h low (λ here. apart (here ∙ mine));
   }
 
-  pub drops_records : (first end : ℕ) (s : SpoolContents) → IsOrdered s → end ≤ 2 ^ 23 → WritesUnder key s (without_records key first end s)
+  pub drops_records : (first end : ℕ) (s : SpoolContents) → IsOrdered s → end ≤ 2 ^ 23
+      → WritesUnder key s (without_records key first end s)
   drops_records first end s h within = record {
     files = refl;
     ordered = without_records_ordered key first end s h;
     others = λ other apart. records_of_another_leave other key first end s h apart within;
   }
 
-  pub changes_record : (r : Record) (s : SpoolContents) → IsOrdered s → r.place < 2 ^ 23 → r.key ≡ key → WritesUnder key s (with_record r (without_records key r.place (r.place + 1) s))
+  pub changes_record : (r : Record) (s : SpoolContents) → IsOrdered s → r.place < 2 ^ 23 → r.key ≡ key
+      → WritesUnder key s (with_record r (without_records key r.place (r.place + 1) s))
   changes_record r s h low mine =
       let dropped = drops_records r.place (r.place + 1) s h (omega (arith, low)) in
-      writes_then s (without_records key r.place (r.place + 1) s) _ dropped (writes_record r (without_records key r.place (r.place + 1) s) dropped.ordered low mine)
+      writes_then s (without_records key r.place (r.place + 1) s) _ dropped
+      (writes_record r (without_records key r.place (r.place + 1) s) dropped.ordered low mine)
 
   module _ (s t : SpoolContents) (w : WritesUnder key s t) where
-    pub other_records_stay : (other : ℕ) (rs : List Stored) → other ≢ key → HasRecords other rs s → HasRecords other rs t
+    pub other_records_stay : (other : ℕ) (rs : List Stored) → other ≢ key → HasRecords other rs s
+        → HasRecords other rs t
     other_records_stay other rs apart has = ap (map contents) (w.others other apart) ∙ has
 
     pub rows_stay : (name : List ℕ) → own_rows name t ≡ own_rows name s
     rows_stay name = λ i. own_rows name (record { files = w.files i; records = t.records })
 
-    pub own_files_stay : (name : List ℕ) → AllByRecursion (λ e. e.1.key ≢ key) (own_rows name s) → own_files name t ≡ own_files name s
+    pub own_files_stay : (name : List ℕ) → AllByRecursion (λ e. e.1.key ≢ key) (own_rows name s)
+        → own_files name t ≡ own_files name s
     own_files_stay name foreign =
         own_files_same name s t (rows_stay name)
-        (all_weaker (λ e. e.1.key ≢ key) (λ e. records_of e.1.key t ≡ records_of e.1.key s) (λ e apart. w.others e.1.key apart) (own_rows name s) foreign)
+        (all_weaker (λ e. e.1.key ≢ key) (λ e. records_of e.1.key t ≡ records_of e.1.key s)
+        (λ e apart. w.others e.1.key apart) (own_rows name s) foreign)
 
 -- ---- rows of one customer
 
@@ -64,14 +76,17 @@ module _ (name : List ℕ) where
     others = λ other apart. more.others other apart ∙ one.others other apart;
   }
 
-  pub adds_row : (id : ℕ) (file : File) (s : SpoolContents) → IsOrdered s → AllByRecursion (λ e. e.0 < id) s.files → is_own name file ≡ true → WritesRowsOf name s (with_file id file s)
+  pub adds_row : (id : ℕ) (file : File) (s : SpoolContents) → IsOrdered s → AllByRecursion (λ e. e.0 < id) s.files
+      → is_own name file ≡ true → WritesRowsOf name s (with_file id file s)
   adds_row id file s h all owned = record {
     records = refl;
     ordered = with_file_ordered id file s h;
-    others = λ other apart. row_of_another_comes other id file s all (owned_once name other file owned (λ here. apart (sym here)));
+    others = λ other apart. row_of_another_comes other id file s all
+        (owned_once name other file owned (λ here. apart (sym here)));
   }
 
-  module _ (s : SpoolContents) (h : IsOrdered s) (i : ℕ) (e : ℕ × File) (there : i < length (own_rows name s)) (is : e ≡ get_or (own_rows name s) i e) where
+  module _ (s : SpoolContents) (h : IsOrdered s) (i : ℕ) (e : ℕ × File) (there : i < length (own_rows name s))
+      (is : e ≡ get_or (own_rows name s) i e) where
     foreign : (other : List ℕ) → other ≢ name → is_own other e.1 ≡ false
     foreign other apart = owned_once name other e.1 (row_is_own name s h i e there is) (λ here. apart (sym here))
 
@@ -86,12 +101,14 @@ module _ (name : List ℕ) where
     changes_row file owned = record {
       records = refl;
       ordered = with_changed_ordered e.0 file s h;
-      others = λ other apart. row_of_another_changes name s h i e there is other (foreign other apart) file (owned_once name other file owned (λ here. apart (sym here)));
+      others = λ other apart. row_of_another_changes name s h i e there is other (foreign other apart) file
+          (owned_once name other file owned (λ here. apart (sym here)));
     }
 
   module _ (s t : SpoolContents) (w : WritesRowsOf name s t) where
     pub records_stay : (key : ℕ) (rs : List Stored) → HasRecords key rs s → HasRecords key rs t
-    records_stay key rs has = (λ i. map contents (records_of key (record { files = t.files; records = w.records i }))) ∙ has
+    records_stay key rs has = (λ i. map contents (records_of key (record { files = t.files; records = w.records i })))
+        ∙ has
 
     pub other_files_stay : (other : List ℕ) → other ≢ name → own_files other t ≡ own_files other s
     other_files_stay other apart = own_files_by_rows other s t (w.others other apart) w.records

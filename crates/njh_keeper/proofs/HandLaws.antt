@@ -1,5 +1,6 @@
 -- A file that became whole is added: a number comes in hand, its records are finished under it, and its row is added.
-use Rattle.std.proofs.Common.{◌≡◌, ◌≢◌, ℕ, ◌+◌, ◌^◌, ◌<◌, ◌≤◌, true, List, [], ◌∷◌, ◌++◌, length, get_or, remove, refl, sym, subst, ◌∙◌, arith}
+use Rattle.std.proofs.Common.{◌≡◌, ◌≢◌, ℕ, ◌+◌, ◌^◌, ◌<◌, ◌≤◌, true, List, [], ◌∷◌, ◌++◌, length, get_or, remove, refl}
+use Rattle.std.proofs.Common.{sym, subst, ◌∙◌, arith}
 use Rattle.std.specs.List.{AllByRecursion}
 use Rattle.std.proofs.lemmas.List.Elements.{All-from_recursion}
 use Rattle.sqlite.specs.State.{State}
@@ -11,7 +12,8 @@ use Rattle.njh_spoolfile.specs.Kept.{File, SpoolContents, records_of, with_file,
 use Rattle.njh_spoolfile.specs.Steps.{Changes}
 use Rattle.njh_keeper.specs.Opened.{is_name_of}
 use Rattle.njh_keeper.specs.code.Alike.{Writes}
-use Rattle.njh_keeper.specs.code.Following.{AddsRow, AreFronts, GoesTo, HasFiles, IsFrontOf, IsInHand, IsRowFor, LeadsFiles, LeadsInHand, Memory, claim_of}
+use Rattle.njh_keeper.specs.code.Following.{AddsRow, AreFronts, GoesTo, HasFiles, IsFrontOf, IsInHand, IsRowFor}
+use Rattle.njh_keeper.specs.code.Following.{LeadsFiles, LeadsInHand, Memory, claim_of}
 use Rattle.njh_keeper.specs.code.Leading.{Leads}
 use Rattle.njh_keeper.specs.code.Mirrored.{FitsHub}
 use Rattle.njh_keeper.specs.code.Remembered.{AreApart, KeptPartial, KeptWhole, Numbers, Remembers, claim, with_key}
@@ -27,13 +29,15 @@ use Rattle.njh_keeper.proofs.NumberedLaws.{all_weaker}
 use Rattle.njh_keeper.proofs.UsesLaws.{uses_as_key_is_taken, uses_as_partial_goes}
 
 -- files that aren't whole have no number that is in hand
-no_partial : (key : ℕ) (m : Memory) → AreApart (with_key key (claim_of m)) → AllByRecursion (λ p. p.key ≢ key) m.own.partial
+no_partial : (key : ℕ) (m : Memory) → AreApart (with_key key (claim_of m))
+    → AllByRecursion (λ p. p.key ≢ key) m.own.partial
 no_partial key m apart =
     let once = apart key in
     let one = one_itself key in
     keyed_none (λ (p : KeptPartial). p.key) key m.own.partial (omega (arith, once, one))
 
-pub all-push : {X : Type 0} (P : X → Type 0) (xs : List X) (x : X) → AllByRecursion P xs → P x → AllByRecursion P (xs ++ x ∷ [])
+pub all-push : {X : Type 0} (P : X → Type 0) (xs : List X) (x : X) → AllByRecursion P xs → P x
+    → AllByRecursion P (xs ++ x ∷ [])
 all-push P [] x all one = (one, tt)
 all-push P (y ∷ xs) x all one = (all.0, all-push P xs x all.1 one)
 
@@ -42,20 +46,26 @@ module _ (m : Memory) (g : WholeFile) (s : SpoolContents) (files : List WholeFil
   memory_left i = record { numbers = m.numbers; own = record m.own { partial = remove m.own.partial i }; text = m.text }
 
   -- the number of a file that wasn't whole
-  pub partial_in_hand : (i : ℕ) (p : KeptPartial) → i < length m.own.partial → p ≡ get_or m.own.partial i p → g.number ≡ p.number → p.seen ≤ length g.records
+  pub partial_in_hand : (i : ℕ) (p : KeptPartial) → i < length m.own.partial → p ≡ get_or m.own.partial i p
+      → g.number ≡ p.number → p.seen ≤ length g.records
       → AreFronts s m.own.partial (g ∷ []) → IsInHand p.key p.written m (memory_left i) s s files g.records
   partial_in_hand i p there is same seen fronts =
-      let fronts_here = subst (λ q. AllByRecursion (λ f. f.number ≡ q.number → q.seen ≤ length f.records → IsFrontOf s q f.records) (g ∷ [])) (sym is)
-      (All-from_recursion (λ q. AllByRecursion (λ f. f.number ≡ q.number → q.seen ≤ length f.records → IsFrontOf s q f.records) (g ∷ [])) m.own.partial fronts i p there) in
+      let fronts_here = subst (λ q. AllByRecursion
+      (λ f. f.number ≡ q.number → q.seen ≤ length f.records → IsFrontOf s q f.records) (g ∷ [])) (sym is)
+      (All-from_recursion (λ q. AllByRecursion
+      (λ f. f.number ≡ q.number → q.seen ≤ length f.records → IsFrontOf s q f.records) (g ∷ [])) m.own.partial fronts i
+      p there) in
       let front : IsFrontOf s p g.records = fronts_here.0 same seen in
       record {
         moves =
             moves_memory (claim_of m) (with_key p.key (claim_of (memory_left i))) s refl
-            (λ n. let as_was = uses_as_partial_goes m.numbers m.own i p there is n in omega (arith, as_was)) has.ordered (omega arith);
+            (λ n. let as_was = uses_as_partial_goes m.numbers m.own i p there is n in omega (arith, as_was)) has.ordered
+            (omega arith);
         text = refl;
         mirrored = has.mirrored;
         remain = remain_removed m.own.partial i;
-        records = all_of (λ (q : KeptPartial). records_of q.key s ≡ records_of q.key s) (λ q. refl) (remove m.own.partial i);
+        records = all_of (λ (q : KeptPartial). records_of q.key s ≡ records_of q.key s) (λ q. refl)
+            (remove m.own.partial i);
         before = front.before;
         long = front.long;
         within = front.within;
@@ -64,7 +74,8 @@ module _ (m : Memory) (g : WholeFile) (s : SpoolContents) (files : List WholeFil
       }
 
   -- a number that is taken
-  module _ (key : ℕ) (left : List ℕ) (behind : ℕ) (taken : IsTaken m.numbers.free_keys m.numbers.next_key key left behind) where
+  module _ (key : ℕ) (left : List ℕ) (behind : ℕ)
+      (taken : IsTaken m.numbers.free_keys m.numbers.next_key key left behind) where
     abbrev pub numbers_left : Numbers
     numbers_left = record m.numbers { free_keys = left; next_key = behind }
 
@@ -77,15 +88,18 @@ module _ (m : Memory) (g : WholeFile) (s : SpoolContents) (files : List WholeFil
     pub key_in_hand : IsInHand key 0 m memory_taken s (without_records key 0 (2 ^ 23) s) files g.records
     key_in_hand =
         let by = take_follows m.numbers m.own s files has.ordered has.mirrored numbers_left key as_was refl has.apart in
-        let apart : AreApart (with_key key (claim_of memory_taken)) = λ n. let same = as_was n in let once = has.apart n in omega (arith, same, once) in
+        let apart : AreApart (with_key key (claim_of memory_taken)) = λ n. let same = as_was n in let once =
+        has.apart n in omega (arith, same, once) in
         record {
           moves = by.moves;
           text = refl;
           mirrored = by.mirrored;
           remain = remain_same m.own.partial;
           records =
-              all_weaker (λ (p : KeptPartial). p.key ≢ key) (λ p. records_of p.key (without_records key 0 (2 ^ 23) s) ≡ records_of p.key s)
-              (λ p other. (drops_records key 0 (2 ^ 23) s has.ordered (omega arith)).others p.key other) m.own.partial (no_partial key memory_taken apart);
+              all_weaker (λ (p : KeptPartial). p.key ≢ key)
+              (λ p. records_of p.key (without_records key 0 (2 ^ 23) s) ≡ records_of p.key s)
+              (λ p other. (drops_records key 0 (2 ^ 23) s has.ordered (omega arith)).others p.key other) m.own.partial
+              (no_partial key memory_taken apart);
           before = [];
           long = refl;
           within = omega arith;
@@ -95,61 +109,87 @@ module _ (m : Memory) (g : WholeFile) (s : SpoolContents) (files : List WholeFil
 
 -- ---- its records are finished, and its row is added
 
-module _ (m m1 : Memory) (s t u : SpoolContents) (files : List WholeFile) (has : HasFiles m s files) (g : WholeFile) (summary : FileSummaryView) (summary_is : summary ≡ file_summary g) (headers : HasHeaders g.kind g.records) (fits : AllByRecursion FitsHub g.records) (written : ℕ) where
+module _ (m m1 : Memory) (s t u : SpoolContents) (files : List WholeFile) (has : HasFiles m s files) (g : WholeFile)
+    (summary : FileSummaryView) (summary_is : summary ≡ file_summary g) (headers : HasHeaders g.kind g.records)
+    (fits : AllByRecursion FitsHub g.records) (written : ℕ) where
   abbrev memory_added : KeptWhole → Memory
-  memory_added k = record { numbers = record m1.numbers { next_id = m1.numbers.next_id + 1 }; own = record m1.own { whole = m1.own.whole ++ k ∷ [] }; text = m1.text }
+  memory_added k = record {
+    numbers = record m1.numbers { next_id = m1.numbers.next_id + 1 };
+    own = record m1.own
+        { whole = m1.own.whole ++ k ∷ [] };
+    text = m1.text;
+  }
 
-  row_added : (k : KeptWhole) (row : File) → IsInHand k.key written m m1 s t files g.records → k.id ≡ m1.numbers.next_id → Remembers k g → IsRowFor m1.text k.key summary row
+  row_added : (k : KeptWhole) (row : File) → IsInHand k.key written m m1 s t files g.records → k.id ≡ m1.numbers.next_id
+      → Remembers k g → IsRowFor m1.text k.key summary row
       → Writes true k.key written g.records t u → GoesTo m (memory_added k) s (with_file k.id row u) (files ++ g ∷ [])
   row_added k row hand id remembers is_row finishes =
-      let apart : AreApart (with_key k.key (claim_of m1)) = still_apart (claim_of m) (with_key k.key (claim_of m1)) s t hand.moves has.apart in
-      let done = finishes hand.before hand.moves.ordered hand.stored (hand.long, hand.within, hand.alike, λ e. absurd (cc e)) in
+      let apart : AreApart (with_key k.key (claim_of m1)) =
+      still_apart (claim_of m) (with_key k.key (claim_of m1)) s t hand.moves has.apart in
+      let done = finishes hand.before hand.moves.ordered hand.stored
+      (hand.long, hand.within, hand.alike, λ e. absurd (cc e)) in
       let owned = is_row.owned m1.own.name ((λ i. is_name_of (hand.text i) (hand.moves.name i)) ∙ has.named) in
       let by =
-      add_follows m1.numbers m1.own t files hand.moves.ordered hand.mirrored k g u row id (hand.moves.below has.below) apart done.0 owned (is_row.of_file g summary_is) remembers done.1 fits in
+      add_follows m1.numbers m1.own t files hand.moves.ordered hand.mirrored k g u row id (hand.moves.below has.below)
+      apart done.0 owned (is_row.of_file g summary_is) remembers done.1 fits in
       let v = with_file k.id row u in
-      goes m (memory_added k) s v files (files ++ g ∷ []) has (moves_then (claim_of m) (with_key k.key (claim_of m1)) (claim_of (memory_added k)) s t v hand.moves by.moves) by.mirrored
+      goes m (memory_added k) s v files (files ++ g ∷ []) has
+      (moves_then (claim_of m) (with_key k.key (claim_of m1)) (claim_of (memory_added k)) s t v hand.moves by.moves)
+      by.mirrored
       hand.text (all-push (λ f. HasHeaders f.kind f.records) files g has.headers headers) hand.remain
-      (all_both (λ (p : KeptPartial). p.key ≢ k.key) (λ p. records_of p.key t ≡ records_of p.key s) (λ p. records_of p.key v ≡ records_of p.key s)
+      (all_both (λ (p : KeptPartial). p.key ≢ k.key) (λ p. records_of p.key t ≡ records_of p.key s)
+      (λ p. records_of p.key v ≡ records_of p.key s)
       (λ p other before. done.0.others p.key other ∙ before) m1.own.partial (no_partial k.key m1 apart) hand.records)
 
-  pub added_goes : (key : ℕ) (m2 : Memory) (old new : State) (row : AddsRow key summary g m1 m2 old new) → IsInHand key written m m1 s t files g.records
+  pub added_goes : (key : ℕ) (m2 : Memory) (old new : State) (row : AddsRow key summary g m1 m2 old new)
+      → IsInHand key written m m1 s t files g.records
       → Writes true key written g.records t u → GoesTo m m2 s (with_file row.kept.id row.row u) (files ++ g ∷ [])
   added_goes key m2 old new row hand finishes =
       subst (λ x. GoesTo m x s (with_file row.kept.id row.row u) (files ++ g ∷ [])) (sym row.memory)
-      (row_added row.kept row.row (subst (λ n. IsInHand n written m m1 s t files g.records) (sym row.key_is) hand) row.id row.remembers
-      (subst (λ n. IsRowFor m1.text n summary row.row) (sym row.key_is) row.is_row) (subst (λ n. Writes true n written g.records t u) (sym row.key_is) finishes))
+      (row_added row.kept row.row (subst (λ n. IsInHand n written m m1 s t files g.records) (sym row.key_is) hand)
+      row.id row.remembers
+      (subst (λ n. IsRowFor m1.text n summary row.row) (sym row.key_is) row.is_row)
+      (subst (λ n. Writes true n written g.records t u) (sym row.key_is) finishes))
 
 -- ---- the calls one after the other
 
 module _ (m m1 : Memory) (g : WholeFile) (key written : ℕ) where
-  pub add_leads : (m2 : Memory) (summary : FileSummaryView) (old mid mid2 new : State) → summary ≡ file_summary g → HasHeaders g.kind g.records → AllByRecursion FitsHub g.records
-      → LeadsInHand key written g m m1 old mid → Leads (Writes true key written g.records) mid mid2 → AddsRow key summary g m1 m2 mid2 new
+  pub add_leads : (m2 : Memory) (summary : FileSummaryView) (old mid mid2 new : State) → summary ≡ file_summary g
+      → HasHeaders g.kind g.records → AllByRecursion FitsHub g.records
+      → LeadsInHand key written g m m1 old mid → Leads (Writes true key written g.records) mid mid2
+      → AddsRow key summary g m1 m2 mid2 new
       → LeadsFiles m m2 (λ s files. AreFronts s m.own.partial (g ∷ [])) (λ files now. now ≡ files ++ g ∷ []) old new
   add_leads m2 summary old mid mid2 new summary_is headers fits hand finish row =
       leads_then
-      (λ s u. (files : List WholeFile) → HasFiles m s files → AreFronts s m.own.partial (g ∷ []) → (t : SpoolContents) × IsInHand key written m m1 s t files g.records × Writes true key written g.records t u)
+      (λ s u. (files : List WholeFile) → HasFiles m s files → AreFronts s m.own.partial (g ∷ [])
+      → (t : SpoolContents) × IsInHand key written m m1 s t files g.records × Writes true key written g.records t u)
       (λ u v. v ≡ with_file row.kept.id row.row u) _ old mid2 new
-      (leads_then _ _ _ old mid mid2 hand finish (λ s t u first second files has fronts. (t, first files has fronts, second)))
+      (leads_then _ _ _ old mid mid2 hand finish
+      (λ s t u first second files has fronts. (t, first files has fronts, second)))
       (leads_by (with_file row.kept.id row.row) mid2 new row.changes)
       (λ s u v both same files has fronts.
       let found = both files has fronts in (
         files ++ g ∷ [],
         refl,
         subst (λ x. GoesTo m m2 s x (files ++ g ∷ [])) (sym same)
-            (added_goes m m1 s found.0 u files has g summary summary_is headers fits written key m2 mid2 new row found.1 found.2),
+            (added_goes m m1 s found.0 u files has g summary summary_is headers fits written key m2 mid2 new row found.1
+            found.2),
       ))
 
-  pub partial_leads : (i : ℕ) (p : KeptPartial) (at : State) → i < length m.own.partial → p ≡ get_or m.own.partial i p → g.number ≡ p.number → p.seen ≤ length g.records → p.key ≡ key → p.written ≡ written
-      → m1 ≡ record { numbers = m.numbers; own = record m.own { partial = remove m.own.partial i }; text = m.text } → LeadsInHand key written g m m1 at at
+  pub partial_leads : (i : ℕ) (p : KeptPartial) (at : State) → i < length m.own.partial → p ≡ get_or m.own.partial i p
+      → g.number ≡ p.number → p.seen ≤ length g.records → p.key ≡ key → p.written ≡ written
+      → m1 ≡ record { numbers = m.numbers; own = record m.own { partial = remove m.own.partial i }; text = m.text }
+      → LeadsInHand key written g m m1 at at
   partial_leads i p at there is same seen key_is written_is left =
       leads_nothing _ at
       (λ s files has fronts.
       subst (λ x. IsInHand key written m x s s files g.records) (sym left)
       (subst (λ n. IsInHand n written m (memory_left m g s files has i) s s files g.records) key_is
-      (subst (λ n. IsInHand p.key n m (memory_left m g s files has i) s s files g.records) written_is (partial_in_hand m g s files has i p there is same seen fronts))))
+      (subst (λ n. IsInHand p.key n m (memory_left m g s files has i) s s files g.records) written_is
+      (partial_in_hand m g s files has i p there is same seen fronts))))
 
-  pub key_leads : (left : List ℕ) (behind : ℕ) (old new : State) → IsTaken m.numbers.free_keys m.numbers.next_key key left behind → written ≡ 0
+  pub key_leads : (left : List ℕ) (behind : ℕ) (old new : State)
+      → IsTaken m.numbers.free_keys m.numbers.next_key key left behind → written ≡ 0
       → m1 ≡ record { numbers = record m.numbers { free_keys = left; next_key = behind }; own = m.own; text = m.text }
       → Changes (without_records key 0 (2 ^ 23)) old new → LeadsInHand key written g m m1 old new
   key_leads left behind old new taken none is changes =
@@ -157,5 +197,6 @@ module _ (m m1 : Memory) (g : WholeFile) (key written : ℕ) where
       (λ s t same files has fronts.
       subst (λ x. IsInHand key written m x s t files g.records) (sym is)
       (subst (λ n. IsInHand key n m (memory_taken m g s files has key left behind taken) s t files g.records) (sym none)
-      (subst (λ x. IsInHand key 0 m (memory_taken m g s files has key left behind taken) s x files g.records) (sym same) (key_in_hand m g s files has key left behind taken))))
+      (subst (λ x. IsInHand key 0 m (memory_taken m g s files has key left behind taken) s x files g.records) (sym same)
+      (key_in_hand m g s files has key left behind taken))))
       (leads_by (without_records key 0 (2 ^ 23)) old new changes)

@@ -1,6 +1,7 @@
 -- A header of which the destination node is another.
 use Rattle.std.proofs.Common.{◌≡◌, ℕ, ◌+◌, ◌≤◌, ◌==◌, ◌&&◌, Bool, true, false, List, ◌++◌, length, take, drop}
-use Rattle.std.proofs.Common.{Ok, refl, sym, ap, subst, ◌∙◌, arith, rules, append_assoc, length-drop, length-append, eqb-true}
+use Rattle.std.proofs.Common.{Ok, refl, sym, ap, subst, ◌∙◌, arith, rules, append_assoc, length-drop, length-append}
+use Rattle.std.proofs.Common.{eqb-true}
 use Rattle.std.specs.List.{flat_map}
 use Rattle.std.proofs.lemmas.List.{same_lists, places, length-take-le, drop-drop, take-append-drop}
 use Rattle.njh_ebcdic.specs.Names.{is_name}
@@ -12,24 +13,28 @@ use Rattle.njh_header.proofs.HeadersLaw.{header_law}
 
 -- ---- bytes of which a field is another
 
-number_before : (k at : ℕ) (new bytes : List ℕ) → k + 2 ≤ at → at ≤ length bytes → number_at k (with_field at new bytes) ≡ number_at k bytes
+number_before : (k at : ℕ) (new bytes : List ℕ) → k + 2 ≤ at → at ≤ length bytes
+    → number_at k (with_field at new bytes) ≡ number_at k bytes
 number_before k at new bytes before within =
     let front = length-take-le at bytes within in
     (ap (number_at k) (append_assoc (take at bytes) new (drop (at + length new) bytes))
     ∙ number_at-append k (take at bytes) (new ++ drop (at + length new) bytes) (omega arith))
     ∙ number_at-take k at bytes before
 
-field_before : (k size at : ℕ) (new bytes : List ℕ) → k + size ≤ at → at ≤ length bytes → field k size (with_field at new bytes) ≡ field k size bytes
+field_before : (k size at : ℕ) (new bytes : List ℕ) → k + size ≤ at → at ≤ length bytes
+    → field k size (with_field at new bytes) ≡ field k size bytes
 field_before k size at new bytes before within =
     let front = length-take-le at bytes within in
     same_lists _ _ (search (rules, places)) (λ i d h. grind (arith, places))
 
-field_itself : (at : ℕ) (new bytes : List ℕ) → at ≤ length bytes → length new ≡ 8 → field at 8 (with_field at new bytes) ≡ new
+field_itself : (at : ℕ) (new bytes : List ℕ) → at ≤ length bytes → length new ≡ 8
+    → field at 8 (with_field at new bytes) ≡ new
 field_itself at new bytes within eight =
     ap (field at 8) (append_assoc (take at bytes) new (drop (at + length new) bytes))
     ∙ field_at (take at bytes) new (drop (at + length new) bytes) at 8 (length-take-le at bytes within) eight
 
-pub length_still : (at : ℕ) (new bytes : List ℕ) → at + length new ≤ length bytes → length (with_field at new bytes) ≡ length bytes
+pub length_still : (at : ℕ) (new bytes : List ℕ) → at + length new ≤ length bytes
+    → length (with_field at new bytes) ≡ length bytes
 length_still at new bytes within =
     let front = length-take-le at bytes (omega arith) in
     let back = length-drop (at + length new) bytes in
@@ -37,7 +42,8 @@ length_still at new bytes within =
     let all = length-append (take at bytes ++ new) (drop (at + length new) bytes) in
     omega arith
 
-field_behind : (at : ℕ) (new front rest : List ℕ) → with_field (length front + at) new (front ++ rest) ≡ front ++ with_field at new rest
+field_behind : (at : ℕ) (new front rest : List ℕ)
+    → with_field (length front + at) new (front ++ rest) ≡ front ++ with_field at new rest
 field_behind at new front rest = same_lists _ _ (search (rules, places)) (λ i d h. grind (arith, places))
 
 -- the last one stays
@@ -50,7 +56,8 @@ field_twice at new old bytes eight also within =
 
 -- ---- the general section
 
-general_still : (size at : ℕ) (new bytes : List ℕ) (place : ℕ) → HasGeneral size bytes place → 4 ≤ at → at + length new ≤ size → HasGeneral size (with_field (place + at) new bytes) place
+general_still : (size at : ℕ) (new bytes : List ℕ) (place : ℕ) → HasGeneral size bytes place → 4 ≤ at
+    → at + length new ≤ size → HasGeneral size (with_field (place + at) new bytes) place
 general_still size at new bytes place general behind within =
     let passes = general.passes in
     let sections : List ℕ = flat_map (λ section. section) passes.sections in
@@ -82,7 +89,8 @@ general_still size at new bytes place general behind within =
       whole = omega (arith, same, general.whole);
     }
 
-within_general : (size place at : ℕ) (bytes : List ℕ) → HasGeneral size bytes place → at ≤ size → place + at ≤ length bytes
+within_general : (size place at : ℕ) (bytes : List ℕ) → HasGeneral size bytes place → at ≤ size
+    → place + at ≤ length bytes
 within_general size place at bytes general inside =
     let passes = general.passes in
     let sections : List ℕ = flat_map (λ section. section) passes.sections in
@@ -138,7 +146,8 @@ module _ (node : List ℕ) (named : is_name node ≡ true) where
         within = let all = within_general 96 is.section 88 bytes is.general (omega arith) in omega (arith, all);
       })
 
-  pub data_set_goes : (bytes : List ℕ) (h : DataSetHeader) → data_set_header bytes ≡ Ok h → DataSetGoes node h.place bytes
+  pub data_set_goes : (bytes : List ℕ) (h : DataSetHeader) → data_set_header bytes ≡ Ok h
+      → DataSetGoes node h.place bytes
   data_set_goes bytes h reads =
       let is = (header_law 20 4 data_set_fields bytes h).0 reads in
       let place : h.place ≡ is.section + 4 = ap (λ (x : DataSetHeader). x.place) is.says in
@@ -165,7 +174,8 @@ module _ (node : List ℕ) (named : is_name node ≡ true) where
 
 field_of_itself : (at : ℕ) (bytes : List ℕ) → at + 8 ≤ length bytes → with_field at (field at 8 bytes) bytes ≡ bytes
 field_of_itself at bytes within =
-    let back : length (drop at bytes) + at ≡ length bytes = (let left = length-drop at bytes in omega (arith, left, within)) in
+    let back : length (drop at bytes) + at ≡ length bytes =
+    (let left = length-drop at bytes in omega (arith, left, within)) in
     let eight : length (field at 8 bytes) ≡ 8 = length-take-le 8 (drop at bytes) (omega (arith, back, within)) in
     ap (λ n. take at bytes ++ field at 8 bytes ++ drop (at + n) bytes) eight
     ∙ ap (λ rest. take at bytes ++ field at 8 bytes ++ rest) (sym (drop-drop 8 at bytes))
@@ -173,20 +183,25 @@ field_of_itself at bytes within =
     ∙ ap (λ rest. take at bytes ++ rest) (take-append-drop 8 (drop at bytes))
     ∙ take-append-drop at bytes
 
-pub job_stands : (bytes : List ℕ) (h : JobHeader) → job_header bytes ≡ Ok h → with_field h.place h.execution.node bytes ≡ bytes
+pub job_stands : (bytes : List ℕ) (h : JobHeader) → job_header bytes ≡ Ok h
+    → with_field h.place h.execution.node bytes ≡ bytes
 job_stands bytes h reads =
     let is = (header_law 96 64 job_fields bytes h).0 reads in
     let all = within_general 96 is.section 88 bytes is.general (omega arith) in
-    subst (λ (x : JobHeader). with_field x.place x.execution.node bytes ≡ bytes) (sym is.says) (field_of_itself (is.section + 80) bytes (omega (arith, all)))
+    subst (λ (x : JobHeader). with_field x.place x.execution.node bytes ≡ bytes) (sym is.says)
+    (field_of_itself (is.section + 80) bytes (omega (arith, all)))
 
-pub data_set_stands : (bytes : List ℕ) (h : DataSetHeader) → data_set_header bytes ≡ Ok h → with_field h.place h.destination.node bytes ≡ bytes
+pub data_set_stands : (bytes : List ℕ) (h : DataSetHeader) → data_set_header bytes ≡ Ok h
+    → with_field h.place h.destination.node bytes ≡ bytes
 data_set_stands bytes h reads =
     let is = (header_law 20 4 data_set_fields bytes h).0 reads in
     let all = within_general 20 is.section 12 bytes is.general (omega arith) in
-    subst (λ (x : DataSetHeader). with_field x.place x.destination.node bytes ≡ bytes) (sym is.says) (field_of_itself (is.section + 4) bytes (omega (arith, all)))
+    subst (λ (x : DataSetHeader). with_field x.place x.destination.node bytes ≡ bytes) (sym is.says)
+    (field_of_itself (is.section + 4) bytes (omega (arith, all)))
 
 -- it is a name
-pub data_set_named : (bytes : List ℕ) (h : DataSetHeader) → data_set_header bytes ≡ Ok h → is_name h.destination.node ≡ true
+pub data_set_named : (bytes : List ℕ) (h : DataSetHeader) → data_set_header bytes ≡ Ok h
+    → is_name h.destination.node ≡ true
 data_set_named bytes h reads =
     let is = (header_law 20 4 data_set_fields bytes h).0 reads in
     subst (λ (x : DataSetHeader). is_name x.destination.node ≡ true) (sym is.says) is.named

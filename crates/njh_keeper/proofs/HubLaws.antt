@@ -1,5 +1,7 @@
 -- Whole files put back into a hub one after the other: each customer has its own.
-use Rattle.std.proofs.Common.{◌≡◌, ◌≢◌, ℕ, zero, suc, ◌+◌, ◌<◌, ◌≤◌, Bool, true, false, cond, List, [], ◌∷◌, ◌++◌, length, map, get_or, slice_set, bytes_eq, Option, Some, None, Result, Ok, Err, refl, sym, ap, subst, ◌∙◌, ⊎_elim, eqb, arith}
+use Rattle.std.proofs.Common.{◌≡◌, ◌≢◌, ℕ, zero, suc, ◌+◌, ◌<◌, ◌≤◌, Bool, true, false, cond, List, [], ◌∷◌, ◌++◌}
+use Rattle.std.proofs.Common.{length, map, get_or, slice_set, bytes_eq, Option, Some, None, Result, Ok, Err, refl, sym}
+use Rattle.std.proofs.Common.{ap, subst, ◌∙◌, ⊎_elim, eqb, arith}
 use Rattle.std.specs.Prelude.{fold}
 use Rattle.std.proofs.lemmas.List.{ext_get_or, get_or-map, get_or-set_same, get_or-set_other, length-map, length-set}
 use Rattle.std.proofs.lemmas.List.Sums.{fold-append}
@@ -12,19 +14,22 @@ use Rattle.njh_table.specs.Accepted.{AreDistinct}
 use Rattle.njh_table.specs.TableFile.{NamedCustomer, TableFile, customer_at, entry_of, no_customer}
 use Rattle.njh_hub.specs.WholeHub.{Part, no_part, part, part_at_open}
 use Rattle.njh_spoolfile.specs.Kept.{SpoolContents, Whole, kept}
-use Rattle.njh_keeper.specs.Opened.{AllAreBack, AreBack, IsRefused, hub_opened, is_name_of, is_own, own, own_files, part_opened, whole_fault, with_whole}
+use Rattle.njh_keeper.specs.Opened.{AllAreBack, AreBack, IsRefused, hub_opened, is_name_of, is_own, own, own_files}
+use Rattle.njh_keeper.specs.Opened.{part_opened, whole_fault, with_whole}
 use Rattle.njh_keeper.specs.code.Restoring.{NoneFails, hub_fault, hub_with, hub_with_all, number_from, number_of}
 use Rattle.njh_keeper.specs.declared.fault.FileFault.{FileFault}
 
 -- ---- a text is one name at most
 
-named_by : (r : Result (List ℕ) NameFault) (name : List ℕ) → (elim r [ Ok read ↦ bytes_eq read name | Err fault ↦ false ]) ≡ true → r ≡ Ok name
+named_by : (r : Result (List ℕ) NameFault) (name : List ℕ)
+    → (elim r [ Ok read ↦ bytes_eq read name | Err fault ↦ false ]) ≡ true → r ≡ Ok name
 named_by (Ok read) name is = ap Ok ((bytes_eq-Decides read name).0 is)
 named_by (Err fault) name is = absurd (cc is)
 
 one_name : (text a b : List ℕ) → is_name_of text a ≡ true → is_name_of text b ≡ true → a ≡ b
 one_name text a b first second =
-    let same : ◌≡◌ {A = Result (List ℕ) NameFault} (Ok a) (Ok b) = sym (named_by (name_of_text text) a first) ∙ named_by (name_of_text text) b second in
+    let same : ◌≡◌ {A = Result (List ℕ) NameFault} (Ok a) (Ok b) =
+    sym (named_by (name_of_text text) a first) ∙ named_by (name_of_text text) b second in
     cc
 
 -- ---- the number of the customer that it names
@@ -35,37 +40,52 @@ pub record Numbered (n : ℕ) (names : List (List ℕ)) (text : List ℕ) (c : �
   pub there : place < length names
   pub named : is_name_of text (get_or names place []) ≡ true
 
-number_found : (n : ℕ) (names : List (List ℕ)) (text : List ℕ) (c : ℕ) → number_from n names text ≡ Some c → Numbered n names text c
+number_found : (n : ℕ) (names : List (List ℕ)) (text : List ℕ) (c : ℕ) → number_from n names text ≡ Some c
+    → Numbered n names text c
 number_found n [] text c e = absurd (cc e)
 number_found n (name ∷ names) text c e = split (is_name_of text name) refl e (λ h. number_found (n + 1) names text c h)
   where
     split : (b : Bool) → is_name_of text name ≡ b → cond b (Some n) (number_from (n + 1) names text) ≡ Some c
         → (number_from (n + 1) names text ≡ Some c → Numbered (n + 1) names text c) → Numbered n (name ∷ names) text c
-    split true is e later = let same : n ≡ c = cc in record { place = 0; is = omega (arith, same); there = omega arith; named = is }
+    split true is e later = let same : n ≡ c =
+        cc in record { place = 0; is = omega (arith, same); there = omega arith; named = is }
     split false is e later =
         let rest = later e in
-        record { place = suc rest.place; is = omega (arith, rest.is); there = omega (arith, rest.there); named = rest.named }
+        record {
+          place = suc rest.place;
+          is = omega (arith, rest.is);
+          there = omega (arith, rest.there);
+          named = rest.named;
+        }
 
-number_missing : (n : ℕ) (names : List (List ℕ)) (text : List ℕ) → number_from n names text ≡ None → (k : ℕ) → k < length names
+number_missing : (n : ℕ) (names : List (List ℕ)) (text : List ℕ) → number_from n names text ≡ None → (k : ℕ)
+    → k < length names
     → is_name_of text (get_or names k []) ≡ false
 number_missing n [] text e k there = absurd (omega (arith, there))
-number_missing n (name ∷ names) text e k there = split (is_name_of text name) refl e k there (λ h j below. number_missing (n + 1) names text h j below)
+number_missing n (name ∷ names) text e k there =
+    split (is_name_of text name) refl e k there (λ h j below. number_missing (n + 1) names text h j below)
   where
-    split : (b : Bool) → is_name_of text name ≡ b → cond b (Some n) (number_from (n + 1) names text) ≡ None → (k : ℕ) → k < length (name ∷ names)
-        → (number_from (n + 1) names text ≡ None → (j : ℕ) → j < length names → is_name_of text (get_or names j []) ≡ false)
+    split : (b : Bool) → is_name_of text name ≡ b → cond b (Some n) (number_from (n + 1) names text) ≡ None → (k : ℕ)
+        → k < length (name ∷ names)
+        → (number_from (n + 1) names text ≡ None → (j : ℕ) → j < length names
+        → is_name_of text (get_or names j []) ≡ false)
         → is_name_of text (get_or (name ∷ names) k []) ≡ false
     split true is e k there later = absurd (cc e)
     split false is e zero there later = is
     split false is e (suc k) there later = later e k (omega (arith, there))
 
 -- a text that is no name is no customer's
-pub no_number : (n : ℕ) (names : List (List ℕ)) (text : List ℕ) (fault : NameFault) → name_of_text text ≡ Err fault → number_from n names text ≡ None
+pub no_number : (n : ℕ) (names : List (List ℕ)) (text : List ℕ) (fault : NameFault) → name_of_text text ≡ Err fault
+    → number_from n names text ≡ None
 no_number n [] text fault is = refl
 no_number n (name ∷ names) text fault is =
-    let other : is_name_of text name ≡ false = ap (λ (r : Result (List ℕ) NameFault). elim r as (λ _. Bool) [ Ok read ↦ bytes_eq read name | Err f ↦ false ]) is in
+    let other : is_name_of text name ≡ false =
+    ap (λ (r : Result (List ℕ) NameFault). elim r as (λ _. Bool) [ Ok read ↦ bytes_eq read name | Err f ↦ false ])
+    is in
     ap (λ (b : Bool). cond b (Some n) (number_from (n + 1) names text)) other ∙ no_number (n + 1) names text fault is
 
-pub found : (names : List (List ℕ)) (text : List ℕ) (c : ℕ) → number_of names text ≡ Some c → (c < length names) × (is_name_of text (get_or names c []) ≡ true)
+pub found : (names : List (List ℕ)) (text : List ℕ) (c : ℕ) → number_of names text ≡ Some c
+    → (c < length names) × (is_name_of text (get_or names c []) ≡ true)
 found names text c e =
     let h = number_found 0 names text c e in
     let same : c ≡ h.place = omega (arith, h.is) in
@@ -79,11 +99,13 @@ Apart names = (i j : ℕ) → i < length names → j < length names → get_or n
 pub apart : (names : List (List ℕ)) → AreDistinct names → Apart names
 apart names distinct i j low high same =
     ⊎_elim (λ (w : i < j). absurd (distinct i j [] w high same))
-    (λ (w : j ≤ i). ⊎_elim (λ (v : j < i). absurd (distinct j i [] v low (sym same))) (λ (v : i ≤ j). omega (arith, w, v)) (cases_lt j i))
+    (λ (w : j ≤ i). ⊎_elim (λ (v : j < i). absurd (distinct j i [] v low (sym same)))
+    (λ (v : i ≤ j). omega (arith, w, v)) (cases_lt j i))
     (cases_lt i j)
 
 -- the name of which a text is is that of the customer of the number
-pub own_number : (names : List (List ℕ)) (text : List ℕ) (c : ℕ) → Apart names → c < length names → is_name_of text (get_or names c []) ≡ true
+pub own_number : (names : List (List ℕ)) (text : List ℕ) (c : ℕ) → Apart names → c < length names
+    → is_name_of text (get_or names c []) ≡ true
     → number_of names text ≡ Some c
 own_number names text c distinct there is = split (number_of names text) refl
   where
@@ -96,10 +118,12 @@ own_number names text c distinct there is = split (number_of names text) refl
 
 -- ---- one file
 
-pub length-hub_with : (names : List (List ℕ)) (parts : List Part) (w : Whole) → length (hub_with names parts w) ≡ length parts
+pub length-hub_with : (names : List (List ℕ)) (parts : List Part) (w : Whole)
+    → length (hub_with names parts w) ≡ length parts
 length-hub_with names parts w = split (number_of names w.file.customer)
   where
-    split : (o : Option ℕ) → length (elim o as (λ _. List Part) [ None ↦ parts | Some c ↦ slice_set parts c (with_whole (part c parts) w) ]) ≡ length parts
+    split : (o : Option ℕ) → length (elim o as (λ _. List Part)
+        [ None ↦ parts | Some c ↦ slice_set parts c (with_whole (part c parts) w) ]) ≡ length parts
     split None = refl
     split (Some c) = length-set parts c (with_whole (part c parts) w)
 
@@ -111,28 +135,37 @@ module _ (names : List (List ℕ)) (distinct : Apart names) (c : ℕ) (there : c
       → part c (hub_with names parts w) ≡ cond (is_own name w.file) (with_whole (part c parts) w) (part c parts)
   one parts w count = split (number_of names w.file.customer) refl
     where
-      other : (d : ℕ) → number_of names w.file.customer ≡ Some d → c ≢ d → (b : Bool) → is_own name w.file ≡ b → is_own name w.file ≡ false
-      other d e apart true is = absurd (apart (let same : ◌≡◌ {A = Option ℕ} (Some d) (Some c) = sym e ∙ own_number names w.file.customer c distinct there is in cc))
+      other : (d : ℕ) → number_of names w.file.customer ≡ Some d → c ≢ d → (b : Bool) → is_own name w.file ≡ b
+          → is_own name w.file ≡ false
+      other d e apart true is = absurd (apart
+          (let same : ◌≡◌ {A = Option ℕ} (Some d) (Some c) = sym e
+          ∙ own_number names w.file.customer c distinct there is in cc))
       other d e apart false is = is
 
       split : (o : Option ℕ) → number_of names w.file.customer ≡ o
-          → part c (elim o as (λ _. List Part) [ None ↦ parts | Some d ↦ slice_set parts d (with_whole (part d parts) w) ])
+          → part c (elim o as (λ _. List Part)
+          [ None ↦ parts | Some d ↦ slice_set parts d (with_whole (part d parts) w) ])
           ≡ cond (is_own name w.file) (with_whole (part c parts) w) (part c parts)
-      split None e = ap (λ (b : Bool). cond b (with_whole (part c parts) w) (part c parts)) (sym (number_missing 0 names w.file.customer e c there))
+      split None e = ap (λ (b : Bool). cond b (with_whole (part c parts) w) (part c parts))
+          (sym (number_missing 0 names w.file.customer e c there))
       split (Some d) e = ⊎_elim
           (λ (v : (eqb c d ≡ true) × (c ≡ d)).
-          let is : is_own name w.file ≡ true = subst (λ (k : ℕ). is_name_of w.file.customer (get_or names k []) ≡ true) (sym v.1) (found names w.file.customer d e).1 in
+          let is : is_own name w.file ≡ true =
+          subst (λ (k : ℕ). is_name_of w.file.customer (get_or names k []) ≡ true) (sym v.1)
+          (found names w.file.customer d e).1 in
           ap (λ (k : ℕ). part c (slice_set parts k (with_whole (part k parts) w))) (sym v.1)
           ∙ get_or-set_same parts c (with_whole (part c parts) w) no_part (omega (arith, there, count))
           ∙ ap (λ (b : Bool). cond b (with_whole (part c parts) w) (part c parts)) (sym is))
           (λ (v : (eqb c d ≡ false) × (c ≢ d)).
           get_or-set_other parts d c (with_whole (part d parts) w) no_part v.1
-          ∙ ap (λ (b : Bool). cond b (with_whole (part c parts) w) (part c parts)) (sym (other d e v.1 (is_own name w.file) refl)))
+          ∙ ap (λ (b : Bool). cond b (with_whole (part c parts) w) (part c parts))
+          (sym (other d e v.1 (is_own name w.file) refl)))
           (eqb_tells c d)
 
   -- ---- all files
 
-  with_own : (b : Bool) (p : Part) (w : Whole) (ws : List Whole) → fold with_whole (cond b (with_whole p w) p) ws ≡ fold with_whole p (cond b (w ∷ ws) ws)
+  with_own : (b : Bool) (p : Part) (w : Whole) (ws : List Whole)
+      → fold with_whole (cond b (with_whole p w) p) ws ≡ fold with_whole p (cond b (w ∷ ws) ws)
   with_own true p w ws = refl
   with_own false p w ws = refl
 
@@ -144,21 +177,28 @@ module _ (names : List (List ℕ)) (distinct : Apart names) (c : ℕ) (there : c
       ∙ ap (λ (p : Part). fold with_whole p (own name ws)) (one parts w count)
       ∙ with_own (is_own name w.file) (part c parts) w (own name ws)
 
-  back_own : (b : Bool) (p : Part) (w : Whole) (ws : List Whole) → (b ≡ true → whole_fault p w ≡ None) → AreBack (cond b (with_whole p w) p) ws
+  back_own : (b : Bool) (p : Part) (w : Whole) (ws : List Whole) → (b ≡ true → whole_fault p w ≡ None)
+      → AreBack (cond b (with_whole p w) p) ws
       → AreBack p (cond b (w ∷ ws) ws)
   back_own true p w ws none rest = (none refl, rest)
   back_own false p w ws none rest = rest
 
-  pub back : (ws : List Whole) (parts : List Part) → length parts ≡ length names → NoneFails names parts ws → AreBack (part c parts) (own name ws)
+  pub back : (ws : List Whole) (parts : List Part) → length parts ≡ length names → NoneFails names parts ws
+      → AreBack (part c parts) (own name ws)
   back [] parts count none = tt
   back (w ∷ ws) parts count none =
       back_own (is_own name w.file) (part c parts) w (own name ws)
-      (λ is. ap (λ (o : Option ℕ). elim o as (λ _. Option FileFault) [ None ↦ None | Some d ↦ whole_fault (part d parts) w ]) (sym (own_number names w.file.customer c distinct there is)) ∙ none.0)
-      (subst (λ (p : Part). AreBack p (own name ws)) (one parts w count) (back ws (hub_with names parts w) (length-hub_with names parts w ∙ count) none.1))
+      (λ is. ap (λ (o : Option ℕ). elim o as (λ _. Option FileFault)
+      [ None ↦ None | Some d ↦ whole_fault (part d parts) w ])
+      (sym (own_number names w.file.customer c distinct there is)) ∙ none.0)
+      (subst (λ (p : Part). AreBack p (own name ws)) (one parts w count)
+      (back ws (hub_with names parts w) (length-hub_with names parts w ∙ count) none.1))
 
-pub length-hub_with_all : (names : List (List ℕ)) (parts : List Part) (ws : List Whole) → length (hub_with_all names parts ws) ≡ length parts
+pub length-hub_with_all : (names : List (List ℕ)) (parts : List Part) (ws : List Whole)
+    → length (hub_with_all names parts ws) ≡ length parts
 length-hub_with_all names parts [] = refl
-length-hub_with_all names parts (w ∷ ws) = length-hub_with_all names (hub_with names parts w) ws ∙ length-hub_with names parts w
+length-hub_with_all names parts (w ∷ ws) =
+    length-hub_with_all names (hub_with names parts w) ws ∙ length-hub_with names parts w
 
 -- ---- one more
 
@@ -191,22 +231,26 @@ module _ (table : TableFile) (distinct : AreDistinct (map (λ c. c.name) table.c
 
     start_is : part c start ≡ part_at_open (entry_of (customer_at table c))
     start_is =
-        get_or-map part_at_open (map entry_of table.customers) c (entry_of no_customer) no_part (omega (arith, there, length-map table.customers entry_of))
+        get_or-map part_at_open (map entry_of table.customers) c (entry_of no_customer) no_part
+        (omega (arith, there, length-map table.customers entry_of))
         ∙ ap part_at_open (get_or-map entry_of table.customers c no_customer (entry_of no_customer) there)
 
     low : c < length names
     low = omega (arith, there, length-map table.customers (λ (x : NamedCustomer). x.name))
 
-    pub part_all : (ws : List Whole) → part c (hub_with_all names start ws) ≡ part_opened (entry_of (customer_at table c)) (own (customer_at table c).name ws)
+    pub part_all : (ws : List Whole) → part c (hub_with_all names start ws) ≡ part_opened
+        (entry_of (customer_at table c)) (own (customer_at table c).name ws)
     part_all ws =
         all names (apart names distinct) c low ws start count
         ∙ (λ i. fold with_whole (start_is i) (own (name_is i) ws))
 
-    pub back_all : (ws : List Whole) → NoneFails names start ws → AreBack (part_at_open (entry_of (customer_at table c))) (own (customer_at table c).name ws)
+    pub back_all : (ws : List Whole) → NoneFails names start ws
+        → AreBack (part_at_open (entry_of (customer_at table c))) (own (customer_at table c).name ws)
     back_all ws none =
         let h = back names (apart names distinct) c low ws start count none in
         let P : Part → List ℕ → Type 0 = λ p n. AreBack p (own n ws) in
-        subst (λ (n : List ℕ). P (part_at_open (entry_of (customer_at table c))) n) name_is (subst (λ (p : Part). P p (get_or names c [])) start_is h)
+        subst (λ (n : List ℕ). P (part_at_open (entry_of (customer_at table c))) n) name_is
+        (subst (λ (p : Part). P p (get_or names c [])) start_is h)
 
   pub opened : (spool : SpoolContents) → hub_with_all names start (kept spool) ≡ hub_opened table spool
   opened spool =
@@ -215,24 +259,28 @@ module _ (table : TableFile) (distinct : AreDistinct (map (λ c. c.name) table.c
       ext_get_or no_part (hub_with_all names start (kept spool)) (hub_opened table spool)
       (long ∙ count ∙ length-map table.customers (λ (x : NamedCustomer). x.name) ∙ sym (length-map table.customers F))
       (λ (c : ℕ) (within : c < length (hub_with_all names start (kept spool))).
-      let there : c < length table.customers = omega (arith, within, long, count, length-map table.customers (λ (x : NamedCustomer). x.name)) in
+      let there : c < length table.customers =
+      omega (arith, within, long, count, length-map table.customers (λ (x : NamedCustomer). x.name)) in
       part_all c there (kept spool) ∙ sym (get_or-map F table.customers c no_customer no_part there))
 
   pub all_back : (ws : List Whole) → NoneFails names start ws → AllAreBack table ws
   all_back ws none c there = back_all c there ws none
 
   -- the first that isn't put back
-  pub refused : (spool : SpoolContents) (before after : List Whole) (w : Whole) (fault : FileFault) → kept spool ≡ before ++ w ∷ after → NoneFails names start before
+  pub refused : (spool : SpoolContents) (before after : List Whole) (w : Whole) (fault : FileFault)
+      → kept spool ≡ before ++ w ∷ after → NoneFails names start before
       → hub_fault names (hub_with_all names start before) w ≡ Some fault → IsRefused table spool w fault
   refused spool before after w fault is none why = split (number_of names w.file.customer) refl why
     where
       split : (o : Option ℕ) → number_of names w.file.customer ≡ o
-          → (elim o as (λ _. Option FileFault) [ None ↦ None | Some c ↦ whole_fault (part c (hub_with_all names start before)) w ]) ≡ Some fault
+          → (elim o as (λ _. Option FileFault)
+          [ None ↦ None | Some c ↦ whole_fault (part c (hub_with_all names start before)) w ]) ≡ Some fault
           → IsRefused table spool w fault
       split None e told = absurd (cc told)
       split (Some c) e told =
           let h = found names w.file.customer c e in
-          let there : c < length table.customers = omega (arith, h.0, length-map table.customers (λ (x : NamedCustomer). x.name)) in
+          let there : c < length table.customers =
+          omega (arith, h.0, length-map table.customers (λ (x : NamedCustomer). x.name)) in
           record {
             before = before;
             after = after;
@@ -246,11 +294,14 @@ module _ (table : TableFile) (distinct : AreDistinct (map (λ c. c.name) table.c
 
 -- ---- a customer's part
 
-pub own_decide : (table other : TableFile) (spool others : SpoolContents) (c d : ℕ) → c < length table.customers → d < length other.customers
+pub own_decide : (table other : TableFile) (spool others : SpoolContents) (c d : ℕ) → c < length table.customers
+    → d < length other.customers
     → entry_of (customer_at table c) ≡ entry_of (customer_at other d)
     → own_files (customer_at table c).name spool ≡ own_files (customer_at other d).name others
     → part c (hub_opened table spool) ≡ part d (hub_opened other others)
 own_decide table other spool others c d there is_there entries files =
-    get_or-map (λ (x : NamedCustomer). part_opened (entry_of x) (own_files x.name spool)) table.customers c no_customer no_part there
+    get_or-map (λ (x : NamedCustomer). part_opened (entry_of x) (own_files x.name spool)) table.customers c no_customer
+    no_part there
     ∙ (λ i. part_opened (entries i) (files i))
-    ∙ sym (get_or-map (λ (x : NamedCustomer). part_opened (entry_of x) (own_files x.name others)) other.customers d no_customer no_part is_there)
+    ∙ sym (get_or-map (λ (x : NamedCustomer). part_opened (entry_of x) (own_files x.name others)) other.customers d
+    no_customer no_part is_there)

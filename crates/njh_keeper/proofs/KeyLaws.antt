@@ -1,5 +1,6 @@
 -- How often a number is a key.
-use Rattle.std.proofs.Common.{◌≡◌, ◌≢◌, ℕ, zero, suc, ◌+◌, ◌<◌, ◌≤◌, ◌==◌, Bool, true, false, List, [], ◌∷◌, ◌++◌, length, get_or, set, remove, refl, ap, ◌∙◌, arith}
+use Rattle.std.proofs.Common.{◌≡◌, ◌≢◌, ℕ, zero, suc, ◌+◌, ◌<◌, ◌≤◌, ◌==◌, Bool, true, false, List, [], ◌∷◌, ◌++◌}
+use Rattle.std.proofs.Common.{length, get_or, set, remove, refl, ap, ◌∙◌, arith}
 use Rattle.std.specs.List.{AllByRecursion}
 use Rattle.njh_keeper.specs.code.Remembered.{keyed, one_if}
 use Rattle.njh_keeper.proofs.NumberedLaws.{equal}
@@ -12,40 +13,50 @@ one_or_none true = omega arith
 one_or_none false = omega arith
 
 apart_if_none : (m n : ℕ) → one_if (m == n) ≡ 0 → m ≢ n
-apart_if_none m n none here = absurd (let one = ap (λ k. one_if (k == n)) here ∙ one_itself n in omega (arith, none, one))
+apart_if_none m n none here = absurd (let one = ap (λ k. one_if (k == n)) here
+    ∙ one_itself n in omega (arith, none, one))
 
 module _ {X : Type 0} (key : X → ℕ) where
   pub keyed-append : (n : ℕ) (xs ys : List X) → keyed key n (xs ++ ys) ≡ keyed key n xs + keyed key n ys
   keyed-append n [] ys = omega arith
   keyed-append n (x ∷ xs) ys = let rest = keyed-append n xs ys in omega (arith, rest)
 
-  pub keyed-remove : (n : ℕ) (xs : List X) (i : ℕ) (x : X) → i < length xs → x ≡ get_or xs i x → keyed key n xs ≡ one_if (key x == n) + keyed key n (remove xs i)
+  pub keyed-remove : (n : ℕ) (xs : List X) (i : ℕ) (x : X) → i < length xs → x ≡ get_or xs i x
+      → keyed key n xs ≡ one_if (key x == n) + keyed key n (remove xs i)
   keyed-remove n [] i x there is = absurd (omega (arith, there))
-  keyed-remove n (y ∷ xs) zero x there is = let same : one_if (key x == n) ≡ one_if (key y == n) = ap (λ z. one_if (key z == n)) is in omega (arith, same)
-  keyed-remove n (y ∷ xs) (suc i) x there is = let rest = keyed-remove n xs i x (omega (arith, there)) is in omega (arith, rest)
+  keyed-remove n (y ∷ xs) zero x there is = let same : one_if (key x == n) ≡ one_if (key y == n) =
+      ap (λ z. one_if (key z == n)) is in omega (arith, same)
+  keyed-remove n (y ∷ xs) (suc i) x there is = let rest =
+      keyed-remove n xs i x (omega (arith, there)) is in omega (arith, rest)
 
-  pub keyed-set : (n : ℕ) (xs : List X) (i : ℕ) (x y : X) → i < length xs → x ≡ get_or xs i x → key y ≡ key x → keyed key n (set xs i y) ≡ keyed key n xs
+  pub keyed-set : (n : ℕ) (xs : List X) (i : ℕ) (x y : X) → i < length xs → x ≡ get_or xs i x → key y ≡ key x
+      → keyed key n (set xs i y) ≡ keyed key n xs
   keyed-set n [] i x y there is alike = refl
   keyed-set n (z ∷ xs) zero x y there is alike =
-      let same : one_if (key y == n) ≡ one_if (key z == n) = ap (λ k. one_if (k == n)) (alike ∙ ap key is) in omega (arith, same)
-  keyed-set n (z ∷ xs) (suc i) x y there is alike = let rest = keyed-set n xs i x y (omega (arith, there)) is alike in omega (arith, rest)
+      let same : one_if (key y == n) ≡ one_if (key z == n) =
+      ap (λ k. one_if (k == n)) (alike ∙ ap key is) in omega (arith, same)
+  keyed-set n (z ∷ xs) (suc i) x y there is alike = let rest =
+      keyed-set n xs i x y (omega (arith, there)) is alike in omega (arith, rest)
 
   pub keyed_none : (n : ℕ) (xs : List X) → keyed key n xs ≡ 0 → AllByRecursion (λ x. key x ≢ n) xs
   keyed_none n [] none = tt
   keyed_none n (x ∷ xs) none = (apart_if_none (key x) n (omega (arith, none)), keyed_none n xs (omega (arith, none)))
 
   pub keyed_at : (xs : List X) (i : ℕ) (x : X) → i < length xs → x ≡ get_or xs i x → 1 ≤ keyed key (key x) xs
-  keyed_at xs i x there is = let all = keyed-remove (key x) xs i x there is in let one = one_itself (key x) in omega (arith, all, one)
+  keyed_at xs i x there is = let all = keyed-remove (key x) xs i x there is in let one =
+      one_itself (key x) in omega (arith, all, one)
 
   -- where no key stands twice, no other has the key of one
-  pub keyed_apart : (xs : List X) (i : ℕ) (x : X) → i < length xs → x ≡ get_or xs i x → keyed key (key x) xs ≤ 1 → AllByRecursion (λ y. key y ≢ key x) (remove xs i)
+  pub keyed_apart : (xs : List X) (i : ℕ) (x : X) → i < length xs → x ≡ get_or xs i x → keyed key (key x) xs ≤ 1
+      → AllByRecursion (λ y. key y ≢ key x) (remove xs i)
   keyed_apart xs i x there is once =
       let all = keyed-remove (key x) xs i x there is in
       let one = one_itself (key x) in
       keyed_none (key x) (remove xs i) (omega (arith, all, one, once))
 
   -- what counts at least these counts each
-  pub each_counts : (m : ℕ → ℕ) (xs : List X) → ((n : ℕ) → keyed key n xs ≤ m n) → AllByRecursion (λ x. 1 ≤ m (key x)) xs
+  pub each_counts : (m : ℕ → ℕ) (xs : List X) → ((n : ℕ) → keyed key n xs ≤ m n)
+      → AllByRecursion (λ x. 1 ≤ m (key x)) xs
   each_counts m [] least = tt
   each_counts m (x ∷ xs) least = (
     (let one = one_itself (key x) in let all = least (key x) in omega (arith, one, all)),

@@ -11,7 +11,8 @@ use Rattle.njh_keeper.specs.code.Alike.{AreAlike}
 use Rattle.njh_keeper.specs.code.Mirrored.{HasRecords}
 use Rattle.njh_keeper.specs.code.Knowing.{AreNamedApart, HasSpool, Knows}
 use Rattle.njh_keeper.specs.code.Partly.{AllUpToDate, Goes, GoesOn, IsUpToDate}
-use Rattle.njh_keeper.specs.code.Remembered.{IsPartlyKept, KeptPartial, Mirrored, Moves, Numbers, OwnFiles, claim, keyed}
+use Rattle.njh_keeper.specs.code.Remembered.{IsPartlyKept, KeptPartial, Mirrored, Moves, Numbers, OwnFiles, claim}
+use Rattle.njh_keeper.specs.code.Remembered.{keyed}
 use Rattle.njh_keeper.proofs.CustomerLaws.{IsApartFrom, all_still_apart, others_apart}
 use Rattle.njh_keeper.proofs.FinishLaws.{front_alike}
 use Rattle.njh_keeper.proofs.KeyLaws.{each_counts}
@@ -25,28 +26,35 @@ use Rattle.njh_keeper.proofs.ZipLaws.{all_zip_weaker}
 -- ---- what it leaves
 
 -- the customers' whole files, as the hub has them
-pub known_is_left : (w : Numbers) (owns : List OwnFiles) (now : List CustomerSpool) (s : SpoolContents) → Knows w owns now s
+pub known_is_left : (w : Numbers) (owns : List OwnFiles) (now : List CustomerSpool) (s : SpoolContents)
+    → Knows w owns now s
     → left_in (map (λ own. own.name) owns) s ≡ map (λ c. map kept_file c.whole) now
 known_is_left w owns now s knows =
     left_of_parts (λ (c : CustomerSpool). c.whole) s owns now
-    (all_zip_weaker (λ _. ⊤) (HasSpool s) (λ own c. Mirrored s own c.whole) (λ own c none has. has.mirrored) owns now (all_of (λ _. ⊤) (λ _. tt) owns) knows.each)
+    (all_zip_weaker (λ _. ⊤) (HasSpool s) (λ own c. Mirrored s own c.whole) (λ own c none has. has.mirrored) owns now
+    (all_of (λ _. ⊤) (λ _. tt) owns) knows.each)
 
 -- ---- a customer's step
 
-module _ (w w' : Numbers) (owns : List OwnFiles) (c : ℕ) (own own' : OwnFiles) (there : c < length owns) (is : own ≡ get_or owns c own) (s t : SpoolContents) (moves : Moves (claim w own) (claim w' own') s t)
+module _ (w w' : Numbers) (owns : List OwnFiles) (c : ℕ) (own own' : OwnFiles) (there : c < length owns)
+    (is : own ≡ get_or owns c own) (s t : SpoolContents) (moves : Moves (claim w own) (claim w' own') s t)
     (now : List CustomerSpool) (knows : Knows w owns now s) (named : AreNamedApart owns) where
   -- another customer's files stay as they are
-  of_another : (o : OwnFiles) (sp : CustomerSpool) → IsApartFrom w w' owns c own own' there is s t moves knows.apart o → HasSpool s o sp → HasSpool t o sp
+  of_another : (o : OwnFiles) (sp : CustomerSpool) → IsApartFrom w w' owns c own own' there is s t moves knows.apart o
+      → HasSpool s o sp → HasSpool t o sp
   of_another o sp away has = record {
     arrived = has.arrived;
     mirrored =
-        mirrored_of_another s t o sp.whole has.mirrored (claim w own) (claim w' own') moves away.0 (λ n. let once = away.1 n in omega (arith, once));
+        mirrored_of_another s t o sp.whole has.mirrored (claim w own) (claim w' own') moves away.0
+        (λ n. let once = away.1 n in omega (arith, once));
     up_to_date = has.up_to_date;
     go_on =
         still_all sp s t o.partial
-        (all_weaker (λ (p : KeptPartial). 1 ≤ keyed (λ (x : KeptPartial). x.key) p.key o.partial) (λ p. records_of p.key t ≡ records_of p.key s)
+        (all_weaker (λ (p : KeptPartial). 1 ≤ keyed (λ (x : KeptPartial). x.key) p.key o.partial)
+        (λ p. records_of p.key t ≡ records_of p.key s)
         (λ p least. moves.records p.key (let once = away.1 p.key in omega (arith, once, least))) o.partial
-        (each_counts (λ (p : KeptPartial). p.key) (λ n. keyed (λ (x : KeptPartial). x.key) n o.partial) o.partial (λ n. omega arith))) has.go_on;
+        (each_counts (λ (p : KeptPartial). p.key) (λ n. keyed (λ (x : KeptPartial). x.key) n o.partial) o.partial
+        (λ n. omega arith))) has.go_on;
   }
 
   -- and so all are known where this one's are
@@ -56,31 +64,38 @@ module _ (w w' : Numbers) (owns : List OwnFiles) (c : ℕ) (own own' : OwnFiles)
     below = moves.below knows.below;
     apart = all_still_apart w w' owns c own own' there is s t moves knows.apart;
     each =
-        all_zip_changes (IsApartFrom w w' owns c own own' there is s t moves knows.apart) (HasSpool s) (HasSpool t) of_another owns now c own' sp
+        all_zip_changes (IsApartFrom w w' owns c own own' there is s t moves knows.apart) (HasSpool s) (HasSpool t)
+        of_another owns now c own' sp
         (others_apart w w' owns c own own' there is s t moves knows.apart (named c own there is)) knows.each has;
   }
 
 -- ---- files that aren't whole
 
 -- behind a step's last call
-pub has_spool : (w w' : Numbers) (own own' : OwnFiles) (now : CustomerSpool) (s t : SpoolContents) → Goes (claim w own) (claim w' own') own' now now.whole s t → AllUpToDate now own' → own'.arrived ≡ now.arrived
+pub has_spool : (w w' : Numbers) (own own' : OwnFiles) (now : CustomerSpool) (s t : SpoolContents)
+    → Goes (claim w own) (claim w' own') own' now now.whole s t → AllUpToDate now own' → own'.arrived ≡ now.arrived
     → HasSpool t own' now
-has_spool w w' own own' now s t goes up_to_date arrived = record { arrived = arrived; mirrored = goes.mirrored; up_to_date = up_to_date; go_on = goes.go_on }
+has_spool w w' own own' now s t goes up_to_date arrived =
+    record { arrived = arrived; mirrored = goes.mirrored; up_to_date = up_to_date; go_on = goes.go_on }
 
 -- Where files of more than 1,365 records go on from those of their numbers, what is kept of one is a front of it still.
 pub still_goes_on : (before now : CustomerSpool) (s : SpoolContents) (p : KeptPartial)
-    → (1366 ≤ length (partial_records p.number now) → (rest : List Stored) × (partial_records p.number now ≡ partial_records p.number before ++ rest))
+    → (1366 ≤ length (partial_records p.number now)
+    → (rest : List Stored) × (partial_records p.number now ≡ partial_records p.number before ++ rest))
     → IsUpToDate before p → GoesOn before s p → GoesOn now s p
 still_goes_on before now s p grows up go_on enough =
     let more = grows (omega (arith, up.many, enough)) in
-    subst (IsPartlyKept s p) (sym more.1) (partly_kept_of_more s p (partial_records p.number before) more.0 (go_on (omega (arith, up.seen))))
+    subst (IsPartlyKept s p) (sym more.1) (partly_kept_of_more s p (partial_records p.number before) more.0
+    (go_on (omega (arith, up.seen))))
 
 -- Where one became whole, that is so but for headers: the file may have been sent elsewhere since.
 pub front_of_whole : (before : CustomerSpool) (s : SpoolContents) (p : KeptPartial) (rs : List Stored)
     → (1366 ≤ length rs
-    → (length (partial_records p.number before) ≤ length rs) × AreAlike (partial_records p.number before) (take (length (partial_records p.number before)) rs))
+    → (length (partial_records p.number before) ≤ length rs)
+    × AreAlike (partial_records p.number before) (take (length (partial_records p.number before)) rs))
     → IsUpToDate before p → GoesOn before s p → p.seen ≤ length rs
-    → (front : List Stored) × (length front ≡ p.written) × (p.written ≤ length rs) × HasRecords p.key front s × AreAlike front (take p.written rs)
+    → (front : List Stored) × (length front ≡ p.written) × (p.written ≤ length rs) × HasRecords p.key front s
+    × AreAlike front (take p.written rs)
 front_of_whole before s p rs grows up go_on enough =
     let was = partial_records p.number before in
     let more = grows (omega (arith, up.many, enough)) in
@@ -89,5 +104,6 @@ front_of_whole before s p rs grows up go_on enough =
       length-take-le p.written was here.written,
       omega (arith, here.written, more.0),
       here.stored,
-      subst (AreAlike (take p.written was)) (take-take p.written (length was) rs here.written) (front_alike p.written was (take (length was) rs) more.1),
+      subst (AreAlike (take p.written was)) (take-take p.written (length was) rs here.written)
+          (front_alike p.written was (take (length was) rs) more.1),
     )

@@ -1,5 +1,6 @@
 -- The keeper of a spool file goes on to know a hub's files: by a customer's step, and by a commit.
-use Rattle.std.proofs.Common.{◌≡◌, ◌≢◌, ◌⊎◌, inl, inr, ℕ, zero, suc, ◌<◌, false, true, List, [], ◌∷◌, length, get_or, set, map, Result, Ok, Err, OnOk, refl, sym, ap, subst, ◌∙◌, arith}
+use Rattle.std.proofs.Common.{◌≡◌, ◌≢◌, ◌⊎◌, inl, inr, ℕ, zero, suc, ◌<◌, false, true, List, [], ◌∷◌, length, get_or}
+use Rattle.std.proofs.Common.{set, map, Result, Ok, Err, OnOk, refl, sym, ap, subst, ◌∙◌, arith}
 use Rattle.std.proofs.lemmas.List.{get_or-set_same, length-map, map-set}
 use Rattle.std.specs.List.{AllByRecursion, AllZip}
 use Rattle.std.specs.Prelude.{string_bytes}
@@ -21,7 +22,8 @@ use Rattle.njh_spoolfile.specs.CommitState.{CommitState, Stands}
 use Rattle.njh_spoolfile.specs.Steps.{Stays}
 use Rattle.njh_keeper.specs.Opened.{AllAreBack, hub_opened, is_name_of, own_files, part_opened}
 use Rattle.njh_keeper.specs.declared.own_files.OwnFiles as own_files_type
-use Rattle.njh_keeper.specs.Keeper.{IsKeptNow, Keeping, KnowsHub, KnowsNow, MayLeave, MayLeaveOf, left_in, memory_in, owns_in}
+use Rattle.njh_keeper.specs.Keeper.{IsKeptNow, Keeping, KnowsHub, KnowsNow, MayLeave, MayLeaveOf, left_in, memory_in}
+use Rattle.njh_keeper.specs.Keeper.{owns_in}
 use Rattle.njh_keeper.specs.code.Knowing.{AreNamedApart, HasOwn, HasSpool, IsSoundPart, Knows, LeadsStep, StepGoes}
 use Rattle.njh_keeper.specs.code.Memory.{own_memory_of, own_of}
 use Rattle.njh_keeper.specs.code.Opening.{AllAreFound, AllAreRead, HasBegun, name_at}
@@ -41,14 +43,17 @@ use Rattle.njh_keeper.proofs.PartlyLaws.{all_map}
 abbrev spools_of : List Part → List CustomerSpool
 spools_of parts = map (λ (p : Part). p.customer.spool) parts
 
-kept_of_spools : (parts : List Part) → map (λ (s : CustomerSpool). map kept_file s.whole) (spools_of parts) ≡ kept_of parts
+kept_of_spools : (parts : List Part) → map (λ (s : CustomerSpool). map kept_file s.whole) (spools_of parts)
+    ≡ kept_of parts
 kept_of_spools [] = refl
 kept_of_spools (p ∷ parts) = ap (λ files. map kept_file p.customer.spool.whole ∷ files) (kept_of_spools parts)
 
 -- what is left of the customers is what the hub has
-pub known_leaves : {S : Type 0} (g : Ghosts S) (keeper : Keeping S) (parts : List Part) (k : KnowsNow g keeper parts) → left_in keeper.names k.standing.now ≡ kept_of parts
+pub known_leaves : {S : Type 0} (g : Ghosts S) (keeper : Keeping S) (parts : List Part) (k : KnowsNow g keeper parts)
+    → left_in keeper.names k.standing.now ≡ kept_of parts
 known_leaves g keeper parts k =
-    ap (λ ns. left_in ns k.standing.now) k.names ∙ known_is_left keeper.numbers (owns_in keeper) (spools_of parts) k.standing.now k.knows ∙ kept_of_spools parts
+    ap (λ ns. left_in ns k.standing.now) k.names ∙ known_is_left keeper.numbers (owns_in keeper) (spools_of parts)
+    k.standing.now k.knows ∙ kept_of_spools parts
 
 -- ---- a commit
 
@@ -56,7 +61,8 @@ pub ok_given : {T E : Type 0} (r : Result T E) (C P Q : Type 0) → (C → OnOk 
 ok_given (Ok x) C P Q led f = f led
 ok_given (Err e) C P Q led f = tt
 
-pub known_settled : {S : Type 0} (g : Ghosts S) (old new : Keeping S) (parts : List Part) (k : KnowsNow g old parts) → new.names ≡ old.names → new.numbers ≡ old.numbers → new.customers ≡ old.customers
+pub known_settled : {S : Type 0} (g : Ghosts S) (old new : Keeping S) (parts : List Part) (k : KnowsNow g old parts)
+    → new.names ≡ old.names → new.numbers ≡ old.numbers → new.customers ≡ old.customers
     → IsKeptNow g new k.standing.now → KnowsNow g new parts
 known_settled g old new parts k names numbers customers done = record {
   standing = record { now = k.standing.now; kept = done.kept };
@@ -66,21 +72,28 @@ known_settled g old new parts k names numbers customers done = record {
   distinct = subst AreDistinct (sym names) k.distinct;
   texts = subst (AllByRecursion (λ (m : OwnMemory). is_name_of m.text m.own.name ≡ true)) (sym customers) k.texts;
   knows = subst (λ w. Knows w (owns_in new) (spools_of parts) k.standing.now) (sym numbers)
-      (subst (λ ms. Knows old.numbers (map (λ (m : OwnMemory). m.own) ms) (spools_of parts) k.standing.now) (sym customers) k.knows);
+      (subst (λ ms. Knows old.numbers (map (λ (m : OwnMemory). m.own) ms) (spools_of parts) k.standing.now)
+      (sym customers) k.knows);
   sound = k.sound;
 }
 
 -- where it is broken off, what was kept before is left, or all
-pub either_leaves : {S : Type 0} (g : Ghosts S) (found : SpoolContents → Type 0) (old new : Keeping S) (before parts : List Part) → (HasCleanDisk (shown g new.store) → HasCleanDisk (shown g old.store))
-    → ((left : List (List KeptFile)) → MayLeave g new left → MayLeave g old left ⊎ ((now : SpoolContents) → Holds now (shown g old.store).now.trees → left ≡ left_in old.names now))
-    → LeavesOnly (MayLeaveOf g found) old before → KnowsHub g found old parts → LeavesEither (MayLeaveOf g found) new before parts
+pub either_leaves : {S : Type 0} (g : Ghosts S) (found : SpoolContents → Type 0) (old new : Keeping S)
+    (before parts : List Part) → (HasCleanDisk (shown g new.store) → HasCleanDisk (shown g old.store))
+    → ((left : List (List KeptFile)) → MayLeave g new left
+    → MayLeave g old left ⊎ ((now : SpoolContents) → Holds now (shown g old.store).now.trees
+    → left ≡ left_in old.names now))
+    → LeavesOnly (MayLeaveOf g found) old before → KnowsHub g found old parts
+    → LeavesEither (MayLeaveOf g found) new before parts
 either_leaves g found old new before parts early crash only knows left m = elim (crash left m.0) [
   | inl may ↦ inl (only left (may, m.1))
-  | inr made ↦ inr (let k = knows (early m.0.clean) m.1.0 m.1.1 in made k.standing.now k.stands.now ∙ known_leaves g old parts k)
+  | inr made ↦ inr (let k = knows (early m.0.clean) m.1.0 m.1.1 in made k.standing.now k.stands.now
+      ∙ known_leaves g old parts k)
 ]
 
 -- the same spool file, and the same names
-pub may_leave_same : {S : Type 0} (g : Ghosts S) (old new : Keeping S) (left : List (List KeptFile)) → new.store ≡ old.store → new.names ≡ old.names → MayLeave g new left → MayLeave g old left
+pub may_leave_same : {S : Type 0} (g : Ghosts S) (old new : Keeping S) (left : List (List KeptFile))
+    → new.store ≡ old.store → new.names ≡ old.names → MayLeave g new left → MayLeave g old left
 may_leave_same g old new left store names m = record {
   clean = subst (λ s. HasCleanDisk (shown g s)) store m.clean;
   trees = m.trees;
@@ -97,30 +110,38 @@ whatever_else [] i x y there = absurd (omega (arith, there))
 whatever_else (a ∷ xs) zero x y there = refl
 whatever_else (a ∷ xs) (suc i) x y there = whatever_else xs i x y (omega (arith, there))
 
-names_in : (owns : List own_files_type.OwnFiles) → map (λ (own : OwnFiles). own.name) (map (λ (m : OwnMemory). m.own) (map own_memory_of owns)) ≡ map (λ own. own.name) owns
+names_in : (owns : List own_files_type.OwnFiles)
+    → map (λ (own : OwnFiles). own.name) (map (λ (m : OwnMemory). m.own) (map own_memory_of owns))
+    ≡ map (λ own. own.name) owns
 names_in [] = refl
 names_in (own ∷ owns) = ap (λ names. own.name ∷ names) (names_in owns)
 
-owns_are : (owns : List own_files_type.OwnFiles) → map (λ (m : OwnMemory). m.own) (map own_memory_of owns) ≡ map own_of owns
+owns_are : (owns : List own_files_type.OwnFiles)
+    → map (λ (m : OwnMemory). m.own) (map own_memory_of owns) ≡ map own_of owns
 owns_are [] = refl
 owns_are (own ∷ owns) = ap (λ os. own_of own ∷ os) (owns_are owns)
 
-pub begun_known : {S : Type 0} (g : Ghosts S) (new : Keeping S) (names : List (List ℕ)) (hub : List Part) (owns : List own_files_type.OwnFiles) (t : SpoolContents) → new.customers ≡ map own_memory_of owns
-    → new.names ≡ names → map (λ own. own.name) owns ≡ names → HasBegun names hub (map own_of owns) new.numbers t → Stands (record { now = t; kept = t }) (shown g new.store) → AreDistinct names
+pub begun_known : {S : Type 0} (g : Ghosts S) (new : Keeping S) (names : List (List ℕ)) (hub : List Part)
+    (owns : List own_files_type.OwnFiles) (t : SpoolContents) → new.customers ≡ map own_memory_of owns
+    → new.names ≡ names → map (λ own. own.name) owns ≡ names → HasBegun names hub (map own_of owns) new.numbers t
+    → Stands (record { now = t; kept = t }) (shown g new.store) → AreDistinct names
     → length names ≡ length hub → AllByRecursion (λ own. is_name_of (string_bytes own.text) own.name ≡ true) owns
-    → ((c : ℕ) → c < length names → IsSound (part c hub).customer.spool × HaveHeaders (part c hub).customer.spool.whole) → AllByRecursion HasShortRests hub → KnowsNow g new hub
+    → ((c : ℕ) → c < length names → IsSound (part c hub).customer.spool × HaveHeaders (part c hub).customer.spool.whole)
+    → AllByRecursion HasShortRests hub → KnowsNow g new hub
 begun_known g new names hub owns t customers names_is each begun stands distinct long texts sound rests = record {
   standing = record { now = t; kept = t };
   stands = stands;
   as_kept = λ unchanged. refl;
-  names = names_is ∙ sym each ∙ sym (names_in owns) ∙ sym (ap (λ ms. map (λ (own : OwnFiles). own.name) (map (λ (m : OwnMemory). m.own) ms)) customers);
+  names = names_is ∙ sym each ∙ sym (names_in owns)
+      ∙ sym (ap (λ ms. map (λ (own : OwnFiles). own.name) (map (λ (m : OwnMemory). m.own) ms)) customers);
   distinct = subst AreDistinct (sym names_is) distinct;
   texts =
       subst (AllByRecursion (λ (m : OwnMemory). is_name_of m.text m.own.name ≡ true)) (sym customers)
       (all_map (λ (m : OwnMemory). is_name_of m.text m.own.name ≡ true) own_memory_of owns texts);
   knows =
       subst (λ ms. Knows new.numbers (map (λ (m : OwnMemory). m.own) ms) (spools_of hub) t) (sym customers)
-      (subst (λ os. Knows new.numbers os (spools_of hub) t) (sym (owns_are owns)) (begun_is_known names hub (map own_of owns) new.numbers t begun distinct long).0);
+      (subst (λ os. Knows new.numbers os (spools_of hub) t) (sym (owns_are owns))
+      (begun_is_known names hub (map own_of owns) new.numbers t begun distinct long).0);
   sound =
       all_by_place IsSoundPart hub
       (λ c p low is.
@@ -134,14 +155,18 @@ begun_known g new names hub owns t customers names_is each begun stands distinct
 }
 
 -- what is read of the customers' files when a hub is opened
-pub opened_so : ((s : CustomerSpool) → has_file_room s ≡ true → is_number (next_number s) s ≡ false) → (table : TableFile) (spool : SpoolContents) (names : List (List ℕ)) (hub : List Part)
+pub opened_so : ((s : CustomerSpool) → has_file_room s ≡ true → is_number (next_number s) s ≡ false)
+    → (table : TableFile) (spool : SpoolContents) (names : List (List ℕ)) (hub : List Part)
     → names ≡ map (λ c. c.name) table.customers → hub ≡ hub_opened table spool → AllAreBack table (kept spool)
-    → AllAreFound names hub × AllAreRead names hub spool × (length names ≡ length hub) × AllByRecursion HasShortRests hub
+    → AllAreFound names hub × AllAreRead names hub spool × (length names ≡ length hub)
+    × AllByRecursion HasShortRests hub
 opened_so free table spool names hub each hub_is back = (
   subst (λ (ps : List Part). AllAreFound names ps) (sym hub_is) (all_found free table spool back names each),
   subst (λ (ps : List Part). AllAreRead names ps spool) (sym hub_is) (all_read_from table spool back names each),
-  (let a = ap length each in let b = ap length hub_is in let d = length-map table.customers (λ (x : NamedCustomer). x.name) in
-      let e = length-map table.customers (λ (x : NamedCustomer). part_opened (entry_of x) (own_files x.name spool)) in omega (arith, a, b, d, e)),
+  (let a = ap length each in let b = ap length hub_is in let d = length-map table.customers
+      (λ (x : NamedCustomer). x.name) in
+      let e = length-map table.customers (λ (x : NamedCustomer). part_opened (entry_of x) (own_files x.name spool))
+      in omega (arith, a, b, d, e)),
   subst (AllByRecursion HasShortRests) (sym hub_is) (opened_rests table spool),
 )
 
@@ -159,7 +184,8 @@ ok_always (Err e) P p = tt
 
 -- ---- a customer's step
 
-all_zip_at : {X Y : Type 0} (R : X → Y → Type 0) (xs : List X) (ys : List Y) (i : ℕ) (x : X) (y : Y) → AllZip R xs ys → i < length xs → x ≡ get_or xs i x → y ≡ get_or ys i y → R x y
+all_zip_at : {X Y : Type 0} (R : X → Y → Type 0) (xs : List X) (ys : List Y) (i : ℕ) (x : X) (y : Y) → AllZip R xs ys
+    → i < length xs → x ≡ get_or xs i x → y ≡ get_or ys i y → R x y
 all_zip_at R [] ys i x y all there is at = absurd (omega (arith, there))
 all_zip_at R (a ∷ xs) [] i x y all there is at = absurd all
 all_zip_at R (a ∷ xs) (b ∷ ys) zero x y all there is at = subst (λ z. R z y) (sym is) (subst (R a) (sym at) all.0)
@@ -171,7 +197,8 @@ all_zip_long R [] (y ∷ ys) all = absurd all
 all_zip_long R (x ∷ xs) [] all = absurd all
 all_zip_long R (x ∷ xs) (y ∷ ys) all = ap suc (all_zip_long R xs ys all.1)
 
-pub at_place : {X Y : Type 0} (f : X → Y) (xs : List X) (i : ℕ) (x : X) → i < length xs → x ≡ get_or xs i x → f x ≡ get_or (map f xs) i (f x)
+pub at_place : {X Y : Type 0} (f : X → Y) (xs : List X) (i : ℕ) (x : X) → i < length xs → x ≡ get_or xs i x
+    → f x ≡ get_or (map f xs) i (f x)
 at_place f [] i x there is = absurd (omega (arith, there))
 at_place f (a ∷ xs) zero x there is = ap f is
 at_place f (a ∷ xs) (suc i) x there is = at_place f xs i x (omega (arith, there)) is
@@ -181,19 +208,24 @@ named_apart owns distinct c own there is =
     let names = map (λ (o : OwnFiles). o.name) owns in
     let long = length-map owns (λ (o : OwnFiles). o.name) in
     let name_is : (i : ℕ) (o : OwnFiles) → i < length owns → o ≡ get_or owns i o → o.name ≡ name_at names i =
-    (λ i o low at. at_place (λ (x : OwnFiles). x.name) owns i o low at ∙ whatever_else names i o.name [] (omega (arith, low, long))) in
+    (λ i o low at. at_place (λ (x : OwnFiles). x.name) owns i o low at
+    ∙ whatever_else names i o.name [] (omega (arith, low, long))) in
     others_by_place (λ o. o.name ≢ own.name) owns c
     (λ i o low at other same.
-    other (apart names distinct i c (omega (arith, low, long)) (omega (arith, there, long)) (sym (name_is i o low at) ∙ same ∙ name_is c own there is)))
+    other (apart names distinct i c (omega (arith, low, long)) (omega (arith, there, long))
+    (sym (name_is i o low at) ∙ same ∙ name_is c own there is)))
 
 set_same : {X : Type 0} (xs : List X) (i : ℕ) (x : X) → i < length xs → x ≡ get_or xs i x → set xs i x ≡ xs
 set_same [] i x there is = absurd (omega (arith, there))
 set_same (a ∷ xs) zero x there is = ap (λ z. z ∷ xs) is
 set_same (a ∷ xs) (suc i) x there is = ap (λ ys. a ∷ ys) (set_same xs i x (omega (arith, there)) is)
 
-module _ {S : Type 0} (g : Ghosts S) (old new : Keeping S) (before : List Part) (c : ℕ) (now : Part) (k : KnowsNow g old before) (led : IsLed (part c before) now) (sound : IsSoundPart now)
-    (m m2 : OwnMemory) (there : c < length old.customers) (is : m ≡ get_or old.customers c m) (customers : new.customers ≡ set old.customers c m2) (names : new.names ≡ old.names)
-    (leads : LeadsStep (memory_in old m) (memory_in new m2) old.is_changed new.is_changed now (shown g old.store) (shown g new.store)) where
+module _ {S : Type 0} (g : Ghosts S) (old new : Keeping S) (before : List Part) (c : ℕ) (now : Part)
+    (k : KnowsNow g old before) (led : IsLed (part c before) now) (sound : IsSoundPart now)
+    (m m2 : OwnMemory) (there : c < length old.customers) (is : m ≡ get_or old.customers c m)
+    (customers : new.customers ≡ set old.customers c m2) (names : new.names ≡ old.names)
+    (leads : LeadsStep (memory_in old m) (memory_in new m2) old.is_changed new.is_changed now (shown g old.store)
+    (shown g new.store)) where
   abbrev owns : List OwnFiles
   owns = owns_in old
 
@@ -219,10 +251,12 @@ module _ {S : Type 0} (g : Ghosts S) (old new : Keeping S) (before : List Part) 
   has = record {
     ordered = k.knows.ordered;
     below = k.knows.below;
-    apart = λ n. (let one = uses_of_one n owns c m.own within here in let once = k.knows.apart n in omega (arith, one, once));
+    apart = λ n. (let one = uses_of_one n owns c m.own within here in let once = k.knows.apart n in omega
+        (arith, one, once));
     named = all_at (λ (x : OwnMemory). is_name_of x.text x.own.name ≡ true) old.customers c m k.texts there is;
     has =
-        all_zip_at (HasSpool k.standing.now) owns (spools_of before) c m.own (part c before).customer.spool k.knows.each within here
+        all_zip_at (HasSpool k.standing.now) owns (spools_of before) c m.own (part c before).customer.spool k.knows.each
+        within here
         (at_place (λ (p : Part). p.customer.spool) before c (part c before) in_hub part_is);
   }
 
@@ -236,13 +270,15 @@ module _ {S : Type 0} (g : Ghosts S) (old new : Keeping S) (before : List Part) 
   spools_new = map-set (λ (p : Part). p.customer.spool) before c now
 
   -- the customers' names are what they were
-  module _ (t : SpoolContents) (goes : StepGoes (memory_in old m) (memory_in new m2) old.is_changed new.is_changed (part c before).customer.spool now.customer.spool k.standing.now t)
+  module _ (t : SpoolContents) (goes : StepGoes (memory_in old m) (memory_in new m2) old.is_changed new.is_changed
+      (part c before).customer.spool now.customer.spool k.standing.now t)
       (stands : Stands (record { now = t; kept = k.standing.kept }) (shown g new.store)) where
     knows_new : Knows new.numbers (owns_in new) (spools_of (set before c now)) t
     knows_new =
         subst (λ os. Knows new.numbers os (spools_of (set before c now)) t) (sym owns_new)
         (subst (λ ss. Knows new.numbers (set owns c m2.own) ss t) (sym spools_new)
-        (known_still old.numbers new.numbers owns c m.own m2.own within here k.standing.now t goes.moves (spools_of before) k.knows apart_by_name now.customer.spool goes.has))
+        (known_still old.numbers new.numbers owns c m.own m2.own within here k.standing.now t goes.moves
+        (spools_of before) k.knows apart_by_name now.customer.spool goes.has))
 
     names_new : map (λ (own : OwnFiles). own.name) (owns_in new) ≡ map (λ (own : OwnFiles). own.name) owns
     names_new =
@@ -254,18 +290,24 @@ module _ {S : Type 0} (g : Ghosts S) (old new : Keeping S) (before : List Part) 
         (let long = length-map owns (λ (own : OwnFiles). own.name) in omega (arith, within, long)))
 
     -- where nothing changed, what is kept of all customers is what it was
-    kept_same : map kept_file (part c before).customer.spool.whole ≡ map kept_file now.customer.spool.whole → kept_of before ≡ kept_of (set before c now)
+    kept_same : map kept_file (part c before).customer.spool.whole ≡ map kept_file now.customer.spool.whole
+        → kept_of before ≡ kept_of (set before c now)
     kept_same same =
         sym (set_same (kept_of before) c (map kept_file now.customer.spool.whole)
-        (let long = length-map before (λ (p : Part). map kept_file p.customer.spool.whole) in omega (arith, in_hub, long))
-        (sym same ∙ at_place (λ (p : Part). map kept_file p.customer.spool.whole) before c (part c before) in_hub part_is
-        ∙ whatever_else (kept_of before) c (map kept_file (part c before).customer.spool.whole) (map kept_file now.customer.spool.whole)
-        (let long = length-map before (λ (p : Part). map kept_file p.customer.spool.whole) in omega (arith, in_hub, long))))
+        (let long = length-map before (λ (p : Part). map kept_file p.customer.spool.whole) in omega
+        (arith, in_hub, long))
+        (sym same ∙ at_place (λ (p : Part). map kept_file p.customer.spool.whole) before c (part c before) in_hub
+        part_is
+        ∙ whatever_else (kept_of before) c (map kept_file (part c before).customer.spool.whole)
+        (map kept_file now.customer.spool.whole)
+        (let long = length-map before (λ (p : Part). map kept_file p.customer.spool.whole) in omega
+        (arith, in_hub, long))))
         ∙ sym (map-set (λ (p : Part). map kept_file p.customer.spool.whole) before c now)
 
     left_new : left_in new.names t ≡ kept_of (set before c now)
     left_new =
-        ap (λ ns. left_in ns t) (names ∙ k.names ∙ sym names_new) ∙ known_is_left new.numbers (owns_in new) (spools_of (set before c now)) t knows_new
+        ap (λ ns. left_in ns t) (names ∙ k.names ∙ sym names_new)
+        ∙ known_is_left new.numbers (owns_in new) (spools_of (set before c now)) t knows_new
         ∙ kept_of_spools (set before c now)
 
     known_new : KnowsNow g new (set before c now)
@@ -274,7 +316,8 @@ module _ {S : Type 0} (g : Ghosts S) (old new : Keeping S) (before : List Part) 
       stands = stands;
       as_kept = λ unchanged.
           let still = goes.still unchanged in
-          ap (λ ns. left_in ns k.standing.kept) names ∙ k.as_kept still.0 ∙ known_leaves g old before k ∙ kept_same still.1 ∙ sym left_new;
+          ap (λ ns. left_in ns k.standing.kept) names ∙ k.as_kept still.0 ∙ known_leaves g old before k
+          ∙ kept_same still.1 ∙ sym left_new;
       names = names ∙ k.names ∙ sym names_new;
       distinct = subst AreDistinct (sym names) k.distinct;
       texts =
@@ -285,12 +328,16 @@ module _ {S : Type 0} (g : Ghosts S) (old new : Keeping S) (before : List Part) 
     }
 
   known_set : KnowsNow g new (set before c now)
-  known_set = let one = (leads (part c before) led sound_before).leads k.standing k.stands in known_new one.0 (one.2 has) one.1
+  known_set = let one = (leads (part c before) led sound_before).leads k.standing k.stands in known_new one.0
+      (one.2 has) one.1
 
 -- by a step of customer c
-pub known_after : {S : Type 0} (g : Ghosts S) (old new : Keeping S) (before hub : List Part) (c : ℕ) → KnowsNow g old before → LeadsHub c before hub → IsSound (part c hub).customer.spool
-    → HaveHeaders (part c hub).customer.spool.whole → (m m2 : OwnMemory) → c < length old.customers → m ≡ get_or old.customers c m → new.customers ≡ set old.customers c m2 → new.names ≡ old.names
-    → LeadsStep (memory_in old m) (memory_in new m2) old.is_changed new.is_changed (part c hub) (shown g old.store) (shown g new.store) → KnowsNow g new hub
+pub known_after : {S : Type 0} (g : Ghosts S) (old new : Keeping S) (before hub : List Part) (c : ℕ)
+    → KnowsNow g old before → LeadsHub c before hub → IsSound (part c hub).customer.spool
+    → HaveHeaders (part c hub).customer.spool.whole → (m m2 : OwnMemory) → c < length old.customers
+    → m ≡ get_or old.customers c m → new.customers ≡ set old.customers c m2 → new.names ≡ old.names
+    → LeadsStep (memory_in old m) (memory_in new m2) old.is_changed new.is_changed (part c hub) (shown g old.store)
+    (shown g new.store) → KnowsNow g new hub
 known_after g old new before hub c k leads sound headers m m2 there is customers names step =
     let after = leads.0 in
     let zip = all_zip_long (HasSpool k.standing.now) (owns_in old) (spools_of before) k.knows.each in
@@ -298,7 +345,9 @@ known_after g old new before hub c k leads sound headers m m2 there is customers
     let many = length-map old.customers (λ (x : OwnMemory). x.own) in
     let in_hub : c < length before = omega (arith, there, zip, long, many) in
     let now : part c hub ≡ after = ap (part c) leads.2 ∙ get_or-set_same before c after no_part in_hub in
-    let was : IsSoundPart (part c before) = all_at IsSoundPart before c (part c before) k.sound in_hub (whatever_else before c no_part (part c before) in_hub) in
+    let was : IsSoundPart (part c before) =
+    all_at IsSoundPart before c (part c before) k.sound in_hub
+    (whatever_else before c no_part (part c before) in_hub) in
     let by : IsSoundPart after = record {
       sound = subst (λ (p : Part). IsSound p.customer.spool) now sound;
       headers = subst (λ (p : Part). HaveHeaders p.customer.spool.whole) now headers;
@@ -306,4 +355,5 @@ known_after g old new before hub c k leads sound headers m m2 there is customers
     } in
     subst (KnowsNow g new) (sym leads.2)
     (known_set g old new before c after k leads.1 by m m2 there is customers names
-    (subst (λ (p : Part). LeadsStep (memory_in old m) (memory_in new m2) old.is_changed new.is_changed p (shown g old.store) (shown g new.store)) now step))
+    (subst (λ (p : Part). LeadsStep (memory_in old m) (memory_in new m2) old.is_changed new.is_changed p
+    (shown g old.store) (shown g new.store)) now step))

@@ -8,11 +8,13 @@ use Rattle.njh_spoolfile.specs.Steps.{Changes}
 use Rattle.njh_keeper.specs.code.Leading.{Leads}
 
 -- a call that leaves the spool file as it is
-pub leads_nothing : (P : SpoolContents → SpoolContents → Type 0) (at : State) → ((s : SpoolContents) → P s s) → Leads P at at
+pub leads_nothing : (P : SpoolContents → SpoolContents → Type 0) (at : State) → ((s : SpoolContents) → P s s)
+    → Leads P at at
 leads_nothing P at holds = record { leads = λ s stands. (s.now, stands, holds s.now) }
 
 -- one more step
-pub leads_then : (P Q R : SpoolContents → SpoolContents → Type 0) (old mid new : State) → Leads P old mid → Leads Q mid new
+pub leads_then : (P Q R : SpoolContents → SpoolContents → Type 0) (old mid new : State) → Leads P old mid
+    → Leads Q mid new
     → ((s t u : SpoolContents) → P s t → Q t u → R s u) → Leads R old new
 leads_then P Q R old mid new one more both = record {
   leads = λ s stands.
@@ -22,13 +24,15 @@ leads_then P Q R old mid new one more both = record {
 }
 
 -- what it comes to says less
-pub leads_weaker : (P Q : SpoolContents → SpoolContents → Type 0) (old new : State) → ((s t : SpoolContents) → P s t → Q s t) → Leads P old new → Leads Q old new
+pub leads_weaker : (P Q : SpoolContents → SpoolContents → Type 0) (old new : State)
+    → ((s t : SpoolContents) → P s t → Q s t) → Leads P old new → Leads Q old new
 leads_weaker P Q old new less one = record {
   leads = λ s stands. let first = one.leads s stands in (first.0, first.1, less s.now first.0 first.2);
 }
 
 -- a call of the store
-pub leads_by : (change : SpoolContents → SpoolContents) (old new : State) → Changes change old new → Leads (λ s t. t ≡ change s) old new
+pub leads_by : (change : SpoolContents → SpoolContents) (old new : State) → Changes change old new
+    → Leads (λ s t. t ≡ change s) old new
 leads_by change old new by = record {
   leads = λ s stands. (
     change s.now,
@@ -54,9 +58,13 @@ survives_here at P = record {
 }
 
 -- neither of two calls commits
-pub survives_both : (old mid new : State) → Survives old mid (λ _. ⊥) → Survives mid new (λ _. ⊥) → Survives old new (λ _. ⊥)
-survives_both old mid new one more = survives_then old mid new (λ _. ⊥) (λ _. ⊥) (λ _. ⊥) (λ clean db none. none) (λ clean db none. none) one more
+pub survives_both : (old mid new : State) → Survives old mid (λ _. ⊥) → Survives mid new (λ _. ⊥)
+    → Survives old new (λ _. ⊥)
+survives_both old mid new one more = survives_then old mid new (λ _. ⊥) (λ _. ⊥) (λ _. ⊥) (λ clean db none. none)
+    (λ clean db none. none) one more
 
 -- of two calls, whatever they commit
-pub survives_any : (old mid new : State) (P Q : Trees → Type 0) → Survives old mid P → Survives mid new Q → Survives old new (λ _. Unit {0})
-survives_any old mid new P Q one more = survives_then old mid new P Q (λ _. Unit {0}) (λ clean db may. tt) (λ clean db may. tt) one more
+pub survives_any : (old mid new : State) (P Q : Trees → Type 0) → Survives old mid P → Survives mid new Q
+    → Survives old new (λ _. Unit {0})
+survives_any old mid new P Q one more = survives_then old mid new P Q (λ _. Unit {0}) (λ clean db may. tt)
+    (λ clean db may. tt) one more

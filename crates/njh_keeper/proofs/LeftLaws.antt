@@ -1,5 +1,6 @@
 -- What a spool file that has a hub's whole files leaves of them.
-use Rattle.std.proofs.Common.{◌≡◌, ℕ, List, [], ◌∷◌, length, get_or, drop, map, Option, Some, refl, sym, ap, subst, ◌∙◌, arith}
+use Rattle.std.proofs.Common.{◌≡◌, ℕ, List, [], ◌∷◌, length, get_or, drop, map, Option, Some, refl, sym, ap, subst, ◌∙◌}
+use Rattle.std.proofs.Common.{arith}
 use Rattle.std.specs.List.{AllZip, filter_map}
 use Rattle.std.proofs.lemmas.List.Elements.{All-from_recursion}
 use Rattle.njh_record.specs.declared.Kind.{Kind}
@@ -19,13 +20,16 @@ word_back In = refl
 word_back Out = refl
 
 -- a file that is kept is read as the hub has it
-reads_as : (s : SpoolContents) (k : KeptWhole) (e : ℕ × File) (f : WholeFile) → IsKept s k e f → ReadsAs s e (kept_file f)
+reads_as : (s : SpoolContents) (k : KeptWhole) (e : ℕ × File) (f : WholeFile) → IsKept s k e f
+    → ReadsAs s e (kept_file f)
 reads_as s k e f one =
     subst (λ n. file_in e.1 (map contents (records_of n s)) ≡ Some (kept_file f)) (sym one.row.key)
-    (file_reads_back k.key f.records s one.stored e.1 (sym one.row.count) (All-from_recursion FitsHub f.records one.fits) f.kind (ap kind_of_word one.row.kind ∙ word_back f.kind)
+    (file_reads_back k.key f.records s one.stored e.1 (sym one.row.count)
+    (All-from_recursion FitsHub f.records one.fits) f.kind (ap kind_of_word one.row.kind ∙ word_back f.kind)
     ∙ (λ i. Some (record { kind = f.kind; held = one.row.held i; records = f.records })))
 
-read_back : (s : SpoolContents) (ks : List KeptWhole) (es : List (ℕ × File)) (fs : List WholeFile) → AllBeside (IsKept s) ks es fs → AllZip (ReadsAs s) es (map kept_file fs)
+read_back : (s : SpoolContents) (ks : List KeptWhole) (es : List (ℕ × File)) (fs : List WholeFile)
+    → AllBeside (IsKept s) ks es fs → AllZip (ReadsAs s) es (map kept_file fs)
 read_back s [] [] [] h = tt
 read_back s [] [] (f ∷ fs) h = absurd h
 read_back s [] (e ∷ es) fs h = absurd h
@@ -33,12 +37,15 @@ read_back s (k ∷ ks) [] fs h = absurd h
 read_back s (k ∷ ks) (e ∷ es) [] h = absurd h
 read_back s (k ∷ ks) (e ∷ es) (f ∷ fs) h = (reads_as s k e f h.0, read_back s ks es fs h.1)
 
-pub mirrored_is_read_back : (s : SpoolContents) (own : OwnFiles) (files : List WholeFile) → Mirrored s own files → map (λ w. file_in w.file w.records) (own_files own.name s) ≡ map Some (map kept_file files)
-mirrored_is_read_back s own files all = own_files_read_back own.name s (map kept_file files) (read_back s own.whole (own_rows own.name s) files all)
+pub mirrored_is_read_back : (s : SpoolContents) (own : OwnFiles) (files : List WholeFile) → Mirrored s own files
+    → map (λ w. file_in w.file w.records) (own_files own.name s) ≡ map Some (map kept_file files)
+mirrored_is_read_back s own files all = own_files_read_back own.name s (map kept_file files)
+    (read_back s own.whole (own_rows own.name s) files all)
 
 -- ---- all customers
 
-pub found_all : {X Y : Type 0} (f : X → Option Y) (xs : List X) (ys : List Y) → map f xs ≡ map Some ys → filter_map f xs ≡ ys
+pub found_all : {X Y : Type 0} (f : X → Option Y) (xs : List X) (ys : List Y) → map f xs ≡ map Some ys
+    → filter_map f xs ≡ ys
 found_all f [] [] all = refl
 found_all f [] (y ∷ ys) all = absurd (let long = ap length all in omega (arith, long))
 found_all f (x ∷ xs) [] all = absurd (let long = ap length all in omega (arith, long))
@@ -46,20 +53,24 @@ found_all {X} {Y} f (x ∷ xs) (y ∷ ys) all =
     let first : f x ≡ Some y = ap (λ (os : List (Option Y)). get_or os 0 (f x)) all in
     rw first (ap (λ zs. y ∷ zs) (found_all f xs ys (ap (λ (os : List (Option Y)). drop 1 os) all)))
 
-pub left_are : (s : SpoolContents) (owns : List OwnFiles) (all : List (List WholeFile)) → AllZip (Mirrored s) owns all → left_in (map (λ own. own.name) owns) s ≡ map (map kept_file) all
+pub left_are : (s : SpoolContents) (owns : List OwnFiles) (all : List (List WholeFile)) → AllZip (Mirrored s) owns all
+    → left_in (map (λ own. own.name) owns) s ≡ map (map kept_file) all
 left_are s [] [] each = refl
 left_are s [] (files ∷ all) each = absurd each
 left_are s (own ∷ owns) [] each = absurd each
 left_are s (own ∷ owns) (files ∷ all) each =
-    let first = found_all (λ (w : Whole). file_in w.file w.records) (own_files own.name s) (map kept_file files) (mirrored_is_read_back s own files each.0) in
+    let first = found_all (λ (w : Whole). file_in w.file w.records) (own_files own.name s) (map kept_file files)
+    (mirrored_is_read_back s own files each.0) in
     λ i. first i ∷ left_are s owns all each.1 i
 
 -- where each customer has the files of a part of a hub
-pub left_of_parts : {P : Type 0} (whole : P → List WholeFile) (s : SpoolContents) (owns : List OwnFiles) (parts : List P) → AllZip (λ own p. Mirrored s own (whole p)) owns parts
+pub left_of_parts : {P : Type 0} (whole : P → List WholeFile) (s : SpoolContents) (owns : List OwnFiles)
+    (parts : List P) → AllZip (λ own p. Mirrored s own (whole p)) owns parts
     → left_in (map (λ own. own.name) owns) s ≡ map (λ p. map kept_file (whole p)) parts
 left_of_parts whole s [] [] each = refl
 left_of_parts whole s [] (p ∷ parts) each = absurd each
 left_of_parts whole s (own ∷ owns) [] each = absurd each
 left_of_parts whole s (own ∷ owns) (p ∷ parts) each =
-    let first = found_all (λ (w : Whole). file_in w.file w.records) (own_files own.name s) (map kept_file (whole p)) (mirrored_is_read_back s own (whole p) each.0) in
+    let first = found_all (λ (w : Whole). file_in w.file w.records) (own_files own.name s) (map kept_file (whole p))
+    (mirrored_is_read_back s own (whole p) each.0) in
     λ i. first i ∷ left_of_parts whole s owns parts each.1 i

@@ -1,6 +1,8 @@
 -- A customer of a hub that is opened again has what the customer alone would have after the loss of all its lines.
-use Rattle.std.proofs.Common.{◌≡◌, ℕ, zero, suc, ◌+◌, ◌<◌, ◌≤◌, ◌&&◌, ◌||◌, nat_le, nat_lt, Bool, true, false, cond, List, [], ◌∷◌, ◌++◌}
-use Rattle.std.proofs.Common.{length, map, get_or, replicate, drop, Option, Some, None, option_map, is_some, Ok, Err, refl, sym, ap, subst}
+use Rattle.std.proofs.Common.{◌≡◌, ℕ, zero, suc, ◌+◌, ◌<◌, ◌≤◌, ◌&&◌, ◌||◌, nat_le, nat_lt, Bool, true, false, cond}
+use Rattle.std.proofs.Common.{List, [], ◌∷◌, ◌++◌}
+use Rattle.std.proofs.Common.{length, map, get_or, replicate, drop, Option, Some, None, option_map, is_some, Ok, Err}
+use Rattle.std.proofs.Common.{refl, sym, ap, subst}
 use Rattle.std.proofs.Common.{◌∙◌, arith}
 use Rattle.std.specs.Prelude.{fold, sum_by}
 use Rattle.std.specs.List.{All, AllByRecursion, Contains, filter_map}
@@ -20,24 +22,28 @@ use Rattle.njh_line.specs.Laws.{is_up}
 use Rattle.njh_line.specs.Sessions.{fresh}
 use Rattle.njh_line.specs.declared.Phase.TheVariants.{Down}
 use Rattle.njh_line.specs.declared.config.Config.{Config}
-use Rattle.njh_spool.specs.CustomerSpool.{CustomerSpool, WholeFile, cost, has_file_room, next_number, used_blocks, with_arrived}
+use Rattle.njh_spool.specs.CustomerSpool.{CustomerSpool, WholeFile, cost, has_file_room, next_number, used_blocks}
+use Rattle.njh_spool.specs.CustomerSpool.{with_arrived}
 use Rattle.njh_spool.specs.declared.State.{State}
 use Rattle.njh_spool.specs.declared.State.TheVariants.{Ready, Held, Refused, Sending}
 use Rattle.njh_stream.specs.Holding.{destination_unrouted, has_lost_route, held_file, waits_in_state}
 use Rattle.njh_stream.specs.Sending as sending
 use Rattle.njh_stream.specs.declared.receiver.Receiver.TheVariants as receiver
 use Rattle.njh_stream.specs.declared.sender.Sender.TheVariants as sender
-use Rattle.njh_spool.specs.Restoring.{KeptFile, has_blocks_for, has_headers, kept, limits_fault, restore_fault, state_back}
+use Rattle.njh_spool.specs.Restoring.{KeptFile, has_blocks_for, has_headers, kept, limits_fault, restore_fault}
+use Rattle.njh_spool.specs.Restoring.{state_back}
 use Rattle.njh_spool.specs.declared.restoring.fault.RestoreFault.{RestoreFault}
 use Rattle.njh_spool.specs.declared.restoring.fault.RestoreFault.TheVariants.{BadHeader, FilesOver, QuotaOver}
 use Rattle.njh_table.specs.Entries.{CustomerEntry, LineEntry, RouteEntry}
 use Rattle.njh_table.specs.Marks.{entry_unmarked}
 use Rattle.njh_table.specs.Keys.{Walked}
 use Rattle.njh_table.specs.NewRoutes.{NewRoute, routes_checked}
-use Rattle.njh_customer.specs.Customer.{CustomerLine, IsMarked, config_of, idle_line, line_at, no_customer_line, sender_at}
+use Rattle.njh_customer.specs.Customer.{CustomerLine, IsMarked, config_of, idle_line, line_at, no_customer_line}
+use Rattle.njh_customer.specs.Customer.{sender_at}
 use Rattle.njh_customer.specs.Customer.{with_marks}
 use Rattle.njh_customer.specs.Feeding.{bytes_run}
-use Rattle.njh_customer.specs.InOrder.{HasAfterLosses, IsIdle, IsInOrder, IsWithinQuota, LossesLeaveFiles, StaysInOrder, after_losses}
+use Rattle.njh_customer.specs.InOrder.{HasAfterLosses, IsIdle, IsInOrder, IsWithinQuota, LossesLeaveFiles, StaysInOrder}
+use Rattle.njh_customer.specs.InOrder.{after_losses}
 use Rattle.njh_customer.specs.InOrder.{at_rest, losses, phase_of, state_at_rest}
 use Rattle.njh_customer.specs.Laws.{EventsKeepEntries, EventsKeepLines, MarksAreRight}
 use Rattle.njh_customer.specs.NewRoutes.{entry_with, part_after_routes, routes_given, taken_where}
@@ -50,7 +56,8 @@ use Rattle.njh_hub.specs.Keeping.{is_held, kept_file, kept_files}
 use Rattle.njh_hub.specs.Restored.{part_with_file}
 use Rattle.njh_hub.proofs.RestoredLaws.{headers_by}
 use Rattle.njh_spoolfile.specs.Kept.{Whole}
-use Rattle.njh_keeper.specs.LinesLost.{AreFilesOf, IsQuiet, LeftAsLinesLost, OpenedAsLinesLost, StandsAs, bare, file_at_rest}
+use Rattle.njh_keeper.specs.LinesLost.{AreFilesOf, IsQuiet, LeftAsLinesLost, OpenedAsLinesLost, StandsAs, bare}
+use Rattle.njh_keeper.specs.LinesLost.{file_at_rest}
 use Rattle.njh_keeper.specs.Opened.{AreBack, file_in, part_opened, with_whole}
 use Rattle.njh_keeper.specs.OpenedFiles.{HasOpened, as_opened, opened_of}
 use Rattle.njh_keeper.specs.declared.fault.FileFault.{FileFault}
@@ -68,7 +75,8 @@ no_refusal None e = refl
 no_refusal (Some fault) e = absurd (cc e)
 
 -- so its headers read, and there is room for a file more, and for its blocks
-reads_and_fits : (reads room blocks : Bool) → cond reads (cond room (cond blocks None (Some QuotaOver)) (Some FilesOver)) (Some BadHeader) ≡ None
+reads_and_fits : (reads room blocks : Bool)
+    → cond reads (cond room (cond blocks None (Some QuotaOver)) (Some FilesOver)) (Some BadHeader) ≡ None
     → (reads ≡ true) × (room ≡ true) × (blocks ≡ true)
 reads_and_fits true true true e = (refl, refl, refl)
 reads_and_fits true true false e = absurd (cc e)
@@ -76,10 +84,16 @@ reads_and_fits true false blocks e = absurd (cc e)
 reads_and_fits false room blocks e = absurd (cc e)
 
 -- with it they stay within the quota
-still_within : (f : WholeFile) (s : CustomerSpool) → has_file_room s ≡ true → nat_le (used_blocks s + cost f.records) s.quota ≡ true
+still_within : (f : WholeFile) (s : CustomerSpool) → has_file_room s ≡ true
+    → nat_le (used_blocks s + cost f.records) s.quota ≡ true
     → IsWithinQuota (with_arrived f s)
 still_within f s room blocks = record {
-  blocks = omega (arith, leb-true (used_blocks s + cost f.records) s.quota blocks, sum_by_push (λ (g : WholeFile). cost g.records) s.whole f);
+  blocks = omega (
+    arith,
+    leb-true (used_blocks s + cost f.records) s.quota blocks,
+    sum_by_push
+        (λ (g : WholeFile). cost g.records) s.whole f,
+  );
   files = omega (arith, ltb-true (length s.whole + length s.partial) s.limit room, length-append s.whole (f ∷ []));
 }
 
@@ -88,26 +102,38 @@ not_sending true e = cc e
 not_sending false e = cc e
 
 module _ (stays : StaysInOrder) (free : FreeNumbers) where
-  one_back : (f : KeptFile) (p : Part) → restore_fault f p.customer.spool ≡ None → IsInOrder p.customer → IsInOrder (part_with_file f p).customer
+  one_back : (f : KeptFile) (p : Part) → restore_fault f p.customer.spool ≡ None → IsInOrder p.customer
+      → IsInOrder (part_with_file f p).customer
   one_back f p none order =
       let s = p.customer.spool in
       let all = reads_and_fits (has_headers f.kind f.records) (has_file_room s) (has_blocks_for f.records s) none in
-      let new : WholeFile = record { number = next_number s; kind = f.kind; records = f.records; state = state_back f.held } in
+      let new : WholeFile = record {
+        number = next_number s;
+        kind = f.kind;
+        records = f.records;
+        state = state_back
+            f.held;
+      } in
       stays.routes p.customer.entry.routes (record p.customer { spool = with_arrived new s })
-      (stays.put_back new p.customer (free s all.1) (headers_by f.kind f.records all.0) (not_sending f.held) (still_within new s all.1 all.2) order)
+      (stays.put_back new p.customer (free s all.1) (headers_by f.kind f.records all.0) (not_sending f.held)
+      (still_within new s all.1 all.2) order)
 
-  all_back : (ws : List Whole) (p : Part) → AreBack p ws → IsInOrder p.customer → IsInOrder (fold with_whole p ws).customer
+  all_back : (ws : List Whole) (p : Part) → AreBack p ws → IsInOrder p.customer
+      → IsInOrder (fold with_whole p ws).customer
   all_back [] p back order = order
-  all_back (w ∷ ws) p back order = split (file_in w.file w.records) refl (λ order. all_back ws (with_whole p w) back.1 order)
+  all_back (w ∷ ws) p back order = split (file_in w.file w.records) refl
+      (λ order. all_back ws (with_whole p w) back.1 order)
     where
       split : (o : Option KeptFile) → file_in w.file w.records ≡ o
           → (IsInOrder (with_whole p w).customer → IsInOrder (fold with_whole (with_whole p w) ws).customer)
           → IsInOrder (fold with_whole p (w ∷ ws)).customer
       split None is later = absurd (let h = sym (bad_file p w.file w.records is) ∙ back.0 in cc)
       split (Some f) is later =
-          let with_it : with_whole p w ≡ part_with_file f p = ap (λ (o : Option KeptFile). elim o as (λ _. Part) [ None ↦ p | Some g ↦ part_with_file g p ]) is in
+          let with_it : with_whole p w ≡ part_with_file f p =
+          ap (λ (o : Option KeptFile). elim o as (λ _. Part) [ None ↦ p | Some g ↦ part_with_file g p ]) is in
           let told : option_map RefusedFile (restore_fault f p.customer.spool) ≡ None =
-          sym (ap (λ (o : Option KeptFile). elim o as (λ _. Option FileFault) [ None ↦ Some BadFile | Some g ↦ option_map RefusedFile (restore_fault g p.customer.spool) ]) is) ∙ back.0 in
+          sym (ap (λ (o : Option KeptFile). elim o as (λ _. Option FileFault)
+          [ None ↦ Some BadFile | Some g ↦ option_map RefusedFile (restore_fault g p.customer.spool) ]) is) ∙ back.0 in
           let one = one_back f p (no_refusal (restore_fault f p.customer.spool) told) order in
           later (subst (λ (q : Part). IsInOrder q.customer) (sym with_it) one)
 
@@ -133,7 +159,8 @@ event_rests p (OwnSignal signal l) = length-set p.rests l Nothing
 event_rests p (OwnRoutes routes) = given_rests routes p
 
 module _ (stays : StaysInOrder) (marks : MarksAreRight) (entries : EventsKeepEntries) (lines : EventsKeepLines) where
-  goes : (events : List OwnEvent) (p : Part) → IsInOrder p.customer → IsMarked p.customer → Goes p (alone_run p events).after
+  goes : (events : List OwnEvent) (p : Part) → IsInOrder p.customer → IsMarked p.customer
+      → Goes p (alone_run p events).after
   goes [] p order marked = record { order = order; marked = marked; entry = refl; lines = refl; rests = refl }
   goes (event ∷ events) p order marked =
       let q = (event_run p event).after in
@@ -142,7 +169,8 @@ module _ (stays : StaysInOrder) (marks : MarksAreRight) (entries : EventsKeepEnt
       record {
         order = later.order;
         marked = later.marked;
-        entry = later.entry ∙ ap (λ (e : CustomerEntry). entry_with z.customer.entry.routes (with_marks z.customer.entry.up e)) (entries p event);
+        entry = later.entry ∙ ap (λ (e : CustomerEntry). entry_with z.customer.entry.routes
+            (with_marks z.customer.entry.up e)) (entries p event);
         lines = later.lines ∙ lines p event;
         rests = later.rests ∙ event_rests p event;
       }
@@ -152,7 +180,8 @@ module _ (stays : StaysInOrder) (marks : MarksAreRight) (entries : EventsKeepEnt
 -- of a file that isn't being sent: Held where it was or has no route, and else it may go
 state_case : (n : ℕ) (kind : Kind) (records : List Stored) (s : State) (unrouted : Bool) → (s ≡ Sending → ⊥)
     → (let f : WholeFile = record { number = n; kind = kind; records = records; state = s } in
-    file_at_rest (cond (waits_in_state s && unrouted) (held_file f) f)) ≡ record { kind = kind; records = records; state = cond (is_held s || unrouted) Held Ready }
+    file_at_rest (cond (waits_in_state s && unrouted) (held_file f) f))
+    ≡ record { kind = kind; records = records; state = cond (is_held s || unrouted) Held Ready }
 state_case n kind records Ready true isnt = refl
 state_case n kind records Ready false isnt = refl
 state_case n kind records Held true isnt = refl
@@ -170,10 +199,12 @@ routed entry f = cond (has_lost_route entry f) (held_file f) f
 first_there : (f : WholeFile) (fs : List WholeFile) → Contains (f ∷ fs) f
 first_there f fs = (0, omega arith, refl)
 
-lost_files : (entry : CustomerEntry) (fs : List WholeFile) → AreNotSent fs → map file_at_rest (map (routed entry) fs) ≡ map (as_opened entry) (map kept_file fs)
+lost_files : (entry : CustomerEntry) (fs : List WholeFile) → AreNotSent fs
+    → map file_at_rest (map (routed entry) fs) ≡ map (as_opened entry) (map kept_file fs)
 lost_files entry [] none = refl
 lost_files entry (f ∷ fs) none =
-    let here = state_case f.number f.kind f.records f.state (destination_unrouted entry (destination_of f.kind f.records)) (none f (first_there f fs)) in
+    let here = state_case f.number f.kind f.records f.state
+    (destination_unrouted entry (destination_of f.kind f.records)) (none f (first_there f fs)) in
     let rest = lost_files entry fs (λ g at. none g (Contains-append_right (f ∷ []) fs g at)) in
     λ i. here i ∷ rest i
 
@@ -226,7 +257,8 @@ marks_off (x ∷ xs) (y ∷ ys) same down =
     λ i. here i ∷ rest i
 
 -- two lists of as many rests are the same where nothing has come on either
-same_rests : (rs ss : List Rest) → length rs ≡ length ss → ((l : ℕ) → rest_at l rs ≡ Nothing) → ((l : ℕ) → rest_at l ss ≡ Nothing) → rs ≡ ss
+same_rests : (rs ss : List Rest) → length rs ≡ length ss → ((l : ℕ) → rest_at l rs ≡ Nothing)
+    → ((l : ℕ) → rest_at l ss ≡ Nothing) → rs ≡ ss
 same_rests [] [] same none other = refl
 same_rests [] (s ∷ ss) same none other = absurd (omega (arith, same))
 same_rests (r ∷ rs) [] same none other = absurd (omega (arith, same))
@@ -236,7 +268,8 @@ same_rests (r ∷ rs) (s ∷ ss) same none other =
     λ i. here i ∷ rest i
 
 -- a list of so many that holds one thing alone
-all_copies : {A : Type 0} (n : ℕ) (a : A) (xs : List A) → length xs ≡ n → ((k : ℕ) → get_or xs k a ≡ a) → xs ≡ replicate n a
+all_copies : {A : Type 0} (n : ℕ) (a : A) (xs : List A) → length xs ≡ n → ((k : ℕ) → get_or xs k a ≡ a)
+    → xs ≡ replicate n a
 all_copies zero a [] long each = refl
 all_copies zero a (x ∷ xs) long each = absurd (omega (arith, long))
 all_copies (suc n) a [] long each = absurd (omega (arith, long))
@@ -256,7 +289,8 @@ record IsLikeFresh (config : Config) (streams : ℕ) (x : CustomerLine) : Type 0
   eight_to : length x.receivers ≡ 8
   eight_from : length x.senders ≡ 8
 
-bare_of : (config : Config) (streams : ℕ) (x : CustomerLine) → IsLikeFresh config streams x → bare x ≡ bare (idle_line config streams)
+bare_of : (config : Config) (streams : ℕ) (x : CustomerLine) → IsLikeFresh config streams x
+    → bare x ≡ bare (idle_line config streams)
 bare_of config streams x like =
     let to = all_copies 8 receiver.Idle x.receivers like.eight_to like.idle.receivers in
     let from = all_copies 8 sender.Idle x.senders like.eight_from like.idle.senders in
@@ -298,7 +332,8 @@ set_up_by entry line = (config_of entry line, line.streams)
 like_fresh :
     (entry : CustomerEntry) (ls : List LineEntry) (xs : List CustomerLine) → map set_up_of xs ≡ map (set_up_by entry) ls
     → ((l : ℕ) → l < length xs → phase_of (line_at l xs) ≡ Down) → ((l : ℕ) → l < length xs → IsIdle (line_at l xs))
-    → ((l : ℕ) → l < length xs → length (line_at l xs).receivers ≡ 8) → ((l : ℕ) → l < length xs → length (line_at l xs).senders ≡ 8)
+    → ((l : ℕ) → l < length xs → length (line_at l xs).receivers ≡ 8)
+    → ((l : ℕ) → l < length xs → length (line_at l xs).senders ≡ 8)
     → AreLikeFresh entry ls xs
 like_fresh entry [] [] same down idle to from = refl
 like_fresh entry [] (x ∷ xs) same down idle to from = absurd (let long = ap length same in omega (arith, long))
@@ -321,12 +356,14 @@ like_fresh entry (line ∷ ls) (x ∷ xs) same down idle to from =
 
 -- where all lines are idle no file is being sent
 
-senders_idle : (xs : List CustomerLine) → ((l : ℕ) → l < length xs → IsIdle (line_at l xs)) → (l k : ℕ) → sender_at k (line_at l xs) ≡ sender.Idle
+senders_idle : (xs : List CustomerLine) → ((l : ℕ) → l < length xs → IsIdle (line_at l xs)) → (l k : ℕ)
+    → sender_at k (line_at l xs) ≡ sender.Idle
 senders_idle [] idle l k = refl
 senders_idle (x ∷ xs) idle zero k = (idle 0 (omega arith)).senders k
 senders_idle (x ∷ xs) idle (suc l) k = senders_idle xs (λ m h. idle (suc m) (omega (arith, h))) l k
 
-none_goes : (p : Part) → IsInOrder p.customer → ((l : ℕ) → l < length p.customer.lines → IsIdle (line_at l p.customer.lines)) → AreNotSent p.customer.spool.whole
+none_goes : (p : Part) → IsInOrder p.customer
+    → ((l : ℕ) → l < length p.customer.lines → IsIdle (line_at l p.customer.lines)) → AreNotSent p.customer.spool.whole
 none_goes p order idle f at sent =
     let go = order.sent.go f at sent in
     let none : sender_on go.line go.stream (outgoing p.customer) ≡ sender.Idle =
@@ -338,7 +375,8 @@ none_goes p order idle f at sent =
 
 headers_read : (kind : Kind) (records : List Stored) → HasHeaders kind records → has_headers kind records ≡ true
 headers_read kind records has =
-    ap (λ (o : Option FileName). is_some o && (is_some (file_owner records) && is_some (destination_of kind records))) has.named
+    ap (λ (o : Option FileName). is_some o && (is_some (file_owner records) && is_some (destination_of kind records)))
+    has.named
     ∙ ap (λ (o : Option User). is_some o && is_some (destination_of kind records)) has.owned
     ∙ ap (λ (o : Option User). is_some o) has.goes
 
@@ -347,7 +385,8 @@ record HaveRoom (s : CustomerSpool) (fs : List KeptFile) : Type 0 where
   blocks : used_blocks s + sum_by (λ (f : KeptFile). cost f.records) fs ≤ s.quota
   files : length s.whole + length s.partial + length fs ≤ s.limit
 
-held_costs : (entry : CustomerEntry) (fs : List WholeFile) → sum_by (λ (f : WholeFile). cost f.records) (map (routed entry) fs) ≡ sum_by (λ (f : WholeFile). cost f.records) fs
+held_costs : (entry : CustomerEntry) (fs : List WholeFile)
+    → sum_by (λ (f : WholeFile). cost f.records) (map (routed entry) fs) ≡ sum_by (λ (f : WholeFile). cost f.records) fs
 held_costs entry [] = refl
 held_costs entry (f ∷ fs) = at (has_lost_route entry f) (held_costs entry fs)
   where
@@ -355,16 +394,24 @@ held_costs entry (f ∷ fs) = at (has_lost_route entry f) (held_costs entry fs)
         ≡ cost g.records + sum_by (λ (f : WholeFile). cost f.records) (map (routed entry) fs)
     more g = sum_by-cons (λ (f : WholeFile). cost f.records) g (map (routed entry) fs)
 
-    at : (b : Bool) → sum_by (λ (f : WholeFile). cost f.records) (map (routed entry) fs) ≡ sum_by (λ (f : WholeFile). cost f.records) fs
+    at : (b : Bool) → sum_by (λ (f : WholeFile). cost f.records) (map (routed entry) fs)
+        ≡ sum_by (λ (f : WholeFile). cost f.records) fs
         → sum_by (λ (f : WholeFile). cost f.records) (cond b (held_file f) f ∷ map (routed entry) fs)
         ≡ sum_by (λ (f : WholeFile). cost f.records) (f ∷ fs)
     at true rest = omega (arith, more (held_file f), rest, sum_by-cons (λ (f : WholeFile). cost f.records) f fs)
     at false rest = omega (arith, more f, rest, sum_by-cons (λ (f : WholeFile). cost f.records) f fs)
 
-room_left : (f : KeptFile) (fs : List KeptFile) (p : Part) → HaveRoom p.customer.spool (f ∷ fs) → HaveRoom (part_with_file f p).customer.spool fs
+room_left : (f : KeptFile) (fs : List KeptFile) (p : Part) → HaveRoom p.customer.spool (f ∷ fs)
+    → HaveRoom (part_with_file f p).customer.spool fs
 room_left f fs p room =
     let s = p.customer.spool in
-    let new : WholeFile = record { number = next_number s; kind = f.kind; records = f.records; state = state_back f.held } in
+    let new : WholeFile = record {
+      number = next_number s;
+      kind = f.kind;
+      records = f.records;
+      state = state_back
+          f.held;
+    } in
     record {
       blocks = omega (
         arith,
@@ -373,38 +420,55 @@ room_left f fs p room =
         sum_by_push (λ (g : WholeFile). cost g.records) s.whole new,
         sum_by-cons (λ (g : KeptFile). cost g.records) f fs,
       );
-      files = omega (arith, room.files, length-map (s.whole ++ new ∷ []) (routed p.customer.entry), length-append s.whole (new ∷ []));
+      files = omega (
+        arith,
+        room.files,
+        length-map (s.whole ++ new ∷ []) (routed p.customer.entry),
+        length-append
+            s.whole (new ∷ []),
+      );
     }
 
 -- all of them have headers that read
 abbrev AllRead : List KeptFile → Type 0
 AllRead fs = AllByRecursion (λ (f : KeptFile). has_headers f.kind f.records ≡ true) fs
 
-none_refused : (f : KeptFile) (fs : List KeptFile) (s : CustomerSpool) → has_headers f.kind f.records ≡ true → HaveRoom s (f ∷ fs)
+none_refused : (f : KeptFile) (fs : List KeptFile) (s : CustomerSpool) → has_headers f.kind f.records ≡ true
+    → HaveRoom s (f ∷ fs)
     → restore_fault f s ≡ None
 none_refused f fs s reads room =
-    let files : nat_lt (length s.whole + length s.partial) s.limit ≡ true = lt-ltb (length s.whole + length s.partial) s.limit (omega (arith, room.files)) in
+    let files : nat_lt (length s.whole + length s.partial) s.limit ≡ true =
+    lt-ltb (length s.whole + length s.partial) s.limit (omega (arith, room.files)) in
     let blocks : nat_le (used_blocks s + cost f.records) s.quota ≡ true =
-    le-leb (used_blocks s + cost f.records) s.quota (omega (arith, room.blocks, sum_by-cons (λ (g : KeptFile). cost g.records) f fs)) in
+    le-leb (used_blocks s + cost f.records) s.quota
+    (omega (arith, room.blocks, sum_by-cons (λ (g : KeptFile). cost g.records) f fs)) in
     ap (λ b. cond b (limits_fault f.records s) (Some BadHeader)) reads
     ∙ ap (λ b. cond b (cond (has_blocks_for f.records s) None (Some QuotaOver)) (Some FilesOver)) files
     ∙ ap (λ b. cond b None (Some QuotaOver)) blocks
 
-all_fit : (ws : List Whole) (fs : List KeptFile) (p : Part) → map (λ w. file_in w.file w.records) ws ≡ map Some fs → AllRead fs
+all_fit : (ws : List Whole) (fs : List KeptFile) (p : Part) → map (λ w. file_in w.file w.records) ws ≡ map Some fs
+    → AllRead fs
     → HaveRoom p.customer.spool fs → AreBack p ws
 all_fit [] fs p same reads room = tt
 all_fit (w ∷ ws) [] p same reads room = absurd (let long = ap length same in omega (arith, long))
 all_fit (w ∷ ws) (f ∷ fs) p same reads room =
     let is : file_in w.file w.records ≡ Some f = ap (λ (os : List (Option KeptFile)). get_or os 0 (Some f)) same in
-    let with_it : with_whole p w ≡ part_with_file f p = ap (λ (o : Option KeptFile). elim o as (λ _. Part) [ None ↦ p | Some g ↦ part_with_file g p ]) is in
-    let later = all_fit ws fs (part_with_file f p) (ap (λ (os : List (Option KeptFile)). drop 1 os) same) reads.1 (room_left f fs p room) in
-    (by_restore p w.file w.records f None is (none_refused f fs p.customer.spool reads.0 room), subst (λ (q : Part). AreBack q ws) (sym with_it) later)
+    let with_it : with_whole p w ≡ part_with_file f p =
+    ap (λ (o : Option KeptFile). elim o as (λ _. Part) [ None ↦ p | Some g ↦ part_with_file g p ]) is in
+    let later = all_fit ws fs (part_with_file f p) (ap (λ (os : List (Option KeptFile)). drop 1 os) same) reads.1
+    (room_left f fs p room) in (
+      by_restore p w.file w.records f None is (none_refused f fs p.customer.spool reads.0 room),
+      subst
+          (λ (q : Part). AreBack q ws) (sym with_it) later,
+    )
 
-kept_read : (fs : List WholeFile) → AllByRecursion (λ (f : WholeFile). HasHeaders f.kind f.records) fs → AllRead (map kept_file fs)
+kept_read : (fs : List WholeFile) → AllByRecursion (λ (f : WholeFile). HasHeaders f.kind f.records) fs
+    → AllRead (map kept_file fs)
 kept_read [] have = tt
 kept_read (f ∷ fs) have = (headers_read f.kind f.records have.0, kept_read fs have.1)
 
-kept_costs : (fs : List WholeFile) → sum_by (λ (f : KeptFile). cost f.records) (map kept_file fs) ≡ sum_by (λ (f : WholeFile). cost f.records) fs
+kept_costs : (fs : List WholeFile) → sum_by (λ (f : KeptFile). cost f.records) (map kept_file fs)
+    ≡ sum_by (λ (f : WholeFile). cost f.records) fs
 kept_costs [] = refl
 kept_costs (f ∷ fs) =
     omega (
@@ -416,9 +480,11 @@ kept_costs (f ∷ fs) =
 
 -- ---- the law
 
-module _ (stays : StaysInOrder) (free : FreeNumbers) (leave : LossesLeaveFiles) (marks : MarksAreRight) (entries : EventsKeepEntries) (lines : EventsKeepLines) where
+module _ (stays : StaysInOrder) (free : FreeNumbers) (leave : LossesLeaveFiles) (marks : MarksAreRight)
+    (entries : EventsKeepEntries) (lines : EventsKeepLines) where
   -- a customer that was opened
-  module _ (entry : CustomerEntry) (ws : List Whole) (few : All (λ line. line.streams ≤ 4) entry.lines) (back : AreBack (part_at_open entry) ws) where
+  module _ (entry : CustomerEntry) (ws : List Whole) (few : All (λ line. line.streams ≤ 4) entry.lines)
+      (back : AreBack (part_at_open entry) ws) where
     opened : HasOpened entry ws (part_opened entry ws)
     opened = opened_files entry ws back
 
@@ -430,9 +496,11 @@ module _ (stays : StaysInOrder) (free : FreeNumbers) (leave : LossesLeaveFiles) 
         ap (λ (e : CustomerEntry). e.up) opened.entry_is ∙ marks.fresh entry
         ∙ ap (map (λ (x : CustomerLine). is_up x.state.session.phase)) (sym opened.lines)
 
-    opened_down : (l : ℕ) → l < length (part_opened entry ws).customer.lines → phase_of (line_at l (part_opened entry ws).customer.lines) ≡ Down
+    opened_down : (l : ℕ) → l < length (part_opened entry ws).customer.lines
+        → phase_of (line_at l (part_opened entry ws).customer.lines) ≡ Down
     opened_down l there =
-        subst (λ (xs : List CustomerLine). l < length xs → phase_of (line_at l xs) ≡ Down) (sym opened.lines) (fresh_down entry entry.lines l) there
+        subst (λ (xs : List CustomerLine). l < length xs → phase_of (line_at l xs) ≡ Down) (sym opened.lines)
+        (fresh_down entry entry.lines l) there
 
     opened_quiet : IsQuiet (part_opened entry ws)
     opened_quiet = record {
@@ -443,7 +511,8 @@ module _ (stays : StaysInOrder) (free : FreeNumbers) (leave : LossesLeaveFiles) 
       rests = λ l. ap (rest_at l) opened.rests ∙ no_rests entry.lines l;
     }
       where
-        opened_idle : (l : ℕ) → l < length (part_opened entry ws).customer.lines → IsIdle (line_at l (part_opened entry ws).customer.lines)
+        opened_idle : (l : ℕ) → l < length (part_opened entry ws).customer.lines
+            → IsIdle (line_at l (part_opened entry ws).customer.lines)
         opened_idle l there = opened_order.idle l there (ap is_up (opened_down l there))
 
     opened_lengths : length (part_opened entry ws).rests ≡ length (part_opened entry ws).customer.lines
@@ -463,7 +532,8 @@ module _ (stays : StaysInOrder) (free : FreeNumbers) (leave : LossesLeaveFiles) 
     begins = opened_files entry before first
 
     run : Goes (part_opened entry before) p
-    run = goes stays marks entries lines events (part_opened entry before) (opened_order entry before few first) (opened_marked entry before few first)
+    run = goes stays marks entries lines events (part_opened entry before) (opened_order entry before few first)
+        (opened_marked entry before few first)
 
     lost : Goes p q
     lost = goes stays marks entries lines (losses (length p.customer.lines)) p run.order run.marked
@@ -473,15 +543,18 @@ module _ (stays : StaysInOrder) (free : FreeNumbers) (leave : LossesLeaveFiles) 
 
     as_many : length q.customer.lines ≡ length entry.lines
     as_many =
-        lost.lines ∙ run.lines ∙ ap length begins.lines ∙ length-map entry.lines (λ line. idle_line (config_of entry line) line.streams)
+        lost.lines ∙ run.lines ∙ ap length begins.lines
+        ∙ length-map entry.lines (λ line. idle_line (config_of entry line) line.streams)
 
     marks_are : q.customer.entry.up ≡ map (λ _. false) entry.lines
     marks_are = lost.marked ∙ marks_off q.customer.lines entry.lines as_many has.down
 
     entry_is : (entry_unmarked (entry_with routes entry)) ≡ entry_with routes q.customer.entry
     entry_is =
-        sym (ap (entry_with routes) (lost.entry ∙ ap (λ (e : CustomerEntry). entry_with q.customer.entry.routes (with_marks q.customer.entry.up e))
-        (run.entry ∙ ap (λ (e : CustomerEntry). entry_with p.customer.entry.routes (with_marks p.customer.entry.up e)) begins.entry_is))
+        sym (ap (entry_with routes) (lost.entry
+        ∙ ap (λ (e : CustomerEntry). entry_with q.customer.entry.routes (with_marks q.customer.entry.up e))
+        (run.entry ∙ ap (λ (e : CustomerEntry). entry_with p.customer.entry.routes (with_marks p.customer.entry.up e))
+        begins.entry_is))
         ∙ ap (λ (up : List Bool). entry_with routes (with_marks up entry)) marks_are)
 
     lost_rests : (l : ℕ) → rest_on l q ≡ Nothing
@@ -493,11 +566,15 @@ module _ (stays : StaysInOrder) (free : FreeNumbers) (leave : LossesLeaveFiles) 
     fits same =
         let s = p.customer.spool in
         let whole_entry : p.customer.entry ≡ entry_with p.customer.entry.routes (with_marks p.customer.entry.up entry) =
-        run.entry ∙ ap (λ (e : CustomerEntry). entry_with p.customer.entry.routes (with_marks p.customer.entry.up e)) begins.entry_is in
-        let quota : s.quota ≡ entry.quota = run.order.coherent.quota ∙ ap (λ (e : CustomerEntry). e.quota) whole_entry in
-        let limit : s.limit ≡ entry.files = run.order.coherent.limit ∙ ap (λ (e : CustomerEntry). e.files) whole_entry in
+        run.entry ∙ ap (λ (e : CustomerEntry). entry_with p.customer.entry.routes (with_marks p.customer.entry.up e))
+        begins.entry_is in
+        let quota : s.quota ≡ entry.quota =
+        run.order.coherent.quota ∙ ap (λ (e : CustomerEntry). e.quota) whole_entry in
+        let limit : s.limit ≡ entry.files =
+        run.order.coherent.limit ∙ ap (λ (e : CustomerEntry). e.files) whole_entry in
         all_fit ws (kept_files p) (part_at_open (entry_with routes entry)) same
-        (kept_read s.whole (recursion_from_All (λ (f : WholeFile). HasHeaders f.kind f.records) s.whole run.order.coherent.headers))
+        (kept_read s.whole (recursion_from_All (λ (f : WholeFile). HasHeaders f.kind f.records) s.whole
+        run.order.coherent.headers))
         (record {
           blocks = omega (arith, kept_costs s.whole, run.order.within.blocks, quota);
           files = omega (arith, length-map s.whole kept_file, run.order.within.files, limit);
@@ -539,13 +616,15 @@ module _ (stays : StaysInOrder) (free : FreeNumbers) (leave : LossesLeaveFiles) 
           like_fresh q.customer.entry q.customer.entry.lines q.customer.lines lost.order.set_up has.down has.idle
           (λ l there. (lost.order.coherent.streamed l no_customer_line there).0)
           (λ l there. ap length (sym (get_or-map (λ (x : CustomerLine). x.senders) q.customer.lines l no_customer_line))
-          ∙ lost.order.sent.eight l (omega (arith, there, length-map q.customer.lines (λ (x : CustomerLine). x.senders))))
+          ∙ lost.order.sent.eight l (omega
+          (arith, there, length-map q.customer.lines (λ (x : CustomerLine). x.senders))))
 
       -- the entry of the customer that was opened, but for its routes, is that of the one that lost its lines
       lines_are : map bare (part_opened (entry_with routes entry) ws).customer.lines ≡ map bare q.customer.lines
       lines_are =
           ap (map bare) again.lines
-          ∙ ap (λ (x : CustomerEntry). map bare (map (λ line. idle_line (config_of x line) line.streams) x.lines)) entry_is
+          ∙ ap (λ (x : CustomerEntry). map bare (map (λ line. idle_line (config_of x line) line.streams) x.lines))
+          entry_is
           ∙ sym (all_bare q.customer.entry q.customer.entry.lines q.customer.lines lost_like)
 
       rests_are : (part_opened (entry_with routes entry) ws).rests ≡ q.rests

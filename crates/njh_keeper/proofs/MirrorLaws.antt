@@ -1,5 +1,6 @@
 -- A spool file goes on to have the whole files of a hub, call by call.
-use Rattle.std.proofs.Common.{◌≡◌, ◌≢◌, ℕ, ◌+◌, ◌<◌, ◌≤◌, true, List, [], ◌∷◌, ◌++◌, length, get_or, set, remove, map, refl, sym, ap, subst, ◌∙◌, arith}
+use Rattle.std.proofs.Common.{◌≡◌, ◌≢◌, ℕ, ◌+◌, ◌<◌, ◌≤◌, true, List, [], ◌∷◌, ◌++◌, length, get_or, set, remove, map}
+use Rattle.std.proofs.Common.{refl, sym, ap, subst, ◌∙◌, arith}
 use Rattle.std.specs.List.{AllByRecursion}
 use Rattle.std.proofs.lemmas.List.{get_or_default, set-get_or}
 use Rattle.njh_spool.specs.CustomerSpool.{WholeFile}
@@ -7,13 +8,15 @@ use Rattle.njh_spoolfile.specs.Kept.{File, SpoolContents, contents, records_of, 
 use Rattle.njh_keeper.specs.Opened.{is_own, kind_word}
 use Rattle.njh_keeper.specs.code.Mirrored.{FitsHub, HasRecords, IsOrdered, WritesRowsOf, WritesUnder, own_rows}
 use Rattle.njh_hub.specs.Keeping.{is_held}
-use Rattle.njh_keeper.specs.code.Remembered.{AllBeside, AreBelow, Claim, IsKept, IsRowOf, KeptWhole, Mirrored, Moves, OwnFiles, Remembers, keyed}
+use Rattle.njh_keeper.specs.code.Remembered.{AllBeside, AreBelow, Claim, IsKept, IsRowOf, KeptWhole, Mirrored, Moves}
+use Rattle.njh_keeper.specs.code.Remembered.{OwnFiles, Remembers, keyed}
 use Rattle.njh_keeper.proofs.BesideLaws.{BesideAt, beside_at, beside_push, beside_remove, beside_set, beside_weaker}
 use Rattle.njh_keeper.proofs.FrameLaws.{adds_row, changes_row, drops_row, rows_stay}
 use Rattle.njh_keeper.proofs.KeyLaws.{each_counts, keyed_apart, keyed_at, keyed_none}
 use Rattle.njh_keeper.proofs.MovesLaws.{moves_rows, moves_then, moves_under}
 use Rattle.njh_keeper.proofs.NumberedLaws.{all_weaker}
-use Rattle.njh_keeper.proofs.RowLaws.{below_with_changed, below_with_file, below_without_file, row_below, row_changes, row_comes_last, row_leaves}
+use Rattle.njh_keeper.proofs.RowLaws.{below_with_changed, below_with_file, below_without_file, row_below, row_changes}
+use Rattle.njh_keeper.proofs.RowLaws.{row_comes_last, row_leaves}
 
 pub all_of : {X : Type 0} (P : X → Type 0) → ((x : X) → P x) → (xs : List X) → AllByRecursion P xs
 all_of P each [] = tt
@@ -21,34 +24,50 @@ all_of P each (x ∷ xs) = (each x, all_of P each xs)
 
 -- ---- the files stay
 
-kept_still : (s t : SpoolContents) (k : KeptWhole) (e : ℕ × File) (f : WholeFile) → records_of k.key t ≡ records_of k.key s → IsKept s k e f → IsKept t k e f
-kept_still s t k e f same one = record { id = one.id; row = one.row; remembers = one.remembers; stored = ap (map contents) same ∙ one.stored; fits = one.fits }
+kept_still : (s t : SpoolContents) (k : KeptWhole) (e : ℕ × File) (f : WholeFile)
+    → records_of k.key t ≡ records_of k.key s → IsKept s k e f → IsKept t k e f
+kept_still s t k e f same one = record {
+  id = one.id;
+  row = one.row;
+  remembers = one.remembers;
+  stored = ap
+      (map contents) same ∙ one.stored;
+  fits = one.fits;
+}
 
 module _ (s t : SpoolContents) (own : OwnFiles) (files : List WholeFile) (all : Mirrored s own files) where
   -- where neither their rows change nor what stands under their keys
-  pub mirrored_still : own_rows own.name t ≡ own_rows own.name s → AllByRecursion (λ k. records_of k.key t ≡ records_of k.key s) own.whole → Mirrored t own files
+  pub mirrored_still : own_rows own.name t ≡ own_rows own.name s
+      → AllByRecursion (λ k. records_of k.key t ≡ records_of k.key s) own.whole → Mirrored t own files
   mirrored_still rows records =
       subst (λ es. AllBeside (IsKept t) own.whole es files) (sym rows)
-      (beside_weaker (λ k. records_of k.key t ≡ records_of k.key s) (IsKept s) (IsKept t) (kept_still s t) own.whole (own_rows own.name s) files records all)
+      (beside_weaker (λ k. records_of k.key t ≡ records_of k.key s) (IsKept s) (IsKept t) (kept_still s t) own.whole
+      (own_rows own.name s) files records all)
 
   -- records under another key come or leave
-  pub mirrored_under : (key : ℕ) → WritesUnder key s t → keyed (λ (k : KeptWhole). k.key) key own.whole ≡ 0 → Mirrored t own files
+  pub mirrored_under : (key : ℕ) → WritesUnder key s t → keyed (λ (k : KeptWhole). k.key) key own.whole ≡ 0
+      → Mirrored t own files
   mirrored_under key w foreign =
       mirrored_still (rows_stay key s t w own.name)
-      (all_weaker (λ (k : KeptWhole). k.key ≢ key) (λ k. records_of k.key t ≡ records_of k.key s) (λ k apart. w.others k.key apart) own.whole
+      (all_weaker (λ (k : KeptWhole). k.key ≢ key) (λ k. records_of k.key t ≡ records_of k.key s)
+      (λ k apart. w.others k.key apart) own.whole
       (keyed_none (λ (k : KeptWhole). k.key) key own.whole foreign))
 
   -- a call was about another customer's files
-  pub mirrored_of_another : (a b : Claim) → Moves a b s t → own.name ≢ a.name → ((n : ℕ) → a.uses n + keyed (λ (k : KeptWhole). k.key) n own.whole ≤ 1) → Mirrored t own files
+  pub mirrored_of_another : (a b : Claim) → Moves a b s t → own.name ≢ a.name
+      → ((n : ℕ) → a.uses n + keyed (λ (k : KeptWhole). k.key) n own.whole ≤ 1) → Mirrored t own files
   mirrored_of_another a b moves other once =
       mirrored_still (moves.rows own.name other)
-      (all_weaker (λ (k : KeptWhole). 1 ≤ keyed (λ (x : KeptWhole). x.key) k.key own.whole) (λ k. records_of k.key t ≡ records_of k.key s)
+      (all_weaker (λ (k : KeptWhole). 1 ≤ keyed (λ (x : KeptWhole). x.key) k.key own.whole)
+      (λ k. records_of k.key t ≡ records_of k.key s)
       (λ k least. moves.records k.key (let most = once k.key in omega (arith, least, most))) own.whole
-      (each_counts (λ (k : KeptWhole). k.key) (λ n. keyed (λ (x : KeptWhole). x.key) n own.whole) own.whole (λ n. omega arith)))
+      (each_counts (λ (k : KeptWhole). k.key) (λ n. keyed (λ (x : KeptWhole). x.key) n own.whole) own.whole
+      (λ n. omega arith)))
 
 -- ---- one of them
 
-module _ (s : SpoolContents) (own : OwnFiles) (files : List WholeFile) (h : IsOrdered s) (all : Mirrored s own files) (i : ℕ) (k : KeptWhole) (there : i < length own.whole) (is : k ≡ get_or own.whole i k) where
+module _ (s : SpoolContents) (own : OwnFiles) (files : List WholeFile) (h : IsOrdered s) (all : Mirrored s own files)
+    (i : ℕ) (k : KeptWhole) (there : i < length own.whole) (is : k ≡ get_or own.whole i k) where
   abbrev rows : List (ℕ × File)
   rows = own_rows own.name s
 
@@ -58,25 +77,33 @@ module _ (s : SpoolContents) (own : OwnFiles) (files : List WholeFile) (h : IsOr
   -- it leaves
 
   pub leaving_row : WritesRowsOf own.name s (without_file k.id s)
-  leaving_row = subst (λ n. WritesRowsOf own.name s (without_file n s)) one.holds.id (drops_row own.name s h i one.second one.second_there one.second_is)
+  leaving_row = subst (λ n. WritesRowsOf own.name s (without_file n s)) one.holds.id
+      (drops_row own.name s h i one.second one.second_there one.second_is)
 
   pub file_leaves : Mirrored (without_file k.id s) (record own { whole = remove own.whole i }) (remove files i)
   file_leaves =
       let left : own_rows own.name (without_file k.id s) ≡ remove rows i =
-      subst (λ n. own_rows own.name (without_file n s) ≡ remove rows i) one.holds.id (row_leaves own.name s h i one.second one.second_there one.second_is) in
+      subst (λ n. own_rows own.name (without_file n s) ≡ remove rows i) one.holds.id
+      (row_leaves own.name s h i one.second one.second_there one.second_is) in
       let t = without_file k.id s in
       subst (λ es. AllBeside (IsKept t) (remove own.whole i) es (remove files i)) (sym left)
-      (beside_weaker (λ x. records_of x.key t ≡ records_of x.key s) (IsKept s) (IsKept t) (kept_still s t) (remove own.whole i) (remove rows i) (remove files i)
-      (all_of (λ x. records_of x.key t ≡ records_of x.key s) (λ x. refl) (remove own.whole i)) (beside_remove (IsKept s) own.whole rows files i all))
+      (beside_weaker (λ x. records_of x.key t ≡ records_of x.key s) (IsKept s) (IsKept t) (kept_still s t)
+      (remove own.whole i) (remove rows i) (remove files i)
+      (all_of (λ x. records_of x.key t ≡ records_of x.key s) (λ x. refl) (remove own.whole i))
+      (beside_remove (IsKept s) own.whole rows files i all))
 
-  pub leaving_moves : (a b : Claim) → a.name ≡ own.name → b.name ≡ a.name → b.next_id ≡ a.next_id → ((n : ℕ) → b.uses n ≤ a.uses n) → Moves a b s (without_file k.id s)
+  pub leaving_moves : (a b : Claim) → a.name ≡ own.name → b.name ≡ a.name → b.next_id ≡ a.next_id
+      → ((n : ℕ) → b.uses n ≤ a.uses n) → Moves a b s (without_file k.id s)
   leaving_moves a b mine name next uses =
-      moves_rows a b s name uses (without_file k.id s) (subst (λ who. WritesRowsOf who s (without_file k.id s)) (sym mine) leaving_row) (omega (arith, next))
-      (λ below. subst (λ end. AreBelow end (without_file k.id s)) (sym next) (below_without_file a.next_id k.id s below))
+      moves_rows a b s name uses (without_file k.id s)
+      (subst (λ who. WritesRowsOf who s (without_file k.id s)) (sym mine) leaving_row) (omega (arith, next))
+      (λ below. subst (λ end. AreBelow end (without_file k.id s)) (sym next)
+      (below_without_file a.next_id k.id s below))
 
   -- only its state changes, and nothing is written
 
-  pub state_changes : (f g : WholeFile) (now : KeptWhole) → f ≡ get_or files i f → g.kind ≡ f.kind → is_held g.state ≡ is_held f.state → g.records ≡ f.records
+  pub state_changes : (f g : WholeFile) (now : KeptWhole) → f ≡ get_or files i f → g.kind ≡ f.kind
+      → is_held g.state ≡ is_held f.state → g.records ≡ f.records
       → now.id ≡ k.id → now.key ≡ k.key → Remembers now g
       → Mirrored s (record own { whole = set own.whole i now }) (set files i g)
   state_changes f g now found kind held records id key remembers =
@@ -84,7 +111,8 @@ module _ (s : SpoolContents) (own : OwnFiles) (files : List WholeFile) (h : IsOr
       let kept : IsKept s k one.second f = subst (IsKept s k one.second) here one.holds in
       let row : set rows i one.second ≡ rows = ap (set rows i) one.second_is ∙ set-get_or rows i one.second in
       subst (λ es. AllBeside (IsKept s) (set own.whole i now) es (set files i g)) row
-      (beside_set (λ x. records_of x.key s ≡ records_of x.key s) (IsKept s) (IsKept s) (kept_still s s) own.whole rows files i now one.second g
+      (beside_set (λ x. records_of x.key s ≡ records_of x.key s) (IsKept s) (IsKept s) (kept_still s s) own.whole rows
+      files i now one.second g
       (all_of (λ (x : KeptWhole). records_of x.key s ≡ records_of x.key s) (λ x. refl) (remove own.whole i)) all
       (record {
         id = kept.id ∙ sym id;
@@ -95,7 +123,8 @@ module _ (s : SpoolContents) (own : OwnFiles) (files : List WholeFile) (h : IsOr
           count = kept.row.count ∙ ap length (sym records);
         };
         remembers = remembers;
-        stored = subst (λ n. HasRecords n g.records s) (sym key) (subst (λ rs. HasRecords k.key rs s) (sym records) kept.stored);
+        stored = subst (λ n. HasRecords n g.records s) (sym key)
+            (subst (λ rs. HasRecords k.key rs s) (sym records) kept.stored);
         fits = subst (AllByRecursion FitsHub) (sym records) kept.fits;
       }))
 
@@ -113,19 +142,24 @@ module _ (s : SpoolContents) (own : OwnFiles) (files : List WholeFile) (h : IsOr
 
     changing_row : WritesRowsOf own.name t (with_changed k.id file t)
     changing_row =
-        subst (λ n. WritesRowsOf own.name t (with_changed n file t)) one.holds.id (changes_row own.name t under.ordered i one.second there_still is_still file owned)
+        subst (λ n. WritesRowsOf own.name t (with_changed n file t)) one.holds.id
+        (changes_row own.name t under.ordered i one.second there_still is_still file owned)
 
-    pub file_changes : (g : WholeFile) (now : KeptWhole) → keyed (λ (x : KeptWhole). x.key) k.key own.whole ≤ 1 → now.id ≡ k.id → now.key ≡ k.key
+    pub file_changes : (g : WholeFile) (now : KeptWhole) → keyed (λ (x : KeptWhole). x.key) k.key own.whole ≤ 1
+        → now.id ≡ k.id → now.key ≡ k.key
         → IsRowOf k.key g file → Remembers now g → HasRecords k.key g.records t → AllByRecursion FitsHub g.records
         → Mirrored (with_changed k.id file t) (record own { whole = set own.whole i now }) (set files i g)
     file_changes g now once id key row remembers stored fits =
         let u = with_changed k.id file t in
         let changed : own_rows own.name u ≡ set rows i (one.second.0, file) =
-        subst (λ n. own_rows own.name (with_changed n file t) ≡ set (own_rows own.name t) i (one.second.0, file)) one.holds.id
+        subst (λ n. own_rows own.name (with_changed n file t) ≡ set (own_rows own.name t) i (one.second.0, file))
+        one.holds.id
         (row_changes own.name t under.ordered i one.second there_still is_still file owned)
         ∙ ap (λ (es : List (ℕ × File)). set es i (one.second.0, file)) same_rows in
         subst (λ es. AllBeside (IsKept u) (set own.whole i now) es (set files i g)) (sym changed)
-        (beside_set (λ x. x.key ≢ k.key) (IsKept s) (IsKept u) (λ x e f apart kept. kept_still s u x e f (under.others x.key apart) kept) own.whole rows files i now (one.second.0, file) g
+        (beside_set (λ x. x.key ≢ k.key) (IsKept s) (IsKept u)
+        (λ x e f apart kept. kept_still s u x e f (under.others x.key apart) kept) own.whole rows files i now
+        (one.second.0, file) g
         (keyed_apart (λ (x : KeptWhole). x.key) own.whole i k there is once) all
         (record {
           id = one.holds.id ∙ sym id;
@@ -135,41 +169,51 @@ module _ (s : SpoolContents) (own : OwnFiles) (files : List WholeFile) (h : IsOr
           fits = fits;
         }))
 
-    pub changing_moves : (a : Claim) → a.name ≡ own.name → ((n : ℕ) → keyed (λ (x : KeptWhole). x.key) n own.whole ≤ a.uses n) → Moves a a s (with_changed k.id file t)
+    pub changing_moves : (a : Claim) → a.name ≡ own.name
+        → ((n : ℕ) → keyed (λ (x : KeptWhole). x.key) n own.whole ≤ a.uses n) → Moves a a s (with_changed k.id file t)
     changing_moves a mine least =
-        let busy : 1 ≤ a.uses k.key = (let has = keyed_at (λ (x : KeptWhole). x.key) own.whole i k there is in let more = least k.key in omega (arith, has, more)) in
+        let busy : 1 ≤ a.uses k.key = (let has = keyed_at (λ (x : KeptWhole). x.key) own.whole i k there is
+        in let more = least k.key in omega (arith, has, more)) in
         let same : (n : ℕ) → a.uses n ≤ a.uses n = λ n. omega arith in
         let first = moves_under a a s refl same k.key t under busy refl in
         moves_then a a a s t (with_changed k.id file t) first
-        (moves_rows a a t refl same (with_changed k.id file t) (subst (λ who. WritesRowsOf who t (with_changed k.id file t)) (sym mine) changing_row) (omega arith)
+        (moves_rows a a t refl same (with_changed k.id file t)
+        (subst (λ who. WritesRowsOf who t (with_changed k.id file t)) (sym mine) changing_row) (omega arith)
         (λ below.
-        let low : k.id < a.next_id = subst (λ n. n < a.next_id) one.holds.id (row_below own.name t under.ordered i one.second there_still is_still a.next_id below) in
+        let low : k.id < a.next_id = subst (λ n. n < a.next_id) one.holds.id
+        (row_below own.name t under.ordered i one.second there_still is_still a.next_id below) in
         below_with_changed a.next_id k.id file t low below))
 
 -- ---- one comes
 
-module _ (s t : SpoolContents) (own : OwnFiles) (files : List WholeFile) (all : Mirrored s own files) (k : KeptWhole) (under : WritesUnder k.key s t) (file : File) (owned : is_own own.name file ≡ true) (low : AreBelow k.id s) where
+module _ (s t : SpoolContents) (own : OwnFiles) (files : List WholeFile) (all : Mirrored s own files) (k : KeptWhole)
+    (under : WritesUnder k.key s t) (file : File) (owned : is_own own.name file ≡ true) (low : AreBelow k.id s) where
   low_still : AreBelow k.id t
   low_still = subst (λ es. AllByRecursion (λ (e : ℕ × File). e.0 < k.id) es) (sym under.files) low
 
-  pub file_comes : (g : WholeFile) → keyed (λ (x : KeptWhole). x.key) k.key own.whole ≡ 0 → IsRowOf k.key g file → Remembers k g → HasRecords k.key g.records t → AllByRecursion FitsHub g.records
+  pub file_comes : (g : WholeFile) → keyed (λ (x : KeptWhole). x.key) k.key own.whole ≡ 0 → IsRowOf k.key g file
+      → Remembers k g → HasRecords k.key g.records t → AllByRecursion FitsHub g.records
       → Mirrored (with_file k.id file t) (record own { whole = own.whole ++ k ∷ [] }) (files ++ g ∷ [])
   file_comes g foreign row remembers stored fits =
       let u = with_file k.id file t in
       let rows = own_rows own.name s in
       let added : own_rows own.name u ≡ rows ++ (k.id, file) ∷ [] =
-      row_comes_last own.name k.id file t low_still owned ∙ ap (λ (es : List (ℕ × File)). es ++ (k.id, file) ∷ []) (rows_stay k.key s t under own.name) in
+      row_comes_last own.name k.id file t low_still owned ∙ ap (λ (es : List (ℕ × File)). es ++ (k.id, file) ∷ [])
+      (rows_stay k.key s t under own.name) in
       subst (λ es. AllBeside (IsKept u) (own.whole ++ k ∷ []) es (files ++ g ∷ [])) (sym added)
       (beside_push (IsKept u) own.whole rows files k (k.id, file) g
-      (beside_weaker (λ x. x.key ≢ k.key) (IsKept s) (IsKept u) (λ x e f apart kept. kept_still s u x e f (under.others x.key apart) kept) own.whole rows files
+      (beside_weaker (λ x. x.key ≢ k.key) (IsKept s) (IsKept u)
+      (λ x e f apart kept. kept_still s u x e f (under.others x.key apart) kept) own.whole rows files
       (keyed_none (λ (x : KeptWhole). x.key) k.key own.whole foreign) all)
       (record { id = refl; row = row; remembers = remembers; stored = stored; fits = fits }))
 
-  pub coming_moves : (a b : Claim) → a.name ≡ own.name → b.name ≡ a.name → a.next_id ≡ k.id → b.next_id ≡ k.id + 1 → 1 ≤ a.uses k.key → ((n : ℕ) → b.uses n ≤ a.uses n)
+  pub coming_moves : (a b : Claim) → a.name ≡ own.name → b.name ≡ a.name → a.next_id ≡ k.id → b.next_id ≡ k.id + 1
+      → 1 ≤ a.uses k.key → ((n : ℕ) → b.uses n ≤ a.uses n)
       → Moves a b s (with_file k.id file t)
   coming_moves a b mine name next then busy uses =
       let same : (n : ℕ) → a.uses n ≤ a.uses n = λ n. omega arith in
       moves_then a a b s t (with_file k.id file t) (moves_under a a s refl same k.key t under busy refl)
       (moves_rows a b t name uses (with_file k.id file t)
-      (subst (λ who. WritesRowsOf who t (with_file k.id file t)) (sym mine) (adds_row own.name k.id file t under.ordered low_still owned)) (omega (arith, next, then))
+      (subst (λ who. WritesRowsOf who t (with_file k.id file t)) (sym mine)
+      (adds_row own.name k.id file t under.ordered low_still owned)) (omega (arith, next, then))
       (λ below. subst (λ end. AreBelow end (with_file k.id file t)) (sym then) (below_with_file k.id file t low_still)))

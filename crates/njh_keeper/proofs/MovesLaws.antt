@@ -30,25 +30,30 @@ module _ (a b : Claim) (s : SpoolContents) (name : b.name ≡ a.name) (uses : (n
     uses = uses;
     ordered = h;
     next = more;
-    below = all_weaker (λ (e : ℕ × File). e.0 < a.next_id) (λ e. e.0 < b.next_id) (λ e less. omega (arith, less, more)) s.files;
+    below = all_weaker (λ (e : ℕ × File). e.0 < a.next_id) (λ e. e.0 < b.next_id) (λ e less. omega (arith, less, more))
+        s.files;
     records = λ key free. refl;
     rows = λ other apart. refl;
   }
 
   -- records under one key are written
-  pub moves_under : (key : ℕ) (t : SpoolContents) → WritesUnder key s t → 1 ≤ a.uses key → b.next_id ≡ a.next_id → Moves a b s t
+  pub moves_under : (key : ℕ) (t : SpoolContents) → WritesUnder key s t → 1 ≤ a.uses key → b.next_id ≡ a.next_id
+      → Moves a b s t
   moves_under key t w busy next = record {
     name = name;
     uses = uses;
     ordered = w.ordered;
     next = omega (arith, next);
-    below = λ below. subst (λ end. AreBelow end t) (sym next) (subst (λ es. AllByRecursion (λ (e : ℕ × File). e.0 < a.next_id) es) (sym w.files) below);
-    records = λ other free. w.others other (λ here. absurd (let none : a.uses key ≡ 0 = sym (ap a.uses here) ∙ free in omega (arith, none, busy)));
+    below = λ below. subst (λ end. AreBelow end t) (sym next)
+        (subst (λ es. AllByRecursion (λ (e : ℕ × File). e.0 < a.next_id) es) (sym w.files) below);
+    records = λ other free. w.others other
+        (λ here. absurd (let none : a.uses key ≡ 0 = sym (ap a.uses here) ∙ free in omega (arith, none, busy)));
     rows = λ other apart. rows_stay key s t w other;
   }
 
   -- rows of the customer are written
-  pub moves_rows : (t : SpoolContents) → WritesRowsOf a.name s t → a.next_id ≤ b.next_id → (AreBelow a.next_id s → AreBelow b.next_id t) → Moves a b s t
+  pub moves_rows : (t : SpoolContents) → WritesRowsOf a.name s t → a.next_id ≤ b.next_id
+      → (AreBelow a.next_id s → AreBelow b.next_id t) → Moves a b s t
   moves_rows t w more below = record {
     name = name;
     uses = uses;

@@ -1,5 +1,7 @@
 -- The hub's whole files beside those that are kept: which were there, and which one is at a place.
-use Rattle.std.proofs.Common.{◌≡◌, ℕ, zero, suc, ◌+◌, ◌-◌, ◌^◌, ◌<◌, ◌≤◌, ◌==◌, inl, inr, Bool, true, false, cond, List, [], ◌∷◌, ◌++◌, length, map, get_or, set, find, take, Option, Some, None, min, refl, sym, ap, subst, ◌∙◌, arith}
+use Rattle.std.proofs.Common.{◌≡◌, ℕ, zero, suc, ◌+◌, ◌-◌, ◌^◌, ◌<◌, ◌≤◌, ◌==◌, inl, inr, Bool, true, false, cond, List}
+use Rattle.std.proofs.Common.{[], ◌∷◌, ◌++◌, length, map, get_or, set, find, take, Option, Some, None, min, refl, sym}
+use Rattle.std.proofs.Common.{ap, subst, ◌∙◌, arith}
 use Rattle.std.specs.Option.{option_map, option_or}
 use Rattle.std.specs.List.{AllByRecursion}
 use Rattle.std.proofs.lemmas.List.Elements.{All-from_recursion}
@@ -20,7 +22,8 @@ use Rattle.njh_hub.specs.declared.file_summary.FileSummaryView.{FileSummaryView}
 use Rattle.njh_customer.specs.Surviving.{FirstFilesSurvive, Survive, leaves, none}
 use Rattle.njh_customer.specs.Customer.{Customer}
 use Rattle.njh_customer.specs.OutgoingFiles.{outgoing}
-use Rattle.njh_keeper.specs.code.Following.{AreFronts, GoesTo, GoOnIn, IsAt, IsFoundAt, IsFrontOf, IsHubFile, IsReached, IsStillAt, LeadsFiles, Memory, Remain}
+use Rattle.njh_keeper.specs.code.Following.{AreFronts, GoesTo, GoOnIn, IsAt, IsFoundAt, IsFrontOf, IsHubFile, IsReached}
+use Rattle.njh_keeper.specs.code.Following.{IsStillAt, LeadsFiles, Memory, Remain}
 use Rattle.njh_keeper.specs.declared.own_files.HubFile.{HubFile}
 use Rattle.njh_keeper.specs.code.Remembered.{KeptPartial, one_if}
 use Rattle.njh_keeper.specs.code.Walking.{AreNumbered, IsWalkedTo}
@@ -39,12 +42,15 @@ all_have_gone (f ∷ fs) = leaves f fs [] (all_have_gone fs)
 by_number : ℕ → WholeFile → Bool
 by_number n f = f.number == n
 
-not_first : (f g : WholeFile) (fs : List WholeFile) (b : Bool) → (f.number == g.number) ≡ b → one_if (f.number == g.number) ≡ 0 → find (λ x. x.number == g.number) fs ≡ Some g
+not_first : (f g : WholeFile) (fs : List WholeFile) (b : Bool) → (f.number == g.number) ≡ b
+    → one_if (f.number == g.number) ≡ 0 → find (λ x. x.number == g.number) fs ≡ Some g
     → find (λ x. x.number == g.number) (f ∷ fs) ≡ Some g
-not_first f g fs true test other rest = absurd (let one : one_if (f.number == g.number) ≡ 1 = ap one_if test in omega (arith, one, other))
+not_first f g fs true test other rest = absurd
+    (let one : one_if (f.number == g.number) ≡ 1 = ap one_if test in omega (arith, one, other))
 not_first f g fs false test other rest = ap (λ b. cond b (Some f) (find (λ x. x.number == g.number) fs)) test ∙ rest
 
-found_at : (fs : List WholeFile) (i : ℕ) (g : WholeFile) → AreNumbered fs → i < length fs → g ≡ get_or fs i g → find (λ f. f.number == g.number) fs ≡ Some g
+found_at : (fs : List WholeFile) (i : ℕ) (g : WholeFile) → AreNumbered fs → i < length fs → g ≡ get_or fs i g
+    → find (λ f. f.number == g.number) fs ≡ Some g
 found_at [] i g once there is = absurd (omega (arith, there))
 found_at (f ∷ fs) zero g once there is =
     let test : (f.number == g.number) ≡ true = ap (λ (x : WholeFile). f.number == x.number) is ∙ equal f.number in
@@ -55,19 +61,28 @@ found_at (f ∷ fs) (suc i) g once there is =
     let rest = found_at fs i g (λ n. let each = once n in omega (arith, each)) (omega (arith, there)) is in
     not_first f g fs (f.number == g.number) refl (omega (arith, all, has)) rest
 
-pub records_at : (s : CustomerSpool) (i : ℕ) (g : WholeFile) → AreNumbered s.whole → i < length s.whole → g ≡ get_or s.whole i g → records_in g.number s ≡ g.records
+pub records_at : (s : CustomerSpool) (i : ℕ) (g : WholeFile) → AreNumbered s.whole → i < length s.whole
+    → g ≡ get_or s.whole i g → records_in g.number s ≡ g.records
 records_at s i g once there is =
-    ap (λ (o : Option WholeFile). elim (option_or (option_map (λ f. f.records) o) (option_map (λ f. f.records) (partial_numbered g.number s))) as (λ _. List Stored) [ Some records ↦ records | None ↦ [] ])
+    ap (λ (o : Option WholeFile). elim (option_or (option_map (λ f. f.records) o)
+    (option_map (λ f. f.records) (partial_numbered g.number s))) as (λ _. List Stored) [
+      | Some records ↦ records
+      | None ↦
+          []
+    ])
     (found_at s.whole i g once there is)
 
 -- ---- what is kept of files that aren't whole
 
 abbrev FrontsOf : SpoolContents → List WholeFile → KeptPartial → Type 0
-FrontsOf s files p = AllByRecursion (λ f. f.number ≡ p.number → p.seen ≤ length f.records → IsFrontOf s p f.records) files
+FrontsOf s files p = AllByRecursion (λ f. f.number ≡ p.number → p.seen ≤ length f.records → IsFrontOf s p f.records)
+    files
 
-fronts_still : (s t : SpoolContents) (files : List WholeFile) (p : KeptPartial) → FrontsOf s files p → records_of p.key t ≡ records_of p.key s → FrontsOf t files p
+fronts_still : (s t : SpoolContents) (files : List WholeFile) (p : KeptPartial) → FrontsOf s files p
+    → records_of p.key t ≡ records_of p.key s → FrontsOf t files p
 fronts_still s t files p fronts same =
-    all_weaker (λ (f : WholeFile). f.number ≡ p.number → p.seen ≤ length f.records → IsFrontOf s p f.records) (λ f. f.number ≡ p.number → p.seen ≤ length f.records → IsFrontOf t p f.records)
+    all_weaker (λ (f : WholeFile). f.number ≡ p.number → p.seen ≤ length f.records → IsFrontOf s p f.records)
+    (λ f. f.number ≡ p.number → p.seen ≤ length f.records → IsFrontOf t p f.records)
     (λ f front number seen. let x = front number seen in record {
       before = x.before;
       long = x.long;
@@ -76,19 +91,23 @@ fronts_still s t files p fronts same =
       alike = x.alike;
     }) files fronts
 
-pub fronts_stay : (s t : SpoolContents) (files : List WholeFile) (before now : List KeptPartial) → Remain before now → AllByRecursion (λ p. records_of p.key t ≡ records_of p.key s) now
+pub fronts_stay : (s t : SpoolContents) (files : List WholeFile) (before now : List KeptPartial) → Remain before now
+    → AllByRecursion (λ p. records_of p.key t ≡ records_of p.key s) now
     → AreFronts s before files → AreFronts t now files
 fronts_stay s t files before now remain same fronts =
-    all_both (FrontsOf s files) (λ p. records_of p.key t ≡ records_of p.key s) (FrontsOf t files) (λ p front still. fronts_still s t files p front still) now
+    all_both (FrontsOf s files) (λ p. records_of p.key t ≡ records_of p.key s) (FrontsOf t files)
+    (λ p front still. fronts_still s t files p front still) now
     (all_remain (FrontsOf s files) before now remain fronts) same
 
-pub front_at : (s : SpoolContents) (partial : List KeptPartial) (files : List WholeFile) (i : ℕ) (g : WholeFile) → i < length files → g ≡ get_or files i g → AreFronts s partial files
+pub front_at : (s : SpoolContents) (partial : List KeptPartial) (files : List WholeFile) (i : ℕ) (g : WholeFile)
+    → i < length files → g ≡ get_or files i g → AreFronts s partial files
     → AreFronts s partial (g ∷ [])
 front_at s partial files i g there is fronts =
     all_weaker (FrontsOf s files) (FrontsOf s (g ∷ []))
     (λ p all. (
       subst (λ f. f.number ≡ p.number → p.seen ≤ length f.records → IsFrontOf s p f.records) (sym is)
-          (All-from_recursion (λ (f : WholeFile). f.number ≡ p.number → p.seen ≤ length f.records → IsFrontOf s p f.records) files all i g there),
+          (All-from_recursion (λ (f : WholeFile). f.number ≡ p.number → p.seen ≤ length f.records
+          → IsFrontOf s p f.records) files all i g there),
       tt,
     )) partial fronts
 
@@ -97,8 +116,10 @@ front_at s partial files i g there is fronts =
 abbrev pub any_file : WholeFile
 any_file = record { number = 0; kind = In; records = []; state = Ready }
 
-pub hub_file_at : (parts : List Part) (file : HubFile) (summary : FileSummaryView) (index : ℕ) (f : WholeFile) → let s = (part file.customer parts).customer.spool in
-    AreNumbered s.whole → HaveHeaders s.whole → IsAt s.whole index f → file.number ≡ f.number → summary ≡ file_summary f → IsHubFile parts file summary f
+pub hub_file_at : (parts : List Part) (file : HubFile) (summary : FileSummaryView) (index : ℕ) (f : WholeFile) → let s =
+    (part file.customer parts).customer.spool in
+    AreNumbered s.whole → HaveHeaders s.whole → IsAt s.whole index f → file.number ≡ f.number → summary ≡ file_summary f
+    → IsHubFile parts file summary f
 hub_file_at parts file summary index f numbered headers here number summary_is =
     let s = (part file.customer parts).customer.spool in
     record {
@@ -111,7 +132,8 @@ hub_file_at parts file summary index f numbered headers here number summary_is =
 pub is_at : (files : List WholeFile) (i : ℕ) → i < length files → IsAt files i (get_or files i any_file)
 is_at files i there = record { there = there; is = get_or_default files i any_file (get_or files i any_file) there }
 
-pub is_at_of_first : (files : List WholeFile) (n i : ℕ) (f : WholeFile) → n ≤ length files → i < n → IsAt files i f → IsAt (take n files) i f
+pub is_at_of_first : (files : List WholeFile) (n i : ℕ) (f : WholeFile) → n ≤ length files → i < n → IsAt files i f
+    → IsAt (take n files) i f
 is_at_of_first files n i f within low here = record {
   there = let long = length-take-le n files within in omega (arith, long, low);
   is = here.is ∙ sym (get_or-take n files i f low);
@@ -122,25 +144,34 @@ is_at_of_first files n i f within low here = record {
 module _ (m m1 m2 : Memory) (old mid new : State) where
   -- the next one is found, and is what the hub has
   pub walked_on : (still : List WholeFile) (place number : ℕ) (f : WholeFile) → IsAt still place f → number ≡ f.number
-      → LeadsFiles m m1 (λ s files. IsWalkedTo still files place) (λ files now. IsWalkedTo still now place × IsReached (Some number) now place) old mid
+      → LeadsFiles m m1 (λ s files. IsWalkedTo still files place)
+      (λ files now. IsWalkedTo still now place × IsReached (Some number) now place) old mid
       → LeadsFiles m1 m2 (λ s files. IsStillAt files place f) (λ files now. now ≡ set files place f) mid new
-      → LeadsFiles m m2 (λ s files. IsWalkedTo still files place) (λ files now. IsWalkedTo still now (place + 1)) old new
+      → LeadsFiles m m2 (λ s files. IsWalkedTo still files place) (λ files now. IsWalkedTo still now (place + 1)) old
+      new
   walked_on still place number f next number_is one more =
       leads_then _ _ _ old mid new one more
       (λ s t u first second files has walk.
       let a = first files has walk in
       let found : IsFoundAt number a.0 place = a.1.1 in
       let same : found.file.number ≡ f.number = found.number_is ∙ number_is in
-      let b = second a.0 a.2.has (record { before = found.file; is = found.is; still = walk_finds still a.0 place a.1.0 found.file found.there found.is f next.there next.is same }) in (
+      let b = second a.0 a.2.has (record {
+        before = found.file;
+        is = found.is;
+        still = walk_finds still a.0 place a.1.0
+            found.file found.there found.is f next.there next.is same;
+      }) in (
         b.0,
-        subst (λ x. IsWalkedTo still x (place + 1)) (sym b.1) (walk_goes_on still a.0 place a.1.0 found.file found.there found.is f next.there next.is same),
+        subst (λ x. IsWalkedTo still x (place + 1)) (sym b.1)
+            (walk_goes_on still a.0 place a.1.0 found.file found.there found.is f next.there next.is same),
         goes_then m m1 m2 s t u a.0 b.0 a.2 b.2,
       ))
 
   -- one more is followed
   pub walked_further : (Given : SpoolContents → List WholeFile → Type 0) (still : List WholeFile) (index : ℕ)
       → LeadsFiles m m1 Given (λ files now. IsWalkedTo still now index) old mid
-      → LeadsFiles m1 m2 (λ s files. IsWalkedTo still files index) (λ files now. IsWalkedTo still now (index + 1)) mid new
+      → LeadsFiles m1 m2 (λ s files. IsWalkedTo still files index) (λ files now. IsWalkedTo still now (index + 1)) mid
+      new
       → LeadsFiles m m2 Given (λ files now. IsWalkedTo still now (index + 1)) old new
   walked_further Given still index one more =
       leads_then _ _ _ old mid new one more
@@ -150,9 +181,11 @@ module _ (m m1 m2 : Memory) (old mid new : State) where
       (b.0, b.1, goes_then m m1 m2 s t u a.0 b.0 a.2 b.2))
 
   -- behind the last one all others have left
-  pub walked_to_end : (Given : SpoolContents → List WholeFile → Type 0) (still : List WholeFile) (index : ℕ) → length still ≤ index
+  pub walked_to_end : (Given : SpoolContents → List WholeFile → Type 0) (still : List WholeFile) (index : ℕ)
+      → length still ≤ index
       → LeadsFiles m m1 Given (λ files now. IsWalkedTo still now index) old mid
-      → LeadsFiles m1 m2 (λ s files. IsWalkedTo still files index) (λ files now. IsWalkedTo still now index × IsReached None now index) mid new
+      → LeadsFiles m1 m2 (λ s files. IsWalkedTo still files index)
+      (λ files now. IsWalkedTo still now index × IsReached None now index) mid new
       → LeadsFiles m m2 Given (λ files now. now ≡ still) old new
   walked_to_end Given still index last one more =
       leads_then _ _ _ old mid new one more
@@ -163,49 +196,75 @@ module _ (m m1 m2 : Memory) (old mid new : State) where
 
   -- one more is added
   pub added_further : (whole : List WholeFile) (before index : ℕ) (f : WholeFile) → IsAt whole index f
-      → LeadsFiles m m1 (λ s files. (files ≡ take before whole) × AreFronts s m.own.partial whole) (λ files now. now ≡ take index whole) old mid
+      → LeadsFiles m m1 (λ s files. (files ≡ take before whole) × AreFronts s m.own.partial whole)
+      (λ files now. now ≡ take index whole) old mid
       → LeadsFiles m1 m2 (λ s files. AreFronts s m1.own.partial (f ∷ [])) (λ files now. now ≡ files ++ f ∷ []) mid new
-      → LeadsFiles m m2 (λ s files. (files ≡ take before whole) × AreFronts s m.own.partial whole) (λ files now. now ≡ take (index + 1) whole) old new
+      → LeadsFiles m m2 (λ s files. (files ≡ take before whole) × AreFronts s m.own.partial whole)
+      (λ files now. now ≡ take (index + 1) whole) old new
   added_further whole before index f here one more =
       leads_then _ _ _ old mid new one more
       (λ s t u first second files has given.
       let a = first files has given in
-      let b = second a.0 a.2.has (front_at t m1.own.partial whole index f here.there here.is (fronts_stay s t whole m.own.partial m1.own.partial a.2.remain a.2.records given.1)) in
-      (b.0, b.1 ∙ (λ i. a.1 i ++ here.is i ∷ []) ∙ sym (take_more whole index f here.there), goes_then m m1 m2 s t u a.0 b.0 a.2 b.2))
+      let b = second a.0 a.2.has (front_at t m1.own.partial whole index f here.there here.is
+      (fronts_stay s t whole m.own.partial m1.own.partial a.2.remain a.2.records given.1)) in (
+        b.0,
+        b.1 ∙ (λ i. a.1 i ++ here.is i ∷ []) ∙ sym (take_more whole index f here.there),
+        goes_then m m1 m2 s t u a.0
+            b.0 a.2 b.2,
+      ))
 
 -- ---- which were there
 
-pub first_survive : FirstFilesSurvive → (c : Customer) (files : List WholeFile) (before count new old : ℕ) → count ≡ length c.spool.whole → count < 4294967296 → c.spool.arrived < 18446744073709551616
-    → (c.spool.arrived ≡ max_arrived → new ≡ 2 ^ 32 - 1) → (c.spool.arrived < max_arrived → new ≡ min (c.spool.arrived - before) (2 ^ 32 - 1)) → old ≡ count - new
+pub first_survive : FirstFilesSurvive → (c : Customer) (files : List WholeFile) (before count new old : ℕ)
+    → count ≡ length c.spool.whole → count < 4294967296 → c.spool.arrived < 18446744073709551616
+    → (c.spool.arrived ≡ max_arrived → new ≡ 2 ^ 32 - 1)
+    → (c.spool.arrived < max_arrived → new ≡ min (c.spool.arrived - before) (2 ^ 32 - 1)) → old ≡ count - new
     → GoOnIn before files c → Survive files (take old c.spool.whole)
-first_survive law c files before count new old counted few fits all some is go_on = elim (cases_lt c.spool.arrived max_arrived) [
-  | inl less ↦
-      let here = some less in
-      let same : length c.spool.whole - (c.spool.arrived - before) ≡ old = omega (arith, here, counted, few, is) in
-      subst (λ n. Survive files (take n c.spool.whole)) same (law (record (outgoing c) { files = files; arrived = before }) (outgoing c) (go_on.goes less))
-  | inr more ↦
-      let here = all (omega (arith, more, fits)) in
-      let none_is : 0 ≡ old = omega (arith, here, few, is) in
-      subst (λ n. Survive files (take n c.spool.whole)) none_is (all_have_gone files)
-]
+first_survive law c files before count new old counted few fits all some is go_on =
+    elim (cases_lt c.spool.arrived max_arrived) [
+      | inl less ↦
+          let here = some less in
+          let same : length c.spool.whole - (c.spool.arrived - before) ≡ old = omega (arith, here, counted, few, is) in
+          subst (λ n. Survive files (take n c.spool.whole)) same
+          (law (record (outgoing c) { files = files; arrived = before }) (outgoing c) (go_on.goes less))
+      | inr more ↦
+          let here = all (omega (arith, more, fits)) in
+          let none_is : 0 ≡ old = omega (arith, here, few, is) in
+          subst (λ n. Survive files (take n c.spool.whole)) none_is (all_have_gone files)
+    ]
 
 goes_arrived : (a : ℕ) (m m2 : Memory) (s t : SpoolContents) (files : List WholeFile) → GoesTo m m2 s t files
     → GoesTo m (record { numbers = m2.numbers; own = record m2.own { arrived = a }; text = m2.text }) s t files
 goes_arrived a m m2 s t files one = record {
   moves = one.moves;
-  has = record { ordered = one.has.ordered; below = one.has.below; apart = one.has.apart; named = one.has.named; mirrored = one.has.mirrored; headers = one.has.headers };
+  has = record {
+    ordered = one.has.ordered;
+    below = one.has.below;
+    apart = one.has.apart;
+    named = one.has.named;
+    mirrored = one.has.mirrored;
+    headers = one.has.headers;
+  };
   remain = one.remain;
   records = one.records;
 }
 
-pub followed_all : (a : ℕ) (m m1 m2 : Memory) (first mid new : State) (c : Customer) (before old : ℕ) → ((files : List WholeFile) → GoOnIn before files c → Survive files (take old c.spool.whole))
-    → LeadsFiles m m1 (λ s files. Survive files (take old c.spool.whole) × AreNumbered files) (λ files now. now ≡ take old c.spool.whole) first mid
-    → LeadsFiles m1 m2 (λ s files. (files ≡ take old c.spool.whole) × AreFronts s m1.own.partial c.spool.whole) (λ files now. now ≡ c.spool.whole) mid new
-    → LeadsFiles m (record { numbers = m2.numbers; own = record m2.own { arrived = a }; text = m2.text }) (λ s files. GoOnIn before files c × AreFronts s m.own.partial c.spool.whole)
+pub followed_all : (a : ℕ) (m m1 m2 : Memory) (first mid new : State) (c : Customer) (before old : ℕ)
+    → ((files : List WholeFile) → GoOnIn before files c → Survive files (take old c.spool.whole))
+    → LeadsFiles m m1 (λ s files. Survive files (take old c.spool.whole) × AreNumbered files)
+    (λ files now. now ≡ take old c.spool.whole) first mid
+    → LeadsFiles m1 m2 (λ s files. (files ≡ take old c.spool.whole) × AreFronts s m1.own.partial c.spool.whole)
+    (λ files now. now ≡ c.spool.whole) mid new
+    → LeadsFiles m (record { numbers = m2.numbers; own = record m2.own { arrived = a }; text = m2.text })
+    (λ s files. GoOnIn before files c × AreFronts s m.own.partial c.spool.whole)
     (λ files now. now ≡ c.spool.whole) first new
 followed_all a m m1 m2 first mid new c before old survive one more =
     leads_then _ _ _ first mid new one more
     (λ s t u was_led is_led files has given.
     let x = was_led files has (survive files given.0, given.0.numbered) in
-    let y = is_led x.0 x.2.has (x.1, fronts_stay s t c.spool.whole m.own.partial m1.own.partial x.2.remain x.2.records given.1) in
+    let y = is_led x.0 x.2.has (
+      x.1,
+      fronts_stay s t c.spool.whole m.own.partial m1.own.partial x.2.remain x.2.records
+          given.1,
+    ) in
     (y.0, y.1, goes_arrived a m m2 s u y.0 (goes_then m m1 m2 s t u x.0 y.0 x.2 y.2)))

@@ -1,5 +1,6 @@
 -- The data set headers of a file are gone through, and the nodes that they name compared.
-use Rattle.std.proofs.Common.{◌≡◌, ℕ, ◌+◌, ◌≤◌, ◌&&◌, Bool, true, false, cond, not, List, [], ◌∷◌, length, drop, slice_get, Option, Some, None, Result, Ok, Err, is_some, refl, sym, ap, subst, ◌∙◌, arith}
+use Rattle.std.proofs.Common.{◌≡◌, ℕ, ◌+◌, ◌≤◌, ◌&&◌, Bool, true, false, cond, not, List, [], ◌∷◌, length, drop}
+use Rattle.std.proofs.Common.{slice_get, Option, Some, None, Result, Ok, Err, is_some, refl, sym, ap, subst, ◌∙◌, arith}
 use Rattle.std.specs.List.{AllByRecursion}
 use Rattle.std.specs.Option.{option_map}
 use Rattle.std.specs.Result.{result_ok}
@@ -12,20 +13,24 @@ use Rattle.njh_keeper.specs.code.Nodes.{AreOne, named_node, named_nodes, with_fi
 -- ---- the next node
 
 by_first : (b : Bool) (x : Result DataSetHeader HeaderFault) (rest : List (List ℕ))
-    → cond b (elim x [ Ok h ↦ h.destination.node ∷ rest | Err e ↦ rest ]) rest ≡ with_first (cond b (option_map (λ h. h.destination.node) (result_ok x)) None) rest
+    → cond b (elim x [ Ok h ↦ h.destination.node ∷ rest | Err e ↦ rest ]) rest
+    ≡ with_first (cond b (option_map (λ h. h.destination.node) (result_ok x)) None) rest
 by_first true (Ok h) rest = refl
 by_first true (Err e) rest = refl
 by_first false x rest = refl
 
 at_first : (before : ℕ) (records : List Stored) (r : Stored) → Some r ≡ slice_get records 0
-    → named_nodes (Some before) records ≡ with_first (named_node (Some before) r) (named_nodes (Some r.srcb) (drop 1 records))
+    → named_nodes (Some before) records ≡ with_first (named_node (Some before) r)
+    (named_nodes (Some r.srcb) (drop 1 records))
 at_first before [] r e = absurd (cc e)
 at_first before (x ∷ rs) r e =
     let same : x ≡ r = cc e in
-    by_first (has_srcb 0xe0 x && not (is_after_header (Some before))) (data_set_header x.bytes) (named_nodes (Some x.srcb) rs)
+    by_first (has_srcb 0xe0 x && not (is_after_header (Some before))) (data_set_header x.bytes)
+    (named_nodes (Some x.srcb) rs)
     ∙ ap (λ (y : Stored). with_first (named_node (Some before) y) (named_nodes (Some y.srcb) rs)) same
 
-pub fewer : (records : List Stored) (r : Stored) → Some r ≡ slice_get records 0 → length (drop 1 records) + 1 ≡ length records
+pub fewer : (records : List Stored) (r : Stored) → Some r ≡ slice_get records 0
+    → length (drop 1 records) + 1 ≡ length records
 fewer [] r e = absurd (cc e)
 fewer (x ∷ rs) r e = omega arith
 
@@ -34,7 +39,8 @@ empty [] e = refl
 empty (x ∷ rs) e = absurd (omega arith)
 
 pub read_one : (before : ℕ) (records rest : List Stored) (r : Stored) (bytes : List ℕ) (said : Option (List ℕ))
-    → Some r ≡ slice_get records 0 → rest ≡ drop 1 records → bytes ≡ r.bytes → said ≡ named_node (Some before) (record { srcb = r.srcb; bytes = bytes })
+    → Some r ≡ slice_get records 0 → rest ≡ drop 1 records → bytes ≡ r.bytes
+    → said ≡ named_node (Some before) (record { srcb = r.srcb; bytes = bytes })
     → named_nodes (Some before) records ≡ with_first said (named_nodes (Some r.srcb) rest)
 read_one before records rest r bytes said first left same named =
     at_first before records r first
@@ -42,10 +48,12 @@ read_one before records rest r bytes said first left same named =
     ∙ ap (λ (n : Option (List ℕ)). with_first n (named_nodes (Some r.srcb) rest))
     (ap (λ (b : List ℕ). named_node (Some before) (record { srcb = r.srcb; bytes = b })) (sym same) ∙ sym named)
 
-pub at_end : (before : ℕ) (records rest : List Stored) (said : Option (List ℕ)) → None ≡ slice_get records 0 → rest ≡ drop 1 records → said ≡ None
+pub at_end : (before : ℕ) (records rest : List Stored) (said : Option (List ℕ)) → None ≡ slice_get records 0
+    → rest ≡ drop 1 records → said ≡ None
     → named_nodes (Some before) records ≡ with_first said (named_nodes (Some before) rest)
 at_end before [] rest said end left none =
-    ap (named_nodes (Some before)) (sym left) ∙ ap (λ (n : Option (List ℕ)). with_first n (named_nodes (Some before) rest)) (sym none)
+    ap (named_nodes (Some before)) (sym left)
+    ∙ ap (λ (n : Option (List ℕ)). with_first n (named_nodes (Some before) rest)) (sym none)
 at_end before (r ∷ rs) rest said end left none = absurd (cc end)
 
 pub is_none : (o : Option (List ℕ)) → is_some o ≡ false → o ≡ None
@@ -68,13 +76,15 @@ from_zero (r ∷ rs) = refl
 pub begins : (all : List (List ℕ)) (first : List ℕ) (left : List (List ℕ)) → all ≡ first ∷ left → Known all first left
 begins all first left e = (λ every. subst AreOne (sym e) every, λ one. subst AreOne e one)
 
-pub goes_on : (all : List (List ℕ)) (first : List ℕ) (left more : List (List ℕ)) → Known all first left → left ≡ first ∷ more → Known all first more
+pub goes_on : (all : List (List ℕ)) (first : List ℕ) (left more : List (List ℕ)) → Known all first left
+    → left ≡ first ∷ more → Known all first more
 goes_on all first left more known e = (
   λ every. known.0 (subst (AllAre first) (sym e) (refl, every)),
   λ one. let each : AllAre first (first ∷ more) = subst (AllAre first) e (known.1 one) in each.1,
 )
 
-pub other : (all : List (List ℕ)) (first next : List ℕ) (left more : List (List ℕ)) → Known all first left → left ≡ next ∷ more → AreOne all → next ≡ first
+pub other : (all : List (List ℕ)) (first next : List ℕ) (left more : List (List ℕ)) → Known all first left
+    → left ≡ next ∷ more → AreOne all → next ≡ first
 other all first next left more known e one =
     let each : AllAre first (next ∷ more) = subst (AllAre first) e (known.1 one) in each.0
 
@@ -84,7 +94,8 @@ ends all first left known e = known.0 (subst (AllAre first) (sym e) tt)
 pub nothing : (all : List (List ℕ)) (found : Option (List ℕ)) (before : ℕ) (records : List Stored)
     → all ≡ with_first found (named_nodes (Some before) records) → found ≡ None → records ≡ [] → all ≡ []
 nothing all found before records e none end =
-    e ∙ ap (λ (n : Option (List ℕ)). with_first n (named_nodes (Some before) records)) none ∙ ap (named_nodes (Some before)) end
+    e ∙ ap (λ (n : Option (List ℕ)). with_first n (named_nodes (Some before) records)) none
+    ∙ ap (named_nodes (Some before)) end
 
 pub none_named : (records : List Stored) → named_nodes (Some 0) records ≡ [] → AreOne (named_nodes None records)
 none_named records e = subst AreOne (sym (from_zero records ∙ e)) tt

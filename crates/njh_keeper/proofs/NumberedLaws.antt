@@ -1,5 +1,6 @@
 -- What stands under rising numbers: one put among them, some taken out, and those that pass a test.
-use Rattle.std.proofs.Common.{◌≡◌, ◌≢◌, ℕ, zero, suc, ◌<◌, ◌==◌, Bool, true, false, not, cond, List, [], ◌∷◌, ◌++◌, length, get_or, set, remove, map, filter, Contains, refl, sym, ap, subst, ◌∙◌, arith}
+use Rattle.std.proofs.Common.{◌≡◌, ◌≢◌, ℕ, zero, suc, ◌<◌, ◌==◌, Bool, true, false, not, cond, List, [], ◌∷◌, ◌++◌}
+use Rattle.std.proofs.Common.{length, get_or, set, remove, map, filter, Contains, refl, sym, ap, subst, ◌∙◌, arith}
 use Rattle.std.specs.declared.cmp.Ordering.{Ordering}
 use Rattle.std.specs.declared.cmp.Ordering.TheVariants.{Less, Equal, Greater}
 use Rattle.std.specs.Ordering.{nat_cmp, match_ordering}
@@ -22,16 +23,20 @@ module _ {X : Type 0} where
   pub all_filter : (p : X → Bool) (P : X → Type 0) (xs : List X) → AllByRecursion P xs → AllByRecursion P (filter p xs)
   all_filter p P xs h = recursion_from_All P (filter p xs) (All-filter p P xs (All-from_recursion P xs h))
 
-  pub all_weaker : (P Q : X → Type 0) → ((x : X) → P x → Q x) → (xs : List X) → AllByRecursion P xs → AllByRecursion Q xs
+  pub all_weaker : (P Q : X → Type 0) → ((x : X) → P x → Q x) → (xs : List X) → AllByRecursion P xs
+      → AllByRecursion Q xs
   all_weaker P Q f [] h = tt
   all_weaker P Q f (x ∷ xs) h = (f x h.0, all_weaker P Q f xs h.1)
 
-  pub all_at : (P : X → Type 0) (xs : List X) (i : ℕ) (x : X) → AllByRecursion P xs → i < length xs → x ≡ get_or xs i x → P x
+  pub all_at : (P : X → Type 0) (xs : List X) (i : ℕ) (x : X) → AllByRecursion P xs → i < length xs → x ≡ get_or xs i x
+      → P x
   all_at P xs i x h there is = subst P (sym is) (All-from_recursion P xs h i x there)
 
   -- what a filter keeps was there
-  pub filter_there : (p : X → Bool) (xs : List X) (i : ℕ) (x : X) → i < length (filter p xs) → x ≡ get_or (filter p xs) i x → Contains xs x
-  filter_there p xs i x there is = subst (Contains xs) (sym is) (All-filter p (Contains xs) xs (All-contains_itself xs) i x there)
+  pub filter_there : (p : X → Bool) (xs : List X) (i : ℕ) (x : X) → i < length (filter p xs)
+      → x ≡ get_or (filter p xs) i x → Contains xs x
+  filter_there p xs i x there is = subst (Contains xs) (sym is)
+      (All-filter p (Contains xs) xs (All-contains_itself xs) i x there)
 
   pub filter_comm : (p q : X → Bool) (xs : List X) → filter p (filter q xs) ≡ filter q (filter p xs)
   filter_comm p q [] = refl
@@ -49,12 +54,14 @@ module _ {X : Type 0} where
   filter_all p [] h = refl
   filter_all p (x ∷ xs) h = rw (h.0) (ap (λ ys. x ∷ ys) (filter_all p xs h.1))
 
-  pub filter-map : {Y : Type 0} (p : Y → Bool) (f : X → Y) (xs : List X) → filter p (map f xs) ≡ map f (filter (λ x. p (f x)) xs)
+  pub filter-map : {Y : Type 0} (p : Y → Bool) (f : X → Y) (xs : List X)
+      → filter p (map f xs) ≡ map f (filter (λ x. p (f x)) xs)
   filter-map p f [] = refl
   filter-map {Y} p f (x ∷ xs) = either (p (f x)) (filter-map p f xs)
     where
       either : (b : Bool) → filter p (map f xs) ≡ map f (filter (λ y. p (f y)) xs)
-          → cond b (f x ∷ filter p (map f xs)) (filter p (map f xs)) ≡ map f (cond b (x ∷ filter (λ y. p (f y)) xs) (filter (λ y. p (f y)) xs))
+          → cond b (f x ∷ filter p (map f xs)) (filter p (map f xs))
+          ≡ map f (cond b (x ∷ filter (λ y. p (f y)) xs) (filter (λ y. p (f y)) xs))
       either true rest = ap (λ ys. f x ∷ ys) rest
       either false rest = rest
 
@@ -63,11 +70,13 @@ module _ {X : Type 0} where
   filter_none p (x ∷ xs) h = rw (h.0) (filter_none p xs h.1)
 
 module _ {X : Type 0} where
-  pub put_last : (id : ℕ) (x : X) (es : List (ℕ × X)) → AllByRecursion (λ e. e.0 < id) es → put (id, x) es ≡ es ++ (id, x) ∷ []
+  pub put_last : (id : ℕ) (x : X) (es : List (ℕ × X)) → AllByRecursion (λ e. e.0 < id) es
+      → put (id, x) es ≡ es ++ (id, x) ∷ []
   put_last id x [] all = refl
   put_last id x (e ∷ es) all =
       let less : nat_cmp e.0 id ≡ Less = grind (arith, nat_tests, all.0) in
-      ap (λ o. match_ordering o (e ∷ put (id, x) es) ((id, x) ∷ es) ((id, x) ∷ e ∷ es)) less ∙ ap (λ ys. e ∷ ys) (put_last id x es all.1)
+      ap (λ o. match_ordering o (e ∷ put (id, x) es) ((id, x) ∷ es) ((id, x) ∷ e ∷ es)) less
+      ∙ ap (λ ys. e ∷ ys) (put_last id x es all.1)
 
   pub put_first : (new : ℕ × X) (es : List (ℕ × X)) → AllByRecursion (λ e. new.0 < e.0) es → put new es ≡ new ∷ es
   put_first new [] all = refl
@@ -85,15 +94,19 @@ module _ {X : Type 0} where
       either true rest = (all_filter p (λ x. e.0 < x.0) es up.0, rest)
       either false rest = rest
 
-  pub filter-put : (p : ℕ × X → Bool) (new : ℕ × X) (es : List (ℕ × X)) → Rise es → p new ≡ true → filter p (put new es) ≡ put new (filter p es)
+  pub filter-put : (p : ℕ × X → Bool) (new : ℕ × X) (es : List (ℕ × X)) → Rise es → p new ≡ true
+      → filter p (put new es) ≡ put new (filter p es)
   filter-put p new [] up passes = rw passes refl
   filter-put p new (e ∷ es) up passes = split (nat_cmp e.0 new.0) (p e) refl refl (filter-put p new es up.1 passes)
     where
-      first : (ys : List (ℕ × X)) → AllByRecursion (λ y. new.0 < y.0) ys → cond (p new) (new ∷ filter p ys) (filter p ys) ≡ put new (filter p ys)
+      first : (ys : List (ℕ × X)) → AllByRecursion (λ y. new.0 < y.0) ys
+          → cond (p new) (new ∷ filter p ys) (filter p ys) ≡ put new (filter p ys)
       first ys high = rw passes (sym (put_first new (filter p ys) (all_filter p (λ y. new.0 < y.0) ys high)))
 
-      split : (o : Ordering) (b : Bool) → nat_cmp e.0 new.0 ≡ o → p e ≡ b → filter p (put new es) ≡ put new (filter p es)
-          → filter p (match_ordering o (e ∷ put new es) (new ∷ es) (new ∷ e ∷ es)) ≡ put new (cond b (e ∷ filter p es) (filter p es))
+      split : (o : Ordering) (b : Bool) → nat_cmp e.0 new.0 ≡ o → p e ≡ b
+          → filter p (put new es) ≡ put new (filter p es)
+          → filter p (match_ordering o (e ∷ put new es) (new ∷ es) (new ∷ e ∷ es))
+          ≡ put new (cond b (e ∷ filter p es) (filter p es))
       split Less true is has rest = rw (has, is) (ap (λ ys. e ∷ ys) rest)
       split Less false is has rest = rw has rest
       split Equal true is has rest = rw (passes, is) refl
@@ -101,9 +114,11 @@ module _ {X : Type 0} where
       split Greater true is has rest = rw (passes, has, is) refl
       split Greater false is has rest =
           let low = above e.0 new.0 is in
-          rw has (first es (all_weaker (λ y. e.0 < y.0) (λ y. new.0 < y.0) (λ y more. omega (arith, low, more)) es up.0))
+          rw has (first es (all_weaker (λ y. e.0 < y.0) (λ y. new.0 < y.0) (λ y more. omega (arith, low, more)) es
+          up.0))
 
-  pub filter-put_other : (p : ℕ × X → Bool) (new : ℕ × X) (es : List (ℕ × X)) → p new ≡ false → AllByRecursion (λ e. e.0 ≡ new.0 → p e ≡ false) es
+  pub filter-put_other : (p : ℕ × X → Bool) (new : ℕ × X) (es : List (ℕ × X)) → p new ≡ false
+      → AllByRecursion (λ e. e.0 ≡ new.0 → p e ≡ false) es
       → filter p (put new es) ≡ filter p es
   filter-put_other p new [] fails alike = rw fails refl
   filter-put_other p new (e ∷ es) fails alike = split (nat_cmp e.0 new.0) refl (filter-put_other p new es fails alike.1)
@@ -114,10 +129,12 @@ module _ {X : Type 0} where
       split Equal is rest = rw (fails, alike.0 (same e.0 new.0 is)) refl
       split Greater is rest = rw fails refl
 
-  pub filter-without : (p : ℕ × X → Bool) (q : ℕ → Bool) (es : List (ℕ × X)) → filter p (without q es) ≡ without q (filter p es)
+  pub filter-without : (p : ℕ × X → Bool) (q : ℕ → Bool) (es : List (ℕ × X))
+      → filter p (without q es) ≡ without q (filter p es)
   filter-without p q es = filter_comm p (λ e. not (q e.0)) es
 
-  pub filter-without_other : (p : ℕ × X → Bool) (q : ℕ → Bool) (es : List (ℕ × X)) → AllByRecursion (λ e. p e ≡ true → q e.0 ≡ false) es
+  pub filter-without_other : (p : ℕ × X → Bool) (q : ℕ → Bool) (es : List (ℕ × X))
+      → AllByRecursion (λ e. p e ≡ true → q e.0 ≡ false) es
       → filter p (without q es) ≡ filter p es
   filter-without_other p q [] apart = refl
   filter-without_other p q (e ∷ es) apart = split (p e) (q e.0) refl refl (filter-without_other p q es apart.1)
@@ -136,31 +153,40 @@ module _ {X : Type 0} where
       either : (b : Bool) → (e.0 == id) ≡ b → AllByRecursion (λ x. x.0 ≢ id) (without (λ n. n == id) es)
           → AllByRecursion (λ x. x.0 ≢ id) (cond (not b) (e ∷ without (λ n. n == id) es) (without (λ n. n == id) es))
       either true is rest = rest
-      either false is rest = (λ here. absurd (let never : true ≡ false = sym (ap (λ n. n == id) here ∙ equal id) ∙ is in cc), rest)
+      either false is rest = (
+        λ here. absurd
+            (let never : true ≡ false = sym (ap (λ n. n == id) here ∙ equal id) ∙ is in cc),
+        rest,
+      )
 
   -- ---- the one at a place
 
   -- no other has its number
-  pub one_at : (es : List (ℕ × X)) (i : ℕ) (e : ℕ × X) → Rise es → i < length es → e ≡ get_or es i e → AllByRecursion (λ x. x.0 ≡ e.0 → x ≡ e) es
+  pub one_at : (es : List (ℕ × X)) (i : ℕ) (e : ℕ × X) → Rise es → i < length es → e ≡ get_or es i e
+      → AllByRecursion (λ x. x.0 ≡ e.0 → x ≡ e) es
   one_at [] i e up there is = tt
   one_at (y ∷ es) zero e up there is = (
     λ _. sym is,
-    all_weaker (λ x. y.0 < x.0) (λ x. x.0 ≡ e.0 → x ≡ e) (λ x high here. absurd (let number = ap (λ (z : ℕ × X). z.0) is in omega (arith, high, here, number))) es up.0,
+    all_weaker (λ x. y.0 < x.0) (λ x. x.0 ≡ e.0 → x ≡ e)
+        (λ x high here. absurd (let number = ap (λ (z : ℕ × X). z.0) is in omega (arith, high, here, number))) es up.0,
   )
   one_at (y ∷ es) (suc i) e up there is =
       let low : y.0 < e.0 = all_at (λ x. y.0 < x.0) es i e up.0 (omega (arith, there)) is in
       (λ here. absurd (omega (arith, low, here)), one_at es i e up.1 (omega (arith, there)) is)
 
-  pub without_at : (es : List (ℕ × X)) (i : ℕ) (e : ℕ × X) → Rise es → i < length es → e ≡ get_or es i e → without (λ n. n == e.0) es ≡ remove es i
+  pub without_at : (es : List (ℕ × X)) (i : ℕ) (e : ℕ × X) → Rise es → i < length es → e ≡ get_or es i e
+      → without (λ n. n == e.0) es ≡ remove es i
   without_at [] i e up there is = absurd (omega (arith, there))
   without_at (y ∷ es) zero e up there is =
       let number : y.0 ≡ e.0 = ap (λ (z : ℕ × X). z.0) (sym is) in
       rw (number, equal e.0)
       (filter_all (λ x. not (x.0 == e.0)) es
-      (all_weaker (λ x. y.0 < x.0) (λ x. not (x.0 == e.0) ≡ true) (λ x high. ap not (unequal x.0 e.0 (λ here. omega (arith, high, here, number)))) es up.0))
+      (all_weaker (λ x. y.0 < x.0) (λ x. not (x.0 == e.0) ≡ true)
+      (λ x high. ap not (unequal x.0 e.0 (λ here. omega (arith, high, here, number)))) es up.0))
   without_at (y ∷ es) (suc i) e up there is =
       let low : y.0 < e.0 = all_at (λ x. y.0 < x.0) es i e up.0 (omega (arith, there)) is in
-      rw (unequal y.0 e.0 (λ here. omega (arith, low, here))) (ap (λ ys. y ∷ ys) (without_at es i e up.1 (omega (arith, there)) is))
+      rw (unequal y.0 e.0 (λ here. omega (arith, low, here)))
+      (ap (λ ys. y ∷ ys) (without_at es i e up.1 (omega (arith, there)) is))
 
   pub put_at : (es : List (ℕ × X)) (i : ℕ) (e : ℕ × X) (x : X) → Rise es → i < length es → e ≡ get_or es i e
       → put (e.0, x) (without (λ n. n == e.0) es) ≡ set es i (e.0, x)
@@ -172,4 +198,5 @@ module _ {X : Type 0} where
   put_at (y ∷ es) (suc i) e x up there is =
       let low : y.0 < e.0 = all_at (λ z. y.0 < z.0) es i e up.0 (omega (arith, there)) is in
       let less : nat_cmp y.0 e.0 ≡ Less = grind (arith, nat_tests, low) in
-      rw (unequal y.0 e.0 (λ here. omega (arith, low, here)), less) (ap (λ ys. y ∷ ys) (put_at es i e x up.1 (omega (arith, there)) is))
+      rw (unequal y.0 e.0 (λ here. omega (arith, low, here)), less)
+      (ap (λ ys. y ∷ ys) (put_at es i e x up.1 (omega (arith, there)) is))

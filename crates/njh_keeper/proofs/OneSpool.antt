@@ -60,12 +60,15 @@ file_back e = λ i. (e.0, record e.1 { held = flag_back e.1.held i })
 
 -- ---- all of them
 
-all_back : {X : Type 0} (shown : X → Row) (from : Row → X) → ((x : X) → from (shown x) ≡ x) → (xs : List X) → map from (map shown xs) ≡ xs
+all_back : {X : Type 0} (shown : X → Row) (from : Row → X) → ((x : X) → from (shown x) ≡ x) → (xs : List X)
+    → map from (map shown xs) ≡ xs
 all_back shown from back [] = refl
 all_back shown from back (x ∷ xs) = λ i. back x i ∷ all_back shown from back xs i
 
-one_list : {X : Type 0} (shown : X → Row) (from : Row → X) → ((x : X) → from (shown x) ≡ x) → (xs ys : List X) (rows : List Row) → rows ≡ map shown xs → rows ≡ map shown ys → xs ≡ ys
-one_list shown from back xs ys rows one other = sym (all_back shown from back xs) ∙ ap (map from) (sym one ∙ other) ∙ all_back shown from back ys
+one_list : {X : Type 0} (shown : X → Row) (from : Row → X) → ((x : X) → from (shown x) ≡ x)
+    → (xs ys : List X) (rows : List Row) → rows ≡ map shown xs → rows ≡ map shown ys → xs ≡ ys
+one_list shown from back xs ys rows one other = sym (all_back shown from back xs) ∙ ap (map from) (sym one ∙ other)
+    ∙ all_back shown from back ys
 
 pub one_spool : (s t : SpoolContents) (trees : Trees) → Holds s trees → Holds t trees → s ≡ t
 one_spool s t trees one other =

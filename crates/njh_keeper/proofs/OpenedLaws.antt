@@ -1,5 +1,6 @@
 -- A customer's files after the opening.
-use Rattle.std.proofs.Common.{◌≡◌, ℕ, Bool, true, false, cond, ◌&&◌, ◌||◌, List, [], ◌∷◌, ◌++◌, map, Option, Some, None, refl, sym, ap, subst, append_assoc, append-nil, ◌∙◌}
+use Rattle.std.proofs.Common.{◌≡◌, ℕ, Bool, true, false, cond, ◌&&◌, ◌||◌, List, [], ◌∷◌, ◌++◌, map, Option, Some, None}
+use Rattle.std.proofs.Common.{refl, sym, ap, subst, append_assoc, append-nil, ◌∙◌}
 use Rattle.std.specs.Prelude.{fold}
 use Rattle.std.specs.List.{AllByRecursion}
 use Rattle.std.proofs.lemmas.List.{map-append}
@@ -35,7 +36,8 @@ file n kind records held = record { number = n; kind = kind; records = records; 
 
 -- Held where it was or has no route, and else Ready
 state_is : (n : ℕ) (kind : Kind) (records : List Stored) (held unrouted : Bool)
-    → ◌≡◌ {A = OpenedFile} (opened_of (cond (waits_in_state (state_back held) && unrouted) (held_file (file n kind records held)) (file n kind records held)))
+    → ◌≡◌ {A = OpenedFile} (opened_of (cond (waits_in_state (state_back held) && unrouted)
+    (held_file (file n kind records held)) (file n kind records held)))
     (record { kind = kind; records = records; state = cond (held || unrouted) Held Ready })
 state_is n kind records true unrouted = refl
 state_is n kind records false true = refl
@@ -43,12 +45,14 @@ state_is n kind records false false = refl
 
 routed : (entry : CustomerEntry) (n : ℕ) (kind : Kind) (records : List Stored) (held unrouted : Bool)
     → destination_unrouted entry (destination_of kind records) ≡ unrouted
-    → Routed entry (cond (waits_in_state (state_back held) && unrouted) (held_file (file n kind records held)) (file n kind records held))
+    → Routed entry (cond (waits_in_state (state_back held) && unrouted) (held_file (file n kind records held))
+    (file n kind records held))
 routed entry n kind records true unrouted is = refl
 routed entry n kind records false true is = refl
 routed entry n kind records false false is = is
 
-all_then : (P : WholeFile → Type 0) (fs : List WholeFile) (f : WholeFile) → AllByRecursion P fs → P f → AllByRecursion P (fs ++ f ∷ [])
+all_then : (P : WholeFile → Type 0) (fs : List WholeFile) (f : WholeFile) → AllByRecursion P fs → P f
+    → AllByRecursion P (fs ++ f ∷ [])
 all_then P [] f all one = (one, tt)
 all_then P (g ∷ fs) f all one = (all.0, all_then P fs f all.1 one)
 
@@ -77,18 +81,22 @@ module _ (p : Part) (f : KeptFile) where
       map-append (held_back entry) p.customer.spool.whole (new ∷ [])
       ∙ ap (λ (fs : List WholeFile). fs ++ held_back entry new ∷ []) (stays entry p.customer.spool.whole all)
 
-  still_routed : AllByRecursion (Routed entry) p.customer.spool.whole → AllByRecursion (Routed entry) (part_with_file f p).customer.spool.whole
+  still_routed : AllByRecursion (Routed entry) p.customer.spool.whole
+      → AllByRecursion (Routed entry) (part_with_file f p).customer.spool.whole
   still_routed all =
       subst (AllByRecursion (Routed entry)) (sym (whole_is all))
       (all_then (Routed entry) p.customer.spool.whole (held_back entry new) all
-      (routed entry (next_number p.customer.spool) f.kind f.records f.held (destination_unrouted entry (destination_of f.kind f.records)) refl))
+      (routed entry (next_number p.customer.spool) f.kind f.records f.held
+      (destination_unrouted entry (destination_of f.kind f.records)) refl))
 
   shown : AllByRecursion (Routed entry) p.customer.spool.whole
-      → map opened_of (part_with_file f p).customer.spool.whole ≡ map opened_of p.customer.spool.whole ++ as_opened entry f ∷ []
+      → map opened_of (part_with_file f p).customer.spool.whole ≡ map opened_of p.customer.spool.whole ++ as_opened
+      entry f ∷ []
   shown all =
       ap (map opened_of) (whole_is all) ∙ map-append opened_of p.customer.spool.whole (held_back entry new ∷ [])
       ∙ ap (λ (x : OpenedFile). map opened_of p.customer.spool.whole ++ x ∷ [])
-      (state_is (next_number p.customer.spool) f.kind f.records f.held (destination_unrouted entry (destination_of f.kind f.records)))
+      (state_is (next_number p.customer.spool) f.kind f.records f.held
+      (destination_unrouted entry (destination_of f.kind f.records)))
 
 follow : (ws : List Whole) (p : Part) → AllByRecursion (Routed p.customer.entry) p.customer.spool.whole → AreBack p ws
     → Follow p.customer.entry ws p (fold with_whole p ws)
@@ -104,18 +112,22 @@ follow [] p all back = record {
 follow (w ∷ ws) p all back = split (file_in w.file w.records) refl (λ q routes rest. follow ws q routes rest)
   where
     split : (o : Option KeptFile) → file_in w.file w.records ≡ o
-        → ((q : Part) → AllByRecursion (Routed q.customer.entry) q.customer.spool.whole → AreBack q ws → Follow q.customer.entry ws q (fold with_whole q ws))
+        → ((q : Part) → AllByRecursion (Routed q.customer.entry) q.customer.spool.whole → AreBack q ws
+        → Follow q.customer.entry ws q (fold with_whole q ws))
         → Follow p.customer.entry (w ∷ ws) p (fold with_whole p (w ∷ ws))
     split None is later = absurd (let h = sym (bad_file p w.file w.records is) ∙ back.0 in cc)
     split (Some f) is later =
-        let with_it : with_whole p w ≡ part_with_file f p = ap (λ (o : Option KeptFile). elim o as (λ _. Part) [ None ↦ p | Some g ↦ part_with_file g p ]) is in
-        let rest = later (part_with_file f p) (still_routed p f all) (subst (λ (q : Part). AreBack q ws) with_it back.1) in
+        let with_it : with_whole p w ≡ part_with_file f p =
+        ap (λ (o : Option KeptFile). elim o as (λ _. Part) [ None ↦ p | Some g ↦ part_with_file g p ]) is in
+        let rest = later (part_with_file f p) (still_routed p f all) (subst (λ (q : Part). AreBack q ws) with_it back.1)
+        in
         let whole : Follow p.customer.entry (w ∷ ws) p (fold with_whole (part_with_file f p) ws) = record {
           files = f ∷ rest.files;
           all = λ i. is i ∷ rest.all i;
           whole = rest.whole
               ∙ ap (λ (xs : List OpenedFile). xs ++ map (as_opened p.customer.entry) rest.files) (shown p f all)
-              ∙ append_assoc (map opened_of p.customer.spool.whole) (as_opened p.customer.entry f ∷ []) (map (as_opened p.customer.entry) rest.files);
+              ∙ append_assoc (map opened_of p.customer.spool.whole) (as_opened p.customer.entry f ∷ [])
+              (map (as_opened p.customer.entry) rest.files);
           partial = rest.partial;
           entry_is = rest.entry_is;
           lines = rest.lines;
@@ -123,7 +135,16 @@ follow (w ∷ ws) p all back = split (file_in w.file w.records) refl (λ q route
         } in
         subst (λ (q : Part). Follow p.customer.entry (w ∷ ws) p (fold with_whole q ws)) (sym with_it) whole
 
-pub opened_files : (entry : CustomerEntry) (ws : List Whole) → AreBack (part_at_open entry) ws → HasOpened entry ws (part_opened entry ws)
+pub opened_files : (entry : CustomerEntry) (ws : List Whole) → AreBack (part_at_open entry) ws
+    → HasOpened entry ws (part_opened entry ws)
 opened_files entry ws back =
     let h = follow ws (part_at_open entry) tt back in
-    record { files = h.files; all = h.all; whole = h.whole; partial = h.partial; entry_is = h.entry_is; lines = h.lines; rests = h.rests }
+    record {
+      files = h.files;
+      all = h.all;
+      whole = h.whole;
+      partial = h.partial;
+      entry_is = h.entry_is;
+      lines = h.lines;
+      rests = h.rests;
+    }

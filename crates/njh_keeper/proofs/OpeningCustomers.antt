@@ -1,5 +1,6 @@
 -- One customer after the other is remembered at the opening.
-use Rattle.std.proofs.Common.{◌≡◌, ◌≢◌, ℕ, ◌<◌, ◌⊎◌, inl, inr, List, [], ◌∷◌, ◌++◌, length, get_or, refl, sym, ap, subst, ◌∙◌, arith}
+use Rattle.std.proofs.Common.{◌≡◌, ◌≢◌, ℕ, ◌<◌, ◌⊎◌, inl, inr, List, [], ◌∷◌, ◌++◌, length, get_or, refl, sym, ap}
+use Rattle.std.proofs.Common.{subst, ◌∙◌, arith}
 use Rattle.std.specs.List.{AllZip}
 use Rattle.std.proofs.lemmas.Bool.{cases_lt}
 use Rattle.std.proofs.lemmas.List.{get_or_append_left, get_or_push, length_push}
@@ -8,13 +9,15 @@ use Rattle.njh_hub.specs.WholeHub.{Part, part}
 use Rattle.njh_table.specs.Accepted.{AreDistinct}
 use Rattle.njh_spoolfile.specs.Kept.{File, SpoolContents, records_of}
 use Rattle.njh_keeper.specs.code.Mirrored.{IsOrdered, own_rows}
-use Rattle.njh_keeper.specs.code.Opening.{AllAreRead, AreRemembered, IsCustomer, IsOwnOf, IsReadFor, IsRemembered, Remembering, files_at, keyed_rows, name_at, owned_of}
+use Rattle.njh_keeper.specs.code.Opening.{AllAreRead, AreRemembered, IsCustomer, IsOwnOf, IsReadFor, IsRemembered}
+use Rattle.njh_keeper.specs.code.Opening.{Remembering, files_at, keyed_rows, name_at, owned_of}
 use Rattle.njh_keeper.specs.code.Remembered.{KeptWhole, Mirrored, OwnFiles}
 use Rattle.njh_keeper.proofs.HubLaws.{apart}
 use Rattle.njh_keeper.proofs.MirrorLaws.{all_of, mirrored_still}
 use Rattle.njh_keeper.proofs.OpeningLists.{all_read_same}
 
-pub none_remembered : (names : List (List ℕ)) (hub : List Part) (s : SpoolContents) → IsOrdered s → AreRemembered names hub [] s s
+pub none_remembered : (names : List (List ℕ)) (hub : List Part) (s : SpoolContents) → IsOrdered s
+    → AreRemembered names hub [] s s
 none_remembered names hub s ordered = record {
   each = λ c own there is. absurd (omega (arith, there));
   records = refl;
@@ -23,10 +26,14 @@ none_remembered names hub s ordered = record {
   below = λ end low. low;
 }
 
-module _ (names : List (List ℕ)) (hub : List Part) (rows : List (ℕ × File)) (owns : List OwnFiles) (own : OwnFiles) (s t u : SpoolContents) (rows_are : rows ≡ s.files) (distinct : AreDistinct names)
-    (reads : AllAreRead names hub s) (few : length owns < length names) (pure : IsOwnOf (name_at names (length owns)) (part (length owns) hub).customer.spool own) (so_far : AreRemembered names hub owns s t) where
+module _ (names : List (List ℕ)) (hub : List Part) (rows : List (ℕ × File)) (owns : List OwnFiles) (own : OwnFiles)
+    (s t u : SpoolContents) (rows_are : rows ≡ s.files) (distinct : AreDistinct names)
+    (reads : AllAreRead names hub s) (few : length owns < length names)
+    (pure : IsOwnOf (name_at names (length owns)) (part (length owns) hub).customer.spool own)
+    (so_far : AreRemembered names hub owns s t) where
   not_yet : (j : ℕ) → j < length owns → name_at names j ≢ name_at names (length owns)
-  not_yet j low same = let one = apart names distinct j (length owns) (omega (arith, low, few)) few same in omega (arith, low, one)
+  not_yet j low same = let one = apart names distinct j (length owns) (omega (arith, low, few)) few same in omega
+      (arith, low, one)
 
   named : own.name ≡ name_at names (length owns)
   named = pure.name_is
@@ -39,12 +46,15 @@ module _ (names : List (List ℕ)) (hub : List Part) (rows : List (ℕ × File))
     done =
         one so_far.ordered (ap (owned_of (name_at names (length owns))) rows_are ∙ sym rows_stay)
         (subst (λ (es : List (ℕ × File)). AllZip (IsReadFor t) es (files_at (length owns) hub)) (sym rows_stay)
-        (all_read_same s t so_far.records (own_rows (name_at names (length owns)) s) (files_at (length owns) hub) (reads (length owns) few)))
+        (all_read_same s t so_far.records (own_rows (name_at names (length owns)) s) (files_at (length owns) hub)
+        (reads (length owns) few)))
 
-    still : (other : OwnFiles) (files : List WholeFile) → other.name ≢ own.name → Mirrored t other files → Mirrored u other files
+    still : (other : OwnFiles) (files : List WholeFile) → other.name ≢ own.name → Mirrored t other files
+        → Mirrored u other files
     still other files apart_from all =
         mirrored_still t u other files all (done.writes.others other.name apart_from)
-        (all_of (λ (k : KeptWhole). records_of k.key u ≡ records_of k.key t) (λ k i. records_of k.key (record { files = u.files; records = done.writes.records i })) other.whole)
+        (all_of (λ (k : KeptWhole). records_of k.key u ≡ records_of k.key t)
+        (λ k i. records_of k.key (record { files = u.files; records = done.writes.records i })) other.whole)
 
     this_one : IsCustomer names hub s u (length owns) own
     this_one = record {
@@ -55,19 +65,22 @@ module _ (names : List (List ℕ)) (hub : List Part) (rows : List (ℕ × File))
       keys = λ n. done.keys n ∙ ap (λ who. keyed_rows n (own_rows who t)) named ∙ ap (keyed_rows n) rows_stay;
     }
 
-    each_now : (j : ℕ) (other : OwnFiles) → other ≡ get_or (owns ++ own ∷ []) j other → (j < length owns) ⊎ (j ≡ length owns) → IsCustomer names hub s u j other
+    each_now : (j : ℕ) (other : OwnFiles) → other ≡ get_or (owns ++ own ∷ []) j other
+        → (j < length owns) ⊎ (j ≡ length owns) → IsCustomer names hub s u j other
     each_now j other is (inl low) =
         let before = so_far.each j other low (is ∙ get_or_append_left owns (own ∷ []) other j low) in
         record {
           name = before.name;
           arrived = before.arrived;
           partial = before.partial;
-          mirrored = still other (files_at j hub) (λ same. not_yet j low (sym before.name ∙ same ∙ named)) before.mirrored;
+          mirrored = still other (files_at j hub) (λ same. not_yet j low (sym before.name ∙ same ∙ named))
+              before.mirrored;
           keys = before.keys;
         }
     each_now j other is (inr last) =
         let this : other ≡ own = is ∙ get_or_push owns own other j (sym last) in
-        subst (λ (x : OwnFiles). IsCustomer names hub s u j x) (sym this) (subst (λ n. IsCustomer names hub s u n own) (sym last) this_one)
+        subst (λ (x : OwnFiles). IsCustomer names hub s u j x) (sym this)
+        (subst (λ n. IsCustomer names hub s u n own) (sym last) this_one)
 
     place : (j : ℕ) → j < length (owns ++ own ∷ []) → (j < length owns) ⊎ (j ≡ length owns)
     place j there = elim (cases_lt j (length owns)) [

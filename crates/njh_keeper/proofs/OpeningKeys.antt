@@ -1,5 +1,6 @@
 -- Numbers that rise are numbers of their own.
-use Rattle.std.proofs.Common.{◌≡◌, ◌≢◌, ℕ, ◌+◌, ◌-◌, ◌<◌, ◌≤◌, ◌^◌, ◌==◌, ◌||◌, nat_le, nat_lt, Bool, true, false, cond, List, [], ◌∷◌, map, inl, inr, refl, sym, ap, ◌∙◌, arith}
+use Rattle.std.proofs.Common.{◌≡◌, ◌≢◌, ℕ, ◌+◌, ◌-◌, ◌<◌, ◌≤◌, ◌^◌, ◌==◌, ◌||◌, nat_le, nat_lt, Bool, true, false, cond}
+use Rattle.std.proofs.Common.{List, [], ◌∷◌, map, inl, inr, refl, sym, ap, ◌∙◌, arith}
 use Rattle.std.specs.Prelude.{IsPermutation}
 use Rattle.std.specs.List.{AllByRecursion, sum_by}
 use Rattle.std.proofs.lemmas.Bool.{cases_Bool, eqb-true}
@@ -29,9 +30,11 @@ none_of a b apart = elim (cases_Bool (a == b)) [
 
 risen : (least : ℕ) (keys : List ℕ) → rises least keys ≡ true → Risen least keys
 risen least [] is = record { once = λ n. omega arith; high = λ n low. refl; low = tt }
-risen least (key ∷ keys) is = split (nat_lt key least) refl (nat_le (2 ^ 32 - 1) key) refl is (λ more. risen (key + 1) keys more)
+risen least (key ∷ keys) is = split (nat_lt key least) refl (nat_le (2 ^ 32 - 1) key) refl is
+    (λ more. risen (key + 1) keys more)
   where
-    split : (a : Bool) → nat_lt key least ≡ a → (b : Bool) → nat_le (2 ^ 32 - 1) key ≡ b → cond (a || b) false (rises (key + 1) keys) ≡ true
+    split : (a : Bool) → nat_lt key least ≡ a → (b : Bool) → nat_le (2 ^ 32 - 1) key ≡ b
+        → cond (a || b) false (rises (key + 1) keys) ≡ true
         → (rises (key + 1) keys ≡ true → Risen (key + 1) keys) → Risen least (key ∷ keys)
     split true less b greatest is rest = absurd (cc is)
     split false less true greatest is rest = absurd (cc is)
@@ -59,26 +62,31 @@ keyed_sum : (n : ℕ) (keys : List ℕ) → keyed (λ k. k) n keys ≡ sum_by (�
 keyed_sum n [] = refl
 keyed_sum n (k ∷ ks) = ap (λ m. one_if (k == n) + m) (keyed_sum n ks) ∙ sym (sum_by-cons (λ k. one_if (k == n)) k ks)
 
-keyed_map : (n : ℕ) (files : List StoredFile) → keyed (λ f. f.file.key) n files ≡ keyed (λ k. k) n (map (λ f. f.file.key) files)
+keyed_map : (n : ℕ) (files : List StoredFile)
+    → keyed (λ f. f.file.key) n files ≡ keyed (λ k. k) n (map (λ f. f.file.key) files)
 keyed_map n [] = refl
 keyed_map n (f ∷ fs) = ap (λ m. one_if (f.file.key == n) + m) (keyed_map n fs)
 
-all_map : (files : List StoredFile) → AllByRecursion (λ k. k < 2 ^ 32 - 1) (map (λ f. f.file.key) files) → AllByRecursion (λ f. f.file.key < 2 ^ 32 - 1) files
+all_map : (files : List StoredFile) → AllByRecursion (λ k. k < 2 ^ 32 - 1) (map (λ f. f.file.key) files)
+    → AllByRecursion (λ f. f.file.key < 2 ^ 32 - 1) files
 all_map [] all = tt
 all_map (f ∷ fs) all = (all.0, all_map fs all.1)
 
-pub apart_by_rising : (files : List StoredFile) (sorted : List ℕ) → IsPermutation (map (λ f. f.file.key) files) sorted → rises 0 sorted ≡ true → AreFilesApart files
+pub apart_by_rising : (files : List StoredFile) (sorted : List ℕ) → IsPermutation (map (λ f. f.file.key) files) sorted
+    → rises 0 sorted ≡ true → AreFilesApart files
 apart_by_rising files sorted same is =
     let keys : List ℕ = map (λ f. f.file.key) files in
     let one = risen 0 sorted is in
     record {
       once = λ n.
           let count : keyed (λ f. f.file.key) n files ≡ keyed (λ k. k) n sorted =
-          keyed_map n files ∙ keyed_sum n keys ∙ sym (sum_by-IsPermutation (λ k. one_if (k == n)) keys sorted same) ∙ sym (keyed_sum n sorted) in
+          keyed_map n files ∙ keyed_sum n keys ∙ sym (sum_by-IsPermutation (λ k. one_if (k == n)) keys sorted same)
+          ∙ sym (keyed_sum n sorted) in
           let once = one.once n in
           omega (arith, count, once);
       low =
           all_map files
           (recursion_from_All (λ k. k < 2 ^ 32 - 1) keys
-          (All-permutation (λ k. k < 2 ^ 32 - 1) sorted keys (IsPermutation-sym keys sorted same) (All-from_recursion (λ k. k < 2 ^ 32 - 1) sorted one.low)));
+          (All-permutation (λ k. k < 2 ^ 32 - 1) sorted keys (IsPermutation-sym keys sorted same)
+          (All-from_recursion (λ k. k < 2 ^ 32 - 1) sorted one.low)));
     }

@@ -1,5 +1,6 @@
 -- A hub that is opened from a spool file, by what was found in it.
-use Rattle.std.proofs.Common.{◌≡◌, ℕ, ◌+◌, ◌<◌, List, [], ◌∷◌, ◌++◌, length, map, take, drop, get_or, Result, Ok, Err, IfOk, IfErr, OnOk, sym, ap, subst, append_assoc, ◌∙◌}
+use Rattle.std.proofs.Common.{◌≡◌, ℕ, ◌+◌, ◌<◌, List, [], ◌∷◌, ◌++◌, length, map, take, drop, get_or, Result, Ok, Err}
+use Rattle.std.proofs.Common.{IfOk, IfErr, OnOk, sym, ap, subst, append_assoc, ◌∙◌}
 use Rattle.std.proofs.lemmas.List.{take-append-drop, take_more, map-append}
 use Rattle.njh_table.specs.Accepted.{AreDistinct}
 use Rattle.njh_table.specs.TableFile.{NamedCustomer, TableFile, entry_of as entry_in}
@@ -19,19 +20,23 @@ use Rattle.njh_keeper.proofs.HubLaws.{all_back, opened, refused}
 use Rattle.njh_keeper.proofs.StepLaws.{wholes_are}
 
 -- What was found: the customers' names, the files without their records, and the hub as it was opened.
-pub record Finds (table : TableFile) (spool : SpoolContents) (names : List (List ℕ)) (hub : List Part) (files : List StoredFile) : Type 0 where
+pub record Finds (table : TableFile) (spool : SpoolContents) (names : List (List ℕ)) (hub : List Part)
+    (files : List StoredFile) : Type 0 where
   pub distinct : AreDistinct (map (λ c. c.name) table.customers)
   pub names_are : names ≡ map (λ c. c.name) table.customers
   pub hub_is : hub ≡ map part_at_open (map entry_in table.customers)
   pub files_are : map entry_of files ≡ spool.files
 
-around : (files : List StoredFile) (at : ℕ) (f : StoredFile) → at < length files → f ≡ get_or files at f → files ≡ take at files ++ f ∷ drop (at + 1) files
+around : (files : List StoredFile) (at : ℕ) (f : StoredFile) → at < length files → f ≡ get_or files at f
+    → files ≡ take at files ++ f ∷ drop (at + 1) files
 around files at f low here =
-    sym (take-append-drop (at + 1) files) ∙ ap (λ (xs : List StoredFile). xs ++ drop (at + 1) files) (take_more files at f low)
+    sym (take-append-drop (at + 1) files) ∙ ap (λ (xs : List StoredFile). xs ++ drop (at + 1) files)
+    (take_more files at f low)
     ∙ append_assoc (take at files) (get_or files at f ∷ []) (drop (at + 1) files)
     ∙ ap (λ (x : StoredFile). take at files ++ x ∷ drop (at + 1) files) (sym here)
 
-module _ {table : TableFile} {spool : SpoolContents} {names : List (List ℕ)} {hub : List Part} {files : List StoredFile} (f : Finds table spool names hub files) where
+module _ {table : TableFile} {spool : SpoolContents} {names : List (List ℕ)} {hub : List Part} {files : List StoredFile}
+    (f : Finds table spool names hub files) where
   all_are : wholes spool files ≡ kept spool
   all_are = wholes_are spool files f.files_are
 
@@ -58,28 +63,35 @@ module _ {table : TableFile} {spool : SpoolContents} {names : List (List ℕ)} {
       subst (λ (ns : List (List ℕ)). NoneFails ns start before) f.names_are
       (subst (λ (ps : List Part). NoneFails names ps before) f.hub_is h.1.before) in
       let names_in : List (List ℕ) = map (λ (c : NamedCustomer). c.name) table.customers in
-      let same : hub_fault names (hub_with_all names hub before) w ≡ hub_fault names_in (hub_with_all names_in start before) w =
+      let same : hub_fault names (hub_with_all names hub before) w ≡ hub_fault names_in
+      (hub_with_all names_in start before) w =
       λ i. hub_fault (f.names_are i) (hub_with_all (f.names_are i) (f.hub_is i) before) w in
       let G : StoredFile → Whole = λ x. whole_in spool (entry_of x) in
       let split : kept spool ≡ before ++ w ∷ wholes spool (drop (at + 1) files) =
-      sym all_are ∙ ap (map G) (around files at it.file h.1.there h.1.is) ∙ map-append G (take at files) (it.file ∷ drop (at + 1) files) in
+      sym all_are ∙ ap (map G) (around files at it.file h.1.there h.1.is)
+      ∙ map-append G (take at files) (it.file ∷ drop (at + 1) files) in
       refused table f.distinct spool before (wholes spool (drop (at + 1) files)) w it.fault split none
       (sym same ∙ h.2)
 
 -- ---- the file at which it stopped
 
-pub told_of : (names : List (List ℕ)) (hub : List Part) (spool : SpoolContents) (files : List StoredFile) (stop : Stop) (fault : OpeningFault) → stop.at < length files
-    → StopsAt names hub spool files stop → IsRefusalOf stop.cause stop.at files fault → StopsIn names hub spool files fault
+pub told_of : (names : List (List ℕ)) (hub : List Part) (spool : SpoolContents) (files : List StoredFile) (stop : Stop)
+    (fault : OpeningFault) → stop.at < length files
+    → StopsAt names hub spool files stop → IsRefusalOf stop.cause stop.at files fault
+    → StopsIn names hub spool files fault
 told_of names hub spool files stop fault low stops told = by stop.cause (λ d. stops.why d) told
   where
-    by : (why : StopCause) → ((d : StoredFile) → StopsOn why (hub_fault names (hub_with_all names hub (wholes spool (take stop.at files))) (whole_in spool (entry_of (get_or files stop.at d)))))
+    by : (why : StopCause) → ((d : StoredFile)
+        → StopsOn why (hub_fault names (hub_with_all names hub (wholes spool (take stop.at files)))
+        (whole_in spool (entry_of (get_or files stop.at d)))))
         → IsRefusalOf why stop.at files fault → StopsIn names hub spool files fault
     by (cause.Store error) h told = subst (StopsIn names hub spool files) (sym told) tt
     by (cause.File why) h told =
         subst (StopsIn names hub spool files) (sym told.2) (
           stop.at,
           record { there = low; is = told.1; before = stops.before },
-          ap (λ (x : StoredFile). hub_fault names (hub_with_all names hub (wholes spool (take stop.at files))) (whole_in spool (entry_of x))) told.1 ∙ h told.0,
+          ap (λ (x : StoredFile). hub_fault names (hub_with_all names hub (wholes spool (take stop.at files)))
+              (whole_in spool (entry_of x))) told.1 ∙ h told.0,
         )
 
 -- ---- what follows of an answer

@@ -1,5 +1,6 @@
 -- The rows of a customer on a spool file beside the files that a hub has of them.
-use Rattle.std.proofs.Common.{◌≡◌, ℕ, ◌+◌, ◌<◌, ◌==◌, true, List, [], ◌∷◌, ◌++◌, length, get_or, set, map, refl, sym, ap, subst, append_assoc, append-nil, ◌∙◌, arith}
+use Rattle.std.proofs.Common.{◌≡◌, ℕ, ◌+◌, ◌<◌, ◌==◌, true, List, [], ◌∷◌, ◌++◌, length, get_or, set, map, refl, sym}
+use Rattle.std.proofs.Common.{ap, subst, append_assoc, append-nil, ◌∙◌, arith}
 use Rattle.std.specs.List.{AllZip}
 use Rattle.njh_spool.specs.CustomerSpool.{CustomerSpool, WholeFile}
 use Rattle.njh_spool.specs.Restoring.{KeptFile}
@@ -25,14 +26,16 @@ first_there : {X : Type 0} (done : List X) (x : X) (left : List X) → length do
 first_there [] x left = omega arith
 first_there (d ∷ done) x left = let rest = first_there done x left in omega (arith, rest)
 
-first_set : {X : Type 0} (done : List X) (x y : X) (left : List X) → set (done ++ x ∷ left) (length done) y ≡ done ++ y ∷ left
+first_set : {X : Type 0} (done : List X) (x y : X) (left : List X)
+    → set (done ++ x ∷ left) (length done) y ≡ done ++ y ∷ left
 first_set [] x y left = refl
 first_set {X} (d ∷ done) x y left = ap (λ (xs : List X). d ∷ xs) (first_set done x y left)
 
 one_more : {X : Type 0} (done : List X) (x : X) (left : List X) → done ++ x ∷ left ≡ (done ++ x ∷ []) ++ left
 one_more done x left = sym (append_assoc done (x ∷ []) left)
 
-keyed_push : {X : Type 0} (key : X → ℕ) (n : ℕ) (xs : List X) (x : X) → keyed key n (xs ++ x ∷ []) ≡ keyed key n xs + one_if (key x == n)
+keyed_push : {X : Type 0} (key : X → ℕ) (n : ℕ) (xs : List X) (x : X)
+    → keyed key n (xs ++ x ∷ []) ≡ keyed key n xs + one_if (key x == n)
 keyed_push key n [] x = omega arith
 keyed_push key n (y ∷ xs) x = let rest = keyed_push key n xs x in omega (arith, rest)
 
@@ -43,22 +46,33 @@ module _ (s t : SpoolContents) (same : t.records ≡ s.records) where
   records_same key = λ i. records_of key (record { files = t.files; records = same i })
 
   kept_same : (k : KeptWhole) (e : ℕ × File) (f : WholeFile) → IsKept s k e f → IsKept t k e f
-  kept_same k e f one = record { id = one.id; row = one.row; remembers = one.remembers; stored = ap (map contents) (records_same k.key) ∙ one.stored; fits = one.fits }
+  kept_same k e f one = record {
+    id = one.id;
+    row = one.row;
+    remembers = one.remembers;
+    stored = ap (map contents)
+        (records_same k.key) ∙ one.stored;
+    fits = one.fits;
+  }
 
-  pub all_kept_same : (ks : List KeptWhole) (es : List (ℕ × File)) (fs : List WholeFile) → AllBeside (IsKept s) ks es fs → AllBeside (IsKept t) ks es fs
+  pub all_kept_same : (ks : List KeptWhole) (es : List (ℕ × File)) (fs : List WholeFile) → AllBeside (IsKept s) ks es fs
+      → AllBeside (IsKept t) ks es fs
   all_kept_same ks es fs all =
-      beside_weaker (λ k. k.key ≡ k.key) (IsKept s) (IsKept t) (λ k e f is one. kept_same k e f one) ks es fs (all_of (λ (k : KeptWhole). k.key ≡ k.key) (λ k. refl) ks) all
+      beside_weaker (λ k. k.key ≡ k.key) (IsKept s) (IsKept t) (λ k e f is one. kept_same k e f one) ks es fs
+      (all_of (λ (k : KeptWhole). k.key ≡ k.key) (λ k. refl) ks) all
 
   read_same : (e : ℕ × File) (g : WholeFile) → IsReadFor s e g → IsReadFor t e g
   read_same e g is = ap (λ rs. file_in e.1 (map contents rs)) (records_same e.1.key) ∙ is
 
-  pub all_read_same : (es : List (ℕ × File)) (gs : List WholeFile) → AllZip (IsReadFor s) es gs → AllZip (IsReadFor t) es gs
+  pub all_read_same : (es : List (ℕ × File)) (gs : List WholeFile) → AllZip (IsReadFor s) es gs
+      → AllZip (IsReadFor t) es gs
   all_read_same [] [] all = tt
   all_read_same [] (g ∷ gs) all = absurd all
   all_read_same (e ∷ es) [] all = absurd all
   all_read_same (e ∷ es) (g ∷ gs) all = (read_same e g all.0, all_read_same es gs all.1)
 
-writes_then : (name : List ℕ) (s t u : SpoolContents) → WritesRowsOf name s t → WritesRowsOf name t u → WritesRowsOf name s u
+writes_then : (name : List ℕ) (s t u : SpoolContents) → WritesRowsOf name s t → WritesRowsOf name t u
+    → WritesRowsOf name s u
 writes_then name s t u one more = record {
   records = more.records ∙ one.records;
   ordered = more.ordered;
@@ -67,7 +81,8 @@ writes_then name s t u one more = record {
 
 -- ---- the next row
 
-module _ (name : List ℕ) (whole : List KeptWhole) (e : ℕ × File) (left : List (ℕ × File)) (spool : CustomerSpool) (from s : SpoolContents) (is : IsRead name whole (e ∷ left) spool.whole from s) where
+module _ (name : List ℕ) (whole : List KeptWhole) (e : ℕ × File) (left : List (ℕ × File)) (spool : CustomerSpool)
+    (from s : SpoolContents) (is : IsRead name whole (e ∷ left) spool.whole from s) where
   -- which file it is of
   pub record IsNextRead (g : WholeFile) : Type 0 where
     pub rest : List WholeFile
@@ -80,7 +95,8 @@ module _ (name : List ℕ) (whole : List KeptWhole) (e : ℕ × File) (left : Li
   next : (gs : List WholeFile) → is.behind ≡ gs → AllZip (IsReadFor s) (e ∷ left) gs → (g : WholeFile) × IsNextRead g
   next [] none all = absurd all
   next (g ∷ gs) some all =
-      let files : spool.whole ≡ is.before ++ g ∷ gs = is.files_are ∙ ap (λ (xs : List WholeFile). is.before ++ xs) some in
+      let files : spool.whole ≡ is.before ++ g ∷ gs =
+      is.files_are ∙ ap (λ (xs : List WholeFile). is.before ++ xs) some in
       let long : length is.before ≡ length whole = (beside_lengths (IsKept s) whole is.rows is.before is.beside).1 in (
         g,
         record {
@@ -88,28 +104,33 @@ module _ (name : List ℕ) (whole : List KeptWhole) (e : ℕ × File) (left : Li
           behind = some;
           read = all.0;
           others = all.1;
-          there = subst (λ (n : ℕ). n < length spool.whole) long (subst (λ (xs : List WholeFile). length is.before < length xs) (sym files) (first_there is.before g gs));
+          there = subst (λ (n : ℕ). n < length spool.whole) long
+              (subst (λ (xs : List WholeFile). length is.before < length xs) (sym files) (first_there is.before g gs));
           at =
               subst (λ (n : ℕ). g ≡ get_or spool.whole n g) long
-              (subst (λ (xs : List WholeFile). g ≡ get_or xs (length is.before) g) (sym files) (first_left is.before g gs));
+              (subst (λ (xs : List WholeFile). g ≡ get_or xs (length is.before) g) (sym files)
+              (first_left is.before g gs));
         },
       )
 
   pub next_read : (g : WholeFile) × IsNextRead g
   next_read = next is.behind refl is.reads
 
-  module _ (k : KeptWhole) (g : WholeFile) (it : IsNextRead g) (id : k.id ≡ e.0) (key : k.key ≡ e.1.key) (remembers : Remembers k g) where
+  module _ (k : KeptWhole) (g : WholeFile) (it : IsNextRead g) (id : k.id ≡ e.0) (key : k.key ≡ e.1.key)
+      (remembers : Remembers k g) where
     abbrev as_read : KeptFile
     as_read = record { kind = g.kind; held = e.1.held; records = g.records }
 
     read_as : IsReadAs s e.1 as_read
     read_as = is_read_as s e.1 as_read it.read
 
-    keys_now : (n : ℕ) → keyed (λ (x : KeptWhole). x.key) n (whole ++ k ∷ []) + keyed_rows n left ≡ keyed_rows n (own_rows name from)
+    keys_now : (n : ℕ) → keyed (λ (x : KeptWhole). x.key) n (whole ++ k ∷ []) + keyed_rows n left ≡ keyed_rows n
+        (own_rows name from)
     keys_now n =
         let push = keyed_push (λ (x : KeptWhole). x.key) n whole k in
         let same : one_if (k.key == n) ≡ one_if (e.1.key == n) = ap (λ m. one_if (m == n)) key in
-        let before : keyed (λ (x : KeptWhole). x.key) n whole + (one_if (e.1.key == n) + keyed_rows n left) ≡ keyed_rows n (own_rows name from) = is.keys n in
+        let before : keyed (λ (x : KeptWhole). x.key) n whole + (one_if (e.1.key == n) + keyed_rows n left)
+        ≡ keyed_rows n (own_rows name from) = is.keys n in
         omega (arith, push, same, before)
 
     files_now : spool.whole ≡ (is.before ++ g ∷ []) ++ it.rest
@@ -123,7 +144,8 @@ module _ (name : List ℕ) (whole : List KeptWhole) (e : ℕ × File) (left : Li
       behind = it.rest;
       rows_are = is.rows_are ∙ one_more is.rows e left;
       files_are = files_now;
-      beside = beside_push (IsKept s) whole is.rows is.before k e g is.beside (is_kept_as_read s k e as_read g read_as refl refl held id key remembers);
+      beside = beside_push (IsKept s) whole is.rows is.before k e g is.beside
+          (is_kept_as_read s k e as_read g read_as refl refl held id key remembers);
       reads = it.others;
       writes = is.writes;
       below = is.below;
@@ -136,10 +158,12 @@ module _ (name : List ℕ) (whole : List KeptWhole) (e : ℕ × File) (left : Li
       rows_now = is.rows_are
 
       at_row : e ≡ get_or (own_rows name s) (length is.rows) e
-      at_row = subst (λ (es : List (ℕ × File)). e ≡ get_or es (length is.rows) e) (sym rows_now) (first_left is.rows e left)
+      at_row = subst (λ (es : List (ℕ × File)). e ≡ get_or es (length is.rows) e) (sym rows_now)
+          (first_left is.rows e left)
 
       there_row : length is.rows < length (own_rows name s)
-      there_row = subst (λ (es : List (ℕ × File)). length is.rows < length es) (sym rows_now) (first_there is.rows e left)
+      there_row = subst (λ (es : List (ℕ × File)). length is.rows < length es) (sym rows_now)
+          (first_there is.rows e left)
 
       writes_row : WritesRowsOf name s (with_changed e.0 row s)
       writes_row = changes_row name s is.writes.ordered (length is.rows) e there_row at_row row owned
@@ -160,7 +184,8 @@ module _ (name : List ℕ) (whole : List KeptWhole) (e : ℕ × File) (left : Li
         behind = it.rest;
         rows_are =
             row_changes name s is.writes.ordered (length is.rows) e there_row at_row row owned
-            ∙ ap (λ (es : List (ℕ × File)). set es (length is.rows) (e.0, row)) rows_now ∙ first_set is.rows e (e.0, row) left ∙ one_more is.rows (e.0, row) left;
+            ∙ ap (λ (es : List (ℕ × File)). set es (length is.rows) (e.0, row)) rows_now
+            ∙ first_set is.rows e (e.0, row) left ∙ one_more is.rows (e.0, row) left;
         files_are = files_now;
         beside =
             beside_push (IsKept (with_changed e.0 row s)) whole is.rows is.before k (e.0, row) g
@@ -169,13 +194,15 @@ module _ (name : List ℕ) (whole : List KeptWhole) (e : ℕ × File) (left : Li
         writes = writes_then name from s (with_changed e.0 row s) is.writes writes_row;
         below = λ end all.
             let low = is.below end all in
-            below_with_changed end e.0 row s (row_below name s is.writes.ordered (length is.rows) e there_row at_row end low) low;
+            below_with_changed end e.0 row s
+            (row_below name s is.writes.ordered (length is.rows) e there_row at_row end low) low;
         keys = keys_now;
       }
 
 -- ---- all rows of a customer
 
-pub nothing_read : (name : List ℕ) (files : List WholeFile) (s : SpoolContents) → IsOrdered s → AllZip (IsReadFor s) (own_rows name s) files → IsRead name [] (own_rows name s) files s s
+pub nothing_read : (name : List ℕ) (files : List WholeFile) (s : SpoolContents) → IsOrdered s
+    → AllZip (IsReadFor s) (own_rows name s) files → IsRead name [] (own_rows name s) files s s
 nothing_read name files s ordered all = record {
   rows = [];
   before = [];
@@ -193,21 +220,27 @@ none_left : {X Y : Type 0} (R : X → Y → Type 0) (ys : List Y) → AllZip R [
 none_left R [] all = refl
 none_left R (y ∷ ys) all = absurd all
 
-pub all_read : (name : List ℕ) (whole : List KeptWhole) (files : List WholeFile) (from now : SpoolContents) → IsRead name whole [] files from now → AllBeside (IsKept now) whole (own_rows name now) files
+pub all_read : (name : List ℕ) (whole : List KeptWhole) (files : List WholeFile) (from now : SpoolContents)
+    → IsRead name whole [] files from now → AllBeside (IsKept now) whole (own_rows name now) files
 all_read name whole files from now is =
     let rows : own_rows name now ≡ is.rows = is.rows_are ∙ append-nil is.rows in
     let end : files ≡ is.before =
-    is.files_are ∙ ap (λ (xs : List WholeFile). is.before ++ xs) (none_left (IsReadFor now) is.behind is.reads) ∙ append-nil is.before in
+    is.files_are ∙ ap (λ (xs : List WholeFile). is.before ++ xs) (none_left (IsReadFor now) is.behind is.reads)
+    ∙ append-nil is.before in
     subst (λ (fs : List WholeFile). AllBeside (IsKept now) whole (own_rows name now) fs) (sym end)
     (subst (λ (es : List (ℕ × File)). AllBeside (IsKept now) whole es is.before) (sym rows) is.beside)
 
 -- a customer whose rows were gone through
-pub remembered : (own : OwnFiles) (name : List ℕ) (rows : List (ℕ × File)) (files : List WholeFile) (s t : SpoolContents) → own.name ≡ name
-    → (IsRead name [] (owned_of name rows) files s s → IsRead name own.whole [] files s t) → Remembering name rows files own s t
+pub remembered : (own : OwnFiles) (name : List ℕ) (rows : List (ℕ × File)) (files : List WholeFile)
+    (s t : SpoolContents) → own.name ≡ name
+    → (IsRead name [] (owned_of name rows) files s s → IsRead name own.whole [] files s t)
+    → Remembering name rows files own s t
 remembered own name rows files s t named step ordered are all =
-    let is = step (subst (λ (es : List (ℕ × File)). IsRead name [] es files s s) (sym are) (nothing_read name files s ordered all)) in
+    let is = step (subst (λ (es : List (ℕ × File)). IsRead name [] es files s s) (sym are)
+    (nothing_read name files s ordered all)) in
     record {
-      mirrored = subst (λ who. AllBeside (IsKept t) own.whole (own_rows who t) files) (sym named) (all_read name own.whole files s t is);
+      mirrored = subst (λ who. AllBeside (IsKept t) own.whole (own_rows who t) files) (sym named)
+          (all_read name own.whole files s t is);
       writes = subst (λ who. WritesRowsOf who s t) (sym named) is.writes;
       below = is.below;
       keys = λ n.

@@ -1,11 +1,14 @@
 -- Which numbers are emptied at an opening.
-use Rattle.std.proofs.Common.{◌≡◌, ℕ, suc, zero, ◌+◌, ◌-◌, ◌<◌, ◌≤◌, ◌^◌, ◌==◌, min, max, nat_lt, Bool, true, false, ◌||◌, List, [], ◌∷◌, length, replicate, slice_index_or, slice_set, refl, inl, inr, sym, ap, subst, ◌∙◌, arith}
+use Rattle.std.proofs.Common.{◌≡◌, ℕ, suc, zero, ◌+◌, ◌-◌, ◌<◌, ◌≤◌, ◌^◌, ◌==◌, min, max, nat_lt, Bool, true, false}
+use Rattle.std.proofs.Common.{◌||◌, List, [], ◌∷◌, length, replicate, slice_index_or, slice_set, refl, inl, inr, sym}
+use Rattle.std.proofs.Common.{ap, subst, ◌∙◌, arith}
 use Rattle.std.specs.List.{AllByRecursion}
 use Rattle.std.proofs.lemmas.Bool.{cases_Bool, cases_lt, eqb-false, eqb-true}
 use Rattle.std.proofs.lemmas.List.{get_or-replicate, get_or-set_other, get_or-set_same, length-replicate, length-set}
 use Rattle.std.proofs.Math.ListN.{get_or-eq_default}
 use Rattle.njh_spoolfile.specs.declared.kept.StoredFile.{StoredFile}
-use Rattle.njh_keeper.specs.code.Writing.{AreBelow, emptied_at, free_at, is_marked, is_used, key_behind, marked_by, numbers_but, unmarked}
+use Rattle.njh_keeper.specs.code.Writing.{AreBelow, emptied_at, free_at, is_marked, is_used, key_behind, marked_by}
+use Rattle.njh_keeper.specs.code.Writing.{numbers_but, unmarked}
 
 or_false : (b : Bool) → b ≡ (b || false)
 or_false true = refl
@@ -16,18 +19,24 @@ or_true true = refl
 or_true false = refl
 
 -- what is marked
-set_step : (marks : List Bool) (i k : ℕ) (used : Bool) → k < length marks → (slice_index_or (slice_set marks i true) k false || used) ≡ (slice_index_or marks k false || ((i == k) || used))
+set_step : (marks : List Bool) (i k : ℕ) (used : Bool) → k < length marks
+    → (slice_index_or (slice_set marks i true) k false || used) ≡ (slice_index_or marks k false || ((i == k) || used))
 set_step marks i k used within = elim (cases_Bool (i == k)) [
   | inl same ↦
-      let here : slice_index_or (slice_set marks i true) k false ≡ true = subst (λ at. slice_index_or (slice_set marks at true) k false ≡ true) (sym (eqb-true i k same)) (get_or-set_same marks k true false within) in
+      let here : slice_index_or (slice_set marks i true) k false ≡ true =
+      subst (λ at. slice_index_or (slice_set marks at true) k false ≡ true) (sym (eqb-true i k same))
+      (get_or-set_same marks k true false within) in
       rw (here, same) (or_true (slice_index_or marks k false))
   | inr other ↦ rw (other, get_or-set_other marks i k true false (λ e. eqb-false i k other (sym e))) refl
 ]
 
-pub marks_are : (marks : List Bool) (files : List StoredFile) (k : ℕ) → k < length marks → is_marked (marked_by marks files) k ≡ (is_marked marks k || is_used files k)
+pub marks_are : (marks : List Bool) (files : List StoredFile) (k : ℕ) → k < length marks
+    → is_marked (marked_by marks files) k ≡ (is_marked marks k || is_used files k)
 marks_are marks [] k within = or_false (is_marked marks k)
 marks_are marks (f ∷ fs) k within =
-    marks_are (slice_set marks f.file.key true) fs k (subst (λ n. k < n) (sym (length-set marks f.file.key true)) within) ∙ set_step marks f.file.key k (is_used fs k) within
+    marks_are (slice_set marks f.file.key true) fs k
+    (subst (λ n. k < n) (sym (length-set marks f.file.key true)) within)
+    ∙ set_step marks f.file.key k (is_used fs k) within
 
 pub marks_stay : (marks : List Bool) (files : List StoredFile) → length (marked_by marks files) ≡ length marks
 marks_stay marks [] = refl
@@ -36,22 +45,28 @@ marks_stay marks (f ∷ fs) = marks_stay (slice_set marks f.file.key true) fs �
 -- numbers alike
 pub numbers_same : (p q : ℕ → Bool) (n : ℕ) → ((k : ℕ) → k < n → p k ≡ q k) → numbers_but p n ≡ numbers_but q n
 numbers_same p q zero same = refl
-numbers_same p q (suc n) same = rw (same n (omega arith), numbers_same p q n (λ k less. same k (omega (arith, less)))) refl
+numbers_same p q (suc n) same = rw (same n (omega arith), numbers_same p q n (λ k less. same k (omega (arith, less))))
+    refl
 
 -- no file's records stand under a number that isn't below
-pub unused_high : (files : List StoredFile) (next k : ℕ) → AllByRecursion (λ f. f.file.key < next) files → next ≤ k → is_used files k ≡ false
+pub unused_high : (files : List StoredFile) (next k : ℕ) → AllByRecursion (λ f. f.file.key < next) files → next ≤ k
+    → is_used files k ≡ false
 unused_high [] next k all high = refl
 unused_high (f ∷ fs) next k all high = elim (cases_Bool (f.file.key == k)) [
   | inl same ↦ absurd (let e = eqb-true f.file.key k same in omega (arith, e, all.0, high))
   | inr other ↦ rw (other) (unused_high fs next k all.1 high)
 ]
 
-pub marks_of_files : (files : List StoredFile) (next n : ℕ) → AllByRecursion (λ f. f.file.key < next) files → next ≤ 200000 → unmarked (marked_by (replicate 200000 false) files) n ≡ numbers_but (is_used files) n
+pub marks_of_files : (files : List StoredFile) (next n : ℕ) → AllByRecursion (λ f. f.file.key < next) files
+    → next ≤ 200000 → unmarked (marked_by (replicate 200000 false) files) n ≡ numbers_but (is_used files) n
 marks_of_files files next n all few =
     let marks = replicate 200000 false in
     numbers_same (is_marked (marked_by marks files)) (is_used files) n (λ k less. elim (cases_lt k 200000) [
-      | inl within ↦ marks_are marks files k (subst (λ m. k < m) (sym (length-replicate 200000 false)) within) ∙ ap (λ b. b || is_used files k) (get_or-replicate 200000 k false false within)
-      | inr high ↦ get_or-eq_default (marked_by marks files) false (subst (λ m. m ≤ k) (sym (marks_stay marks files ∙ length-replicate 200000 false)) high) ∙ sym (unused_high files next k all (omega (arith, few, high)))
+      | inl within ↦ marks_are marks files k (subst (λ m. k < m) (sym (length-replicate 200000 false)) within)
+          ∙ ap (λ b. b || is_used files k) (get_or-replicate 200000 k false false within)
+      | inr high ↦ get_or-eq_default (marked_by marks files) false
+          (subst (λ m. m ≤ k) (sym (marks_stay marks files ∙ length-replicate 200000 false)) high)
+          ∙ sym (unused_high files next k all (omega (arith, few, high)))
     ])
 
 -- the next number is behind those of the files
@@ -59,7 +74,8 @@ behind : (next : ℕ) (files : List StoredFile) → next ≤ key_behind next fil
 behind next [] = omega arith
 behind next (f ∷ fs) = let more = behind (max next (min (f.file.key + 1) (2 ^ 32 - 1))) fs in omega (arith, more)
 
-pub are_below : (next : ℕ) (files : List StoredFile) (end : ℕ) → key_behind next files ≤ end → end ≤ 200000 → AllByRecursion (λ f. f.file.key < end) files
+pub are_below : (next : ℕ) (files : List StoredFile) (end : ℕ) → key_behind next files ≤ end → end ≤ 200000
+    → AllByRecursion (λ f. f.file.key < end) files
 are_below next [] end most few = tt
 are_below next (f ∷ fs) end most few =
     let here = behind (max next (min (f.file.key + 1) (2 ^ 32 - 1))) fs in
@@ -69,10 +85,14 @@ are_below next (f ∷ fs) end most few =
 looked_for : (next : ℕ) → next ≤ 200000 → (nat_lt 200000 next ≡ false) × (min (next + 64) (2 ^ 32 - 1) ≡ next + 64)
 looked_for next few = (grind (arith, few), omega (arith, few))
 
-pub emptied_is : (files : List StoredFile) (next : ℕ) (marks : List Bool) → next ≤ 200000 → AreBelow files next → marks ≡ marked_by (replicate 200000 false) files
+pub emptied_is : (files : List StoredFile) (next : ℕ) (marks : List Bool) → next ≤ 200000 → AreBelow files next
+    → marks ≡ marked_by (replicate 200000 false) files
     → unmarked marks (min (next + 64) (2 ^ 32 - 1)) ≡ emptied_at files next
-emptied_is files next marks few all are = let h = looked_for next few in rw (are, h.0, h.1) (marks_of_files files next (next + 64) (all few) few)
+emptied_is files next marks few all are = let h =
+    looked_for next few in rw (are, h.0, h.1) (marks_of_files files next (next + 64) (all few) few)
 
-pub free_is : (files : List StoredFile) (next : ℕ) (marks : List Bool) → next ≤ 200000 → AreBelow files next → marks ≡ marked_by (replicate 200000 false) files
+pub free_is : (files : List StoredFile) (next : ℕ) (marks : List Bool) → next ≤ 200000 → AreBelow files next
+    → marks ≡ marked_by (replicate 200000 false) files
     → unmarked marks next ≡ free_at files next
-free_is files next marks few all are = let h = looked_for next few in rw (are, h.0) (marks_of_files files next next (all few) few)
+free_is files next marks few all are = let h =
+    looked_for next few in rw (are, h.0) (marks_of_files files next next (all few) few)

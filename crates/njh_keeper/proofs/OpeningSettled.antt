@@ -11,19 +11,26 @@ use Rattle.njh_keeper.specs.code.Opening.{HasBegun}
 use Rattle.njh_keeper.specs.code.Remembered.{Mirrored, Numbers}
 use Rattle.njh_keeper.proofs.LeftLaws.{left_of_parts}
 
-pub zip_by_place : {X Y : Type 0} (R : X → Y → Type 0) (xs : List X) (ys : List Y) (d : Y) → length xs ≡ length ys → ((c : ℕ) → (x : X) → c < length xs → x ≡ get_or xs c x → R x (get_or ys c d)) → AllZip R xs ys
+pub zip_by_place : {X Y : Type 0} (R : X → Y → Type 0) (xs : List X) (ys : List Y) (d : Y) → length xs ≡ length ys
+    → ((c : ℕ) → (x : X) → c < length xs → x ≡ get_or xs c x → R x (get_or ys c d)) → AllZip R xs ys
 zip_by_place R [] [] d long each = tt
 zip_by_place R [] (y ∷ ys) d long each = absurd (omega (arith, long))
 zip_by_place R (x ∷ xs) [] d long each = absurd (omega (arith, long))
-zip_by_place R (x ∷ xs) (y ∷ ys) d long each = (each 0 x (omega arith) refl, zip_by_place R xs ys d (omega (arith, long)) (λ c z low is. each (suc c) z (omega (arith, low)) is))
+zip_by_place R (x ∷ xs) (y ∷ ys) d long each = (
+  each 0 x (omega arith) refl,
+  zip_by_place R xs ys d (omega (arith, long))
+      (λ c z low is. each (suc c) z (omega (arith, low)) is),
+)
 
 names_same : (owns : List own_files.OwnFiles) → map (λ own. own.name) (map own_of owns) ≡ map (λ own. own.name) owns
 names_same [] = refl
 names_same (own ∷ owns) = ap (λ names. own.name ∷ names) (names_same owns)
 
-pub left_after : (names : List (List ℕ)) (hub : List Part) (owns : List own_files.OwnFiles) (w : Numbers) (t : SpoolContents) → HasBegun names hub (map own_of owns) w t → length names ≡ length hub
+pub left_after : (names : List (List ℕ)) (hub : List Part) (owns : List own_files.OwnFiles) (w : Numbers)
+    (t : SpoolContents) → HasBegun names hub (map own_of owns) w t → length names ≡ length hub
     → left_in (map (λ own. own.name) owns) t ≡ kept_of hub
 left_after names hub owns w t begun long =
     ap (λ ns. left_in ns t) (sym (names_same owns))
     ∙ left_of_parts (λ p. p.customer.spool.whole) t (map own_of owns) hub
-    (zip_by_place (λ own p. Mirrored t own p.customer.spool.whole) (map own_of owns) hub no_part (begun.count ∙ long) (λ c own low is. (begun.each c own low is).mirrored))
+    (zip_by_place (λ own p. Mirrored t own p.customer.spool.whole) (map own_of owns) hub no_part (begun.count ∙ long)
+    (λ c own low is. (begun.each c own low is).mirrored))

@@ -1,5 +1,6 @@
 -- What is remembered of files that aren't whole, and what stands of them on a spool file, call by call.
-use Rattle.std.proofs.Common.{◌≡◌, ◌≢◌, ℕ, zero, suc, ◌+◌, ◌^◌, ◌<◌, ◌≤◌, Bool, false, cond, List, [], ◌∷◌, ◌++◌, length, get_or, set, remove, map, take, refl, sym, ap, subst, ◌∙◌, arith}
+use Rattle.std.proofs.Common.{◌≡◌, ◌≢◌, ℕ, zero, suc, ◌+◌, ◌^◌, ◌<◌, ◌≤◌, Bool, false, cond, List, [], ◌∷◌, ◌++◌}
+use Rattle.std.proofs.Common.{length, get_or, set, remove, map, take, refl, sym, ap, subst, ◌∙◌, arith}
 use Rattle.std.specs.Prelude.{⊤}
 use Rattle.std.specs.List.{AllByRecursion}
 use Rattle.njh_spool.specs.CustomerSpool.{CustomerSpool, partial_records}
@@ -7,14 +8,17 @@ use Rattle.njh_spoolfile.specs.Kept.{SpoolContents, contents, records_of, withou
 use Rattle.std.proofs.lemmas.List.{take_all}
 use Rattle.njh_keeper.specs.code.Mirrored.{HasRecords, IsOrdered, WritesUnder}
 use Rattle.njh_keeper.specs.code.Partly.{GoesOn, KeepsNew, KeepsOn}
-use Rattle.njh_keeper.specs.code.Remembered.{AreApart, IsPartlyKept, KeptPartial, Numbers, OwnFiles, Sweep, claim, keyed, uses, with_key}
+use Rattle.njh_keeper.specs.code.Remembered.{AreApart, IsPartlyKept, KeptPartial, Numbers, OwnFiles, Sweep, claim}
+use Rattle.njh_keeper.specs.code.Remembered.{keyed, uses, with_key}
 use Rattle.njh_keeper.proofs.CallLaws.{take_follows, taken_is_empty}
 use Rattle.njh_keeper.proofs.FrameLaws.{drops_records}
 use Rattle.njh_keeper.proofs.KeyLaws.{keyed-append, keyed_apart, keyed_none, one_itself}
 use Rattle.njh_keeper.proofs.MirrorLaws.{mirrored_under}
 use Rattle.njh_keeper.proofs.MovesLaws.{moves_memory, moves_nothing, moves_then, moves_under, still_apart}
 use Rattle.njh_keeper.proofs.NumberedLaws.{all_at}
-use Rattle.njh_keeper.proofs.UsesLaws.{in_hand_alone, in_hand_is_used, partial_is_apart, sweep_is_apart, uses_as_one_is_swept, uses_as_partial_changes, uses_as_partial_comes, uses_as_partial_is_swept}
+use Rattle.njh_keeper.proofs.UsesLaws.{in_hand_alone, in_hand_is_used, partial_is_apart, sweep_is_apart}
+use Rattle.njh_keeper.proofs.UsesLaws.{uses_as_one_is_swept, uses_as_partial_changes, uses_as_partial_comes}
+use Rattle.njh_keeper.proofs.UsesLaws.{uses_as_partial_is_swept}
 
 module _ {X : Type 0} (P : X → Type 0) where
   pub all_push : (xs : List X) (x : X) → AllByRecursion P xs → P x → AllByRecursion P (xs ++ x ∷ [])
@@ -37,7 +41,8 @@ module _ {X : Type 0} (P : X → Type 0) where
   all_map f [] all = tt
   all_map f (y ∷ ys) all = (all.0, all_map f ys all.1)
 
-  pub all_of_map : {Y : Type 0} (f : Y → X) (ys : List Y) → AllByRecursion P (map f ys) → AllByRecursion (λ y. P (f y)) ys
+  pub all_of_map : {Y : Type 0} (f : Y → X) (ys : List Y) → AllByRecursion P (map f ys)
+      → AllByRecursion (λ y. P (f y)) ys
   all_of_map f [] all = tt
   all_of_map f (y ∷ ys) all = (all.0, all_of_map f ys all.1)
 
@@ -79,27 +84,34 @@ module _ {X : Type 0} (P Q : X → Type 0) where
 
 module _ (now : CustomerSpool) (s t : SpoolContents) where
   goes_on_still : (p : KeptPartial) → records_of p.key t ≡ records_of p.key s → GoesOn now s p → GoesOn now t p
-  goes_on_still p same goes more = let one = goes more in record { written = one.written; stored = ap (map contents) same ∙ one.stored }
+  goes_on_still p same goes more = let one =
+      goes more in record { written = one.written; stored = ap (map contents) same ∙ one.stored }
 
-  pub still_all : (ps : List KeptPartial) → AllByRecursion (λ p. records_of p.key t ≡ records_of p.key s) ps → AllByRecursion (GoesOn now s) ps → AllByRecursion (GoesOn now t) ps
+  pub still_all : (ps : List KeptPartial) → AllByRecursion (λ p. records_of p.key t ≡ records_of p.key s) ps
+      → AllByRecursion (GoesOn now s) ps → AllByRecursion (GoesOn now t) ps
   still_all [] same all = tt
   still_all (p ∷ ps) same all = (goes_on_still p same.0 all.0, still_all ps same.1 all.1)
 
-  under_all : (key : ℕ) → WritesUnder key s t → (ps : List KeptPartial) → AllByRecursion (λ p. p.key ≢ key) ps → AllByRecursion (GoesOn now s) ps → AllByRecursion (GoesOn now t) ps
+  under_all : (key : ℕ) → WritesUnder key s t → (ps : List KeptPartial) → AllByRecursion (λ p. p.key ≢ key) ps
+      → AllByRecursion (GoesOn now s) ps → AllByRecursion (GoesOn now t) ps
   under_all key under [] apart all = tt
-  under_all key under (p ∷ ps) apart all = (goes_on_still p (under.others p.key apart.0) all.0, under_all key under ps apart.1 all.1)
+  under_all key under (p ∷ ps) apart all =
+      (goes_on_still p (under.others p.key apart.0) all.0, under_all key under ps apart.1 all.1)
 
 -- a number in hand is no such file's
-in_hand_not_partial : (w : Numbers) (own : OwnFiles) (key : ℕ) → AreApart (with_key key (claim w own)) → keyed (λ (p : KeptPartial). p.key) key own.partial ≡ 0
+in_hand_not_partial : (w : Numbers) (own : OwnFiles) (key : ℕ) → AreApart (with_key key (claim w own))
+    → keyed (λ (p : KeptPartial). p.key) key own.partial ≡ 0
 in_hand_not_partial w own key apart = let once = apart key in let one = one_itself key in omega (arith, once, one)
 
 -- a number that is swept is no such file's
-swept_not_partial : (w : Numbers) (own : OwnFiles) (rest : List Sweep) (sweep : Sweep) → w.sweeps ≡ rest ++ sweep ∷ [] → AreApart (claim w own)
+swept_not_partial : (w : Numbers) (own : OwnFiles) (rest : List Sweep) (sweep : Sweep) → w.sweeps ≡ rest ++ sweep ∷ []
+    → AreApart (claim w own)
     → keyed (λ (p : KeptPartial). p.key) sweep.key own.partial ≡ 0
 swept_not_partial w own rest sweep are apart =
     let once = apart sweep.key in
     let one = one_itself sweep.key in
-    let all : keyed (λ (x : Sweep). x.key) sweep.key w.sweeps ≡ keyed (λ (x : Sweep). x.key) sweep.key (rest ++ sweep ∷ []) = ap (keyed (λ (x : Sweep). x.key) sweep.key) are in
+    let all : keyed (λ (x : Sweep). x.key) sweep.key w.sweeps ≡ keyed (λ (x : Sweep). x.key) sweep.key
+    (rest ++ sweep ∷ []) = ap (keyed (λ (x : Sweep). x.key) sweep.key) are in
     let last = keyed-append (λ (x : Sweep). x.key) sweep.key rest (sweep ∷ []) in
     omega (arith, once, one, all, last)
 
@@ -107,12 +119,15 @@ swept_not_partial w own rest sweep are apart =
 
 module _ (now : CustomerSpool) (w : Numbers) (own : OwnFiles) where
   pub keeps_on_nothing : (s : SpoolContents) → KeepsOn w own w own now s s
-  keeps_on_nothing s files h apart all go_on = record { moves = moves_nothing (claim w own) s h; mirrored = all; go_on = go_on }
+  keeps_on_nothing s files h apart all go_on =
+      record { moves = moves_nothing (claim w own) s h; mirrored = all; go_on = go_on }
 
-  pub keeps_on_then : (w1 w2 : Numbers) (own1 own2 : OwnFiles) (s t u : SpoolContents) → KeepsOn w own w1 own1 now s t → KeepsOn w1 own1 w2 own2 now t u → KeepsOn w own w2 own2 now s u
+  pub keeps_on_then : (w1 w2 : Numbers) (own1 own2 : OwnFiles) (s t u : SpoolContents) → KeepsOn w own w1 own1 now s t
+      → KeepsOn w1 own1 w2 own2 now t u → KeepsOn w own w2 own2 now s u
   keeps_on_then w1 w2 own1 own2 s t u one more files h apart all go_on =
       let first = one files h apart all go_on in
-      let then = more files first.moves.ordered (still_apart (claim w own) (claim w1 own1) s t first.moves apart) first.mirrored first.go_on in
+      let then = more files first.moves.ordered (still_apart (claim w own) (claim w1 own1) s t first.moves apart)
+      first.mirrored first.go_on in
       record {
         moves = moves_then (claim w own) (claim w1 own1) (claim w2 own2) s t u first.moves then.moves;
         mirrored = then.mirrored;
@@ -130,7 +145,8 @@ module _ (now : CustomerSpool) (w : Numbers) (own : OwnFiles) where
       let none : keyed (λ (p : KeptPartial). p.key) key own.partial ≡ 0 = in_hand_not_partial w1 own key mid in
       let then =
       new files first.moves.ordered mid (taken_is_empty w own s files h all w1 key taken) first.mirrored
-      (under_all now s t key (drops_records key 0 (2 ^ 23) s h (omega arith)) own.partial (keyed_none (λ (p : KeptPartial). p.key) key own.partial none) go_on) in
+      (under_all now s t key (drops_records key 0 (2 ^ 23) s h (omega arith)) own.partial
+      (keyed_none (λ (p : KeptPartial). p.key) key own.partial none) go_on) in
       record {
         moves = moves_then (claim w own) (with_key key (claim w1 own)) (claim w2 own2) s t u first.moves then.moves;
         mirrored = then.mirrored;
@@ -141,7 +157,8 @@ module _ (now : CustomerSpool) (w : Numbers) (own : OwnFiles) where
 
   -- one comes
   pub keeps_begun : (p : KeptPartial) (s t : SpoolContents) → p.written ≡ length (partial_records p.number now)
-      → (IsOrdered s → HasRecords p.key [] s → WritesUnder p.key s t × HasRecords p.key (partial_records p.number now) t)
+      → (IsOrdered s → HasRecords p.key [] s
+      → WritesUnder p.key s t × HasRecords p.key (partial_records p.number now) t)
       → KeepsNew p.key w own w (record own { partial = own.partial ++ p ∷ [] }) now s t
   keeps_begun p s t whole written files h apart empty all go_on =
       let wrote = written h empty in
@@ -149,74 +166,104 @@ module _ (now : CustomerSpool) (w : Numbers) (own : OwnFiles) where
       record {
         moves =
             moves_under (with_key p.key (claim w own)) (claim w (record own { partial = own.partial ++ p ∷ [] })) s refl
-            (λ n. let same = uses_as_partial_comes w own p n in omega (arith, same)) p.key t wrote.0 (in_hand_is_used w own p.key) refl;
+            (λ n. let same = uses_as_partial_comes w own p n in omega (arith, same)) p.key t wrote.0
+            (in_hand_is_used w own p.key) refl;
         mirrored = mirrored_under s t own files all p.key wrote.0 (in_hand_alone w own p.key apart);
         go_on =
-            all_push (GoesOn now t) own.partial p (under_all now s t p.key wrote.0 own.partial (keyed_none (λ (x : KeptPartial). x.key) p.key own.partial none) go_on)
+            all_push (GoesOn now t) own.partial p
+            (under_all now s t p.key wrote.0 own.partial
+            (keyed_none (λ (x : KeptPartial). x.key) p.key own.partial none) go_on)
             (λ more. record {
               written = omega (arith, whole);
-              stored = subst (λ rs. HasRecords p.key rs t) (sym (ap (λ n. take n (partial_records p.number now)) whole ∙ take_all (length (partial_records p.number now)) (partial_records p.number now) (omega arith))) wrote.1;
+              stored = subst (λ rs. HasRecords p.key rs t)
+                  (sym (ap (λ n. take n (partial_records p.number now)) whole
+                  ∙ take_all (length (partial_records p.number now)) (partial_records p.number now) (omega arith)))
+                  wrote.1;
             });
       }
 
   -- some of what a file left that has left are dropped
-  pub keeps_while_swept : (rest : List Sweep) (sweep further : Sweep) (b : Bool) (first end : ℕ) (s t : SpoolContents) → w.sweeps ≡ rest ++ sweep ∷ [] → further.key ≡ sweep.key → end ≤ 2 ^ 23
+  pub keeps_while_swept : (rest : List Sweep) (sweep further : Sweep) (b : Bool) (first end : ℕ) (s t : SpoolContents)
+      → w.sweeps ≡ rest ++ sweep ∷ [] → further.key ≡ sweep.key → end ≤ 2 ^ 23
       → t ≡ without_records sweep.key first end s
-      → KeepsOn w own (record w { sweeps = rest ++ cond b (further ∷ []) []; free_keys = w.free_keys ++ cond b [] (sweep.key ∷ []) }) own now s t
+      → KeepsOn w own (record w {
+        sweeps = rest ++ cond b (further ∷ []) [];
+        free_keys = w.free_keys ++ cond b []
+            (sweep.key ∷ []);
+      }) own now s t
   keeps_while_swept rest sweep further b first end s t are same within dropped files h apart all go_on =
-      let w' : Numbers = record w { sweeps = rest ++ cond b (further ∷ []) []; free_keys = w.free_keys ++ cond b [] (sweep.key ∷ []) } in
-      let under : WritesUnder sweep.key s t = subst (λ u. WritesUnder sweep.key s u) (sym dropped) (drops_records sweep.key first end s h within) in
+      let w' : Numbers = record w {
+        sweeps = rest ++ cond b (further ∷ []) [];
+        free_keys = w.free_keys ++ cond b []
+            (sweep.key ∷ []);
+      } in
+      let under : WritesUnder sweep.key s t =
+      subst (λ u. WritesUnder sweep.key s u) (sym dropped) (drops_records sweep.key first end s h within) in
       let alone = sweep_is_apart w own rest sweep are apart in
       let none = swept_not_partial w own rest sweep are apart in
       record {
         moves =
-            moves_under (claim w own) (claim w' own) s refl (λ n. let used = uses_as_one_is_swept w own rest sweep further b are same n in omega (arith, used)) sweep.key t under
+            moves_under (claim w own) (claim w' own) s refl
+            (λ n. let used = uses_as_one_is_swept w own rest sweep further b are same n in omega (arith, used))
+            sweep.key t under
             alone.1 refl;
         mirrored = mirrored_under s t own files all sweep.key under alone.0;
-        go_on = under_all now s t sweep.key under own.partial (keyed_none (λ (p : KeptPartial). p.key) sweep.key own.partial none) go_on;
+        go_on = under_all now s t sweep.key under own.partial
+            (keyed_none (λ (p : KeptPartial). p.key) sweep.key own.partial none) go_on;
       }
 
   module _ (i : ℕ) (p : KeptPartial) (there : i < length own.partial) (is : p ≡ get_or own.partial i p) where
     -- of one more records come
-    pub keeps_gone_on : (q : KeptPartial) (s t : SpoolContents) → q.key ≡ p.key → q.number ≡ p.number → p.seen ≤ length (partial_records p.number now)
-        → (IsOrdered s → IsPartlyKept s p (partial_records p.number now) → WritesUnder p.key s t × IsPartlyKept t q (partial_records p.number now))
+    pub keeps_gone_on : (q : KeptPartial) (s t : SpoolContents) → q.key ≡ p.key → q.number ≡ p.number
+        → p.seen ≤ length (partial_records p.number now)
+        → (IsOrdered s → IsPartlyKept s p (partial_records p.number now)
+        → WritesUnder p.key s t × IsPartlyKept t q (partial_records p.number now))
         → KeepsOn w own w (record own { partial = set own.partial i q }) now s t
     keeps_gone_on q s t key number grown written files h apart all go_on =
         let here = all_at (GoesOn now s) own.partial i p go_on there is in
         let wrote = written h (here grown) in
         let alone = partial_is_apart w own i p there is apart in
-        let once : keyed (λ (x : KeptPartial). x.key) p.key own.partial ≤ 1 = let most = apart p.key in omega (arith, most) in
+        let once : keyed (λ (x : KeptPartial). x.key) p.key own.partial ≤ 1 = let most =
+        apart p.key in omega (arith, most) in
         record {
           moves =
               moves_under (claim w own) (claim w (record own { partial = set own.partial i q })) s refl
-              (λ n. let same = uses_as_partial_changes w own i p q there is key n in omega (arith, same)) p.key t wrote.0 alone.1 refl;
+              (λ n. let same = uses_as_partial_changes w own i p q there is key n in omega (arith, same)) p.key t
+              wrote.0 alone.1 refl;
           mirrored = mirrored_under s t own files all p.key wrote.0 alone.0;
           go_on =
               all_set (GoesOn now t) own.partial i q
-              (under_all now s t p.key wrote.0 (remove own.partial i) (keyed_apart (λ (x : KeptPartial). x.key) own.partial i p there is once) (all_remove (GoesOn now s) own.partial i go_on))
+              (under_all now s t p.key wrote.0 (remove own.partial i)
+              (keyed_apart (λ (x : KeptPartial). x.key) own.partial i p there is once)
+              (all_remove (GoesOn now s) own.partial i go_on))
               (λ more. subst (λ n. IsPartlyKept t q (partial_records n now)) (sym number) wrote.1);
         }
 
     -- no stream is known to be about it
-    pub keeps_closed : (q : KeptPartial) (s : SpoolContents) → q ≡ record p { is_open = false } → KeepsOn w own w (record own { partial = set own.partial i q }) now s s
+    pub keeps_closed : (q : KeptPartial) (s : SpoolContents) → q ≡ record p { is_open = false }
+        → KeepsOn w own w (record own { partial = set own.partial i q }) now s s
     keeps_closed q s closed files h apart all go_on =
         let here = all_at (GoesOn now s) own.partial i p go_on there is in
         record {
           moves =
               moves_memory (claim w own) (claim w (record own { partial = set own.partial i q })) s refl
-              (λ n. let same = uses_as_partial_changes w own i p q there is (ap (λ x. x.key) closed) n in omega (arith, same)) h (omega arith);
+              (λ n. let same = uses_as_partial_changes w own i p q there is (ap (λ x. x.key) closed) n in omega
+              (arith, same)) h (omega arith);
           mirrored = all;
           go_on =
               all_set (GoesOn now s) own.partial i q (all_remove (GoesOn now s) own.partial i go_on)
-              (subst (GoesOn now s) (sym closed) (λ more. let one = here more in record { written = one.written; stored = one.stored }));
+              (subst (GoesOn now s) (sym closed)
+              (λ more. let one = here more in record { written = one.written; stored = one.stored }));
         }
 
     -- it is swept
     pub keeps_swept : (sweep : Sweep) (s : SpoolContents) → sweep.key ≡ p.key
-        → KeepsOn w own (record w { sweeps = w.sweeps ++ sweep ∷ [] }) (record own { partial = remove own.partial i }) now s s
+        → KeepsOn w own (record w { sweeps = w.sweeps ++ sweep ∷ [] }) (record own { partial = remove own.partial i })
+        now s s
     keeps_swept sweep s same files h apart all go_on = record {
       moves =
-          moves_memory (claim w own) (claim (record w { sweeps = w.sweeps ++ sweep ∷ [] }) (record own { partial = remove own.partial i })) s refl
+          moves_memory (claim w own) (claim (record w { sweeps = w.sweeps ++ sweep ∷ [] })
+          (record own { partial = remove own.partial i })) s refl
           (λ n. uses_as_partial_is_swept w own i p sweep there is same n) h (omega arith);
       mirrored = all;
       go_on = all_remove (GoesOn now s) own.partial i go_on;

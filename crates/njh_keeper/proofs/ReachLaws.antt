@@ -1,5 +1,7 @@
 -- The records of a hub's file are gone through, and what of them stands on a spool file.
-use Rattle.std.proofs.Common.{◌≡◌, ℕ, zero, suc, ◌+◌, ◌^◌, ◌<◌, ◌≤◌, ◌&&◌, Bool, true, false, List, [], ◌∷◌, ◌++◌, length, get_or, take, drop, slice_get, Option, Some, None, refl, sym, ap, subst, ◌∙◌, arith}
+use Rattle.std.proofs.Common.{◌≡◌, ℕ, zero, suc, ◌+◌, ◌^◌, ◌<◌, ◌≤◌, ◌&&◌, Bool, true, false, List, [], ◌∷◌, ◌++◌}
+use Rattle.std.proofs.Common.{length, get_or, take, drop, slice_get, Option, Some, None, refl, sym, ap, subst, ◌∙◌}
+use Rattle.std.proofs.Common.{arith}
 use Rattle.std.specs.List.{AllByRecursion}
 use Rattle.std.proofs.lemmas.List.{drop-drop, take-append-drop, take-take}
 use Rattle.sqlite.specs.State.{State}
@@ -20,7 +22,8 @@ use Rattle.njh_keeper.proofs.LeadingLaws.{leads_by, leads_nothing, leads_then, l
 
 -- ---- the next record of those that are left
 
-pub next_stands : (all : List Stored) (at : ℕ) (r : Stored) → Some r ≡ slice_get (drop at all) 0 → (at < length all) × (r ≡ get_or all at r)
+pub next_stands : (all : List Stored) (at : ℕ) (r : Stored) → Some r ≡ slice_get (drop at all) 0
+    → (at < length all) × (r ≡ get_or all at r)
 next_stands [] zero r is = absurd (cc is)
 next_stands [] (suc at) r is = absurd (cc is)
 next_stands (x ∷ xs) zero r is = (omega arith, cc is)
@@ -31,14 +34,17 @@ none_is_left [] at is = omega arith
 none_is_left (x ∷ xs) zero is = absurd (cc is)
 none_is_left (x ∷ xs) (suc at) is = let past = none_is_left xs at is in omega (arith, past)
 
-next_fits : (all : List Stored) (at : ℕ) (r : Stored) → at < length all → r ≡ get_or all at r → FitsHub r → AllByRecursion FitsHub (take at all)
+next_fits : (all : List Stored) (at : ℕ) (r : Stored) → at < length all → r ≡ get_or all at r → FitsHub r
+    → AllByRecursion FitsHub (take at all)
     → AllByRecursion FitsHub (take (suc at) all)
 next_fits [] at r there is fits so_far = absurd (omega (arith, there))
 next_fits (x ∷ xs) zero r there is fits so_far = (subst FitsHub is fits, tt)
-next_fits (x ∷ xs) (suc at) r there is fits so_far = (so_far.0, next_fits xs at r (omega (arith, there)) is fits so_far.1)
+next_fits (x ∷ xs) (suc at) r there is fits so_far =
+    (so_far.0, next_fits xs at r (omega (arith, there)) is fits so_far.1)
 
 -- so many fit, and then one more
-pub one_more_fits : (all : List Stored) (at : ℕ) (r : Stored) → at < length all → r ≡ get_or all at r → FitsHub r → AllByRecursion FitsHub (take at all)
+pub one_more_fits : (all : List Stored) (at : ℕ) (r : Stored) → at < length all → r ≡ get_or all at r → FitsHub r
+    → AllByRecursion FitsHub (take at all)
     → AllByRecursion FitsHub (take (at + 1) all)
 one_more_fits all at r there is fits so_far =
     let one : suc at ≡ at + 1 = omega arith in
@@ -48,16 +54,21 @@ pub one_fewer_left : (all : List Stored) (at : ℕ) → drop 1 (drop at all) ≡
 one_fewer_left all at = drop-drop 1 at all
 
 -- its bytes were read
-pub bytes_read : (all : List Stored) (at srcb : ℕ) (bytes read : List ℕ) → read ≡ bytes → let r : Stored = record { srcb = srcb; bytes = bytes } in r ≡ get_or all at r
+pub bytes_read : (all : List Stored) (at srcb : ℕ) (bytes read : List ℕ) → read ≡ bytes → let r : Stored =
+    record { srcb = srcb; bytes = bytes } in r ≡ get_or all at r
     → let s : Stored = record { srcb = srcb; bytes = read } in s ≡ get_or all at s
 bytes_read all at srcb bytes read same is =
-    subst (λ (xs : List ℕ). ◌≡◌ {A = Stored} (record { srcb = srcb; bytes = xs }) (get_or all at (record { srcb = srcb; bytes = xs }))) (sym same) is
+    subst (λ (xs : List ℕ). ◌≡◌ {A = Stored} (record { srcb = srcb; bytes = xs })
+    (get_or all at (record { srcb = srcb; bytes = xs }))) (sym same) is
 
-pub file_is_read : (number : ℕ) (spool : CustomerSpool) (rs : List Stored) → records_numbered number spool ≡ Some rs → rs ≡ records_in number spool
-file_is_read number spool rs is = sym (ap (λ (o : Option (List Stored)). elim o [ Some records ↦ records | None ↦ [] ]) is)
+pub file_is_read : (number : ℕ) (spool : CustomerSpool) (rs : List Stored) → records_numbered number spool ≡ Some rs
+    → rs ≡ records_in number spool
+file_is_read number spool rs is = sym (ap (λ (o : Option (List Stored)). elim o [ Some records ↦ records | None ↦ [] ])
+    is)
 
 -- a writer's memory but for what waits
-pub only_waits : {S : Type 0} (a b c : SpoolWriter S) (waiting : ℕ) → b ≡ record a { store = b.store; waiting = b.waiting } → c ≡ record b { store = c.store; waiting = waiting }
+pub only_waits : {S : Type 0} (a b c : SpoolWriter S) (waiting : ℕ)
+    → b ≡ record a { store = b.store; waiting = b.waiting } → c ≡ record b { store = c.store; waiting = waiting }
     → c ≡ record a { store = c.store; waiting = c.waiting }
 only_waits {S} a b c waiting one more =
     let with_both : SpoolWriter S → ℕ → SpoolWriter S = λ x n. record x { store = c.store; waiting = n } in
@@ -66,62 +77,79 @@ only_waits {S} a b c waiting one more =
 -- ---- what stands there then
 
 -- the first so many records are these now, and the others as they were
-abbrev pub Reaches : (key : ℕ) (Given : List Stored → Type 0) (all : List Stored) (at : ℕ) → SpoolContents → SpoolContents → Type 0
+abbrev pub Reaches : (key : ℕ) (Given : List Stored → Type 0) (all : List Stored) (at : ℕ) → SpoolContents
+    → SpoolContents → Type 0
 Reaches key Given all at s t =
-    (before : List Stored) → IsOrdered s → HasRecords key before s → Given before → WritesUnder key s t × HasRecords key (records_midway at all before) t
+    (before : List Stored) → IsOrdered s → HasRecords key before s → Given before
+    → WritesUnder key s t × HasRecords key (records_midway at all before) t
 
 -- what stood there was alike to the first of them
 abbrev pub IsFront : List Stored → List Stored → Type 0
 IsFront all before = (length before ≤ length all) × AreAlike before (take (length before) all)
 
-module _ (key : ℕ) (Given : List Stored → Type 0) (all : List Stored) (front : (before : List Stored) → Given before → IsFront all before) where
+module _ (key : ℕ) (Given : List Stored → Type 0) (all : List Stored)
+    (front : (before : List Stored) → Given before → IsFront all before) where
   pub reach_begins : (at : State) → Leads (Reaches key Given all 0) at at
   reach_begins at = leads_nothing (Reaches key Given all 0) at (λ s before h has given. (writes_nothing key s h, has))
 
   module _ (at : ℕ) (old mid new : State) (so_far : Leads (Reaches key Given all at) old mid) where
     -- a record is passed over that stands there
-    pub reach_passes : ((before : List Stored) → Given before → records_midway (at + 1) all before ≡ records_midway at all before) → Leads (Reaches key Given all (at + 1)) old mid
+    pub reach_passes : ((before : List Stored) → Given before
+        → records_midway (at + 1) all before ≡ records_midway at all before)
+        → Leads (Reaches key Given all (at + 1)) old mid
     reach_passes same =
         leads_weaker (Reaches key Given all at) (Reaches key Given all (at + 1)) old mid
-        (λ s t reached before h has given. let one = reached before h has given in (one.0, subst (λ rs. HasRecords key rs t) (sym (same before given)) one.1)) so_far
+        (λ s t reached before h has given. let one = reached before h has given
+        in (one.0, subst (λ rs. HasRecords key rs t) (sym (same before given)) one.1)) so_far
 
-    module _ (r : Record) (low : at < 2 ^ 23) (mine : r.key ≡ key) (place : r.place ≡ at) (is : stored_of r ≡ get_or all at (stored_of r)) where
+    module _ (r : Record) (low : at < 2 ^ 23) (mine : r.key ≡ key) (place : r.place ≡ at)
+        (is : stored_of r ≡ get_or all at (stored_of r)) where
       lower : r.place < 2 ^ 23
       lower = omega (arith, low, place)
 
       -- a record is added behind those that stood there
-      pub reach_adds : ((before : List Stored) → Given before → length before ≤ at) → at < length all → Changes (with_record r) mid new → Leads (Reaches key Given all (at + 1)) old new
+      pub reach_adds : ((before : List Stored) → Given before → length before ≤ at) → at < length all
+          → Changes (with_record r) mid new → Leads (Reaches key Given all (at + 1)) old new
       reach_adds behind within changes =
-          leads_then (Reaches key Given all at) (λ s t. t ≡ with_record r s) (Reaches key Given all (at + 1)) old mid new so_far (leads_by (with_record r) mid new changes)
+          leads_then (Reaches key Given all at) (λ s t. t ≡ with_record r s) (Reaches key Given all (at + 1)) old mid
+          new so_far (leads_by (with_record r) mid new changes)
           (λ s t u reached is_u before h has given.
           let one = reached before h has given in
           let all_front = front before given in
           subst (λ v. WritesUnder key s v × HasRecords key (records_midway (at + 1) all before) v) (sym is_u) (
             writes_then key s t (with_record r t) one.0 (writes_record key r t one.0.ordered lower mine),
-            finish_adds before all all_front.0 all_front.1 at key r t one.0.ordered one.1 mine place is (behind before given) within,
+            finish_adds before all all_front.0 all_front.1 at key r t one.0.ordered one.1 mine place is
+                (behind before given) within,
           ))
 
       -- a header is written anew
-      pub reach_rewrites : ((before : List Stored) → Given before → at < length before) → Changes (with_replaced r) mid new → Leads (Reaches key Given all (at + 1)) old new
+      pub reach_rewrites : ((before : List Stored) → Given before → at < length before)
+          → Changes (with_replaced r) mid new → Leads (Reaches key Given all (at + 1)) old new
       reach_rewrites within changes =
-          leads_then (Reaches key Given all at) (λ s t. t ≡ with_replaced r s) (Reaches key Given all (at + 1)) old mid new so_far (leads_by (with_replaced r) mid new changes)
+          leads_then (Reaches key Given all at) (λ s t. t ≡ with_replaced r s) (Reaches key Given all (at + 1)) old mid
+          new so_far (leads_by (with_replaced r) mid new changes)
           (λ s t u reached is_u before h has given.
           let one = reached before h has given in
           let all_front = front before given in
-          let as_key : with_replaced r t ≡ with_record r (without_records key at (at + 1) t) = (λ i. with_record r (without_records (mine i) (place i) (place i + 1) t)) in
-          let under : WritesUnder key t (with_replaced r t) = subst (λ k. WritesUnder key t (with_record r (without_records k r.place (r.place + 1) t))) (sym mine)
+          let as_key : with_replaced r t ≡ with_record r (without_records key at (at + 1) t) =
+          (λ i. with_record r (without_records (mine i) (place i) (place i + 1) t)) in
+          let under : WritesUnder key t (with_replaced r t) =
+          subst (λ k. WritesUnder key t (with_record r (without_records k r.place (r.place + 1) t))) (sym mine)
           (changes_record key r t one.0.ordered lower mine) in
           subst (λ v. WritesUnder key s v × HasRecords key (records_midway (at + 1) all before) v) (sym is_u) (
             writes_then key s t (with_replaced r t) one.0 under,
             subst (HasRecords key (records_midway (at + 1) all before)) (sym as_key)
-                (finish_rewrites before all all_front.0 all_front.1 at key r t one.0.ordered one.1 mine place is (within before given)),
+                (finish_rewrites before all all_front.0 all_front.1 at key r t one.0.ordered one.1 mine place is
+                (within before given)),
           ))
 
   -- none is left
   pub reach_ends : (at : ℕ) (old new : State) → length all ≤ at → Leads (Reaches key Given all at) old new
-      → Leads (λ s t. (before : List Stored) → IsOrdered s → HasRecords key before s → Given before → WritesUnder key s t × HasRecords key all t) old new
+      → Leads (λ s t. (before : List Stored) → IsOrdered s → HasRecords key before s → Given before
+      → WritesUnder key s t × HasRecords key all t) old new
   reach_ends at old new past =
-      leads_weaker (Reaches key Given all at) (λ s t. (before : List Stored) → IsOrdered s → HasRecords key before s → Given before → WritesUnder key s t × HasRecords key all t) old new
+      leads_weaker (Reaches key Given all at) (λ s t. (before : List Stored) → IsOrdered s → HasRecords key before s
+      → Given before → WritesUnder key s t × HasRecords key all t) old new
       (λ s t reached before h has given.
       let one = reached before h has given in
       let all_front = front before given in
@@ -138,7 +166,8 @@ front_again : (written : ℕ) (all before : List Stored) (at : ℕ) → before �
     → records_midway at all before ≡ before
 front_again written all before at same within =
     ap (λ rs. rs ++ drop at before)
-    (sym (take-take at written all within) ∙ ap (λ (rs : List Stored). take at rs) (sym same)) ∙ take-append-drop at before
+    (sym (take-take at written all within) ∙ ap (λ (rs : List Stored). take at rs) (sym same))
+    ∙ take-append-drop at before
 
 -- one that isn't to be written anew is passed over
 pub begun_is_same : (is_old : Bool) (written : ℕ) (all : List Stored) (at : ℕ) (r : Stored) → at < written

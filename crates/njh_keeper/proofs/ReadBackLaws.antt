@@ -1,5 +1,6 @@
 -- A row that is read as a file of a hub says what stands on the spool file.
-use Rattle.std.proofs.Common.{◌≡◌, ℕ, ◌+◌, ◌==◌, nat_lt, nat_le, ◌&&◌, Bool, true, false, cond, List, [], ◌∷◌, length, map, Option, Some, None, option_map, bytes_eq, codes, refl, sym, ap, subst, ◌∙◌, arith}
+use Rattle.std.proofs.Common.{◌≡◌, ℕ, ◌+◌, ◌==◌, nat_lt, nat_le, ◌&&◌, Bool, true, false, cond, List, [], ◌∷◌, length}
+use Rattle.std.proofs.Common.{map, Option, Some, None, option_map, bytes_eq, codes, refl, sym, ap, subst, ◌∙◌, arith}
 use Rattle.std.specs.List.{AllByRecursion}
 use Rattle.std.specs.Cmp.Lexicographic.{bytes_decides}
 use Rattle.std.proofs.lemmas.Bool.Decides.{nat_tests}
@@ -10,7 +11,8 @@ use Rattle.njh_spool.specs.Restoring.{KeptFile}
 use Rattle.njh_spool.specs.CustomerSpool.{WholeFile}
 use Rattle.njh_spoolfile.specs.Kept.{File, SpoolContents, contents, records_of}
 use Rattle.njh_hub.specs.Keeping.{is_held}
-use Rattle.njh_keeper.specs.Opened.{Contents, are_records_from, are_records_of, as_stored, file_in, is_record_at, kind_of_word, kind_word}
+use Rattle.njh_keeper.specs.Opened.{Contents, are_records_from, are_records_of, as_stored, file_in, is_record_at}
+use Rattle.njh_keeper.specs.Opened.{kind_of_word, kind_word}
 use Rattle.njh_keeper.specs.code.Mirrored.{FitsHub, HasRecords, contents_from}
 use Rattle.njh_keeper.specs.code.Remembered.{IsKept, KeptWhole, Remembers}
 use Rattle.njh_keeper.proofs.NumberedLaws.{equal_to}
@@ -47,7 +49,8 @@ are_stored place (c ∷ cs) is =
 
 -- ---- its kind
 
-by_word : (word : List ℕ) (kind : Kind) (a b : Bool) → (a ≡ true → word ≡ kind_word In) → (b ≡ true → word ≡ kind_word Out)
+by_word : (word : List ℕ) (kind : Kind) (a b : Bool) → (a ≡ true → word ≡ kind_word In)
+    → (b ≡ true → word ≡ kind_word Out)
     → cond a (Some In) (cond b (Some Out) None) ≡ Some kind → word ≡ kind_word kind
 by_word word kind true b first second is = first refl ∙ (let same : In ≡ kind = cc is in ap kind_word same)
 by_word word kind false true first second is = second refl ∙ (let same : Out ≡ kind = cc is in ap kind_word same)
@@ -55,7 +58,8 @@ by_word word kind false false first second is = absurd (cc is)
 
 word_of_kind : (word : List ℕ) (kind : Kind) → kind_of_word word ≡ Some kind → word ≡ kind_word kind
 word_of_kind word kind is =
-    by_word word kind (bytes_eq word (codes "SYSIN")) (bytes_eq word (codes "SYSOUT")) (bytes_decides word (codes "SYSIN")).0 (bytes_decides word (codes "SYSOUT")).0 is
+    by_word word kind (bytes_eq word (codes "SYSIN")) (bytes_eq word (codes "SYSOUT"))
+    (bytes_decides word (codes "SYSIN")).0 (bytes_decides word (codes "SYSOUT")).0 is
 
 -- ---- the file
 
@@ -66,7 +70,8 @@ module _ (spool : SpoolContents) (file : File) where
   abbrev as_file : Kind → KeptFile
   as_file kind = record { kind = kind; held = file.held; records = map as_stored cs }
 
-  read_so : (kind : Kind) → kind_of_word file.kind ≡ Some kind → are_records_of file cs ≡ true → IsReadAs spool file (as_file kind)
+  read_so : (kind : Kind) → kind_of_word file.kind ≡ Some kind → are_records_of file cs ≡ true
+      → IsReadAs spool file (as_file kind)
   read_so kind word all =
       let each = both_true (length cs == file.records) (are_records_from 0 cs) all in
       let stored = are_stored 0 cs each.1 in
@@ -78,19 +83,24 @@ module _ (spool : SpoolContents) (file : File) where
         fits = stored.fits;
       }
 
-  at_kind : (o : Option Kind) (f : KeptFile) → kind_of_word file.kind ≡ o → are_records_of file cs ≡ true → option_map as_file o ≡ Some f → IsReadAs spool file f
+  at_kind : (o : Option Kind) (f : KeptFile) → kind_of_word file.kind ≡ o → are_records_of file cs ≡ true
+      → option_map as_file o ≡ Some f → IsReadAs spool file f
   at_kind None f word all is = absurd (cc is)
-  at_kind (Some kind) f word all is = let same : as_file kind ≡ f = cc is in subst (IsReadAs spool file) same (read_so kind word all)
+  at_kind (Some kind) f word all is = let same : as_file kind ≡ f =
+      cc is in subst (IsReadAs spool file) same (read_so kind word all)
 
-  at_records : (b : Bool) (f : KeptFile) → are_records_of file cs ≡ b → cond b (option_map as_file (kind_of_word file.kind)) None ≡ Some f → IsReadAs spool file f
+  at_records : (b : Bool) (f : KeptFile) → are_records_of file cs ≡ b
+      → cond b (option_map as_file (kind_of_word file.kind)) None ≡ Some f → IsReadAs spool file f
   at_records true f all is = at_kind (kind_of_word file.kind) f refl all is
   at_records false f all is = absurd (cc is)
 
-  pub is_read_as : (f : KeptFile) → file_in file (map contents (records_of file.key spool)) ≡ Some f → IsReadAs spool file f
+  pub is_read_as : (f : KeptFile) → file_in file (map contents (records_of file.key spool)) ≡ Some f
+      → IsReadAs spool file f
   is_read_as f is = at_records (are_records_of file cs) f refl is
 
 -- where the hub has it so, and it is remembered so, it is kept
-pub is_kept_as_read : (spool : SpoolContents) (k : KeptWhole) (e : ℕ × File) (f : KeptFile) (g : WholeFile) → IsReadAs spool e.1 f → g.kind ≡ f.kind → g.records ≡ f.records → is_held g.state ≡ f.held
+pub is_kept_as_read : (spool : SpoolContents) (k : KeptWhole) (e : ℕ × File) (f : KeptFile) (g : WholeFile)
+    → IsReadAs spool e.1 f → g.kind ≡ f.kind → g.records ≡ f.records → is_held g.state ≡ f.held
     → k.id ≡ e.0 → k.key ≡ e.1.key → Remembers k g → IsKept spool k e g
 is_kept_as_read spool k e f g read kind records held id key remembers = record {
   id = sym id;
@@ -101,6 +111,7 @@ is_kept_as_read spool k e f g read kind records held id key remembers = record {
     count = read.count ∙ ap length (sym records);
   };
   remembers = remembers;
-  stored = subst (λ n. HasRecords n g.records spool) (sym key) (subst (λ rs. HasRecords e.1.key rs spool) (sym records) read.stored);
+  stored = subst (λ n. HasRecords n g.records spool) (sym key)
+      (subst (λ rs. HasRecords e.1.key rs spool) (sym records) read.stored);
   fits = subst (AllByRecursion FitsHub) (sym records) read.fits;
 }

@@ -1,7 +1,9 @@
 -- How often each number is used, while files come and leave and numbers are given out.
-use Rattle.std.proofs.Common.{◌≡◌, ℕ, ◌+◌, ◌<◌, ◌≤◌, ◌==◌, ◌-◌, ◌^◌, List, [], ◌∷◌, ◌++◌, length, get_or, set, remove, ap, arith, ◌⊎◌, inl, inr, Bool, true, false, cond}
+use Rattle.std.proofs.Common.{◌≡◌, ℕ, ◌+◌, ◌<◌, ◌≤◌, ◌==◌, ◌-◌, ◌^◌, List, [], ◌∷◌, ◌++◌, length, get_or, set, remove}
+use Rattle.std.proofs.Common.{ap, arith, ◌⊎◌, inl, inr, Bool, true, false, cond}
 use Rattle.std.proofs.lemmas.Bool.Decides.{nat_tests}
-use Rattle.njh_keeper.specs.code.Remembered.{AreApart, KeptPartial, KeptWhole, Numbers, OwnFiles, Sweep, claim, keyed, may_be_given, one_if, uses, with_key}
+use Rattle.njh_keeper.specs.code.Remembered.{AreApart, KeptPartial, KeptWhole, Numbers, OwnFiles, Sweep, claim, keyed}
+use Rattle.njh_keeper.specs.code.Remembered.{may_be_given, one_if, uses, with_key}
 use Rattle.njh_keeper.proofs.KeyLaws.{keyed-append, keyed-remove, keyed-set, keyed_at, one_itself}
 
 key_of_whole : KeptWhole → ℕ
@@ -11,28 +13,33 @@ same_key : (n a b : ℕ) → a ≡ b → one_if (a == n) ≡ one_if (b == n)
 same_key n a b same = ap (λ k. one_if (k == n)) same
 
 either_counts : (b : Bool) (n : ℕ) (further sweep : Sweep) → one_if (further.key == n) ≡ one_if (sweep.key == n)
-    → keyed (λ (x : Sweep). x.key) n (cond b (further ∷ []) []) + keyed (λ (k : ℕ). k) n (cond b [] (sweep.key ∷ [])) ≡ one_if (sweep.key == n)
+    → keyed (λ (x : Sweep). x.key) n (cond b (further ∷ []) []) + keyed (λ (k : ℕ). k) n (cond b [] (sweep.key ∷ []))
+    ≡ one_if (sweep.key == n)
 either_counts true n further sweep same = omega (arith, same)
 either_counts false n further sweep same = omega arith
 
 module _ (w : Numbers) (own : OwnFiles) where
   -- ---- whole files
 
-  pub uses_as_one_leaves : (i : ℕ) (k : KeptWhole) (sweep : Sweep) → i < length own.whole → k ≡ get_or own.whole i k → sweep.key ≡ k.key
-      → (n : ℕ) → uses n (record w { sweeps = w.sweeps ++ sweep ∷ [] }) (record own { whole = remove own.whole i }) ≤ uses n w own
+  pub uses_as_one_leaves : (i : ℕ) (k : KeptWhole) (sweep : Sweep) → i < length own.whole → k ≡ get_or own.whole i k
+      → sweep.key ≡ k.key
+      → (n : ℕ) → uses n (record w { sweeps = w.sweeps ++ sweep ∷ [] }) (record own { whole = remove own.whole i })
+      ≤ uses n w own
   uses_as_one_leaves i k sweep there is same n =
       let gone = keyed-remove (λ (x : KeptWhole). x.key) n own.whole i k there is in
       let more = keyed-append (λ (x : Sweep). x.key) n w.sweeps (sweep ∷ []) in
       let alike = same_key n sweep.key k.key same in
       omega (arith, gone, more, alike)
 
-  pub uses_as_one_changes : (i : ℕ) (k now : KeptWhole) → i < length own.whole → k ≡ get_or own.whole i k → now.key ≡ k.key
+  pub uses_as_one_changes : (i : ℕ) (k now : KeptWhole) → i < length own.whole → k ≡ get_or own.whole i k
+      → now.key ≡ k.key
       → (n : ℕ) → uses n w (record own { whole = set own.whole i now }) ≡ uses n w own
   uses_as_one_changes i k now there is same n =
       let as_was = keyed-set (λ (x : KeptWhole). x.key) n own.whole i k now there is same in omega (arith, as_was)
 
   -- one comes whose number was in hand
-  pub uses_as_one_comes : (k : KeptWhole) (n : ℕ) → uses n w (record own { whole = own.whole ++ k ∷ [] }) ≡ (with_key k.key (claim w own)).uses n
+  pub uses_as_one_comes : (k : KeptWhole) (n : ℕ)
+      → uses n w (record own { whole = own.whole ++ k ∷ [] }) ≡ (with_key k.key (claim w own)).uses n
   uses_as_one_comes k n = let more = keyed-append (λ (x : KeptWhole). x.key) n own.whole (k ∷ []) in omega (arith, more)
 
   -- ---- files that aren't whole
@@ -40,18 +47,24 @@ module _ (w : Numbers) (own : OwnFiles) where
   -- the number of one that is remembered no more is in hand
   pub uses_as_partial_goes : (i : ℕ) (p : KeptPartial) → i < length own.partial → p ≡ get_or own.partial i p
       → (n : ℕ) → (with_key p.key (claim w (record own { partial = remove own.partial i }))).uses n ≡ uses n w own
-  uses_as_partial_goes i p there is n = let gone = keyed-remove (λ (x : KeptPartial). x.key) n own.partial i p there is in omega (arith, gone)
+  uses_as_partial_goes i p there is n = let gone =
+      keyed-remove (λ (x : KeptPartial). x.key) n own.partial i p there is in omega (arith, gone)
 
-  pub uses_as_partial_comes : (p : KeptPartial) (n : ℕ) → uses n w (record own { partial = own.partial ++ p ∷ [] }) ≡ (with_key p.key (claim w own)).uses n
-  uses_as_partial_comes p n = let more = keyed-append (λ (x : KeptPartial). x.key) n own.partial (p ∷ []) in omega (arith, more)
+  pub uses_as_partial_comes : (p : KeptPartial) (n : ℕ)
+      → uses n w (record own { partial = own.partial ++ p ∷ [] }) ≡ (with_key p.key (claim w own)).uses n
+  uses_as_partial_comes p n = let more = keyed-append (λ (x : KeptPartial). x.key) n own.partial (p ∷ []) in omega
+      (arith, more)
 
-  pub uses_as_partial_changes : (i : ℕ) (p now : KeptPartial) → i < length own.partial → p ≡ get_or own.partial i p → now.key ≡ p.key
+  pub uses_as_partial_changes : (i : ℕ) (p now : KeptPartial) → i < length own.partial → p ≡ get_or own.partial i p
+      → now.key ≡ p.key
       → (n : ℕ) → uses n w (record own { partial = set own.partial i now }) ≡ uses n w own
   uses_as_partial_changes i p now there is same n =
       let as_was = keyed-set (λ (x : KeptPartial). x.key) n own.partial i p now there is same in omega (arith, as_was)
 
-  pub uses_as_partial_is_swept : (i : ℕ) (p : KeptPartial) (sweep : Sweep) → i < length own.partial → p ≡ get_or own.partial i p → sweep.key ≡ p.key
-      → (n : ℕ) → uses n (record w { sweeps = w.sweeps ++ sweep ∷ [] }) (record own { partial = remove own.partial i }) ≤ uses n w own
+  pub uses_as_partial_is_swept : (i : ℕ) (p : KeptPartial) (sweep : Sweep) → i < length own.partial
+      → p ≡ get_or own.partial i p → sweep.key ≡ p.key
+      → (n : ℕ) → uses n (record w { sweeps = w.sweeps ++ sweep ∷ [] }) (record own { partial = remove own.partial i })
+      ≤ uses n w own
   uses_as_partial_is_swept i p sweep there is same n =
       let gone = keyed-remove (λ (x : KeptPartial). x.key) n own.partial i p there is in
       let more = keyed-append (λ (x : Sweep). x.key) n w.sweeps (sweep ∷ []) in
@@ -67,16 +80,20 @@ module _ (w : Numbers) (own : OwnFiles) where
       let last = keyed-append (λ (k : ℕ). k) n free (key ∷ []) in
       omega (arith, all, last)
 
-  one_further : (first n : ℕ) → first < 2 ^ 32 - 1 → one_if (first == n) + one_if (may_be_given (first + 1) n) ≡ one_if (may_be_given first n)
+  one_further : (first n : ℕ) → first < 2 ^ 32 - 1
+      → one_if (first == n) + one_if (may_be_given (first + 1) n) ≡ one_if (may_be_given first n)
   one_further first n low = grind (arith, nat_tests, low)
 
-  pub uses_as_new_key_is_taken : w.next_key < 2 ^ 32 - 1 → (n : ℕ) → (with_key w.next_key (claim (record w { next_key = w.next_key + 1 }) own)).uses n ≡ uses n w own
+  pub uses_as_new_key_is_taken : w.next_key < 2 ^ 32 - 1 → (n : ℕ)
+      → (with_key w.next_key (claim (record w { next_key = w.next_key + 1 }) own)).uses n ≡ uses n w own
   uses_as_new_key_is_taken low n = let further = one_further w.next_key n low in omega (arith, further)
 
-  pub uses_as_sweep_goes_on : (rest : List Sweep) (sweep further : Sweep) → w.sweeps ≡ rest ++ sweep ∷ [] → further.key ≡ sweep.key
+  pub uses_as_sweep_goes_on : (rest : List Sweep) (sweep further : Sweep) → w.sweeps ≡ rest ++ sweep ∷ []
+      → further.key ≡ sweep.key
       → (n : ℕ) → uses n (record w { sweeps = rest ++ further ∷ [] }) own ≡ uses n w own
   uses_as_sweep_goes_on rest sweep further are same n =
-      let all : keyed (λ (x : Sweep). x.key) n w.sweeps ≡ keyed (λ (x : Sweep). x.key) n (rest ++ sweep ∷ []) = ap (keyed (λ (x : Sweep). x.key) n) are in
+      let all : keyed (λ (x : Sweep). x.key) n w.sweeps ≡ keyed (λ (x : Sweep). x.key) n (rest ++ sweep ∷ []) =
+      ap (keyed (λ (x : Sweep). x.key) n) are in
       let before = keyed-append (λ (x : Sweep). x.key) n rest (sweep ∷ []) in
       let behind = keyed-append (λ (x : Sweep). x.key) n rest (further ∷ []) in
       let alike = same_key n further.key sweep.key same in
@@ -85,33 +102,43 @@ module _ (w : Numbers) (own : OwnFiles) where
   pub uses_as_sweep_ends : (rest : List Sweep) (sweep : Sweep) → w.sweeps ≡ rest ++ sweep ∷ []
       → (n : ℕ) → uses n (record w { sweeps = rest; free_keys = w.free_keys ++ sweep.key ∷ [] }) own ≡ uses n w own
   uses_as_sweep_ends rest sweep are n =
-      let all : keyed (λ (x : Sweep). x.key) n w.sweeps ≡ keyed (λ (x : Sweep). x.key) n (rest ++ sweep ∷ []) = ap (keyed (λ (x : Sweep). x.key) n) are in
+      let all : keyed (λ (x : Sweep). x.key) n w.sweeps ≡ keyed (λ (x : Sweep). x.key) n (rest ++ sweep ∷ []) =
+      ap (keyed (λ (x : Sweep). x.key) n) are in
       let before = keyed-append (λ (x : Sweep). x.key) n rest (sweep ∷ []) in
       let free = keyed-append (λ (k : ℕ). k) n w.free_keys (sweep.key ∷ []) in
       omega (arith, all, before, free)
 
   -- the last of the free ones, or where none is free the first that was never given out
   pub uses_as_key_is_taken : (key : ℕ) (left : List ℕ) (behind : ℕ)
-      → ((w.free_keys ≡ left ++ key ∷ []) × (behind ≡ w.next_key)) ⊎ ((w.free_keys ≡ []) × (left ≡ []) × (key ≡ w.next_key) × (behind ≡ w.next_key + 1) × (behind < 2 ^ 32))
+      → ((w.free_keys ≡ left ++ key ∷ []) × (behind ≡ w.next_key))
+      ⊎ ((w.free_keys ≡ []) × (left ≡ []) × (key ≡ w.next_key) × (behind ≡ w.next_key + 1) × (behind < 2 ^ 32))
       → (n : ℕ) → (with_key key (claim (record w { free_keys = left; next_key = behind }) own)).uses n ≡ uses n w own
   uses_as_key_is_taken key left behind (inl free) n =
       let all : keyed (λ k. k) n w.free_keys ≡ keyed (λ k. k) n (left ++ key ∷ []) = ap (keyed (λ k. k) n) free.0 in
       let last = keyed-append (λ (k : ℕ). k) n left (key ∷ []) in
-      let same : one_if (may_be_given behind n) ≡ one_if (may_be_given w.next_key n) = ap (λ m. one_if (may_be_given m n)) free.1 in
+      let same : one_if (may_be_given behind n) ≡ one_if (may_be_given w.next_key n) =
+      ap (λ m. one_if (may_be_given m n)) free.1 in
       omega (arith, all, last, same)
   uses_as_key_is_taken key left behind (inr new) n =
       let none : keyed (λ k. k) n w.free_keys ≡ 0 = ap (keyed (λ k. k) n) new.0 in
       let still : keyed (λ k. k) n left ≡ 0 = ap (keyed (λ k. k) n) new.1 in
       let first : one_if (key == n) ≡ one_if (w.next_key == n) = same_key n key w.next_key new.2 in
-      let next : one_if (may_be_given behind n) ≡ one_if (may_be_given (w.next_key + 1) n) = ap (λ m. one_if (may_be_given m n)) new.3 in
+      let next : one_if (may_be_given behind n) ≡ one_if (may_be_given (w.next_key + 1) n) =
+      ap (λ m. one_if (may_be_given m n)) new.3 in
       let further = one_further w.next_key n (omega (arith, new.3, new.4)) in
       omega (arith, none, still, first, next, further)
 
   -- a sweep goes on, or its number is free
-  pub uses_as_one_is_swept : (rest : List Sweep) (sweep further : Sweep) (b : Bool) → w.sweeps ≡ rest ++ sweep ∷ [] → further.key ≡ sweep.key
-      → (n : ℕ) → uses n (record w { sweeps = rest ++ cond b (further ∷ []) []; free_keys = w.free_keys ++ cond b [] (sweep.key ∷ []) }) own ≡ uses n w own
+  pub uses_as_one_is_swept : (rest : List Sweep) (sweep further : Sweep) (b : Bool) → w.sweeps ≡ rest ++ sweep ∷ []
+      → further.key ≡ sweep.key
+      → (n : ℕ) → uses n (record w {
+        sweeps = rest ++ cond b (further ∷ []) [];
+        free_keys = w.free_keys ++ cond b []
+            (sweep.key ∷ []);
+      }) own ≡ uses n w own
   uses_as_one_is_swept rest sweep further b are same n =
-      let all : keyed (λ (x : Sweep). x.key) n w.sweeps ≡ keyed (λ (x : Sweep). x.key) n (rest ++ sweep ∷ []) = ap (keyed (λ (x : Sweep). x.key) n) are in
+      let all : keyed (λ (x : Sweep). x.key) n w.sweeps ≡ keyed (λ (x : Sweep). x.key) n (rest ++ sweep ∷ []) =
+      ap (keyed (λ (x : Sweep). x.key) n) are in
       let before = keyed-append (λ (x : Sweep). x.key) n rest (sweep ∷ []) in
       let behind = keyed-append (λ (x : Sweep). x.key) n rest (cond b (further ∷ []) []) in
       let free = keyed-append (λ (k : ℕ). k) n w.free_keys (cond b [] (sweep.key ∷ [])) in
@@ -122,7 +149,8 @@ module _ (w : Numbers) (own : OwnFiles) where
   -- ---- no number is used twice
 
   -- one in hand is no file's, and none of the writer's
-  pub in_hand_alone : (key : ℕ) → AreApart (with_key key (claim w own)) → keyed (λ (k : KeptWhole). k.key) key own.whole ≡ 0
+  pub in_hand_alone : (key : ℕ) → AreApart (with_key key (claim w own))
+      → keyed (λ (k : KeptWhole). k.key) key own.whole ≡ 0
   in_hand_alone key apart = let once = apart key in let one = one_itself key in omega (arith, once, one)
 
   pub in_hand_is_used : (key : ℕ) → 1 ≤ (with_key key (claim w own)).uses key
@@ -135,7 +163,8 @@ module _ (w : Numbers) (own : OwnFiles) where
   whole_are_used n = omega arith
 
   -- one that is about to be given out, swept, or of a file that isn't whole is no whole file's
-  pub partial_is_apart : (i : ℕ) (p : KeptPartial) → i < length own.partial → p ≡ get_or own.partial i p → AreApart (claim w own)
+  pub partial_is_apart : (i : ℕ) (p : KeptPartial) → i < length own.partial → p ≡ get_or own.partial i p
+      → AreApart (claim w own)
       → (keyed (λ (k : KeptWhole). k.key) p.key own.whole ≡ 0) × (1 ≤ uses p.key w own)
   partial_is_apart i p there is apart =
       let once = apart p.key in
@@ -147,6 +176,7 @@ module _ (w : Numbers) (own : OwnFiles) where
   sweep_is_apart rest sweep are apart =
       let once = apart sweep.key in
       let one = one_itself sweep.key in
-      let all : keyed (λ (x : Sweep). x.key) sweep.key w.sweeps ≡ keyed (λ (x : Sweep). x.key) sweep.key (rest ++ sweep ∷ []) = ap (keyed (λ (x : Sweep). x.key) sweep.key) are in
+      let all : keyed (λ (x : Sweep). x.key) sweep.key w.sweeps ≡ keyed (λ (x : Sweep). x.key) sweep.key
+      (rest ++ sweep ∷ []) = ap (keyed (λ (x : Sweep). x.key) sweep.key) are in
       let last = keyed-append (λ (x : Sweep). x.key) sweep.key rest (sweep ∷ []) in
       (omega (arith, once, one, all, last), omega (arith, one, all, last))

@@ -1,6 +1,8 @@
 -- The keeper goes through a customer's files: those that left are taken out, and each other one is found by its number.
-use Rattle.std.proofs.Common.{◌≡◌, ◌≢◌, ℕ, suc, ◌+◌, ◌<◌, ◌≤◌, ◌==◌, cond, List, [], ◌∷◌, ◌++◌, length, get_or, set, remove, take, drop, count_by, refl, sym, ap, subst, ◌∙◌, arith, length-drop}
-use Rattle.std.proofs.lemmas.List.{drop-set-lt, drop_all, drop_at, drop_more, length-set, length-take-le, take-append-le, take-take, take_all, take_more, take_more_set}
+use Rattle.std.proofs.Common.{◌≡◌, ◌≢◌, ℕ, suc, ◌+◌, ◌<◌, ◌≤◌, ◌==◌, cond, List, [], ◌∷◌, ◌++◌, length, get_or, set}
+use Rattle.std.proofs.Common.{remove, take, drop, count_by, refl, sym, ap, subst, ◌∙◌, arith, length-drop}
+use Rattle.std.proofs.lemmas.List.{drop-set-lt, drop_all, drop_at, drop_more, length-set, length-take-le}
+use Rattle.std.proofs.lemmas.List.{take-append-le, take-take, take_all, take_more, take_more_set}
 use Rattle.std.proofs.lemmas.List.Edits.{length-remove}
 use Rattle.std.proofs.lemmas.List.Sums.{sum_by-cons}
 use Rattle.njh_spool.specs.CustomerSpool.{WholeFile}
@@ -15,9 +17,11 @@ number f = f.number
 -- ---- those that are still there
 
 -- one that is there now was there
-was_there : (fs : List WholeFile) (g : WholeFile) (still : List WholeFile) → Survive fs (g ∷ still) → 1 ≤ keyed number g.number fs
+was_there : (fs : List WholeFile) (g : WholeFile) (still : List WholeFile) → Survive fs (g ∷ still)
+    → 1 ≤ keyed number g.number fs
 was_there _ g still (stays f _ fs _ one more) =
-    let same : one_if (f.number == g.number) ≡ 1 = ap (λ n. one_if (n == g.number)) (sym one.number) ∙ one_itself g.number in
+    let same : one_if (f.number == g.number) ≡ 1 =
+    ap (λ n. one_if (n == g.number)) (sym one.number) ∙ one_itself g.number in
     omega (arith, same)
 was_there _ g still (leaves f fs _ more) = let rest = was_there fs g still more in omega (arith, rest)
 
@@ -26,7 +30,8 @@ record IsFound (f g : WholeFile) (fs still : List WholeFile) : Type 0 where
   rest : Survive fs still
 
 -- the first one that has its number is it
-is_found : (f g : WholeFile) (fs still : List WholeFile) → Survive (f ∷ fs) (g ∷ still) → AreNumbered (f ∷ fs) → f.number ≡ g.number → IsFound f g fs still
+is_found : (f g : WholeFile) (fs still : List WholeFile) → Survive (f ∷ fs) (g ∷ still) → AreNumbered (f ∷ fs)
+    → f.number ≡ g.number → IsFound f g fs still
 is_found f g fs still (stays _ _ _ _ one more) once same = record { one = one; rest = more }
 is_found f g fs still (leaves _ _ _ more) once same =
     absurd (
@@ -36,7 +41,8 @@ is_found f g fs still (leaves _ _ _ more) once same =
     omega (arith, there, all, first))
 
 -- one that has another number has left
-has_left : (f g : WholeFile) (fs still : List WholeFile) → Survive (f ∷ fs) (g ∷ still) → f.number ≢ g.number → Survive fs (g ∷ still)
+has_left : (f g : WholeFile) (fs still : List WholeFile) → Survive (f ∷ fs) (g ∷ still) → f.number ≢ g.number
+    → Survive fs (g ∷ still)
 has_left f g fs still (stays _ _ _ _ one more) other = absurd (other (sym one.number))
 has_left f g fs still (leaves _ _ _ more) other = more
 
@@ -49,7 +55,8 @@ numbered_behind f fs once n = let all = once n in omega (arith, all)
 
 as_counted : (n : ℕ) (files : List WholeFile) → keyed number n files ≡ count_by (λ f. f.number == n) files
 as_counted n [] = refl
-as_counted n (f ∷ files) = ap (λ m. one_if (f.number == n) + m) (as_counted n files) ∙ sym (sum_by-cons (λ (g : WholeFile). cond (g.number == n) 1 0) f files)
+as_counted n (f ∷ files) = ap (λ m. one_if (f.number == n) + m) (as_counted n files)
+    ∙ sym (sum_by-cons (λ (g : WholeFile). cond (g.number == n) 1 0) f files)
 
 pub are_numbered : (files : List WholeFile) → ((n : ℕ) → count_by (λ f. f.number == n) files ≤ 1) → AreNumbered files
 are_numbered files once n = let counted = as_counted n files in let least = once n in omega (arith, counted, least)
@@ -63,14 +70,16 @@ some_are (f ∷ fs) n there = omega arith
 pub walk_begins : (still files : List WholeFile) → Survive files still → AreNumbered files → IsWalkedTo still files 0
 walk_begins still files survive once = record { reaches = omega arith; front = refl; survive = survive; once = once }
 
-next_is : (files : List WholeFile) (i : ℕ) (f : WholeFile) → i < length files → f ≡ get_or files i f → drop i files ≡ f ∷ drop (i + 1) files
+next_is : (files : List WholeFile) (i : ℕ) (f : WholeFile) → i < length files → f ≡ get_or files i f
+    → drop i files ≡ f ∷ drop (i + 1) files
 next_is files i f there is = drop_more files i f there ∙ ap (λ x. x ∷ drop (i + 1) files) (sym is)
 
 module _ (still files : List WholeFile) (i : ℕ) (walk : IsWalkedTo still files i) where
   -- one that is still there isn't missed
   pub walk_has_more : (g : WholeFile) → i < length still → g ≡ get_or still i g → i < length files
   walk_has_more g more is =
-      let there = was_there (drop i files) g (drop (i + 1) still) (subst (Survive (drop i files)) (next_is still i g more is) walk.survive) in
+      let there = was_there (drop i files) g (drop (i + 1) still)
+      (subst (Survive (drop i files)) (next_is still i g more is) walk.survive) in
       let some = some_are (drop i files) g.number there in
       let left = length-drop i files in
       omega (arith, some, left, walk.reaches)
@@ -92,30 +101,37 @@ module _ (still files : List WholeFile) (i : ℕ) (walk : IsWalkedTo still files
     without_it : Survive (drop (i + 1) files) (drop i still) → IsWalkedTo still (remove files i) i
     without_it left =
         let behind : drop i (remove files i) ≡ drop (i + 1) files =
-        (let next : suc i ≡ i + 1 = omega arith in drop_at (take i files) (drop (suc i) files) i long ∙ ap (λ n. drop n files) next) in
+        (let next : suc i ≡ i + 1 = omega arith in drop_at (take i files) (drop (suc i) files) i long
+        ∙ ap (λ n. drop n files) next) in
         record {
           reaches = let less = length-remove files i there in omega (arith, less, there);
-          front = take-append-le i (take i files) (drop (suc i) files) (omega (arith, long)) ∙ take-take i i files (omega arith) ∙ walk.front;
+          front = take-append-le i (take i files) (drop (suc i) files) (omega (arith, long))
+              ∙ take-take i i files (omega arith) ∙ walk.front;
           survive = subst (λ fs. Survive fs (drop i still)) (sym behind) left;
           once = subst AreNumbered (sym behind) (numbered_behind f (drop (i + 1) files) numbered);
         }
 
     -- one that has left is taken out
-    pub walk_drops : (g : WholeFile) → i < length still → g ≡ get_or still i g → f.number ≢ g.number → IsWalkedTo still (remove files i) i
+    pub walk_drops : (g : WholeFile) → i < length still → g ≡ get_or still i g → f.number ≢ g.number
+        → IsWalkedTo still (remove files i) i
     walk_drops g more here other =
         let next = next_is still i g more here in
         without_it
-        (subst (Survive (drop (i + 1) files)) (sym next) (has_left f g (drop (i + 1) files) (drop (i + 1) still) (subst (Survive (f ∷ drop (i + 1) files)) next survivors) other))
+        (subst (Survive (drop (i + 1) files)) (sym next)
+        (has_left f g (drop (i + 1) files) (drop (i + 1) still)
+        (subst (Survive (f ∷ drop (i + 1) files)) next survivors) other))
 
     pub walk_drops_last : length still ≤ i → IsWalkedTo still (remove files i) i
     walk_drops_last last =
         let none_left : drop i still ≡ [] = drop_all i still last in
         without_it
-        (subst (Survive (drop (i + 1) files)) (sym none_left) (all_have_left f (drop (i + 1) files) (subst (Survive (f ∷ drop (i + 1) files)) none_left survivors)))
+        (subst (Survive (drop (i + 1) files)) (sym none_left)
+        (all_have_left f (drop (i + 1) files) (subst (Survive (f ∷ drop (i + 1) files)) none_left survivors)))
 
     module _ (g : WholeFile) (more : i < length still) (here : g ≡ get_or still i g) (same : f.number ≡ g.number) where
       found : IsFound f g (drop (i + 1) files) (drop (i + 1) still)
-      found = is_found f g (drop (i + 1) files) (drop (i + 1) still) (subst (Survive (f ∷ drop (i + 1) files)) (next_is still i g more here) survivors) numbered same
+      found = is_found f g (drop (i + 1) files) (drop (i + 1) still)
+          (subst (Survive (f ∷ drop (i + 1) files)) (next_is still i g more here) survivors) numbered same
 
       -- one that has the number of the next one is that
       pub walk_finds : IsStill f g
@@ -124,7 +140,8 @@ module _ (still files : List WholeFile) (i : ℕ) (walk : IsWalkedTo still files
       -- and becomes it
       pub walk_goes_on : IsWalkedTo still (set files i g) (i + 1)
       walk_goes_on =
-          let behind : drop (i + 1) (set files i g) ≡ drop (i + 1) files = drop-set-lt (i + 1) files i g (omega arith) in
+          let behind : drop (i + 1) (set files i g) ≡ drop (i + 1) files =
+          drop-set-lt (i + 1) files i g (omega arith) in
           record {
             reaches = let as_long = length-set files i g in omega (arith, as_long, there);
             front = take_more_set files i g there ∙ (λ j. walk.front j ++ here j ∷ []) ∙ sym (take_more still i g more);

@@ -1,5 +1,6 @@
 -- A file's records are written one after the other, and some of them anew.
-use Rattle.std.proofs.Common.{◌≡◌, ℕ, ◌+◌, ◌<◌, List, [], ◌∷◌, ◌++◌, length, get_or, set, take, drop, sym, ap, subst, ◌∙◌, append_assoc, append-nil, arith, length-append, length-drop}
+use Rattle.std.proofs.Common.{◌≡◌, ℕ, ◌+◌, ◌<◌, List, [], ◌∷◌, ◌++◌, length, get_or, set, take, drop, sym, ap, subst}
+use Rattle.std.proofs.Common.{◌∙◌, append_assoc, append-nil, arith, length-append, length-drop}
 use Rattle.std.proofs.lemmas.List.{drop_all, drop_more, length-take-le, set_at, take_all, take_more}
 use Rattle.njh_record.specs.Stored.{Stored}
 use Rattle.njh_spoolfile.specs.Kept.{Record, SpoolContents, with_record, without_records}
@@ -7,11 +8,14 @@ use Rattle.njh_keeper.specs.code.Mirrored.{HasRecords, IsOrdered, records_midway
 use Rattle.njh_keeper.proofs.RecordLaws.{record_changes, record_comes_last}
 
 -- as many of these are there as were written, and the next one comes
-pub next_is_written : (key at : ℕ) (rs : List Stored) (r : Record) (spool : SpoolContents) → IsOrdered spool → HasRecords key (take at rs) spool → at < length rs
-    → r.key ≡ key → r.place ≡ at → stored_of r ≡ get_or rs at (stored_of r) → HasRecords key (take (at + 1) rs) (with_record r spool)
+pub next_is_written : (key at : ℕ) (rs : List Stored) (r : Record) (spool : SpoolContents) → IsOrdered spool
+    → HasRecords key (take at rs) spool → at < length rs
+    → r.key ≡ key → r.place ≡ at → stored_of r ≡ get_or rs at (stored_of r)
+    → HasRecords key (take (at + 1) rs) (with_record r spool)
 next_is_written key at rs r spool h has within mine here is =
     let before : length (take at rs) ≡ at = length-take-le at rs (omega (arith, within)) in
-    subst (λ (xs : List Stored). HasRecords key xs (with_record r spool)) (ap (λ x. take at rs ++ x ∷ []) is ∙ sym (take_more rs at (stored_of r) within))
+    subst (λ (xs : List Stored). HasRecords key xs (with_record r spool))
+    (ap (λ x. take at rs ++ x ∷ []) is ∙ sym (take_more rs at (stored_of r) within))
     (record_comes_last key (take at rs) r spool h has mine (here ∙ sym before))
 
 module _ (at : ℕ) (now before : List Stored) (long : length now ≡ length before) (within : at < length now) where
@@ -20,23 +24,30 @@ module _ (at : ℕ) (now before : List Stored) (long : length now ≡ length bef
 
   further : (d : Stored) → take at now ++ get_or now at d ∷ drop (at + 1) before ≡ records_midway (at + 1) now before
   further d =
-      sym (append_assoc (take at now) (get_or now at d ∷ []) (drop (at + 1) before)) ∙ ap (λ xs. xs ++ drop (at + 1) before) (sym (take_more now at d within))
+      sym (append_assoc (take at now) (get_or now at d ∷ []) (drop (at + 1) before))
+      ∙ ap (λ xs. xs ++ drop (at + 1) before) (sym (take_more now at d within))
 
   -- one that is as it was is passed over
-  pub next_is_the_same : (d : Stored) → get_or before at d ≡ get_or now at d → records_midway (at + 1) now before ≡ records_midway at now before
+  pub next_is_the_same : (d : Stored) → get_or before at d ≡ get_or now at d
+      → records_midway (at + 1) now before ≡ records_midway at now before
   next_is_the_same d same = sym (split d ∙ ap (λ x. take at now ++ x ∷ drop (at + 1) before) same ∙ further d)
 
-  pub next_is_rewritten : (key : ℕ) (r : Record) (spool : SpoolContents) → IsOrdered spool → HasRecords key (records_midway at now before) spool
+  pub next_is_rewritten : (key : ℕ) (r : Record) (spool : SpoolContents) → IsOrdered spool
+      → HasRecords key (records_midway at now before) spool
       → r.key ≡ key → r.place ≡ at → stored_of r ≡ get_or now at (stored_of r)
       → HasRecords key (records_midway (at + 1) now before) (with_record r (without_records key at (at + 1) spool))
   next_is_rewritten key r spool h has mine here is =
       let first : length (take at now) ≡ at = length-take-le at now (omega (arith, within)) in
-      let there : at < length (records_midway at now before) = omega (arith, first, long, within, length-append (take at now) (drop at before), length-drop at before) in
+      let there : at < length (records_midway at now before) =
+      omega (arith, first, long, within, length-append (take at now) (drop at before), length-drop at before) in
       subst (λ (xs : List Stored). HasRecords key xs (with_record r (without_records key at (at + 1) spool)))
-      (ap (λ xs. set xs at (stored_of r)) (split (stored_of r)) ∙ set_at (take at now) (get_or before at (stored_of r)) (drop (at + 1) before) (stored_of r) at first
+      (ap (λ xs. set xs at (stored_of r)) (split (stored_of r))
+      ∙ set_at (take at now) (get_or before at (stored_of r)) (drop (at + 1) before) (stored_of r) at first
       ∙ ap (λ x. take at now ++ x ∷ drop (at + 1) before) is ∙ further (stored_of r))
       (record_changes key (records_midway at now before) r spool h has mine at there here)
 
-pub all_are_rewritten : (now before : List Stored) → length now ≡ length before → records_midway (length now) now before ≡ now
+pub all_are_rewritten : (now before : List Stored) → length now ≡ length before
+    → records_midway (length now) now before ≡ now
 all_are_rewritten now before long =
-    (λ i. take_all (length now) now (omega arith) i ++ drop_all (length now) before (omega (arith, long)) i) ∙ append-nil now
+    (λ i. take_all (length now) now (omega arith) i ++ drop_all (length now) before (omega (arith, long)) i)
+    ∙ append-nil now

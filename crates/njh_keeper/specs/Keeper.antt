@@ -60,7 +60,8 @@ pub record IsOpenedFrom {S : Type 0} (g : Ghosts S) (before behind : Keeping S) 
   pub lines : SameLines (map part_at_open (entries_of table)) parts
   pub hub : HasCleanDisk (shown g behind.store) → (spool : SpoolContents) → Holds spool (shown g before.store).now.trees
       → parts ≡ hub_opened table spool
-  pub back : HasCleanDisk (shown g behind.store) → (spool : SpoolContents) → Holds spool (shown g before.store).now.trees
+  pub back : HasCleanDisk (shown g behind.store) → (spool : SpoolContents)
+      → Holds spool (shown g before.store).now.trees
       → AllAreBack table (kept spool)
 
 -- ---- what a crash may leave

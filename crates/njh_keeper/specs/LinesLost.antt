@@ -31,8 +31,8 @@ bare x = record x {
   state = record x.state { session = record fresh { phase = phase_of x }; last = []; messages = [] };
 }
 
--- Nothing goes on: no file is being sent and none is partial, no line is up, no stream is about a file, no answer waits,
--- and nothing has come of a frame.
+-- Nothing goes on: no file is being sent and none is partial, no line is up, no stream is about a file, no answer
+-- waits, and nothing has come of a frame.
 pub record IsQuiet (p : Part) : Type 0 where
   pub none_sent : (f : WholeFile) → Contains p.customer.spool.whole f → f.state ≡ Sending → ⊥
   pub partial : p.customer.spool.partial ≡ []
@@ -40,9 +40,9 @@ pub record IsQuiet (p : Part) : Type 0 where
   pub idle : (l : ℕ) → l < length p.customer.lines → IsIdle (line_at l p.customer.lines)
   pub rests : (l : ℕ) → rest_on l p ≡ Nothing
 
--- A customer that was opened stands as one whose lines were lost. These are the same: the entry; the whole files in their
--- order, each with its kind and its records, Held where the other is Held and Ready where it isn't; and the lines, but
--- for what `bare` leaves out. Both are in order, with the same quota and limit, and on both nothing goes on.
+-- A customer that was opened stands as one whose lines were lost. These are the same: the entry; the whole files in
+-- their order, each with its kind and its records, Held where the other is Held and Ready where it isn't; and the
+-- lines, but for what `bare` leaves out. Both are in order, with the same quota and limit, and on both nothing goes on.
 pub record StandsAs (opened lost : Part) : Type 0 where
   pub entry : opened.customer.entry ≡ lost.customer.entry
   pub files : map opened_of opened.customer.spool.whole ≡ map file_at_rest lost.customer.spool.whole

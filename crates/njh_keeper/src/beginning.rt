@@ -16,11 +16,12 @@ use njh_ebcdic::Name;
 use njh_hub::Hub;
 use sqlite::{Alter, Error};
 
-/// Remembers the whole files of the customers of a hub that was opened from a spool file, and commits them as the hub
-/// has them. What stands under numbers of no file is dropped, as far as it is looked for.
+/// Remembers the whole files of the customers of a hub that was opened from a spool file, and
+/// commits them as the hub has them. What stands under numbers of no file is dropped, as far as it
+/// is looked for.
 ///
-/// Two files whose records stand under one number are damage, and so is a file whose row or whose records have the
-/// greatest number.
+/// Two files whose records stand under one number are damage, and so is a file whose row or whose
+/// records have the greatest number.
 pub(crate) fn begin<S: Alter + Drop>(
     writer: &mut SpoolWriter<S>,
     hub: &Hub,

@@ -8,8 +8,9 @@ use thiserror::Error;
 /// Why a whole file isn't put back.
 #[derive(Clone, Copy, Debug, PartialEq, Eq, Error)]
 pub enum FileFault {
-    /// It isn't all there, or is no file of a hub: it has another number of records than it says, a record isn't at its
-    /// place, has more than 256 bytes or an SRCB that is no byte, or the file's kind is neither SYSIN nor SYSOUT.
+    /// It isn't all there, or is no file of a hub: it has another number of records than it says, a
+    /// record isn't at its place, has more than 256 bytes or an SRCB that is no byte, or the file's
+    /// kind is neither SYSIN nor SYSOUT.
     #[error("O4 BadFile")]
     BadFile,
     /// Its customer has no room for it, or its headers don't read.

@@ -28,11 +28,11 @@ use njh_record::Kind;
 use njh_spool::{FileId, State};
 use sqlite::{Alter, Error};
 
-/// Keeps a customer's whole files as a hub has them now: those that came are added, those that left are taken out, and
-/// of each other one what changed is written anew.
+/// Keeps a customer's whole files as a hub has them now: those that came are added, those that left
+/// are taken out, and of each other one what changed is written anew.
 ///
-/// The last files are the new ones, as many as became whole; each other one was there, and is known by its number. One
-/// that isn't found is a fault.
+/// The last files are the new ones, as many as became whole; each other one was there, and is known
+/// by its number. One that isn't found is a fault.
 pub(crate) fn follow<S: Alter + Drop>(
     writer: &mut SpoolWriter<S>,
     own: &mut OwnFiles,
@@ -155,7 +155,8 @@ fn new_files(before: u64, now: u64) -> u32
     u32::try_from(now.saturating_sub(before)).unwrap_or(u32::MAX)
 }
 
-/// Takes out the files that stood from a place on before the one of this number; all where none is given.
+/// Takes out the files that stood from a place on before the one of this number; all where none is
+/// given.
 fn drop_before<S: Alter + Drop>(
     writer: &mut SpoolWriter<S>,
     own: &mut OwnFiles,
@@ -259,7 +260,8 @@ fn rewrite_one<S: Alter + Drop>(
     Ok(())
 }
 
-/// Notes a file's state. Where it is Held now and wasn't, or the other way, its row is written anew.
+/// Notes a file's state. Where it is Held now and wasn't, or the other way, its row is written
+/// anew.
 fn change_state<S: Alter + Drop>(
     writer: &mut SpoolWriter<S>,
     own: &mut OwnFiles,
@@ -327,8 +329,8 @@ pub(crate) fn change_row<S: Alter + Drop>(
     changed
 }
 
-/// Whether a file's headers were rewritten: its destination is another, or its data set headers named more than one
-/// node and don't any more.
+/// Whether a file's headers were rewritten: its destination is another, or its data set headers
+/// named more than one node and don't any more.
 fn is_rewritten(kept: &KeptWhole, hub: &Hub, file: HubFile, summary: &FileSummaryView) -> bool
     ensures same { result ≡ false → kept.now.destination ≡ summary.now.destination }
     ensures several { result ≡ false → kept.now.is_mixed ≡ true
@@ -369,7 +371,8 @@ struct RecordsPlace {
     written: u32,
 }
 
-/// The place for a file of this number that has so many records: that of the file that wasn't whole, or a new one.
+/// The place for a file of this number that has so many records: that of the file that wasn't
+/// whole, or a new one.
 fn place_for<S: Alter + Drop>(
     writer: &mut SpoolWriter<S>,
     own: &mut OwnFiles,

@@ -112,9 +112,9 @@ fn are_mixed(mut records: RecordReader<'_>, count: u32) -> bool
     false
 }
 
-/// The node that the next data set header names, of those records that are left, so many at most. One directly behind
-/// another goes on with that, and names none. The SRCB of the record before is given, and that of the header is left in
-/// its place.
+/// The node that the next data set header names, of those records that are left, so many at most.
+/// One directly behind another goes on with that, and names none. The SRCB of the record before is
+/// given, and that of the header is left in its place.
 fn next_node(records: &mut RecordReader<'_>, before: &mut u8, count: u32) -> Option<Name>
     requires { length records.old ≤ count }
     ensures nodes { named_nodes (Some before.old) records.old

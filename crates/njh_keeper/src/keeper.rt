@@ -42,8 +42,8 @@ use std::marker::Model;
 use std::rt::Clock;
 use std::time::{SystemTime, UNIX_EPOCH};
 
-/// Keeps the whole files of a hub's customers in a spool file: a depot for `serve`. It opens one hub. After a failure
-/// each further call fails.
+/// Keeps the whole files of a hub's customers in a spool file: a depot for `serve`. It opens one
+/// hub. After a failure each further call fails.
 #[derive(Drop)]
 pub struct SpoolKeeper<'a, R, S: Origin + Drop> {
     rt: &'a R,
@@ -100,12 +100,14 @@ impl<'a, R: Clock, S: Origin + Drop> SpoolKeeper<'a, R, S> {
 }
 
 impl<'a, R: Clock, S: Origin + Drop> SpoolKeeper<'a, R, S> {
-    /// The whole file that couldn't be put back when a hub was opened, and why; none where there is no such file.
+    /// The whole file that couldn't be put back when a hub was opened, and why; none where there is
+    /// no such file.
     pub fn refused(&self) -> Option<&RefusedFile> {
         self.refused.as_ref()
     }
 
-    /// How many whole files of the spool file are of customers that these tables don't have. They stay there.
+    /// How many whole files of the spool file are of customers that these tables don't have. They
+    /// stay there.
     pub fn strangers(&mut self, alloc: Global, tables: &Tables) -> Result<u32, Error>
         ensures same { self.new.failures ≡ self.old.failures }
         ensures stays { HasCleanDisk (shown S.Store self.new.store) → OnOk result (Stays (shown S.Store self.old.store)
@@ -146,7 +148,8 @@ impl<'a, R: Clock, S: Origin + Drop> SpoolKeeper<'a, R, S> {
     fn follow_files(&mut self, hub: &Hub, customer: u16) -> Result<(), Error>
         ensures same { (self.new.failures ≡ self.old.failures) × (self.new.names ≡ self.old.names)
             × (self.new.is_fresh ≡ false) }
-        ensures known { (before : List Part) → LeadsHub customer before hub.now → KnowsHub S.Store S.found self.old before
+        ensures known { (before : List Part) → LeadsHub customer before hub.now
+            → KnowsHub S.Store S.found self.old before
             → OnOk result (KnowsHub S.Store S.found self.new hub.now) }
         ensures crash { Survives (shown S.Store self.old.store) (shown S.Store self.new.store) (λ _. ⊥) }
     {
@@ -169,7 +172,8 @@ impl<'a, R: Clock, S: Origin + Drop> SpoolKeeper<'a, R, S> {
             → Stands s (shown S.Store self.old.store) → IsAsKept self.old s → IsKeptNow S.Store self.new s.now) }
         ensures clean { HasCleanDisk (shown S.Store self.new.store) → HasCleanDisk (shown S.Store self.old.store) }
         ensures crash { (left : List (List KeptFile)) → MayLeave S.Store self.new left
-            → MayLeave S.Store self.old left ⊎ ((now : SpoolContents) → Holds now (shown S.Store self.old.store).now.trees
+            → MayLeave S.Store self.old left
+            ⊎ ((now : SpoolContents) → Holds now (shown S.Store self.old.store).now.trees
             → left ≡ left_in self.old.names now) }
     {
         self.is_fresh = false;
@@ -202,8 +206,8 @@ impl<'a, R: Clock, S: Origin + Drop> SpoolKeeper<'a, R, S> {
         }
     }
 
-    /// Remembers what is kept of the files of a hub that was opened from the spool file, for customers of its names. From
-    /// then on the spool file has them as the hub has.
+    /// Remembers what is kept of the files of a hub that was opened from the spool file, for
+    /// customers of its names. From then on the spool file has them as the hub has.
     fn remember(&mut self, hub: &Hub) -> Result<(), Error>
         ensures same { (self.new.failures ≡ self.old.failures) × (self.new.names ≡ self.old.names)
             × (self.new.is_fresh ≡ false) }
@@ -226,8 +230,8 @@ impl<'a, R: Clock, S: Origin + Drop> SpoolKeeper<'a, R, S> {
         Ok(())
     }
 
-    /// Opens a hub of these tables from the spool file, and remembers what it has. Once it did so, or failed, it opens
-    /// no other.
+    /// Opens a hub of these tables from the spool file, and remembers what it has. Once it did so,
+    /// or failed, it opens no other.
     fn open_hub(&mut self, alloc: Global, tables: Tables) -> Result<Hub, DepotFault>
         ensures opened { IfOk result (λ hub. IsOpenedFrom S.Store self.old self.new tables hub) }
         ensures settled { IfOk result (λ hub. IsSettledFrom S.Store self.old self.new tables hub) }
@@ -349,7 +353,8 @@ fn count_strangers(names: &[Name], files: &[StoredFile]) -> u32 {
     count
 }
 
-/// Seconds since the beginning of 1970 by the clock; 0 where it fails, stands before that, or past the year 2105.
+/// Seconds since the beginning of 1970 by the clock; 0 where it fails, stands before that, or past
+/// the year 2105.
 fn seconds_on<R: Clock>(rt: &R) -> u32 {
     match SystemTime::now(rt) {
         Ok(time) => match time.duration_since(UNIX_EPOCH) {

@@ -1,4 +1,5 @@
-//! Laws of a spool file, and of a hub that is opened from it. Each function does nothing: its contract is the law.
+//! Laws of a spool file, and of a hub that is opened from it. Each function does nothing: its
+//! contract is the law.
 
 ghost use Rattle.std.specs.Prelude.{◌≡◌, ℕ, ◌<◌, false, List, length};
 ghost use Rattle.std.specs.List.{AllByRecursion};
@@ -22,17 +23,19 @@ use njh_spool::next_number_is_least;
 use njh_spoolfile::{only_the_last_commit, others_do_not_show};
 use sqlite::Alter;
 
-/// A customer of a hub that was opened from files of its own has these, in their order and with all their records: Held
-/// where they were Held or their node has no route, else Ready. Its lines are down, and nothing waits.
+/// A customer of a hub that was opened from files of its own has these, in their order and with all
+/// their records: Held where they were Held or their node has no route, else Ready. Its lines are
+/// down, and nothing waits.
 pub fn files_stand_again()
     ensures { (entry : CustomerEntry) (ws : List Whole) → AreBack (part_at_open entry) ws
         → HasOpened entry ws (part_opened entry ws) }
 {}
 
-/// A customer was opened, and whatever events came, it had these whole files when the hub ended. If a hub is opened again
-/// from them, by the customer's old entry with whatever routes, each can be put back, and the customer has on it what it
-/// alone would have if the sessions of all its lines were lost and it were then given these routes; but for messages,
-/// which are not kept, and what `bare` of `LinesLost.antt` names of a line. So it is with what a crash left of them.
+/// A customer was opened, and whatever events came, it had these whole files when the hub ended. If
+/// a hub is opened again from them, by the customer's old entry with whatever routes, each can be
+/// put back, and the customer has on it what it alone would have if the sessions of all its lines
+/// were lost and it were then given these routes; but for messages, which are not kept, and what
+/// `bare` of `LinesLost.antt` names of a line. So it is with what a crash left of them.
 pub fn opened_again_as_after_the_loss_of_all_lines()
     ensures had { OpenedAsLinesLost }
     ensures left { LeftAsLinesLost }
@@ -44,8 +47,8 @@ pub fn opened_again_as_after_the_loss_of_all_lines()
     next_number_is_least();
 }
 
-/// What a customer has after the opening is decided by its own entry and its own files: on two hubs, of two tables and
-/// two spool files in which these are the same, it has the same.
+/// What a customer has after the opening is decided by its own entry and its own files: on two
+/// hubs, of two tables and two spool files in which these are the same, it has the same.
 pub fn own_files_decide()
     ensures { (table other : TableFile) (spool kept : SpoolContents) (c d : ℕ)
         → c < length table.customers → d < length other.customers
@@ -54,7 +57,8 @@ pub fn own_files_decide()
         → part c (hub_opened table spool) ≡ part d (hub_opened other kept) }
 {}
 
-/// A whole file of another customer that comes last into a spool file changes nothing of this one's.
+/// A whole file of another customer that comes last into a spool file changes nothing of this
+/// one's.
 pub fn a_file_of_another_does_not_show()
     ensures { (entry : CustomerEntry) (name : List ℕ) (id : ℕ) (file : File) (spool : SpoolContents)
         → AllByRecursion (λ e. e.0 < id) spool.files → is_own name file ≡ false
@@ -63,16 +67,18 @@ pub fn a_file_of_another_does_not_show()
     others_do_not_show();
 }
 
-/// While a spool file stands, a crash leaves of the customers' whole files those that were committed last.
+/// While a spool file stands, a crash leaves of the customers' whole files those that were
+/// committed last.
 pub fn a_crash_leaves_what_was_committed<S: Alter>()
-    ensures { (keeper : Keeping S) (s : CommitState) (left : List (List KeptFile)) → Stands s (shown S.Store keeper.store)
+    ensures { (keeper : Keeping S) (s : CommitState) (left : List (List KeptFile))
+        → Stands s (shown S.Store keeper.store)
         → MayLeave S.Store keeper left → left ≡ left_in keeper.names s.kept }
 {
     only_the_last_commit::<S>();
 }
 
-/// Behind the opening of a hub, from a spool file that stood before, a crash leaves of the customers' whole files those
-/// that the hub has, until something else is committed.
+/// Behind the opening of a hub, from a spool file that stood before, a crash leaves of the
+/// customers' whole files those that the hub has, until something else is committed.
 pub fn a_crash_leaves_what_was_opened<S: Alter>()
     ensures { (before behind : Keeping S) (table : TableFile) (parts : List Part) (s : CommitState)
         → IsSettledFrom S.Store before behind table parts → Stands s (shown S.Store before.store)

@@ -8,8 +8,8 @@ use njh_spoolfile::StoredFile;
 use sqlite::Error;
 use std::alloc::{AllocError, Global};
 
-/// Whether the numbers of these files can be gone on with: two files whose records stand under one number are damage,
-/// and so is a file whose row or whose records have the greatest number.
+/// Whether the numbers of these files can be gone on with: two files whose records stand under one
+/// number are damage, and so is a file whose row or whose records have the greatest number.
 pub(crate) fn check_numbers(alloc: Global, files: &[StoredFile]) -> Result<(), Error>
     ensures { OnOk result (AreFilesApart files.now × (have_low_ids files.now ≡ true)) }
 {

@@ -23,7 +23,8 @@ use njh_table::Tables;
 use sqlite::Alter;
 use std::alloc::Global;
 
-/// The whole files of a spool file without their records, beside the names of the tables' customers.
+/// The whole files of a spool file without their records, beside the names of the tables'
+/// customers.
 #[derive(Drop)]
 struct Found {
     names: Vec<Name>,
@@ -104,13 +105,14 @@ fn fill<S: Alter>(
     }
 }
 
-/// Opens a hub of these tables from a spool file: each customer has its own whole files there, in their order of
-/// arrival and with all their records. One that was Held is Held; any other is Ready, or Held where its node has no
-/// route. All lines are down. Files of customers that the tables don't have stay in the spool file alone. One file's
-/// records are read at a time. Nothing in the spool file changes.
+/// Opens a hub of these tables from a spool file: each customer has its own whole files there, in
+/// their order of arrival and with all their records. One that was Held is Held; any other is
+/// Ready, or Held where its node has no route. All lines are down. Files of customers that the
+/// tables don't have stay in the spool file alone. One file's records are read at a time. Nothing
+/// in the spool file changes.
 ///
-/// `File` comes at the first file, in the order of arrival, that can't be put back; `Memory` where there was none for
-/// the hub or for the list of files.
+/// `File` comes at the first file, in the order of arrival, that can't be put back; `Memory` where
+/// there was none for the hub or for the list of files.
 pub fn open_from<S: Alter>(
     alloc: Global,
     tables: Tables,

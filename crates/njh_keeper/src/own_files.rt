@@ -70,8 +70,8 @@ pub(crate) struct HubFile {
 }
 
 impl OwnFiles {
-    /// The first place where a file of this number is remembered that wasn't whole, and can be the one with so many
-    /// records now.
+    /// The first place where a file of this number is remembered that wasn't whole, and can be the
+    /// one with so many records now.
     pub(crate) fn place_of(&self, number: FileId, records: u32) -> Option<usize>
         ensures within { IfSome result (λ place. place < length self.now.partial.items) }
         ensures found { IfSome result (λ place. IsSomeAnd (slice_get self.now.partial.items place) (λ p.
@@ -88,8 +88,8 @@ impl OwnFiles {
         None
     }
 
-    /// The file of this number that wasn't whole, where it can be the one with so many records now. It is remembered no
-    /// more.
+    /// The file of this number that wasn't whole, where it can be the one with so many records now.
+    /// It is remembered no more.
     pub(crate) fn take_partial(&mut self, number: FileId, records: u32) -> Option<KeptPartial>
         ensures taken { IfSome result (λ p. (place : ℕ) × (place < length self.old.partial.items)
             × (p ≡ get_or self.old.partial.items place p)

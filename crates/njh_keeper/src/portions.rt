@@ -20,16 +20,17 @@ use njh_stream::Receiver;
 use njh_table::LineId;
 use sqlite::{Alter, Error};
 
-/// From how many records on a file's are kept before it is whole: more than one block has, which are fewer than a third
-/// of its 4,096 bytes. So where the number of a file that was given up is another file's after the same step, that one
-/// has fewer records than were seen.
+/// From how many records on a file's are kept before it is whole: more than one block has, which
+/// are fewer than a third of its 4,096 bytes. So where the number of a file that was given up is
+/// another file's after the same step, that one has fewer records than were seen.
 const MANY: u32 = 1_366;
 
-/// How many records wait at least before they are kept, so that a file isn't read from its beginning at each step.
+/// How many records wait at least before they are kept, so that a file isn't read from its
+/// beginning at each step.
 const PORTION: u32 = 256;
 
-/// Keeps records of a customer's files that aren't whole. Those of files that were given up are dropped step by step, as
-/// those of files that have left: some of them now.
+/// Keeps records of a customer's files that aren't whole. Those of files that were given up are
+/// dropped step by step, as those of files that have left: some of them now.
 pub(crate) fn keep_portions<S: Alter + Drop>(
     writer: &mut SpoolWriter<S>,
     own: &mut OwnFiles,

@@ -25,8 +25,8 @@ use njh_spoolfile::StoredFile;
 use sqlite::{Alter, Error};
 use std::alloc::{AllocError, Global};
 
-/// Remembers the whole files of the customers of a hub that was opened from these files of a spool file. The rows of
-/// those that are Held since their node has no route any more are written anew.
+/// Remembers the whole files of the customers of a hub that was opened from these files of a spool
+/// file. The rows of those that are Held since their node has no route any more are written anew.
 pub(crate) fn remember_all<S: Alter + Drop>(
     writer: &mut SpoolWriter<S>,
     hub: &Hub,
@@ -144,8 +144,8 @@ fn remember_if_own<S: Alter + Drop>(
     Ok(())
 }
 
-/// Remembers a whole file that was put back behind those that are remembered. Where the hub has it Held and its row
-/// doesn't, or the other way, its row is written anew.
+/// Remembers a whole file that was put back behind those that are remembered. Where the hub has it
+/// Held and its row doesn't, or the other way, its row is written anew.
 fn remember_one<S: Alter + Drop>(
     writer: &mut SpoolWriter<S>,
     own: &mut OwnFiles,

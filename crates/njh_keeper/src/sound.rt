@@ -9,8 +9,8 @@ use crate::writer::astray;
 use njh_hub::Hub;
 use sqlite::Error;
 
-/// The files of the first so many customers are sound, and the headers of those that are whole read; or the customers
-/// are more than a hub may have.
+/// The files of the first so many customers are sound, and the headers of those that are whole
+/// read; or the customers are more than a hub may have.
 pub(crate) fn see_sound(hub: &Hub, count: usize) -> Result<(), Error>
     ensures { OnOk result ((c : ℕ) → c < count → IsSound (part c hub.now).customer.spool
         × HaveHeaders (part c hub.now).customer.spool.whole) }

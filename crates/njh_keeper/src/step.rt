@@ -17,8 +17,8 @@ use njh_customer::{files_grow, files_survive};
 use njh_hub::Hub;
 use sqlite::{Alter, Error};
 
-/// Keeps a customer's files as a step left them: first those that are whole, and then records of the others. Nothing is
-/// committed.
+/// Keeps a customer's files as a step left them: first those that are whole, and then records of
+/// the others. Nothing is committed.
 pub(crate) fn keep_step<S: Alter + Drop>(
     writer: &mut SpoolWriter<S>,
     own: &mut OwnFiles,

@@ -10,7 +10,8 @@ ghost use Rattle.njh_spoolfile.specs.CommitState.{CommitState, Stands};
 ghost use Rattle.njh_spoolfile.specs.Steps.{Changes, Commits};
 ghost use Rattle.njh_keeper.specs.code.Writing.{IsTaken, behind_of, freed_by, is_due, left_of, sweep_of, with_replaced};
 ghost use Rattle.njh_keeper.specs.code.Writing.{AreBelow, below, emptied_at, free_at, id_behind, is_marked, key_behind};
-ghost use Rattle.njh_keeper.specs.code.Writing.{marked_by, shows_kept, shows_now, unmarked, without_keys, without_swept};
+ghost use Rattle.njh_keeper.specs.code.Writing.{marked_by, shows_kept, shows_now, unmarked, without_keys};
+ghost use Rattle.njh_keeper.specs.code.Writing.{without_swept};
 
 use crate::own_files::KeptWhole;
 use njh_spoolfile::{FileRow, RecordRow, Store, StoredFile};
@@ -26,7 +27,8 @@ const SWEPT_AT_ONCE: u32 = 512;
 /// How many records wait for a commit at most, where no whole file changes.
 const WAITING: u32 = 4096;
 
-/// Up to which number those are looked for that no file's records stand under, when a spool file is opened.
+/// Up to which number those are looked for that no file's records stand under, when a spool file is
+/// opened.
 const LOOKED_FOR: u32 = 200_000;
 
 /// How many numbers behind those of files are emptied then.
@@ -303,8 +305,8 @@ impl<S: Alter + Drop> SpoolWriter<S> {
         self.sweeps.clear();
     }
 
-    /// Begins behind the numbers of these files, which are all. What stands under numbers of no file is dropped, as far
-    /// as it is looked for.
+    /// Begins behind the numbers of these files, which are all. What stands under numbers of no
+    /// file is dropped, as far as it is looked for.
     pub(crate) fn begin_numbers(&mut self, files: &[StoredFile]) -> Result<(), Error>
         ensures begun { HasCleanDisk (shown S.Store self.new.store) → OnOk result ((s : CommitState)
             → Stands s (shown S.Store self.old.store) → Stands (shows_kept (without_keys (emptied_at files.now
@@ -397,7 +399,8 @@ fn behind_of(sweep: Sweep) -> u32
     (first + SWEPT_AT_ONCE).min(sweep.end).min(PLACES)
 }
 
-/// Has the records dropped later that are left of a file that has left. Where none is, its number is free.
+/// Has the records dropped later that are left of a file that has left. Where none is, its number
+/// is free.
 fn keep_rest(sweeps: &mut Vec<Sweep>, free_keys: &mut Vec<u32>, sweep: Sweep) -> Result<(), Error>
     ensures left { OnOk result (sweeps.new.items ≡ sweeps.old.items ++ left_of sweep) }
     ensures freed { OnOk result (free_keys.new.items ≡ free_keys.old.items ++ freed_by sweep) }

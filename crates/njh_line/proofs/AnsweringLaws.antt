@@ -14,7 +14,8 @@ use Rattle.njh_line.specs.declared.session.Session.{Session}
 use Rattle.njh_line.specs.declared.table.SessionOutcome.{SessionOutcome}
 use Rattle.njh_line.specs.declared.verdict.LineReply.{LineReply}
 use Rattle.njh_line.specs.declared.verdict.LineReply.TheVariants as reply
-use Rattle.njh_line.specs.Answering.{IsAnsweredByNext, ActingIsAnswered, LeavesDown, does_nothing, is_answered, DownStaysDown}
+use Rattle.njh_line.specs.Answering.{IsAnsweredByNext, ActingIsAnswered, LeavesDown, does_nothing, is_answered}
+use Rattle.njh_line.specs.Answering.{DownStaysDown}
 use Rattle.njh_line.specs.Counts.{count_verdict, expected_count, after_acting}
 use Rattle.njh_line.specs.LineTable as input
 use Rattle.njh_line.specs.LineTable.{Input, table_outcome, cell, none, enquiry, ack0, hang_up, end, end_with}
@@ -61,7 +62,8 @@ signs_on : (r : LineReply) (line : Config) (o : Option SignOn) (s : Session) →
 signs_on r line (Some x) s = still (signed_on r line (Some x) s) refl
 signs_on r line None s = still (hang_up s) refl
 
-by_counts : (bcb : ℕ) (fcs : ℕ × ℕ) (acted : Session → SessionOutcome) (s : Session) → IsAnswered (acted (after_acting bcb fcs s))
+by_counts : (bcb : ℕ) (fcs : ℕ × ℕ) (acted : Session → SessionOutcome) (s : Session)
+    → IsAnswered (acted (after_acting bcb fcs s))
     → IsAnswered (by_count bcb fcs acted s)
 by_counts bcb fcs acted s answered = at_count (count_verdict s.last_bcb bcb)
   where
@@ -77,7 +79,8 @@ by_counts bcb fcs acted s answered = at_count (count_verdict s.last_bcb bcb)
     at_count OutOfSequence = still (end_with (reply.Sequence (0x80 + expected_count s.last_bcb)) s) refl
 
 in_row :
-    (p : Phase) (down calling answered sent_i up : SessionOutcome) → IsAnswered down → IsAnswered calling → IsAnswered answered → IsAnswered sent_i → IsAnswered up
+    (p : Phase) (down calling answered sent_i up : SessionOutcome) → IsAnswered down → IsAnswered calling
+    → IsAnswered answered → IsAnswered sent_i → IsAnswered up
     → IsAnswered (cell p down calling answered sent_i up)
 in_row Down down calling answered sent_i up d c a i u = d
 in_row Calling down calling answered sent_i up d c a i u = c
@@ -88,29 +91,35 @@ in_row Up down calling answered sent_i up d c a i u = u
 disregarded : (s : Session) → IsAnswered (cell s.phase (none s) (none s) (try_nak s) (try_nak s) (try_nak s))
 disregarded s =
     let nak = tries (reply.Control control.Nak) s in
-    in_row s.phase (none s) (none s) (try_nak s) (try_nak s) (try_nak s) (still (none s) refl) (still (none s) refl) nak nak nak
+    in_row s.phase (none s) (none s) (try_nak s) (try_nak s) (try_nak s) (still (none s) refl) (still (none s) refl) nak
+    nak nak
 
 hung_up : (s : Session) → IsAnswered (cell s.phase (none s) (hang_up s) (hang_up s) (hang_up s) (end s))
 hung_up s =
-    in_row s.phase (none s) (hang_up s) (hang_up s) (hang_up s) (end s) (still (none s) refl) (still (hang_up s) refl) (still (hang_up s) refl)
+    in_row s.phase (none s) (hang_up s) (hang_up s) (hang_up s) (end s) (still (none s) refl) (still (hang_up s) refl)
+    (still (hang_up s) refl)
     (still (hang_up s) refl) (still (end s) refl)
 
 pub acting_is_answered : ActingIsAnswered
 unfolding table_outcome
 acting_is_answered line s input.Enquiry =
-    in_row s.phase (contact line.role s) (none s) (ack0 s) (none s) (end_and_contact line.role s) (contacted line.role s) (still (none s) refl)
+    in_row s.phase (contact line.role s) (none s) (ack0 s) (none s) (end_and_contact line.role s)
+    (contacted line.role s) (still (none s) refl)
     (still (ack0 s) refl) (still (none s) refl) (ended_and_contacted line.role s)
 acting_is_answered line s input.Ack0 =
-    in_row s.phase (none s) (i_block s) (none s) (none s) (next_or_turn s) (still (none s) refl) (still (i_block s) refl) (still (none s) refl)
+    in_row s.phase (none s) (i_block s) (none s) (none s) (next_or_turn s) (still (none s) refl)
+    (still (i_block s) refl) (still (none s) refl)
     (still (none s) refl) (still (next_or_turn s) refl)
 acting_is_answered line s input.Nak =
     let again = tries reply.Again s in
-    in_row s.phase (none s) (none s) (try_again s) (try_again s) (try_again s) (still (none s) refl) (still (none s) refl) again again again
+    in_row s.phase (none s) (none s) (try_again s) (try_again s) (try_again s) (still (none s) refl)
+    (still (none s) refl) again again again
 acting_is_answered line s input.Eot = hung_up s
 acting_is_answered line s input.Lost = hung_up s
 acting_is_answered line s (input.Block bcb fcs first) =
     let t = after_acting bcb fcs s in
-    in_row s.phase (none s) (none s) (by_count bcb fcs (i_sign_on line first) s) (by_count bcb fcs (j_sign_on line first) s) (by_count bcb fcs act s)
+    in_row s.phase (none s) (none s) (by_count bcb fcs (i_sign_on line first) s)
+    (by_count bcb fcs (j_sign_on line first) s) (by_count bcb fcs act s)
     (still (none s) refl) (still (none s) refl)
     (by_counts bcb fcs (i_sign_on line first) s (signs_on (reply.SignOn Response) line (fitting Initial line first) t))
     (by_counts bcb fcs (j_sign_on line first) s (signs_on (reply.Next true) line (fitting Response line first) t))
@@ -120,13 +129,15 @@ acting_is_answered line s input.Bad = disregarded s
 acting_is_answered line s input.Garbled = disregarded s
 acting_is_answered line s input.Tick =
     let nak = tries (reply.Control control.Nak) s in
-    in_row s.phase (call line.role s) (enquiry s) (try_nak s) (try_nak s) (next_in_turn s) (calls line.role s) (still (enquiry s) refl) nak nak (in_turn s)
+    in_row s.phase (call line.role s) (enquiry s) (try_nak s) (try_nak s) (next_in_turn s) (calls line.role s)
+    (still (enquiry s) refl) nak nak (in_turn s)
 
 -- ---- a line that is down
 
 at_down : (s : Session) (down calling answered sent_i up : SessionOutcome) → s.phase ≡ Down → LeavesDown down
     → LeavesDown (cell s.phase down calling answered sent_i up)
-at_down s down calling answered sent_i up is leaves = subst (λ p. LeavesDown (cell p down calling answered sent_i up)) (sym is) leaves
+at_down s down calling answered sent_i up is leaves =
+    subst (λ p. LeavesDown (cell p down calling answered sent_i up)) (sym is) leaves
 
 contact_leaves : (r : Role) (s : Session) → s.phase ≡ Down → LeavesDown (contact r s)
 contact_leaves role.Call s down = does_nothing refl down
@@ -139,16 +150,26 @@ call_leaves role.Answer s down = does_nothing refl down
 pub down_stays_down : DownStaysDown
 unfolding table_outcome
 down_stays_down line s input.Enquiry down =
-    at_down s (contact line.role s) (none s) (ack0 s) (none s) (end_and_contact line.role s) down (contact_leaves line.role s down)
-down_stays_down line s input.Ack0 down = at_down s (none s) (i_block s) (none s) (none s) (next_or_turn s) down (does_nothing refl down)
-down_stays_down line s input.Nak down = at_down s (none s) (none s) (try_again s) (try_again s) (try_again s) down (does_nothing refl down)
-down_stays_down line s input.Eot down = at_down s (none s) (hang_up s) (hang_up s) (hang_up s) (end s) down (does_nothing refl down)
-down_stays_down line s input.Lost down = at_down s (none s) (hang_up s) (hang_up s) (hang_up s) (end s) down (does_nothing refl down)
-down_stays_down line s (input.Block bcb fcs first) down =
-    at_down s (none s) (none s) (by_count bcb fcs (i_sign_on line first) s) (by_count bcb fcs (j_sign_on line first) s) (by_count bcb fcs act s) down
+    at_down s (contact line.role s) (none s) (ack0 s) (none s) (end_and_contact line.role s) down
+    (contact_leaves line.role s down)
+down_stays_down line s input.Ack0 down = at_down s (none s) (i_block s) (none s) (none s) (next_or_turn s) down
     (does_nothing refl down)
-down_stays_down line s input.Spoiled down = at_down s (none s) (none s) (try_nak s) (try_nak s) (try_nak s) down (does_nothing refl down)
-down_stays_down line s input.Bad down = at_down s (none s) (none s) (try_nak s) (try_nak s) (try_nak s) down (does_nothing refl down)
-down_stays_down line s input.Garbled down = at_down s (none s) (none s) (try_nak s) (try_nak s) (try_nak s) down (does_nothing refl down)
+down_stays_down line s input.Nak down = at_down s (none s) (none s) (try_again s) (try_again s) (try_again s) down
+    (does_nothing refl down)
+down_stays_down line s input.Eot down = at_down s (none s) (hang_up s) (hang_up s) (hang_up s) (end s) down
+    (does_nothing refl down)
+down_stays_down line s input.Lost down = at_down s (none s) (hang_up s) (hang_up s) (hang_up s) (end s) down
+    (does_nothing refl down)
+down_stays_down line s (input.Block bcb fcs first) down =
+    at_down s (none s) (none s) (by_count bcb fcs (i_sign_on line first) s) (by_count bcb fcs (j_sign_on line first) s)
+    (by_count bcb fcs act s) down
+    (does_nothing refl down)
+down_stays_down line s input.Spoiled down =
+    at_down s (none s) (none s) (try_nak s) (try_nak s) (try_nak s) down (does_nothing refl down)
+down_stays_down line s input.Bad down = at_down s (none s) (none s) (try_nak s) (try_nak s) (try_nak s) down
+    (does_nothing refl down)
+down_stays_down line s input.Garbled down =
+    at_down s (none s) (none s) (try_nak s) (try_nak s) (try_nak s) down (does_nothing refl down)
 down_stays_down line s input.Tick down =
-    at_down s (call line.role s) (enquiry s) (try_nak s) (try_nak s) (next_in_turn s) down (call_leaves line.role s down)
+    at_down s (call line.role s) (enquiry s) (try_nak s) (try_nak s) (next_in_turn s) down
+    (call_leaves line.role s down)

@@ -12,7 +12,8 @@ clash false e f = absurd (cc)
 
 -- of the tests of the count rule, the second says what repeats
 repeats : (unchecked repeat set taken : Bool)
-    → cond unchecked Acts (cond repeat Repeats (cond set Acts (cond taken Acts OutOfSequence))) ≡ Repeats → repeat ≡ true
+    → cond unchecked Acts (cond repeat Repeats (cond set Acts (cond taken Acts OutOfSequence))) ≡ Repeats
+    → repeat ≡ true
 repeats true repeat set taken e = absurd (cc)
 repeats false true set taken e = refl
 repeats false false true taken e = absurd (cc)

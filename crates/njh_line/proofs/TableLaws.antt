@@ -94,7 +94,8 @@ fifth p reply s i h =
     let try = fifth_try (s.tries == 5) reply s (eq-eqb s.tries 5 h) in
     inside (λ q x. x ≡ end s) p _ _ _ _ _ i try try try
 
-pub ends : (line : Config) (s : Session) (input : Input) → is_disregarded input ≡ true → in_session s.phase ≡ true → s.tries ≡ 5
+pub ends : (line : Config) (s : Session) (input : Input) → is_disregarded input ≡ true → in_session s.phase ≡ true
+    → s.tries ≡ 5
     → table_outcome line input s ≡ end s
 unfolding table_outcome
 ends line s Enquiry e i h = clash false e refl
@@ -113,7 +114,8 @@ pub repeat_tries : (line : Config) (s : Session) (bcb : ℕ) (fcs : ℕ × ℕ) 
 repeat_tries line s bcb fcs first e f = sym (rows.repeats line bcb fcs first s e f)
 
 pub repeat_stays : (line : Config) (s : Session) (bcb : ℕ) (fcs : ℕ × ℕ) (first : First) → in_session s.phase ≡ true
-    → count_verdict s.last_bcb bcb ≡ Repeats → s.tries < 5 → MovesTriesAlone s (table_outcome line (Block bcb fcs first) s)
+    → count_verdict s.last_bcb bcb ≡ Repeats → s.tries < 5
+    → MovesTriesAlone s (table_outcome line (Block bcb fcs first) s)
 repeat_stays line s bcb fcs first e f h =
     subst (λ (x : SessionOutcome). MovesTriesAlone s x) (rows.repeats line bcb fcs first s e f)
     (try_moves (s.tries == 5) Again s (not_five s.tries h))
@@ -128,12 +130,14 @@ try_rises : (five : Bool) (reply : LineReply) (s : Session)
 try_rises true reply s = omega arith
 try_rises false reply s = omega arith
 
-wait_rises : (turn : Bool) (s : Session) → s.tries ≤ (cond turn (with_reply (Next true) s) (try_with (Control control.Nak) s)).session.tries
+wait_rises : (turn : Bool) (s : Session) → s.tries
+    ≤ (cond turn (with_reply (Next true) s) (try_with (Control control.Nak) s)).session.tries
 wait_rises true s = omega arith
 wait_rises false s = try_rises (s.tries == 5) _ s
 
 count_rises : (k : Counted) (acted : SessionOutcome) (reply : LineReply) (s : Session) → is_acting k ≡ false
-    → s.tries ≤ (elim k as (λ x. SessionOutcome) [ Acts ↦ acted | Repeats ↦ try_again s | OutOfSequence ↦ end_with reply s ]).session.tries
+    → s.tries ≤ (elim k as (λ x. SessionOutcome)
+    [ Acts ↦ acted | Repeats ↦ try_again s | OutOfSequence ↦ end_with reply s ]).session.tries
 count_rises Acts acted reply s e = clash true refl e
 count_rises Repeats acted reply s e = try_rises (s.tries == 5) Again s
 count_rises OutOfSequence acted reply s e = omega arith
@@ -145,7 +149,8 @@ trying_keeps p reply s e =
     inside (λ q x. KeepsTries s x) p _ _ _ _ _ e try try try
 
 pub tries_stay : (line : Config) (s : Session) (input : Input) → in_session s.phase ≡ true
-    → (table_outcome line input s).verdict.ended ≡ false → sets_tries input s ≡ false → s.tries ≤ (table_outcome line input s).session.tries
+    → (table_outcome line input s).verdict.ended ≡ false → sets_tries input s ≡ false
+    → s.tries ≤ (table_outcome line input s).session.tries
 unfolding table_outcome
 tries_stay line s Enquiry e f g =
     inside (λ q x. KeepsTries s x) s.phase _ _ _ _ _ e (λ h. omega arith) (λ h. omega arith) (λ h. clash true refl h) f
@@ -183,7 +188,8 @@ try_last : (five : Bool) (reply : LineReply) (s : Session)
 try_last true reply s = refl
 try_last false reply s = refl
 
-wait_last : (turn : Bool) (s : Session) → KeepsLast s (cond turn (with_reply (Next true) s) (try_with (Control control.Nak) s))
+wait_last : (turn : Bool) (s : Session) → KeepsLast s
+    (cond turn (with_reply (Next true) s) (try_with (Control control.Nak) s))
 wait_last true s = refl
 wait_last false s = try_last (s.tries == 5) _ s
 
@@ -193,23 +199,30 @@ trying_last p reply s =
     let try = try_last (s.tries == 5) reply s in
     every (λ q x. KeepsLast s x) p _ _ _ _ _ refl refl try try try
 
-sign_on_last : (reply : LineReply) (line : Config) (x : Option SignOn) (next : Session) → KeepsLast next (signed_on reply line x next)
+sign_on_last : (reply : LineReply) (line : Config) (x : Option SignOn) (next : Session)
+    → KeepsLast next (signed_on reply line x next)
 sign_on_last reply line None next = refl
 sign_on_last reply line (Some x) next = refl
 
 count_last : (k : Counted) (acted : SessionOutcome) (reply : LineReply) (bcb : ℕ) (fcs : ℕ × ℕ) (s : Session)
     → KeepsLast (after_acting bcb fcs s) acted
-    → (elim k as (λ x. SessionOutcome) [ Acts ↦ acted | Repeats ↦ try_again s | OutOfSequence ↦ end_with reply s ]).session.last_bcb
+    → (elim k as (λ x. SessionOutcome) [
+      | Acts ↦ acted
+      | Repeats ↦ try_again s
+      | OutOfSequence ↦ end_with reply s
+    ]).session.last_bcb
     ≡ last_bcb_by k bcb s.last_bcb
 count_last Acts acted reply bcb fcs s e = e
 count_last Repeats acted reply bcb fcs s e = try_last (s.tries == 5) Again s
 count_last OutOfSequence acted reply bcb fcs s e = refl
 
 pub last_acted : (line : Config) (s : Session) (input : Input) → in_session s.phase ≡ true
-    → (table_outcome line input s).verdict.ended ≡ false → (table_outcome line input s).session.last_bcb ≡ last_bcb_after input s
+    → (table_outcome line input s).verdict.ended ≡ false
+    → (table_outcome line input s).session.last_bcb ≡ last_bcb_after input s
 unfolding table_outcome
 last_acted line s Enquiry e f =
-    inside (λ q x. x.verdict.ended ≡ false → KeepsLast s x) s.phase _ _ _ _ _ e (λ h. refl) (λ h. refl) (λ h. clash true refl h) f
+    inside (λ q x. x.verdict.ended ≡ false → KeepsLast s x) s.phase _ _ _ _ _ e (λ h. refl) (λ h. refl)
+    (λ h. clash true refl h) f
 last_acted line s Ack0 e f = inside (λ q x. KeepsLast s x) s.phase _ _ _ _ _ e refl refl refl
 last_acted line s Nak e f = trying_last s.phase _ s
 last_acted line s Eot e f = every (λ q x. KeepsLast s x) s.phase _ _ _ _ _ refl refl refl refl refl
@@ -247,7 +260,8 @@ pub afresh : (line : Config) (s : Session) (input : Input) → in_session s.phas
     → in_session (table_outcome line input s).session.phase ≡ true
     → ((table_outcome line input s).session.tries ≡ 0) × ((table_outcome line input s).session.last_bcb ≡ None)
 unfolding table_outcome
-afresh line s Enquiry e = outside (λ q x. IsFresh x) s.phase _ _ _ _ _ e (contact_afresh line.role s e) (none_afresh s e)
+afresh line s Enquiry e = outside (λ q x. IsFresh x) s.phase _ _ _ _ _ e (contact_afresh line.role s e)
+    (none_afresh s e)
 afresh line s Ack0 e = outside (λ q x. IsFresh x) s.phase _ _ _ _ _ e (none_afresh s e) (λ f. (refl, refl))
 afresh line s Nak e = outside (λ q x. IsFresh x) s.phase _ _ _ _ _ e (none_afresh s e) (none_afresh s e)
 afresh line s Eot e = outside (λ q x. IsFresh x) s.phase _ _ _ _ _ e (none_afresh s e) (λ f. clash false f refl)
@@ -256,4 +270,5 @@ afresh line s Tick e = outside (λ q x. IsFresh x) s.phase _ _ _ _ _ e (call_afr
 afresh line s Garbled e = outside (λ q x. IsFresh x) s.phase _ _ _ _ _ e (none_afresh s e) (none_afresh s e)
 afresh line s Spoiled e = outside (λ q x. IsFresh x) s.phase _ _ _ _ _ e (none_afresh s e) (none_afresh s e)
 afresh line s Bad e = outside (λ q x. IsFresh x) s.phase _ _ _ _ _ e (none_afresh s e) (none_afresh s e)
-afresh line s (Block bcb fcs first) e = outside (λ q x. IsFresh x) s.phase _ _ _ _ _ e (none_afresh s e) (none_afresh s e)
+afresh line s (Block bcb fcs first) e = outside (λ q x. IsFresh x) s.phase _ _ _ _ _ e (none_afresh s e)
+    (none_afresh s e)

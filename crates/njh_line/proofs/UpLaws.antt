@@ -1,5 +1,5 @@
--- A line that is up stays so until its session ends, and then it isn't. Records act, and the next block goes, only where
--- it is up.
+-- A line that is up stays so until its session ends, and then it isn't. Records act, and the next block goes, only
+-- where it is up.
 use Rattle.std.proofs.Common.{◌≡◌, ℕ, ◌+◌, Bool, true, false, cond, ◌==◌, Option, Some, None, refl, sym, ap, ◌∙◌}
 use Rattle.njh_bisync.specs.declared.frame.Control.TheVariants as control
 use Rattle.njh_header.specs.SignOns.{SignOn}
@@ -101,7 +101,8 @@ module _ (s : Session) where
   signed r config (Some x) t down = is_up_then (signed_on r config (Some x) t) refl refl
   signed r config None t down = low (hang_up t) refl (refl, refl) down
 
-  by_counts : (bcb : ℕ) (fcs : ℕ × ℕ) (acted : Session → SessionOutcome) → Follows s.phase (acted (after_acting bcb fcs s)) → Follows s.phase (by_count bcb fcs acted s)
+  by_counts : (bcb : ℕ) (fcs : ℕ × ℕ) (acted : Session → SessionOutcome)
+      → Follows s.phase (acted (after_acting bcb fcs s)) → Follows s.phase (by_count bcb fcs acted s)
   by_counts bcb fcs acted acts = at (count_verdict s.last_bcb bcb)
     where
       at :
@@ -161,7 +162,8 @@ table_follows config input.Eot s = hung_up s
 table_follows config input.Lost s = hung_up s
 table_follows config (input.Block bcb fcs first) s =
     let t = after_acting bcb fcs s in
-    in_row s (none s) (none s) (by_count bcb fcs (i_sign_on config first) s) (by_count bcb fcs (j_sign_on config first) s)
+    in_row s (none s) (none s) (by_count bcb fcs (i_sign_on config first) s)
+    (by_count bcb fcs (j_sign_on config first) s)
     (by_count bcb fcs act s) (nothing s) (nothing s)
     (λ down. by_counts s bcb fcs (i_sign_on config first)
     (signed s (reply.SignOn Response) config (fitting Initial config first) t down))

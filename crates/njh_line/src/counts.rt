@@ -35,8 +35,8 @@ impl Session {
         }
     }
 
-    /// Whether a count is one of those taken: before any block 0 and 1; after a block that set the count that one and
-    /// the next; after another the next alone.
+    /// Whether a count is one of those taken: before any block 0 and 1; after a block that set the
+    /// count that one and the next; after another the next alone.
     fn takes(&self, count: u8) -> bool
         ensures { result ≡ is_taken self.now.last_bcb count }
     {

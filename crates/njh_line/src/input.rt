@@ -29,7 +29,8 @@ pub enum Input<'a> {
         bcb: Bcb,
         /// Its function control sequence.
         fcs: Fcs,
-        /// Its first record where that is a general one: the SRCB, and the rest of the text behind it.
+        /// Its first record where that is a general one: the SRCB, and the rest of the text behind
+        /// it.
         first: Option<(u8, &'a [u8])>,
     },
 }

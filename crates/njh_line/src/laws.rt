@@ -13,9 +13,9 @@ ghost use Rattle.njh_line.specs.Openings.{First};
 ghost use Rattle.njh_line.specs.Sessions.{in_session};
 ghost use Rattle.njh_line.specs.Up.{InputsKeepUp};
 
-/// A text to be disregarded, one that is no block, and a block whose check failed move nothing but the tries; where
-/// five were made before, the session ends. No input changes a line but in its session: not the last transmission, nor
-/// what waits.
+/// A text to be disregarded, one that is no block, and a block whose check failed move nothing but
+/// the tries; where five were made before, the session ends. No input changes a line but in its
+/// session: not the last transmission, nor what waits.
 pub fn disregarded_changes_nothing()
     ensures rest { (line : LineState) (input : Input) → KeepsRest line (after_input input line) }
     ensures stays { (line : Config) (s : Session) (input : Input) → is_disregarded input ≡ true → s.tries < 5
@@ -25,8 +25,8 @@ pub fn disregarded_changes_nothing()
         → table_outcome line input s ≡ end s }
 {}
 
-/// A repeat acts on nothing and is a try, with the last transmission again. Only a block with the BCB of the last one
-/// acted on repeats, and it always does.
+/// A repeat acts on nothing and is a try, with the last transmission again. Only a block with the
+/// BCB of the last one acted on repeats, and it always does.
 pub fn repeats_are_tries()
     ensures tries { (line : Config) (s : Session) (bcb : ℕ) (fcs : ℕ × ℕ) (first : First) → in_session s.phase ≡ true
         → count_verdict s.last_bcb bcb ≡ Repeats → table_outcome line (Block bcb fcs first) s ≡ try_again s }
@@ -37,15 +37,16 @@ pub fn repeats_are_tries()
     ensures always { (bcb : ℕ) → (bcb_type bcb == 1) ≡ false → count_verdict (Some bcb) bcb ≡ Repeats }
 {}
 
-/// Within a session the tries never fall but by a block that is acted on and by ACK0 where the line is up.
+/// Within a session the tries never fall but by a block that is acted on and by ACK0 where the line
+/// is up.
 pub fn tries_stay()
     ensures { (line : Config) (s : Session) (input : Input) → in_session s.phase ≡ true
         → (table_outcome line input s).verdict.ended ≡ false
         → sets_tries input s ≡ false → s.tries ≤ (table_outcome line input s).session.tries }
 {}
 
-/// Within a session the counts taken are those of the BCB of the last block acted on whose count isn't unchecked, and
-/// of nothing else.
+/// Within a session the counts taken are those of the BCB of the last block acted on whose count
+/// isn't unchecked, and of nothing else.
 pub fn counts_are_of_the_last_block()
     ensures kept { (line : Config) (s : Session) (input : Input) → in_session s.phase ≡ true
         → (table_outcome line input s).verdict.ended ≡ false
@@ -69,8 +70,9 @@ pub fn inputs_keep_up()
     ensures { InputsKeepUp }
 {}
 
-/// A block whose records act is answered by the next block, or by ACK0 in its place. On a line that is down what comes
-/// does nothing and leaves it down, or a control frame is sent for it; no record acts.
+/// A block whose records act is answered by the next block, or by ACK0 in its place. On a line that
+/// is down what comes does nothing and leaves it down, or a control frame is sent for it; no record
+/// acts.
 pub fn inputs_are_answered()
     ensures acting { ActingIsAnswered }
     ensures down { DownStaysDown }

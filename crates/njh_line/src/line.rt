@@ -23,8 +23,8 @@ const ANSWERS: usize = 32;
 /// How many nodal messages may wait.
 const MESSAGES: usize = 64;
 
-/// A line: its session, the last frame that it sent, NAKs aside, and what waits to be sent. All its memory is reserved
-/// by `new`.
+/// A line: its session, the last frame that it sent, NAKs aside, and what waits to be sent. All its
+/// memory is reserved by `new`.
 #[derive(Drop)]
 pub struct Line {
     config: Config,
@@ -64,8 +64,8 @@ impl Line {
     ghost use Rattle.njh_line.specs.Lines.{IsShort, after_end, after_input, after_sending, fresh_line, sent_value};
     ghost use Rattle.njh_line.specs.Lines.{with_answer, with_message, without_answer, without_answers, without_message};
 
-    /// A line that is down, with room for all that may wait and for the longest frame. Want of memory is the only
-    /// refusal, and no other call takes any.
+    /// A line that is down, with room for all that may wait and for the longest frame. Want of
+    /// memory is the only refusal, and no other call takes any.
     pub fn new(alloc: Global, config: Config) -> Result<Line, AllocError>
         requires { IsConfig config }
         ensures { IfOk result (λ line. line ≡ fresh_line config) }
@@ -79,8 +79,8 @@ impl Line {
         })
     }
 
-    /// Decides by the line table what an input does. The hub then does what the verdict says, and tells by `sent` what
-    /// it sent.
+    /// Decides by the line table what an input does. The hub then does what the verdict says, and
+    /// tells by `sent` what it sent.
     pub fn accept(&mut self, input: &Input<'_>) -> Verdict
         ensures verdict { result ≡ (table_outcome self.old.config (input_value input.now) self.old.session).verdict }
         ensures line { self.new ≡ after_input (input_value input.now) self.old }
@@ -97,8 +97,8 @@ impl Line {
         self.session.phase = Phase::Down;
     }
 
-    /// Keeps what was sent: the turn, the hub's own count and function control sequence, and a frame byte for byte,
-    /// since it may be sent again.
+    /// Keeps what was sent: the turn, the hub's own count and function control sequence, and a
+    /// frame byte for byte, since it may be sent again.
     pub fn sent(&mut self, sent: &Sent<'_>)
         requires { IsShort (sent_value sent.now) }
         ensures { self.new ≡ after_sending (sent_value sent.now) self.old }
@@ -172,7 +172,8 @@ impl Line {
         self.answers.clear();
     }
 
-    /// Lets a nodal message wait behind the others, where fewer than 64 wait. Otherwise it is dropped.
+    /// Lets a nodal message wait behind the others, where fewer than 64 wait. Otherwise it is
+    /// dropped.
     pub fn push_message(&mut self, message: Record)
         ensures { self.new ≡ with_message message.items self.old }
     {
@@ -197,7 +198,8 @@ impl Line {
     }
 }
 
-/// Puts a frame in place of the last one, in room that is there. Most frames are ACK0, of two bytes.
+/// Puts a frame in place of the last one, in room that is there. Most frames are ACK0, of two
+/// bytes.
 fn keep(last: &mut Vec<u8>, frame: &[u8])
     requires { length frame.now ≤ vec_capacity last.old }
     ensures kept { last.new.items ≡ frame.now }

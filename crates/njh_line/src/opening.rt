@@ -55,8 +55,8 @@ impl Config {
             && self.takes_password(&sign_on.password)
     }
 
-    /// The text of the I or the J block: a sign-on alone, under a BCB that sets the count to 0, nothing suspended. A
-    /// line without a password sends blanks.
+    /// The text of the I or the J block: a sign-on alone, under a BCB that sets the count to 0,
+    /// nothing suspended. A line without a password sends blanks.
     pub fn opening(&self, kind: Opening) -> BlockText
         ensures { result.items ≡ opening kind self.now }
     {

@@ -46,7 +46,8 @@ pub(crate) struct SessionOutcome {
     pub verdict: Verdict,
 }
 
-/// The table: an input and a phase to a cell. In Down and Calling there is no session, and a block is none.
+/// The table: an input and a phase to a cell. In Down and Calling there is no session, and a block
+/// is none.
 #[tactic(auto, unfolding(crate::specs::LineTable::table_outcome))]
 pub(crate) fn accepted(config: &Config, session: Session, input: &Input<'_>) -> SessionOutcome
     requires config { IsConfig config.now }

@@ -22,7 +22,8 @@ pub enum LineReply {
     },
     /// The next block.
     Next {
-        /// Where there is none, whether ACK0 is sent in its place; otherwise nothing is, and the turn is the hub's.
+        /// Where there is none, whether ACK0 is sent in its place; otherwise nothing is, and the
+        /// turn is the hub's.
         or_ack0: bool,
     },
 }
@@ -30,7 +31,8 @@ pub enum LineReply {
 /// What an input does.
 #[derive(Clone, Copy, Debug, PartialEq, Eq)]
 pub struct Verdict {
-    /// Whether a session is over that was up, or tried too often, or lost the sequence of its blocks.
+    /// Whether a session is over that was up, or tried too often, or lost the sequence of its
+    /// blocks.
     pub ended: bool,
     /// Whether the block's records act.
     pub acts: bool,

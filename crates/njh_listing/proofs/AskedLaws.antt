@@ -1,7 +1,10 @@
 -- One file more, and which of the files are asked for.
-use Rattle.std.proofs.Common.{◌≡◌, ℕ, ◌+◌, ◌-◌, ◌<◌, ◌≤◌, ◌==◌, ◌&&◌, ◌⊎◌, inl, inr, Bool, true, false, cond, List, [], ◌∷◌, ◌++◌, map, filter, take, drop, length, Option, None, Some, refl, sym, ap, ◌∙◌, append-nil, arith, get_or}
+use Rattle.std.proofs.Common.{◌≡◌, ℕ, ◌+◌, ◌-◌, ◌<◌, ◌≤◌, ◌==◌, ◌&&◌, ◌⊎◌, inl, inr, Bool, true, false, cond, List, []}
+use Rattle.std.proofs.Common.{◌∷◌, ◌++◌, map, filter, take, drop, length, Option, None, Some, refl, sym, ap, ◌∙◌}
+use Rattle.std.proofs.Common.{append-nil, arith, get_or}
 use Rattle.std.proofs.lemmas.Bool.{cases_lt, eqb-true, eqb-false}
-use Rattle.std.proofs.lemmas.List.{take_all, take-append-le, take_more, drop_all, drop_at, length_push, length-map, length-take, map-append}
+use Rattle.std.proofs.lemmas.List.{take_all, take-append-le, take_more, drop_all, drop_at, length_push, length-map}
+use Rattle.std.proofs.lemmas.List.{length-take, map-append}
 use Rattle.std.proofs.lemmas.List.Sums.{count_by-le-length, length-filter}
 use Rattle.std.proofs.lemmas.List.Elements.{filter-append}
 use Rattle.njh_spoolfile.specs.Kept.{File, entry_of}
@@ -85,7 +88,8 @@ counted_more p xs x false is =
     ap length (filter-append p xs (x ∷ []) ∙ ap (λ b. filter p xs ++ cond b (x ∷ []) []) is ∙ append-nil (filter p xs))
     ∙ omega arith
 counted_more p xs x true is =
-    ap length (filter-append p xs (x ∷ []) ∙ ap (λ b. filter p xs ++ cond b (x ∷ []) []) is) ∙ length_push (filter p xs) x
+    ap length (filter-append p xs (x ∷ []) ∙ ap (λ b. filter p xs ++ cond b (x ∷ []) []) is)
+    ∙ length_push (filter p xs) x
 
 -- the entries of one file more
 entries_more : (files : List StoredFile) (at : ℕ) (s : StoredFile) → at < length files → s ≡ get_or files at s
@@ -122,4 +126,12 @@ pub own_within : (p : ℕ × File → Bool) (files : List StoredFile) (at own : 
     → own ≡ length (filter p (map entry_of (take at files))) → own ≤ at
 own_within p files at own is =
     let es = map entry_of (take at files) in
-    omega (arith, is, length-filter p es, count_by-le-length p es, length-map (take at files) entry_of, length-take at files)
+    omega (
+      arith,
+      is,
+      length-filter p es,
+      count_by-le-length p es,
+      length-map (take at files) entry_of,
+      length-take at
+          files,
+    )

@@ -4,7 +4,8 @@ use Rattle.std.specs.Prelude.{IfErr}
 use Rattle.njh_listing.specs.Asked.{FitsFault}
 use Rattle.njh_listing.specs.Faults.{IsOfSpool}
 use Rattle.njh_listing.specs.declared.fault.FilesFault.{FilesFault}
-use Rattle.njh_listing.specs.declared.fault.FilesFault.TheVariants.{Damaged, Device, InUse, Memory, NoFile, NotASpool, OtherVersion, Refused, Several}
+use Rattle.njh_listing.specs.declared.fault.FilesFault.TheVariants.{Damaged, Device, InUse, Memory, NoFile, NotASpool}
+use Rattle.njh_listing.specs.declared.fault.FilesFault.TheVariants.{OtherVersion, Refused, Several}
 
 pub spool_fits : (keys : List ℕ) (fault : FilesFault) → IsOfSpool fault → FitsFault keys fault
 spool_fits keys (NoFile name) is = absurd is

@@ -1,5 +1,6 @@
 -- What lists of stored files and records say, by the files and records that they are.
-use Rattle.std.proofs.Common.{◌≡◌, ◌⊎◌, ℕ, List, [], ◌∷◌, ◌++◌, map, take, length, get_or, ◌<◌, Bool, true, false, refl, sym, ap, ◌∙◌}
+use Rattle.std.proofs.Common.{◌≡◌, ◌⊎◌, ℕ, List, [], ◌∷◌, ◌++◌, map, take, length, get_or, ◌<◌, Bool, true, false, refl}
+use Rattle.std.proofs.Common.{sym, ap, ◌∙◌}
 use Rattle.std.proofs.Common.{subst, inr, Result, Ok, Err, Option, Some, append-nil, option_map}
 use Rattle.std.specs.Prelude.{◌||◌, bytes_eq, cond, slice_get, string_bytes, OnOk, OnErr, IfOk}
 use Rattle.std.specs.List.{flat_map, list_any}
@@ -9,7 +10,8 @@ use Rattle.std.proofs.lemmas.Option.{slice_get-map, slice_get-get_or}
 use Rattle.njh_io.specs.Written.{AppendsBeginning}
 use Rattle.njh_spoolfile.specs.Kept.{File, entry_of}
 use Rattle.njh_spoolfile.specs.declared.kept.StoredFile.{StoredFile}
-use Rattle.njh_listing.specs.Listed.{IsListedInPart, first_listing, first_listing_of, has_customer, line_of, listing_of, listing_text}
+use Rattle.njh_listing.specs.Listed.{IsListedInPart, first_listing, first_listing_of, has_customer, line_of, listing_of}
+use Rattle.njh_listing.specs.Listed.{listing_text}
 use Rattle.njh_listing.specs.Exported.{Contents, IsExportedInPart, export_text}
 
 pub flat_map_mapped : {X Y Z : Type 0} (f : Y → List Z) (g : X → Y) (xs : List X)
@@ -46,7 +48,8 @@ at_is : (files : List StoredFile) (at : ℕ) (s : StoredFile) → at < length fi
     → slice_get files at ≡ Some s
 at_is files at s within got = slice_get-get_or files at s within ∙ ap (λ (x : StoredFile). Some x) (sym got)
 
-pub first_none : (files : List StoredFile) (at : ℕ) (s : StoredFile) (who front : List ℕ) → at < length files → s ≡ get_or files at s
+pub first_none : (files : List StoredFile) (at : ℕ) (s : StoredFile) (who front : List ℕ) → at < length files
+    → s ≡ get_or files at s
     → who ≡ string_bytes s.file.customer
     → list_any (λ x. bytes_eq (string_bytes x.file.customer) who) (take at files) ≡ true
     → front ≡ front ++ first_listing at (map entry_of files)
@@ -56,10 +59,12 @@ first_none files at s who front within got is seen =
     λ w. list_any (λ x. bytes_eq (string_bytes x.file.customer) w) (take at files) ≡ true in
     let none : first_listing at (map entry_of files) ≡ [] =
     first_is files at s here
-    ∙ ap (λ b. cond b [] (flat_map (λ x. line_of (string_bytes s.file.customer) (entry_of x)) files)) (subst P is seen) in
+    ∙ ap (λ b. cond b [] (flat_map (λ x. line_of (string_bytes s.file.customer) (entry_of x)) files)) (subst P is seen)
+    in
     sym (ap (λ text. front ++ text) none ∙ append-nil front)
 
-pub first_all : (files : List StoredFile) (at : ℕ) (s : StoredFile) (who : List ℕ) → at < length files → s ≡ get_or files at s
+pub first_all : (files : List StoredFile) (at : ℕ) (s : StoredFile) (who : List ℕ) → at < length files
+    → s ≡ get_or files at s
     → who ≡ string_bytes s.file.customer
     → list_any (λ x. bytes_eq (string_bytes x.file.customer) who) (take at files) ≡ false
     → flat_map (λ x. line_of who (entry_of x)) files ≡ first_listing at (map entry_of files)
@@ -69,7 +74,8 @@ first_all files at s who within got is unseen =
     λ w. list_any (λ x. bytes_eq (string_bytes x.file.customer) w) (take at files) ≡ false in
     ap (λ w. flat_map (λ x. line_of w (entry_of x)) files) is
     ∙ sym (first_is files at s here
-    ∙ ap (λ b. cond b [] (flat_map (λ x. line_of (string_bytes s.file.customer) (entry_of x)) files)) (subst P is unseen))
+    ∙ ap (λ b. cond b [] (flat_map (λ x. line_of (string_bytes s.file.customer) (entry_of x)) files))
+    (subst P is unseen))
 
 -- what an answer appends, by another name of it
 pub appends_other : {E : Type 0} {T : Type 0} (r : Result T E) (new old one other : List ℕ) → one ≡ other
@@ -84,15 +90,18 @@ ok_other items (Ok v) one other same is = is ∙ same
 ok_other items (Err e) one other same is = tt
 
 -- a beginning of what is listed, and of what is exported
-pub listed_in_part : {T E : Type 0} (r : Result T E) (customer : Option (List ℕ)) (text given : List ℕ) (old new : Option (List ℕ))
-    → given ≡ text → ((files : List (ℕ × File)) × (text ≡ listing_text customer files)) → OnErr r (AppendsBeginning old new given)
+pub listed_in_part : {T E : Type 0} (r : Result T E) (customer : Option (List ℕ)) (text given : List ℕ)
+    (old new : Option (List ℕ))
+    → given ≡ text → ((files : List (ℕ × File)) × (text ≡ listing_text customer files))
+    → OnErr r (AppendsBeginning old new given)
     → OnErr r (Keeps old new ⊎ IsListedInPart customer old new)
 listed_in_part (Ok x) customer text given old new same some begun = tt
 listed_in_part (Err e) customer text given old new same some begun =
     let P : List ℕ → Type 0 = λ t. AppendsBeginning old new t in inr (some.0, subst P (same ∙ some.1) begun)
 
 pub exported_in_part : {T E : Type 0} (r : Result T E) (raw : Bool) (text given : List ℕ) (old new : Option (List ℕ))
-    → given ≡ text → ((records : List Contents) × (text ≡ export_text raw records)) → OnErr r (AppendsBeginning old new given)
+    → given ≡ text → ((records : List Contents) × (text ≡ export_text raw records))
+    → OnErr r (AppendsBeginning old new given)
     → OnErr r (Keeps old new ⊎ IsExportedInPart raw old new)
 exported_in_part (Ok x) raw text given old new same some begun = tt
 exported_in_part (Err e) raw text given old new same some begun =

@@ -35,14 +35,16 @@ abbrev pub IsExportedInPart : Bool → (old new : Option (List ℕ)) → Type 0
 IsExportedInPart raw old new = (records : List Contents) × AppendsBeginning old new (export_text raw records)
 
 -- One file of a spool is asked for, and no other; and this is what is written of its records, all in their order.
-abbrev pub IsTextOf : (customer : Option (List ℕ)) → (number : Option ℕ) → (name : List ℕ) → (raw : Bool) → SpoolContents
+abbrev pub IsTextOf : (customer : Option (List ℕ)) → (number : Option ℕ) → (name : List ℕ) → (raw : Bool)
+    → SpoolContents
     → (text : List ℕ) → Type 0
 IsTextOf customer number name raw spool text = (key : ℕ)
     × (map key_in (asked_of customer number name spool.files) ≡ key ∷ [])
     × (text ≡ export_text raw (map contents (records_of key spool)))
 
 -- It came after what had been written.
-abbrev pub IsExportedOf : (customer : Option (List ℕ)) → (number : Option ℕ) → (name : List ℕ) → (raw : Bool) → SpoolContents
+abbrev pub IsExportedOf : (customer : Option (List ℕ)) → (number : Option ℕ) → (name : List ℕ) → (raw : Bool)
+    → SpoolContents
     → (old new : Option (List ℕ)) → Type 0
 IsExportedOf customer number name raw spool old new = (text : List ℕ)
     × IsTextOf customer number name raw spool text × Appends old new text

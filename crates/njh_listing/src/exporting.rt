@@ -106,9 +106,9 @@ fn export<S: Alter>(
     Ok(export_text(alloc, asked.raw, records.as_slice())?)
 }
 
-/// Writes the records of a customer's file: those of data as characters of code page 37, a line a record, or all
-/// records as they are. Where the customer has no such file, or several and no number is asked for, nothing was
-/// written; after another fault a beginning of them was.
+/// Writes the records of a customer's file: those of data as characters of code page 37, a line a
+/// record, or all records as they are. Where the customer has no such file, or several and no
+/// number is asked for, nothing was written; after another fault a beginning of them was.
 pub(crate) fn export_file<S: Alter, W: Write>(
     alloc: Global,
     store: &mut Store<S>,

@@ -25,7 +25,8 @@ pub enum FilesFault {
     OtherVersion,
     /// It is no database, or is damaged.
     Damaged,
-    /// The file can't be opened or read, or a write failed. A beginning of what was to be written is written.
+    /// The file can't be opened or read, or a write failed. A beginning of what was to be written
+    /// is written.
     Device,
     /// Memory was refused.
     Memory,

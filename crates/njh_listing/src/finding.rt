@@ -53,7 +53,8 @@ fn is_number(asked: Option<u32>, at: usize) -> bool
     }
 }
 
-/// Appends the key of the customer's file that stands at this place among them, counted from 1, where it is asked for.
+/// Appends the key of the customer's file that stands at this place among them, counted from 1,
+/// where it is asked for.
 fn put_key(
     alloc: Global,
     keys: &mut Vec<u32>,
@@ -72,7 +73,8 @@ fn put_key(
     Ok(())
 }
 
-/// Appends the key of a file where it is asked for, and says how many of the files up to it are the customer's.
+/// Appends the key of a file where it is asked for, and says how many of the files up to it are the
+/// customer's.
 fn put_own(
     alloc: Global,
     keys: &mut Vec<u32>,
@@ -112,7 +114,8 @@ fn keys_of(
     Ok(keys)
 }
 
-/// Appends a line for a file that is asked for, and says how many of the files up to it are the customer's.
+/// Appends a line for a file that is asked for, and says how many of the files up to it are the
+/// customer's.
 fn put_line(
     alloc: Global,
     list: &mut String,

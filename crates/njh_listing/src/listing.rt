@@ -110,7 +110,8 @@ fn put_customer(
     customer: &str,
     files: &[StoredFile],
 ) -> Result<(), AllocError>
-    ensures { OnOk result (text.new.items ≡ text.old.items ++ flat_map (λ s. line_of customer.now (entry_of s)) files.now) }
+    ensures { OnOk result (text.new.items ≡ text.old.items ++ flat_map (λ s. line_of customer.now (entry_of s))
+        files.now) }
 {
     for stored in files {
         put_own(alloc, text, customer, stored)?;
@@ -210,8 +211,9 @@ fn listing<S: Alter>(
     Ok(listing_text(alloc, customer, files.as_slice())?)
 }
 
-/// Prints the whole files that a spool file has, a line a file: all, the customers in the order of their first files
-/// there, or one customer's; each customer's in their order of arrival. After a fault a beginning of them was printed.
+/// Prints the whole files that a spool file has, a line a file: all, the customers in the order of
+/// their first files there, or one customer's; each customer's in their order of arrival. After a
+/// fault a beginning of them was printed.
 pub fn print_files<S: Alter, W: Write>(
     alloc: Global,
     store: &mut Store<S>,

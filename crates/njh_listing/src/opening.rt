@@ -18,7 +18,8 @@ use std::os::unix::fs::{OpenOptionsExt, PermissionsExt};
 use std::rt::HostRuntime;
 use std::{fs, io};
 
-/// The mode of a spool file and of its log: whole files are their users' letters, and none of other users of the host.
+/// The mode of a spool file and of its log: whole files are their users' letters, and none of other
+/// users of the host.
 const MODE: u32 = 0o600;
 
 /// What opens spool files.
@@ -51,7 +52,8 @@ fn fault_of(error: io::Error) -> FilesFault
     }
 }
 
-/// Makes an empty file where none is: a database that has nothing yet. SQLite takes two kinds of names for no file.
+/// Makes an empty file where none is: a database that has nothing yet. SQLite takes two kinds of
+/// names for no file.
 fn make_empty(rt: &HostRuntime, path: &str) -> Result<(), FilesFault>
     ensures { IfErr result IsOfSpool }
 {

@@ -11,7 +11,8 @@ user_bit : (flag : ℕ) → flag < 256 → not (eqb (bit_and flag 0x20) 0) ≡ h
 user_bit flag small = agree_below_at (λ n. not (eqb (bit_and n 0x20) 0)) (has_bit 0x20) 256 flag refl small
 
 -- both bits, one test after the other
-pub both_bits : (flag : ℕ) → flag < 256 → bit_and flag 0x80 ≢ 0 → not (eqb (bit_and flag 0x20) 0) ≡ (has_bit 0x80 flag && has_bit 0x20 flag)
+pub both_bits : (flag : ℕ) → flag < 256 → bit_and flag 0x80 ≢ 0
+    → not (eqb (bit_and flag 0x20) 0) ≡ (has_bit 0x80 flag && has_bit 0x20 flag)
 both_bits flag small command =
     let is_command : has_bit 0x80 flag ≡ true = sym (command_bit flag small) ∙ ap not (ne_eqb _ 0 command) in
     user_bit flag small ∙ sym (ap (λ b. b && has_bit 0x20 flag) is_command)

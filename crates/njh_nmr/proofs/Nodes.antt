@@ -9,7 +9,8 @@ use Rattle.njh_nmr.specs.declared.fault.NmrFault.{NmrFault}
 use Rattle.njh_nmr.specs.declared.fault.NmrFault.TheVariants.{BadName}
 
 either_bad : (p q : Bool) (to origin : List ℕ) (n : Nodal) (e : NmrFault)
-    → (Err e ≡ cond p (Ok to) (Err BadName)) ⊎ (Err e ≡ cond q (Ok origin) (Err BadName)) → Err e ≡ cond (p && q) (Ok n) (Err BadName)
+    → (Err e ≡ cond p (Ok to) (Err BadName)) ⊎ (Err e ≡ cond q (Ok origin) (Err BadName))
+    → Err e ≡ cond (p && q) (Ok n) (Err BadName)
 either_bad false q to origin n e (inl bad) = cc
 either_bad false false to origin n e (inr bad) = cc
 either_bad false true to origin n e (inr bad) = cc
@@ -20,16 +21,19 @@ either_bad true true to origin n e (inr bad) = cc
 
 -- where one of the nodes is no name, the record isn't one
 pub nodal_of-bad_name : (bytes : List ℕ) (e : NmrFault) → 30 ≤ length bytes → slice_index bytes 3 ≤ longest_message
-    → slice_index bytes 3 ≤ length bytes - 30 → (Err e ≡ node_of (field 4 8 bytes)) ⊎ (Err e ≡ node_of (field 21 8 bytes))
+    → slice_index bytes 3 ≤ length bytes - 30 → (Err e ≡ node_of (field 4 8 bytes))
+    ⊎ (Err e ≡ node_of (field 21 8 bytes))
     → Err e ≡ nodal_of bytes
 nodal_of-bad_name bytes e long few within bad =
     let len = slice_index bytes 3 in
-    either_bad (is_name (field 4 8 bytes)) (is_name (field 21 8 bytes)) (field 4 8 bytes) (field 21 8 bytes) (fields_of len bytes) e bad
+    either_bad (is_name (field 4 8 bytes)) (is_name (field 21 8 bytes)) (field 4 8 bytes) (field 21 8 bytes)
+    (fields_of len bytes) e bad
     ∙ (sym (cond-false (ltb longest_message len || ltb (length bytes - 30) len) _ _
     (or_from _ _ (le-ltb longest_message len few) (le-ltb (length bytes - 30) len within)))
     ∙ sym (cond-false (ltb (length bytes) 30) _ _ (le-ltb (length bytes) 30 long)))
 
-named : (p : Bool) (name found : List ℕ) → ◌≡◌ {A = Result (List ℕ) NmrFault} (Ok name) (cond p (Ok found) (Err BadName)) → name ≡ found
+named : (p : Bool) (name found : List ℕ) → ◌≡◌ {A = Result (List ℕ) NmrFault} (Ok name)
+    (cond p (Ok found) (Err BadName)) → name ≡ found
 named true name found is = cc
 named false name found is = cc
 

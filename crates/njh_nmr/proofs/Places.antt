@@ -9,7 +9,8 @@ use Rattle.njh_nmr.specs.Nodal.{Nodal, record_of, fields_of, cut_after_message}
 -- a record's bytes, one field after the other
 abbrev pub nested : Nodal → List ℕ
 nested n =
-    n.flag ∷ n.level ∷ n.kind ∷ length n.message ∷ (n.to ++ (n.to_qualifier ∷ (n.user ++ (n.origin ++ (n.origin_qualifier ∷ n.message)))))
+    n.flag ∷ n.level ∷ n.kind ∷ length n.message
+    ∷ (n.to ++ (n.to_qualifier ∷ (n.user ++ (n.origin ++ (n.origin_qualifier ∷ n.message)))))
 
 pub record_of-nested : (n : Nodal) → record_of n ≡ nested n
 record_of-nested n = simp append_assoc
@@ -47,7 +48,8 @@ cut-nested bytes len within is =
     ∙ ap (λ r. slice_index bytes 0 ∷ r) (one bytes 1 (29 + len) (28 + len) (omega arith) (omega arith)
     ∙ ap (λ r. slice_index bytes 1 ∷ r) (one bytes 2 (28 + len) (27 + len) (omega arith) (omega arith)
     ∙ ap (λ r. slice_index bytes 2 ∷ r) (one bytes 3 (27 + len) (26 + len) (omega arith) (omega arith)
-    ∙ (ap (λ b. b ∷ field 4 (26 + len) bytes) (sym size) ∙ ap (λ r. length (field 30 len bytes) ∷ r) (tail_nested bytes len within)))))
+    ∙ (ap (λ b. b ∷ field 4 (26 + len) bytes) (sym size)
+    ∙ ap (λ r. length (field 30 len bytes) ∷ r) (tail_nested bytes len within)))))
 
 -- the bytes with these fields in their places
 abbrev with_parts : List ℕ → List ℕ → List ℕ → List ℕ → List ℕ → List ℕ

@@ -21,7 +21,8 @@ pub record IsRead (bytes : List ℕ) (n : Nodal) : Type 0 where
   pub same : fields_of (slice_index bytes 3) bytes ≡ n
 
 read_parts : (p q r s : Bool) (m n : Nodal)
-    → ◌≡◌ {A = Result Nodal NmrFault} (cond p (Err TooShort) (cond q (Err BadLength) (cond (r && s) (Ok m) (Err BadName))))
+    → ◌≡◌ {A = Result Nodal NmrFault} (cond p (Err TooShort)
+    (cond q (Err BadLength) (cond (r && s) (Ok m) (Err BadName))))
     (Ok n) → (p ≡ false) × (q ≡ false) × (r ≡ true) × (s ≡ true) × (m ≡ n)
 read_parts true q r s m n is = cc
 read_parts false true r s m n is = cc
@@ -32,7 +33,8 @@ read_parts false false true true m n is = (refl, refl, refl, refl, cc)
 IsRead-nodal_of : (bytes : List ℕ) (n : Nodal) → nodal_of bytes ≡ Ok n → IsRead bytes n
 IsRead-nodal_of bytes n is =
     let len = slice_index bytes 3 in
-    let parts = read_parts (ltb (length bytes) 30) (ltb longest_message len || ltb (length bytes - 30) len) (is_name (field 4 8 bytes))
+    let parts = read_parts (ltb (length bytes) 30) (ltb longest_message len || ltb (length bytes - 30) len)
+    (is_name (field 4 8 bytes))
     (is_name (field 21 8 bytes)) (fields_of len bytes) n is in
     let bounds = or_parts (ltb longest_message len) (ltb (length bytes - 30) len) parts.1 in
     record {
@@ -50,7 +52,8 @@ nodal_of-IsRead bytes n read =
     cond-false (ltb (length bytes) 30) _ _ (le-ltb (length bytes) 30 read.long)
     ∙ (cond-false (ltb longest_message len || ltb (length bytes - 30) len) _ _
     (or_from _ _ (le-ltb longest_message len read.few) (le-ltb (length bytes - 30) len read.within))
-    ∙ (cond-true (is_name (field 4 8 bytes) && is_name (field 21 8 bytes)) _ _ (and_from _ _ read.to_named read.origin_named)
+    ∙ (cond-true (is_name (field 4 8 bytes) && is_name (field 21 8 bytes)) _ _
+    (and_from _ _ read.to_named read.origin_named)
     ∙ ap Ok read.same))
 
 pub record_of-read : (bytes : List ℕ) (n : Nodal) → nodal_of bytes ≡ Ok n → record_of n ≡ cut_after_message bytes
@@ -64,7 +67,8 @@ pub IsMessage-read : (bytes : List ℕ) (n : Nodal) → nodal_of bytes ≡ Ok n 
 IsMessage-read bytes n is =
     let read = IsRead-nodal_of bytes n is in
     let len = slice_index bytes 3 in
-    let user : length (field 13 8 bytes) ≡ 8 = length-take-le 8 (drop 13 bytes) (omega (arith, length-drop 13 bytes, read.long)) in
+    let user : length (field 13 8 bytes) ≡ 8 =
+    length-take-le 8 (drop 13 bytes) (omega (arith, length-drop 13 bytes, read.long)) in
     let message : length (field 30 len bytes) ≡ len =
     length-take-le len (drop 30 bytes) (omega (arith, length-drop 30 bytes, read.long, read.within)) in
     subst IsMessage read.same (record {
@@ -114,19 +118,21 @@ message_with bytes to user origin message =
 written : (bytes : ℕ × ℕ × ℕ × ℕ × ℕ) {to user origin : List ℕ} (message behind : List ℕ) → IsEight to → IsEight user
     → IsEight origin → is_name to ≡ true → is_name origin ≡ true → length message ≤ longest_message → IsRead
     (record_of (message_with bytes to user origin message) ++ behind) (message_with bytes to user origin message)
-written bytes message behind (eight a b c d e f g h) (eight i j k l m n o p) (eight q r s t u v w x) to origin few = record {
-  long = omega (arith, length-append message behind);
-  few = few;
-  within = omega (arith, length-append message behind);
-  to_named = to;
-  origin_named = origin;
-  same = with_message (message_with bytes (a ∷ b ∷ c ∷ d ∷ e ∷ f ∷ g ∷ h ∷ []) (i ∷ j ∷ k ∷ l ∷ m ∷ n ∷ o ∷ p ∷ [])
-      (q ∷ r ∷ s ∷ t ∷ u ∷ v ∷ w ∷ x ∷ []) message) (take (length message) (message ++ behind))
-      (take_at message behind (length message) refl);
-}
+written bytes message behind (eight a b c d e f g h) (eight i j k l m n o p) (eight q r s t u v w x) to origin few =
+    record {
+      long = omega (arith, length-append message behind);
+      few = few;
+      within = omega (arith, length-append message behind);
+      to_named = to;
+      origin_named = origin;
+      same = with_message (message_with bytes (a ∷ b ∷ c ∷ d ∷ e ∷ f ∷ g ∷ h ∷ []) (i ∷ j ∷ k ∷ l ∷ m ∷ n ∷ o ∷ p ∷ [])
+          (q ∷ r ∷ s ∷ t ∷ u ∷ v ∷ w ∷ x ∷ []) message) (take (length message) (message ++ behind))
+          (take_at message behind (length message) refl);
+    }
 
 pub nodal_of-record_of : (n : Nodal) (behind : List ℕ) → IsMessage n → nodal_of (record_of n ++ behind) ≡ Ok n
 nodal_of-record_of n behind is =
     nodal_of-IsRead (record_of n ++ behind) n
-    (written (n.flag, n.level, n.kind, n.to_qualifier, n.origin_qualifier) n.message behind (IsEight-is_name n.to is.to_named)
+    (written (n.flag, n.level, n.kind, n.to_qualifier, n.origin_qualifier) n.message behind
+    (IsEight-is_name n.to is.to_named)
     (IsEight-length n.user is.user_size) (IsEight-is_name n.origin is.origin_named) is.to_named is.origin_named is.fits)

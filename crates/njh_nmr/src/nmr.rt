@@ -127,8 +127,8 @@ impl Nmr {
         put_bytes(out, &self.message);
     }
 
-    /// Writes the record of what the hub says to a user at a node, in place of what was there. No message is made
-    /// first.
+    /// Writes the record of what the hub says to a user at a node, in place of what was there. No
+    /// message is made first.
     pub fn write_notice(hub: Name, node: Name, user: [u8; FIELD], text: &[u8], out: &mut Record)
         requires { length text.now ≤ longest_message }
         ensures bytes { out.new.items ≡ notice_record hub (record { node = node; user = user }) text.now }

@@ -1,5 +1,6 @@
 -- What the program did, from what became of a request that the arguments ask for.
-use Rattle.std.proofs.Common.{◌≡◌, ◌⊎◌, ℕ, List, Option, Some, None, Result, Ok, Err, OnErr, OnOk, IfErr, inl, inr, refl, subst, sym}
+use Rattle.std.proofs.Common.{◌≡◌, ◌⊎◌, ℕ, List, Option, Some, None, Result, Ok, Err, OnErr, OnOk, IfErr, inl, inr}
+use Rattle.std.proofs.Common.{refl, subst, sym}
 use Rattle.std.specs.Io.KnownBytes.{Keeps}
 use Rattle.clap.specs.Words.{Text}
 use Rattle.njh_arguments.specs.Arguments.{Asks}
@@ -18,7 +19,8 @@ use Rattle.njh_program.specs.ProgramOutcome.{Fails, HasBadWords, IsBegunFor, IsD
 use Rattle.njh_program.specs.ProgramOutcome.{IsFailed, IsFilesEnd, IsRunDone}
 
 -- a spool file's end is in each case one of the program's
-files_failed : (arguments : List Text) (left : Option (List ℕ)) (why : Failure) → IsFilesEnd why → IsFailed arguments left why
+files_failed : (arguments : List Text) (left : Option (List ℕ)) (why : Failure) → IsFilesEnd why
+    → IsFailed arguments left why
 files_failed arguments left (failure.Files fault) ended = tt
 files_failed arguments left (Arguments error) ended = absurd ended
 files_failed arguments left (Tables fault) ended = absurd ended
@@ -30,7 +32,8 @@ files_failed arguments left failure.Device ended = absurd ended
 files_failed arguments left failure.Memory ended = absurd ended
 
 -- a task's
-task_failed : (arguments : List Text) (left : Option (List ℕ)) (t : Task) (why : Failure) → Asks arguments (request.Task t)
+task_failed : (arguments : List Text) (left : Option (List ℕ)) (t : Task) (why : Failure)
+    → Asks arguments (request.Task t)
     → tasks.IsFailed t left why → IsFailed arguments left why
 task_failed arguments left t (Arguments error) asks ended = absurd ended
 task_failed arguments left t (Tables fault) asks ended = (request.Task t, asks, ended)
@@ -52,7 +55,8 @@ failed_so : (arguments : List Text) (left : Option (List ℕ)) (asked : Request)
     → Fails asked left why → IsFailed arguments left why
 failed_so arguments left (request.Task t) why asks ended = task_failed arguments left t why asks ended
 failed_so arguments left (Files spool customer file number raw) why asks ended = files_failed arguments left why ended
-failed_so arguments left (Serve tables turns listen quiet spool) why asks (inr ended) = files_failed arguments left why ended
+failed_so arguments left (Serve tables turns listen quiet spool) why asks (inr ended) =
+    files_failed arguments left why ended
 failed_so arguments left (Serve tables turns listen quiet spool) why asks (inl (inl (inl is))) =
     let P : Failure → Type 0 = λ f. IsFailed arguments left f in subst P (sym is) tt
 failed_so arguments left (Serve tables turns listen quiet spool) why asks (inl (inl (inr (inl is)))) =
@@ -75,7 +79,8 @@ pub done_by : {T E : Type 0} (arguments : List Text) (left old new : Option (Lis
 done_by arguments left old new asked (Ok x) asks done = (asked, asks, done)
 done_by arguments left old new asked (Err e) asks done = tt
 
-pub begun_by : {T E : Type 0} (arguments : List Text) (left old new : Option (List ℕ)) (asked : Request) (r : Result T E)
+pub begun_by : {T E : Type 0} (arguments : List Text) (left old new : Option (List ℕ)) (asked : Request)
+    (r : Result T E)
     → Asks arguments asked → OnErr r (Keeps old new ⊎ IsDoneInPart asked left old new)
     → OnErr r (Keeps old new ⊎ IsBegunFor arguments left old new)
 begun_by arguments left old new asked (Ok x) asks begun = tt

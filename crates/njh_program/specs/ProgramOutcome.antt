@@ -79,7 +79,8 @@ HasBadWords (Serve tables turns listen quiet spool) fault left old new = ⊥
 HasBadWords (Files spool customer file number raw) fault left old new = ⊥
 
 abbrev pub IsEncodedBefore : (arguments : List Text) (fault : EncodeFault) (left old new : Option (List ℕ)) → Type 0
-IsEncodedBefore arguments fault left old new = Asks arguments (request.Task Encode) × IsEncoded (Some fault) left old new
+IsEncodedBefore arguments fault left old new =
+    Asks arguments (request.Task Encode) × IsEncoded (Some fault) left old new
 
 -- the tables of a request are refused so
 abbrev pub RefusesTables : Request → Failure → Type 0

@@ -1,5 +1,5 @@
-//! All of the program: what its arguments ask for is done. That is to serve lines on sockets, to print what a spool file
-//! holds, or a task of njh_subcommands.
+//! All of the program: what its arguments ask for is done. That is to serve lines on sockets, to
+//! print what a spool file holds, or a task of njh_subcommands.
 #![tactic(auto)]
 
 mod program;

@@ -23,7 +23,8 @@ use std::{env, io};
 /// How many bytes are written at once, at most: 64 kB.
 const WRITTEN_AT_ONCE: usize = 65_536;
 
-/// Runs the program, and answers the status to end with. Why it failed, if it did, goes to `errors`.
+/// Runs the program, and answers the status to end with. Why it failed, if it did, goes to
+/// `errors`.
 pub fn run<R: Env + Files + Spooling + Net + Clock + Input + Print + AllocGlobal, E: Print>(
     rt: &R,
     errors: &E,
@@ -47,7 +48,8 @@ pub fn end<E: Print>(outcome: Result<(), Failure>, errors: &E) -> ExitCode
     }
 }
 
-/// Does what the program's own arguments ask for, over its own streams. The log of a service goes to `errors`.
+/// Does what the program's own arguments ask for, over its own streams. The log of a service goes
+/// to `errors`.
 fn outcome_of<R: Env + Files + Spooling + Net + Clock + Input + Print + AllocGlobal, E: Print>(
     rt: &R,
     errors: &E,
@@ -75,9 +77,9 @@ fn arguments_of<R: Env + AllocGlobal>(rt: &R) -> Result<Vec<String>, Failure> {
     }
 }
 
-/// Does what the arguments ask for: the arguments are checked first, then the tables, then the script. The log of a
-/// service goes to `log`. `script` is what the program is given to read: a script, for `decode` a trace, for `encode`
-/// lines in words.
+/// Does what the arguments ask for: the arguments are checked first, then the tables, then the
+/// script. The log of a service goes to `log`. `script` is what the program is given to read: a
+/// script, for `decode` a trace, for `encode` lines in words.
 pub fn carry_out<
     F: Files + Spooling + Net + Clock + AllocGlobal,
     S: AsStr,

@@ -30,7 +30,8 @@ pub(crate) fn carry_out_request<
     ensures done { OnOk result (IsDone request.entry (R.remaining script.old) (W.contents out.old)
         (W.contents out.new)) }
     ensures failed { IfErr result (Fails request.entry (R.remaining script.old)) }
-    ensures bad { (fault : EncodeFault) → result ≡ Err (Failure.Encode (BadLine fault)) → HasBadWords request.entry fault
+    ensures bad { (fault : EncodeFault) → result ≡ Err (Failure.Encode (BadLine fault))
+        → HasBadWords request.entry fault
         (R.remaining script.old) (W.contents out.old) (W.contents out.new) }
     ensures found { result ≡ Err Failure.Found → FindsFault request.entry (W.contents out.old) (W.contents out.new) }
     ensures begun { OnErr result (Keeps (W.contents out.old) (W.contents out.new)

@@ -19,8 +19,9 @@ use std::io::Write;
 use std::net::Net;
 use std::rt::{Clock, Files};
 
-/// Serves the lines of a table file, and keeps whole files in a spool file. Where the table file can't be read, or its
-/// lines can't be served, the log says why. The table file's fault comes before that of the spool file.
+/// Serves the lines of a table file, and keeps whole files in a spool file. Where the table file
+/// can't be read, or its lines can't be served, the log says why. The table file's fault comes
+/// before that of the spool file.
 pub(crate) fn serve_spool_file<F: Files + SpoolFiles + Net + Clock + AllocGlobal, L: Write + Drop>(
     rt: &F,
     path: &str,
@@ -75,7 +76,8 @@ fn serve_kept<F: Files + Net + Clock + AllocGlobal, L: Write + Drop, S: Origin +
     }
 }
 
-/// Logs how many whole files of a spool file are of customers that the table file doesn't have, where there are any.
+/// Logs how many whole files of a spool file are of customers that the table file doesn't have,
+/// where there are any.
 fn log_strangers<F: Files + Clock + AllocGlobal, R: Clock, S: Origin + Drop, L: Write + Drop>(
     rt: &F,
     path: &str,
@@ -116,7 +118,8 @@ fn first_failure<F: Files + AllocGlobal>(rt: &F, path: &str, fault: FilesFault) 
     }
 }
 
-/// What is told of a whole file that couldn't be put back; none where there is no such file, or no memory.
+/// What is told of a whole file that couldn't be put back; none where there is no such file, or no
+/// memory.
 fn refusal_of<R: Clock, S: Origin + Drop>(
     alloc: Global,
     keeper: &SpoolKeeper<'_, R, S>,

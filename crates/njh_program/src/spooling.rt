@@ -16,8 +16,8 @@ use std::io::Write;
 use std::net::Net;
 use std::rt::{Clock, Files};
 
-/// What serves over spool files and prints them: whatever opens them does. Which type an open one has is hidden here,
-/// since a bound that names it costs each function above.
+/// What serves over spool files and prints them: whatever opens them does. Which type an open one
+/// has is hidden here, since a bound that names it costs each function above.
 pub trait Spooling {
     /// Prints what is asked for of the spool file at a path, which has to be there.
     fn print_spool<W: Write>(
@@ -33,8 +33,9 @@ pub trait Spooling {
             (W.contents out.old) (W.contents out.new)) }
         ensures silent { IfErr result (λ fault. Keeps (W.contents out.old) (W.contents out.new) ⊎ IsOfSpool fault) };
 
-    /// Serves the lines of a table file, and keeps whole files in the spool file at a path, which is made where it isn't
-    /// there. Where the table file can't be read, or its lines can't be served, the log says why.
+    /// Serves the lines of a table file, and keeps whole files in the spool file at a path, which
+    /// is made where it isn't there. Where the table file can't be read, or its lines can't be
+    /// served, the log says why.
     fn serve_spool<L: Write + Drop>(
         &self,
         path: &str,

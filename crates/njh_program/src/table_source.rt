@@ -50,7 +50,8 @@ pub struct TableFileSource<'a, R: Files + AllocGlobal> {
 }
 
 impl<'a, R: Files + AllocGlobal> TableFileSource<'a, R> {
-    /// The file as it is now. It is to be made before the tables are first read, so that no change is missed.
+    /// The file as it is now. It is to be made before the tables are first read, so that no change
+    /// is missed.
     pub fn new(rt: &'a R, path: &'a str) -> TableFileSource<'a, R> {
         TableFileSource {
             rt,
@@ -63,8 +64,8 @@ impl<'a, R: Files + AllocGlobal> TableFileSource<'a, R> {
 impl<R: Files + AllocGlobal> TableSource for TableFileSource<'_, R> {
     type Fault = ChangeFault;
 
-    /// The tables of the file, or why it gives none, where it isn't as it was at the last look. One that is gone is as
-    /// it was.
+    /// The tables of the file, or why it gives none, where it isn't as it was at the last look. One
+    /// that is gone is as it was.
     ///
     /// Its time and its length are looked at, and no more than 2 MB of it are read.
     fn changed(&mut self) -> Option<Result<Tables, ChangeFault>>

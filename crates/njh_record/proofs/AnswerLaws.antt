@@ -16,7 +16,8 @@ use Rattle.njh_record.proofs.ReadBack.{only}
 
 -- ---- there is one
 
-pub begins : (bytes spelling contents rest : List ℕ) (end : End) → Spelling spelling contents end → bytes ≡ spelling ++ rest
+pub begins : (bytes spelling contents rest : List ℕ) (end : End) → Spelling spelling contents end
+    → bytes ≡ spelling ++ rest
     → Begins bytes (length bytes - length rest) contents end
 begins bytes spelling contents rest end spells parts =
     let size : length bytes ≡ length spelling + length rest = ap length parts ∙ length-append spelling rest in
@@ -50,7 +51,8 @@ abbrev Outcome : Type 0
 Outcome = Result (ℕ × End) RecordFault × List ℕ
 
 abbrev ended : ℕ → List ℕ → End → Outcome
-ended used contents Record = cond (leb (length contents) 256) (Ok (used, Record), contents) (Err (faults.TooLong used), [])
+ended used contents Record = cond (leb (length contents) 256) (Ok (used, Record), contents)
+    (Err (faults.TooLong used), [])
 ended used contents Abort = (Ok (used, Abort), [])
 
 abbrev outcome : List ℕ → Result Unspelled Fault → Outcome
@@ -66,7 +68,8 @@ outcome-begins bytes n contents end starts =
     ap (outcome bytes) (only bytes read (take n bytes, starts.spelling, sym (take-append-drop n bytes)))
     ∙ ap (λ (m : ℕ). ended m contents end) used
 
-outcome_is : (bytes : List ℕ) (answer : Result (ℕ × End) RecordFault) (contents : List ℕ) → Unspells bytes answer contents
+outcome_is : (bytes : List ℕ) (answer : Result (ℕ × End) RecordFault) (contents : List ℕ)
+    → Unspells bytes answer contents
     → ◌≡◌ {A = Outcome} (outcome bytes (record_at_front bytes)) (answer, contents)
 outcome_is bytes (Ok (n, Record)) contents (starts, fits) =
     rw (outcome-begins bytes n contents Record starts, le-leb (length contents) 256 fits) refl

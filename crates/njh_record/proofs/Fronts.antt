@@ -14,35 +14,44 @@ use Rattle.njh_record.specs.code.Parts.{IsCounted, IsCutItem, StandsFirst}
 
 pub cut_item : (bytes missing : List ℕ) (item : Item) → IsCounted item → 0 < length missing
     → bytes ++ missing ≡ item_bytes item → IsCutItem bytes
-cut_item bytes missing item counted some parts = record { item = item; counted = counted; missing = missing; some = some; parts = parts }
+cut_item bytes missing item counted some parts =
+    record { item = item; counted = counted; missing = missing; some = some; parts = parts }
 
 repeat-stands : (b n : ℕ) (rest : List ℕ) → b ≡ 0xA0 + n → n < 32 → StandsFirst (b ∷ rest) (repeat_front n rest)
-repeat-stands b n [] is below = cut_item (b ∷ []) (0 ∷ []) (repeat n 0) below (omega arith) (ap (λ (x : ℕ). x ∷ 0 ∷ []) is)
+repeat-stands b n [] is below = cut_item (b ∷ []) (0 ∷ []) (repeat n 0) below (omega arith)
+    (ap (λ (x : ℕ). x ∷ 0 ∷ []) is)
 repeat-stands b n (byte ∷ rest) is below = (below, ap (λ (x : ℕ). x ∷ byte ∷ rest) is)
 
 literal-stands : (b n : ℕ) (rest : List ℕ) → b ≡ 0xC0 + n → StandsFirst (b ∷ rest) (literal_front n rest)
 literal-stands b n rest is =
-    cond_both (leb n (length rest)) (OfItem (literal (take n rest)) (drop n rest)) Cut (λ front. StandsFirst (b ∷ rest) front)
+    cond_both (leb n (length rest)) (OfItem (literal (take n rest)) (drop n rest)) Cut
+    (λ front. StandsFirst (b ∷ rest) front)
     (λ fits.
-    let size : b ≡ 0xC0 + length (take n rest) = omega (arith, length-take n rest, leb-true n (length rest) fits) in
-    (tt, ap (λ (x : ℕ). x ∷ rest) size ∙ ap (λ (bytes : List ℕ). (0xC0 + length (take n rest)) ∷ bytes) (sym (take-append-drop n rest))))
+    let size : b ≡ 0xC0 + length (take n rest) = omega (arith, length-take n rest, leb-true n (length rest) fits) in (
+      tt,
+      ap (λ (x : ℕ). x ∷ rest) size ∙ ap (λ (bytes : List ℕ). (0xC0 + length (take n rest)) ∷ bytes)
+          (sym (take-append-drop n rest)),
+    ))
     (λ short.
     let lacks = leb-false n (length rest) short in
     let missing = replicate (n - length rest) 0 in
     let count : length missing ≡ n - length rest = length-replicate (n - length rest) 0 in
     let size : b ≡ 0xC0 + length (rest ++ missing) = omega (arith, length-append rest missing) in
-    cut_item (b ∷ rest) missing (literal (rest ++ missing)) tt (omega arith) (ap (λ (x : ℕ). x ∷ (rest ++ missing)) size))
+    cut_item (b ∷ rest) missing (literal (rest ++ missing)) tt (omega arith)
+    (ap (λ (x : ℕ). x ∷ (rest ++ missing)) size))
 
 abbrev counted_front : ℕ → List ℕ → Front
 counted_front b rest =
-    cond (ltb b 0xA0) (OfItem (blanks (b - 0x80)) rest) (cond (ltb b 0xC0) (repeat_front (b - 0xA0) rest) (literal_front (b - 0xC0) rest))
+    cond (ltb b 0xA0) (OfItem (blanks (b - 0x80)) rest)
+    (cond (ltb b 0xC0) (repeat_front (b - 0xA0) rest) (literal_front (b - 0xC0) rest))
 
 counted-stands : (b : ℕ) (rest : List ℕ) → 0x80 ≤ b → StandsFirst (b ∷ rest) (counted_front b rest)
 counted-stands b rest high =
     let P : Front → Type 0 = λ front. StandsFirst (b ∷ rest) front in
     cond_both (ltb b 0xA0) (OfItem (blanks (b - 0x80)) rest)
     (cond (ltb b 0xC0) (repeat_front (b - 0xA0) rest) (literal_front (b - 0xC0) rest)) P
-    (λ l. let low = ltb-true b 0xA0 l in let is : b ≡ 0x80 + (b - 0x80) = omega arith in (omega arith, ap (λ (x : ℕ). x ∷ rest) is))
+    (λ l. let low = ltb-true b 0xA0 l in let is : b ≡ 0x80 + (b - 0x80) = omega arith
+    in (omega arith, ap (λ (x : ℕ). x ∷ rest) is))
     (λ h. let above = ltb-false b 0xA0 h in
     cond_both (ltb b 0xC0) (repeat_front (b - 0xA0) rest) (literal_front (b - 0xC0) rest) P
     (λ l. let low = ltb-true b 0xC0 l in repeat-stands b (b - 0xA0) rest (omega arith) (omega arith))
@@ -52,7 +61,8 @@ pub front-stands : (bytes : List ℕ) → StandsFirst bytes (front_of bytes)
 front-stands [] = cut_item [] (0x80 ∷ []) (blanks 0) (omega arith) (omega arith) refl
 front-stands (b ∷ rest) =
     let P : Front → Type 0 = λ front. StandsFirst (b ∷ rest) front in
-    cond_both (eqb b 0x00) (OfEnd Record rest) (cond (eqb b 0x40) (OfEnd Abort rest) (cond (ltb b 0x80) Bad (counted_front b rest))) P
+    cond_both (eqb b 0x00) (OfEnd Record rest)
+    (cond (eqb b 0x40) (OfEnd Abort rest) (cond (ltb b 0x80) Bad (counted_front b rest))) P
     (λ is. ap (λ (x : ℕ). x ∷ rest) (eqb-true b 0x00 is))
     (λ other. cond_both (eqb b 0x40) (OfEnd Abort rest) (cond (ltb b 0x80) Bad (counted_front b rest)) P
     (λ is. ap (λ (x : ℕ). x ∷ rest) (eqb-true b 0x40 is))
@@ -65,7 +75,14 @@ front-stands (b ∷ rest) =
 front_of-blanks : (b n : ℕ) (rest : List ℕ) → b ≡ 0x80 + n → n < 32 → front_of (b ∷ rest) ≡ OfItem (blanks n) rest
 front_of-blanks b n rest is below =
     let count : b - 0x80 ≡ n = omega arith in
-    rw (ne_eqb b 0x00 (λ e. omega arith), ne_eqb b 0x40 (λ e. omega arith), le-ltb b 0x80 (omega arith), lt-ltb b 0xA0 (omega arith), count) refl
+    rw (
+      ne_eqb b 0x00 (λ e. omega arith),
+      ne_eqb b 0x40 (λ e. omega arith),
+      le-ltb b 0x80 (omega arith),
+      lt-ltb b 0xA0
+          (omega arith),
+      count,
+    ) refl
 
 front_of-repeat : (b n : ℕ) (rest : List ℕ) → b ≡ 0xA0 + n → n < 32 → front_of (b ∷ rest) ≡ repeat_front n rest
 front_of-repeat b n rest is below =
@@ -106,9 +123,12 @@ end-only Abort rest = refl
 
 cut-only : (b : ℕ) (rest missing : List ℕ) (item : Item) → IsCounted item → 0 < length missing
     → b ∷ (rest ++ missing) ≡ item_bytes item → front_of (b ∷ rest) ≡ Cut
-cut-only b rest missing (blanks n) counted some parts = absurd (omega (arith, ap length parts, length-append rest missing))
-cut-only b [] missing (repeat n byte) counted some parts = let is : b ≡ 0xA0 + n = cc in front_of-repeat b n [] is counted
-cut-only b (c ∷ rest) missing (repeat n byte) counted some parts = absurd (omega (arith, ap length parts, length-append rest missing))
+cut-only b rest missing (blanks n) counted some parts =
+    absurd (omega (arith, ap length parts, length-append rest missing))
+cut-only b [] missing (repeat n byte) counted some parts = let is : b ≡ 0xA0 + n =
+    cc in front_of-repeat b n [] is counted
+cut-only b (c ∷ rest) missing (repeat n byte) counted some parts =
+    absurd (omega (arith, ap length parts, length-append rest missing))
 cut-only b rest missing (literal bytes) counted some parts =
     let is : b ≡ 0xC0 + length bytes = cc in
     let short : length rest < length bytes = omega (arith, ap length parts, length-append rest missing) in
@@ -131,8 +151,10 @@ some_item (blanks n) = omega arith
 some_item (repeat n byte) = omega arith
 some_item (literal bytes) = omega arith
 
-pub front_leaves_less : (bytes rest : List ℕ) (item : Item) → bytes ≡ item_bytes item ++ rest → length rest < length bytes
-front_leaves_less bytes rest item parts = omega (arith, ap length parts, length-append (item_bytes item) rest, some_item item)
+pub front_leaves_less : (bytes rest : List ℕ) (item : Item) → bytes ≡ item_bytes item ++ rest
+    → length rest < length bytes
+front_leaves_less bytes rest item parts = omega
+    (arith, ap length parts, length-append (item_bytes item) rest, some_item item)
 
 -- a literal's count is that of its byte
 pub IsItem-counted : (item : Item) → IsCounted item → get_or (item_bytes item) 0 0 < 256 → IsItem item
@@ -151,12 +173,14 @@ pub cut_none : (bytes : List ℕ) → length bytes < 1 → IsCutItem bytes
 cut_none [] none = front-stands []
 cut_none (b ∷ rest) none = absurd (omega arith)
 
-pub cut_repeat : (bytes : List ℕ) → length bytes ≡ 1 → 0xA0 ≤ get_or bytes 0 0 → get_or bytes 0 0 < 0xC0 → IsCutItem bytes
+pub cut_repeat : (bytes : List ℕ) → length bytes ≡ 1 → 0xA0 ≤ get_or bytes 0 0 → get_or bytes 0 0 < 0xC0
+    → IsCutItem bytes
 cut_repeat [] one low high = absurd (omega arith)
 cut_repeat (b ∷ []) one low high = repeat-stands b (b - 0xA0) [] (omega arith) (omega arith)
 cut_repeat (b ∷ c ∷ rest) one low high = absurd (omega arith)
 
-pub cut_literal : (bytes : List ℕ) (count : ℕ) → 0 < length bytes → get_or bytes 0 0 ≡ 0xC0 + count → length bytes ≤ count → IsCutItem bytes
+pub cut_literal : (bytes : List ℕ) (count : ℕ) → 0 < length bytes → get_or bytes 0 0 ≡ 0xC0 + count
+    → length bytes ≤ count → IsCutItem bytes
 cut_literal [] count some is short = absurd (omega arith)
 cut_literal (b ∷ rest) count some is short =
     rw (lt-leb count (length rest) (omega arith)) at (literal-stands b count rest is)

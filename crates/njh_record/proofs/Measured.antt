@@ -14,7 +14,8 @@ not_not : (b : Bool) → not (not b) ≡ b
 not_not true = refl
 not_not false = refl
 
-prefix_len-not_not : (byte : ℕ) (bytes : List ℕ) → prefix_len (λ x. not (not (eqb x byte))) bytes ≡ prefix_len (λ x. eqb x byte) bytes
+prefix_len-not_not : (byte : ℕ) (bytes : List ℕ)
+    → prefix_len (λ x. not (not (eqb x byte))) bytes ≡ prefix_len (λ x. eqb x byte) bytes
 prefix_len-not_not byte [] = refl
 prefix_len-not_not byte (x ∷ bytes) =
     ap (λ n. cond (not (not (eqb x byte))) (1 + n) 0) (prefix_len-not_not byte bytes)
@@ -25,7 +26,8 @@ module _ (bytes : List ℕ) (byte : ℕ) (long : 16 ≤ length bytes) where
   length-group = omega (arith, length-take 16 bytes)
 
   -- the mask of the bytes that are others, as the processor has it
-  pub others_are : mask_l (map (top 7) (zip2 (λ a b. cond (not (eqb a b)) 255 0) (take 16 bytes) (replicate 16 byte))) % 2 ^ 64
+  pub others_are : mask_l (map (top 7) (zip2 (λ a b. cond (not (eqb a b)) 255 0) (take 16 bytes) (replicate 16 byte))) %
+      2 ^ 64
       ≡ mask_l (map (λ x. not (eqb x byte)) (take 16 bytes))
   others_are = bitmask_splat w8 (λ a b. not (eqb a b)) (take 16 bytes) 16 byte length-group (omega arith)
 
@@ -33,21 +35,26 @@ module _ (bytes : List ℕ) (byte : ℕ) (long : 16 ≤ length bytes) where
       → count_trailing_zeros 64 mask ≡ prefix_len (λ x. eqb x byte) (take 16 bytes)
   same_before mask is some =
       ap (count_trailing_zeros 64) is
-      ∙ (trailing_mask_l (λ x. not (eqb x byte)) 64 (take 16 bytes) (omega (arith, length-group)) (omega (arith, is, some))
+      ∙ (trailing_mask_l (λ x. not (eqb x byte)) 64 (take 16 bytes) (omega (arith, length-group))
+      (omega (arith, is, some))
       ∙ prefix_len-not_not byte (take 16 bytes))
 
   -- the first 31 bytes are the first 16 and 15 more
   in_parts : prefix_len (λ x. eqb x byte) (take 31 bytes)
-      ≡ cond (eqb (prefix_len (λ x. eqb x byte) (take 16 bytes)) 16) (16 + prefix_len (λ x. eqb x byte) (take 15 (drop 16 bytes)))
+      ≡ cond (eqb (prefix_len (λ x. eqb x byte) (take 16 bytes)) 16)
+      (16 + prefix_len (λ x. eqb x byte) (take 15 (drop 16 bytes)))
       (prefix_len (λ x. eqb x byte) (take 16 bytes))
   in_parts =
       ap (prefix_len (λ x. eqb x byte)) (sym (take-more 16 15 bytes))
       ∙ (prefix_len-append (λ x. eqb x byte) (take 16 bytes) (take 15 (drop 16 bytes))
-      ∙ ap (λ n. cond (eqb (prefix_len (λ x. eqb x byte) (take 16 bytes)) n) (n + prefix_len (λ x. eqb x byte) (take 15 (drop 16 bytes)))
+      ∙ ap (λ n. cond (eqb (prefix_len (λ x. eqb x byte) (take 16 bytes)) n)
+      (n + prefix_len (λ x. eqb x byte) (take 15 (drop 16 bytes)))
       (prefix_len (λ x. eqb x byte) (take 16 bytes))) length-group)
 
   pub run-long : (n more : ℕ) → n ≡ prefix_len (λ x. eqb x byte) (take 16 bytes) → 16 ≤ n
-      → more ≡ prefix_len (λ x. eqb x byte) (take 15 (drop 16 bytes)) → 16 + more ≡ prefix_len (λ x. eqb x byte) (take 31 bytes)
+      → more ≡ prefix_len (λ x. eqb x byte) (take 15 (drop 16 bytes))
+      → 16 + more ≡ prefix_len (λ x. eqb x byte) (take 31 bytes)
   run-long n more is many rest =
-      let all : prefix_len (λ x. eqb x byte) (take 16 bytes) ≡ 16 = omega (arith, is, length-group, prefix_len-le-length (λ x. eqb x byte) (take 16 bytes)) in
+      let all : prefix_len (λ x. eqb x byte) (take 16 bytes) ≡ 16 =
+      omega (arith, is, length-group, prefix_len-le-length (λ x. eqb x byte) (take 16 bytes)) in
       ap (λ m. 16 + m) rest ∙ sym (in_parts ∙ cond-true _ _ _ (eq-eqb _ _ all))

@@ -14,7 +14,8 @@ use Rattle.njh_record.proofs.ReadingLaws.{read_on, by_steps, unspelled-first}
 
 -- ---- what stands there is found
 
-pub with_front-with_front : (a b : List ℕ) (read : Result Unspelled Fault) → with_front a (with_front b read) ≡ with_front (a ++ b) read
+pub with_front-with_front : (a b : List ℕ) (read : Result Unspelled Fault)
+    → with_front a (with_front b read) ≡ with_front (a ++ b) read
 with_front-with_front a b (Ok found) =
     ap (λ (bytes : List ℕ). Ok (record found { contents = bytes })) (sym (append_assoc a b found.contents))
 with_front-with_front a b (Err fault) = refl
@@ -25,10 +26,12 @@ with_front-nil (Err fault) = refl
 
 unspelled-item : (item : Item) (rest : List ℕ) → IsItem item
     → record_at_front (item_bytes item ++ rest) ≡ with_front (added_bytes item) (record_at_front rest)
-unspelled-item item rest is = unspelled-first (item_bytes item ++ rest) (OfItem item rest) (IsCounted-item item is, refl)
+unspelled-item item rest is = unspelled-first (item_bytes item ++ rest) (OfItem item rest)
+    (IsCounted-item item is, refl)
 
 unspelled-items : (items : List Item) (rest : List ℕ) → AllByRecursion IsItem items
-    → record_at_front (flat_map item_bytes items ++ rest) ≡ with_front (flat_map added_bytes items) (record_at_front rest)
+    → record_at_front (flat_map item_bytes items ++ rest) ≡ with_front (flat_map added_bytes items)
+    (record_at_front rest)
 unspelled-items [] rest each = with_front-nil (record_at_front rest)
 unspelled-items (item ∷ items) rest each =
     rw (append_assoc, unspelled-item item (flat_map item_bytes items ++ rest) each.0, unspelled-items items rest each.1)
@@ -39,13 +42,22 @@ pub unspelled-spelling : (bytes contents : List ℕ) (end : End) (rest : List �
 unspelled-spelling bytes contents end rest spells =
     let items = spells.items in
     let ends = unspelled-first (end_byte end ∷ rest) (OfEnd end rest) refl in
-    rw (spells.whole.parts, append_assoc, unspelled-items items (end_byte end ∷ rest) spells.whole.each, ends, append-nil, spells.adds) refl
+    rw (
+      spells.whole.parts,
+      append_assoc,
+      unspelled-items items (end_byte end ∷ rest) spells.whole.each,
+      ends,
+      append-nil,
+      spells.adds,
+    ) refl
 
 -- what is cut off lies within an item, or behind whole ones
-unspelled-cut : (items : List Item) (end : End) (bytes missing : List ℕ) → AllByRecursion IsItem items → 0 < length missing
+unspelled-cut : (items : List Item) (end : End) (bytes missing : List ℕ) → AllByRecursion IsItem items
+    → 0 < length missing
     → bytes ++ missing ≡ flat_map item_bytes items ++ end_byte end ∷ [] → record_at_front bytes ≡ Err Truncated
 unspelled-cut [] end [] missing each some parts = refl
-unspelled-cut [] end (b ∷ bytes) missing each some parts = absurd (omega (arith, ap length parts, length-append bytes missing))
+unspelled-cut [] end (b ∷ bytes) missing each some parts =
+    absurd (omega (arith, ap length parts, length-append bytes missing))
 unspelled-cut (item ∷ items) end bytes missing each some parts =
     let n = length (item_bytes item) in
     let after = flat_map item_bytes items ++ end_byte end ∷ [] in
@@ -54,7 +66,8 @@ unspelled-cut (item ∷ items) end bytes missing each some parts =
     elim (cases_lt (length bytes) n) [
       | inl short ↦
           let front : take (length bytes) (item_bytes item) ≡ bytes =
-          rw (← take-append-le (length bytes) (item_bytes item) after (omega arith), ← joined) (take_at bytes missing (length bytes) refl) in
+          rw (← take-append-le (length bytes) (item_bytes item) after (omega arith), ← joined)
+          (take_at bytes missing (length bytes) refl) in
           let whole : bytes ++ drop (length bytes) (item_bytes item) ≡ item_bytes item =
           rw front at (take-append-drop (length bytes) (item_bytes item)) in
           unspelled-first bytes Cut
@@ -78,7 +91,8 @@ only bytes (Err BadScb) bad =
     let ends = unspelled-first (bad.byte ∷ bad.rest) Bad bad.bad in
     rw (bad.front.parts, unspelled-items bad.items (bad.byte ∷ bad.rest) bad.front.each, ends) refl
 only bytes (Err Truncated) cut =
-    unspelled-cut cut.spelling.items cut.end bytes cut.missing cut.spelling.whole.each cut.some_missing cut.spelling.whole.parts
+    unspelled-cut cut.spelling.items cut.end bytes cut.missing cut.spelling.whole.each cut.some_missing
+    cut.spelling.whole.parts
 
 -- ---- the rest stands behind what is read
 
@@ -97,7 +111,8 @@ RestBehind-item item bytes rest (Ok found) parts (front, some, is) = (
 RestBehind-item item bytes rest (Err fault) parts behind = tt
 
 behind_at : (bytes : List ℕ) (front : Front) → StandsFirst bytes front
-    → ((rest : List ℕ) → length rest < length bytes → RestBehind rest (record_at_front rest)) → RestBehind bytes (read_on record_at_front front)
+    → ((rest : List ℕ) → length rest < length bytes → RestBehind rest (record_at_front rest))
+    → RestBehind bytes (read_on record_at_front front)
 behind_at bytes (OfItem item rest) (counted, parts) again =
     RestBehind-item item bytes rest (record_at_front rest) parts (again rest (front_leaves_less bytes rest item parts))
 behind_at bytes (OfEnd end rest) parts again = (end_byte end ∷ [], omega arith, parts)
@@ -124,4 +139,5 @@ pub prefix_free : (spelling more contents others : List ℕ) (end other : End) �
     → Spelling (spelling ++ more) others other → more ≡ []
 prefix_free spelling more contents others end other spells longer =
     ap rest_of (sym (unspelled-spelling spelling contents end more spells)
-    ∙ (ap record_at_front (sym (append-nil (spelling ++ more))) ∙ unspelled-spelling (spelling ++ more) others other [] longer))
+    ∙ (ap record_at_front (sym (append-nil (spelling ++ more)))
+    ∙ unspelled-spelling (spelling ++ more) others other [] longer))

@@ -32,7 +32,8 @@ same_on one other bytes (OfEnd end rest) parts same = refl
 same_on one other bytes Bad bad same = refl
 same_on one other bytes Cut cut same = refl
 
-enough : (k j : ℕ) (bytes : List ℕ) → length bytes ≤ k → length bytes ≤ j → unspelled_within k bytes ≡ unspelled_within j bytes
+enough : (k j : ℕ) (bytes : List ℕ) → length bytes ≤ k → length bytes ≤ j
+    → unspelled_within k bytes ≡ unspelled_within j bytes
 enough zero zero bytes p q = refl
 enough zero (suc j) [] p q = refl
 enough zero (suc j) (b ∷ rest) p q = absurd (omega arith)
@@ -48,25 +49,29 @@ unspelled-step (b ∷ rest) =
     same_on (unspelled_within (length rest)) record_at_front (b ∷ rest) (front_of (b ∷ rest)) (front-stands (b ∷ rest))
     (λ after less. enough (length rest) (length after) after (omega arith) (omega arith))
 
-pub unspelled-first : (bytes : List ℕ) (front : Front) → StandsFirst bytes front → record_at_front bytes ≡ read_on record_at_front front
+pub unspelled-first : (bytes : List ℕ) (front : Front) → StandsFirst bytes front
+    → record_at_front bytes ≡ read_on record_at_front front
 unspelled-first bytes front stands = unspelled-step bytes ∙ ap (read_on record_at_front) (front_only bytes front stands)
 
 -- what holds of each step holds of the whole
 module _ (P : List ℕ → Result Unspelled Fault → Type 0)
     (step : (bytes : List ℕ) (front : Front) → StandsFirst bytes front →
-    ((rest : List ℕ) → length rest < length bytes → P rest (record_at_front rest)) → P bytes (read_on record_at_front front)) where
+    ((rest : List ℕ) → length rest < length bytes → P rest (record_at_front rest))
+    → P bytes (read_on record_at_front front)) where
   at_most : (k : ℕ) (bytes : List ℕ) → length bytes ≤ k → P bytes (record_at_front bytes)
   at_most zero [] le = step [] Cut (front-stands []) (λ rest less. absurd (omega arith))
   at_most zero (b ∷ rest) le = absurd (omega arith)
   at_most (suc k) bytes le =
-      rw (unspelled-step bytes) (step bytes (front_of bytes) (front-stands bytes) (λ rest less. at_most k rest (omega arith)))
+      rw (unspelled-step bytes) (step bytes (front_of bytes) (front-stands bytes)
+      (λ rest less. at_most k rest (omega arith)))
 
   pub by_steps : (bytes : List ℕ) → P bytes (record_at_front bytes)
   by_steps bytes = at_most (length bytes) bytes (omega arith)
 
 -- ---- what is found stands there
 
-ItemsThen-item : (item : Item) (bytes : List ℕ) (items : List Item) (rest : List ℕ) → IsItem item → ItemsThen bytes items rest
+ItemsThen-item : (item : Item) (bytes : List ℕ) (items : List Item) (rest : List ℕ) → IsItem item
+    → ItemsThen bytes items rest
     → ItemsThen (item_bytes item ++ bytes) (item ∷ items) rest
 ItemsThen-item item bytes items rest is then =
     record {
@@ -111,31 +116,36 @@ ReadsAs-item item rest (Err Truncated) is cut =
     }
 
 -- the front of an item that an end follows is cut short
-IsTruncated-item : (bytes missing : List ℕ) (item : Item) → bytes ++ missing ≡ item_bytes item → IsItem item → IsTruncated bytes
+IsTruncated-item : (bytes missing : List ℕ) (item : Item) → bytes ++ missing ≡ item_bytes item → IsItem item
+    → IsTruncated bytes
 IsTruncated-item bytes missing item parts is =
     record {
       missing = missing ++ 0 ∷ [];
       some_missing = omega (arith, length-append missing (0 ∷ []));
       contents = added_bytes item ++ [];
       end = Record;
-      spelling = rw (← append_assoc bytes missing (0 ∷ []), parts) (Spelling-item item (0 ∷ []) [] Record is (Spelling-end Record));
+      spelling = rw (← append_assoc bytes missing (0 ∷ []), parts)
+          (Spelling-item item (0 ∷ []) [] Record is (Spelling-end Record));
     }
 
 pub truncated_at : (bytes : List ℕ) → AreBytes bytes → IsCutItem bytes → IsTruncated bytes
 truncated_at [] are cut = IsTruncated-item [] (0x80 ∷ []) (blanks 0) refl (omega arith)
 truncated_at (b ∷ rest) are cut =
     let first : b ≡ get_or (item_bytes cut.item) 0 0 = ap (λ (bytes : List ℕ). get_or bytes 0 0) cut.parts in
-    IsTruncated-item (b ∷ rest) cut.missing cut.item cut.parts (IsItem-counted cut.item cut.counted (omega (arith, are 0, first)))
+    IsTruncated-item (b ∷ rest) cut.missing cut.item cut.parts
+    (IsItem-counted cut.item cut.counted (omega (arith, are 0, first)))
 
 pub AreBytes-behind : (front rest : List ℕ) → AreBytes (front ++ rest) → AreBytes rest
 AreBytes-behind [] rest are = are
 AreBytes-behind (b ∷ front) rest are = AreBytes-behind front rest (λ place. are (suc place))
 
 -- what stands first, and what the rest reads as
-pub AreBytes-left : (bytes rest : List ℕ) (item : Item) → AreBytes bytes → StandsFirst bytes (OfItem item rest) → AreBytes rest
+pub AreBytes-left : (bytes rest : List ℕ) (item : Item) → AreBytes bytes → StandsFirst bytes (OfItem item rest)
+    → AreBytes rest
 AreBytes-left bytes rest item are stands = AreBytes-behind (item_bytes item) rest (subst AreBytes stands.1 are)
 
-pub item_reads : (bytes rest : List ℕ) (item : Item) (read : Result Unspelled Fault) → AreBytes bytes → StandsFirst bytes (OfItem item rest)
+pub item_reads : (bytes rest : List ℕ) (item : Item) (read : Result Unspelled Fault) → AreBytes bytes
+    → StandsFirst bytes (OfItem item rest)
     → ReadsAs rest read → ReadsAs bytes (with_front (added_bytes item) read)
 item_reads bytes rest item read are (counted, parts) reads =
     let here : AreBytes (item_bytes item ++ rest) = subst AreBytes parts are in
@@ -145,13 +155,20 @@ item_reads bytes rest item read are (counted, parts) reads =
 
 pub bad_reads : (bytes : List ℕ) → StandsFirst bytes Bad → HasBadScb bytes
 bad_reads [] bad = absurd bad
-bad_reads (b ∷ rest) bad = record { items = []; byte = b; rest = rest; front = record { each = tt; parts = refl }; bad = bad }
+bad_reads (b ∷ rest) bad = record {
+  items = [];
+  byte = b;
+  rest = rest;
+  front = record { each = tt; parts = refl };
+  bad = bad;
+}
 
 abbrev pub FoundIn : List ℕ → Result Unspelled Fault → Type 0
 FoundIn bytes read = AreBytes bytes → ReadsAs bytes read
 
 found_at : (bytes : List ℕ) (front : Front) → StandsFirst bytes front
-    → ((rest : List ℕ) → length rest < length bytes → FoundIn rest (record_at_front rest)) → FoundIn bytes (read_on record_at_front front)
+    → ((rest : List ℕ) → length rest < length bytes → FoundIn rest (record_at_front rest))
+    → FoundIn bytes (read_on record_at_front front)
 found_at bytes (OfItem item rest) stands again are =
     item_reads bytes rest item (record_at_front rest) are stands
     (again rest (front_leaves_less bytes rest item stands.1) (AreBytes-left bytes rest item are stands))

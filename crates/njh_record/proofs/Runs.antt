@@ -26,17 +26,29 @@ front_is byte [] = refl
 front_is byte (x ∷ bytes) =
     let n = prefix_len (λ x. eqb x byte) bytes in
     cond_both (eqb x byte) (1 + n) 0 (λ m. take m (x ∷ bytes) ≡ replicate m byte)
-    (λ same. rw one-add (ap (λ (y : ℕ). y ∷ take n bytes) (eqb-true x byte same) ∙ ap (λ (ys : List ℕ). byte ∷ ys) (front_is byte bytes)))
+    (λ same. rw one-add (ap (λ (y : ℕ). y ∷ take n bytes) (eqb-true x byte same)
+    ∙ ap (λ (ys : List ℕ). byte ∷ ys) (front_is byte bytes)))
     (λ other. refl)
 
 pub run_of-short : (bytes : List ℕ) → run_of bytes ≤ 31
-run_of-short bytes = omega (arith, prefix_len-le-length (λ x. eqb x (first_byte_of bytes)) (take 31 bytes), length-take 31 bytes)
+run_of-short bytes = omega (
+  arith,
+  prefix_len-le-length (λ x. eqb x (first_byte_of bytes)) (take 31 bytes),
+  length-take
+      31 bytes,
+)
 
 pub run_of-within : (bytes : List ℕ) → run_of bytes ≤ length bytes
-run_of-within bytes = omega (arith, prefix_len-le-length (λ x. eqb x (first_byte_of bytes)) (take 31 bytes), length-take 31 bytes)
+run_of-within bytes = omega (
+  arith,
+  prefix_len-le-length (λ x. eqb x (first_byte_of bytes)) (take 31 bytes),
+  length-take
+      31 bytes,
+)
 
 pub take-run_of : (bytes : List ℕ) → take (run_of bytes) bytes ≡ replicate (run_of bytes) (first_byte_of bytes)
-take-run_of bytes = sym (take-take (run_of bytes) 31 bytes (run_of-short bytes)) ∙ front_is (first_byte_of bytes) (take 31 bytes)
+take-run_of bytes = sym (take-take (run_of bytes) 31 bytes (run_of-short bytes))
+    ∙ front_is (first_byte_of bytes) (take 31 bytes)
 
 -- ---- the bytes before a run
 
@@ -45,7 +57,8 @@ unfolding before_run
 before_run-at [] is = refl
 before_run-at (byte ∷ bytes) is = cond-true (begins_run (byte ∷ bytes)) [] (byte ∷ before_run bytes) is
 
-pub before_run-past : (byte : ℕ) (bytes : List ℕ) → begins_run (byte ∷ bytes) ≡ false → before_run (byte ∷ bytes) ≡ byte ∷ before_run bytes
+pub before_run-past : (byte : ℕ) (bytes : List ℕ) → begins_run (byte ∷ bytes) ≡ false
+    → before_run (byte ∷ bytes) ≡ byte ∷ before_run bytes
 unfolding before_run
 before_run-past byte bytes is = cond-false (begins_run (byte ∷ bytes)) [] (byte ∷ before_run bytes) is
 
@@ -65,17 +78,20 @@ NoRunBefore-more bytes place within past so_far =
     let past_byte : begins_run (byte ∷ rest) ≡ false = ap begins_run (sym at) ∙ past in
     rw (more, append_assoc, ← before_run-past byte rest past_byte, ← at) so_far
 
-NoRunBefore-stops : (bytes : List ℕ) (place : ℕ) → place ≤ 63 → before_run (drop place bytes) ≡ [] → NoRunBefore bytes place
+NoRunBefore-stops : (bytes : List ℕ) (place : ℕ) → place ≤ 63 → before_run (drop place bytes) ≡ []
+    → NoRunBefore bytes place
     → take place bytes ≡ take 63 (before_run bytes)
 NoRunBefore-stops bytes place short stops so_far =
     rw (so_far, stops, append-nil) (sym (take_all 63 (take place bytes) (omega (arith, length-take place bytes))))
 
 pub NoRunBefore-at : (bytes : List ℕ) (place : ℕ) → place ≤ 63 → begins_run (drop place bytes) ≡ true
     → NoRunBefore bytes place → take place bytes ≡ take 63 (before_run bytes)
-NoRunBefore-at bytes place short at so_far = NoRunBefore-stops bytes place short (before_run-at (drop place bytes) at) so_far
+NoRunBefore-at bytes place short at so_far =
+    NoRunBefore-stops bytes place short (before_run-at (drop place bytes) at) so_far
 
 -- where the bytes that were looked at reach the longest literal or the end
-pub NoRunBefore-limit : (bytes : List ℕ) (limit place : ℕ) → limit ≡ min (length bytes) 63 → limit ≤ place → place ≤ length bytes
+pub NoRunBefore-limit : (bytes : List ℕ) (limit place : ℕ) → limit ≡ min (length bytes) 63 → limit ≤ place
+    → place ≤ length bytes
     → NoRunBefore bytes place → take limit bytes ≡ take 63 (before_run bytes)
 NoRunBefore-limit bytes limit place is reached within so_far =
     elim (cases_lt 63 (length bytes)) [
@@ -86,14 +102,17 @@ NoRunBefore-limit bytes limit place is reached within so_far =
           rw (so_far, cut, take-take 63 place bytes (omega arith)) (ap (λ (n : ℕ). take n bytes) same)
       | inr short ↦
           let same : limit ≡ place = omega arith in
-          rw same (NoRunBefore-stops bytes place (omega arith) (ap before_run (drop_all place bytes (omega arith)) ∙ before_run-nil) so_far)
+          rw same (NoRunBefore-stops bytes place (omega arith)
+          (ap before_run (drop_all place bytes (omega arith)) ∙ before_run-nil) so_far)
     ]
 
 -- more bytes were looked at behind those
-pub take-more : (place more : ℕ) (bytes : List ℕ) → take place bytes ++ take more (drop place bytes) ≡ take (place + more) bytes
+pub take-more : (place more : ℕ) (bytes : List ℕ)
+    → take place bytes ++ take more (drop place bytes) ≡ take (place + more) bytes
 take-more place more bytes =
     let all = take (place + more) bytes in
-    ap (λ (text : List ℕ). text ++ take more (drop place bytes)) (sym (take-take place (place + more) bytes (omega arith)))
+    ap (λ (text : List ℕ). text ++ take more (drop place bytes))
+    (sym (take-take place (place + more) bytes (omega arith)))
     ∙ (ap (λ (text : List ℕ). take place all ++ text) (sym (drop-take place more bytes)) ∙ take-append-drop place all)
 
 pub NoRunBefore-then : (bytes : List ℕ) (place more : ℕ) → NoRunBefore bytes place → NoRunBefore (drop place bytes) more
@@ -111,12 +130,14 @@ begins_run-apart bytes apart =
     false_from_ne_true (begins_run bytes) (λ is.
     let two : 2 ≤ run_of bytes = is_run-two (first_byte_of bytes) (run_of bytes) is in
     let same = prefix_len_passes (λ x. eqb x (first_byte_of bytes)) (take 31 bytes) 1 0 (omega arith) in
-    apart (sym (sym (get_or-take 31 bytes 1 0 (omega arith)) ∙ eqb-true (get_or (take 31 bytes) 1 0) (first_byte_of bytes) same)))
+    apart (sym (sym (get_or-take 31 bytes 1 0 (omega arith))
+    ∙ eqb-true (get_or (take 31 bytes) 1 0) (first_byte_of bytes) same)))
 
 pub NoRunBefore-apart : (bytes : List ℕ) (n : ℕ) → n < length bytes → AreApart n bytes → NoRunBefore bytes n
 NoRunBefore-apart bytes zero within apart = refl
 NoRunBefore-apart bytes (suc n) within apart =
-    let here : get_or (drop n bytes) 0 0 ≡ get_or bytes n 0 = get_or-drop n bytes 0 0 ∙ ap (λ k. get_or bytes k 0) (omega arith) in
+    let here : get_or (drop n bytes) 0 0 ≡ get_or bytes n 0 =
+    get_or-drop n bytes 0 0 ∙ ap (λ k. get_or bytes k 0) (omega arith) in
     let at : get_or (drop n bytes) 0 0 ≢ get_or (drop n bytes) 1 0 = λ same.
     apart n (omega arith) (sym here ∙ (same ∙ get_or-drop n bytes 1 0)) in
     rw (← add-one n) (NoRunBefore-more bytes n (omega arith) (begins_run-apart (drop n bytes) at)

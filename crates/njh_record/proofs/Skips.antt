@@ -13,14 +13,18 @@ behind-with_front : (front : List ℕ) (read : Result Unspelled Fault) → behin
 behind-with_front front (Ok found) = refl
 behind-with_front front (Err e) = refl
 
-pub behind-item : (bytes rest : List ℕ) (item : Item) → StandsFirst bytes (OfItem item rest) → behind (record_at_front bytes) ≡ behind (record_at_front rest)
+pub behind-item : (bytes rest : List ℕ) (item : Item) → StandsFirst bytes (OfItem item rest)
+    → behind (record_at_front bytes) ≡ behind (record_at_front rest)
 behind-item bytes rest item stands =
-    ap behind (unspelled-first bytes (OfItem item rest) stands) ∙ behind-with_front (added_bytes item) (record_at_front rest)
+    ap behind (unspelled-first bytes (OfItem item rest) stands)
+    ∙ behind-with_front (added_bytes item) (record_at_front rest)
 
-pub behind-end : (bytes rest : List ℕ) (end : End) → StandsFirst bytes (OfEnd end rest) → behind (record_at_front bytes) ≡ Some rest
+pub behind-end : (bytes rest : List ℕ) (end : End) → StandsFirst bytes (OfEnd end rest)
+    → behind (record_at_front bytes) ≡ Some rest
 behind-end bytes rest end stands = ap behind (unspelled-first bytes (OfEnd end rest) stands)
 
-pub behind-fault : (bytes : List ℕ) (fault : RecordFault) → LeadsToPart bytes (Err fault) → behind (record_at_front bytes) ≡ None
+pub behind-fault : (bytes : List ℕ) (fault : RecordFault) → LeadsToPart bytes (Err fault)
+    → behind (record_at_front bytes) ≡ None
 behind-fault bytes faults.BadScb stands = ap behind (unspelled-first bytes Bad stands)
 behind-fault bytes faults.Truncated stands = ap behind (unspelled-first bytes Cut stands)
 behind-fault bytes (faults.TooLong used) stands = absurd stands

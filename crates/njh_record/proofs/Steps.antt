@@ -16,10 +16,12 @@ use Rattle.njh_record.proofs.ReadingLaws.{AreBytes-left, item_reads, bad_reads, 
 use Rattle.njh_record.proofs.ReadBack.{with_front-with_front, with_front-nil}
 use Rattle.njh_record.proofs.AnswerLaws.{begins}
 
-pub Takes-same : (taken : Bool) (old more same new : List ℕ) → more ≡ same → Takes taken old more new → Takes taken old same new
+pub Takes-same : (taken : Bool) (old more same new : List ℕ) → more ≡ same → Takes taken old more new
+    → Takes taken old same new
 Takes-same taken old more same new is takes = rw is at takes
 
-Holds-takes : (taken : Bool) (adds old more new : List ℕ) → Holds true adds old → Takes taken old more new → Holds taken (adds ++ more) new
+Holds-takes : (taken : Bool) (adds old more new : List ℕ) → Holds true adds old → Takes taken old more new
+    → Holds taken (adds ++ more) new
 Holds-takes true adds old more new held takes =
     (takes.0 ∙ ap (λ (bytes : List ℕ). bytes ++ more) held.0, rw (length-append, ← held.0) takes.1)
 Holds-takes false adds old more new held takes = rw (length-append, ← held.0) takes
@@ -49,17 +51,21 @@ goes_on bytes rest after old new item fits taken so_far stands holds = record {
   holds = holds;
 }
 
-pub HasRead-takes : (bytes rest after old new : List ℕ) (item : Item) (fits taken : Bool) → fits ≡ true → HasRead bytes rest old fits
+pub HasRead-takes : (bytes rest after old new : List ℕ) (item : Item) (fits taken : Bool) → fits ≡ true
+    → HasRead bytes rest old fits
     → StandsFirst rest (OfItem item after) → Takes taken old (added_bytes item) new → HasRead bytes after new taken
 HasRead-takes bytes rest after old new item true taken is read stands takes =
-    goes_on bytes rest after old new item true taken read stands (Holds-takes taken read.adds old (added_bytes item) new read.holds takes)
+    goes_on bytes rest after old new item true taken read stands
+    (Holds-takes taken read.adds old (added_bytes item) new read.holds takes)
 HasRead-takes bytes rest after old new item false taken is read stands takes = absurd cc
 
 -- what is too long stays too long
-pub HasRead-passes : (bytes rest after old : List ℕ) (item : Item) (fits : Bool) → fits ≡ false → HasRead bytes rest old fits
+pub HasRead-passes : (bytes rest after old : List ℕ) (item : Item) (fits : Bool) → fits ≡ false
+    → HasRead bytes rest old fits
     → StandsFirst rest (OfItem item after) → HasRead bytes after old fits
 HasRead-passes bytes rest after old item false is read stands =
-    goes_on bytes rest after old old item false false read stands (omega (arith, read.holds, length-append read.adds (added_bytes item)))
+    goes_on bytes rest after old old item false false read stands
+    (omega (arith, read.holds, length-append read.adds (added_bytes item)))
 HasRead-passes bytes rest after old item true is read stands = absurd cc
 
 -- ---- an end, or a fault
@@ -67,7 +73,8 @@ HasRead-passes bytes rest after old item true is read stands = absurd cc
 begins-read : (bytes rest after contents : List ℕ) (fits : Bool) (end : End) (so_far : HasRead bytes rest contents fits)
     → StandsFirst rest (OfEnd end after) → Begins bytes (length bytes - length after) so_far.adds end
 begins-read bytes rest after contents fits end so_far stands =
-    let read = so_far.reads (Ok (record { contents = []; end = end; rest = after })) (end_byte end ∷ [], Spelling-end end, stands) in
+    let read = so_far.reads (Ok (record { contents = []; end = end; rest = after }))
+    (end_byte end ∷ [], Spelling-end end, stands) in
     rw append-nil at (begins bytes read.0 (so_far.adds ++ []) after end read.1 read.2)
 
 pub unspells-aborted : (bytes rest after contents : List ℕ) (fits : Bool) → HasRead bytes rest contents fits
@@ -83,7 +90,8 @@ unspells-whole bytes rest after contents true is so_far stands =
     rw so_far.holds.0 (begins-read bytes rest after contents true Record so_far stands, so_far.holds.1)
 unspells-whole bytes rest after contents false is so_far stands = absurd cc
 
-pub unspells-too_long : (bytes rest after contents : List ℕ) (fits : Bool) → fits ≡ false → HasRead bytes rest contents fits
+pub unspells-too_long : (bytes rest after contents : List ℕ) (fits : Bool) → fits ≡ false
+    → HasRead bytes rest contents fits
     → StandsFirst rest (OfEnd Record after)
     → Unspells bytes (Err (faults.TooLong (length bytes - length after))) []
 unspells-too_long bytes rest after contents true is so_far stands = absurd cc
@@ -91,9 +99,11 @@ unspells-too_long bytes rest after contents false is so_far stands =
     ((so_far.adds, begins-read bytes rest after contents false Record so_far stands, so_far.holds), refl)
 
 -- what stops the reading is the fault of all
-pub unspells-fault : (bytes rest contents : List ℕ) (fits : Bool) (fault : RecordFault) → HasRead bytes rest contents fits
+pub unspells-fault : (bytes rest contents : List ℕ) (fits : Bool) (fault : RecordFault)
+    → HasRead bytes rest contents fits
     → LeadsToPart rest (Err fault) → Unspells bytes (Err fault) []
-unspells-fault bytes rest contents fits faults.BadScb so_far stands = (so_far.reads (Err BadScb) (bad_reads rest stands), refl)
+unspells-fault bytes rest contents fits faults.BadScb so_far stands =
+    (so_far.reads (Err BadScb) (bad_reads rest stands), refl)
 unspells-fault bytes rest contents fits faults.Truncated so_far stands =
     (so_far.reads (Err Truncated) (truncated_at rest so_far.left stands), refl)
 unspells-fault bytes rest contents fits (faults.TooLong used) so_far stands = absurd stands

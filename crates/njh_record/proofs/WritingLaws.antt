@@ -32,16 +32,19 @@ length-run_item byte n is =
 
 -- ---- the first item
 
-pub first_item-run : (bytes : List ℕ) → begins_run bytes ≡ true → first_item bytes ≡ run_item (first_byte_of bytes) (run_of bytes)
+pub first_item-run : (bytes : List ℕ) → begins_run bytes ≡ true
+    → first_item bytes ≡ run_item (first_byte_of bytes) (run_of bytes)
 unfolding first_item
 first_item-run bytes is = cond-true (begins_run bytes) _ _ is
 
-pub first_item-literal : (bytes : List ℕ) → begins_run bytes ≡ false → first_item bytes ≡ literal (take 63 (before_run bytes))
+pub first_item-literal : (bytes : List ℕ) → begins_run bytes ≡ false
+    → first_item bytes ≡ literal (take 63 (before_run bytes))
 unfolding first_item
 first_item-literal bytes is = cond-false (begins_run bytes) _ _ is
 
 -- what is spelled first stands first
-SpellsFront-run : (bytes : List ℕ) → begins_run bytes ≡ true → SpellsFront bytes (run_item (first_byte_of bytes) (run_of bytes))
+SpellsFront-run : (bytes : List ℕ) → begins_run bytes ≡ true
+    → SpellsFront bytes (run_item (first_byte_of bytes) (run_of bytes))
 SpellsFront-run bytes at =
     let byte = first_byte_of bytes in
     let n = run_of bytes in
@@ -63,7 +66,8 @@ SpellsFront-literal byte bytes past =
     let size : n ≡ min 63 (length before) = length-take 63 before in
     let some : 0 < length before = omega (arith, ap length cons) in
     let same : take n (byte ∷ bytes) ≡ take 63 before =
-    rw (← take-take n (length before) (byte ∷ bytes) (omega arith), (stands_before (byte ∷ bytes)).front, size) (take_min 63 before) in
+    rw (← take-take n (length before) (byte ∷ bytes) (omega arith), (stands_before (byte ∷ bytes)).front, size)
+    (take_min 63 before) in
     record {
       fits = omega (arith, size);
       some = omega (arith, size, some);
@@ -78,7 +82,8 @@ SpellsFront-first_item byte bytes =
       | inr past ↦ rw (first_item-literal (byte ∷ bytes) past) (SpellsFront-literal byte bytes past)
     ]
 
-pub SpellsFront-of : (bytes : List ℕ) (item : Item) → 0 < length bytes → item ≡ first_item bytes → SpellsFront bytes item
+pub SpellsFront-of : (bytes : List ℕ) (item : Item) → 0 < length bytes → item ≡ first_item bytes
+    → SpellsFront bytes item
 SpellsFront-of [] item some is = absurd (omega arith)
 SpellsFront-of (byte ∷ bytes) item some is = rw is (SpellsFront-first_item byte bytes)
 
@@ -119,7 +124,8 @@ length-after_first : (byte : ℕ) (bytes : List ℕ)
     → length (added_bytes (first_item (byte ∷ bytes))) + length (after_first (byte ∷ bytes)) ≡ length (byte ∷ bytes)
 length-after_first byte bytes =
     let item = first_item (byte ∷ bytes) in
-    sym (length-append (added_bytes item) (after_first (byte ∷ bytes))) ∙ ap length (SpellsFront-first_item byte bytes).front
+    sym (length-append (added_bytes item) (after_first (byte ∷ bytes)))
+    ∙ ap length (SpellsFront-first_item byte bytes).front
 
 -- what holds of each item in front of others holds of the whole
 module _ (P : List ℕ → Type 0) (none : P [])
@@ -129,7 +135,8 @@ module _ (P : List ℕ → Type 0) (none : P [])
   of_at_most zero (byte ∷ bytes) le = absurd (omega arith)
   of_at_most (suc k) (byte ∷ bytes) le =
       let less = length-after_first byte bytes in
-      step byte bytes (of_at_most k (after_first (byte ∷ bytes)) (omega (arith, (SpellsFront-first_item byte bytes).some)))
+      step byte bytes (of_at_most k (after_first (byte ∷ bytes))
+      (omega (arith, (SpellsFront-first_item byte bytes).some)))
 
   by_items : (bytes : List ℕ) → P bytes
   by_items bytes = of_at_most (length bytes) bytes (omega arith)
@@ -144,11 +151,13 @@ spelled-item byte bytes rest =
     let after = after_first (byte ∷ bytes) in
     let whole = Spelling-item (first_item (byte ∷ bytes)) (spelling_of after) after Record first.fits rest in
     subst (λ (b : List ℕ). Spelling b (byte ∷ bytes) Record) (sym (spelling_of-cons byte bytes))
-    (subst (λ (b : List ℕ). Spelling (item_bytes (first_item (byte ∷ bytes)) ++ spelling_of after) b Record) first.front whole)
+    (subst (λ (b : List ℕ). Spelling (item_bytes (first_item (byte ∷ bytes)) ++ spelling_of after) b Record) first.front
+    whole)
 
 pub Spelling-spelling_of : (bytes : List ℕ) → Spelling (spelling_of bytes) bytes Record
 Spelling-spelling_of =
-    by_items IsSpelled (subst (λ (b : List ℕ). Spelling b [] Record) (sym spelling_of-nil) (Spelling-end Record)) spelled-item
+    by_items IsSpelled (subst (λ (b : List ℕ). Spelling b [] Record) (sym spelling_of-nil) (Spelling-end Record))
+    spelled-item
 
 -- ---- how long it is
 
@@ -166,7 +175,8 @@ record IsBounded (bytes : List ℕ) : Type 0 where
   at_run : BeginsRunOrEnds bytes → 63 * length (spelling_of bytes) ≤ 64 * length bytes + 63
 
 bounded-none : IsBounded []
-bounded-none = let size = ap length spelling_of-nil in record { some = omega arith; most = omega arith; at_run = λ either. omega arith }
+bounded-none = let size = ap length spelling_of-nil in record
+    { some = omega arith; most = omega arith; at_run = λ either. omega arith }
 
 bounded-run : (byte : ℕ) (bytes : List ℕ) → begins_run (byte ∷ bytes) ≡ true → IsBounded (after_first (byte ∷ bytes))
     → IsBounded (byte ∷ bytes)
@@ -174,21 +184,24 @@ bounded-run byte bytes at rest =
     let n = run_of (byte ∷ bytes) in
     let item : first_item (byte ∷ bytes) ≡ run_item byte n = first_item-run (byte ∷ bytes) at in
     let saves : length (item_bytes (first_item (byte ∷ bytes))) < n = rw item (length-run_item byte n at) in
-    let spells : length (added_bytes (first_item (byte ∷ bytes))) ≡ n = rw (item, added-run_item byte n) (length-replicate n byte) in
+    let spells : length (added_bytes (first_item (byte ∷ bytes))) ≡ n =
+    rw (item, added-run_item byte n) (length-replicate n byte) in
     let size = length-cons byte bytes in
     let len = length-after_first byte bytes in
     let most : 63 * length (spelling_of (byte ∷ bytes)) ≤ 64 * length (byte ∷ bytes) + 63 = omega (arith, rest.most) in
     record { some = omega (arith, rest.some); most = omega arith; at_run = λ run. most }
 
 -- behind a literal of less than 63 bytes stands a run, or nothing
-behind_literal : (byte : ℕ) (bytes : List ℕ) → begins_run (byte ∷ bytes) ≡ false → length (before_run (byte ∷ bytes)) < 63
+behind_literal : (byte : ℕ) (bytes : List ℕ) → begins_run (byte ∷ bytes) ≡ false
+    → length (before_run (byte ∷ bytes)) < 63
     → BeginsRunOrEnds (after_first (byte ∷ bytes))
 behind_literal byte bytes past short =
     let before = before_run (byte ∷ bytes) in
     let whole : take 63 before ≡ before = take_all 63 before (omega arith) in
     rw (first_item-literal (byte ∷ bytes) past, whole) (stands_before (byte ∷ bytes)).ends
 
-bounded-literal : (byte : ℕ) (bytes : List ℕ) → begins_run (byte ∷ bytes) ≡ false → IsBounded (after_first (byte ∷ bytes))
+bounded-literal : (byte : ℕ) (bytes : List ℕ) → begins_run (byte ∷ bytes) ≡ false
+    → IsBounded (after_first (byte ∷ bytes))
     → IsBounded (byte ∷ bytes)
 bounded-literal byte bytes past rest =
     let before = before_run (byte ∷ bytes) in
@@ -205,7 +218,8 @@ bounded-literal byte bytes past rest =
         | inl short ↦ omega (arith, rest.at_run (behind_literal byte bytes past short))
         | inr full ↦ omega (arith, rest.most)
       ];
-      at_run = λ either. absurd (elim either [ inl none ↦ (cc) | inr at ↦ both_ways (begins_run (byte ∷ bytes)) past at ]);
+      at_run = λ either. absurd (elim either
+          [ inl none ↦ (cc) | inr at ↦ both_ways (begins_run (byte ∷ bytes)) past at ]);
     }
 
 bounded-item : (byte : ℕ) (bytes : List ℕ) → IsBounded (after_first (byte ∷ bytes)) → IsBounded (byte ∷ bytes)
@@ -230,8 +244,10 @@ length-spelling_of-record bytes le = omega (arith, length-spelling_of bytes)
 
 -- ---- as the code writes it: what is written so far, and then the spelling of the rest, is the whole
 
-pub spelling_of-step : (out rest whole : List ℕ) (item : Item) (after : List ℕ) → 0 < length rest → item ≡ first_item rest
-    → after ≡ drop (length (added_bytes item)) rest → out ++ spelling_of rest ≡ whole → (out ++ item_bytes item) ++ spelling_of after ≡ whole
+pub spelling_of-step : (out rest whole : List ℕ) (item : Item) (after : List ℕ) → 0 < length rest
+    → item ≡ first_item rest
+    → after ≡ drop (length (added_bytes item)) rest → out ++ spelling_of rest ≡ whole
+    → (out ++ item_bytes item) ++ spelling_of after ≡ whole
 spelling_of-step out [] whole item after some is left so_far = absurd (omega arith)
 spelling_of-step out (byte ∷ rest) whole item after some is left so_far =
     rw (left, is, append_assoc, ← spelling_of-cons byte rest) so_far
@@ -249,16 +265,19 @@ spelling_of-room out rest whole item most some is short so_far =
       length-append out (item_bytes item),
     )
 
-pub spelling_of-done : (out rest whole : List ℕ) → length rest ≡ 0 → out ++ spelling_of rest ≡ whole → out ++ 0 ∷ [] ≡ whole
+pub spelling_of-done : (out rest whole : List ℕ) → length rest ≡ 0 → out ++ spelling_of rest ≡ whole
+    → out ++ 0 ∷ [] ≡ whole
 spelling_of-done out [] whole done so_far = ap (λ (b : List ℕ). out ++ b) (sym spelling_of-nil) ∙ so_far
 spelling_of-done out (byte ∷ rest) whole done so_far = absurd (omega arith)
 
 -- the same, counted
 
 pub length-spelling_of-step : (rest : List ℕ) (item : Item) (after : List ℕ) → 0 < length rest → item ≡ first_item rest
-    → after ≡ drop (length (added_bytes item)) rest → length (item_bytes item) + length (spelling_of after) ≡ length (spelling_of rest)
+    → after ≡ drop (length (added_bytes item)) rest
+    → length (item_bytes item) + length (spelling_of after) ≡ length (spelling_of rest)
 length-spelling_of-step rest item after some is left =
-    sym (length-append (item_bytes item) (spelling_of after)) ∙ ap length (spelling_of-step [] rest (spelling_of rest) item after some is left refl)
+    sym (length-append (item_bytes item) (spelling_of after))
+    ∙ ap length (spelling_of-step [] rest (spelling_of rest) item after some is left refl)
 
 pub length-spelling_of-done : (rest : List ℕ) → length rest ≡ 0 → length (spelling_of rest) ≡ 1
 length-spelling_of-done rest done = sym (ap length (spelling_of-done [] rest (spelling_of rest) done refl))

@@ -1,4 +1,5 @@
-//! Laws of the definitions, which hold of every list of bytes. Each function does nothing: its contract is the law.
+//! Laws of the definitions, which hold of every list of bytes. Each function does nothing: its
+//! contract is the law.
 
 ghost use Rattle.std.specs.Prelude.{◌≡◌, ℕ, ◌+◌, ◌*◌, ◌<◌, ◌≤◌, List, [], ◌++◌, length, drop, Result};
 ghost use Rattle.njh_record.specs.Bytes.{AreBytes};
@@ -9,8 +10,9 @@ ghost use Rattle.njh_record.specs.Reading.{Unspells};
 ghost use Rattle.njh_record.specs.Unspelled.{Unspelled, Fault, ReadsAs, record_at_front};
 ghost use Rattle.njh_record.specs.Writing.{spelling_of};
 
-/// The function that reads gives what stands in the bytes, and nothing else stands there: a spelling at their front, or
-/// a bad string control byte behind whole items, or the front of a spelling alone.
+/// The function that reads gives what stands in the bytes, and nothing else stands there: a
+/// spelling at their front, or a bad string control byte behind whole items, or the front of a
+/// spelling alone.
 pub fn one_reading()
     ensures found { (bytes : List ℕ) → AreBytes bytes → ReadsAs bytes (record_at_front bytes) }
     ensures only { (bytes : List ℕ) (read : Result Unspelled Fault) →
@@ -55,7 +57,8 @@ pub fn reads_back()
         ≡ Ok (record { contents = contents; end = End.Record; rest = rest }) }
 {}
 
-/// A spelling has a byte at least, and at most a byte more for each 63 of the record, and two: 262 for a record of 256.
+/// A spelling has a byte at least, and at most a byte more for each 63 of the record, and two: 262
+/// for a record of 256.
 pub fn spelling_bounds()
     ensures some { (contents : List ℕ) → 0 < length (spelling_of contents) }
     ensures growth { (contents : List ℕ) →

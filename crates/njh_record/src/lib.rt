@@ -1,5 +1,5 @@
-//! Records of an NJE file: how a record is spelled by string control bytes (IBM SC23-0070, "Compression"), and what a
-//! file is made of.
+//! Records of an NJE file: how a record is spelled by string control bytes (IBM SC23-0070,
+//! "Compression"), and what a file is made of.
 #![tactic(auto)]
 
 mod bytes;

@@ -82,12 +82,13 @@ fn read_parts(bytes: &[u8], contents: &mut Record) -> Result<(usize, End), Recor
     }
 }
 
-/// Reads the record that is spelled at the front of some bytes (IBM SC23-0070, "Compression"): how many bytes its
-/// spelling takes, and how it ends.
+/// Reads the record that is spelled at the front of some bytes (IBM SC23-0070, "Compression"): how
+/// many bytes its spelling takes, and how it ends.
 ///
-/// `BadScb` and `Truncated` come at the first place from the left that has them. `TooLong` comes where the spelling is
-/// good and ends a record, of more than 256 bytes; a spelling that is given up is `Abort` whatever its length. After a
-/// fault or an abort `contents` is empty. Nothing else has this relation to the bytes: the law `one_answer`.
+/// `BadScb` and `Truncated` come at the first place from the left that has them. `TooLong` comes
+/// where the spelling is good and ends a record, of more than 256 bytes; a spelling that is given
+/// up is `Abort` whatever its length. After a fault or an abort `contents` is empty. Nothing else
+/// has this relation to the bytes: the law `one_answer`.
 pub fn unspell(bytes: &[u8], contents: &mut Record) -> Result<(usize, End), RecordFault>
     ensures { Unspells bytes.now result contents.new.items }
 {
@@ -99,8 +100,8 @@ pub fn unspell(bytes: &[u8], contents: &mut Record) -> Result<(usize, End), Reco
     answer
 }
 
-/// What follows the spelling at the front of some bytes, if one stands there. It is not put together, and may be of any
-/// length.
+/// What follows the spelling at the front of some bytes, if one stands there. It is not put
+/// together, and may be of any length.
 pub fn skip(bytes: &[u8]) -> Option<&[u8]>
     ensures { option_map (λ rest. rest.now) result ≡ behind (record_at_front bytes.now) }
 {

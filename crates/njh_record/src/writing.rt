@@ -58,7 +58,8 @@ fn same_len(bytes: &[u8], first: u8) -> usize
     }
 }
 
-/// Whether a run that is worth an item of its own begins the bytes: two blanks, or three equal bytes.
+/// Whether a run that is worth an item of its own begins the bytes: two blanks, or three equal
+/// bytes.
 fn begins_run(bytes: &[u8]) -> bool
     requires { 0 < length bytes.now }
     ensures { result ≡ begins_run bytes.now }
@@ -87,8 +88,8 @@ fn apart_len(bytes: &[u8]) -> usize
     }
 }
 
-/// How many bytes in front were looked at, none of which begins a run: at least the first, which is known to begin
-/// none.
+/// How many bytes in front were looked at, none of which begins a run: at least the first, which is
+/// known to begin none.
 fn passed_len(bytes: &[u8]) -> usize
     requires some { 0 < length bytes.now }
     requires first { begins_run bytes.now ≡ false }
@@ -167,9 +168,10 @@ fn first_item(bytes: &[u8]) -> Item<'_>
     }
 }
 
-/// Writes the one spelling of a record (IBM SC23-0070, "Compression") behind what `out` holds: at each place the run of
-/// equal bytes there, 31 at most, where it has 2 blanks or 3 other bytes at least, else a literal of 63 bytes at most
-/// that stops where such a run begins. Of a record of 256 bytes it takes 262 at most: the law `spelling_bounds`.
+/// Writes the one spelling of a record (IBM SC23-0070, "Compression") behind what `out` holds: at
+/// each place the run of equal bytes there, 31 at most, where it has 2 blanks or 3 other bytes at
+/// least, else a literal of 63 bytes at most that stops where such a run begins. Of a record of 256
+/// bytes it takes 262 at most: the law `spelling_bounds`.
 pub fn add_spelling<const N: usize>(contents: &[u8], out: &mut ArrayVec<u8, N>)
     requires { length out.old.items + length (spelling_of contents.now) ≤ N }
     ensures { out.new.items ≡ out.old.items ++ spelling_of contents.now }
@@ -184,7 +186,8 @@ pub fn add_spelling<const N: usize>(contents: &[u8], out: &mut ArrayVec<u8, N>)
     out.push(END_OF_RECORD);
 }
 
-/// How many bytes of the record the item spells that spells the front of some bytes, and how many it takes.
+/// How many bytes of the record the item spells that spells the front of some bytes, and how many
+/// it takes.
 fn first_lens(bytes: &[u8]) -> (usize, usize)
     requires { 0 < length bytes.now }
     ensures spells { result.0 ≡ length (added_bytes (first_item bytes.now)) }

@@ -75,11 +75,13 @@ files_from-more c k (n ∷ names) parts zero name within is at =
     ap (λ z. files_text z (files_at k parts)) is ∙ ap (λ z. files_text n (files_at z parts)) here
     ∙ sym (append-nil (files_text n (files_at c parts)))
 files_from-more c k (n ∷ names) parts (suc i) name within is at =
-    append_assoc (files_text n (files_at c parts)) (files_from (c + 1) (take i names) parts) (files_text name (files_at k parts))
+    append_assoc (files_text n (files_at c parts)) (files_from (c + 1) (take i names) parts)
+    (files_text name (files_at k parts))
     ∙ ap (λ text. files_text n (files_at c parts) ++ text)
     (files_from-more (c + 1) k names parts i name (omega (arith, within)) is (omega (arith, at)))
 
-pub files_from-split : (c : ℕ) (names : List (List ℕ)) (parts : List Part) (i : ℕ) → (rest : List ℕ) × (files_from c (take i names) parts ++ rest ≡ files_from c names parts)
+pub files_from-split : (c : ℕ) (names : List (List ℕ)) (parts : List Part) (i : ℕ)
+    → (rest : List ℕ) × (files_from c (take i names) parts ++ rest ≡ files_from c names parts)
 files_from-split c names parts zero = (files_from c names parts, refl)
 files_from-split c [] parts (suc i) = ([], refl)
 files_from-split c (n ∷ names) parts (suc i) =
@@ -100,25 +102,33 @@ files_from-same c (n ∷ names) parts others same =
 
 -- ---- frames, and then files
 
-module _ (names : List (List (List ℕ))) (parts after : List Part) (events : List Event) (shown : List (List ℕ)) (a b c : Option (List ℕ))
+module _ (names : List (List (List ℕ))) (parts after : List Part) (events : List Event) (shown : List (List ℕ))
+    (a b c : Option (List ℕ))
     (same : SameParts (hub_run parts events).parts after (length parts)) (few : length shown ≤ length parts) where
   files-after : files_from 0 shown after ≡ files_from 0 shown (hub_run parts events).parts
-  files-after = files_from-same 0 shown (hub_run parts events).parts after (λ k within. same k (omega (arith, within, few)))
+  files-after = files_from-same 0 shown (hub_run parts events).parts after
+      (λ k within. same k (omega (arith, within, few)))
 
   pub all_printed : Appends a b (frames_text names (hub_run parts events).sent) → Appends b c (files_from 0 shown after)
       → Appends a c (text_by names parts events shown)
   all_printed frames files =
-      Appends-trans a b c (frames_text names (hub_run parts events).sent) (files_from 0 shown (hub_run parts events).parts) frames
+      Appends-trans a b c (frames_text names (hub_run parts events).sent)
+      (files_from 0 shown (hub_run parts events).parts) frames
       (rw files-after at files)
 
-  pub files_begun : Appends a b (frames_text names (hub_run parts events).sent) → AppendsBeginning b c (files_from 0 shown after)
+  pub files_begun : Appends a b (frames_text names (hub_run parts events).sent)
+      → AppendsBeginning b c (files_from 0 shown after)
       → AppendsBeginning a c (text_by names parts events shown)
   files_begun frames files =
-      beginning-after a b c (frames_text names (hub_run parts events).sent) (files_from 0 shown after) [] (text_by names parts events shown)
-      frames files (ap (λ text. frames_text names (hub_run parts events).sent ++ text) (append-nil (files_from 0 shown after) ∙ files-after))
+      beginning-after a b c (frames_text names (hub_run parts events).sent) (files_from 0 shown after) []
+      (text_by names parts events shown)
+      frames files (ap (λ text. frames_text names (hub_run parts events).sent ++ text)
+      (append-nil (files_from 0 shown after) ∙ files-after))
 
-pub frames_begun : (names : List (List (List ℕ))) (parts : List Part) (events : List Event) (shown : List (List ℕ)) (a b : Option (List ℕ))
-    → AppendsBeginning a b (frames_text names (hub_run parts events).sent) → AppendsBeginning a b (text_by names parts events shown)
+pub frames_begun : (names : List (List (List ℕ))) (parts : List Part) (events : List Event) (shown : List (List ℕ))
+    (a b : Option (List ℕ))
+    → AppendsBeginning a b (frames_text names (hub_run parts events).sent)
+    → AppendsBeginning a b (text_by names parts events shown)
 frames_begun names parts events shown a b begun =
     let files = files_from 0 shown (hub_run parts events).parts in
     (begun.0, begun.1 ++ files, sym (append_assoc begun.0 begun.1 files) ∙ ap (λ text. text ++ files) begun.2, begun.3)

@@ -14,10 +14,12 @@ pub line_len_within : (text : List ℕ) → line_len text ≤ length text
 line_len_within text = prefix_len-le-length (λ b. not (b == 10)) text
 
 -- where a search for the end of a line found it, or all where it found none
-pub line_len_found : (text : List ℕ) (found : Option ℕ) → IsFirstByte (is_byte 10) text found → unwrap_or found (length text) ≡ line_len text
+pub line_len_found : (text : List ℕ) (found : Option ℕ) → IsFirstByte (is_byte 10) text found
+    → unwrap_or found (length text) ≡ line_len text
 line_len_found text None nowhere =
     sym (position_or_len_is (λ b. b == 10) text (length text) 0 (omega arith)
-    (λ k below. false_from_ne_true (get_or text k 0 == 10) (nowhere k (omega arith) below)) (λ past. absurd (omega arith)))
+    (λ k below. false_from_ne_true (get_or text k 0 == 10) (nowhere k (omega arith) below))
+    (λ past. absurd (omega arith)))
 line_len_found text (Some n) first =
     let before = first.0 in
     sym (position_or_len_is (λ b. b == 10) text n 0 (omega (arith, before.high))

@@ -27,14 +27,16 @@ is_blank b = eqb b 32
 is_hex_digit-blank : (b : ℕ) → b ≡ 32 → is_hex_digit b ≡ true → ⊥
 is_hex_digit-blank b e digit = let bad : is_hex_digit 32 ≡ true = rw e at digit in cc bad
 
-some_bytes-none : (read : Result (List ℕ) FromHexError) → ((bytes : List ℕ) → read ≡ Ok bytes → ⊥) → some_bytes read ≡ None
+some_bytes-none : (read : Result (List ℕ) FromHexError) → ((bytes : List ℕ) → read ≡ Ok bytes → ⊥)
+    → some_bytes read ≡ None
 some_bytes-none (Ok bytes) never = absurd (never bytes refl)
 some_bytes-none (Err e) never = refl
 
 piece_of-blank : (digits : List ℕ) → position_or_len is_blank digits < length digits → piece_of digits ≡ None
 piece_of-blank digits below =
     some_bytes-none (decode_of digits) (λ bytes read.
-    is_hex_digit-blank (get_or digits (position_or_len is_blank digits) 0) (eqb-true _ 32 (passes_at_first is_blank digits 0 below))
+    is_hex_digit-blank (get_or digits (position_or_len is_blank digits) 0)
+    (eqb-true _ 32 (passes_at_first is_blank digits 0 below))
     ((decode_of-ok digits bytes read).1 (position_or_len is_blank digits) 0 below))
 
 -- so digits with a blank tell no event, whatever the word and the name
@@ -42,10 +44,13 @@ test-none : (test : Bool) (piece : Option Event) → piece ≡ None → cond tes
 test-none true piece none = none
 test-none false piece none = refl
 
-bytes_on-blank : (word digits : List ℕ) (id : LineId) → position_or_len is_blank digits < length digits → bytes_on word digits id ≡ None
-bytes_on-blank word digits id below = test-none (bytes_eq word (codes "BYTES")) _ (rw (piece_of-blank digits below) refl)
+bytes_on-blank : (word digits : List ℕ) (id : LineId) → position_or_len is_blank digits < length digits
+    → bytes_on word digits id ≡ None
+bytes_on-blank word digits id below = test-none (bytes_eq word (codes "BYTES")) _
+    (rw (piece_of-blank digits below) refl)
 
-no_line : (found : Option LineId) (tell : LineId → Option Event) → ((id : LineId) → tell id ≡ None) → option_and_then tell found ≡ None
+no_line : (found : Option LineId) (tell : LineId → Option Event) → ((id : LineId) → tell id ≡ None)
+    → option_and_then tell found ≡ None
 no_line (Some line) tell none = none line
 no_line None tell none = refl
 
@@ -57,7 +62,8 @@ test-same false o none = none
 pub event_of_words-one : (tables : TableFile) (line : List ℕ) → IsSplitOnceResult 32 line None
     → event_of_words tables (words_of line) ≡ None
 event_of_words-one tables line whole =
-    ap (event_of_words tables) (parts-whole 32 line (lit< tt) whole) ∙ test-same (bytes_eq line (codes "ROUTES")) None refl
+    ap (event_of_words tables) (parts-whole 32 line (lit< tt) whole)
+    ∙ test-same (bytes_eq line (codes "ROUTES")) None refl
 
 -- `ROUTES` and other words
 pub event_of_words-routes : (tables : TableFile) (line : List ℕ) (word rest : Bor (List ℕ))
@@ -65,7 +71,8 @@ pub event_of_words-routes : (tables : TableFile) (line : List ℕ) (word rest : 
     → event_of_words tables (words_of line) ≡ event_of_routes tables (words_of rest.now)
 event_of_words-routes tables line word rest split same =
     ap (event_of_words tables) (parts-first 32 line word rest (lit< tt) split).0
-    ∙ ap (λ test. cond test (event_of_routes tables (words_of rest.now)) (event_on_line (line_named tables) (word.now ∷ words_of rest.now))) same
+    ∙ ap (λ test. cond test (event_of_routes tables (words_of rest.now))
+    (event_on_line (line_named tables) (word.now ∷ words_of rest.now))) same
 
 -- any other word
 pub event_of_words-other : (tables : TableFile) (line : List ℕ) (word rest : Bor (List ℕ))
@@ -73,7 +80,8 @@ pub event_of_words-other : (tables : TableFile) (line : List ℕ) (word rest : B
     → event_of_words tables (words_of line) ≡ event_on_line (line_named tables) (word.now ∷ words_of rest.now)
 event_of_words-other tables line word rest split other =
     ap (event_of_words tables) (parts-first 32 line word rest (lit< tt) split).0
-    ∙ ap (λ test. cond test (event_of_routes tables (words_of rest.now)) (event_on_line (line_named tables) (word.now ∷ words_of rest.now))) other
+    ∙ ap (λ test. cond test (event_of_routes tables (words_of rest.now))
+    (event_on_line (line_named tables) (word.now ∷ words_of rest.now))) other
 
 -- the event of a word and the name of a line
 pub event_on_line-two : (names : List ℕ → Option LineId) (word name : List ℕ) → IsSplitOnceResult 32 name None
@@ -90,19 +98,23 @@ digits_event names word name digits = by (cases_lt (position_or_len is_blank dig
   by (inl below) =
       let more = parts-some 32 (after_first is_blank digits) in
       ap (λ (words : List (List ℕ)). event_on_line names (word ∷ name ∷ words))
-      (slice_split_first is_blank digits 0 below ∙ ap (λ (words : List (List ℕ)). before_first is_blank digits ∷ words) more.2)
+      (slice_split_first is_blank digits 0 below ∙ ap (λ (words : List (List ℕ)). before_first is_blank digits ∷ words)
+      more.2)
       ∙ sym (no_line (names name) (bytes_on word digits) (λ line. bytes_on-blank word digits line below))
   by (inr past) = ap (λ (words : List (List ℕ)). event_on_line names (word ∷ name ∷ words)) (parts-none 32 digits past)
 
-pub event_on_line-three : (names : List ℕ → Option LineId) (word rest : List ℕ) (name digits : Bor (List ℕ)) (found : Option LineId)
+pub event_on_line-three : (names : List ℕ → Option LineId) (word rest : List ℕ) (name digits : Bor (List ℕ))
+    (found : Option LineId)
     → IsSplitOnceResult 32 rest (Some (name, digits)) → found ≡ names name.now
     → event_on_line names (word ∷ words_of rest) ≡ option_and_then (bytes_on word digits.now) found
 event_on_line-three names word rest name digits found split known =
-    ap (λ (words : List (List ℕ)). event_on_line names (word ∷ words)) (parts-first 32 rest name digits (lit< tt) split).0
+    ap (λ (words : List (List ℕ)). event_on_line names (word ∷ words))
+    (parts-first 32 rest name digits (lit< tt) split).0
     ∙ digits_event names word name.now digits.now ∙ ap (option_and_then (bytes_on word digits.now)) (sym known)
 
 -- an event on a line of the tables names what they have
-pub named_on : (tables : TableFile) (event : Event) (id : LineId) → HasLine tables id → line_of_event event ≡ Some id → IsNamedIn tables event
+pub named_on : (tables : TableFile) (event : Event) (id : LineId) → HasLine tables id → line_of_event event ≡ Some id
+    → IsNamedIn tables event
 named_on tables (Bytes at piece) id known on = subst (HasLine tables) (sym (cc on)) known
 named_on tables (Tick at) id known on = subst (HasLine tables) (sym (cc on)) known
 named_on tables (Garbled at) id known on = subst (HasLine tables) (sym (cc on)) known

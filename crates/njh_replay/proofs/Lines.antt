@@ -26,7 +26,8 @@ Reads-none tables lines = record { tell = refl; good = λ k d below. absurd (ome
 -- one line more
 pub Reads-more : (tables : TableFile) (lines : List (List ℕ)) (n : ℕ) (events more : List Event) (line : List ℕ)
     → Reads tables lines n events → n < length lines → line ≡ get_or lines n line
-    → can_stand tables line ≡ true → more ≡ cons_option (event_in tables line) [] → Reads tables lines (n + 1) (events ++ more)
+    → can_stand tables line ≡ true → more ≡ cons_option (event_in tables line) []
+    → Reads tables lines (n + 1) (events ++ more)
 Reads-more tables lines n events more line so_far within at good said = record {
   tell =
       let front : take (n + 1) lines ≡ take n lines ++ line ∷ [] = take_more lines n line within
@@ -43,7 +44,8 @@ Reads-more tables lines n events more line so_far within at good said = record {
 -- a bad line after good ones is the first
 first_bad-at : (tables : TableFile) (lines : List (List ℕ)) (n : ℕ) (d : List ℕ)
     → n ≤ length lines → ((k : ℕ) → k < n → can_stand tables (get_or lines k d) ≡ true)
-    → (n < length lines → can_stand tables (get_or lines n d) ≡ false) → position_or_len (λ line. not (can_stand tables line)) lines ≡ n
+    → (n < length lines → can_stand tables (get_or lines n d) ≡ false)
+    → position_or_len (λ line. not (can_stand tables line)) lines ≡ n
 first_bad-at tables lines n d within good bad =
     position_or_len_is (λ line. not (can_stand tables line)) lines n d within (λ k below. rw (good k below) refl)
     (λ below. rw (bad below) refl)
@@ -52,11 +54,13 @@ pub Reads-bad : (tables : TableFile) (lines : List (List ℕ)) (n : ℕ) (events
     → Reads tables lines n events → n < length lines → line ≡ get_or lines n line
     → can_stand tables line ≡ false → script_of_lines tables lines ≡ Err (n + 1)
 Reads-bad tables lines n events line so_far within at bad =
-    let place = first_bad-at tables lines n line (omega arith) (λ k below. so_far.good k line below) (λ below. rw (← at) bad) in
+    let place = first_bad-at tables lines n line (omega arith) (λ k below. so_far.good k line below)
+    (λ below. rw (← at) bad) in
     rw (place, lt-ltb n (length lines) within) refl
 
 pub Reads-all : (tables : TableFile) (lines : List (List ℕ)) (n : ℕ) (events : List Event)
     → Reads tables lines n events → n ≡ length lines → script_of_lines tables lines ≡ Ok events
 Reads-all tables lines n events so_far all =
-    let place = first_bad-at tables lines n [] (omega arith) (λ k below. so_far.good k [] below) (λ below. absurd (omega arith)) in
+    let place = first_bad-at tables lines n [] (omega arith) (λ k below. so_far.good k [] below)
+    (λ below. absurd (omega arith)) in
     rw (place, le-ltb n (length lines) (omega arith), so_far.tell, take_all n lines (omega arith)) refl

@@ -43,7 +43,8 @@ word_ascii =
 line_text : (name digits : List ℕ) → IsUtf8 name → IsAscii digits
     → IsUtf8 ((66 ∷ 89 ∷ 84 ∷ 69 ∷ 83 ∷ 32 ∷ []) ++ (name ++ (32 ∷ digits)))
 line_text name digits text ascii =
-    IsUtf8-append (66 ∷ 89 ∷ 84 ∷ 69 ∷ 83 ∷ 32 ∷ []) (name ++ (32 ∷ digits)) (IsUtf8-from_ascii (66 ∷ 89 ∷ 84 ∷ 69 ∷ 83 ∷ 32 ∷ []) word_ascii)
+    IsUtf8-append (66 ∷ 89 ∷ 84 ∷ 69 ∷ 83 ∷ 32 ∷ []) (name ++ (32 ∷ digits))
+    (IsUtf8-from_ascii (66 ∷ 89 ∷ 84 ∷ 69 ∷ 83 ∷ 32 ∷ []) word_ascii)
     (IsUtf8-append name (32 ∷ digits) text (IsUtf8-from_ascii (32 ∷ digits) (IsAscii-cons 32 digits (lit< tt) ascii)))
 
 -- the words of such a line
@@ -60,7 +61,8 @@ piece_event digits piece found read = ap (option_map (λ p. Bytes found p)) read
 
 -- a line that begins so, and goes on with digits
 pub plain_line : (tables : TableFile) (front digits : List ℕ) (found : LineId) (piece : List ℕ)
-    → IsStart tables front found → piece_of digits ≡ Some piece → script_event tables (front ++ digits) ≡ Some (Bytes found piece)
+    → IsStart tables front found → piece_of digits ≡ Some piece
+    → script_event tables (front ++ digits) ≡ Some (Bytes found piece)
 unfolding script_event
 plain_line tables front digits found piece start read =
     let name = start.name in

@@ -13,14 +13,17 @@ use Rattle.njh_replay.specs.code.PrintedLaws.{text_of-append}
 pub beginning-none : (known : Option (List ℕ)) (whole : List ℕ) → AppendsBeginning known known whole
 beginning-none known whole = ([], whole, refl, Appends-nil known)
 
-pub beginning-all : (old new : Option (List ℕ)) (whole : List ℕ) → Appends old new whole → AppendsBeginning old new whole
+pub beginning-all : (old new : Option (List ℕ)) (whole : List ℕ) → Appends old new whole
+    → AppendsBeginning old new whole
 beginning-all old new whole written = (whole, [], append-nil whole, written)
 
-pub beginning-kept : (a b c : Option (List ℕ)) (whole : List ℕ) → AppendsBeginning a b whole → Keeps b c → AppendsBeginning a c whole
+pub beginning-kept : (a b c : Option (List ℕ)) (whole : List ℕ) → AppendsBeginning a b whole → Keeps b c
+    → AppendsBeginning a c whole
 beginning-kept a b c whole begun kept = (begun.0, begun.1, begun.2, Appends-kept a b c begun.0 begun.3 kept)
 
 -- a text, and then a beginning of the next
-pub beginning-after : (a b c : Option (List ℕ)) (front text more whole : List ℕ) → Appends a b front → AppendsBeginning b c text
+pub beginning-after : (a b c : Option (List ℕ)) (front text more whole : List ℕ) → Appends a b front
+    → AppendsBeginning b c text
     → front ++ (text ++ more) ≡ whole → AppendsBeginning a c whole
 beginning-after a b c front text more whole written begun all =
     let begin = begun.0 in
@@ -40,13 +43,16 @@ pub beginning-part : (names later : List (List (List ℕ))) (a b c : Option (Lis
     → AppendsBeginning a c (frames_text names whole)
 beginning-part names later a b c front last more whole printed final begun all =
     let part : AppendsBeginning b c (pair_text names last) = rw printed.0 at begun.1 in
-    beginning-after a b c (frames_text names front) (pair_text names last) (frames_text names more) (frames_text names whole) printed.1 part
-    (sym (text_of-append names front (last ∷ more)) ∙ ap (frames_text names) (sym (append_assoc front (last ∷ []) more) ∙ all))
+    beginning-after a b c (frames_text names front) (pair_text names last) (frames_text names more)
+    (frames_text names whole) printed.1 part
+    (sym (text_of-append names front (last ∷ more))
+    ∙ ap (frames_text names) (sym (append_assoc front (last ∷ []) more) ∙ all))
 
 -- the parts of a frame's text
 pub frame-parts : (name frame : List ℕ) → name ++ (32 ∷ (encode_lower frame ++ 10 ∷ [])) ≡ frame_text name frame
 frame-parts name frame =
-    sym (append_assoc (name ++ 32 ∷ []) (encode_lower frame) (10 ∷ []) ∙ append_assoc name (32 ∷ []) (encode_lower frame ++ 10 ∷ []))
+    sym (append_assoc (name ++ 32 ∷ []) (encode_lower frame) (10 ∷ [])
+    ∙ append_assoc name (32 ∷ []) (encode_lower frame ++ 10 ∷ []))
 
 -- on Err alone
 pub on_err_of : {A E : Type 0} (r : Result A E) (P : Type 0) → P → OnErr r P

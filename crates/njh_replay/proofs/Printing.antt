@@ -8,7 +8,8 @@ use Rattle.njh_replay.proofs.PrintedParts.{beginning-after}
 use Rattle.hex.specs.Hex.{encode_with, encode_lower, lower_digits}
 
 -- hex goes byte by byte
-encode_with-append : (digits xs ys : List ℕ) → encode_with digits (xs ++ ys) ≡ encode_with digits xs ++ encode_with digits ys
+encode_with-append : (digits xs ys : List ℕ)
+    → encode_with digits (xs ++ ys) ≡ encode_with digits xs ++ encode_with digits ys
 unfolding encode_with
 encode_with-append digits [] ys = refl
 encode_with-append digits (b ∷ xs) ys = ap (λ (text : List ℕ). slice_index digits (b / 16) ∷ slice_index digits
@@ -23,13 +24,15 @@ encode_lower-nil = refl
 
 -- the hex of these bytes was written but for that of the rest
 abbrev pub IsWrittenBut : (rest bytes : List ℕ) (first last : Option (List ℕ)) → Type 0
-IsWrittenBut rest bytes first last = (text : List ℕ) × Appends first last text × (text ++ encode_lower rest ≡ encode_lower bytes)
+IsWrittenBut rest bytes first last = (text : List ℕ) × Appends first last text
+    × (text ++ encode_lower rest ≡ encode_lower bytes)
 
 pub IsWrittenBut-all : (bytes : List ℕ) (known : Option (List ℕ)) → IsWrittenBut bytes bytes known known
 IsWrittenBut-all bytes known = ([], Appends-nil known, refl)
 
 pub IsWrittenBut-more : (bytes rest piece after digits : List ℕ) (first then last : Option (List ℕ))
-    → IsWrittenBut rest bytes first then → rest ≡ piece ++ after → digits ≡ encode_lower piece → Appends then last digits
+    → IsWrittenBut rest bytes first then → rest ≡ piece ++ after → digits ≡ encode_lower piece
+    → Appends then last digits
     → IsWrittenBut after bytes first last
 IsWrittenBut-more bytes rest piece after digits first then last so_far cut spelled written =
     let front = append_assoc so_far.0 (encode_lower piece) (encode_lower after)
@@ -42,12 +45,14 @@ IsWrittenBut-more bytes rest piece after digits first then last so_far cut spell
 
 -- a piece was written in part
 pub IsWrittenBut-part : (bytes rest piece after digits : List ℕ) (first then last : Option (List ℕ))
-    → IsWrittenBut rest bytes first then → rest ≡ piece ++ after → digits ≡ encode_lower piece → AppendsBeginning then last digits
+    → IsWrittenBut rest bytes first then → rest ≡ piece ++ after → digits ≡ encode_lower piece
+    → AppendsBeginning then last digits
     → AppendsBeginning first last (encode_lower bytes)
 IsWrittenBut-part bytes rest piece after digits first then last so_far cut spelled begun =
     beginning-after first then last so_far.0 digits (encode_lower after) (encode_lower bytes) so_far.1 begun
     (ap (λ (text : List ℕ). so_far.0 ++ (text ++ encode_lower after)) spelled
-    ∙ ap (λ (text : List ℕ). so_far.0 ++ text) (sym (encode_lower-append piece after) ∙ ap encode_lower (sym cut)) ∙ so_far.2)
+    ∙ ap (λ (text : List ℕ). so_far.0 ++ text) (sym (encode_lower-append piece after) ∙ ap encode_lower (sym cut))
+    ∙ so_far.2)
 
 pub IsWrittenBut-none : (bytes rest : List ℕ) (first last : Option (List ℕ)) → IsWrittenBut rest bytes first last
     → rest ≡ [] → Appends first last (encode_lower bytes)

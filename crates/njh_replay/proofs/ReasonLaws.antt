@@ -6,7 +6,8 @@ use Rattle.std.specs.Result.{result_ok}
 use Rattle.std.specs.Str.{is_utf8}
 use Rattle.hex.specs.Hex.{decode_of}
 use Rattle.hex.specs.declared.error.FromHexError.{FromHexError}
-use Rattle.hex.specs.declared.error.FromHexError.TheVariants.{InvalidHexCharacter, OddLength, InvalidStringLength, OutOfMemory}
+use Rattle.hex.specs.declared.error.FromHexError.TheVariants.{InvalidHexCharacter, OddLength, InvalidStringLength}
+use Rattle.hex.specs.declared.error.FromHexError.TheVariants.{OutOfMemory}
 use Rattle.njh_ebcdic.specs.Reading.{name_of_text}
 use Rattle.njh_hub.specs.declared.event.Event.{Event}
 use Rattle.njh_hub.specs.declared.event.Event.TheVariants.{Bytes, Tick, Garbled, Lost, Routes}
@@ -16,9 +17,12 @@ use Rattle.njh_table.specs.declared.fault.TableFault.{TableFault}
 use Rattle.njh_table.specs.NewRoutes.{new_routes_of, routes_checked}
 use Rattle.njh_table.specs.TableFile.{TableFile, customer_at, entry_of, line_named}
 use Rattle.njh_replay.specs.Reasons.{Told, first_told, is_bytes, is_event, reason_behind, reason_of_bytes}
-use Rattle.njh_replay.specs.Reasons.{reason_of, reason_of_check, reason_of_given, reason_of_lines, reason_of_pair, reason_of_pairs}
-use Rattle.njh_replay.specs.Reasons.{reason_of_parts, reason_of_routes, reason_of_second, reason_of_words, reason_on_line}
-use Rattle.njh_replay.specs.Script.{bytes_on, event_of_words, event_on_line, piece_of, script_event, signal_of, some_bytes, words_of}
+use Rattle.njh_replay.specs.Reasons.{reason_of, reason_of_check, reason_of_given, reason_of_lines, reason_of_pair}
+use Rattle.njh_replay.specs.Reasons.{reason_of_pairs}
+use Rattle.njh_replay.specs.Reasons.{reason_of_parts, reason_of_routes, reason_of_second, reason_of_words}
+use Rattle.njh_replay.specs.Reasons.{reason_on_line}
+use Rattle.njh_replay.specs.Script.{bytes_on, event_of_words, event_on_line, piece_of, script_event, signal_of}
+use Rattle.njh_replay.specs.Script.{some_bytes, words_of}
 use Rattle.njh_replay.specs.ScriptRoutes.{customer_named, event_of_routes, parts_of_pair, route_of_pair, route_of_parts}
 use Rattle.njh_replay.specs.ScriptRoutes.{routes_for, routes_of_pairs, second_by}
 
@@ -43,7 +47,8 @@ takes_bytes false false true bytes a b c event none = absurd (cc none)
 takes_bytes false false false bytes a b c event none = event
 
 -- digits that spell nothing, by whether the word takes them
-no_digits : (bytes : Bool) (digits : List ℕ) (f : List ℕ → Event) → cond bytes (option_map f (piece_of digits)) None ≡ None
+no_digits : (bytes : Bool) (digits : List ℕ) (f : List ℕ → Event)
+    → cond bytes (option_map f (piece_of digits)) None ≡ None
     → (more : Told) → IsSome (cond bytes (reason_of_bytes (decode_of digits)) (Some more))
 no_digits true digits f none more = no_bytes (decode_of digits) (no_piece f (piece_of digits) none)
 no_digits false digits f none more = refl
@@ -53,19 +58,22 @@ some_where true t same = refl
 some_where false t same = absurd (cc same)
 
 -- the words behind the name of a line that there is
-behind : (names : List ℕ → Option LineId) (word name : List ℕ) (words : List (List ℕ)) (id : LineId) → is_event word ≡ true
+behind : (names : List ℕ → Option LineId) (word name : List ℕ) (words : List (List ℕ)) (id : LineId)
+    → is_event word ≡ true
     → names name ≡ Some id → event_on_line names (word ∷ name ∷ words) ≡ None → IsSome (reason_behind word words)
 behind names word name [] id event named none =
     let alone : signal_of word id ≡ None = rw named at none in
     some_where (is_bytes word) _
-    (takes_bytes (bytes_eq word (codes "TICK")) (bytes_eq word (codes "GARBLED")) (bytes_eq word (codes "LOST")) (is_bytes word)
+    (takes_bytes (bytes_eq word (codes "TICK")) (bytes_eq word (codes "GARBLED")) (bytes_eq word (codes "LOST"))
+    (is_bytes word)
     (Tick id) (Garbled id) (Lost id) event alone)
 behind names word name (digits ∷ []) id event named none =
     let with : bytes_on word digits id ≡ None = rw named at none in
     no_digits (is_bytes word) digits (λ piece. Bytes id piece) with _
 behind names word name (digits ∷ other ∷ words) id event named none = refl
 
-on_name : (found : Option LineId) (names : List ℕ → Option LineId) (word name : List ℕ) (words : List (List ℕ)) → names name ≡ found
+on_name : (found : Option LineId) (names : List ℕ → Option LineId) (word name : List ℕ) (words : List (List ℕ))
+    → names name ≡ found
     → is_event word ≡ true → event_on_line names (word ∷ name ∷ words) ≡ None
     → (t : Told) → IsSome (cond (is_some found) (reason_behind word words) (Some t))
 on_name None names word name words named event none t = refl
@@ -84,11 +92,13 @@ no_second : (tables : TableFile) (found : Option LineId) (second : List ℕ) →
 no_second tables None second named none t = refl
 no_second tables (Some id) second named none t = absurd (cc none)
 
-no_second_line : (tables : TableFile) (second : Option (List ℕ)) → second_by tables second ≡ None → IsSome (reason_of_second tables second)
+no_second_line : (tables : TableFile) (second : Option (List ℕ)) → second_by tables second ≡ None
+    → IsSome (reason_of_second tables second)
 no_second_line tables None none = absurd (cc none)
 no_second_line tables (Some second) none = no_second tables (line_named tables second) second refl none _
 
-no_lines : (tables : TableFile) (found : Option LineId) (second : Option (List ℕ)) (f : LineId → Option LineId → GivenRoute)
+no_lines : (tables : TableFile) (found : Option LineId) (second : Option (List ℕ))
+    (f : LineId → Option LineId → GivenRoute)
     → option_and_then (λ (l : LineId). option_map (λ (s : Option LineId). f l s) (second_by tables second)) found ≡ None
     → (t : Told) → IsSome (cond (is_some found) (reason_of_second tables second) (Some t))
 no_lines tables None second f none t = refl
@@ -98,7 +108,8 @@ no_lines tables (Some line) second f none t =
 no_node : {F : Type 0} (tables : TableFile) (node : Result (List ℕ) F) (line : List ℕ) (second : Option (List ℕ))
     (f : List ℕ → LineId → Option LineId → GivenRoute)
     → option_and_then (λ (n : List ℕ). option_and_then
-    (λ (l : LineId). option_map (λ (s : Option LineId). f n l s) (second_by tables second)) (line_named tables line)) (result_ok node) ≡ None
+    (λ (l : LineId). option_map (λ (s : Option LineId). f n l s) (second_by tables second)) (line_named tables line))
+    (result_ok node) ≡ None
     → (t : Told) → IsSome (elim node [ Ok name ↦ reason_of_lines tables line second | Err fault ↦ Some t ])
 no_node tables (Ok name) line second f none t = no_lines tables (line_named tables line) second (f name) none _
 no_node tables (Err fault) line second f none t = refl
@@ -107,7 +118,8 @@ no_pair : (tables : TableFile) (pair : List ℕ) (parts : List (List ℕ)) → r
     → IsSome (reason_of_parts tables pair parts)
 no_pair tables pair [] none = refl
 no_pair tables pair (node ∷ []) none = refl
-no_pair tables pair (node ∷ line ∷ []) none = no_node tables (name_of_text node) line None (λ n l s. record { node = n; line = l; second = s }) none _
+no_pair tables pair (node ∷ line ∷ []) none =
+    no_node tables (name_of_text node) line None (λ n l s. record { node = n; line = l; second = s }) none _
 no_pair tables pair (node ∷ line ∷ second ∷ []) none =
     no_node tables (name_of_text node) line (Some second) (λ n l s. record { node = n; line = l; second = s }) none _
 no_pair tables pair (node ∷ line ∷ second ∷ other ∷ parts) none = refl
@@ -120,21 +132,27 @@ second_is : (a b : Option Told) → IsSome b → IsSome (first_told a b)
 second_is (Some t) b some = refl
 second_is None b some = some
 
-no_first : (tables : TableFile) (pair : List ℕ) (pairs : List (List ℕ)) (found : Option GivenRoute) (more : Option (List GivenRoute))
+no_first : (tables : TableFile) (pair : List ℕ) (pairs : List (List ℕ)) (found : Option GivenRoute)
+    (more : Option (List GivenRoute))
     → route_of_pair tables pair ≡ found → (more ≡ None → IsSome (reason_of_pairs tables pairs))
-    → option_and_then (λ (route : GivenRoute). option_map (λ (routes : List GivenRoute). route ∷ routes) more) found ≡ None
+    → option_and_then (λ (route : GivenRoute). option_map (λ (routes : List GivenRoute). route ∷ routes) more) found
+    ≡ None
     → IsSome (first_told (reason_of_pair tables pair) (reason_of_pairs tables pairs))
 no_first tables pair pairs None more is later none =
     first_is (reason_of_pair tables pair) (reason_of_pairs tables pairs) (no_pair tables pair (parts_of_pair pair) is)
-no_first tables pair pairs (Some route) None is later none = second_is (reason_of_pair tables pair) (reason_of_pairs tables pairs) (later refl)
+no_first tables pair pairs (Some route) None is later none =
+    second_is (reason_of_pair tables pair) (reason_of_pairs tables pairs) (later refl)
 no_first tables pair pairs (Some route) (Some routes) is later none = absurd (cc none)
 
-no_pairs : (tables : TableFile) (pairs : List (List ℕ)) → routes_of_pairs tables pairs ≡ None → IsSome (reason_of_pairs tables pairs)
+no_pairs : (tables : TableFile) (pairs : List (List ℕ)) → routes_of_pairs tables pairs ≡ None
+    → IsSome (reason_of_pairs tables pairs)
 no_pairs tables [] none = absurd (cc none)
 no_pairs tables (pair ∷ pairs) none =
-    no_first tables pair pairs (route_of_pair tables pair) (routes_of_pairs tables pairs) refl (no_pairs tables pairs) none
+    no_first tables pair pairs (route_of_pair tables pair) (routes_of_pairs tables pairs) refl (no_pairs tables pairs)
+    none
 
-no_check : (checked : Result (Unit {0}) TableFault) (e : Event) → cond (is_ok checked) (Some e) None ≡ None → IsSome (reason_of_check checked)
+no_check : (checked : Result (Unit {0}) TableFault) (e : Event) → cond (is_ok checked) (Some e) None ≡ None
+    → IsSome (reason_of_check checked)
 no_check (Ok x) e none = absurd (cc none)
 no_check (Err fault) e none = refl
 
@@ -143,15 +161,22 @@ no_routes : (tables : TableFile) (pairs : List (List ℕ)) (customer : ℕ) (rou
     → IsSome (reason_of_given tables pairs customer routes)
 no_routes tables pairs customer None is none = no_pairs tables pairs is
 no_routes tables pairs customer (Some routes) is none =
-    no_check (routes_checked (entry_of (customer_at tables customer)) (new_routes_of customer routes)) (Routes customer routes) none
+    no_check (routes_checked (entry_of (customer_at tables customer)) (new_routes_of customer routes))
+    (Routes customer routes) none
 
 no_customer : (tables : TableFile) (pairs : List (List ℕ)) (found : Option ℕ) (t : Told)
     → option_and_then (λ (c : ℕ). option_and_then (routes_for tables c) (routes_of_pairs tables pairs)) found ≡ None
-    → IsSome (elim found [ None ↦ Some t | Some customer ↦ reason_of_given tables pairs customer (routes_of_pairs tables pairs) ])
+    → IsSome (elim found [
+      | None ↦ Some t
+      | Some customer ↦ reason_of_given tables pairs customer
+          (routes_of_pairs tables pairs)
+    ])
 no_customer tables pairs None t none = refl
-no_customer tables pairs (Some customer) t none = no_routes tables pairs customer (routes_of_pairs tables pairs) refl none
+no_customer tables pairs (Some customer) t none =
+    no_routes tables pairs customer (routes_of_pairs tables pairs) refl none
 
-on_routes : (tables : TableFile) (words : List (List ℕ)) → event_of_routes tables words ≡ None → IsSome (reason_of_routes tables words)
+on_routes : (tables : TableFile) (words : List (List ℕ)) → event_of_routes tables words ≡ None
+    → IsSome (reason_of_routes tables words)
 on_routes tables [] none = refl
 on_routes tables (name ∷ pairs) none = no_customer tables pairs (customer_named tables name) _ none
 
@@ -159,16 +184,20 @@ on_routes tables (name ∷ pairs) none = no_customer tables pairs (customer_name
 
 on_word : (tables : TableFile) (word : List ℕ) (words : List (List ℕ)) (routes event : Bool) → is_event word ≡ event
     → cond routes (event_of_routes tables words) (event_on_line (line_named tables) (word ∷ words)) ≡ None
-    → (t : Told) → IsSome (cond routes (reason_of_routes tables words) (cond event (reason_on_line tables word words) (Some t)))
+    → (t : Told) → IsSome (cond routes (reason_of_routes tables words)
+    (cond event (reason_on_line tables word words) (Some t)))
 on_word tables word words true event is none t = on_routes tables words none
 on_word tables word words false true is none t = on_line tables word words is none
 on_word tables word words false false is none t = refl
 
-on_words : (tables : TableFile) (words : List (List ℕ)) → event_of_words tables words ≡ None → IsSome (reason_of_words tables words)
+on_words : (tables : TableFile) (words : List (List ℕ)) → event_of_words tables words ≡ None
+    → IsSome (reason_of_words tables words)
 on_words tables [] none = refl
-on_words tables (word ∷ words) none = on_word tables word words (bytes_eq word (codes "ROUTES")) (is_event word) refl none _
+on_words tables (word ∷ words) none = on_word tables word words (bytes_eq word (codes "ROUTES")) (is_event word) refl
+    none _
 
-on_text : (tables : TableFile) (words : List (List ℕ)) (text : Bool) → cond text (event_of_words tables words) None ≡ None
+on_text : (tables : TableFile) (words : List (List ℕ)) (text : Bool)
+    → cond text (event_of_words tables words) None ≡ None
     → (t : Told) → IsSome (cond text (reason_of_words tables words) (Some t))
 on_text tables words true none t = on_words tables words none
 on_text tables words false none t = refl

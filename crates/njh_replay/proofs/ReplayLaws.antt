@@ -31,13 +31,15 @@ use Rattle.njh_replay.specs.code.PrintedLaws.{text_of-append}
 use Rattle.njh_replay.specs.Replayed.{fault_after, IsRefusal, IsSentUpTo, MayEnd, MayStop}
 use Rattle.njh_replay.specs.ScriptRoutes.{IsNamedIn}
 
-get_or-map_default : {X Y : Type 0} (f : X → Y) (xs : List X) (k : ℕ) (d : X) → get_or (map f xs) k (f d) ≡ f (get_or xs k d)
+get_or-map_default : {X Y : Type 0} (f : X → Y) (xs : List X) (k : ℕ) (d : X)
+    → get_or (map f xs) k (f d) ≡ f (get_or xs k d)
 get_or-map_default f [] k d = refl
 get_or-map_default f (x ∷ xs) zero d = refl
 get_or-map_default f (x ∷ xs) (suc k) d = get_or-map_default f xs k d
 
 -- a customer's part is that of its entry
-opened_part : (t : TableFile) (c : ℕ) → hub.part c (map part_at_open (entries_of t)) ≡ part_at_open (entry_of (customer_at t c))
+opened_part : (t : TableFile) (c : ℕ) → hub.part c (map part_at_open (entries_of t)) ≡ part_at_open
+    (entry_of (customer_at t c))
 opened_part t c = get_or-map_default part_at_open (entries_of t) c hub.no_entry
     ∙ ap part_at_open (get_or-map_default entry_of t.customers c no_customer)
 
@@ -45,7 +47,8 @@ opened_part t c = get_or-map_default part_at_open (entries_of t) c hub.no_entry
 opened_line : (t : TableFile) (id : LineId) → HasLine t id → hub.HasLine (map part_at_open (entries_of t)) id
 opened_line t id known =
     let e = entry_of (customer_at t id.customer) in
-    let here : length (hub.part id.customer (map part_at_open (entries_of t))).customer.lines ≡ length (part_at_open e).customer.lines =
+    let here : length (hub.part id.customer (map part_at_open (entries_of t))).customer.lines
+    ≡ length (part_at_open e).customer.lines =
     ap (λ (p : Part). length p.customer.lines) (opened_part t id.customer) in
     let states : length (part_at_open e).customer.lines ≡ length e.lines = length-map e.lines _ in
     let entries : length e.lines ≡ length (customer_at t id.customer).lines =
@@ -62,7 +65,8 @@ opened_named t (Routes c routes) named =
     let parts : length (map part_at_open (entries_of t)) ≡ length t.customers =
     length-map (entries_of t) part_at_open ∙ length-map t.customers entry_of in
     let within : c < length (map part_at_open (entries_of t)) = omega (arith, named.0, parts) in
-    let entry : (hub.part c (map part_at_open (entries_of t))).customer.entry ≡ entry_unmarked (entry_of (customer_at t c)) =
+    let entry : (hub.part c (map part_at_open (entries_of t))).customer.entry ≡ entry_unmarked
+    (entry_of (customer_at t c)) =
     ap (λ (p : Part). p.customer.entry) (opened_part t c) in
     (within, ap (λ (e : CustomerEntry). routes_checked e (new_routes_of c routes)) entry ∙ named.1)
 
@@ -92,7 +96,8 @@ not_foreign parts (Garbled id) named refused = refused
 not_foreign parts (Lost id) named refused = refused
 not_foreign parts (Routes c routes) named refused = refused named.0
 
-not_bad : (parts : List Part) (event : Event) (fault : TableFault) → hub.IsNamed parts event → IsRefused parts event (BadRoutes fault) → ⊥
+not_bad : (parts : List Part) (event : Event) (fault : TableFault) → hub.IsNamed parts event
+    → IsRefused parts event (BadRoutes fault) → ⊥
 not_bad parts (Bytes id piece) fault named refused = refused
 not_bad parts (Tick id) fault named refused = refused
 not_bad parts (Garbled id) fault named refused = refused
@@ -109,19 +114,23 @@ module _ (parts : List Part) (events : List Event) (k : ℕ) (named : All (hub.I
   never why not refused =
       IsSomeAnd-never (slice_get events k) (λ event. IsRefused parts event why) (λ event at is.
       let there : hub.IsNamed parts event =
-      subst (hub.IsNamed parts) (get_or_from_slice_get events k event event at) (named k event (slice_get_within events k event at)) in
+      subst (hub.IsNamed parts) (get_or_from_slice_get events k event event at)
+      (named k event (slice_get_within events k event at)) in
       not event there is) refused
 
   -- what is left that stops a run of such events
-  MayEnd-stopped : (why : Cause) → IfHub why (λ why. IsSomeAnd (slice_get events k) (λ event. IsRefused parts event why))
+  MayEnd-stopped : (why : Cause) → IfHub why
+      (λ why. IsSomeAnd (slice_get events k) (λ event. IsRefused parts event why))
       → MayEnd (fault_after why)
   MayEnd-stopped (cause.Hub UnknownLine) refused = absurd (never UnknownLine (not_unknown parts) refused)
   MayEnd-stopped (cause.Hub UnknownCustomer) refused = absurd (never UnknownCustomer (not_foreign parts) refused)
   MayEnd-stopped (cause.Hub Memory) refused = refl
-  MayEnd-stopped (cause.Hub (BadRoutes fault)) refused = absurd (never (BadRoutes fault) (λ event. not_bad parts event fault) refused)
+  MayEnd-stopped (cause.Hub (BadRoutes fault)) refused =
+      absurd (never (BadRoutes fault) (λ event. not_bad parts event fault) refused)
   MayEnd-stopped cause.Sink refused = tt
 
-  pub MayStop-stopped : (why : Cause) → IfHub why (λ why. IsSomeAnd (slice_get events k) (λ event. IsRefused parts event why))
+  pub MayStop-stopped : (why : Cause) → IfHub why
+      (λ why. IsSomeAnd (slice_get events k) (λ event. IsRefused parts event why))
       → MayStop (fault_after why)
   MayStop-stopped why refused = (MayEnd-stopped why refused, no_refusal why)
 
@@ -140,15 +149,18 @@ all_silent parts (event ∷ events) all =
     ap (λ sent. sent ++ later.sent) (routes_silent parts event (all 0 event (omega arith)))
     ∙ all_silent (hub.hub_event parts event).parts events (λ k d within. all (suc k) d (omega (arith, within)))
 
--- A run that stopped printed a beginning of the text of all frames: the frames of what happened, or all but the last and that in part.
-pub stopped_begun : {S : Type 0} (took : S → S → List (LineId × List ℕ) → Type 0) (refused : S → S → LineId × List ℕ → Type 0) (why : Cause)
+-- A run that stopped printed a beginning of the text of all frames: the frames of what happened, or all but the last
+-- and that in part.
+pub stopped_begun : {S : Type 0} (took : S → S → List (LineId × List ℕ) → Type 0)
+    (refused : S → S → LineId × List ℕ → Type 0) (why : Cause)
     (before after : S) (sent whole : List (LineId × List ℕ)) (P : Type 0)
     → HandedUntil took refused why before after sent → Begins sent whole
     → ((front more : List (LineId × List ℕ)) → took before after front → front ++ more ≡ whole → P)
     → ((front : List (LineId × List ℕ)) (last : LineId × List ℕ) (between : S) (more : List (LineId × List ℕ))
     → took before between front → refused between after last
     → (front ++ last ∷ []) ++ more ≡ whole → P) → P
-stopped_begun took refused (cause.Hub fault) before after sent whole P handed begins all part = all sent begins.0 handed begins.1
+stopped_begun took refused (cause.Hub fault) before after sent whole P handed begins all part =
+    all sent begins.0 handed begins.1
 stopped_begun took refused cause.Sink before after sent whole P handed begins all part =
     part handed.front handed.last handed.between begins.0 handed.took_front handed.refused_last
     (ap (λ (s : List (LineId × List ℕ)). s ++ begins.0) (sym handed.are) ∙ begins.1)
@@ -156,12 +168,19 @@ stopped_begun took refused cause.Sink before after sent whole P handed begins al
 pub printed_begins : (names later : List (List (List ℕ))) (a b : Option (List ℕ))
     (front more whole : List (LineId × List ℕ)) → IsPrinted names later a b front
     → front ++ more ≡ whole → AppendsBeginning a b (frames_text names whole)
-printed_begins names later a b front more whole printed all =
-    (frames_text names front, frames_text names more, sym (text_of-append names front more) ∙ ap (frames_text names) all, printed.1)
+printed_begins names later a b front more whole printed all = (
+  frames_text names front,
+  frames_text names more,
+  sym (text_of-append names front more)
+      ∙ ap (frames_text names) all,
+  printed.1,
+)
 
 -- where memory ran out, the frames of all that had happened were printed
-pub stopped_whole : {S : Type 0} (took : S → S → List (LineId × List ℕ) → Type 0) (refused : S → S → LineId × List ℕ → Type 0) (why : Cause)
-    (before after : S) (sent : List (LineId × List ℕ)) → HandedUntil took refused why before after sent → fault_after why ≡ Hub Memory
+pub stopped_whole : {S : Type 0} (took : S → S → List (LineId × List ℕ) → Type 0)
+    (refused : S → S → LineId × List ℕ → Type 0) (why : Cause)
+    (before after : S) (sent : List (LineId × List ℕ)) → HandedUntil took refused why before after sent
+    → fault_after why ≡ Hub Memory
     → (why ≡ cause.Hub Memory) × took before after sent
 stopped_whole took refused (cause.Hub fault) before after sent handed memory =
     let is_memory : fault ≡ Memory = cc memory in
@@ -174,11 +193,14 @@ Keeps-none (Some x) None written = absurd written
 Keeps-none (Some x) (Some y) written = written ∙ append-nil x
 
 -- A run that ran out of memory did so at an event that gives routes, or behind such events alone, which send nothing.
-pub stopped_at_routes : (names : List (List (List ℕ))) (parts : List Part) (events : List Event) (k n : ℕ) (a b : Option (List ℕ)) → n ≡ 0
+pub stopped_at_routes : (names : List (List (List ℕ))) (parts : List Part) (events : List Event) (k n : ℕ)
+    (a b : Option (List ℕ)) → n ≡ 0
     → (IsSomeAnd (slice_get events k) IsRoutes ⊎ All IsRoutes (take k events))
-    → Appends a b (frames_text names (hub.hub_run parts (first_events events k n)).sent) → Keeps a b ⊎ IsSentUpTo names parts events a b
+    → Appends a b (frames_text names (hub.hub_run parts (first_events events k n)).sent)
+    → Keeps a b ⊎ IsSentUpTo names parts events a b
 stopped_at_routes names parts events k n a b none which printed =
-    let whole : first_events events k n ≡ take k events = ap (λ (m : ℕ). first_events events k m) none ∙ append-nil (take k events) in
+    let whole : first_events events k n ≡ take k events =
+    ap (λ (m : ℕ). first_events events k m) none ∙ append-nil (take k events) in
     let sent : Appends a b (frames_text names (hub.hub_run parts (take k events)).sent) =
     subst (λ (es : List Event). Appends a b (frames_text names (hub.hub_run parts es).sent)) whole printed in
     elim which [
@@ -189,8 +211,10 @@ stopped_at_routes names parts events k n a b none which printed =
     ]
 
 -- it has as many customers as its tables
-pub opened_customers : (t : TableFile) (parts : List Part) (customers : List (List ℕ)) → parts ≡ map part_at_open (entries_of t)
+pub opened_customers : (t : TableFile) (parts : List Part) (customers : List (List ℕ))
+    → parts ≡ map part_at_open (entries_of t)
     → customers ≡ customers_of t → length customers ≡ length parts
 opened_customers t parts customers fresh called =
     ap (λ (xs : List (List ℕ)). length xs) called ∙ length-map t.customers (λ (c : NamedCustomer). c.name)
-    ∙ sym (ap (λ (ps : List Part). length ps) fresh ∙ length-map (entries_of t) part_at_open ∙ length-map t.customers entry_of)
+    ∙ sym (ap (λ (ps : List Part). length ps) fresh ∙ length-map (entries_of t) part_at_open
+    ∙ length-map t.customers entry_of)

@@ -17,8 +17,9 @@ use njh_table::Tables;
 use std::alloc::{AllocError, Global};
 use std::io::Write;
 
-/// Writes one line of a script: how many events it has where it is right; or the number of its first bad line, and the
-/// first thing that is wrong with that, from its left to its right; or that it is too long. Says whether it is right.
+/// Writes one line of a script: how many events it has where it is right; or the number of its
+/// first bad line, and the first thing that is wrong with that, from its left to its right; or that
+/// it is too long. Says whether it is right.
 pub fn check_script<W: Write>(
     alloc: Global,
     tables: &Tables,

@@ -12,9 +12,9 @@ use thiserror::Error;
 
 /// Why a script wasn't replayed to its end.
 ///
-/// `TooLong` comes before `Script`, and nothing was written then. After `Device` a beginning of the whole output was
-/// written, or nothing. Where memory ran out, nothing was written, or the frames of all events before one that gives
-/// routes.
+/// `TooLong` comes before `Script`, and nothing was written then. After `Device` a beginning of the
+/// whole output was written, or nothing. Where memory ran out, nothing was written, or the frames
+/// of all events before one that gives routes.
 #[derive(Clone, Copy, Debug, PartialEq, Eq, Error)]
 pub enum ReplayFault {
     /// The script has more bytes than its limit.

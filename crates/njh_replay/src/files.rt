@@ -16,8 +16,8 @@ use njh_table::Tables;
 use std::alloc::{AllocError, Global};
 use std::io::Write;
 
-/// Room for a file's line: at most 8 bytes of its customer's name, a blank, at most 148 of what is said of it, and the
-/// line's end.
+/// Room for a file's line: at most 8 bytes of its customer's name, a blank, at most 148 of what is
+/// said of it, and the line's end.
 type FileLine = ArrayVec<u8, 158>;
 
 /// The names of the customers, in their order. Out of memory is the only refusal.
@@ -32,8 +32,8 @@ pub fn customer_names(alloc: Global, tables: &Tables) -> Result<Vec<Name>, Alloc
     Ok(names)
 }
 
-/// Prints the files of each customer, in the customers' order and then in order of arrival. It copies no record and
-/// takes no memory. After a fault a beginning of them was printed.
+/// Prints the files of each customer, in the customers' order and then in order of arrival. It
+/// copies no record and takes no memory. After a fault a beginning of them was printed.
 pub fn print_files<W: Write>(hub: &Hub, customers: &[Name], out: &mut W) -> Result<(), WriteFault>
     requires all { length customers.now ≡ length hub.now }
     requires few { length customers.now ≤ 64 }

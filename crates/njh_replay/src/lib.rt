@@ -1,5 +1,5 @@
-//! Replays a script of events through a hub, and prints the frames that the hub sends and then the files that it holds.
-//! Or it says of a script why its first bad line is one.
+//! Replays a script of events through a hub, and prints the frames that the hub sends and then the
+//! files that it holds. Or it says of a script why its first bad line is one.
 #![tactic(auto)]
 
 mod check_words;

@@ -15,7 +15,8 @@ use njh_hub::{Event, Piece, SHORT_PIECE};
 use njh_table::{LineId, Tables};
 use std::alloc::{AllocError, Global};
 
-/// The event of a line, if it has one; it names what the tables have. Out of memory is the only refusal.
+/// The event of a line, if it has one; it names what the tables have. Out of memory is the only
+/// refusal.
 #[tactic(auto, unfolding(crate::specs::Script::script_event))]
 pub fn event_of(
     alloc: Global,
@@ -83,7 +84,8 @@ fn event_of_text(alloc: Global, tables: &Tables, line: &str) -> Result<Option<Ev
     event_on_line(alloc, tables, word, rest)
 }
 
-/// The event of a word and what stands behind it: the name of a line, and digits where it is `BYTES`.
+/// The event of a word and what stands behind it: the name of a line, and digits where it is
+/// `BYTES`.
 #[tactic(auto, using(crate::proofs::LineForms::named_on))]
 fn event_on_line(
     alloc: Global,

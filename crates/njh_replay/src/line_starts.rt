@@ -6,7 +6,8 @@ ghost use Rattle.njh_replay.specs.code.LineStarts.{Begins, IsStart};
 use memchr::memchr;
 use njh_table::{LineId, Tables};
 
-/// What the lines of `BYTES` for a line of the hub begin with: the word, a blank, the name and a blank.
+/// What the lines of `BYTES` for a line of the hub begin with: the word, a blank, the name and a
+/// blank.
 #[derive(Clone, Copy)]
 pub struct Start<'a> {
     /// Those bytes.
@@ -15,7 +16,8 @@ pub struct Start<'a> {
     pub line: LineId,
 }
 
-/// What a line of a script begins with. It is looked up only where that isn't what the line before began with.
+/// What a line of a script begins with. It is looked up only where that isn't what the line before
+/// began with.
 pub fn start_of<'a>(tables: &Tables, line: &'a [u8], before: Option<Start<'a>>) -> Option<Start<'a>>
     requires { IfSome before (λ start. IsStart tables.now start.front.now start.line) }
     ensures start { IfSome result (λ start. IsStart tables.now start.front.now start.line) }

@@ -11,7 +11,8 @@ use njh_hub::{Sink, SinkFault};
 use njh_table::LineId;
 use std::io::Write;
 
-/// Prints each frame that a run sends, with the name of its line. It counts the frames that it couldn't print.
+/// Prints each frame that a run sends, with the name of its line. It counts the frames that it
+/// couldn't print.
 #[derive(Drop)]
 pub struct Printer<'a, W> {
     /// Where it prints.

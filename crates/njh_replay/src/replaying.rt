@@ -25,27 +25,30 @@ use njh_table::Tables;
 use std::alloc::Global;
 use std::io::{Read, Write};
 
-/// Reads a whole script and checks it, then runs its events through a hub of these tables, and prints the frames that
-/// the hub sends and then the files that it holds.
+/// Reads a whole script and checks it, then runs its events through a hub of these tables, and
+/// prints the frames that the hub sends and then the files that it holds.
 pub fn replay<R: Read, W: Write>(
     alloc: Global,
     tables: Tables,
     script: &mut R,
     out: &mut W,
 ) -> Result<(), ReplayFault>
-    // What is written is the text of the frames that a hub of these tables sends over the events of the script, which
-    // is good from its first line to its last, and then of the files that each customer has.
+    // What is written is the text of the frames that a hub of these tables sends over the events of
+    // the script, which is good from its first line to its last, and then of the files that each
+    // customer has.
     ensures replayed { OnOk result (IsReplayed tables (R.remaining script.old) (W.contents out.old)
         (W.contents out.new)) }
 
-    // It is refused where it is too long, or else at its first bad line, and then nothing is written.
+    // It is refused where it is too long, or else at its first bad line, and then nothing is
+    // written.
     ensures long { result ≡ Err ReplayFault.TooLong → HasTooLong (R.remaining script.old) }
     ensures bad { (number : ℕ) → result ≡ Err (ReplayFault.Script number) →
         HasBadLine tables (R.remaining script.old) number }
     ensures silent { IfErr result (λ fault. IsRefusal fault → out.new ≡ out.old) }
 
-    // Else a device failed, and a beginning of that text is written, or nothing; or memory ran out: before anything was
-    // written, or at an event that gives routes, with the frames of those before it written.
+    // Else a device failed, and a beginning of that text is written, or nothing; or memory ran out:
+    // before anything was written, or at an event that gives routes, with the frames of those
+    // before it written.
     ensures faults { IfErr result MayEnd }
     ensures begun { OnErr result (Keeps (W.contents out.old) (W.contents out.new)
         ⊎ IsBegun tables (R.remaining script.old) (W.contents out.old) (W.contents out.new)) }
@@ -56,7 +59,8 @@ pub fn replay<R: Read, W: Write>(
     print_events(alloc, tables, &events, out)
 }
 
-/// Runs events through a hub of these tables, and prints each frame that it sends and then each file that it holds.
+/// Runs events through a hub of these tables, and prints each frame that it sends and then each
+/// file that it holds.
 fn print_events<W: Write>(
     alloc: Global,
     tables: Tables,
@@ -101,8 +105,8 @@ fn print_all<W: Write>(
     }
 }
 
-/// Runs events through a hub, and prints each frame that it sends. A frame that couldn't be printed is counted, and
-/// that alone is `Device`.
+/// Runs events through a hub, and prints each frame that it sends. A frame that couldn't be printed
+/// is counted, and that alone is `Device`.
 fn print_run<W: Write>(
     hub: &mut Hub,
     events: &[Event],

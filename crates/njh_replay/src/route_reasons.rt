@@ -13,7 +13,8 @@ use njh_ebcdic::Name;
 use njh_table::Tables;
 use std::alloc::{AllocError, Global};
 
-/// What is wrong with what stands behind `ROUTES`, if anything is. Out of memory is the only refusal.
+/// What is wrong with what stands behind `ROUTES`, if anything is. Out of memory is the only
+/// refusal.
 pub(crate) fn reason_of_routes<'a>(
     alloc: Global,
     tables: &Tables,

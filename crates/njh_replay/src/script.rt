@@ -17,8 +17,8 @@ use std::alloc::{AllocError, Global};
 /// How many bytes a script has at most.
 pub const MAX_SCRIPT_BYTES: usize = 1_048_576;
 
-/// The events of a script, all of which name what the tables have, or the number of its first bad line, counted from 1.
-/// The only other refusal is out of memory.
+/// The events of a script, all of which name what the tables have, or the number of its first bad
+/// line, counted from 1. The only other refusal is out of memory.
 pub fn events_of(alloc: Global, tables: &Tables, text: &[u8]) -> Result<Vec<Event>, ReplayFault>
     requires { length text.now ≤ max_script_bytes }
     ensures events { IfOk result (λ events. script_of tables.now text.now ≡ Ok events.items) }
@@ -45,7 +45,8 @@ pub fn events_of(alloc: Global, tables: &Tables, text: &[u8]) -> Result<Vec<Even
     }
 }
 
-/// Adds the event of a line that isn't skipped. Says whether the line may stand in a script; if not, nothing was added.
+/// Adds the event of a line that isn't skipped. Says whether the line may stand in a script; if
+/// not, nothing was added.
 #[tactic(auto, unfolding(crate::specs::Script::can_stand, crate::specs::Script::event_in))]
 fn add_event(
     alloc: Global,

@@ -13,8 +13,8 @@ use njh_hub::{Event, GivenRoutes};
 use njh_table::{GivenRoute, LineId, NamedCustomer, Tables};
 use std::alloc::{AllocError, Global};
 
-/// The event of the words behind `ROUTES`, if they have one: a customer's name and then a pair for each route, which
-/// the customer may have all together. Out of memory is the only refusal.
+/// The event of the words behind `ROUTES`, if they have one: a customer's name and then a pair for
+/// each route, which the customer may have all together. Out of memory is the only refusal.
 pub fn event_of_routes(
     alloc: Global,
     tables: &Tables,
@@ -98,8 +98,8 @@ pub(crate) fn routes_of_pairs(
     Ok(Some(routes))
 }
 
-/// The route of a pair: a node, a colon and the name of a line, and another colon and the name of a second line where
-/// it has one.
+/// The route of a pair: a node, a colon and the name of a line, and another colon and the name of a
+/// second line where it has one.
 fn route_of_pair(tables: &Tables, pair: &str) -> Option<GivenRoute>
     ensures { result ≡ route_of_pair tables.now pair.now }
 {

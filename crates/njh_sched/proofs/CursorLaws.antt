@@ -131,7 +131,8 @@ from_first entry id spools range = record { range = range; passed = none_passed 
     goes : WholeFile → Bool
     goes = goes_of (first_file entry id)
 
-    none_passed : (kind : Kind) → HasPassed goes kind (index_of kind (first_file entry id)) (spool_at id.customer spools)
+    none_passed : (kind : Kind) → HasPassed goes kind (index_of kind (first_file entry id))
+        (spool_at id.customer spools)
     none_passed In = record {
       within = omega arith;
       none = none_of_none (may_go goes In) (spool_at id.customer spools).whole;
@@ -205,7 +206,8 @@ module _ (x y : FileCursor) (line : y ≡ record x { sysin = y.sysin; sysout = y
     module _ (f : FileSummary) (seen : option_map summary (slice_get (spool_at c spools).whole i) ≡ Some f) where
       seen_there : option_map summary (slice_get (files_of y spools).whole i) ≡ Some f
       seen_there =
-          subst (λ (m : ℕ). option_map summary (slice_get (spool_at m spools).whole i) ≡ Some f) (same ∙ sym customer_is)
+          subst (λ (m : ℕ). option_map summary (slice_get (spool_at m spools).whole i) ≡ Some f)
+          (same ∙ sym customer_is)
           seen
 
       -- the file at the index is the oldest
@@ -232,7 +234,8 @@ module _ (x y : FileCursor) (line : y ≡ record x { sysin = y.sysin; sysout = y
 -- a file that was asked for is Sending, and is passed as before
 pub sends_one :
     (x : FileCursor) (c n : ℕ) (old new : List CustomerSpool) → c ≡ x.id.customer → IsOver x old
-    → new ≡ slice_set old c (spool_at c new) → spool_at c new ≡ with_state n state.Sending (spool_at c old) → IsOver x new
+    → new ≡ slice_set old c (spool_at c new) → spool_at c new ≡ with_state n state.Sending (spool_at c old)
+    → IsOver x new
 sends_one x c n old new same over moves sends =
     subst (λ m. new ≡ slice_set old m (spool_at m new) → spool_at m new ≡ with_state n state.Sending (spool_at m old)
     → IsOver x new) (sym same)

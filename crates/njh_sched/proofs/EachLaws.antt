@@ -65,7 +65,8 @@ module _ (goes : WholeFile → Bool) where
   by_candidate None x e = refl
   by_candidate (Some c) x e = by_room (has_room x.block c.item) c x e
 
-  as_many : (source : Source) (x : Filling) → length (after_source goes source x).outlet.senders ≡ length x.outlet.senders
+  as_many : (source : Source) (x : Filling)
+      → length (after_source goes source x).outlet.senders ≡ length x.outlet.senders
   unfolding after_source
   as_many source x = by_full x.full
     where
@@ -73,7 +74,8 @@ module _ (goes : WholeFile → Bool) where
       by_full true = refl
       by_full false = by_candidate (candidate goes source x.outlet x.spool) x (by_source source x.outlet x.spool)
 
-  pub each_does : (k : ℕ) (sources : List Source) (x : Filling) → k < 8 → k < length x.outlet.senders → EachDoes goes k sources x
+  pub each_does : (k : ℕ) (sources : List Source) (x : Filling) → k < 8 → k < length x.outlet.senders
+      → EachDoes goes k sources x
   each_does k [] x few inside = tt
   each_does k (source ∷ more) x few inside = (
     does goes k x inside source few,

@@ -27,7 +27,8 @@ module _ (p : WholeFile → Bool) where
   counted_at (x ∷ xs) (suc i) y h e = omega (arith, count-cons x xs, counted_at xs i y h e)
 
   -- where one passes at most, that is found
-  only_found : (xs : List WholeFile) (i : ℕ) (y : WholeFile) → slice_get xs i ≡ Some y → p y ≡ true → count_by p xs ≤ 1 → find p xs ≡ Some y
+  only_found : (xs : List WholeFile) (i : ℕ) (y : WholeFile) → slice_get xs i ≡ Some y → p y ≡ true → count_by p xs ≤ 1
+      → find p xs ≡ Some y
   only_found [] i y h e few = absurd (cc h)
   only_found (x ∷ xs) zero y h e few =
       let same : x ≡ y = cc h in ap (λ b. cond b (Some x) (find p xs)) (ap p same ∙ e) ∙ ap Some same
@@ -47,7 +48,8 @@ module _ (p : WholeFile → Bool) where
     where
       at_test :
           (b : Bool) → (b || list_any p (take i xs)) ≡ false
-          → (list_any p (take i xs) ≡ false → holds_of p (slice_get xs i) ≡ false → list_any p (take (suc i) xs) ≡ false)
+          → (list_any p (take i xs) ≡ false → holds_of p (slice_get xs i) ≡ false
+          → list_any p (take (suc i) xs) ≡ false)
           → (b || list_any p (take (suc i) xs)) ≡ false
       at_test true f more = absurd (cc f)
       at_test false f more = more f e
@@ -65,7 +67,8 @@ module _ (p : WholeFile → Bool) where
       at_test true f more = absurd (cc f)
       at_test false f more = more f e
 
-  pub found_nowhere : (xs : List WholeFile) (i : ℕ) → list_any p (take i xs) ≡ false → length xs ≤ i → find p xs ≡ slice_get xs (length xs)
+  pub found_nowhere : (xs : List WholeFile) (i : ℕ) → list_any p (take i xs) ≡ false → length xs ≤ i
+      → find p xs ≡ slice_get xs (length xs)
   found_nowhere [] i h all = refl
   found_nowhere (x ∷ xs) zero h all = absurd (not-suc-le-zero all)
   found_nowhere (x ∷ xs) (suc i) h all = at_test (p x) h (λ e. found_nowhere xs i e (le_of_suc-le-suc all))
@@ -106,18 +109,21 @@ module _ (p : WholeFile → Bool) where
       at_test false e f more = ap (λ b. b || list_any p (take i (map g xs))) (keeps x e) ∙ more f
 
 -- the file at an index is the one of its number
-pub file_is : (s : CustomerSpool) (i n : ℕ) → ((m : ℕ) → files_numbered m s ≤ 1) → IsSomeAnd (slice_get s.whole i) (λ f. n ≡ f.number)
+pub file_is : (s : CustomerSpool) (i n : ℕ) → ((m : ℕ) → files_numbered m s ≤ 1)
+    → IsSomeAnd (slice_get s.whole i) (λ f. n ≡ f.number)
     → whole_numbered n s ≡ slice_get s.whole i
 file_is s i n apart at = at_file (slice_get s.whole i) refl at
   where
-    at_file : (o : Option WholeFile) → slice_get s.whole i ≡ o → IsSomeAnd o (λ f. n ≡ f.number) → whole_numbered n s ≡ o
+    at_file : (o : Option WholeFile) → slice_get s.whole i ≡ o → IsSomeAnd o (λ f. n ≡ f.number)
+        → whole_numbered n s ≡ o
     at_file None e is = absurd (search is)
     at_file (Some y) e is =
         only_found (λ f. f.number == n) s.whole i y e (eq-eqb y.number n (sym (search is))) (omega (arith, apart n))
 
 -- a test by what is known of a file is one of the file
 pub by_summary :
-    (p : WholeFile → Bool) (q : FileSummary → Bool) → ((f : WholeFile) → q (summary f) ≡ p f) → (o : Option WholeFile) (x : FileSummary)
+    (p : WholeFile → Bool) (q : FileSummary → Bool) → ((f : WholeFile) → q (summary f) ≡ p f)
+    → (o : Option WholeFile) (x : FileSummary)
     → option_map summary o ≡ Some x → q x ≡ holds_of p o
 by_summary p q same None x is = absurd (cc is)
 by_summary p q same (Some f) x is = let here : summary f ≡ x = cc is in ap q (sym here) ∙ same f
@@ -127,4 +133,5 @@ pub none_at : (nodes : List (List ℕ)) (i : ℕ) (test : List ℕ → Bool) →
     → test (get_or nodes i []) ≡ false
 none_at [] i test within none = absurd (omega arith)
 none_at (x ∷ xs) zero test within none = (or_parts (test x) (list_any test xs) none).0
-none_at (x ∷ xs) (suc i) test within none = none_at xs i test (omega arith) (or_parts (test x) (list_any test xs) none).1
+none_at (x ∷ xs) (suc i) test within none =
+    none_at xs i test (omega arith) (or_parts (test x) (list_any test xs) none).1

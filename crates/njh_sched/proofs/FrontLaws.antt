@@ -1,10 +1,13 @@
 -- A block takes the longest front of what may come that has room.
-use Rattle.std.proofs.Common.{◌≡◌, ℕ, Bool, true, false, List, [], ◌∷◌, ◌++◌, Option, Some, None, refl, ap, sym, subst, ◌∙◌}
+use Rattle.std.proofs.Common.{◌≡◌, ℕ, Bool, true, false, List, [], ◌∷◌, ◌++◌, Option, Some, None, refl, ap, sym, subst}
+use Rattle.std.proofs.Common.{◌∙◌}
 use Rattle.njh_block.specs.Writing.{Writing, has_room, with_last}
 use Rattle.njh_spool.specs.CustomerSpool.{CustomerSpool, WholeFile}
-use Rattle.njh_sched.specs.NextBlock.{Outlet, Candidate, Filling, Source, candidate, filling, added_where, after_candidate}
+use Rattle.njh_sched.specs.NextBlock.{Outlet, Candidate, Filling, Source, candidate, filling, added_where}
+use Rattle.njh_sched.specs.NextBlock.{after_candidate}
 use Rattle.njh_sched.specs.NextBlock.{after_source, after_sources}
-use Rattle.njh_sched.specs.Fronts.{TakesLongestFront, LongestFrontsFill, candidates, candidate_first, HaveRoom, with_items}
+use Rattle.njh_sched.specs.Fronts.{TakesLongestFront, LongestFrontsFill, candidates, candidate_first, HaveRoom}
+use Rattle.njh_sched.specs.Fronts.{with_items}
 
 abbrev full_with : Writing → Outlet → CustomerSpool → Filling
 full_with w o s = record { block = w; outlet = o; spool = s; full = true }
@@ -55,7 +58,8 @@ module _ (goes : WholeFile → Bool) where
         spool = refl;
       })
 
-  by_candidate : (a : Option Candidate) (more : List Source) (w : Writing) (o : Outlet) (s : CustomerSpool) → Fill more →
+  by_candidate : (a : Option Candidate) (more : List Source) (w : Writing) (o : Outlet) (s : CustomerSpool)
+      → Fill more →
       TakesLongestFront (candidate_first a (λ outlet spool. candidates goes more outlet spool) o s) w o s
       (after_sources goes more (after_candidate a (filling w o s)))
   by_candidate None more w o s later = later w o s

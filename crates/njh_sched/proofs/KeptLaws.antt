@@ -65,7 +65,8 @@ module _ (goes : WholeFile → Bool) where
   messages_by_room true c x e = e
   messages_by_room false c x e = refl
 
-  messages_by_candidate : (c : Option Candidate) (x : Filling) → KeptBy c x.outlet → waiting_messages (after_candidate c x).outlet
+  messages_by_candidate : (c : Option Candidate) (x : Filling) → KeptBy c x.outlet
+      → waiting_messages (after_candidate c x).outlet
       ≡ waiting_messages x.outlet
   messages_by_candidate None x e = refl
   messages_by_candidate (Some c) x e = messages_by_room (has_room x.block c.item) c x e
@@ -78,7 +79,8 @@ module _ (goes : WholeFile → Bool) where
   is_short WaitingMessage = false
   is_short StreamTurn = false
 
-  by_source : (source : Source) (x : Filling) → is_short source ≡ true → KeptBy (candidate goes source x.outlet x.spool) x.outlet
+  by_source : (source : Source) (x : Filling) → is_short source ≡ true
+      → KeptBy (candidate goes source x.outlet x.spool) x.outlet
   by_source WaitingAnswer x e = by_answer _ x.outlet x.spool
   by_source (StreamAbort k) x e = by_abort (sender_at k x.outlet) x.outlet x.spool k
   by_source (StreamRequest k) x e = by_request (may_ask x.outlet k) _ x.outlet x.spool k
@@ -135,7 +137,8 @@ module _ (goes : WholeFile → Bool) where
     pub goes_on : (then : List Source) → b ≡ true → after_sources goes first (filling w o s) ≡ filling_where b v p r
         → after_sources goes (first ++ then) (filling w o s) ≡ after_sources goes then (filling v p r)
     goes_on then room e =
-        one_behind_others goes first then (filling w o s) ∙ ap (after_sources goes then) (e ∙ ap (λ t. filling_where t v p r) room)
+        one_behind_others goes first then (filling w o s)
+        ∙ ap (after_sources goes then) (e ∙ ap (λ t. filling_where t v p r) room)
 
     pub stops : (then : List Source) → b ≡ false → after_sources goes first (filling w o s) ≡ filling_where b v p r
         → after_sources goes (first ++ then) (filling w o s) ≡ filling_where false v p r
@@ -145,13 +148,16 @@ module _ (goes : WholeFile → Bool) where
         ∙ full_stays goes then v p r
 
   module _ (b : Bool) (w v : Writing) (o p : Outlet) (s r : CustomerSpool) where
-    pub messages_behind_answers : (n : ℕ) → after_sources goes (replicate n WaitingAnswer) (filling w o s) ≡ filling_where b v p r
+    pub messages_behind_answers : (n : ℕ) → after_sources goes (replicate n WaitingAnswer) (filling w o s)
+        ≡ filling_where b v p r
         → waiting_messages p ≡ waiting_messages o
     messages_behind_answers n e = messages_are (replicate n WaitingAnswer) b w v o p s r (short_answers n) e
 
-    pub messages_behind_aborts : after_sources goes aborts (filling w o s) ≡ filling_where b v p r → waiting_messages p ≡ waiting_messages o
+    pub messages_behind_aborts : after_sources goes aborts (filling w o s) ≡ filling_where b v p r
+        → waiting_messages p ≡ waiting_messages o
     messages_behind_aborts e = messages_are aborts b w v o p s r short_aborts e
 
-    pub messages_behind_requests : after_sources goes requests (filling w o s) ≡ filling_where b v p r → waiting_messages p
+    pub messages_behind_requests : after_sources goes requests (filling w o s) ≡ filling_where b v p r
+        → waiting_messages p
         ≡ waiting_messages o
     messages_behind_requests e = messages_are requests b w v o p s r short_requests e

@@ -23,7 +23,8 @@ use Rattle.njh_sched.specs.Laws.{is_under, records_under, Does, left, gives_up, 
 use Rattle.njh_sched.proofs.TurnLaws.{served_by}
 
 -- an item that isn't under an RCB
-left_out : (rcb : ℕ) (i : Item) (is : List Item) → is_under rcb i ≡ false → records_under rcb (is ++ i ∷ []) ≡ records_under rcb is
+left_out : (rcb : ℕ) (i : Item) (is : List Item) → is_under rcb i ≡ false
+    → records_under rcb (is ++ i ∷ []) ≡ records_under rcb is
 left_out rcb i [] e = ap (λ b. cond b (i ∷ []) []) e
 left_out rcb i (j ∷ js) e = ap (λ more. cond (is_under rcb j) (j ∷ more) more) (left_out rcb i js e)
 
@@ -63,7 +64,8 @@ rcbs_differ t k h below e = at_test (rcb_of t == rcb_of k) refl
   where
     at_test : (b : Bool) → (rcb_of t == rcb_of k) ≡ b → (rcb_of t == rcb_of k) ≡ false
     at_test true f =
-        let same : Some t ≡ Some k = sym (stream_back t h) ∙ ap (stream_of 4) (eqb-true (rcb_of t) (rcb_of k) f) ∙ stream_back k below in
+        let same : Some t ≡ Some k = sym (stream_back t h) ∙ ap (stream_of 4) (eqb-true (rcb_of t) (rcb_of k) f)
+        ∙ stream_back k below in
         let one : t ≡ k = cc same in
         absurd (eqb-false t k e one)
     at_test false f = f
@@ -98,22 +100,26 @@ and_both false b e = absurd (cc e)
 
 module _ (goes : WholeFile → Bool) (k : ℕ) (x : Filling) where
   -- a candidate that is nothing to the stream
-  left_by : (b : Bool) (c : Candidate) → sender_at k c.outlet ≡ sender_at k x.outlet → is_under (rcb_of k) c.item ≡ false
+  left_by : (b : Bool) (c : Candidate) → sender_at k c.outlet ≡ sender_at k x.outlet
+      → is_under (rcb_of k) c.item ≡ false
       → Does goes k x (added_where b c x)
   left_by true c same out = left (record { sender = same; items = left_out (rcb_of k) c.item x.block.items out })
   left_by false c same out = left (record { sender = refl; items = refl })
 
   by_answer : (a : Option Answer) → Does goes k x (after_candidate (option_map (answering x.outlet x.spool) a) x)
   by_answer None = left (record { sender = refl; items = refl })
-  by_answer (Some a) = left_by (has_room x.block (answering x.outlet x.spool a).item) (answering x.outlet x.spool a) refl refl
+  by_answer (Some a) = left_by (has_room x.block (answering x.outlet x.spool a).item) (answering x.outlet x.spool a)
+      refl refl
 
   by_message : (0x9a == rcb_of k) ≡ false → (m : Option (List ℕ)) → Does goes k x (after_candidate (option_map
       (telling x.outlet x.spool) m) x)
   by_message other None = left (record { sender = refl; items = refl })
-  by_message other (Some m) = left_by (has_room x.block (telling x.outlet x.spool m).item) (telling x.outlet x.spool m) refl other
+  by_message other (Some m) = left_by (has_room x.block (telling x.outlet x.spool m).item) (telling x.outlet x.spool m)
+      refl other
 
   module _ (inside : k < length x.outlet.senders) where
-    gives_up_by : (b : Bool) → sender_at k x.outlet ≡ Aborting → Does goes k x (added_where b (giving_up x.outlet x.spool k) x)
+    gives_up_by : (b : Bool) → sender_at k x.outlet ≡ Aborting
+        → Does goes k x (added_where b (giving_up x.outlet x.spool k) x)
     gives_up_by true e = gives_up (record {
       before = e;
       after = get_or-set_same x.outlet.senders k Idle Idle inside;
@@ -122,12 +128,14 @@ module _ (goes : WholeFile → Bool) (k : ℕ) (x : Filling) where
     gives_up_by false e = left (record { sender = refl; items = refl })
 
     abort_at : (t : ℕ) (b : Bool) → (t == k) ≡ b → sender_at t x.outlet ≡ Aborting
-        → Does goes k x (added_where (has_room x.block (giving_up x.outlet x.spool t).item) (giving_up x.outlet x.spool t) x)
+        → Does goes k x (added_where (has_room x.block (giving_up x.outlet x.spool t).item)
+        (giving_up x.outlet x.spool t) x)
     abort_at t true e is =
         let same : t ≡ k = eqb-true t k e in
         subst (λ n. Does goes k x (added_where (has_room x.block (giving_up x.outlet x.spool n).item)
         (giving_up x.outlet x.spool n) x)) (sym same)
-        (gives_up_by (has_room x.block (giving_up x.outlet x.spool k).item) (ap (λ n. sender_at n x.outlet) (sym same) ∙ is))
+        (gives_up_by (has_room x.block (giving_up x.outlet x.spool k).item)
+        (ap (λ n. sender_at n x.outlet) (sym same) ∙ is))
     abort_at t false e is =
         left_by (has_room x.block (giving_up x.outlet x.spool t).item) (giving_up x.outlet x.spool t)
         (set_other x.outlet.senders k t Idle Idle e) refl
@@ -158,13 +166,16 @@ module _ (goes : WholeFile → Bool) (k : ℕ) (x : Filling) where
     })
     asks_by false f e is = left (record { sender = refl; items = refl })
 
-    asks_at : (t : ℕ) (b : Bool) (f : WholeFile) → (t == k) ≡ b → sender_at t x.outlet ≡ Idle → oldest goes (kind_of t) x.spool ≡ Some f
-        → Does goes k x (added_where (has_room x.block (asking x.outlet x.spool t f.number).item) (asking x.outlet x.spool t f.number) x)
+    asks_at : (t : ℕ) (b : Bool) (f : WholeFile) → (t == k) ≡ b → sender_at t x.outlet ≡ Idle
+        → oldest goes (kind_of t) x.spool ≡ Some f
+        → Does goes k x (added_where (has_room x.block (asking x.outlet x.spool t f.number).item)
+        (asking x.outlet x.spool t f.number) x)
     asks_at t true f e idle is =
         let same : t ≡ k = eqb-true t k e in
         subst (λ n. Does goes k x (added_where (has_room x.block (asking x.outlet x.spool n f.number).item)
         (asking x.outlet x.spool n f.number) x)) (sym same)
-        (asks_by (has_room x.block (asking x.outlet x.spool k f.number).item) f (ap (λ n. sender_at n x.outlet) (sym same) ∙ idle)
+        (asks_by (has_room x.block (asking x.outlet x.spool k f.number).item) f
+        (ap (λ n. sender_at n x.outlet) (sym same) ∙ idle)
         (ap (λ n. oldest goes (kind_of n) x.spool) (sym same) ∙ is))
     asks_at t false f e idle is =
         left_by (has_room x.block (asking x.outlet x.spool t f.number).item) (asking x.outlet x.spool t f.number)
@@ -172,7 +183,8 @@ module _ (goes : WholeFile → Bool) (k : ℕ) (x : Filling) where
 
     by_request :
         (t : ℕ) (b : Bool) (f : Option WholeFile) → may_ask x.outlet t ≡ b → oldest goes (kind_of t) x.spool ≡ f
-        → Does goes k x (after_candidate (elim b [ false ↦ None | true ↦ option_map (λ y. asking x.outlet x.spool t y.number) f ]) x)
+        → Does goes k x (after_candidate (elim b
+        [ false ↦ None | true ↦ option_map (λ y. asking x.outlet x.spool t y.number) f ]) x)
     by_request t false f e is = left (record { sender = refl; items = refl })
     by_request t true None e is = left (record { sender = refl; items = refl })
     by_request t true (Some f) e is =
@@ -188,8 +200,10 @@ module _ (goes : WholeFile → Bool) (k : ℕ) (x : Filling) where
     })
     serves_by false on e = left (record { sender = refl; items = refl })
 
-    serves_at : (t : ℕ) (b : Bool) → (t == k) ≡ b → k < 8 → t < 8 → is_on x.outlet.peer_fcs t ≡ true → sends_file (sender_at t x.outlet) ≡ true
-        → Does goes k x (added_where (has_room x.block (served_by x.outlet x.spool t).item) (served_by x.outlet x.spool t) x)
+    serves_at : (t : ℕ) (b : Bool) → (t == k) ≡ b → k < 8 → t < 8 → is_on x.outlet.peer_fcs t ≡ true
+        → sends_file (sender_at t x.outlet) ≡ true
+        → Does goes k x (added_where (has_room x.block (served_by x.outlet x.spool t).item)
+        (served_by x.outlet x.spool t) x)
     serves_at t true e few below on is =
         let same : t ≡ k = eqb-true t k e in
         subst (λ n. Does goes k x (added_where (has_room x.block (served_by x.outlet x.spool n).item)

@@ -24,12 +24,15 @@ right_of : (a b : Bool) → (a && b) ≡ true → b ≡ true
 right_of true b e = e
 right_of false b e = absurd (cc e)
 
-takes_room : (w : Writing) (i : Item) → 1 ≤ length (written_bytes i) → has_room w i ≡ true → room_of (with_last i w) < room_of w
+takes_room : (w : Writing) (i : Item) → 1 ≤ length (written_bytes i) → has_room w i ≡ true
+    → room_of (with_last i w) < room_of w
 takes_room w i some fits =
     let within : length (text_of w.bcb w.fcs (w.items ++ i ∷ [])) ≤ w.limit
     = leb-true (length (text_of w.bcb w.fcs (w.items ++ i ∷ []))) w.limit
-    (right_of (not (list_any is_general w.items)) (nat_le (length (text_of w.bcb w.fcs (w.items ++ i ∷ []))) w.limit) fits) in
-    let longer : length (text_of w.bcb w.fcs (w.items ++ i ∷ [])) ≡ length (text_of w.bcb w.fcs w.items) + length (written_bytes i)
+    (right_of (not (list_any is_general w.items)) (nat_le (length (text_of w.bcb w.fcs (w.items ++ i ∷ []))) w.limit)
+    fits) in
+    let longer : length (text_of w.bcb w.fcs (w.items ++ i ∷ [])) ≡ length (text_of w.bcb w.fcs w.items) + length
+    (written_bytes i)
     = grind (arith, common_steps) in
     omega (arith, within, longer)
 
@@ -48,10 +51,12 @@ module _ (goes : WholeFile → Bool) where
   unfolding after_source
   turn_is w o s k e = ap (λ t. after_candidate (option_map (served_by o s) t) (filling w o s)) e
 
-  pub no_turns : (n : ℕ) (w : Writing) (o : Outlet) (s : CustomerSpool) → next_served o ≡ None → after_sources goes (turns n)
+  pub no_turns : (n : ℕ) (w : Writing) (o : Outlet) (s : CustomerSpool) → next_served o ≡ None
+      → after_sources goes (turns n)
       (filling w o s) ≡ filling w o s
   no_turns zero w o s e = nothing_left goes (filling w o s)
-  no_turns (suc n) w o s e = one_more goes StreamTurn (turns n) (filling w o s) (filling w o s) (turn_is w o s None e) ∙ no_turns n w o s e
+  no_turns (suc n) w o s e = one_more goes StreamTurn (turns n) (filling w o s) (filling w o s) (turn_is w o s None e)
+      ∙ no_turns n w o s e
 
   pub enough : (n m : ℕ) (w : Writing) (o : Outlet) (s : CustomerSpool) → room_of w < n → room_of w < m
       → after_sources goes (turns n) (filling w o s) ≡ after_sources goes (turns m) (filling w o s)
@@ -67,7 +72,8 @@ module _ (goes : WholeFile → Bool) where
           ≡ after_sources goes (turns m) (added_where b (served_by o s t) (filling w o s))
       by_room t true e f more =
           let less : room_of (with_last (served_by o s t).item w) < room_of w = served_takes w o s t f in
-          more (with_last (served_by o s t).item w) (served_by o s t).outlet (served_by o s t).spool (omega (arith, less)) (omega
+          more (with_last (served_by o s t).item w) (served_by o s t).outlet (served_by o s t).spool
+          (omega (arith, less)) (omega
           (arith, less))
       by_room t false e f more = full_stays goes (turns n) w o s ∙ sym (full_stays goes (turns m) w o s)
 
@@ -90,7 +96,8 @@ module _ (goes : WholeFile → Bool) where
   pub turn_went_on :
       (k : ℕ) (b : Bool) (w v : Writing) (o p : Outlet) (s : CustomerSpool) → next_served o ≡ Some k → b ≡ true
       → after_candidate (Some (served_by o s k)) (filling w o s) ≡ filling_where b v p s → room_of v < room_of w
-      → after_sources goes (turns (room_of w + 1)) (filling w o s) ≡ after_sources goes (turns (room_of v + 1)) (filling v p s)
+      → after_sources goes (turns (room_of w + 1)) (filling w o s) ≡ after_sources goes (turns (room_of v + 1))
+      (filling v p s)
   turn_went_on k b w v o p s served room e less =
       ap (λ n. after_sources goes (turns n) (filling w o s)) (add-one (room_of w))
       ∙ one_more goes StreamTurn (turns (room_of w)) (filling w o s) (filling v p s)

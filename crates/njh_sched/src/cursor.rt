@@ -16,8 +16,8 @@ use njh_spool::{FileId, FileSummary, Spool};
 use njh_table::{LineId, NamedCustomer};
 use std::marker::Model;
 
-/// A search of a customer's whole files, oldest first, for those that may go on a line. For each kind of file it has an
-/// index: no file of the kind before it is Ready and goes by the line.
+/// A search of a customer's whole files, oldest first, for those that may go on a line. For each
+/// kind of file it has an index: no file of the kind before it is Ready and goes by the line.
 #[derive(Drop)]
 pub struct Cursor<'a> {
     entry: &'a NamedCustomer,
@@ -107,8 +107,8 @@ impl<'a> Cursor<'a> {
         }
     }
 
-    /// Whether a file is Ready, of a kind, and not for a node that is known not to go by the line: others need no look
-    /// at the routes.
+    /// Whether a file is Ready, of a kind, and not for a node that is known not to go by the line:
+    /// others need no look at the routes.
     fn is_likely(&self, kind: Kind, file: &FileSummary) -> bool
         ensures { result ≡ false → is_known_to_go self.now kind file.now ≡ false }
     {
@@ -147,9 +147,9 @@ impl<'a> Cursor<'a> {
         }
     }
 
-    /// The index of the first file, from the index for a kind on, that is likely to go, and the index for the other
-    /// kind, moved on over the files that are looked at. Where there is no such file the first is
-    /// how many files there are.
+    /// The index of the first file, from the index for a kind on, that is likely to go, and the
+    /// index for the other kind, moved on over the files that are looked at. Where there is no such
+    /// file the first is how many files there are.
     // It stands apart, so that what the loop needs stays in registers.
     #[inline(never)]
     fn first_likely(&self, kind: Kind, spool: &Spool) -> (u32, u32)
@@ -171,8 +171,8 @@ impl<'a> Cursor<'a> {
         (files, others)
     }
 
-    /// Moves on to the customer's oldest file that is Ready, of a kind, and goes by the line, and gives its number;
-    /// behind the last one where there is none.
+    /// Moves on to the customer's oldest file that is Ready, of a kind, and goes by the line, and
+    /// gives its number; behind the last one where there is none.
     pub fn oldest(&mut self, kind: Kind, spool: &Spool) -> Option<FileId>
         requires { IsOver self.old spool.now }
         ensures oldest { result

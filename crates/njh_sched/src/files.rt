@@ -66,7 +66,8 @@ pub fn is_among(nodes: &[[u8; 8]], node: &[u8; 8]) -> bool
     false
 }
 
-/// Whether a node goes by a line. Where it doesn't it is kept among those that don't, while there is room.
+/// Whether a node goes by a line. Where it doesn't it is kept among those that don't, while there
+/// is room.
 pub fn goes_there(
     entry: &NamedCustomer,
     line: u16,

@@ -54,10 +54,11 @@ fn add_all<L: Outgoing>(
     add_records(line, id.customer, spool, writer)
 }
 
-/// Fills a line's next block, and says whether it has records then: the answers that wait; the streams' aborts; for
-/// each idle stream a request for the oldest file that is Ready, of its kind, and goes by the line; the nodal messages,
-/// where the peer lets them; and records and ends of file of the streams that the peer lets send, in turn. The first
-/// that has no room waits for another block with all behind it. Nothing is added where the peer suspends all.
+/// Fills a line's next block, and says whether it has records then: the answers that wait; the
+/// streams' aborts; for each idle stream a request for the oldest file that is Ready, of its kind,
+/// and goes by the line; the nodal messages, where the peer lets them; and records and ends of file
+/// of the streams that the peer lets send, in turn. The first that has no room waits for another
+/// block with all behind it. Nothing is added where the peer suspends all.
 #[tactic(auto, unfolding(crate::specs::NextBlock::filled_block))]
 pub fn fill<L: Outgoing>(
     line: &mut L,

@@ -18,10 +18,10 @@ pub fn nothing_where_all_is_suspended()
         → filled_block goes x ≡ x }
 {}
 
-/// What each source of a block does to a stream, one after the other. A stream that isn't sending, or that the peer
-/// suspends, has no record added under its RCB; one that is sending has the file's record at its place, and its place
-/// moves by that; where there is no such record it has the end of file. A stream asks for a file only where it was
-/// idle. Nothing else moves a stream.
+/// What each source of a block does to a stream, one after the other. A stream that isn't sending,
+/// or that the peer suspends, has no record added under its RCB; one that is sending has the file's
+/// record at its place, and its place moves by that; where there is no such record it has the end
+/// of file. A stream asks for a file only where it was idle. Nothing else moves a stream.
 pub fn sources_move_streams_so()
     ensures one { (goes : WholeFile → Bool) (k : ℕ) (source : Source) (x : Filling) → k < 8
         → k < length x.outlet.senders
@@ -38,15 +38,16 @@ pub fn sources_fill_the_block()
         → filled_block goes x ≡ after_sources goes (sources x.block.limit x.outlet) x }
 {}
 
-/// What goes into a block is the longest front that has room of all that may come from the sources, in their order:
-/// each of it has room behind those before it, and with the next one the block wouldn't fit.
+/// What goes into a block is the longest front that has room of all that may come from the sources,
+/// in their order: each of it has room behind those before it, and with the next one the block
+/// wouldn't fit.
 pub fn longest_fronts_fill()
     ensures { LongestFrontsFill }
 {}
 
-/// What a block carries under a stream's RCB. Of a stream that sends a file: the file's records from the place before
-/// the block to the place after it, each once and in order, and the end of file only behind the last one. Of any other
-/// stream nothing.
+/// What a block carries under a stream's RCB. Of a stream that sends a file: the file's records
+/// from the place before the block to the place after it, each once and in order, and the end of
+/// file only behind the last one. Of any other stream nothing.
 pub fn blocks_carry_files_in_order()
     ensures carried { (goes : WholeFile → Bool) (k n p : ℕ) (x : Filling) → k < 8 → k < length x.outlet.senders
         → sender_at k x.outlet ≡ Sender.Sending n p → p ≤ length (file_records n x.spool)

@@ -1,5 +1,5 @@
-//! The hub's next block: which records go out on a line, and what the hub lets its peer send (IBM SC23-0070,
-//! "Multileaving").
+//! The hub's next block: which records go out on a line, and what the hub lets its peer send (IBM
+//! SC23-0070, "Multileaving").
 #![tactic(auto)]
 
 mod aborts;

@@ -9,8 +9,8 @@ use njh_block::{Answer, Fcs, Stream};
 use njh_record::Record;
 use njh_stream::Sender;
 
-/// A line, as it is sent from: what waits, what its streams from the hub are about, and what its peer lets them send. A
-/// contract sees it as an `Outlet`.
+/// A line, as it is sent from: what waits, what its streams from the hub are about, and what its
+/// peer lets them send. A contract sees it as an `Outlet`.
 pub trait Outgoing {
     ghost outlet: { Self → Outlet };
 

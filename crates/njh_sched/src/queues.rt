@@ -75,7 +75,8 @@ fn add_all_messages<L: Outgoing>(line: &mut L, writer: &mut BlockWriter) -> bool
     true
 }
 
-/// Adds the nodal messages that wait, where the peer lets them, until one has no room, and says whether all had.
+/// Adds the nodal messages that wait, where the peer lets them, until one has no room, and says
+/// whether all had.
 pub fn add_messages<L: Outgoing>(line: &mut L, writer: &mut BlockWriter) -> bool
     ensures source { (goes : WholeFile → Bool) (s : CustomerSpool)
         → after_sources goes (waiting_messages (L.outlet line.old)) (filling writer.old (L.outlet line.old) s)

@@ -36,7 +36,8 @@ fn next_served<L: Outgoing>(line: &L) -> Option<Stream>
     None
 }
 
-/// Adds a stream's next record, or its end of file, where it has room. Else the stream stays where it is.
+/// Adds a stream's next record, or its end of file, where it has room. Else the stream stays where
+/// it is.
 fn add_record<L: Outgoing>(
     stream: Stream,
     line: &mut L,
@@ -70,7 +71,8 @@ fn add_record<L: Outgoing>(
     has_room
 }
 
-/// Adds records and ends of file of the streams in turn, until one has no room, and says whether all had.
+/// Adds records and ends of file of the streams in turn, until one has no room, and says whether
+/// all had.
 fn add_turns<L: Outgoing>(
     line: &mut L,
     customer: u16,

@@ -55,8 +55,8 @@ fn ask<L: Outgoing>(
     has_room
 }
 
-/// A stream asks for its customer's oldest file that is Ready, of its kind, and goes by the line, where the line has
-/// the stream, it is idle, there is such a file and the request has room.
+/// A stream asks for its customer's oldest file that is Ready, of its kind, and goes by the line,
+/// where the line has the stream, it is idle, there is such a file and the request has room.
 fn add_request<L: Outgoing>(
     stream: Stream,
     cursor: &mut Cursor<'_>,
@@ -81,8 +81,9 @@ fn add_request<L: Outgoing>(
     }
 }
 
-/// Adds the streams' requests, until one has no room, and says whether all had. It passes each file once at most for
-/// all streams, and looks at none where no stream is idle. Where the customer has no files no stream is looked at.
+/// Adds the streams' requests, until one has no room, and says whether all had. It passes each file
+/// once at most for all streams, and looks at none where no stream is idle. Where the customer has
+/// no files no stream is looked at.
 pub fn add_requests<L: Outgoing>(
     id: LineId,
     entry: &NamedCustomer,

@@ -40,9 +40,9 @@ fn sends_a_file(customer: u16, spool: &Spool) -> bool
     false
 }
 
-/// The function control sequence of the hub's blocks to a customer's peers: `80 C0` where fewer than 16 blocks of its
-/// quota are left and one of its files is being sent, else `8F CF`. The spool gives the customer the quota of its table
-/// entry.
+/// The function control sequence of the hub's blocks to a customer's peers: `80 C0` where fewer
+/// than 16 blocks of its quota are left and one of its files is being sent, else `8F CF`. The spool
+/// gives the customer the quota of its table entry.
 pub fn own_fcs(customer: u16, spool: &Spool, tables: &Tables) -> Fcs
     requires range { customer < length spool.now }
     requires known { customer < length tables.now.customers }

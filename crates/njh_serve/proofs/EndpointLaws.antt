@@ -12,13 +12,15 @@ use Rattle.njh_hub.specs.WholeHub.{Part, part_at_open}
 use Rattle.njh_hub.specs.WholeHub as hub
 use Rattle.njh_serve.specs.declared.endpoints.Endpoint.{Endpoint}
 
-get_or-map_default : {X Y : Type 0} (f : X → Y) (xs : List X) (k : ℕ) (d : X) → get_or (map f xs) k (f d) ≡ f (get_or xs k d)
+get_or-map_default : {X Y : Type 0} (f : X → Y) (xs : List X) (k : ℕ) (d : X)
+    → get_or (map f xs) k (f d) ≡ f (get_or xs k d)
 get_or-map_default f [] k d = refl
 get_or-map_default f (x ∷ xs) zero d = refl
 get_or-map_default f (x ∷ xs) (suc k) d = get_or-map_default f xs k d
 
 -- a customer's part is that of its entry
-opened_part : (t : TableFile) (c : ℕ) → hub.part c (map part_at_open (entries_of t)) ≡ part_at_open (entry_of (customer_at t c))
+opened_part : (t : TableFile) (c : ℕ) → hub.part c (map part_at_open (entries_of t)) ≡ part_at_open
+    (entry_of (customer_at t c))
 opened_part t c = get_or-map_default part_at_open (entries_of t) c hub.no_entry
     ∙ ap part_at_open (get_or-map_default entry_of t.customers c no_customer)
 
@@ -26,7 +28,8 @@ opened_part t c = get_or-map_default part_at_open (entries_of t) c hub.no_entry
 pub opened_line : (t : TableFile) (id : LineId) → HasLine t id → hub.HasLine (map part_at_open (entries_of t)) id
 opened_line t id known =
     let e = entry_of (customer_at t id.customer) in
-    let here : length (hub.part id.customer (map part_at_open (entries_of t))).customer.lines ≡ length (part_at_open e).customer.lines =
+    let here : length (hub.part id.customer (map part_at_open (entries_of t))).customer.lines
+    ≡ length (part_at_open e).customer.lines =
     ap (λ (p : Part). length p.customer.lines) (opened_part t id.customer) in
     let states : length (part_at_open e).customer.lines ≡ length e.lines = length-map e.lines _ in
     let entries : length e.lines ≡ length (customer_at t id.customer).lines =

@@ -15,8 +15,8 @@ pub struct MioConnection {
 impl Connection for MioConnection {
     ghost use Rattle.std.specs.Prelude.{⊤};
 
-    // No clause says what a socket takes and gives, so this holds of any two states. That the bytes are right
-    // is tested.
+    // No clause says what a socket takes and gives, so this holds of any two states. That the bytes
+    // are right is tested.
     ghost moved = { λ before after came went. ⊤ };
 
     ghost stops = { λ connection stop. ⊤ };

@@ -27,7 +27,8 @@ pub enum Site {
     Peer(SocketAddr),
 }
 
-/// The lines of the tables that have a port or a peer, in their order. Out of memory is the only refusal.
+/// The lines of the tables that have a port or a peer, in their order. Out of memory is the only
+/// refusal.
 pub fn endpoints_of(alloc: Global, tables: &Tables) -> Result<Vec<Endpoint>, AllocError>
     ensures all { IfOk result (λ endpoints. endpoints.items ≡ endpoints_of tables.now) }
     ensures known { IfOk result (λ endpoints. All (λ endpoint. HasLine tables.now endpoint.line) endpoints.items) }

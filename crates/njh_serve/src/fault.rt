@@ -8,13 +8,15 @@ use thiserror::Error;
 /// Why lines weren't served, or not to the end.
 #[derive(Clone, Copy, Debug, PartialEq, Eq, Error)]
 pub enum ServeFault {
-    /// A port can't be listened on, or what is kept can't be read, and no wire was read; or files couldn't be kept.
+    /// A port can't be listened on, or what is kept can't be read, and no wire was read; or files
+    /// couldn't be kept.
     #[error("device")]
     Device,
     /// There was no memory, and no wire was read.
     #[error("U3 Memory")]
     Memory,
-    /// A whole file that was kept can't be put back, and no wire was read. Which one, and why, the depot tells.
+    /// A whole file that was kept can't be put back, and no wire was read. Which one, and why, the
+    /// depot tells.
     #[error("a kept file can't be put back")]
     Refused,
 }

@@ -173,7 +173,8 @@ fn note(ready: &mut [Readiness], event: &Event)
     }
 }
 
-/// Notes what is ready of a connection. One that failed is ready for both: the call that follows says so.
+/// Notes what is ready of a connection. One that failed is ready for both: the call that follows
+/// says so.
 fn note_connection(line: &mut Readiness, event: &Event) {
     if event.is_readable() || event.is_read_closed() || event.is_error() {
         line.reads = true;

@@ -41,9 +41,11 @@ pub enum OpenCause {
     Memory,
 }
 
-/// Opens the sockets of lines, in their order. Those that have a port listen there, on this address.
+/// Opens the sockets of lines, in their order. Those that have a port listen there, on this
+/// address.
 ///
-/// Two lines on one port are refused before any is listened on. What was opened before a fault is closed.
+/// Two lines on one port are refused before any is listened on. What was opened before a fault is
+/// closed.
 pub fn open<N: Network>(
     alloc: Global,
     network: &mut N,

@@ -40,9 +40,10 @@ impl<W: Drop, A: Drop> Model for Service<W, A> {
 }
 
 impl<W: Wire + Drop, A: Attendant<W> + Drop> Service<W, A> {
-    /// So many turns of each line, or turns without an end where no number is given: as many as can be counted. What
-    /// becomes of the customers' whole files in a round is kept by this keeper before a byte of that round goes out.
-    /// `Err` where the keeper fails; nothing is read or written after that.
+    /// So many turns of each line, or turns without an end where no number is given: as many as can
+    /// be counted. What becomes of the customers' whole files in a round is kept by this keeper
+    /// before a byte of that round goes out. `Err` where the keeper fails; nothing is read or
+    /// written after that.
     pub fn run<K: Keeper>(&mut self, keeper: &mut K, turns: Option<u32>) -> Result<(), KeepFault>
         requires settled { IsSettled K.may_leave K.knows keeper.old self.old.hub }
         ensures served { OnOk result (HasServed W.passed W.count A.brings (turn_count turns) self.old self.new) }
@@ -73,7 +74,8 @@ fn turn_count(turns: Option<u32>) -> u64
 }
 
 impl<W: Drop, A: Drop> Service<W, A> {
-    /// This hub, of which these lines are served, each on its own wire. Want of memory is the only refusal.
+    /// This hub, of which these lines are served, each on its own wire. Want of memory is the only
+    /// refusal.
     pub fn new(
         alloc: Global,
         hub: Hub,

@@ -48,14 +48,16 @@ pub struct Setup<L: Write + Drop, S: TableSource + Drop> {
     pub revision: Revision<S>,
 }
 
-/// Serves the lines of tables that have a port or a peer, on sockets of this machine, for so many turns; where no
-/// number is given, until the program is ended. Each customer has the whole files that the depot kept of it, and what
-/// becomes of them is kept there before it shows on a line. Where new tables come, customers are given new routes.
+/// Serves the lines of tables that have a port or a peer, on sockets of this machine, for so many
+/// turns; where no number is given, until the program is ended. Each customer has the whole files
+/// that the depot kept of it, and what becomes of them is kept there before it shows on a line.
+/// Where new tables come, customers are given new routes.
 ///
-/// `Device` where a port can't be listened on, where what is kept can't be read, or where no line has a port or a peer
-/// and no number of turns is given: of ports and lines the log says why. `Refused` where a kept file can't be put back.
-/// `Memory` where there is no room for the hub or its wires. Nothing was read then. `Device` too where files couldn't
-/// be kept: nothing was read or written after that.
+/// `Device` where a port can't be listened on, where what is kept can't be read, or where no line
+/// has a port or a peer and no number of turns is given: of ports and lines the log says why.
+/// `Refused` where a kept file can't be put back. `Memory` where there is no room for the hub or
+/// its wires. Nothing was read then. `Device` too where files couldn't be kept: nothing was read or
+/// written after that.
 pub fn serve<R: Net + Clock + AllocGlobal, L: Write + Drop, S: TableSource + Drop, D: Depot>(
     rt: &R,
     depot: &mut D,
@@ -138,8 +140,8 @@ fn serve_on<N: Network + Drop, L: Write + Drop, S: TableSource + Drop, D: Depot>
     Ok(())
 }
 
-/// A service of the lines of tables that have a port or a peer, of a hub that the depot opens. Where `needed`, tables
-/// without such a line are refused.
+/// A service of the lines of tables that have a port or a peer, of a hub that the depot opens.
+/// Where `needed`, tables without such a line are refused.
 ///
 /// Refusals are those of `serve`.
 pub fn service_on<N: Network + Drop, L: Write + Drop, S: TableSource + Drop, D: Depot>(

@@ -19,7 +19,8 @@ alike_more {X} {Y} f xs ys n d e in_xs in_ys alike before =
     ∙ sym (map_more f xs n d in_xs)))
 
 -- the item that is read
-pub take_one : {X : Type 0} (xs : List X) (n : ℕ) (x : X) → slice_get xs n ≡ Some x → take (n + 1) xs ≡ take n xs ++ x ∷ []
+pub take_one : {X : Type 0} (xs : List X) (n : ℕ) (x : X) → slice_get xs n ≡ Some x
+    → take (n + 1) xs ≡ take n xs ++ x ∷ []
 take_one {X} xs n x at =
     take_more xs n x (slice_get_within xs n x at)
     ∙ ap (λ (y : X). take n xs ++ y ∷ []) (get_or_from_slice_get xs n x x at)

@@ -15,7 +15,8 @@ lines_stay line_of posts lines place was new seen read same =
 
 -- the line at a place is that of the post there
 pub line_there : {P L : Type 0} (line_of : P → L) (posts : List P) (lines : List L) (place : ℕ) (post : P) (line : L)
-    → map line_of posts ≡ lines → place < length posts → post ≡ get_or posts place post → slice_get lines place ≡ Some line
+    → map line_of posts ≡ lines → place < length posts → post ≡ get_or posts place post
+    → slice_get lines place ≡ Some line
     → line ≡ line_of post
 line_there {P} {L} line_of posts lines place post line seen there read found =
     let within : place < length (map line_of posts) = omega (arith, there, length-map posts line_of) in

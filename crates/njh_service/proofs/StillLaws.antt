@@ -13,7 +13,8 @@ still_same place count wires = record {
 }
 
 -- what stays of each, as one of them changes and this of it stays
-same_more : {S : Type 0} (place : S → ℕ) (now : List S) (i : ℕ) (was new : S) → i < length now → was ≡ get_or now i was →
+same_more : {S : Type 0} (place : S → ℕ) (now : List S) (i : ℕ) (was new : S) → i < length now
+    → was ≡ get_or now i was →
     place was ≡ place new → (k : ℕ) (d : S) → place (get_or now k d) ≡ place (get_or (set now i new) k d)
 same_more {S} place now i was new there read same k d =
     ⊎_elim (λ (here : k ≡ i).
@@ -37,7 +38,8 @@ still_more {S} place count first now i was new there read same rises still = rec
       let before : count (get_or first k d) ≤ count (get_or now k d) = still.counts k d w in
       omega (arith, new_is, was_is, before, rises))
       (λ (other : k ≢ i).
-      let same : count (get_or (set now i new) k d) ≡ count (get_or now k d) = ap count (get_or-set_other now i k new d other) in
+      let same : count (get_or (set now i new) k d) ≡ count (get_or now k d) =
+      ap count (get_or-set_other now i k new d other) in
       let before : count (get_or first k d) ≤ count (get_or now k d) = still.counts k d w in
       omega (arith, same, before))
       (cases_eq k i);

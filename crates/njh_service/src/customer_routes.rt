@@ -9,8 +9,8 @@ use njh_hub::GivenRoutes;
 use njh_table::{GivenRoute, LineId, NamedCustomer, RouteLines, Tables};
 use std::alloc::{AllocError, Global};
 
-/// The routes of a customer, all of them and in their order, each by the customer's own lines. Out of memory is the
-/// only refusal.
+/// The routes of a customer, all of them and in their order, each by the customer's own lines. Out
+/// of memory is the only refusal.
 pub fn routes_of(alloc: Global, tables: &Tables, customer: u16) -> Result<GivenRoutes, AllocError>
     requires { customer < length tables.now.customers }
     ensures { IfOk result (λ routes. routes ≡ given_routes customer (customer_at tables.now customer).routes) }

@@ -84,8 +84,9 @@ impl<N: Network + Drop, L: Write + Drop> Desk<N, L> {
         post.linked = post.linked || wire.is_connected();
     }
 
-    /// Ends the connection of a line whose session gave up, and tells what changed, where something came or the line
-    /// was quiet. Sets how long the line's next quiet lasts. Answers when the line wants to be looked at.
+    /// Ends the connection of a line whose session gave up, and tells what changed, where something
+    /// came or the line was quiet. Sets how long the line's next quiet lasts. Answers when the line
+    /// wants to be looked at.
     pub(crate) fn settle(
         &mut self,
         post: &mut Post<N::Listener, N::Connection>,
@@ -149,7 +150,8 @@ impl<N: Network + Drop, L: Write + Drop> Desk<N, L> {
         }
     }
 
-    /// How a session ended that made five tries in a row: without an answer where nothing came since the first of them.
+    /// How a session ended that made five tries in a row: without an answer where nothing came
+    /// since the first of them.
     fn tries_end(&self, label: &Label, wire: &LineWire<N::Connection>) -> Ending {
         let since = label.tries_since.unwrap_or(self.now);
         if wire.silent_for() > self.now.saturating_sub(since) {
@@ -180,8 +182,8 @@ impl<N: Network + Drop, L: Write + Drop> Desk<N, L> {
         self.tell(label, event);
     }
 
-    /// Takes a connection that waits, where the line has none or one that is silent. Answers when the listener
-    /// is to be looked at again.
+    /// Takes a connection that waits, where the line has none or one that is silent. Answers when
+    /// the listener is to be looked at again.
     fn admit(
         &mut self,
         listener: &mut N::Listener,
@@ -211,7 +213,8 @@ impl<N: Network + Drop, L: Write + Drop> Desk<N, L> {
         }
     }
 
-    /// Gives a line a connection of its own, in place of one that it has. One of another line is dropped.
+    /// Gives a line a connection of its own, in place of one that it has. One of another line is
+    /// dropped.
     fn connect(
         &mut self,
         label: &mut Label,
@@ -314,7 +317,8 @@ impl<N: Network + Drop, L: Write + Drop> Desk<N, L> {
     }
 }
 
-/// Why a connection ended, once the hub has heard of it. It need not hear of one that was ended as its session gave up.
+/// Why a connection ended, once the hub has heard of it. It need not hear of one that was ended as
+/// its session gave up.
 fn heard_end<C: Connection + Drop>(wire: &mut LineWire<C>, gave_up: bool) -> Option<End>
     ensures counts { wire.old.failures ≤ wire.new.failures }
     ensures place { wire.new.place ≡ wire.old.place }

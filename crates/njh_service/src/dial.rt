@@ -2,7 +2,8 @@
 
 ghost use Rattle.std.specs.Prelude.{◌≡◌};
 
-/// How long after a connection that stood, or after a first failure, the next dial comes, in milliseconds.
+/// How long after a connection that stood, or after a first failure, the next dial comes, in
+/// milliseconds.
 const SOON: u64 = 1_000;
 
 /// How long after a further failure it comes.

@@ -58,10 +58,11 @@ pub enum LogEvent {
     FileOut(FileLine),
     /// The peer refused a file, which stays with the hub.
     FileRefused(FileLine),
-    /// The hub refused a file that was coming in on this stream, and told this to its owner, if it has one.
+    /// The hub refused a file that was coming in on this stream, and told this to its owner, if it
+    /// has one.
     ComingRefused(Stream, Option<NoticeLine>),
-    /// A file that was coming in on this stream isn't kept: its peer gave it up, its session ended, or the hub refused
-    /// it, had nobody to tell, and its rest came at once.
+    /// A file that was coming in on this stream isn't kept: its peer gave it up, its session ended,
+    /// or the hub refused it, had nobody to tell, and its rest came at once.
     ComingCutOff(Stream),
     /// So many blocks of its quota are used.
     NearQuota(u32, u32),
@@ -74,7 +75,8 @@ pub enum LogEvent {
 /// Why a connection failed.
 #[derive(Clone, Copy, Debug, Drop, PartialEq, Eq)]
 pub enum Failure {
-    /// A read or a write failed: the connection was reset, or more was to be sent than had room to wait.
+    /// A read or a write failed: the connection was reset, or more was to be sent than had room to
+    /// wait.
     Broken,
     /// The peer didn't take its bytes within a second.
     Stalled,

@@ -26,7 +26,8 @@ const LONGEST: u64 = 100;
 /// Moments fall on multiples of so many milliseconds, so that those of several lines fall together.
 const GRID: u64 = 5;
 
-/// So many lines in a row are watched together: a group in which nothing is ready or due costs a round one look.
+/// So many lines in a row are watched together: a group in which nothing is ready or due costs a
+/// round one look.
 const GROUP: usize = 16;
 
 /// Nothing is ready.
@@ -36,8 +37,8 @@ const NOTHING: Readiness = Readiness {
     writes: false,
 };
 
-/// What stands beside the turns of a service's lines: it waits for the network, accepts, dials, ends connections, lets
-/// out what waits, brings new routes, and writes the log.
+/// What stands beside the turns of a service's lines: it waits for the network, accepts, dials,
+/// ends connections, lets out what waits, brings new routes, and writes the log.
 #[derive(Drop)]
 pub struct Exchange<N: Network + Drop, L: Write + Drop, S: TableSource + Drop> {
     pub(crate) desk: Desk<N, L>,
@@ -186,7 +187,8 @@ impl<N: Network + Drop, L: Write + Drop, S: TableSource + Drop> Exchange<N, L, S
         }
     }
 
-    /// Looks at a line where something of it is ready or its moment came, and sets its wire's clock then.
+    /// Looks at a line where something of it is ready or its moment came, and sets its wire's clock
+    /// then.
     fn begin(&mut self, place: usize, wire: &mut LineWire<N::Connection>)
         ensures counts { wire.old.failures ≤ wire.new.failures }
         ensures place { wire.new.place ≡ wire.old.place }
@@ -220,8 +222,8 @@ impl<N: Network + Drop, L: Write + Drop, S: TableSource + Drop> Exchange<N, L, S
         }
     }
 
-    /// Of each line that was looked at, which are all that had a turn, lets out what waits, ends a connection whose
-    /// session gave up, and tells what changed.
+    /// Of each line that was looked at, which are all that had a turn, lets out what waits, ends a
+    /// connection whose session gave up, and tells what changed.
     pub(crate) fn end_round(&mut self, hub: &Hub, wires: &mut [LineWire<N::Connection>])
         ensures still { AreStill (λ a b acts. a.place ≡ b.place) (λ wire. wire.failures) wires.old wires.new }
         ensures lines { self.new ≡ self.old }
@@ -234,7 +236,8 @@ impl<N: Network + Drop, L: Write + Drop, S: TableSource + Drop> Exchange<N, L, S
         self.next = next;
     }
 
-    /// Ends the round of a group's lines, where one was looked at. Answers when one wants to be looked at next.
+    /// Ends the round of a group's lines, where one was looked at. Answers when one wants to be
+    /// looked at next.
     fn end_group(&mut self, group: usize, hub: &Hub, wires: &mut [LineWire<N::Connection>]) -> u64
         ensures still { AreStill (λ a b acts. a.place ≡ b.place) (λ wire. wire.failures) wires.old wires.new }
         ensures lines { self.new ≡ self.old }
@@ -274,7 +277,8 @@ impl<N: Network + Drop, L: Write + Drop, S: TableSource + Drop> Exchange<N, L, S
         }
     }
 
-    /// Lets out what waits on a line that was looked at, and settles it. Answers when the line wants to be looked at.
+    /// Lets out what waits on a line that was looked at, and settles it. Answers when the line
+    /// wants to be looked at.
     fn end(&mut self, place: usize, hub: &Hub, wire: &mut LineWire<N::Connection>) -> u64
         ensures counts { wire.old.failures ≤ wire.new.failures }
         ensures place { wire.new.place ≡ wire.old.place }
@@ -297,8 +301,8 @@ impl<N: Network + Drop, L: Write + Drop, S: TableSource + Drop> Exchange<N, L, S
         moment
     }
 
-    /// Settles a line: its connection stays, unless its own session gave up, and its next quiet lasts as long as its
-    /// own session asks for. Answers when it wants to be looked at.
+    /// Settles a line: its connection stays, unless its own session gave up, and its next quiet
+    /// lasts as long as its own session asks for. Answers when it wants to be looked at.
     fn settle(&mut self, place: usize, hub: &Hub, wire: &mut LineWire<N::Connection>) -> u64
         ensures counts { wire.old.failures ≤ wire.new.failures }
         ensures place { wire.new.place ≡ wire.old.place }

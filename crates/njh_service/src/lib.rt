@@ -1,4 +1,5 @@
-//! The attendant of a service: it accepts and dials, keeps the clocks of all lines, and writes the log.
+//! The attendant of a service: it accepts and dials, keeps the clocks of all lines, and writes the
+//! log.
 #![tactic(auto)]
 
 mod attending;

@@ -6,8 +6,8 @@ use std::fmt;
 /// How many bytes a line of the log has at most, with its end.
 const LONGEST: usize = 512;
 
-/// Room for the text of one line. What is too long is cut, and a control character is shown as `?`, so that one
-/// line stays one.
+/// Room for the text of one line. What is too long is cut, and a control character is shown as `?`,
+/// so that one line stays one.
 #[derive(Drop)]
 pub(crate) struct LineText {
     text: ArrayString<LONGEST>,

@@ -8,8 +8,9 @@ use std::io::Write;
 
 /// Writes lines, each with its time. It never waits for its writer and never fails.
 ///
-/// A line of which the writer takes nothing is dropped and counted. Where it takes a part, the rest goes out before the
-/// next line. The first line that it takes after that says how many were dropped.
+/// A line of which the writer takes nothing is dropped and counted. Where it takes a part, the rest
+/// goes out before the next line. The first line that it takes after that says how many were
+/// dropped.
 #[derive(Drop)]
 pub struct Log<L: Write + Drop> {
     writer: Option<L>,

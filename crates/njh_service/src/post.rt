@@ -39,8 +39,8 @@ pub(crate) struct Label {
     pub(crate) up: bool,
     /// Whether it was in a session, up or on the way there.
     pub(crate) in_session: bool,
-    /// When it was seen that the session tried again, the first time of the tries in a row that it has made, on the
-    /// service's clock; none where it has made none.
+    /// When it was seen that the session tried again, the first time of the tries in a row that it
+    /// has made, on the service's clock; none where it has made none.
     pub(crate) tries_since: Option<u64>,
     /// Whether its last connection's end was told.
     pub(crate) lost: bool,
@@ -77,7 +77,8 @@ pub(crate) enum Door<Li: Drop, C: Drop> {
 /// A line that is served.
 #[derive(Drop)]
 pub(crate) struct Post<Li: Drop, C: Drop> {
-    /// When its door is to be looked at, on the service's clock; `u64::MAX` where nobody waits there.
+    /// When its door is to be looked at, on the service's clock; `u64::MAX` where nobody waits
+    /// there.
     pub(crate) moment: u64,
     /// When its wire's silence had begun as it was last looked at; `u64::MAX` before that.
     pub(crate) seen: u64,

@@ -28,8 +28,8 @@ enum RouteState {
     Lacks,
 }
 
-/// The tables of a hub that runs, and their source. Tables that differ in routes alone are taken, and their customers
-/// are given these one after the other; others are passed over.
+/// The tables of a hub that runs, and their source. Tables that differ in routes alone are taken,
+/// and their customers are given these one after the other; others are passed over.
 #[derive(Drop)]
 pub struct Revision<S: TableSource + Drop> {
     alloc: Global,
@@ -80,7 +80,8 @@ impl Revision<NoSource> {
 }
 
 impl<S: TableSource + Drop> Revision<S> {
-    /// The tables that a hub was opened with, and where new ones come from. Out of memory is the only refusal.
+    /// The tables that a hub was opened with, and where new ones come from. Out of memory is the
+    /// only refusal.
     pub fn new(alloc: Global, tables: Tables, source: S) -> Result<Revision<S>, AllocError>
         ensures { IfOk result (λ revision. revision ≡ Some tables) }
     {
@@ -105,7 +106,8 @@ impl<S: TableSource + Drop> Revision<S> {
         self.tables.as_ref()
     }
 
-    /// Looks at the source, once a second on this clock, and takes its tables where they changed in routes alone.
+    /// Looks at the source, once a second on this clock, and takes its tables where they changed in
+    /// routes alone.
     pub fn look(&mut self, now: u64) -> Option<SourceOutcome<S::Fault>>
         ensures { AreKept self.old self.new }
     {
@@ -140,7 +142,8 @@ impl<S: TableSource + Drop> Revision<S> {
         }
     }
 
-    /// The routes of the next customer that waits for some. Where there is no memory for them, the customer's number.
+    /// The routes of the next customer that waits for some. Where there is no memory for them, the
+    /// customer's number.
     pub fn next_routes(&mut self) -> Option<Result<NewRoutes, u16>>
         ensures routes { IfSome result (λ given. IfOk given (λ new. IfSome self.new (λ tables.
             new.routes ≡ given_routes new.customer (customer_at tables new.customer).routes))) }
@@ -212,8 +215,8 @@ fn first_waiting(standings: &[RouteState], from: usize) -> Option<usize> {
     None
 }
 
-/// Marks each customer that has to be given its routes of new tables: those differ from the ones that it has, or it
-/// lacks them. Says whether there is any.
+/// Marks each customer that has to be given its routes of new tables: those differ from the ones
+/// that it has, or it lacks them. Says whether there is any.
 fn mark(standings: &mut [RouteState], known: &Tables, tables: &Tables) -> bool {
     let mut any = false;
     for place in 0..standings.len() {

@@ -80,7 +80,8 @@ pub(crate) fn files_going(senders: &[Sender]) -> [Option<FileId>; STREAMS] {
     files
 }
 
-/// On which of a line's streams the end of a file was sent, and the peer hasn't said yet that it has it.
+/// On which of a line's streams the end of a file was sent, and the peer hasn't said yet that it
+/// has it.
 pub(crate) fn ended(senders: &[Sender]) -> [bool; STREAMS] {
     let mut ended = [false; STREAMS];
     for place in 0..STREAMS {
@@ -89,8 +90,8 @@ pub(crate) fn ended(senders: &[Sender]) -> [bool; STREAMS] {
     ended
 }
 
-/// Whether a customer counts as near its quota, which it begins to be at nine tenths of it and ceases to be below
-/// eight.
+/// Whether a customer counts as near its quota, which it begins to be at nine tenths of it and
+/// ceases to be below eight.
 pub(crate) fn near_after(was: bool, used: u32, quota: u32) -> bool
     ensures { result ≡ near_after was used quota }
 {

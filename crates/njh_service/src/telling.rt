@@ -16,8 +16,8 @@ use njh_wire::Network;
 use std::io::Write;
 
 impl<N: Network + Drop, L: Write + Drop> Desk<N, L> {
-    /// Tells which files of a line came, went out or were refused since it was last looked at, and whether its customer
-    /// has come near its quota.
+    /// Tells which files of a line came, went out or were refused since it was last looked at, and
+    /// whether its customer has come near its quota.
     pub(crate) fn tell_files(
         &mut self,
         id: LineId,
@@ -72,7 +72,8 @@ impl<N: Network + Drop, L: Write + Drop> Desk<N, L> {
         streams.ended = ended(senders);
     }
 
-    /// Tells of the files that streams from the hub are about no more, now that they are about these.
+    /// Tells of the files that streams from the hub are about no more, now that they are about
+    /// these.
     fn tell_gone(
         &mut self,
         customer: u16,
@@ -128,8 +129,9 @@ fn arrival(file: &FileSummaryView) -> LogEvent {
     }
 }
 
-/// What is told of a file that came in on a stream and isn't kept. `drains` where its rest is ignored, `notice` where
-/// its owner was told something: then the hub refused it. Else its peer gave it up, or its session ended.
+/// What is told of a file that came in on a stream and isn't kept. `drains` where its rest is
+/// ignored, `notice` where its owner was told something: then the hub refused it. Else its peer
+/// gave it up, or its session ended.
 fn loss(stream: Stream, drains: bool, notice: Option<&Notice>) -> LogEvent {
     if drains || notice.is_some() {
         LogEvent::ComingRefused(stream, notice.map(NoticeLine::of))
@@ -138,7 +140,8 @@ fn loss(stream: Stream, drains: bool, notice: Option<&Notice>) -> LogEvent {
     }
 }
 
-/// What became of a file that a stream from the hub is about no more, where it went out or was refused.
+/// What became of a file that a stream from the hub is about no more, where it went out or was
+/// refused.
 fn departure(hub: &Hub, customer: u16, streams: &Streams, place: usize) -> Option<LogEvent>
     requires { place < 8 }
 {

@@ -3,7 +3,8 @@ use Rattle.std.proofs.Common.{◌≡◌, ℕ, ◌+◌, ◌<◌, List, [], ◌∷
 use Rattle.std.proofs.lemmas.List.{length-map, get_or-map, map-append, take_more}
 use Rattle.sqlite.specs.Order.{Row}
 
-module _ {A B S : Type 0} (shown : A → Row) (value : A → B) (entry : S → B) (rows : List Row) (done : List S) (x : S) (at : ℕ) (row : Row) where
+module _ {A B S : Type 0} (shown : A → Row) (value : A → B) (entry : S → B) (rows : List Row) (done : List S) (x : S)
+    (at : ℕ) (row : Row) where
   pub read_more : at < length rows → row ≡ get_or rows at row → ((e : A) → row ≡ shown e → entry x ≡ value e)
       → ((all : List A) → rows ≡ map shown all → map entry done ≡ map value (take at all))
       → (all : List A) → rows ≡ map shown all → map entry (done ++ x ∷ []) ≡ map value (take (at + 1) all)
@@ -11,7 +12,8 @@ module _ {A B S : Type 0} (shown : A → Row) (value : A → B) (entry : S → B
   read_more low here one so_far (a ∷ rest) is =
       let all = a ∷ rest in
       let within : at < length all = omega (arith, low, ap length is, length-map all shown) in
-      let this : row ≡ shown (get_or all at a) = here ∙ ap (λ l. get_or l at row) is ∙ get_or-map shown all at a row within in
+      let this : row ≡ shown (get_or all at a) =
+      here ∙ ap (λ l. get_or l at row) is ∙ get_or-map shown all at a row within in
       map-append entry done (x ∷ [])
       ∙ (λ i. so_far all is i ++ one (get_or all at a) this i ∷ [])
       ∙ sym (ap (map value) (take_more all at a within) ∙ map-append value (take at all) (get_or all at a ∷ []))

@@ -16,7 +16,8 @@ use Rattle.sqlite_value.specs.Keys.{ascending}
 use Rattle.sqlite.proofs.Callers.{IsPlain, command_of, statement_of}
 use Rattle.sqlite.specs.Compile.{table_defined_by}
 use Rattle.sqlite.specs.Table.{Table}
-use Rattle.njh_spoolfile.specs.Tables.{spool_schema, no_tables, one_table, two_tables, spool_table, files_table, records_table}
+use Rattle.njh_spoolfile.specs.Tables.{spool_schema, no_tables, one_table, two_tables, spool_table, files_table}
+use Rattle.njh_spoolfile.specs.Tables.{records_table}
 
 abbrev pub insert_record : List ℕ
 insert_record = codes "INSERT INTO records VALUES (?1, ?2, ?3, ?4, ?5)"
@@ -36,7 +37,8 @@ abbrev pub insert_file : List ℕ
 insert_file = codes "INSERT INTO files VALUES (?1, ?2, ?3, ?4, ?5, ?6, ?7, ?8, ?9, ?10, ?11, ?12, ?13, ?14)"
 
 abbrev pub file_terms : List Term
-file_terms = col 0 0 ∷ lit Null ∷ col 0 1 ∷ col 0 2 ∷ col 0 3 ∷ col 0 4 ∷ col 0 5 ∷ col 0 6 ∷ col 0 7 ∷ col 0 8 ∷ col 0 9 ∷ col 0 10 ∷ col 0 11 ∷ col 0 12 ∷ col 0 13 ∷ []
+file_terms = col 0 0 ∷ lit Null ∷ col 0 1 ∷ col 0 2 ∷ col 0 3 ∷ col 0 4 ∷ col 0 5 ∷ col 0 6 ∷ col 0 7 ∷ col 0 8 ∷ col 0
+    9 ∷ col 0 10 ∷ col 0 11 ∷ col 0 12 ∷ col 0 13 ∷ []
 
 pub insert_file_is : command_of (understood spool_schema insert_file) ≡ Insert 1 (Values file_terms 15)
 unfolding understood everything
@@ -88,7 +90,8 @@ delete_file = codes "DELETE FROM files WHERE id = ?1"
 abbrev pub has_id : List Term
 has_id = op2 (Compare Eq Binary) (col 1 0) (col 0 0) ∷ []
 
-pub delete_file_is : command_of (understood spool_schema delete_file) ≡ Delete 1 (record { lets = []; body = rowids_where 1 has_id })
+pub delete_file_is : command_of (understood spool_schema delete_file)
+    ≡ Delete 1 (record { lets = []; body = rowids_where 1 has_id })
 unfolding understood everything
 delete_file_is = refl
 
@@ -102,7 +105,8 @@ delete_records = codes "DELETE FROM records WHERE id >= ?1 AND id < ?2"
 abbrev pub is_between : List Term
 is_between = op2 (Compare Ge Binary) (col 1 0) (col 0 0) ∷ op2 (Compare Lt Binary) (col 1 0) (col 0 1) ∷ []
 
-pub delete_records_is : command_of (understood spool_schema delete_records) ≡ Delete 2 (record { lets = []; body = rowids_where 2 is_between })
+pub delete_records_is : command_of (understood spool_schema delete_records)
+    ≡ Delete 2 (record { lets = []; body = rowids_where 2 is_between })
 unfolding understood everything
 delete_records_is = refl
 
@@ -130,13 +134,17 @@ abbrev pub select_files : List ℕ
 select_files = codes "SELECT id, customer, key, kind, job, number, owner_node, owner_user, to_node, to_user, held, records, blocks, came FROM files ORDER BY id"
 
 abbrev pub file_names : List (List ℕ)
-file_names = codes "id" ∷ codes "customer" ∷ codes "key" ∷ codes "kind" ∷ codes "job" ∷ codes "number" ∷ codes "owner_node" ∷ codes "owner_user" ∷ codes "to_node" ∷ codes "to_user" ∷ codes "held"
+file_names = codes "id" ∷ codes "customer" ∷ codes "key" ∷ codes "kind" ∷ codes "job" ∷ codes "number" ∷ codes
+    "owner_node" ∷ codes "owner_user" ∷ codes "to_node" ∷ codes "to_user" ∷ codes "held"
     ∷ codes "records" ∷ codes "blocks" ∷ codes "came" ∷ []
 
 abbrev pub file_terms_shown : List Term
-file_terms_shown = col 1 0 ∷ col 1 2 ∷ col 1 3 ∷ col 1 4 ∷ col 1 5 ∷ col 1 6 ∷ col 1 7 ∷ col 1 8 ∷ col 1 9 ∷ col 1 10 ∷ col 1 11 ∷ col 1 12 ∷ col 1 13 ∷ col 1 14 ∷ []
+file_terms_shown = col 1 0 ∷ col 1 2 ∷ col 1 3 ∷ col 1 4 ∷ col 1 5 ∷ col 1 6 ∷ col 1 7 ∷ col 1 8 ∷ col 1 9 ∷ col 1
+    10 ∷ col 1 11 ∷ col 1 12 ∷ col 1 13 ∷ col 1 14 ∷ []
 
-pub select_files_is : (command_of (understood spool_schema select_files) ≡ Select (record { lets = []; body = by_rowid 1 [] file_terms_shown }) file_names) × (reads_listing spool_schema select_files ≡ false)
+pub select_files_is : (command_of (understood spool_schema select_files)
+    ≡ Select (record { lets = []; body = by_rowid 1 [] file_terms_shown }) file_names)
+    × (reads_listing spool_schema select_files ≡ false)
 unfolding understood everything
 select_files_is = (refl, refl)
 
@@ -150,7 +158,9 @@ select_records = codes "SELECT place, srcb, bytes FROM records WHERE id >= ?1 AN
 abbrev pub record_terms_shown : List Term
 record_terms_shown = col 1 3 ∷ col 1 4 ∷ col 1 5 ∷ []
 
-pub select_records_is : (command_of (understood spool_schema select_records) ≡ Select (record { lets = []; body = by_rowid 2 is_between record_terms_shown }) (codes "place" ∷ codes "srcb" ∷ codes "bytes" ∷ [])) × (reads_listing spool_schema select_records ≡ false)
+pub select_records_is : (command_of (understood spool_schema select_records)
+    ≡ Select (record { lets = []; body = by_rowid 2 is_between record_terms_shown })
+    (codes "place" ∷ codes "srcb" ∷ codes "bytes" ∷ [])) × (reads_listing spool_schema select_records ≡ false)
 unfolding understood everything
 select_records_is = (refl, refl)
 
@@ -161,7 +171,9 @@ select_records_plain = (refl, refl)
 abbrev pub select_version : List ℕ
 select_version = codes "SELECT version FROM spool ORDER BY version"
 
-pub select_version_is : (command_of (understood spool_schema select_version) ≡ Select (record { lets = []; body = by_rowid 0 [] (col 1 0 ∷ []) }) (codes "version" ∷ [])) × (reads_listing spool_schema select_version ≡ false)
+pub select_version_is : (command_of (understood spool_schema select_version)
+    ≡ Select (record { lets = []; body = by_rowid 0 [] (col 1 0 ∷ []) }) (codes "version" ∷ []))
+    × (reads_listing spool_schema select_version ≡ false)
 unfolding understood everything
 select_version_is = (refl, refl)
 

@@ -22,49 +22,61 @@ use Rattle.sqlite_catalog.specs.Change.{KeepsRows}
 use Rattle.njh_spoolfile.specs.Kept.{version_row}
 use Rattle.njh_spoolfile.specs.Tables.{spool_schema, spool_table}
 use Rattle.njh_spoolfile.specs.Steps.{Makes, Sets}
-use Rattle.njh_spoolfile.proofs.Meaning.{IsCreation, insert_version, insert_version_is, insert_version_plain, version_terms}
+use Rattle.njh_spoolfile.proofs.Meaning.{IsCreation, insert_version, insert_version_is, insert_version_plain}
+use Rattle.njh_spoolfile.proofs.Meaning.{version_terms}
 use Rattle.njh_spoolfile.proofs.Runs.{went, same_value, cast_int, cast_null}
 
-pub creates : (text : List ℕ) (before after : Schema) (table : Table) (tree : ℕ) → IsCreation text before table → created before table ≡ after → next_tree before ≡ tree → lacks_sequence after ≡ false
-    → (old new : State) (count : ℕ) → old.now.schema ≡ before → old.in_transaction ≡ true → Executes text [] old new (Ok count) → Makes after tree old new
+pub creates : (text : List ℕ) (before after : Schema) (table : Table) (tree : ℕ) → IsCreation text before table
+    → created before table ≡ after → next_tree before ≡ tree → lacks_sequence after ≡ false
+    → (old new : State) (count : ℕ) → old.now.schema ≡ before → old.in_transaction ≡ true
+    → Executes text [] old new (Ok count) → Makes after tree old new
 creates text before after table tree is next at uncounted old new count has waits h =
-    let w = subst (λ t. Writes old new None CreateTable t [] count) is.whole (runs_as text [] old new before has CreateTable is.command is.plain count h) in
+    let w = subst (λ t. Writes old new None CreateTable t [] count) is.whole
+    (runs_as text [] old new before has CreateTable is.command is.plain count h) in
     let all = went w.changed in
     let first = went all.1 in
     let made = first.1 in
     let both : Ok made.table ≡ Ok table = sym made.defined ∙ is.defined in
     let same : made.table ≡ table = cc in
-    let schema : first.0.schema ≡ after = made.is ∙ ap (λ s. created s made.table) has ∙ ap (created before) same ∙ next in
+    let schema : first.0.schema ≡ after = made.is ∙ ap (λ s. created s made.table) has ∙ ap (created before) same
+    ∙ next in
     let plain : lacks_sequence first.0.schema ≡ false = ap lacks_sequence schema ∙ uncounted in
-    let now : new.now ≡ first.0 = ap (λ (p : Tally × Database). p.1) (same_value all.2) ∙ same_value (rw plain at first.2) in
+    let now : new.now ≡ first.0 = ap (λ (p : Tally × Database). p.1) (same_value all.2)
+    ∙ same_value (rw plain at first.2) in
     record {
       is_open = w.shown.is_open;
       schema = ap (λ (d : Database). d.schema) now ∙ schema;
       waits = w.shown.mode ∙ waits;
       committed = w.shown.committed_is ∙ rw waits refl;
-      empty = ap (λ (d : Database). d.trees tree) now ∙ subst (λ n. first.0.trees n ≡ []) (ap next_tree has ∙ at) made.empty;
+      empty = ap (λ (d : Database). d.trees tree) now ∙ subst (λ n. first.0.trees n ≡ []) (ap next_tree has ∙ at)
+          made.empty;
       others = subst (λ (d : Database). KeepsRows old.now.schema.tables old.now.trees d.trees) (sym now) made.others;
     }
 
 cast_version : cast_row spool_table version_row ≡ version_row
 cast_version = rw (cast_int (pos 1), cast_null) refl
 
-pub sets : (old new : State) (count : ℕ) → old.now.schema ≡ spool_schema → old.in_transaction ≡ true → Executes insert_version [] old new (Ok count) → Sets old new
+pub sets : (old new : State) (count : ℕ) → old.now.schema ≡ spool_schema → old.in_transaction ≡ true
+    → Executes insert_version [] old new (Ok count) → Sets old new
 sets old new count has waits h =
     let db = old.now.trees in
     let command = Insert 0 (Values version_terms 2) in
     let w = runs_as insert_version [] old new spool_schema has command insert_version_is insert_version_plain count h in
     let text = statement_of insert_version (understood spool_schema insert_version) in
-    let done = went (subst (λ s. Does old.step_limit (mode_of old) [] (record old.now { schema = s }) text None command (Ok (w.tally, new.now))) has w.changed) in
+    let done = went (subst (λ s. Does old.step_limit (mode_of old) [] (record old.now { schema = s }) text None command
+    (Ok (w.tally, new.now))) has w.changed) in
     let now = ap (λ (p : Tally × Database). p.1) (same_value (went (went done.2).2).2) in
     let given = went done.1 in
     let written = went (went given.2).2 in
     let counted = went written.2 in
-    let trees : done.0.trees ≡ written.0 = ap (λ (it : Written). it.trees) (same_value counted.2) ∙ same_value counted.1 in
+    let trees : done.0.trees ≡ written.0 =
+    ap (λ (it : Written). it.trees) (same_value counted.2) ∙ same_value counted.1 in
     let applied = one_step spool_schema _ db written.0 (edit_of db spool_table [] Chosen 0 given.0) refl written.1 in
     let edit : edited db (edit_of db spool_table [] Chosen 0 given.0) ≡ put_row version_row (db 0) =
-    ap (λ all. edited db (edit_of db spool_table [] Chosen 0 all)) given.1.1 ∙ ap (λ row. put_all (db 0) (numbered Chosen (db 0) (row ∷ []))) cast_version in
-    let at : (t : ℕ) → new.now.trees t ≡ written.0 t = λ t. ap (λ (d : Database). d.trees t) now ∙ ap (λ (all : Trees). all t) trees in
+    ap (λ all. edited db (edit_of db spool_table [] Chosen 0 all)) given.1.1
+    ∙ ap (λ row. put_all (db 0) (numbered Chosen (db 0) (row ∷ []))) cast_version in
+    let at : (t : ℕ) → new.now.trees t ≡ written.0 t =
+    λ t. ap (λ (d : Database). d.trees t) now ∙ ap (λ (all : Trees). all t) trees in
     let schema : new.now.schema ≡ spool_schema = ap (λ (d : Database). d.schema) now in
     record {
       is_open = w.shown.is_open;

@@ -15,7 +15,8 @@ use Rattle.njh_spoolfile.specs.Tables.{spool_schema}
 pub at_ok : {T E : Type 0} (P : T → Type 0) (r : Result T E) (x : T) → r ≡ Ok x → IfOk r P → P x
 at_ok P r x is h = subst (λ s. IfOk s P) is h
 
-module _ (image : Image) (was now : State) (opens : HasCleanDisk was → Opens was × IsLive was) (finds : HasCleanDisk was → FindsIn image was) (it : BecomesSpool was now) where
+module _ (image : Image) (was now : State) (opens : HasCleanDisk was → Opens was × IsLive was)
+    (finds : HasCleanDisk was → FindsIn image was) (it : BecomesSpool was now) where
   pub opens_from : HasCleanDisk now → OpensFrom image now.now.trees
   opens_from clean =
       let opened = opens (it.clean clean) in
@@ -26,13 +27,24 @@ module _ (image : Image) (was now : State) (opens : HasCleanDisk was → Opens w
         reads = found.reads;
         kept = elim (it.outcome clean) [
           | inl stays ↦ inl (ap (λ (d : Database). d.trees) (stays.now ∙ opened.0.clean))
-          | inr made ↦ inr (subst (λ s. IsSound s was.committed.trees) (sym (ap (λ (d : Database). d.schema) opened.0.clean) ∙ made.0) (opened.1 opened.0.is_open).1, made.1)
+          | inr made ↦ inr (
+            subst (λ s. IsSound s was.committed.trees)
+                (sym (ap (λ (d : Database). d.schema) opened.0.clean) ∙ made.0) (opened.1 opened.0.is_open).1,
+            made.1,
+          )
         ];
       }
 
-  pub stands_as_found : HasCleanDisk now → (spool : SpoolContents) → IsFoundIn image spool → Stands (record { now = spool; kept = spool }) now
+  pub stands_as_found : HasCleanDisk now → (spool : SpoolContents) → IsFoundIn image spool
+      → Stands (record { now = spool; kept = spool }) now
   stands_as_found clean spool found =
       let idle = it.idle clean in
-      let sound : IsSound spool_schema now.now.trees = subst (λ s. IsSound s now.now.trees) idle.schema (it.live idle.is_open).0 in
+      let sound : IsSound spool_schema now.now.trees =
+      subst (λ s. IsSound s now.now.trees) idle.schema (it.live idle.is_open).0 in
       let there : Holds spool now.now.trees = found now.now.trees sound (opens_from clean) in
-      record { is_open = idle.is_open; now = there; kept = subst (λ (d : Database). Holds spool d.trees) (sym idle.kept) there }
+      record {
+        is_open = idle.is_open;
+        now = there;
+        kept = subst (λ (d : Database). Holds spool d.trees) (sym idle.kept)
+            there;
+      }

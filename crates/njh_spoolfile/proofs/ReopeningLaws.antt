@@ -18,22 +18,32 @@ use Rattle.njh_spoolfile.proofs.NewTables.{one_schema}
 -- what is a spool stays as it is
 still : (spool : SpoolContents) (found now : Trees) → Holds spool found → IsOrBecomes found now → now ≡ found
 still spool found now held (inl same) = same
-still spool found now held (inr bare) = absurd (let e : spool_schema ≡ no_tables = one_schema found spool_schema no_tables held.sound bare.0 in let none = ap (λ (s : Schema). s.tables) e in cc)
+still spool found now held (inr bare) = absurd
+    (let e : spool_schema ≡ no_tables = one_schema found spool_schema no_tables held.sound bare.0 in let none = ap
+    (λ (s : Schema). s.tables) e in cc)
 
-pub opened : (spool : SpoolContents) (image : Image) (db now : Trees) → Holds spool db → HoldsDatabase image db → OpensFrom image now → now ≡ db
+pub opened : (spool : SpoolContents) (image : Image) (db now : Trees) → Holds spool db → HoldsDatabase image db
+    → OpensFrom image now → now ≡ db
 opened spool image db now held has o = still spool db now held (subst (λ t. IsOrBecomes t now) (o.holds db has) o.kept)
 
-pub found_again : {D : Type 0} {g : Ghosts D} (it : FileStore D g) → IsTrue (view it).is_numbered → ((trees : Trees) → recovers it trees → ((spool : SpoolContents) × Holds spool trees))
-    → (left : Image) → (state it).may_leave left → (now : Trees) → OpensFrom left now → ∥ ((trees : Trees) × recovers it trees × (now ≡ trees)) ∥₁
+pub found_again : {D : Type 0} {g : Ghosts D} (it : FileStore D g) → IsTrue (view it).is_numbered
+    → ((trees : Trees) → recovers it trees → ((spool : SpoolContents) × Holds spool trees))
+    → (left : Image) → (state it).may_leave left → (now : Trees) → OpensFrom left now
+    → ∥ ((trees : Trees) × recovers it trees × (now ≡ trees)) ∥₁
 found_again it numbered spools left may now o =
-    ∥∥₁_map (opens_again it numbered (λ db r. (spool_schema, (spools db r).1.sound)) left may) (λ r. (r.0, r.1, opened (spools r.0 r.1).0 left r.0 now (spools r.0 r.1).1 r.2 o))
+    ∥∥₁_map (opens_again it numbered (λ db r. (spool_schema, (spools db r).1.sound)) left may)
+    (λ r. (r.0, r.1, opened (spools r.0 r.1).0 left r.0 now (spools r.0 r.1).1 r.2 o))
 
-pub committed_again : {D : Type 0} {g : Ghosts D} (it : FileStore D g) → IsTrue (view it).is_numbered → ((trees : Trees) → recovers it trees → trees ≡ (view it).committed)
-    → (spool : SpoolContents) → Holds spool (view it).committed → (left : Image) → (state it).may_leave left → (now : Trees) → OpensFrom left now → Holds spool now
+pub committed_again : {D : Type 0} {g : Ghosts D} (it : FileStore D g) → IsTrue (view it).is_numbered
+    → ((trees : Trees) → recovers it trees → trees ≡ (view it).committed)
+    → (spool : SpoolContents) → Holds spool (view it).committed → (left : Image) → (state it).may_leave left
+    → (now : Trees) → OpensFrom left now → Holds spool now
 committed_again it numbered settled spool held left may now o =
-    let all = found_again it numbered (λ trees r. (spool, subst (Holds spool) (sym (settled trees r)) held)) left may now o in
+    let all = found_again it numbered (λ trees r. (spool, subst (Holds spool) (sym (settled trees r)) held)) left may
+    now o in
     subst (Holds spool) (sym (∥∥₁_elim all (Trees-set _ _) (λ r. r.2 ∙ settled r.0 r.1))) held
 
-pub leaves_spools : {D : Type 0} {g : Ghosts D} (it : FileStore D g) → IsTrue (view it).is_numbered → ((trees : Trees) → recovers it trees → ((spool : SpoolContents) × Holds spool trees))
+pub leaves_spools : {D : Type 0} {g : Ghosts D} (it : FileStore D g) → IsTrue (view it).is_numbered
+    → ((trees : Trees) → recovers it trees → ((spool : SpoolContents) × Holds spool trees))
     → (left : Image) → (state it).may_leave left → ∥ ((trees : Trees) × recovers it trees × HoldsDatabase left trees) ∥₁
 leaves_spools it numbered spools = opens_again it numbered (λ db r. (spool_schema, (spools db r).1.sound))

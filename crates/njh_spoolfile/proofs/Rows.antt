@@ -30,8 +30,10 @@ module _ {X : Type 0} (row : ℕ × X → Row) (ids : (e : ℕ × X) → rowid (
   pub put_shown : (new : ℕ × X) (es : List (ℕ × X)) → put_row (row new) (map row es) ≡ map row (put new es)
   put_shown new [] = refl
   put_shown new (e ∷ es) =
-      let order : value_cmp (rowid (row e)) (rowid (row new)) ≡ nat_cmp e.0 new.0 = rw (ids e, ids new) (numbers_cmp e.0 new.0) in
-      ap (λ o. match_ordering o (row e ∷ put_row (row new) (map row es)) (row new ∷ map row es) (row new ∷ row e ∷ map row es)) order
+      let order : value_cmp (rowid (row e)) (rowid (row new)) ≡ nat_cmp e.0 new.0 =
+      rw (ids e, ids new) (numbers_cmp e.0 new.0) in
+      ap (λ o. match_ordering o (row e ∷ put_row (row new) (map row es)) (row new ∷ map row es)
+      (row new ∷ row e ∷ map row es)) order
       ∙ placed new e es (nat_cmp e.0 new.0) (put_shown new es)
 
 -- ---- the order stays
@@ -49,16 +51,19 @@ in_integers : (m n : ℕ) → m < n → pos m <ℤ pos n
 in_integers m n h = grind (arith, nat_tests, h)
 
 module _ {X : Type 0} where
-  pub all_put : (P : ℕ × X → Type 0) (new : ℕ × X) (es : List (ℕ × X)) → P new → AllByRecursion P es → AllByRecursion P (put new es)
+  pub all_put : (P : ℕ × X → Type 0) (new : ℕ × X) (es : List (ℕ × X)) → P new → AllByRecursion P es
+      → AllByRecursion P (put new es)
   all_put P new [] one all = (one, tt)
   all_put P new (e ∷ es) one all = split (nat_cmp e.0 new.0) (all_put P new es one all.1)
     where
-      split : (o : Ordering) → AllByRecursion P (put new es) → AllByRecursion P (match_ordering o (e ∷ put new es) (new ∷ es) (new ∷ e ∷ es))
+      split : (o : Ordering) → AllByRecursion P (put new es)
+          → AllByRecursion P (match_ordering o (e ∷ put new es) (new ∷ es) (new ∷ e ∷ es))
       split Less rest = (all.0, rest)
       split Equal rest = (one, all.1)
       split Greater rest = (one, all)
 
-  all_above : (m n : ℕ) → m < n → (es : List (ℕ × X)) → AllByRecursion (λ x. n < x.0) es → AllByRecursion (λ x. m < x.0) es
+  all_above : (m n : ℕ) → m < n → (es : List (ℕ × X)) → AllByRecursion (λ x. n < x.0) es
+      → AllByRecursion (λ x. m < x.0) es
   all_above m n less [] all = tt
   all_above m n less (e ∷ es) all = (omega (arith, all.0), all_above m n less es all.1)
 
@@ -66,7 +71,8 @@ module _ {X : Type 0} where
   put_rises new [] h = (tt, tt)
   put_rises new (e ∷ es) h = split (nat_cmp e.0 new.0) refl (put_rises new es h.1)
     where
-      split : (o : Ordering) → nat_cmp e.0 new.0 ≡ o → Rise (put new es) → Rise (match_ordering o (e ∷ put new es) (new ∷ es) (new ∷ e ∷ es))
+      split : (o : Ordering) → nat_cmp e.0 new.0 ≡ o → Rise (put new es)
+          → Rise (match_ordering o (e ∷ put new es) (new ∷ es) (new ∷ e ∷ es))
       split Less is rest = (all_put (λ x. e.0 < x.0) new es (below e.0 new.0 is) h.0, rest)
       split Equal is rest = (subst (λ n. AllByRecursion (λ x. n < x.0) es) (same e.0 new.0 is) h.0, h.1)
       split Greater is rest = ((above e.0 new.0 is, all_above new.0 e.0 (above e.0 new.0 is) es h.0), h)

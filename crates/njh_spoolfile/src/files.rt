@@ -59,8 +59,9 @@ fn spool_of<S: Alter + Drop>(alloc: Global, conn: Connection<S>) -> Result<Store
     }
 }
 
-/// The spool of a database that was opened, where it was. It names no type of a store, since each call that does so and
-/// asks for `Alter` is proved at the price of all that the type's calls promise.
+/// The spool of a database that was opened, where it was. It names no type of a store, since each
+/// call that does so and asks for `Alter` is proved at the price of all that the type's calls
+/// promise.
 fn opened<S: Alter + Drop>(
     alloc: Global,
     conn: Result<Connection<S>, Error>,
@@ -82,9 +83,9 @@ fn opened<S: Alter + Drop>(
 }
 
 impl<S: Start> Store<FileStore<FileFrom<S>>> {
-    /// Opens the spool file at the path, or makes it, with a sum on each page. `Database` says why the file can't be
-    /// opened: `CannotOpen`, `DatabaseBusy` where another program has it, `NotADatabase` or `DatabaseCorrupt` where it
-    /// is damaged.
+    /// Opens the spool file at the path, or makes it, with a sum on each page. `Database` says why
+    /// the file can't be opened: `CannotOpen`, `DatabaseBusy` where another program has it,
+    /// `NotADatabase` or `DatabaseCorrupt` where it is damaged.
     pub fn open(
         rt: &HostRuntime,
         path: &str,

@@ -9,7 +9,8 @@ ghost use Rattle.sqlite.specs.Recovery.{Image};
 ghost use Rattle.sqlite.specs.Tree.{Trees};
 ghost use Rattle.sqlite_store.specs.FileStore as files;
 ghost use Rattle.sqlite_store.specs.declared.store.FileStore.{FileStore};
-ghost use Rattle.njh_spoolfile.specs.Kept.{File, Record, SpoolContents, Holds, Rise, IsNumbered, kept, whole_in, records_of};
+ghost use Rattle.njh_spoolfile.specs.Kept.{File, Record, SpoolContents, Holds, Rise, IsNumbered, kept, whole_in};
+ghost use Rattle.njh_spoolfile.specs.Kept.{records_of};
 ghost use Rattle.njh_spoolfile.specs.Kept.{record_number, with_file, with_changed, with_record, without_file};
 ghost use Rattle.njh_spoolfile.specs.Kept.{without_records};
 ghost use Rattle.njh_spoolfile.specs.Lists.{IsFree, has_file, kept_where};
@@ -25,7 +26,8 @@ pub fn a_file_comes_last()
 
 /// A file that leaves is gone, and the others stay in their order.
 pub fn a_file_leaves()
-    ensures { (id : ℕ) (spool : SpoolContents) → kept (without_file id spool) ≡ filter (λ w. not (w.id == id)) (kept spool) }
+    ensures { (id : ℕ) (spool : SpoolContents)
+        → kept (without_file id spool) ≡ filter (λ w. not (w.id == id)) (kept spool) }
 {}
 
 /// A file that is changed keeps its place.
@@ -41,7 +43,8 @@ pub fn a_file_keeps_its_place()
 pub fn records_in_part_do_not_show()
     ensures added { (r : Record) (spool : SpoolContents) → AllByRecursion IsNumbered spool.records → r.place < 2 ^ 23
         → IsFree r.key spool → kept (with_record r spool) ≡ kept spool }
-    ensures dropped { (key first end : ℕ) (spool : SpoolContents) → AllByRecursion IsNumbered spool.records → end ≤ 2 ^ 23
+    ensures dropped { (key first end : ℕ) (spool : SpoolContents) → AllByRecursion IsNumbered spool.records
+        → end ≤ 2 ^ 23
         → IsFree key spool → kept (without_records key first end spool) ≡ kept spool }
 {}
 
@@ -60,9 +63,9 @@ pub fn others_do_not_show()
         → kept_where passes (with_file id file spool) ≡ kept_where passes spool }
 {}
 
-/// Whoever opens the files that an open spool file may leave, at whatever moment, finds what a crash
-/// might leave of it, and so what was committed last. Its trees have to stand under their numbers, as
-/// those of one do that was stopped (`Store::stop`).
+/// Whoever opens the files that an open spool file may leave, at whatever moment, finds what a
+/// crash might leave of it, and so what was committed last. Its trees have to stand under their
+/// numbers, as those of one do that was stopped (`Store::stop`).
 pub fn what_is_left_is_found<D: Disk>()
     ensures found { (conn : Held (FileStore D D.Disk)) → IsTrue (files.view conn.store).is_numbered
         → ((trees : Trees) → (file_state conn).may_leave trees → ((spool : SpoolContents) × Holds spool trees))

@@ -57,7 +57,8 @@ fn recognise<S: Alter>(alloc: Global, conn: &mut Connection<S>) -> Result<(), Op
     ensures same { HasCleanDisk (state S.Store conn.new) → OnOk result (Stays (state S.Store conn.old)
         (state S.Store conn.new)) }
     ensures refused { HasCleanDisk (state S.Store conn.new) → IfErr result (λ fault. (fault ≡ OpenFault.NotASpool)
-        ⊎ (fault ≡ OpenFault.OtherVersion) → (spool : SpoolContents) → ¬ Holds spool (state S.Store conn.old).now.trees) }
+        ⊎ (fault ≡ OpenFault.OtherVersion) → (spool : SpoolContents)
+        → ¬ Holds spool (state S.Store conn.old).now.trees) }
     ensures version { HasCleanDisk (state S.Store conn.new) → OnOk result ((rows : List (List Value))
         × Shown (codes "SELECT version FROM spool ORDER BY version") [] (state S.Store conn.old)
         (state S.Store conn.new) rows × AreVersions rows) }
@@ -80,7 +81,8 @@ pub(crate) fn prepare<S: Alter>(alloc: Global, conn: &mut Connection<S>) -> Resu
         (state S.Store conn.new) ⊎ (((state S.Store conn.old).now.schema ≡ no_tables)
         × Holds no_files (state S.Store conn.new).now.trees)) }
     ensures refused { HasCleanDisk (state S.Store conn.new) → IfErr result (λ fault. (fault ≡ OpenFault.NotASpool)
-        ⊎ (fault ≡ OpenFault.OtherVersion) → (spool : SpoolContents) → ¬ Holds spool (state S.Store conn.old).now.trees) }
+        ⊎ (fault ≡ OpenFault.OtherVersion) → (spool : SpoolContents)
+        → ¬ Holds spool (state S.Store conn.old).now.trees) }
     ensures crash { Survives (state S.Store conn.old) (state S.Store conn.new)
         (λ trees. ((state S.Store conn.old).now.schema ≡ no_tables) × Holds no_files trees) }
 {

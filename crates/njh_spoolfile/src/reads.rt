@@ -7,7 +7,8 @@ ghost use Rattle.sqlite_value.specs.declared.value.Value.TheVariants.{Int, Text,
 ghost use Rattle.sqlite.specs.Order.{column};
 ghost use Rattle.sqlite.specs.State.{HasCleanDisk, Survives, Shown};
 ghost use Rattle.sqlite.specs.Held.{state};
-ghost use Rattle.njh_spoolfile.specs.Kept.{SpoolContents, Holds, File, Record, file_shown, record_shown, flag, entry_of};
+ghost use Rattle.njh_spoolfile.specs.Kept.{SpoolContents, Holds, File, Record, file_shown, record_shown, flag};
+ghost use Rattle.njh_spoolfile.specs.Kept.{entry_of};
 ghost use Rattle.njh_spoolfile.specs.Kept.{AreVersions, contents_of, contents, records_between};
 ghost use Rattle.njh_spoolfile.specs.Steps.{IsReady, Stays};
 

@@ -4,7 +4,8 @@ ghost use Rattle.std.specs.Prelude.{◌≡◌, ◌<◌, ◌≤◌, ◌^◌, true
 ghost use Rattle.sqlite.specs.State.{HasCleanDisk, Survives};
 ghost use Rattle.sqlite.specs.Held.{state};
 ghost use Rattle.sqlite_trees.specs.View.{IsClean};
-ghost use Rattle.njh_spoolfile.specs.Kept.{SpoolContents, Holds, file_of, record_of, with_file, with_changed, with_record};
+ghost use Rattle.njh_spoolfile.specs.Kept.{SpoolContents, Holds, file_of, record_of, with_file, with_changed};
+ghost use Rattle.njh_spoolfile.specs.Kept.{with_record};
 ghost use Rattle.njh_spoolfile.specs.Kept.{without_file, without_records, entry_of, contents, contents_of};
 ghost use Rattle.njh_spoolfile.specs.Kept.{records_between};
 ghost use Rattle.njh_spoolfile.specs.Shelf.{shown, IsUsable};
@@ -175,7 +176,8 @@ impl<S: Alter> Store<S> {
         done
     }
 
-    /// Puts a file in the place of the one of this number, as where it is held, released or sent elsewhere.
+    /// Puts a file in the place of the one of this number, as where it is held, released or sent
+    /// elsewhere.
     pub fn change_file(&mut self, id: u32, file: &FileRow) -> Result<(), Error>
         ensures changed { HasCleanDisk (shown S.Store self.new)
             → OnOk result (Changes (with_changed id (file_of file.now)) (shown S.Store self.old)
@@ -278,7 +280,8 @@ impl<S: Alter> Store<S> {
         stored
     }
 
-    /// The records of the file of this key at places from `first` on and before `end`, in their order.
+    /// The records of the file of this key at places from `first` on and before `end`, in their
+    /// order.
     pub fn records(
         &mut self,
         alloc: Global,

@@ -16,7 +16,8 @@ use Rattle.njh_stream.specs.declared.receiver.Progress.{Progress}
 use Rattle.njh_stream.specs.declared.receiver.Progress.TheVariants.{Beginning}
 use Rattle.njh_stream.specs.declared.receiver.Receiver.{Receiver}
 use Rattle.njh_stream.specs.declared.receiver.Receiver.TheVariants.{Idle, Open, Draining}
-use Rattle.njh_stream.specs.Transmissions.{RecordVerdict, Taken, Cancelled, is_whole, judged_coming, verdict_of, Fitting}
+use Rattle.njh_stream.specs.Transmissions.{RecordVerdict, Taken, Cancelled, is_whole, judged_coming, verdict_of}
+use Rattle.njh_stream.specs.Transmissions.{Fitting}
 use Rattle.njh_stream.specs.Receiving.{Arrival, Request, Data, Long, Abort, progress_of, received_request}
 use Rattle.njh_stream.specs.Receiving.{requested_where, closed_by, stored_by, received_arrival}
 use Rattle.njh_stream.specs.code.Agreement.{Agrees, AgreesWith}
@@ -30,7 +31,8 @@ IsFree s = has_file_room s ≡ true → is_number (next_number s) s ≡ false
 -- ---- a file that begins
 
 pub found_last :
-    (n : ℕ) (new : PartialFile) (fs : List PartialFile) → (new.number == n) ≡ true → list_any (λ f. f.number == n) fs ≡ false
+    (n : ℕ) (new : PartialFile) (fs : List PartialFile) → (new.number == n) ≡ true
+    → list_any (λ f. f.number == n) fs ≡ false
     → find (λ f. f.number == n) (fs ++ new ∷ []) ≡ Some new
 found_last n new [] is none = ap (λ b. cond b (Some new) None) is
 found_last n new (f ∷ fs) is none = at_first (f.number == n) (found_last n new fs is) none
@@ -61,14 +63,17 @@ begun_agrees kind s free =
     let new : PartialFile = record { number = next_number s; kind = kind; records = [] } in
     subst (AgreesWith kind Beginning)
     (sym (found_last (next_number s) new s.partial (eq-eqb (next_number s) (next_number s) refl)
-    (or_right (list_any (λ f. f.number == next_number s) s.whole) (list_any (λ f. f.number == next_number s) s.partial) free)))
+    (or_right (list_any (λ f. f.number == next_number s) s.whole) (list_any (λ f. f.number == next_number s) s.partial)
+    free)))
     (refl, nothing_yet kind, tt)
 
-pub requested_agrees : (kind : Kind) (s : CustomerSpool) → IsFree s → Agrees kind (received_request kind s).receiver (received_request kind s).spool
+pub requested_agrees : (kind : Kind) (s : CustomerSpool) → IsFree s
+    → Agrees kind (received_request kind s).receiver (received_request kind s).spool
 requested_agrees kind s free = at_room (has_file_room s && has_block s) refl
   where
     at_room :
-        (b : Bool) → (has_file_room s && has_block s) ≡ b → Agrees kind (requested_where b kind s).receiver (requested_where b kind s).spool
+        (b : Bool) → (has_file_room s && has_block s) ≡ b
+        → Agrees kind (requested_where b kind s).receiver (requested_where b kind s).spool
     at_room true e = begun_agrees kind s (free (and_left (has_file_room s) (has_block s) e))
     at_room false e = tt
 
@@ -85,11 +90,14 @@ found_with_record n r (g ∷ gs) f h = at_first (g.number == n) refl (found_with
   where
     at_first :
         (b : Bool) → (g.number == n) ≡ b
-        → (find (λ x. x.number == n) gs ≡ Some f → find (λ x. x.number == n) (map (λ x. cond (x.number == n) (with_record r x) x) gs) ≡ Some (with_record r f))
+        → (find (λ x. x.number == n) gs ≡ Some f
+        → find (λ x. x.number == n) (map (λ x. cond (x.number == n) (with_record r x) x) gs) ≡ Some (with_record r f))
         → cond b (Some g) (find (λ x. x.number == n) gs) ≡ Some f
-        → find (λ x. x.number == n) (cond b (with_record r g) g ∷ map (λ x. cond (x.number == n) (with_record r x) x) gs) ≡ Some (with_record r f)
+        → find (λ x. x.number == n) (cond b (with_record r g) g ∷ map (λ x. cond (x.number == n) (with_record r x) x)
+        gs) ≡ Some (with_record r f)
     at_first true e more h =
-        ap (λ b. cond b (Some (with_record r g)) (find (λ x. x.number == n) (map (λ x. cond (x.number == n) (with_record r x) x) gs))) e
+        ap (λ b. cond b (Some (with_record r g))
+        (find (λ x. x.number == n) (map (λ x. cond (x.number == n) (with_record r x) x) gs))) e
         ∙ ap (option_map (with_record r)) h
     at_first false e more h =
         ap (λ b. cond b (Some g) (find (λ x. x.number == n) (map (λ x. cond (x.number == n) (with_record r x) x) gs))) e
@@ -99,7 +107,8 @@ abbrev pub records_or_none : Option PartialFile → List Stored
 records_or_none o = elim o [ Some f ↦ f.records | None ↦ [] ]
 
 pub appended_agrees :
-    (kind : Kind) (progress : Progress) (n : ℕ) (r : Stored) (s : CustomerSpool) → AgreesWith kind progress (partial_numbered n s)
+    (kind : Kind) (progress : Progress) (n : ℕ) (r : Stored) (s : CustomerSpool)
+    → AgreesWith kind progress (partial_numbered n s)
     → (ReadsSoFar kind (partial_records n s) → ReadsSoFar kind (partial_records n s ++ r ∷ []))
     → AgreesWith kind (progress_of kind (partial_records n s ++ r ∷ [])) (partial_numbered n (with_appended n r s))
 appended_agrees kind progress n r s agrees reads = at_file (partial_numbered n s) refl agrees
@@ -109,7 +118,8 @@ appended_agrees kind progress n r s agrees reads = at_file (partial_numbered n s
         → AgreesWith kind (progress_of kind (partial_records n s ++ r ∷ [])) (partial_numbered n (with_appended n r s))
     at_file None e agrees = absurd agrees
     at_file (Some f) e agrees =
-        subst (AgreesWith kind (progress_of kind (partial_records n s ++ r ∷ []))) (sym (found_with_record n r s.partial f e)) (
+        subst (AgreesWith kind (progress_of kind (partial_records n s ++ r ∷ [])))
+        (sym (found_with_record n r s.partial f e)) (
           agrees.0,
           ap (λ o. progress_of kind (records_or_none o ++ r ∷ [])) e,
           subst (λ o. ReadsSoFar kind (records_or_none o ++ r ∷ [])) e
@@ -117,20 +127,24 @@ appended_agrees kind progress n r s agrees reads = at_file (partial_numbered n s
         )
 
 pub stored_agrees :
-    (v : RecordVerdict) (kind : Kind) (progress : Progress) (n : ℕ) (r : Stored) (s : CustomerSpool) → AgreesWith kind progress (partial_numbered n s)
+    (v : RecordVerdict) (kind : Kind) (progress : Progress) (n : ℕ) (r : Stored) (s : CustomerSpool)
+    → AgreesWith kind progress (partial_numbered n s)
     → (v ≡ Taken → ReadsSoFar kind (partial_records n s) → ReadsSoFar kind (partial_records n s ++ r ∷ []))
-    → Agrees kind (stored_by v kind n r (partial_records n s ++ r ∷ []) s).receiver (stored_by v kind n r (partial_records n s ++ r ∷ []) s).spool
+    → Agrees kind (stored_by v kind n r (partial_records n s ++ r ∷ []) s).receiver
+    (stored_by v kind n r (partial_records n s ++ r ∷ []) s).spool
 stored_agrees Taken kind progress n r s agrees reads = appended_agrees kind progress n r s agrees (reads refl)
 stored_agrees (Cancelled text) kind progress n r s agrees reads = tt
 
-pub closed_agrees : (b : Bool) (kind : Kind) (n : ℕ) (s : CustomerSpool) → Agrees kind (closed_by b n s).receiver (closed_by b n s).spool
+pub closed_agrees : (b : Bool) (kind : Kind) (n : ℕ) (s : CustomerSpool)
+    → Agrees kind (closed_by b n s).receiver (closed_by b n s).spool
 closed_agrees true kind n s = tt
 closed_agrees false kind n s = tt
 
 -- ---- every arrival
 
 pub received_agrees :
-    (entry : CustomerEntry) (l : ℕ) (kind : Kind) (r : Receiver) (a : Arrival) (s : CustomerSpool) → ((x : CustomerSpool) → IsFree x) → Agrees kind r s
+    (entry : CustomerEntry) (l : ℕ) (kind : Kind) (r : Receiver) (a : Arrival) (s : CustomerSpool)
+    → ((x : CustomerSpool) → IsFree x) → Agrees kind r s
     → Agrees kind (received_arrival entry l kind r a s).receiver (received_arrival entry l kind r a s).spool
 received_agrees entry l kind Idle Request s free agrees = requested_agrees kind s (free s)
 received_agrees entry l kind Idle (Data srcb bytes) s free agrees = tt
@@ -141,8 +155,10 @@ received_agrees entry l kind Draining (Data srcb []) s free agrees = tt
 received_agrees entry l kind Draining (Data srcb (b ∷ bytes)) s free agrees = tt
 received_agrees entry l kind Draining Long s free agrees = tt
 received_agrees entry l kind Draining Abort s free agrees = tt
-received_agrees entry l kind (Open n progress) Request s free agrees = requested_agrees kind (without_partial n s) (free (without_partial n s))
-received_agrees entry l kind (Open n progress) (Data srcb []) s free agrees = closed_agrees (is_whole (partial_records n s)) kind n s
+received_agrees entry l kind (Open n progress) Request s free agrees =
+    requested_agrees kind (without_partial n s) (free (without_partial n s))
+received_agrees entry l kind (Open n progress) (Data srcb []) s free agrees =
+    closed_agrees (is_whole (partial_records n s)) kind n s
 received_agrees entry l kind (Open n progress) (Data srcb (b ∷ bytes)) s free agrees =
     let r : Stored = record { srcb = srcb; bytes = b ∷ bytes } in
     let earlier = partial_records n s in
@@ -154,11 +170,15 @@ received_agrees entry l kind (Open n progress) Abort s free agrees = tt
 
 -- the same of the whole spool
 pub step_agrees :
-    (entry : CustomerEntry) (l c : ℕ) (kind : Kind) (r now : Receiver) (a : Arrival) (old new : List CustomerSpool) → ((x : CustomerSpool) → IsFree x)
-    → c < length old → Agrees kind r (spool_at c old) → now ≡ (received_arrival entry l kind r a (spool_at c old)).receiver
-    → new ≡ slice_set old c (received_arrival entry l kind r a (spool_at c old)).spool → Agrees kind now (spool_at c new)
+    (entry : CustomerEntry) (l c : ℕ) (kind : Kind) (r now : Receiver) (a : Arrival) (old new : List CustomerSpool)
+    → ((x : CustomerSpool) → IsFree x)
+    → c < length old → Agrees kind r (spool_at c old)
+    → now ≡ (received_arrival entry l kind r a (spool_at c old)).receiver
+    → new ≡ slice_set old c (received_arrival entry l kind r a (spool_at c old)).spool
+    → Agrees kind now (spool_at c new)
 step_agrees entry l c kind r now a old new free range agrees now_is new_is =
     subst (λ x. Agrees kind x (spool_at c new)) (sym now_is)
     (subst (Agrees kind (received_arrival entry l kind r a (spool_at c old)).receiver)
-    (sym (ap (spool_at c) new_is ∙ get_or-set_same old c (received_arrival entry l kind r a (spool_at c old)).spool no_spool range))
+    (sym (ap (spool_at c) new_is ∙ get_or-set_same old c (received_arrival entry l kind r a (spool_at c old)).spool
+    no_spool range))
     (received_agrees entry l kind r a (spool_at c old) free agrees))

@@ -27,7 +27,8 @@ class_received entry l kind (Open n progress) srcb (b ∷ bytes) s = at_unread (
     r = record { srcb = srcb; bytes = b ∷ bytes }
 
     at_unread :
-        (o : Option Progress) → received_by entry l (class_in (file_with n kind progress) o) r s ≡ received_record entry l kind n r s
+        (o : Option Progress) → received_by entry l (class_in (file_with n kind progress) o) r s ≡ received_record entry
+        l kind n r s
     at_unread (Some more) = refl
     at_unread None = refl
 
@@ -35,7 +36,8 @@ class_received entry l kind (Open n progress) srcb (b ∷ bytes) s = at_unread (
 abbrev pub IsKnown : RecordClass → ℕ → CustomerSpool → Type 0
 IsKnown (classes.GoesBy receiver) srcb s = Unit {0}
 IsKnown (classes.Ends file) srcb s = IsKept file s
-IsKnown (classes.Stored file progress) srcb s = IsKept file s × (unread_progress file.kind file.progress srcb ≡ Some progress)
+IsKnown (classes.Stored file progress) srcb s =
+    IsKept file s × (unread_progress file.kind file.progress srcb ≡ Some progress)
 IsKnown (classes.Judged file) srcb s = IsKept file s × (unread_progress file.kind file.progress srcb ≡ None)
 
 pub class_known :
@@ -48,6 +50,7 @@ class_known kind (Open n progress) srcb [] s agrees = agrees
 class_known kind (Open n progress) srcb (b ∷ bytes) s agrees = at_unread (unread_progress kind progress srcb) refl
   where
     at_unread :
-        (o : Option Progress) → unread_progress kind progress srcb ≡ o → IsKnown (class_in (file_with n kind progress) o) srcb s
+        (o : Option Progress) → unread_progress kind progress srcb ≡ o
+        → IsKnown (class_in (file_with n kind progress) o) srcb s
     at_unread (Some more) e = (agrees, e)
     at_unread None e = (agrees, e)

@@ -13,7 +13,8 @@ use Rattle.njh_header.specs.FileHeaders.{name_of}
 use Rattle.njh_header.specs.declared.fault.HeaderFault.{HeaderFault}
 use Rattle.njh_table.specs.Entries.{CustomerEntry}
 use Rattle.njh_stream.specs.Transmissions.{RecordVerdict, Taken, Cancelled, ComingRecord, Fitting, TooLong, is_whole}
-use Rattle.njh_stream.specs.Transmissions.{judged_node, judged_job, judged_later, is_continuation, with_room, verdict_of}
+use Rattle.njh_stream.specs.Transmissions.{judged_node, judged_job, judged_later, is_continuation, with_room}
+use Rattle.njh_stream.specs.Transmissions.{verdict_of}
 use Rattle.njh_stream.specs.Outcomes.{AreTaken, Becomes, records_of, Ending, EndOfFile, GivenUp, CutOff, AFile}
 use Rattle.njh_header.specs.WholeFiles.{HasHeaders}
 use Rattle.njh_stream.specs.code.HeadersSoFar.{DataSetReads, DestinationReads, ReadsSoFar}
@@ -48,7 +49,8 @@ module _ (entry : CustomerEntry) (l : ℕ) where
   -- ---- a record of an output file behind its first
 
   data_set_reads :
-      (r : Stored) (name : Option Rattle.njh_header.specs.FileNames.FileName) (b : Bool) (header : Result DataSetHeader HeaderFault)
+      (r : Stored) (name : Option Rattle.njh_header.specs.FileNames.FileName) (b : Bool)
+      (header : Result DataSetHeader HeaderFault)
       → elim b as (λ _. RecordVerdict) [
         | false ↦ Cancelled None
         | true ↦ elim header as (λ _. RecordVerdict) [
@@ -84,12 +86,14 @@ module _ (entry : CustomerEntry) (l : ℕ) where
         ] ≡ Taken
         → DestinationReads Out ((x ∷ xs) ++ r ∷ [])
     continued true e all v =
-        inl (list_all-append (has_srcb 0xc0) (x ∷ xs) (r ∷ []) ∙ ap (λ a. a && (has_srcb 0xc0 r && true)) all ∙ ap (λ a. a && true) e)
+        inl (list_all-append (has_srcb 0xc0) (x ∷ xs) (r ∷ []) ∙ ap (λ a. a && (has_srcb 0xc0 r && true)) all
+        ∙ ap (λ a. a && true) e)
     continued false e all v =
         let reads = data_set_reads r (name_of (x ∷ xs)) (has_srcb 0xe0 r) (data_set_header r.bytes) v in
         inr (begins all reads.0 reads.1.0 reads.1.1)
 
-    has_come : all_job_headers (x ∷ xs) ≡ false → DestinationReads Out (x ∷ xs) → DestinationReads Out ((x ∷ xs) ++ r ∷ [])
+    has_come : all_job_headers (x ∷ xs) ≡ false → DestinationReads Out (x ∷ xs)
+        → DestinationReads Out ((x ∷ xs) ++ r ∷ [])
     has_come e (inl all) = absurd (true≢false (sym all ∙ e))
     has_come e (inr reads) = inr (reads.0, header_stays (x ∷ xs) r e ∙ reads.1)
 
@@ -115,7 +119,8 @@ module _ (entry : CustomerEntry) (l : ℕ) where
   -- ---- all records
 
   pub one_more :
-      (kind : Kind) (earlier : List Stored) (r : Stored) → ReadsSoFar kind earlier → verdict_of entry l kind earlier r ≡ Taken
+      (kind : Kind) (earlier : List Stored) (r : Stored) → ReadsSoFar kind earlier
+      → verdict_of entry l kind earlier r ≡ Taken
       → ReadsSoFar kind (earlier ++ r ∷ [])
   one_more kind [] r so_far v = first_so kind r v
   one_more In (x ∷ xs) r so_far v = (so_far.0, tt)
@@ -148,12 +153,14 @@ no_trailer (r ∷ []) all = at_srcb (has_srcb 0xc0 r) refl all
 no_trailer (r ∷ s ∷ rs) all = at_first (has_srcb 0xc0 r) (no_trailer (s ∷ rs)) all
   where
     at_first :
-        (b : Bool) → (all_job_headers (s ∷ rs) ≡ true → is_whole (s ∷ rs) ≡ false) → (b && all_job_headers (s ∷ rs)) ≡ true
+        (b : Bool) → (all_job_headers (s ∷ rs) ≡ true → is_whole (s ∷ rs) ≡ false)
+        → (b && all_job_headers (s ∷ rs)) ≡ true
         → is_whole (s ∷ rs) ≡ false
     at_first true more h = more h
     at_first false more h = absurd (cc h)
 
-pub whole_headers : (kind : Kind) (records : List Stored) → ReadsSoFar kind records → is_whole records ≡ true → HasHeaders kind records
+pub whole_headers : (kind : Kind) (records : List Stored) → ReadsSoFar kind records → is_whole records ≡ true
+    → HasHeaders kind records
 whole_headers kind [] so_far whole = absurd (cc whole)
 whole_headers In (r ∷ rs) (job, place) whole =
     record {

@@ -1,12 +1,14 @@
 -- What comes on a stream leaves each whole file with headers that read.
-use Rattle.std.proofs.Common.{◌≡◌, ℕ, Bool, true, false, ◌&&◌, List, [], ◌∷◌, ◌++◌, Option, Some, None, refl, subst, sym}
+use Rattle.std.proofs.Common.{◌≡◌, ℕ, Bool, true, false, ◌&&◌, List, [], ◌∷◌, ◌++◌, Option, Some, None, refl, subst}
+use Rattle.std.proofs.Common.{sym}
 use Rattle.std.proofs.lemmas.List.Elements.{All-push}
 use Rattle.njh_record.specs.Stored.{Stored}
 use Rattle.njh_record.specs.declared.Kind.{Kind}
 use Rattle.njh_header.specs.WholeFiles.{HasHeaders}
 use Rattle.njh_table.specs.Entries.{CustomerEntry}
 use Rattle.njh_spool.specs.CustomerSpool.{CustomerSpool, PartialFile, WholeFile, partial_numbered, partial_records}
-use Rattle.njh_spool.specs.CustomerSpool.{without_partial, as_whole, with_arrived, has_file_room, has_block, has_room_for}
+use Rattle.njh_spool.specs.CustomerSpool.{without_partial, as_whole, with_arrived, has_file_room, has_block}
+use Rattle.njh_spool.specs.CustomerSpool.{has_room_for}
 use Rattle.njh_stream.specs.declared.receiver.Progress.{Progress}
 use Rattle.njh_stream.specs.declared.receiver.Receiver.{Receiver}
 use Rattle.njh_stream.specs.declared.receiver.Receiver.TheVariants.{Idle, Open, Draining}
@@ -21,14 +23,16 @@ use Rattle.njh_stream.proofs.HeadersCome.{whole_headers}
 abbrev pub ReadsAll : WholeFile → Type 0
 ReadsAll f = HasHeaders f.kind f.records
 
-requested_headers : (kind : Kind) (s : CustomerSpool) → HaveHeaders s.whole → HaveHeaders (received_request kind s).spool.whole
+requested_headers : (kind : Kind) (s : CustomerSpool) → HaveHeaders s.whole
+    → HaveHeaders (received_request kind s).spool.whole
 requested_headers kind s have = at_room (has_file_room s && has_block s)
   where
     at_room : (b : Bool) → HaveHeaders (requested_where b kind s).spool.whole
     at_room true = have
     at_room false = have
 
-stored_headers : (v : RecordVerdict) (kind : Kind) (n : ℕ) (r : Stored) (more : List Stored) (s : CustomerSpool) → HaveHeaders s.whole
+stored_headers : (v : RecordVerdict) (kind : Kind) (n : ℕ) (r : Stored) (more : List Stored) (s : CustomerSpool)
+    → HaveHeaders s.whole
     → HaveHeaders (stored_by v kind n r more s).spool.whole
 stored_headers Taken kind n r more s have = have
 stored_headers (Cancelled text) kind n r more s have = have
@@ -62,12 +66,14 @@ received_headers entry l kind Draining (Data srcb []) s agrees have = have
 received_headers entry l kind Draining (Data srcb (b ∷ bytes)) s agrees have = have
 received_headers entry l kind Draining Long s agrees have = have
 received_headers entry l kind Draining Abort s agrees have = have
-received_headers entry l kind (Open n progress) Request s agrees have = requested_headers kind (without_partial n s) have
+received_headers entry l kind (Open n progress) Request s agrees have =
+    requested_headers kind (without_partial n s) have
 received_headers entry l kind (Open n progress) (Data srcb []) s agrees have =
     closed_headers (is_whole (partial_records n s)) kind progress n s refl agrees have
 received_headers entry l kind (Open n progress) (Data srcb (b ∷ bytes)) s agrees have =
     let r : Stored = record { srcb = srcb; bytes = b ∷ bytes } in
     let earlier = partial_records n s in
-    stored_headers (judged_coming entry l kind earlier (Fitting r (has_room_for n r s))) kind n r (earlier ++ r ∷ []) s have
+    stored_headers (judged_coming entry l kind earlier (Fitting r (has_room_for n r s))) kind n r (earlier ++ r ∷ []) s
+    have
 received_headers entry l kind (Open n progress) Long s agrees have = have
 received_headers entry l kind (Open n progress) Abort s agrees have = have

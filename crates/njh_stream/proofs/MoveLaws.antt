@@ -26,10 +26,11 @@ pub record Has (n : ℕ) (s : CustomerSpool) : Type 0 where
   pub file : PartialFile
   pub found : partial_numbered n s ≡ Some file
 
--- A stream that was about one partial file is about another: no third one is touched, the new one is its own or was none before, and what is
--- there has a stream or was there.
+-- A stream that was about one partial file is about another: no third one is touched, the new one is its own or was
+-- none before, and what is there has a stream or was there.
 pub record Moves (a : Option ℕ) (s : CustomerSpool) (b : Option ℕ) (t : CustomerSpool) : Type 0 where
-  pub kept : (n : ℕ) (f : PartialFile) → (a ≡ Some n → ⊥) → partial_numbered n s ≡ Some f → partial_numbered n t ≡ Some f
+  pub kept : (n : ℕ) (f : PartialFile) → (a ≡ Some n → ⊥) → partial_numbered n s ≡ Some f
+      → partial_numbered n t ≡ Some f
   pub own : (n : ℕ) → b ≡ Some n → (a ≡ Some n) ⊎ (partial_numbered n s ≡ None)
   pub came : (n : ℕ) (f : PartialFile) → partial_numbered n t ≡ Some f → (b ≡ Some n) ⊎ ((a ≡ Some n → ⊥) × Has n s)
 
@@ -52,11 +53,13 @@ two_moves a b c s t u first then = record {
   came = λ n f found. at_came n (then.came n f found);
 }
   where
-    at_own : (n : ℕ) (f : PartialFile) → (a ≡ Some n → ⊥) → partial_numbered n s ≡ Some f → (a ≡ Some n) ⊎ (partial_numbered n s ≡ None) → ⊥
+    at_own : (n : ℕ) (f : PartialFile) → (a ≡ Some n → ⊥) → partial_numbered n s ≡ Some f
+        → (a ≡ Some n) ⊎ (partial_numbered n s ≡ None) → ⊥
     at_own n f not found (inl e) = not e
     at_own n f not found (inr none) = cc (sym found ∙ none)
 
-    was : (n : ℕ) → partial_numbered n t ≡ None → (o : Option PartialFile) → partial_numbered n s ≡ o → (a ≡ Some n) ⊎ (a ≡ Some n → ⊥)
+    was : (n : ℕ) → partial_numbered n t ≡ None → (o : Option PartialFile) → partial_numbered n s ≡ o
+        → (a ≡ Some n) ⊎ (a ≡ Some n → ⊥)
         → (a ≡ Some n) ⊎ (partial_numbered n s ≡ None)
     was n none o e (inl same) = inl same
     was n none None e (inr not) = inr e
@@ -66,7 +69,8 @@ two_moves a b c s t u first then = record {
     at_then n (inl e) = first.own n e
     at_then n (inr none) = was n none (partial_numbered n s) refl (about a n)
 
-    at_first : (n : ℕ) → (b ≡ Some n → ⊥) → (b ≡ Some n) ⊎ ((a ≡ Some n → ⊥) × Has n s) → (c ≡ Some n) ⊎ ((a ≡ Some n → ⊥) × Has n s)
+    at_first : (n : ℕ) → (b ≡ Some n → ⊥) → (b ≡ Some n) ⊎ ((a ≡ Some n → ⊥) × Has n s)
+        → (c ≡ Some n) ⊎ ((a ≡ Some n → ⊥) × Has n s)
     at_first n not (inl e) = absurd (not e)
     at_first n not (inr old) = inr old
 
@@ -88,16 +92,20 @@ none_found n [] h = refl
 none_found n (f ∷ fs) h = at_first (f.number == n) (none_found n fs) h
   where
     at_first :
-        (b : Bool) → (list_any (λ g. g.number == n) fs ≡ false → numbered n fs ≡ None) → (b || list_any (λ g. g.number == n) fs) ≡ false
+        (b : Bool) → (list_any (λ g. g.number == n) fs ≡ false → numbered n fs ≡ None)
+        → (b || list_any (λ g. g.number == n) fs) ≡ false
         → cond b (Some f) (numbered n fs) ≡ None
     at_first true more h = absurd (cc h)
     at_first false more h = more h
 
-pub begins : (kind : Kind) (s : CustomerSpool) → partial_numbered (next_number s) s ≡ None → Moves None s (Some (next_number s)) (with_new_partial kind s)
+pub begins : (kind : Kind) (s : CustomerSpool) → partial_numbered (next_number s) s ≡ None
+    → Moves None s (Some (next_number s)) (with_new_partial kind s)
 begins kind s free = record {
-  kept = λ n f not found. find-append (λ g. g.number == n) s.partial (new ∷ []) ∙ ap (λ o. option_or o (numbered n (new ∷ []))) found;
+  kept = λ n f not found. find-append (λ g. g.number == n) s.partial (new ∷ [])
+      ∙ ap (λ o. option_or o (numbered n (new ∷ []))) found;
   own = λ n e. inr (subst (λ m. partial_numbered m s ≡ None) (cc e) free);
-  came = λ n f found. at_number n f (sym (find-append (λ g. g.number == n) s.partial (new ∷ [])) ∙ found) (numbered n s.partial) refl (eqb_tells (next_number s) n);
+  came = λ n f found. at_number n f (sym (find-append (λ g. g.number == n) s.partial (new ∷ [])) ∙ found)
+      (numbered n s.partial) refl (eqb_tells (next_number s) n);
 }
   where
     new : PartialFile
@@ -111,7 +119,8 @@ begins kind s free = record {
     at_number n f found o e (inl same) = inl (ap Some same.1)
     at_number n f found (Some g) e (inr other) = inr (λ x. absurd (cc x), record { file = g; found = e })
     at_number n f found None e (inr other) =
-        absurd (cc (sym found ∙ ap (λ o. option_or o (numbered n (new ∷ []))) e ∙ ap (λ b. cond b (Some new) None) other.0))
+        absurd (cc (sym found ∙ ap (λ o. option_or o (numbered n (new ∷ []))) e
+        ∙ ap (λ b. cond b (Some new) None) other.0))
 
 pub abandons : (n : ℕ) (s : CustomerSpool) → Moves (Some n) s None (without_partial n s)
 abandons n s = record {
@@ -157,22 +166,30 @@ finishes n s = at_file (partial_numbered n s) refl
     at_file None e = record {
       kept = λ m f not found. found;
       own = λ m x. absurd (cc x);
-      came = λ m f found. inr (λ x. cc (sym e ∙ ap (λ y. partial_numbered y s) (cc x) ∙ found), record { file = f; found = found });
+      came = λ m f found. inr (
+        λ x. cc (sym e ∙ ap (λ y. partial_numbered y s) (cc x) ∙ found),
+        record
+            { file = f; found = found },
+      );
     }
 
 -- ---- every arrival
 
-requests : (kind : Kind) (s : CustomerSpool) → IsFree s → Moves None s (coming_file (received_request kind s).receiver) (received_request kind s).spool
+requests : (kind : Kind) (s : CustomerSpool) → IsFree s
+    → Moves None s (coming_file (received_request kind s).receiver) (received_request kind s).spool
 requests kind s free = at_room (has_file_room s && has_block s) refl
   where
-    at_room : (b : Bool) → (has_file_room s && has_block s) ≡ b → Moves None s (coming_file (requested_where b kind s).receiver) (requested_where b kind s).spool
+    at_room : (b : Bool) → (has_file_room s && has_block s) ≡ b
+        → Moves None s (coming_file (requested_where b kind s).receiver) (requested_where b kind s).spool
     at_room true e =
         begins kind s (none_found (next_number s) s.partial
-        (or_right (list_any (λ f. f.number == next_number s) s.whole) (list_any (λ f. f.number == next_number s) s.partial)
+        (or_right (list_any (λ f. f.number == next_number s) s.whole)
+        (list_any (λ f. f.number == next_number s) s.partial)
         (free (and_left (has_file_room s) (has_block s) e))))
     at_room false e = quiet s
 
-closes : (b : Bool) (n : ℕ) (s : CustomerSpool) → Moves (Some n) s (coming_file (closed_by b n s).receiver) (closed_by b n s).spool
+closes : (b : Bool) (n : ℕ) (s : CustomerSpool)
+    → Moves (Some n) s (coming_file (closed_by b n s).receiver) (closed_by b n s).spool
 closes true n s = finishes n s
 closes false n s = abandons n s
 
@@ -183,8 +200,10 @@ stores Taken kind n r more s = appends n r s
 stores (Cancelled text) kind n r more s = abandons n s
 
 pub arrivals :
-    (entry : CustomerEntry) (l : ℕ) (kind : Kind) (r : Receiver) (a : Arrival) (s : CustomerSpool) → ((x : CustomerSpool) → IsFree x)
-    → Moves (coming_file r) s (coming_file (received_arrival entry l kind r a s).receiver) (received_arrival entry l kind r a s).spool
+    (entry : CustomerEntry) (l : ℕ) (kind : Kind) (r : Receiver) (a : Arrival) (s : CustomerSpool)
+    → ((x : CustomerSpool) → IsFree x)
+    → Moves (coming_file r) s (coming_file (received_arrival entry l kind r a s).receiver)
+    (received_arrival entry l kind r a s).spool
 arrivals entry l kind Idle Request s free = requests kind s (free s)
 arrivals entry l kind Idle (Data srcb bytes) s free = quiet s
 arrivals entry l kind Idle Long s free = quiet s
@@ -196,7 +215,8 @@ arrivals entry l kind Draining Long s free = quiet s
 arrivals entry l kind Draining Abort s free = quiet s
 arrivals entry l kind (Open n progress) Request s free =
     let done = received_request kind (without_partial n s) in
-    two_moves (Some n) None (coming_file done.receiver) s (without_partial n s) done.spool (abandons n s) (requests kind (without_partial n s) (free (without_partial n s)))
+    two_moves (Some n) None (coming_file done.receiver) s (without_partial n s) done.spool (abandons n s)
+    (requests kind (without_partial n s) (free (without_partial n s)))
 arrivals entry l kind (Open n progress) (Data srcb []) s free = closes (is_whole (partial_records n s)) n s
 arrivals entry l kind (Open n progress) (Data srcb (b ∷ bytes)) s free =
     let r : Stored = record { srcb = srcb; bytes = b ∷ bytes } in

@@ -32,14 +32,16 @@ module _ {X : Type 0} (p : X → Bool) where
       at_test false f more = ap (λ rest. x ∷ rest) (more (omega (arith, count_false x xs f, e)))
 
   -- the one that passes is found
-  pub only_found : (xs : List X) (i : ℕ) (d : X) → i < length xs → p (get_or xs i d) ≡ true → count_by p xs ≤ 1 → find p xs ≡ Some
+  pub only_found : (xs : List X) (i : ℕ) (d : X) → i < length xs → p (get_or xs i d) ≡ true → count_by p xs ≤ 1
+      → find p xs ≡ Some
       (get_or xs i d)
   only_found [] i d h e few = absurd (not-suc-le-zero h)
   only_found (x ∷ xs) zero d h e few = ap (λ b. cond b (Some x) (find p xs)) e
   only_found (x ∷ xs) (suc i) d h e few = at_test (p x) refl (only_found xs i d (le_of_suc-le-suc h) e)
     where
       at_test :
-          (b : Bool) → p x ≡ b → (count_by p xs ≤ 1 → find p xs ≡ Some (get_or xs i d)) → cond b (Some x) (find p xs) ≡ Some (get_or xs i d)
+          (b : Bool) → p x ≡ b → (count_by p xs ≤ 1 → find p xs ≡ Some (get_or xs i d))
+          → cond b (Some x) (find p xs) ≡ Some (get_or xs i d)
       at_test true f more = absurd (omega (arith, count_true x xs f, few, counted_at xs i d (le_of_suc-le-suc h) e))
       at_test false f more = more (omega (arith, count_false x xs f, few))
 
@@ -81,7 +83,8 @@ module _ {X : Type 0} (p : X → Bool) where
     where
       at_test :
           (b : Bool) → p x ≡ b → (count_by p xs ≤ 1 → filter (λ y. not (p y)) xs ≡ take i xs ++ drop (suc i) xs)
-          → cond (not b) (x ∷ filter (λ y. not (p y)) xs) (filter (λ y. not (p y)) xs) ≡ x ∷ (take i xs ++ drop (suc i) xs)
+          → cond (not b) (x ∷ filter (λ y. not (p y)) xs) (filter (λ y. not (p y)) xs)
+          ≡ x ∷ (take i xs ++ drop (suc i) xs)
       at_test true f more = absurd (omega (arith, count_true x xs f, few, counted_at xs i d (le_of_suc-le-suc h) e))
       at_test false f more = ap (λ rest. x ∷ rest) (more (omega (arith, count_false x xs f, few)))
 
@@ -95,7 +98,8 @@ module _ {X : Type 0} (g : X → X) where
   changed_more (suc i) [] d h = absurd (not-suc-le-zero h)
   changed_more (suc i) (x ∷ xs) d h = ap (λ rest. g x ∷ rest) (changed_more i xs d (le_of_suc-le-suc h))
 
-  pub not_yet : (i : ℕ) (xs : List X) (d : X) → i < length xs → get_or (map g (take i xs) ++ drop i xs) i d ≡ get_or xs i d
+  pub not_yet : (i : ℕ) (xs : List X) (d : X) → i < length xs
+      → get_or (map g (take i xs) ++ drop i xs) i d ≡ get_or xs i d
   not_yet zero [] d h = absurd (not-suc-le-zero h)
   not_yet zero (x ∷ xs) d h = refl
   not_yet (suc i) [] d h = absurd (not-suc-le-zero h)

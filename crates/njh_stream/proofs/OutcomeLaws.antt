@@ -24,7 +24,8 @@ module _ (entry : CustomerEntry) (l : ℕ) (kind : Kind) where
           (v : RecordVerdict) → judged_coming entry l kind earlier c ≡ v
           → AreTaken entry l kind (earlier ++ records_of (c ∷ [])) cs
           ⊎ ((text : Option (List ℕ)) × IsCancelled entry l kind (earlier ++ records_of (c ∷ [])) cs text)
-          → AreTaken entry l kind earlier (c ∷ cs) ⊎ ((text : Option (List ℕ)) × IsCancelled entry l kind earlier (c ∷ cs) text)
+          → AreTaken entry l kind earlier (c ∷ cs)
+          ⊎ ((text : Option (List ℕ)) × IsCancelled entry l kind earlier (c ∷ cs) text)
       at_verdict Taken e (inl more) = inl (e, more)
       at_verdict Taken e (inr more) = inr (more.0, inr (e, more.1))
       at_verdict (Cancelled text) e more = inr (text, inl e)
@@ -45,7 +46,8 @@ module _ (entry : CustomerEntry) (l : ℕ) (kind : Kind) where
   one_text earlier (c ∷ cs) a b (inr e) (inl f) = absurd (cc (sym e.0 ∙ f))
   one_text earlier (c ∷ cs) a b (inr e) (inr f) = one_text (earlier ++ records_of (c ∷ [])) cs a b e.1 f.1
 
-  pub some_outcome : (cs : List ComingRecord) (ending : Ending) → (outcome : TransmissionOutcome) × Becomes entry l kind cs ending outcome
+  pub some_outcome : (cs : List ComingRecord) (ending : Ending) → (outcome : TransmissionOutcome)
+      × Becomes entry l kind cs ending outcome
   some_outcome cs ending = at_all ending (taken_or_cancelled [] cs)
     where
       at_whole :
@@ -55,7 +57,8 @@ module _ (entry : CustomerEntry) (l : ℕ) (kind : Kind) where
       at_whole false e taken = (NotWhole, (taken, e))
 
       at_all :
-          (ending : Ending) → AreTaken entry l kind [] cs ⊎ ((text : Option (List ℕ)) × IsCancelled entry l kind [] cs text)
+          (ending : Ending) → AreTaken entry l kind [] cs
+          ⊎ ((text : Option (List ℕ)) × IsCancelled entry l kind [] cs text)
           → (outcome : TransmissionOutcome) × Becomes entry l kind cs ending outcome
       at_all EndOfFile (inl taken) = at_whole (is_whole (records_of cs)) refl taken
       at_all GivenUp (inl taken) = (Dropped, taken)
@@ -65,7 +68,8 @@ module _ (entry : CustomerEntry) (l : ℕ) (kind : Kind) where
       at_all CutOff (inr x) = (CancelledBy x.0, x.1)
 
   pub only_one :
-      (cs : List ComingRecord) (ending : Ending) (a b : TransmissionOutcome) → Becomes entry l kind cs ending a → Becomes entry l kind cs ending b → a ≡ b
+      (cs : List ComingRecord) (ending : Ending) (a b : TransmissionOutcome) → Becomes entry l kind cs ending a
+      → Becomes entry l kind cs ending b → a ≡ b
   only_one cs EndOfFile (AFile rs) (AFile qs) x y = ap AFile (x.1 ∙ sym y.1)
   only_one cs EndOfFile (AFile rs) NotWhole x y = absurd (true≢false (sym x.2 ∙ ap is_whole x.1 ∙ y.1))
   only_one cs EndOfFile (AFile rs) (CancelledBy text) x y = absurd (not_both [] cs text x.0 y)

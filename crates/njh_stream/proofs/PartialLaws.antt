@@ -60,6 +60,7 @@ gone n (f ∷ fs) = at_first (f.number == n) refl (gone n fs)
     rest : List PartialFile
     rest = filter (λ g. not (g.number == n)) fs
 
-    at_first : (b : Bool) → (f.number == n) ≡ b → numbered n rest ≡ None → numbered n (cond (not b) (f ∷ rest) rest) ≡ None
+    at_first : (b : Bool) → (f.number == n) ≡ b → numbered n rest ≡ None
+        → numbered n (cond (not b) (f ∷ rest) rest) ≡ None
     at_first true e more = more
     at_first false e more = ap (λ b. cond b (Some f) (numbered n rest)) e ∙ more

@@ -39,9 +39,13 @@ all_job_headers records = list_all (has_srcb 0xc0) records
 
 -- what the first record says, where it is a job header or not
 abbrev pub first_header : Bool → Stored → Option DataSetHeader → Option DataSetHeader
-first_header b x others = elim b [ true ↦ others | false ↦ cond (x.srcb == 0xe0) (result_ok (data_set_header x.bytes)) None ]
+first_header b x others = elim b [
+  | true ↦ others
+  | false ↦ cond (x.srcb == 0xe0) (result_ok (data_set_header x.bytes)) None
+]
 
-pub header_stays : (xs : List Stored) (r : Stored) → all_job_headers xs ≡ false → data_set_header_of (xs ++ r ∷ []) ≡ data_set_header_of xs
+pub header_stays : (xs : List Stored) (r : Stored) → all_job_headers xs ≡ false
+    → data_set_header_of (xs ++ r ∷ []) ≡ data_set_header_of xs
 header_stays [] r h = absurd (true≢false h)
 header_stays (x ∷ xs) r h = at_first (x.srcb == 0xc0) (header_stays xs r) h
   where
@@ -52,7 +56,8 @@ header_stays (x ∷ xs) r h = at_first (x.srcb == 0xc0) (header_stays xs r) h
     at_first true more h = more h
     at_first false more h = refl
 
-pub header_comes : (xs : List Stored) (r : Stored) → all_job_headers xs ≡ true → data_set_header_of (xs ++ r ∷ []) ≡ data_set_header_of (r ∷ [])
+pub header_comes : (xs : List Stored) (r : Stored) → all_job_headers xs ≡ true
+    → data_set_header_of (xs ++ r ∷ []) ≡ data_set_header_of (r ∷ [])
 header_comes [] r h = refl
 header_comes (x ∷ xs) r h = at_first (x.srcb == 0xc0) (header_comes xs r) h
   where
@@ -75,7 +80,8 @@ last_in (Placed node last) = last
 last_in JobHeader = 0
 last_in Beginning = 0
 
-pub output_placed : (x : Stored) (xs : List Stored) → all_job_headers (x ∷ xs) ≡ false → progress_of Out (x ∷ xs) ≡ placement Out (x ∷ xs)
+pub output_placed : (x : Stored) (xs : List Stored) → all_job_headers (x ∷ xs) ≡ false
+    → progress_of Out (x ∷ xs) ≡ placement Out (x ∷ xs)
 output_placed x xs h = ap (λ b. elim b [ true ↦ JobHeader | false ↦ placement Out (x ∷ xs) ]) h
 
 -- a job header and continuations of it alone
@@ -93,7 +99,8 @@ where_job In (x ∷ xs) h = absurd (cc h)
 where_job Out (x ∷ xs) h = at_all (all_job_headers (x ∷ xs)) refl h
   where
     at_all :
-        (b : Bool) → all_job_headers (x ∷ xs) ≡ b → JobHeader ≡ elim b [ true ↦ JobHeader | false ↦ placement Out (x ∷ xs) ]
+        (b : Bool) → all_job_headers (x ∷ xs) ≡ b
+        → JobHeader ≡ elim b [ true ↦ JobHeader | false ↦ placement Out (x ∷ xs) ]
         → IsJobFile Out (x ∷ xs)
     at_all true e h = record { kind_is = refl; first = x; rest = xs; file_is = refl; all_is = e }
     at_all false e h = absurd (cc h)
@@ -117,18 +124,28 @@ where_placed In (x ∷ xs) node last h =
 where_placed Out (x ∷ xs) node last h = at_all (all_job_headers (x ∷ xs)) refl h
   where
     at_all :
-        (b : Bool) → all_job_headers (x ∷ xs) ≡ b → Placed node last ≡ elim b [ true ↦ JobHeader | false ↦ placement Out (x ∷ xs) ]
+        (b : Bool) → all_job_headers (x ∷ xs) ≡ b
+        → Placed node last ≡ elim b [ true ↦ JobHeader | false ↦ placement Out (x ∷ xs) ]
         → IsPlacedFile Out (x ∷ xs) node last
     at_all true e h = absurd (cc h)
     at_all false e h =
-        record { first = x; rest = xs; file_is = refl; node_is = ap node_in h; last_is = ap last_in h; stage = inr (refl, e) }
+        record {
+          first = x;
+          rest = xs;
+          file_is = refl;
+          node_is = ap node_in h;
+          last_is = ap last_in h;
+          stage = inr
+              (refl, e);
+        }
 
 -- ---- one record more
 
 -- after the job header of an output file comes its data set header
 pub header_placed :
     (kind : Kind) (file : List Stored) (r : Stored) (h : DataSetHeader) → IsJobFile kind file
-    → r.srcb ≡ 0xe0 → data_set_header r.bytes ≡ Ok h → progress_of kind (file ++ r ∷ []) ≡ Placed h.destination.node r.srcb
+    → r.srcb ≡ 0xe0 → data_set_header r.bytes ≡ Ok h
+    → progress_of kind (file ++ r ∷ []) ≡ Placed h.destination.node r.srcb
 header_placed kind file r h job srcb_is header_is =
     subst (λ k. progress_of k (file ++ r ∷ []) ≡ Placed h.destination.node r.srcb) (sym job.kind_is)
     (subst (λ f. progress_of Out (f ++ r ∷ []) ≡ Placed h.destination.node r.srcb) (sym job.file_is) placed_more)
@@ -156,7 +173,8 @@ header_placed kind file r h job srcb_is header_is =
 
 -- a placed file stays placed
 pub placed_stays :
-    (kind : Kind) (file : List Stored) (r : Stored) (node : List ℕ) (last : ℕ) → Placed node last ≡ progress_of kind file
+    (kind : Kind) (file : List Stored) (r : Stored) (node : List ℕ) (last : ℕ)
+    → Placed node last ≡ progress_of kind file
     → Placed node r.srcb ≡ progress_of kind (file ++ r ∷ [])
 placed_stays In [] r node last h = absurd (cc h)
 placed_stays Out [] r node last h = absurd (cc h)
@@ -164,12 +182,14 @@ placed_stays In (x ∷ xs) r node last h = ap₂ Placed (ap node_in h) (sym (las
 placed_stays Out (x ∷ xs) r node last h = at_all (all_job_headers (x ∷ xs)) refl h
   where
     at_all :
-        (b : Bool) → all_job_headers (x ∷ xs) ≡ b → Placed node last ≡ elim b [ true ↦ JobHeader | false ↦ placement Out (x ∷ xs) ]
+        (b : Bool) → all_job_headers (x ∷ xs) ≡ b
+        → Placed node last ≡ elim b [ true ↦ JobHeader | false ↦ placement Out (x ∷ xs) ]
         → Placed node r.srcb ≡ progress_of Out (x ∷ (xs ++ r ∷ []))
     at_all true e h = absurd (cc h)
     at_all false e h =
         ap₂ Placed
-        (ap node_in h ∙ ap (λ o. elim (option_map (λ d. d.destination) o) [ Some d ↦ d.node | None ↦ [] ]) (sym (header_stays (x ∷ xs) r e)))
+        (ap node_in h ∙ ap (λ o. elim (option_map (λ d. d.destination) o) [ Some d ↦ d.node | None ↦ [] ])
+        (sym (header_stays (x ∷ xs) r e)))
         (sym (last_of_more (x ∷ xs) r))
         ∙ sym (output_placed x (xs ++ r ∷ [])
         (list_all-append (has_srcb 0xc0) (x ∷ xs) (r ∷ []) ∙ ap (λ a. a && (has_srcb 0xc0 r && true)) e))
@@ -191,7 +211,8 @@ where_all b job later = elim b [ true ↦ job | false ↦ later ]
 
 pub placed_judged :
     (entry : CustomerEntry) (l : ℕ) (kind : Kind) (file : List Stored) (r : Stored) (node : List ℕ) (last : ℕ)
-    → Placed node last ≡ progress_of kind file → verdict_of entry l kind file r ≡ judged_placed kind node last r.srcb r.bytes
+    → Placed node last ≡ progress_of kind file
+    → verdict_of entry l kind file r ≡ judged_placed kind node last r.srcb r.bytes
 placed_judged entry l In [] r node last h = absurd (cc h)
 placed_judged entry l Out [] r node last h = absurd (cc h)
 placed_judged entry l In (x ∷ xs) r node last h = refl
@@ -211,19 +232,22 @@ placed_judged entry l Out (x ∷ xs) r node last h = at_all (all_job_headers (x 
 -- ---- what the verdict says of how far the file has come
 
 pub placed_progress :
-    (kind : Kind) (file : List Stored) (r : Stored) (node : List ℕ) (last : ℕ) (v : declared_judging.RecordVerdict.RecordVerdict) → Placed node last ≡ progress_of kind file
+    (kind : Kind) (file : List Stored) (r : Stored) (node : List ℕ) (last : ℕ)
+    (v : declared_judging.RecordVerdict.RecordVerdict) → Placed node last ≡ progress_of kind file
     → IsTakenAt v (Placed node r.srcb) → IsProgress v kind (file ++ r ∷ [])
 placed_progress kind file r node last (declared.Taken progress) h is = is ∙ placed_stays kind file r node last h
 placed_progress kind file r node last (declared.Cancelled text) h is = tt
 
 pub header_progress :
-    (kind : Kind) (file : List Stored) (r : Stored) (v : declared_judging.RecordVerdict.RecordVerdict) → JobHeader ≡ progress_of kind file
+    (kind : Kind) (file : List Stored) (r : Stored) (v : declared_judging.RecordVerdict.RecordVerdict)
+    → JobHeader ≡ progress_of kind file
     → IsHeaderPlaced v (data_set_header r.bytes) r.srcb → IsProgress v kind (file ++ r ∷ [])
 header_progress kind file r (declared.Cancelled text) h is = tt
 header_progress kind file r (declared.Taken progress) h is = at_header (data_set_header r.bytes) refl is
   where
     at_header :
-        (x : Result DataSetHeader HeaderFault) → data_set_header r.bytes ≡ x → IsHeaderPlaced (declared.Taken progress) x r.srcb
+        (x : Result DataSetHeader HeaderFault) → data_set_header r.bytes ≡ x
+        → IsHeaderPlaced (declared.Taken progress) x r.srcb
         → progress ≡ progress_of kind (file ++ r ∷ [])
     at_header (Err fault) e is = absurd is
     at_header (Ok header) e is = is.0 ∙ sym (header_placed kind file r header (where_job kind file h) is.1 e)

@@ -19,7 +19,8 @@ use Rattle.njh_stream.specs.code.Verdicts.{IsAfter}
 use Rattle.njh_stream.specs.SpoolFiles.{records_in}
 use Rattle.njh_stream.specs.Transmissions.{is_whole}
 use Rattle.njh_stream.specs.Receiving.{progress_of, placement, last_srcb, received_end, closed_by, received_record}
-use Rattle.njh_stream.specs.Receiving.{received_arrival, received_nothing, received_open, received_request, without_open}
+use Rattle.njh_stream.specs.Receiving.{received_arrival, received_nothing, received_open, received_request}
+use Rattle.njh_stream.specs.Receiving.{without_open}
 use Rattle.njh_stream.specs.Receiving.{Abort, Data, Request}
 use Rattle.njh_stream.specs.declared.receiver.Receiver.{Receiver}
 use Rattle.njh_stream.specs.declared.receiver.Receiver.TheVariants.{Idle, Open, Draining}
@@ -29,7 +30,8 @@ use Rattle.njh_stream.proofs.ProgressLaws.{ends_by_last, all_job_headers}
 -- ---- the end of file
 
 -- no job header is a trailer
-pub job_headers_end : (x : Stored) (xs : List Stored) → all_job_headers (x ∷ xs) ≡ true → (last_srcb (x ∷ xs) == 0xd0) ≡ false
+pub job_headers_end : (x : Stored) (xs : List Stored) → all_job_headers (x ∷ xs) ≡ true
+    → (last_srcb (x ∷ xs) == 0xd0) ≡ false
 job_headers_end x [] h = at_srcb (x.srcb == 0xc0) refl h
   where
     at_srcb : (b : Bool) → (x.srcb == 0xc0) ≡ b → (b && true) ≡ true → (x.srcb == 0xd0) ≡ false
@@ -58,7 +60,8 @@ pub whole_in : (kind : Kind) (progress : Progress) (file : Option PartialFile) �
 whole_in kind progress None agrees = absurd agrees
 whole_in kind progress (Some f) agrees = whole_by_progress kind f.records ∙ ap ends_whole (sym agrees.1)
 
-pub closed_as : (kind : Kind) (progress : Progress) (n : ℕ) (s : CustomerSpool) → AgreesWith kind progress (partial_numbered n s)
+pub closed_as : (kind : Kind) (progress : Progress) (n : ℕ) (s : CustomerSpool)
+    → AgreesWith kind progress (partial_numbered n s)
     → received_end n s ≡ closed_by (ends_whole progress) n s
 closed_as kind progress n s agrees = ap (λ b. closed_by b n s) (whole_in kind progress (partial_numbered n s) agrees)
 
@@ -69,44 +72,58 @@ find_counts p [] x h = absurd (cc h)
 find_counts p (y ∷ ys) x h = at_test (p y) refl (find_counts p ys x) h
   where
     at_test :
-        (b : Bool) → p y ≡ b → (find p ys ≡ Some x → 1 ≤ count_by p ys) → cond b (Some y) (find p ys) ≡ Some x → 1 ≤ count_by p (y ∷ ys)
+        (b : Bool) → p y ≡ b → (find p ys ≡ Some x → 1 ≤ count_by p ys) → cond b (Some y) (find p ys) ≡ Some x
+        → 1 ≤ count_by p (y ∷ ys)
     at_test true e more h = omega (arith, sum_by-cons (λ z. cond (p z) 1 0) y ys, ap (λ b. cond {A = ℕ} b 1 0) e)
     at_test false e more h = omega (arith, sum_by-cons (λ z. cond (p z) 1 0) y ys, more h)
 
 -- no whole file has a partial file's number
-pub no_whole : (n : ℕ) (s : CustomerSpool) (f : PartialFile) → IsSound s → partial_numbered n s ≡ Some f → whole_numbered n s ≡ None
+pub no_whole : (n : ℕ) (s : CustomerSpool) (f : PartialFile) → IsSound s → partial_numbered n s ≡ Some f
+    → whole_numbered n s ≡ None
 no_whole n s f sound h = at_whole (whole_numbered n s) refl
   where
     at_whole : (o : Option WholeFile) → whole_numbered n s ≡ o → o ≡ None
     at_whole None e = refl
     at_whole (Some w) e =
-        absurd (omega (arith, sound.apart n, find_counts (λ g. g.number == n) s.whole w e, find_counts (λ g. g.number == n) s.partial f h))
+        absurd (omega (
+          arith,
+          sound.apart n,
+          find_counts (λ g. g.number == n) s.whole w e,
+          find_counts
+              (λ g. g.number == n) s.partial f h,
+        ))
 
 pub partial_records_in :
-    (kind : Kind) (progress : Progress) (n : ℕ) (s : CustomerSpool) → IsSound s → AgreesWith kind progress (partial_numbered n s)
+    (kind : Kind) (progress : Progress) (n : ℕ) (s : CustomerSpool) → IsSound s
+    → AgreesWith kind progress (partial_numbered n s)
     → records_in n s ≡ partial_records n s
 partial_records_in kind progress n s sound agrees = at_partial (partial_numbered n s) refl agrees
   where
-    at_partial : (o : Option PartialFile) → partial_numbered n s ≡ o → AgreesWith kind progress o → records_in n s ≡ partial_records n s
+    at_partial : (o : Option PartialFile) → partial_numbered n s ≡ o → AgreesWith kind progress o
+        → records_in n s ≡ partial_records n s
     at_partial None e agrees = absurd agrees
     at_partial (Some f) e agrees =
-        ap (λ w. elim (option_or (option_map (λ g. g.records) w) (option_map (λ g. g.records) (partial_numbered n s))) [ Some records ↦ records | None ↦ [] ])
+        ap (λ w. elim (option_or (option_map (λ g. g.records) w) (option_map (λ g. g.records) (partial_numbered n s)))
+        [ Some records ↦ records | None ↦ [] ])
         (no_whole n s f sound e)
         ∙ ap (λ o. elim (option_map (λ g. g.records) o) [ Some records ↦ records | None ↦ [] ]) e
         ∙ ap (λ o. elim o [ Some g ↦ g.records | None ↦ [] ]) (sym e)
 
-pub progress_in : (kind : Kind) (progress : Progress) (n : ℕ) (s : CustomerSpool) → AgreesWith kind progress (partial_numbered n s)
+pub progress_in : (kind : Kind) (progress : Progress) (n : ℕ) (s : CustomerSpool)
+    → AgreesWith kind progress (partial_numbered n s)
     → progress ≡ progress_of kind (partial_records n s)
 progress_in kind progress n s agrees = at_partial (partial_numbered n s) agrees
   where
-    at_partial : (o : Option PartialFile) → AgreesWith kind progress o → progress ≡ progress_of kind (elim o [ Some f ↦ f.records | None ↦ [] ])
+    at_partial : (o : Option PartialFile) → AgreesWith kind progress o
+        → progress ≡ progress_of kind (elim o [ Some f ↦ f.records | None ↦ [] ])
     at_partial None agrees = absurd agrees
     at_partial (Some f) agrees = agrees.1
 
 -- a record with bytes is stored
 pub record_stored :
     (entry : CustomerEntry) (l : ℕ) (kind : Kind) (n srcb : ℕ) (bytes : List ℕ) (s : CustomerSpool) → length bytes ≢ 0
-    → received_open entry l kind n (Data srcb bytes) s ≡ received_record entry l kind n (record { srcb = srcb; bytes = bytes }) s
+    → received_open entry l kind n (Data srcb bytes) s ≡ received_record entry l kind n
+    (record { srcb = srcb; bytes = bytes }) s
 record_stored entry l kind n srcb [] s some = absurd (some refl)
 record_stored entry l kind n srcb (b ∷ bytes) s some = refl
 
@@ -129,7 +146,8 @@ abort_cuts entry l kind Draining s = refl
 
 -- a file that begins after another was given up
 pub begun_after :
-    (a : After) (new mid old : List CustomerSpool) (c : ℕ) (x : CustomerSpool) (kind : Kind) → c < length old → mid ≡ slice_set old c x
+    (a : After) (new mid old : List CustomerSpool) (c : ℕ) (x : CustomerSpool) (kind : Kind) → c < length old
+    → mid ≡ slice_set old c x
     → IsAfter a new mid c (received_request kind (spool_at c mid)) → IsAfter a new old c (received_request kind x)
 begun_after a new mid old c x kind range mid_is done =
     record {

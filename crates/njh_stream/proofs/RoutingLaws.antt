@@ -16,7 +16,8 @@ restated p state f = cond (p f) (record f { state = state }) f
 abbrev pub restated_up_to : (WholeFile → Bool) → State → ℕ → CustomerSpool → CustomerSpool
 restated_up_to p state i s = record s { whole = map (restated p state) (take i s.whole) ++ drop i s.whole }
 
-pub got : (xs : List WholeFile) (i : ℕ) (y d : WholeFile) → slice_get xs i ≡ Some y → (i < length xs) × (get_or xs i d ≡ y)
+pub got : (xs : List WholeFile) (i : ℕ) (y d : WholeFile) → slice_get xs i ≡ Some y
+    → (i < length xs) × (get_or xs i d ≡ y)
 got [] i y d h = absurd (cc h)
 got (x ∷ xs) zero y d h = (zero-lt-suc (length xs), some_is h)
   where
@@ -36,14 +37,16 @@ restated_numbered p state n s = restated_where state n (holds_of p (whole_number
 
 -- the file at an index has a number of its own
 pub one_more :
-    (p : WholeFile → Bool) (state : State) (s : CustomerSpool) (i n : ℕ) (y : WholeFile) → IsSound (restated_up_to p state i s)
+    (p : WholeFile → Bool) (state : State) (s : CustomerSpool) (i n : ℕ) (y : WholeFile)
+    → IsSound (restated_up_to p state i s)
     → slice_get (restated_up_to p state i s).whole i ≡ Some y → n ≡ y.number
     → restated_numbered p state n (restated_up_to p state i s) ≡ restated_up_to p state (suc i) s
 one_more p state s i n y sound at number =
     ap (λ o. restated_where state n (holds_of p o) x) (found ∙ ap Some at_y)
     ∙ by_test (p y) refl
     ∙ sym (ap (λ files. record s { whole = files })
-    (changed_more (restated p state) i s.whole y inside ∙ ap (λ f. set x.whole i (restated p state f)) (sym first ∙ at_y)))
+    (changed_more (restated p state) i s.whole y inside
+    ∙ ap (λ f. set x.whole i (restated p state f)) (sym first ∙ at_y)))
   where
     x : CustomerSpool
     x = restated_up_to p state i s
@@ -69,12 +72,14 @@ one_more p state s i n y sound at number =
     found : whole_numbered n x ≡ Some (get_or x.whole i y)
     found = only_found (λ f. f.number == n) x.whole i y there.0 passes few
 
-    by_test : (b : Bool) → p y ≡ b → restated_where state n b x ≡ record s { whole = set x.whole i (cond b (record y { state = state }) y) }
+    by_test : (b : Bool) → p y ≡ b → restated_where state n b x
+        ≡ record s { whole = set x.whole i (cond b (record y { state = state }) y) }
     by_test true e =
         ap (λ files. record s { whole = files })
         (only_changed (λ f. f.number == n) (λ f. record f { state = state }) x.whole i y there.0 passes few
         ∙ ap (λ (f : WholeFile). set x.whole i (record f { state = state })) at_y)
-    by_test false e = ap (λ files. record s { whole = files }) (sym (ap (λ f. set x.whole i f) (sym at_y) ∙ set-get_or x.whole i y))
+    by_test false e = ap (λ files. record s { whole = files })
+        (sym (ap (λ f. set x.whole i f) (sym at_y) ∙ set-get_or x.whole i y))
 
 pub one_more_at :
     (p : WholeFile → Bool) (state : State) (s : CustomerSpool) (i n : ℕ) → IsSound (restated_up_to p state i s)

@@ -1,5 +1,6 @@
 -- A record for an open file, by the verdict on it.
-use Rattle.std.proofs.Common.{◌≡◌, ℕ, Bool, true, false, List, [], ◌∷◌, ◌++◌, Option, Some, Result, Ok, Err, MatchOption}
+use Rattle.std.proofs.Common.{◌≡◌, ℕ, Bool, true, false, List, [], ◌∷◌, ◌++◌, Option, Some, Result, Ok, Err}
+use Rattle.std.proofs.Common.{MatchOption}
 use Rattle.std.proofs.Common.{refl, sym, ap, ◌∙◌}
 use Rattle.std.specs.Prelude.{IsOk}
 use Rattle.std.specs.Option.{option_map, option_or}
@@ -25,22 +26,29 @@ pub stored_after :
     (entry : CustomerEntry) (l : ℕ) (kind : Kind) (n : ℕ) (r : Stored) (s : CustomerSpool) (earlier : List Stored)
     → earlier ≡ partial_records n s
     → received_record entry l kind n r s
-    ≡ stored_by (with_room (has_room_for n r s) (earlier ++ r ∷ []) (verdict_of entry l kind earlier r)) kind n r (earlier ++ r ∷ []) s
+    ≡ stored_by (with_room (has_room_for n r s) (earlier ++ r ∷ []) (verdict_of entry l kind earlier r)) kind n r
+    (earlier ++ r ∷ []) s
 stored_after entry l kind n r s earlier e =
-    ap (λ x. stored_by (with_room (has_room_for n r s) (x ++ r ∷ []) (verdict_of entry l kind x r)) kind n r (x ++ r ∷ []) s) (sym e)
+    ap (λ x. stored_by (with_room (has_room_for n r s) (x ++ r ∷ []) (verdict_of entry l kind x r)) kind n r
+    (x ++ r ∷ []) s) (sym e)
 
 pub stored_cancelled :
-    (entry : CustomerEntry) (l : ℕ) (kind : Kind) (n : ℕ) (r : Stored) (s : CustomerSpool) (earlier : List Stored) (text : Option (List ℕ))
+    (entry : CustomerEntry) (l : ℕ) (kind : Kind) (n : ℕ) (r : Stored) (s : CustomerSpool) (earlier : List Stored)
+    (text : Option (List ℕ))
     → earlier ≡ partial_records n s → Cancelled text ≡ verdict_of entry l kind earlier r
-    → received_cancelling n (notice_of (option_map (λ h. h.origin) (job_header_of (earlier ++ r ∷ []))) text) s ≡ received_record entry l kind n r s
+    → received_cancelling n (notice_of (option_map (λ h. h.origin) (job_header_of (earlier ++ r ∷ []))) text) s
+    ≡ received_record entry l kind n r s
 stored_cancelled entry l kind n r s earlier text e h =
     ap (λ v. stored_by (with_room (has_room_for n r s) (earlier ++ r ∷ []) v) kind n r (earlier ++ r ∷ []) s) h
     ∙ sym (stored_after entry l kind n r s earlier e)
 
 pub stored_taken :
-    (entry : CustomerEntry) (l : ℕ) (kind : Kind) (n : ℕ) (r : Stored) (s : CustomerSpool) (earlier : List Stored) (progress : Progress)
-    → earlier ≡ partial_records n s → Taken ≡ verdict_of entry l kind earlier r → progress ≡ progress_of kind (earlier ++ r ∷ [])
-    → appended_where (has_room_for n r s) n progress (job_header_of (earlier ++ r ∷ [])) r s ≡ received_record entry l kind n r s
+    (entry : CustomerEntry) (l : ℕ) (kind : Kind) (n : ℕ) (r : Stored) (s : CustomerSpool) (earlier : List Stored)
+    (progress : Progress)
+    → earlier ≡ partial_records n s → Taken ≡ verdict_of entry l kind earlier r
+    → progress ≡ progress_of kind (earlier ++ r ∷ [])
+    → appended_where (has_room_for n r s) n progress (job_header_of (earlier ++ r ∷ [])) r s ≡ received_record entry l
+    kind n r s
 stored_taken entry l kind n r s earlier progress e h progress_is =
     by_room (has_room_for n r s)
     ∙ ap (λ v. stored_by (with_room (has_room_for n r s) (earlier ++ r ∷ []) v) kind n r (earlier ++ r ∷ []) s) h
@@ -54,8 +62,10 @@ stored_taken entry l kind n r s earlier progress e h progress_is =
 
 -- a record that is stored as it is
 pub stored_unread :
-    (entry : CustomerEntry) (l : ℕ) (file : ComingFile) (r : Stored) (s : CustomerSpool) (earlier : List Stored) (progress : Progress)
-    → earlier ≡ partial_records file.number s → IsKept file s → unread_progress file.kind file.progress r.srcb ≡ Some progress
+    (entry : CustomerEntry) (l : ℕ) (file : ComingFile) (r : Stored) (s : CustomerSpool) (earlier : List Stored)
+    (progress : Progress)
+    → earlier ≡ partial_records file.number s → IsKept file s
+    → unread_progress file.kind file.progress r.srcb ≡ Some progress
     → appended_where (has_room_for file.number r s) file.number progress (job_header_of (earlier ++ r ∷ [])) r s
     ≡ received_record entry l file.kind file.number r s
 stored_unread entry l file r s earlier progress e kept unread =
@@ -66,7 +76,8 @@ stored_unread entry l file r s earlier progress e kept unread =
 -- what was appended had room
 pub had_room :
     (there room : Bool) (x : Result (Unit {0}) SpoolFault) → x ≡ Ok tt
-    → MatchOption (option_or (fault_unless there NoSuchFile) (fault_unless room QuotaFull)) (IsOk x) (λ fault. x ≡ Err fault)
+    → MatchOption (option_or (fault_unless there NoSuchFile) (fault_unless room QuotaFull)) (IsOk x)
+    (λ fault. x ≡ Err fault)
     → room ≡ true
 had_room true true x ok h = refl
 had_room true false x ok h = let no : Ok tt ≡ Err QuotaFull = sym ok ∙ h in absurd (cc no)

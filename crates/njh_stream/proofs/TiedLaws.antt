@@ -61,18 +61,21 @@ module _ (l k : ℕ) (r : Receiver) (lines : List (List Receiver)) (line_there :
 -- a stream that agrees with its file agrees with it where that is found as before
 agrees_still :
     (kind : Kind) (x : Receiver) (s t : CustomerSpool)
-    → ((n : ℕ) (f : PartialFile) → coming_file x ≡ Some n → partial_numbered n s ≡ Some f → partial_numbered n t ≡ Some f)
+    → ((n : ℕ) (f : PartialFile) → coming_file x ≡ Some n → partial_numbered n s ≡ Some f
+    → partial_numbered n t ≡ Some f)
     → Agrees kind x s → Agrees kind x t
 agrees_still kind Idle s t kept agrees = tt
 agrees_still kind Draining s t kept agrees = tt
 agrees_still kind (Open n progress) s t kept agrees = at_file (partial_numbered n s) refl agrees
   where
-    at_file : (o : Option PartialFile) → partial_numbered n s ≡ o → AgreesWith kind progress o → AgreesWith kind progress (partial_numbered n t)
+    at_file : (o : Option PartialFile) → partial_numbered n s ≡ o → AgreesWith kind progress o
+        → AgreesWith kind progress (partial_numbered n t)
     at_file None e agrees = absurd agrees
     at_file (Some f) e agrees = subst (AgreesWith kind progress) (sym (kept n f refl e)) agrees
 
 -- a stream that agrees has its file
-has_file : (kind : Kind) (x : Receiver) (s : CustomerSpool) (n : ℕ) → Agrees kind x s → coming_file x ≡ Some n → partial_numbered n s ≡ None → ⊥
+has_file : (kind : Kind) (x : Receiver) (s : CustomerSpool) (n : ℕ) → Agrees kind x s → coming_file x ≡ Some n
+    → partial_numbered n s ≡ None → ⊥
 has_file kind Idle s n agrees e none = cc e
 has_file kind Draining s n agrees e none = cc e
 has_file kind (Open m progress) s n agrees e none =
@@ -80,7 +83,8 @@ has_file kind (Open m progress) s n agrees e none =
 
 pub stream_moved :
     (l k : ℕ) (r : Receiver) (lines : List (List Receiver)) (s t : CustomerSpool)
-    → l < length lines → k < length (streams_at l lines) → AreTied lines s → Moves (coming_file (stream_at l k lines)) s (coming_file r) t
+    → l < length lines → k < length (streams_at l lines) → AreTied lines s
+    → Moves (coming_file (stream_at l k lines)) s (coming_file r) t
     → Agrees (kind_of k) r t → AreTied (with_stream l k r lines) t
 stream_moved l k r lines s t line_there stream_there tied moves agrees = record {
   agree = λ m j. agree_at m j (places l k m j);
@@ -106,38 +110,50 @@ stream_moved l k r lines s t line_there stream_there tied moves agrees = record 
 
     agree_at : (m j : ℕ) → Places l k m j → Agrees (kind_of j) (stream_at m j new) t
     agree_at m j (Same line stream) =
-        subst (λ x. Agrees (kind_of j) x t) (sym (ap (λ x. stream_at x j new) (sym line) ∙ ap (λ x. stream_at l x new) (sym stream) ∙ here))
+        subst (λ x. Agrees (kind_of j) x t)
+        (sym (ap (λ x. stream_at x j new) (sym line) ∙ ap (λ x. stream_at l x new) (sym stream) ∙ here))
         (subst (λ x. Agrees (kind_of x) r t) stream agrees)
     agree_at m j (Apart other) =
         subst (λ x. Agrees (kind_of j) x t) (sym (there m j other))
-        (agrees_still (kind_of j) (stream_at m j lines) s t (λ n f e found. moves.kept n f (not_its m j n other e) found) (tied.agree m j))
+        (agrees_still (kind_of j) (stream_at m j lines) s t
+        (λ n f e found. moves.kept n f (not_its m j n other e) found) (tied.agree m j))
 
     -- the stream that moved has no file that another has
-    alone : (m j n : ℕ) → ((l ≡ m) × (k ≡ j) → ⊥) → was m j ≡ Some n → (was l k ≡ Some n) ⊎ (partial_numbered n s ≡ None) → ⊥
+    alone : (m j n : ℕ) → ((l ≡ m) × (k ≡ j) → ⊥) → was m j ≡ Some n
+        → (was l k ≡ Some n) ⊎ (partial_numbered n s ≡ None) → ⊥
     alone m j n other e (inl mine) = not_its m j n other e mine
     alone m j n other e (inr none) = has_file (kind_of j) (stream_at m j lines) s n (tied.agree m j) e none
 
     at_place : (m j n : ℕ) → l ≡ m → k ≡ j → coming_file (stream_at m j new) ≡ Some n → coming_file r ≡ Some n
     at_place m j n line stream e =
-        sym (ap coming_file (ap (λ x. stream_at x j new) (sym line) ∙ ap (λ x. stream_at l x new) (sym stream) ∙ here)) ∙ e
+        sym (ap coming_file (ap (λ x. stream_at x j new) (sym line) ∙ ap (λ x. stream_at l x new) (sym stream) ∙ here))
+        ∙ e
 
     elsewhere : (m j n : ℕ) → ((l ≡ m) × (k ≡ j) → ⊥) → coming_file (stream_at m j new) ≡ Some n → was m j ≡ Some n
     elsewhere m j n other e = sym (ap coming_file (there m j other)) ∙ e
 
     apart_at :
-        (m j p i n : ℕ) → Places l k m j → Places l k p i → coming_file (stream_at m j new) ≡ Some n → coming_file (stream_at p i new) ≡ Some n
+        (m j p i n : ℕ) → Places l k m j → Places l k p i → coming_file (stream_at m j new) ≡ Some n
+        → coming_file (stream_at p i new) ≡ Some n
         → (m ≡ p) × (j ≡ i)
     apart_at m j p i n (Same line stream) (Same line' stream') e f = (sym line ∙ line', sym stream ∙ stream')
     apart_at m j p i n (Same line stream) (Apart other) e f =
         absurd (alone p i n other (elsewhere p i n other f) (moves.own n (at_place m j n line stream e)))
     apart_at m j p i n (Apart other) (Same line stream) e f =
         absurd (alone m j n other (elsewhere m j n other e) (moves.own n (at_place p i n line stream f)))
-    apart_at m j p i n (Apart other) (Apart another) e f = tied.apart m j p i n (elsewhere m j n other e) (elsewhere p i n another f)
+    apart_at m j p i n (Apart other) (Apart another) e f =
+        tied.apart m j p i n (elsewhere m j n other e) (elsewhere p i n another f)
 
     stays : (n : ℕ) → (was l k ≡ Some n → ⊥) → (x : Comes n lines) → Places l k x.line x.stream → Comes n new
     stays n not x (Same line stream) =
-        absurd (not (ap coming_file (ap (λ y. stream_at y k lines) line ∙ ap (λ y. stream_at x.line y lines) stream) ∙ x.file))
-    stays n not x (Apart other) = record { line = x.line; stream = x.stream; file = ap coming_file (there x.line x.stream other) ∙ x.file }
+        absurd (not (ap coming_file (ap (λ y. stream_at y k lines) line ∙ ap (λ y. stream_at x.line y lines) stream)
+        ∙ x.file))
+    stays n not x (Apart other) = record {
+      line = x.line;
+      stream = x.stream;
+      file = ap coming_file
+          (there x.line x.stream other) ∙ x.file;
+    }
 
     come_at : (n : ℕ) → (coming_file r ≡ Some n) ⊎ ((was l k ≡ Some n → ⊥) × Has n s) → Comes n new
     come_at n (inl e) = record { line = l; stream = k; file = ap coming_file here ∙ e }
@@ -162,20 +178,23 @@ module _ (l : ℕ) (lines : List (List Receiver)) (s : CustomerSpool) (line_ther
   now_at : (i : ℕ) → streams_at l (set lines l (so_far i)) ≡ so_far i
   now_at i = get_or-set_same lines l (so_far i) [] line_there
 
-  one_more_over : (i : ℕ) → i < length were → with_stream l i Idle (set lines l (so_far i)) ≡ set lines l (so_far (suc i))
+  one_more_over : (i : ℕ) → i < length were
+      → with_stream l i Idle (set lines l (so_far i)) ≡ set lines l (so_far (suc i))
   one_more_over i h =
       ap (λ rs. set (set lines l (so_far i)) l (set rs i Idle)) (now_at i)
       ∙ set-set lines l (so_far i) (set (so_far i) i Idle)
       ∙ ap (set lines l) (become Idle i were h)
 
-  over_so_far : (i : ℕ) → i ≤ length were → AreTied lines s → AreTied (set lines l (so_far i)) (without_all_open (take i were) s)
+  over_so_far : (i : ℕ) → i ≤ length were → AreTied lines s
+      → AreTied (set lines l (so_far i)) (without_all_open (take i were) s)
   over_so_far zero h tied = subst (λ x. AreTied x s) (sym (set-get_or lines l [])) tied
   over_so_far (suc i) h tied =
       let spool = without_all_open (take i were) s in
       let r = stream_at l i (set lines l (so_far i)) in
       let before = over_so_far i (omega (arith, h)) tied in
       let r_is : r ≡ get_or were i Idle = ap (λ rs. get_or rs i Idle) (now_at i) ∙ next_is Idle Idle i were h in
-      let over = stream_moved l i Idle (set lines l (so_far i)) spool (without_open r spool) (omega (arith, line_there, length-set lines l (so_far i)))
+      let over = stream_moved l i Idle (set lines l (so_far i)) spool (without_open r spool)
+      (omega (arith, line_there, length-set lines l (so_far i)))
       (omega (arith, h, ap length (now_at i), length-so_far i (omega (arith, h)))) before (ends r spool) tt in
       subst (AreTied (set lines l (so_far (suc i))))
       (ap (λ x. without_open x spool) r_is ∙ sym (open_so_far i were Idle s h))
@@ -189,19 +208,23 @@ session_ended l lines s line_there tied =
     let all = over_so_far l lines s line_there (length rs) (omega arith) tied in
     subst (AreTied (without_streams l lines)) (ap (λ xs. without_all_open xs s) (take-length rs))
     (subst (λ x. AreTied x (without_all_open (take (length rs) rs) s))
-    (ap (set lines l) (ap (λ xs. replicate (length rs) Idle ++ xs) (drop-length rs) ∙ append-nil (replicate (length rs) Idle))) all)
+    (ap (set lines l) (ap (λ xs. replicate (length rs) Idle ++ xs) (drop-length rs)
+    ∙ append-nil (replicate (length rs) Idle))) all)
 
 -- ---- what touches no partial file
 
-pub untouched : (lines : List (List Receiver)) (s t : CustomerSpool) → t.partial ≡ s.partial → AreTied lines s → AreTied lines t
+pub untouched : (lines : List (List Receiver)) (s t : CustomerSpool) → t.partial ≡ s.partial → AreTied lines s
+    → AreTied lines t
 untouched lines s t same tied = record {
-  agree = λ l k. agrees_still (kind_of k) (stream_at l k lines) s t (λ n f e found. ap (numbered n) same ∙ found) (tied.agree l k);
+  agree = λ l k. agrees_still (kind_of k) (stream_at l k lines) s t (λ n f e found. ap (numbered n) same ∙ found)
+      (tied.agree l k);
   apart = tied.apart;
   come = λ n f found. tied.come n f (ap (numbered n) (sym same) ∙ found);
 }
 
 -- with no stream about a file and no partial file
-pub at_rest : (lines : List (List Receiver)) (s : CustomerSpool) → ((l k : ℕ) → stream_at l k lines ≡ Idle) → s.partial ≡ [] → AreTied lines s
+pub at_rest : (lines : List (List Receiver)) (s : CustomerSpool) → ((l k : ℕ) → stream_at l k lines ≡ Idle)
+    → s.partial ≡ [] → AreTied lines s
 at_rest lines s idle none = record {
   agree = λ l k. subst (λ x. Agrees (kind_of k) x s) (sym (idle l k)) tt;
   apart = λ l k m j n e f. absurd (cc (sym (ap coming_file (idle l k)) ∙ e));
@@ -211,11 +234,14 @@ at_rest lines s idle none = record {
 -- ---- one arrival
 
 pub arrival_tied :
-    (entry : CustomerEntry) (l k : ℕ) (a : Arrival) (lines : List (List Receiver)) (s : CustomerSpool) → ((x : CustomerSpool) → IsFree x)
+    (entry : CustomerEntry) (l k : ℕ) (a : Arrival) (lines : List (List Receiver)) (s : CustomerSpool)
+    → ((x : CustomerSpool) → IsFree x)
     → l < length lines → k < length (streams_at l lines) → AreTied lines s
-    → (let done = received_arrival entry l (kind_of k) (stream_at l k lines) a s in AreTied (with_stream l k done.receiver lines) done.spool)
+    → (let done = received_arrival entry l (kind_of k) (stream_at l k lines) a s in AreTied
+    (with_stream l k done.receiver lines) done.spool)
 arrival_tied entry l k a lines s free line_there stream_there tied =
     let r = stream_at l k lines in
     let done = received_arrival entry l (kind_of k) r a s in
-    stream_moved l k done.receiver lines s done.spool line_there stream_there tied (arrivals entry l (kind_of k) r a s free)
+    stream_moved l k done.receiver lines s done.spool line_there stream_there tied
+    (arrivals entry l (kind_of k) r a s free)
     (received_agrees entry l (kind_of k) r a s free (tied.agree l k))

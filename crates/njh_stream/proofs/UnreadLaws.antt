@@ -1,5 +1,6 @@
 -- Which records are stored without a look at their bytes, and what the verdict on the others is.
-use Rattle.std.proofs.Common.{◌≡◌, ℕ, Bool, true, false, List, [], ◌∷◌, ◌++◌, Option, Some, None, ◌==◌, not, ◌&&◌, refl, sym}
+use Rattle.std.proofs.Common.{◌≡◌, ℕ, Bool, true, false, List, [], ◌∷◌, ◌++◌, Option, Some, None, ◌==◌, not, ◌&&◌, refl}
+use Rattle.std.proofs.Common.{sym}
 use Rattle.std.proofs.Common.{ap, ap₂, ◌∙◌}
 use Rattle.std.proofs.lemmas.List.Folds.{list_all-append}
 use Rattle.njh_record.specs.Stored.{Stored, has_srcb}
@@ -18,14 +19,16 @@ use Rattle.njh_stream.proofs.ProgressLaws.{all_job_headers, placed_judged, place
 -- a job header that continues the first
 pub job_continued :
     (entry : CustomerEntry) (l : ℕ) (kind : Kind) (file : List Stored) (r : Stored) → JobHeader ≡ progress_of kind file
-    → (r.srcb == 0xc0) ≡ true → (Taken ≡ verdict_of entry l kind file r) × (JobHeader ≡ progress_of kind (file ++ r ∷ []))
+    → (r.srcb == 0xc0) ≡ true → (Taken ≡ verdict_of entry l kind file r)
+    × (JobHeader ≡ progress_of kind (file ++ r ∷ []))
 job_continued entry l In [] r h is = absurd (cc h)
 job_continued entry l Out [] r h is = absurd (cc h)
 job_continued entry l In (x ∷ xs) r h is = absurd (cc h)
 job_continued entry l Out (x ∷ xs) r h is = at_all (all_job_headers (x ∷ xs)) refl h
   where
     at_all :
-        (b : Bool) → all_job_headers (x ∷ xs) ≡ b → JobHeader ≡ elim b [ true ↦ JobHeader | false ↦ placement Out (x ∷ xs) ]
+        (b : Bool) → all_job_headers (x ∷ xs) ≡ b
+        → JobHeader ≡ elim b [ true ↦ JobHeader | false ↦ placement Out (x ∷ xs) ]
         → (Taken
         ≡ where_all b (elim (has_srcb 0xc0 r) [ true ↦ Taken | false ↦ judged_data_set entry l (x ∷ xs) r ])
         (elim (has_srcb 0xe0 r && not (ends_in 0xe0 (x ∷ xs))) [ true ↦ judged_later (x ∷ xs) r | false ↦ Taken ]))
@@ -56,12 +59,14 @@ unread_taken entry l kind file r JobHeader more kept e = at_header (r.srcb == 0x
 unread_taken entry l kind file r (Placed node last) more kept e = at_begins (begins_data_set kind last r.srcb) refl e
   where
     at_begins :
-        (b : Bool) → begins_data_set kind last r.srcb ≡ b → elim b [ true ↦ None | false ↦ Some (Placed node r.srcb) ] ≡ Some more
+        (b : Bool) → begins_data_set kind last r.srcb ≡ b
+        → elim b [ true ↦ None | false ↦ Some (Placed node r.srcb) ] ≡ Some more
         → (Taken ≡ verdict_of entry l kind file r) × (more ≡ progress_of kind (file ++ r ∷ []))
     at_begins true is e = absurd (cc e)
     at_begins false is e =
         let same : more ≡ Placed node r.srcb = cc e in (
-          sym (placed_judged entry l kind file r node last kept ∙ ap (λ v. elim v [ true ↦ judged_against node r.bytes | false ↦ Taken ]) is),
+          sym (placed_judged entry l kind file r node last kept
+              ∙ ap (λ v. elim v [ true ↦ judged_against node r.bytes | false ↦ Taken ]) is),
           same ∙ placed_stays kind file r node last kept,
         )
 
@@ -86,7 +91,8 @@ job_judged entry l Out (x ∷ xs) r h e = at_all (all_job_headers (x ∷ xs)) h
         (elim (has_srcb 0xe0 r && not (ends_in 0xe0 (x ∷ xs))) [ true ↦ judged_later (x ∷ xs) r | false ↦ Taken ])
         ≡ judged_data_set entry l (x ∷ xs) r
     at_all false h = absurd (cc h)
-    at_all true h = ap (λ v. elim v [ true ↦ Taken | false ↦ judged_data_set entry l (x ∷ xs) r ]) (no_header (r.srcb == 0xc0) e)
+    at_all true h = ap (λ v. elim v [ true ↦ Taken | false ↦ judged_data_set entry l (x ∷ xs) r ])
+        (no_header (r.srcb == 0xc0) e)
 
 -- a later data set header
 pub later_judged :
@@ -95,8 +101,10 @@ pub later_judged :
     → verdict_of entry l kind file r ≡ judged_against node r.bytes
 later_judged entry l kind file r node last kept e =
     placed_judged entry l kind file r node last kept
-    ∙ ap (λ v. elim v [ true ↦ judged_against node r.bytes | false ↦ Taken ]) (begins (begins_data_set kind last r.srcb) e)
+    ∙ ap (λ v. elim v [ true ↦ judged_against node r.bytes | false ↦ Taken ])
+    (begins (begins_data_set kind last r.srcb) e)
   where
-    begins : (b : Bool) → ◌≡◌ {A = Option Progress} (elim b [ true ↦ None | false ↦ Some (Placed node r.srcb) ]) None → b ≡ true
+    begins : (b : Bool) → ◌≡◌ {A = Option Progress} (elim b [ true ↦ None | false ↦ Some (Placed node r.srcb) ]) None
+        → b ≡ true
     begins true e = refl
     begins false e = absurd (cc e)

@@ -14,7 +14,8 @@ use Rattle.njh_stream.specs.declared.receiver.Receiver.TheVariants.{Idle, Open, 
 use Rattle.njh_stream.specs.Transmissions.{ComingRecord, Fitting, TooLong}
 use Rattle.njh_stream.specs.Outcomes.{Ending, EndOfFile, GivenUp, CutOff, TransmissionOutcome, AFile, NotWhole}
 use Rattle.njh_stream.specs.Outcomes.{CancelledBy, Dropped}
-use Rattle.njh_stream.specs.Receiving.{Arrival, Data, Long, Abort, Notice, ReceiverStep, received_arrival, received_nothing}
+use Rattle.njh_stream.specs.Receiving.{Arrival, Data, Long, Abort, Notice, ReceiverStep, received_arrival}
+use Rattle.njh_stream.specs.Receiving.{received_nothing}
 use Rattle.njh_stream.specs.Receiving.{without_open, notice_of}
 
 -- A record of a byte or more came, or one of more than 256 bytes, and found the customer's spool so.

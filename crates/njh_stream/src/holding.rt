@@ -13,8 +13,8 @@ use njh_header::Destination;
 use njh_spool::{FileId, Spool, State};
 use njh_table::{NamedCustomer, Route};
 
-/// A customer's files that are Ready or Refused, and whose destination's node has no route, are Held. All others stay
-/// as they are.
+/// A customer's files that are Ready or Refused, and whose destination's node has no route, are
+/// Held. All others stay as they are.
 pub fn hold_unrouted(entry: &NamedCustomer, customer: u16, spool: &mut Spool)
     requires { customer < length spool.old }
     ensures { spool.new

@@ -18,13 +18,15 @@ use njh_record::Kind;
 use njh_table::Route;
 use njh_texts::{MessageText, no_files_for, node_unknown, routed_back};
 
-/// A record is taken, and then the file has come so far; or it cancels its file, and this is for the owner.
+/// A record is taken, and then the file has come so far; or it cancels its file, and this is for
+/// the owner.
 pub(crate) enum RecordVerdict {
     Taken(Progress),
     Cancelled(Option<MessageText>),
 }
 
-/// Judges a record by its bytes, where they say whether it is taken, and by the records of its file so far.
+/// Judges a record by its bytes, where they say whether it is taken, and by the records of its file
+/// so far.
 pub(crate) fn judge(
     from: &Origin<'_>,
     file: &ComingFile,
@@ -124,7 +126,8 @@ fn judge_later(node: [u8; FIELD], next: &StreamRecord<'_>) -> RecordVerdict
     }
 }
 
-/// A file goes neither to the hub itself, nor to a node that nobody has, nor back by the line on which it comes.
+/// A file goes neither to the hub itself, nor to a node that nobody has, nor back by the line on
+/// which it comes.
 fn judge_node(
     from: &Origin<'_>,
     node: Name,

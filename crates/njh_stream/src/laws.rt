@@ -28,7 +28,8 @@ pub fn one_outcome()
         → Becomes entry l kind cs ending a → Becomes entry l kind cs ending b → a ≡ b }
 {}
 
-/// A transmission that becomes a file has headers that read: they say its name, its owner and its destination.
+/// A transmission that becomes a file has headers that read: they say its name, its owner and its
+/// destination.
 pub fn files_have_headers()
     ensures come { (entry : CustomerEntry) (l : ℕ) (kind : Kind) (cs : List ComingRecord) (ending : Ending)
         (records : List Stored) → Becomes entry l kind cs ending (AFile records) → HasHeaders kind records }
@@ -41,9 +42,9 @@ pub fn whole_files_have_headers()
         → HaveHeaders (received_arrival entry l kind receiver a s).spool.whole }
 {}
 
-/// A stream that is followed from a permitted request on, arrival by arrival, answers, tells and leaves what the whole
-/// list of its records becomes, however they are spread over blocks and whatever the customer's other streams do
-/// between.
+/// A stream that is followed from a permitted request on, arrival by arrival, answers, tells and
+/// leaves what the whole list of its records becomes, however they are spread over blocks and
+/// whatever the customer's other streams do between.
 pub fn streams_end_so()
     ensures ends { (entry : CustomerEntry) (l : ℕ) (kind : Kind) (s last : CustomerSpool) (ms : List Moment)
         (ending : Ending) (srcb : ℕ)
@@ -62,9 +63,10 @@ pub fn streams_end_so()
     next_number_is_least();
 }
 
-/// A customer's streams and its partial files stay tied: each open stream keeps what its file says, no two have the
-/// same file, and none is without a stream. So it is where nothing comes, and so it stays through every arrival on any
-/// stream, the end of any line's session, and all that touches no partial file.
+/// A customer's streams and its partial files stay tied: each open stream keeps what its file says,
+/// no two have the same file, and none is without a stream. So it is where nothing comes, and so it
+/// stays through every arrival on any stream, the end of any line's session, and all that touches
+/// no partial file.
 pub fn streams_stay_tied()
     ensures at_rest { (lines : List (List Receiver)) (s : CustomerSpool)
         → ((l k : ℕ) → stream_at l k lines ≡ Receiver.Idle)

@@ -1,5 +1,5 @@
-//! Transmissions to the hub and from it (IBM SC23-0070, "Multileaving"): what comes on a stream becomes a file, and a
-//! file goes out record by record.
+//! Transmissions to the hub and from it (IBM SC23-0070, "Multileaving"): what comes on a stream
+//! becomes a file, and a file goes out record by record.
 #![tactic(auto)]
 
 mod arrival;

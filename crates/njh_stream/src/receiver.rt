@@ -80,7 +80,8 @@ pub struct StreamStep {
     pub notice: Option<Notice>,
 }
 
-/// What an arrival leaves: the stream, the answer to the peer, and what the owner of the file is told.
+/// What an arrival leaves: the stream, the answer to the peer, and what the owner of the file is
+/// told.
 #[derive(Drop)]
 pub(crate) struct After {
     pub receiver: Receiver,
@@ -117,8 +118,9 @@ impl After {
 }
 
 impl Receiver {
-    /// One arrival on a stream of a line. The stream, the customer's files, the answer to the peer and what the owner
-    /// of the file is told are those of the definition. An answer carries the stream's RCB.
+    /// One arrival on a stream of a line. The stream, the customer's files, the answer to the peer
+    /// and what the owner of the file is told are those of the definition. An answer carries the
+    /// stream's RCB.
     pub fn step(
         &mut self,
         arrival: Arrival<'_>,
@@ -216,8 +218,8 @@ fn answer_of(answer: Option<ControlRcb>, stream: Stream) -> Option<Answer>
     }
 }
 
-/// A record of which is known, without a look at its bytes, what it does: what the stream is about then. Else none, and
-/// nothing is done.
+/// A record of which is known, without a look at its bytes, what it does: what the stream is about
+/// then. Else none, and nothing is done.
 fn receive_unread(
     receiver: Receiver,
     arrival: &Arrival<'_>,

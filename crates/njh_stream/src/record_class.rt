@@ -81,7 +81,8 @@ fn class_in(file: ComingFile, srcb: u8) -> RecordClass
     }
 }
 
-/// Whether a record, by its SRCB and that of the last one, is a data set header that continues no other.
+/// Whether a record, by its SRCB and that of the last one, is a data set header that continues no
+/// other.
 fn begins_data_set(kind: Kind, last: u8, srcb: u8) -> bool
     ensures { result ≡ classes.begins_data_set kind last srcb }
 {

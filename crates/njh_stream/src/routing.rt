@@ -12,8 +12,8 @@ use njh_header::Destination;
 use njh_spool::{FileId, Spool, State};
 use njh_table::{NamedCustomer, Route};
 
-/// Whether a customer's whole file goes by a line: by the route of its destination's node. A file that isn't there goes
-/// by none.
+/// Whether a customer's whole file goes by a line: by the route of its destination's node. A file
+/// that isn't there goes by none.
 pub fn goes_by(entry: &NamedCustomer, line: u16, customer: u16, file: FileId, spool: &Spool) -> bool
     requires { customer < length spool.now }
     ensures { result ≡ sending.holds_of (sending.goes_by (entry_of entry.now) line)

@@ -8,8 +8,8 @@ ghost use Rattle.njh_stream.specs.Sending as sending;
 use njh_record::Record;
 use njh_spool::{FileId, Spool, State};
 
-/// What a stream from the hub is about. A number that names no whole file of the customer is at its end, and nothing
-/// is done to it.
+/// What a stream from the hub is about. A number that names no whole file of the customer is at its
+/// end, and nothing is done to it.
 #[derive(Clone, Copy, Debug, PartialEq, Eq)]
 pub enum Sender {
     /// Nothing.
@@ -110,9 +110,9 @@ impl Sender {
         }
     }
 
-    /// Puts the record that is next in place of what `into` held, gives its SRCB and moves on by one. Where the end of
-    /// file is next, or nothing is being sent, it gives none and `into` is empty; after the end of file the stream
-    /// waits for the peer to say that it has the file.
+    /// Puts the record that is next in place of what `into` held, gives its SRCB and moves on by
+    /// one. Where the end of file is next, or nothing is being sent, it gives none and `into` is
+    /// empty; after the end of file the stream waits for the peer to say that it has the file.
     pub fn next(&mut self, customer: u16, spool: &mut Spool, into: &mut Record) -> Option<u8>
         requires { customer < length spool.old }
         ensures sender { self.new ≡ (sending.next_of self.old (spool_at customer spool.old)).sender }
@@ -141,7 +141,8 @@ impl Sender {
     }
 }
 
-/// Puts a record of a whole file in place of what `into` held, and gives its SRCB; none past the last one.
+/// Puts a record of a whole file in place of what `into` held, and gives its SRCB; none past the
+/// last one.
 fn read_next(
     customer: u16,
     file: FileId,

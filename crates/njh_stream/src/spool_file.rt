@@ -9,7 +9,8 @@ use njh_record::Record;
 use njh_spool::{FileId, Spool};
 use std::marker::Model;
 
-/// A customer's file, whole or partial, as the list of its records. A number that names no file has none.
+/// A customer's file, whole or partial, as the list of its records. A number that names no file has
+/// none.
 #[derive(Drop)]
 pub struct SpoolFile<'a> {
     spool: &'a Spool,

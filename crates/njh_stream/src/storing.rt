@@ -26,9 +26,9 @@ use njh_record::Kind;
 use njh_spool::{FileId, Spool};
 use njh_texts::{MessageText, spool_full};
 
-/// A record that goes by, or that is stored without a look at its bytes, where the quota has room for it: what the
-/// stream is about then. Else none, and nothing is stored. Most records come so: nothing is answered, and no room for a
-/// notice is made and moved.
+/// A record that goes by, or that is stored without a look at its bytes, where the quota has room
+/// for it: what the stream is about then. Else none, and nothing is stored. Most records come so:
+/// nothing is answered, and no room for a notice is made and moved.
 pub(crate) fn store_unread(
     receiver: Receiver,
     next: &StreamRecord<'_>,

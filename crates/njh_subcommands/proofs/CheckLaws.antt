@@ -1,5 +1,6 @@
 -- What a check says, whole or begun.
-use Rattle.std.proofs.Common.{◌≡◌, ◌⊎◌, ℕ, Bool, true, false, List, [], Option, Some, None, Result, Ok, Err, OnErr, option_map}
+use Rattle.std.proofs.Common.{◌≡◌, ◌⊎◌, ℕ, Bool, true, false, List, [], Option, Some, None, Result, Ok, Err, OnErr}
+use Rattle.std.proofs.Common.{option_map}
 use Rattle.std.proofs.Common.{append-nil, arith, inl, inr, refl, subst, sym}
 use Rattle.std.specs.Prelude.{IfErr, MatchResult, OnOk, if◌then◌else◌}
 use Rattle.std.specs.Io.KnownBytes.{Appends, Keeps}
@@ -22,7 +23,8 @@ use Rattle.njh_subcommands.specs.declared.failure.Failure.{Failure}
 use Rattle.njh_subcommands.specs.declared.failure.Failure.TheVariants.{Arguments, Encode, Found, Replay, Tables, Trace}
 use Rattle.njh_subcommands.specs.declared.failure.Failure.TheVariants as failure
 
-pub beginning_whole : (old new : Option (List ℕ)) (whole : List ℕ) → Appends old new whole → AppendsBeginning old new whole
+pub beginning_whole : (old new : Option (List ℕ)) (whole : List ℕ) → Appends old new whole
+    → AppendsBeginning old new whole
 beginning_whole old new whole written = (whole, [], append-nil whole, written)
 
 -- the tables are given where a file is named, however it is named
@@ -42,19 +44,25 @@ tells-bytes bytes text found other words same is told =
     subst Q is (subst P same told)
 
 -- of tables that are right, and of a fault
-pub told_right : (bytes text : List ℕ) (found : Option PlacedFault) (old new : Option (List ℕ)) → text ≡ bytes → IsUtf8 bytes
+pub told_right : (bytes text : List ℕ) (found : Option PlacedFault) (old new : Option (List ℕ)) → text ≡ bytes
+    → IsUtf8 bytes
     → found ≡ None → ((words : List ℕ) × Tells text found words × Appends old new words) → IsToldOf true bytes old new
 told_right bytes text found old new same utf8 is t =
     (t.0, (is_utf8-from_IsUtf8 bytes utf8, tells-bytes bytes text found None t.0 same is t.1), t.2)
 
-pub told_fault : (bytes text : List ℕ) (found : Option PlacedFault) (placed : PlacedFault) (old new : Option (List ℕ)) → text ≡ bytes
+pub told_fault : (bytes text : List ℕ) (found : Option PlacedFault) (placed : PlacedFault) (old new : Option (List ℕ))
+    → text ≡ bytes
     → IsUtf8 bytes → found ≡ Some placed → ((words : List ℕ) × Tells text found words × Appends old new words)
     → IsToldOf false bytes old new
-told_fault bytes text found placed old new same utf8 is t =
-    (t.0, inl (is_utf8-from_IsUtf8 bytes utf8, (placed, tells-bytes bytes text found (Some placed) t.0 same is t.1)), t.2)
+told_fault bytes text found placed old new same utf8 is t = (
+  t.0,
+  inl (is_utf8-from_IsUtf8 bytes utf8, (placed, tells-bytes bytes text found (Some placed) t.0 same is t.1)),
+  t.2,
+)
 
 -- a beginning of either
-pub begun_of : (bytes text : List ℕ) (found : Option PlacedFault) (words : List ℕ) (old new : Option (List ℕ)) → text ≡ bytes
+pub begun_of : (bytes text : List ℕ) (found : Option PlacedFault) (words : List ℕ) (old new : Option (List ℕ))
+    → text ≡ bytes
     → IsUtf8 bytes → Tells text found words → AppendsBeginning old new words → IsTablesBegun old new
 begun_of bytes text None words old new same utf8 told begun =
     (true, bytes, words, (is_utf8-from_IsUtf8 bytes utf8, tells-bytes bytes text None None words same refl told), begun)
@@ -62,11 +70,19 @@ begun_of bytes text (Some placed) words old new same utf8 told begun = (
   false,
   bytes,
   words,
-  inl (is_utf8-from_IsUtf8 bytes utf8, (placed, tells-bytes bytes text (Some placed) (Some placed) words same refl told)),
+  inl (
+    is_utf8-from_IsUtf8 bytes utf8,
+    (
+      placed,
+      tells-bytes bytes text (Some placed) (Some placed) words same refl
+          told,
+    ),
+  ),
   begun,
 )
 
-pub begun_whole : (right : Bool) (bytes : List ℕ) (old new : Option (List ℕ)) → IsToldOf right bytes old new → IsTablesBegun old new
+pub begun_whole : (right : Bool) (bytes : List ℕ) (old new : Option (List ℕ)) → IsToldOf right bytes old new
+    → IsTablesBegun old new
 begun_whole right bytes old new told = (right, bytes, told.0, told.1, beginning_whole old new told.0 told.2)
 
 -- of a file that is no text
@@ -76,7 +92,8 @@ no_text-begun (Ok x) bytes old new broken begun = tt
 no_text-begun (Err e) bytes old new broken begun = inr (false, bytes, no_text_words, inr (broken, refl), begun)
 
 -- a script's end is one of the check by tables
-pub script_end : {T Path : Type 0} (r : Result T Failure) (path : Option Path) → IfErr r IsScriptEnd → IfErr r (IsCheckEnd path)
+pub script_end : {T Path : Type 0} (r : Result T Failure) (path : Option Path) → IfErr r IsScriptEnd
+    → IfErr r (IsCheckEnd path)
 script_end (Ok x) path ended = tt
 script_end (Err (Tables fault)) path ended = absurd ended
 script_end (Err Found) path ended = tt
@@ -91,15 +108,18 @@ script_end (Err (Trace fault)) path ended = absurd ended
 script_end (Err failure.Device) path ended = tt
 script_end (Err failure.Memory) path ended = tt
 
-pub tell_end : {T Path : Type 0} (r : Result T Failure) (path : Option Path) → IfErr r MayTell → IfErr r (IsCheckEnd path)
+pub tell_end : {T Path : Type 0} (r : Result T Failure) (path : Option Path) → IfErr r MayTell
+    → IfErr r (IsCheckEnd path)
 tell_end (Ok x) path ended = tt
 tell_end (Err failure) path (inl is) = let P : Failure → Type 0 = λ f. IsCheckEnd path f in subst P (sym is) tt
 tell_end (Err failure) path (inr (inl is)) = let P : Failure → Type 0 = λ f. IsCheckEnd path f in subst P (sym is) tt
 tell_end (Err failure) path (inr (inr is)) = let P : Failure → Type 0 = λ f. IsCheckEnd path f in subst P (sym is) tt
 
 -- what was begun of a script, by the tables that are given
-pub begun_by : {T E Path : Type 0} (r : Result T E) (path : Option Path) (tables : TableFile) (old new : Option (List ℕ))
-    → AreGiven path tables → OnErr r (Keeps old new ⊎ IsBegunBy tables old new) → OnErr r (Keeps old new ⊎ FindsInPart path old new)
+pub begun_by : {T E Path : Type 0} (r : Result T E) (path : Option Path) (tables : TableFile)
+    (old new : Option (List ℕ))
+    → AreGiven path tables → OnErr r (Keeps old new ⊎ IsBegunBy tables old new)
+    → OnErr r (Keeps old new ⊎ FindsInPart path old new)
 begun_by (Ok x) path tables old new given begun = tt
 begun_by (Err e) path tables old new given (inl kept) = inl kept
 begun_by (Err e) path tables old new given (inr begun) = inr (inl (tables, given, begun))
@@ -116,7 +136,8 @@ told_refused bytes words refused said =
     let P : Bool → Type 0 = λ t. OnOk (if t then tables_of bytes else Err BadToml) ⊥ in
     no_tables (walk_of bytes) words (subst P said.0 refused) said.1
 
-pub never_right : {T E : Type 0} (r : Result T E) (bytes : List ℕ) (old new : Option (List ℕ)) → OnOk (tables_in bytes) ⊥
+pub never_right : {T E : Type 0} (r : Result T E) (bytes : List ℕ) (old new : Option (List ℕ))
+    → OnOk (tables_in bytes) ⊥
     → OnOk r (IsToldOf true bytes old new) → OnOk r ⊥
 never_right (Ok x) bytes old new refused told = told_refused bytes told.0 refused told.1
 never_right (Err e) bytes old new refused told = tt
@@ -133,9 +154,11 @@ begun_told (Err e) path old new (inl kept) = inl kept
 begun_told (Err e) path old new (inr begun) = inr (inr begun)
 
 -- nothing of that comes before anything is written
-pub tell_late : {T : Type 0} (r : Result T Failure) (P : Type 0) → IfErr r MayTell → IfErr r (λ failure. ComesFirst failure → P)
+pub tell_late : {T : Type 0} (r : Result T Failure) (P : Type 0) → IfErr r MayTell
+    → IfErr r (λ failure. ComesFirst failure → P)
 tell_late (Ok x) P ended = tt
-tell_late (Err failure) P (inl is) = let Q : Failure → Type 0 = λ f. ComesFirst f → P in subst Q (sym is) (λ first. absurd first)
+tell_late (Err failure) P (inl is) = let Q : Failure → Type 0 =
+    λ f. ComesFirst f → P in subst Q (sym is) (λ first. absurd first)
 tell_late (Err failure) P (inr (inl is)) =
     let Q : Failure → Type 0 = λ f. ComesFirst f → P in subst Q (sym is) (λ first. absurd (omega (arith, first)))
 tell_late (Err failure) P (inr (inr is)) =

@@ -22,11 +22,12 @@ use std::rt::Files;
 /// The most bytes of a script that is read to be checked, 16 MiB: more than a script may have.
 const MAX_CHECKED_BYTES: usize = 16_777_216;
 
-/// Checks the script of a file by the tables of another, or the base tables where none is named, and says what is wrong
-/// with it. One with a bad line is `Found`; so are tables with a fault, of which that is said, and nothing of the
-/// script.
+/// Checks the script of a file by the tables of another, or the base tables where none is named,
+/// and says what is wrong with it. One with a bad line is `Found`; so are tables with a fault, of
+/// which that is said, and nothing of the script.
 ///
-/// No clause says which bytes a file holds, so no more is known than that what is said is said of some bytes.
+/// No clause says which bytes a file holds, so no more is known than that what is said is said of
+/// some bytes.
 pub(crate) fn check_script_file<R: Files + AllocGlobal, W: Write>(
     rt: &R,
     tables: Option<&str>,

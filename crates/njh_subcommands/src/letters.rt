@@ -10,7 +10,8 @@ use std::rt::Files;
 /// The most bytes of such a file, 16 MiB: more than a script may have.
 const MAX_LETTER_BYTES: usize = 16_777_216;
 
-/// Files by their paths. No clause says which bytes a file holds, nor that it holds the same the next time.
+/// Files by their paths. No clause says which bytes a file holds, nor that it holds the same the
+/// next time.
 #[derive(Drop)]
 pub(crate) struct FileLetters<'a, R: Files> {
     rt: &'a R,

@@ -1,5 +1,6 @@
-//! What the program does that needs no socket and no spool file: it replays a script, says a trace in words, makes a
-//! script of lines in words, and checks a table file or a script. Here too is why the program fails.
+//! What the program does that needs no socket and no spool file: it replays a script, says a trace
+//! in words, makes a script of lines in words, and checks a table file or a script. Here too is why
+//! the program fails.
 #![tactic(auto)]
 
 mod checking;

@@ -17,8 +17,8 @@ use njh_arguments::Task;
 use std::io::{Read, Write};
 use std::rt::Files;
 
-/// Does what a task asks for: its tables are checked first, then the script. `script` is what it is given to read: a
-/// script, for `Decode` a trace, for `Encode` lines in words.
+/// Does what a task asks for: its tables are checked first, then the script. `script` is what it is
+/// given to read: a script, for `Decode` a trace, for `Encode` lines in words.
 pub fn perform<F: Files + AllocGlobal, R: Read, W: Write>(
     rt: &F,
     task: Task<'_>,

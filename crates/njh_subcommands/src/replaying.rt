@@ -18,7 +18,8 @@ use std::alloc::Global;
 use std::io::{Read, Write};
 use std::rt::Files;
 
-/// Replays a script by the tables of a file, or by the base tables where none is named, with its output in words or not.
+/// Replays a script by the tables of a file, or by the base tables where none is named, with its
+/// output in words or not.
 pub(crate) fn replay_by<F: Files + AllocGlobal, R: Read, W: Write>(
     rt: &F,
     tables: Option<&str>,
@@ -29,11 +30,14 @@ pub(crate) fn replay_by<F: Files + AllocGlobal, R: Read, W: Write>(
     ensures done { OnOk result (IsDone (task.Replay tables.entry in_words) (R.remaining script.old) (W.contents out.old)
         (W.contents out.new)) }
     ensures failed { IfErr result (IsFailed (task.Replay tables.entry in_words) (R.remaining script.old)) }
-    ensures bad { (fault : EncodeFault) → result ≡ Err (Failure.Encode (BadLine fault)) → HasBadWords (task.Replay tables.entry in_words) fault
+    ensures bad { (fault : EncodeFault) → result ≡ Err (Failure.Encode (BadLine fault))
+        → HasBadWords (task.Replay tables.entry in_words) fault
         (R.remaining script.old) (W.contents out.old) (W.contents out.new) }
-    ensures found { result ≡ Err Failure.Found → FindsFault (task.Replay tables.entry in_words) (W.contents out.old) (W.contents out.new) }
+    ensures found { result ≡ Err Failure.Found
+        → FindsFault (task.Replay tables.entry in_words) (W.contents out.old) (W.contents out.new) }
     ensures begun { OnErr result (Keeps (W.contents out.old) (W.contents out.new)
-        ⊎ IsDoneInPart (task.Replay tables.entry in_words) (R.remaining script.old) (W.contents out.old) (W.contents out.new)) }
+        ⊎ IsDoneInPart (task.Replay tables.entry in_words) (R.remaining script.old) (W.contents out.old)
+        (W.contents out.new)) }
     ensures silent { IfErr result (λ failure. ComesFirst failure → Keeps (W.contents out.old) (W.contents out.new)) }
 {
     match tables_of(rt, tables) {

@@ -18,8 +18,8 @@ use std::rt::Files;
 /// What is said of a file that is no text.
 const NO_TEXT: &[u8] = b"K1 BadToml: not UTF-8\n";
 
-/// Checks a table file: says its customers, lines, routes and quotas, or its first fault and where it is. A file with a
-/// fault is `Found`.
+/// Checks a table file: says its customers, lines, routes and quotas, or its first fault and where
+/// it is. A file with a fault is `Found`.
 pub(crate) fn check_tables_file<R: Files + AllocGlobal, W: Write>(
     rt: &R,
     path: &str,

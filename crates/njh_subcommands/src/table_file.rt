@@ -15,8 +15,8 @@ const MAX_TABLE_BYTES: usize = 16_777_216;
 
 /// The tables of a file, or the base tables where none is named.
 ///
-/// No clause says which bytes a file holds, so of a file no more is known than that its tables are those of some bytes.
-/// It is read to a bound; one that is longer is `TooMany`.
+/// No clause says which bytes a file holds, so of a file no more is known than that its tables are
+/// those of some bytes. It is read to a bound; one that is longer is `TooMany`.
 pub fn tables_of<R: Files + AllocGlobal>(rt: &R, file: Option<&str>) -> Result<Tables, Failure>
     ensures given { IfOk result (AreGiven (option_map (λ path. path.now) file.entry)) }
     ensures refused { IfErr result (AreRefused (option_map (λ path. path.now) file.entry)) }

@@ -35,7 +35,8 @@ pub(crate) fn replay_in_words<R: Read, W: Write>(
             decode_trace(alloc, &mut text.as_slice(), out, false)?;
             Ok(())
         }
-        // A list takes what is written to it as long as there is memory, and its first room holds the first line.
+        // A list takes what is written to it as long as there is memory, and its first room holds
+        // the first line.
         Err(ReplayFault::Device) if !text.is_empty() => Err(Failure::Memory),
         Err(fault) => Err(Failure::Replay(fault)),
     }

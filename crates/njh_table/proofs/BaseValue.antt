@@ -14,7 +14,8 @@ use Rattle.njh_table.specs.Walk.{tables_of, walked_line, next_line, route_by, ne
 use Rattle.njh_table.specs.Walk.{walk_in}
 
 pub base_read : tables_of BASE.now ≡ Ok base_tables
-unfolding chars toml_on_literals byte_of_character walked_line next_line route_by next_route customer_keys next_customer walk_in
+unfolding chars toml_on_literals byte_of_character walked_line next_line route_by next_route customer_keys next_customer
+    walk_in
 base_read = refl
 
 -- a fault that cannot be any but want of memory
@@ -30,7 +31,8 @@ only_memory TooMany no_other = absurd (no_other (λ same. cc))
 only_memory Memory no_other = refl
 
 -- where the walk gives tables, reading answers them or want of memory
-pub read_gives : (walked : Walked TableFile) (tables : TableFile) (result : Result TableFile TableFault) → walked ≡ Ok tables
+pub read_gives : (walked : Walked TableFile) (tables : TableFile) (result : Result TableFile TableFault)
+    → walked ≡ Ok tables
     → IfOk result (λ t. walked ≡ Ok t) → IfOk result (λ t. t ≡ tables)
 read_gives walked tables (Ok t) known told = cc
 read_gives walked tables (Err fault) known told = tt

@@ -58,7 +58,8 @@ or_not false false e = refl
 
 -- without the last, which is another
 one_less : (names : List (List ℕ)) (name : List ℕ) (n : ℕ) → n < length names
-    → bytes_eq name (get_or names n []) ≡ false → list_any (bytes_eq name) (take (n + 1) names) ≡ list_any (bytes_eq name) (take n names)
+    → bytes_eq name (get_or names n []) ≡ false
+    → list_any (bytes_eq name) (take (n + 1) names) ≡ list_any (bytes_eq name) (take n names)
 one_less names name n within other =
     ap (list_any (bytes_eq name)) (take_more names n [] within)
     ∙ list_any-append (bytes_eq name) (take n names) (get_or names n [] ∷ [])
@@ -138,7 +139,8 @@ none_left names name count left none =
 -- ---- one more name
 
 end_set : (names : List (List ℕ)) (ends : List ℕ) (name : List ℕ) (bucket : ℕ) (same : Bool)
-    → (bucket_of name == bucket) ≡ same → bucket_of name < length ends → get_or ends bucket 0 ≡ end_of names bucket (length names)
+    → (bucket_of name == bucket) ≡ same → bucket_of name < length ends
+    → get_or ends bucket 0 ≡ end_of names bucket (length names)
     → get_or (set ends (bucket_of name) (length names + 1)) bucket 0
     ≡ cond same (suc (length names)) (end_of names bucket (length names))
 end_set names ends name bucket true is within was =
@@ -158,7 +160,8 @@ end_now : (names : List (List ℕ)) (name : List ℕ) (bucket : ℕ)
 unfolding end_of
 end_now names name bucket =
     ap (end_of (names ++ name ∷ []) bucket) (long names name)
-    ∙ ap (λ last. cond (bucket_of last == bucket) (suc (length names)) (end_of (names ++ name ∷ []) bucket (length names)))
+    ∙ ap (λ last. cond (bucket_of last == bucket) (suc (length names))
+    (end_of (names ++ name ∷ []) bucket (length names)))
     (get_or_push names name [] (length names) refl)
     ∙ ap (λ end. cond (bucket_of name == bucket) (suc (length names)) end)
     (end-push names (name ∷ []) bucket (length names) (omega arith))
@@ -166,7 +169,8 @@ end_now names name bucket =
 before_now : (names : List (List ℕ)) (before : List ℕ) (name : List ℕ) (end k : ℕ) → length before ≡ length names
     → ((k : ℕ) → k < length names → get_or before k 0 ≡ end_of names (bucket_at names k) k)
     → end ≡ end_of names (bucket_of name) (length names) → (old : Bool) → nat_lt k (length names) ≡ old
-    → k < length (names ++ name ∷ []) → get_or (before ++ end ∷ []) k 0 ≡ end_of (names ++ name ∷ []) (bucket_at (names ++ name ∷ []) k) k
+    → k < length (names ++ name ∷ []) → get_or (before ++ end ∷ []) k 0 ≡ end_of (names ++ name ∷ [])
+    (bucket_at (names ++ name ∷ []) k) k
 before_now names before name end k count were is true old within =
     let less : k < length names = ltb-true k (length names) old in
     get_or_append_left before (end ∷ []) 0 k (omega (arith, less, count))
@@ -182,11 +186,13 @@ before_now names before name end k count were is false new within =
     ∙ ap (λ at. end_of (names ++ name ∷ []) (bucket_of at) k) (sym (get_or_push names name [] k last))
 
 indexed_push : (names : List (List ℕ)) (before ends : List ℕ) (name : List ℕ) (end len : ℕ)
-    → IsIndexed names before ends → bucket_of name < BUCKETS → length ends ≡ BUCKETS → end ≡ get_or ends (bucket_of name) 0 → len ≡ length names + 1
+    → IsIndexed names before ends → bucket_of name < BUCKETS → length ends ≡ BUCKETS
+    → end ≡ get_or ends (bucket_of name) 0 → len ≡ length names + 1
     → IsIndexed (names ++ name ∷ []) (before ++ end ∷ []) (set ends (bucket_of name) len)
 indexed_push names before ends name end len was bucket wide is now = record {
   count = omega (arith, length-append names (name ∷ []), length-append before (end ∷ []), was.count);
-  each_before = λ k within. before_now names before name end k was.count was.each_before (is ∙ was.each_end (bucket_of name) bucket)
+  each_before = λ k within. before_now names before name end k was.count was.each_before
+      (is ∙ was.each_end (bucket_of name) bucket)
       (nat_lt k (length names)) refl within;
   each_end = λ b within. ap (λ n. get_or (set ends (bucket_of name) n) b 0) now
       ∙ end_set names ends name b (bucket_of name == b) refl (omega (arith, bucket, wide)) (was.each_end b within)

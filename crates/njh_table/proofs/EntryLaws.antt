@@ -27,7 +27,14 @@ pub same_entry-equal : (c d : NamedCustomer) → SameEntry c d → c ≡ d
 same_entry-equal c d same =
     let lines = sym (same_from_all_zip SameLine c.lines d.lines same.lines same_line) in
     let routes = sym (same_from_all_zip SameRoute c.routes d.routes same.routes same_route) in
-    λ i. record { name = same.name i; hub = same.hub i; quota = same.quota i; files = same.files i; lines = lines i; routes = routes i }
+    λ i. record {
+      name = same.name i;
+      hub = same.hub i;
+      quota = same.quota i;
+      files = same.files i;
+      lines = lines i;
+      routes = routes i;
+    }
 
 pub same_entry-route_of : (c d : NamedCustomer) → SameEntry c d
     → (node : List ℕ) → route_of (entry_of c) node ≡ route_of (entry_of d) node

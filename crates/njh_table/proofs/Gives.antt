@@ -36,7 +36,8 @@ pub and_then : {A B : Type 0} (P : A → Type 0) (Q : B → Type 0) (walked : Pl
 and_then P Q (Ok x) next gives more = more x gives
 and_then P Q (Err fault) next gives more = gives
 
-pub weaker : {A : Type 0} (P Q : A → Type 0) (walked : Placed A) → Gives P walked → ((x : A) → P x → Q x) → Gives Q walked
+pub weaker : {A : Type 0} (P Q : A → Type 0) (walked : Placed A) → Gives P walked → ((x : A) → P x → Q x)
+    → Gives Q walked
 weaker P Q (Ok x) gives holds = holds x gives
 weaker P Q (Err fault) gives holds = gives
 
@@ -46,7 +47,8 @@ pub past : {B : Type 0} (Q : B → Type 0) (test : Bool) (fault : PlacedFault) (
 past Q true fault next of_walk more = of_walk
 past Q false fault next of_walk more = more refl
 
-pub some_or : {A : Type 0} (P : A → Type 0) (o : Option A) (fault : PlacedFault) → IsOfWalk fault.fault → IfSome o P → Gives P (ok_or o fault)
+pub some_or : {A : Type 0} (P : A → Type 0) (o : Option A) (fault : PlacedFault) → IsOfWalk fault.fault → IfSome o P
+    → Gives P (ok_or o fault)
 some_or P None fault of_walk holds = of_walk
 some_or P (Some x) fault of_walk holds = holds
 
@@ -60,36 +62,48 @@ any (Some x) = tt
 pub with_keys : {B : Type 0} (Q : B → Type 0) (part : Part) (value : Data) (next : Members → Placed B)
     → ((keys : Members) → Gives Q (next keys)) → Gives Q (keys_in part value >>= next)
 with_keys Q part value next more =
-    and_then (λ _. ⊤) Q (keys_in part value) next (some_or (λ _. ⊤) (as_table value) (at_part part BadValue) tt (any (as_table value))) (λ keys _. more keys)
+    and_then (λ _. ⊤) Q (keys_in part value) next
+    (some_or (λ _. ⊤) (as_table value) (at_part part BadValue) tt (any (as_table value))) (λ keys _. more keys)
 
 -- the value of a key that must be there, of which something holds, and what follows
-pub with_value : {A B : Type 0} (P : A → Type 0) (Q : B → Type 0) (read : Data → Option A) (part : Part) (key : Key) (keys : Members)
+pub with_value : {A B : Type 0} (P : A → Type 0) (Q : B → Type 0) (read : Data → Option A) (part : Part) (key : Key)
+    (keys : Members)
     (next : A → Placed B)
-    → ((value : Data) → IfSome (read value) P) → ((x : A) → P x → Gives Q (next x)) → Gives Q (at_key read part key keys >>= next)
+    → ((value : Data) → IfSome (read value) P) → ((x : A) → P x → Gives Q (next x))
+    → Gives Q (at_key read part key keys >>= next)
 with_value P Q read part key keys next holds more =
     and_then P Q (at_key read part key keys) next
-    (and_then (λ _. ⊤) P (ok_or (get_member (key_name key) keys) (at_value part key MissingKey)) (λ value. ok_or (read value) (at_value part key BadValue))
-    (some_or (λ _. ⊤) (get_member (key_name key) keys) (at_value part key MissingKey) tt (any (get_member (key_name key) keys)))
+    (and_then (λ _. ⊤) P (ok_or (get_member (key_name key) keys) (at_value part key MissingKey))
+    (λ value. ok_or (read value) (at_value part key BadValue))
+    (some_or (λ _. ⊤) (get_member (key_name key) keys) (at_value part key MissingKey) tt
+    (any (get_member (key_name key) keys)))
     (λ value _. some_or P (read value) (at_value part key BadValue) tt (holds value))) more
 
 -- the same, where all that matters is that there is one
-pub with_any : {A B : Type 0} (Q : B → Type 0) (read : Data → Option A) (part : Part) (key : Key) (keys : Members) (next : A → Placed B)
+pub with_any : {A B : Type 0} (Q : B → Type 0) (read : Data → Option A) (part : Part) (key : Key) (keys : Members)
+    (next : A → Placed B)
     → ((x : A) → Gives Q (next x)) → Gives Q (at_key read part key keys >>= next)
-with_any Q read part key keys next more = with_value (λ _. ⊤) Q read part key keys next (λ value. any (read value)) (λ x _. more x)
+with_any Q read part key keys next more = with_value (λ _. ⊤) Q read part key keys next (λ value. any (read value))
+    (λ x _. more x)
 
-value_or-gives : {A : Type 0} (P : A → Type 0) (read : Data → Option A) (other : A) (part : Part) (key : Key) (found : Option Data)
+value_or-gives : {A : Type 0} (P : A → Type 0) (read : Data → Option A) (other : A) (part : Part) (key : Key)
+    (found : Option Data)
     → P other → ((value : Data) → IfSome (read value) P) → Gives P (value_or read other part key found)
 value_or-gives P read other part key None at_other holds = at_other
-value_or-gives P read other part key (Some value) at_other holds = some_or P (read value) (at_value part key BadValue) tt (holds value)
+value_or-gives P read other part key (Some value) at_other holds =
+    some_or P (read value) (at_value part key BadValue) tt (holds value)
 
 -- the value of a key that may be missing
-pub with_value_or : {A B : Type 0} (P : A → Type 0) (Q : B → Type 0) (read : Data → Option A) (other : A) (part : Part) (key : Key) (keys : Members)
+pub with_value_or : {A B : Type 0} (P : A → Type 0) (Q : B → Type 0) (read : Data → Option A) (other : A) (part : Part)
+    (key : Key) (keys : Members)
     (next : A → Placed B) → P other → ((value : Data) → IfSome (read value) P) → ((x : A) → P x → Gives Q (next x))
     → Gives Q (at_key_or read other part key keys >>= next)
 with_value_or P Q read other part key keys next at_other holds more =
-    and_then P Q (at_key_or read other part key keys) next (value_or-gives P read other part key (get_member (key_name key) keys) at_other holds) more
+    and_then P Q (at_key_or read other part key keys) next
+    (value_or-gives P read other part key (get_member (key_name key) keys) at_other holds) more
 
-pub with_any_or : {A B : Type 0} (Q : B → Type 0) (read : Data → Option A) (other : A) (part : Part) (key : Key) (keys : Members)
+pub with_any_or : {A B : Type 0} (Q : B → Type 0) (read : Data → Option A) (other : A) (part : Part) (key : Key)
+    (keys : Members)
     (next : A → Placed B) → ((x : A) → Gives Q (next x)) → Gives Q (at_key_or read other part key keys >>= next)
 with_any_or Q read other part key keys next more =
     with_value_or (λ _. ⊤) Q read other part key keys next tt (λ value. any (read value)) (λ x _. more x)
@@ -124,24 +138,29 @@ line_name-is value = by (as_str value)
 abbrev pub IsPeerOf : ℕ → Option SocketAddr → Type 0
 IsPeerOf port peer = IfSome peer (λ address. (port ≡ 0) × (socket_port address ≢ 0))
 
-not_chosen : {A : Type 0} (P : A → Type 0) (test : Bool) (x : A) → (test ≡ false → P x) → IfSome (cond test None (Some x)) P
+not_chosen : {A : Type 0} (P : A → Type 0) (test : Bool) (x : A) → (test ≡ false → P x)
+    → IfSome (cond test None (Some x)) P
 not_chosen P true x holds = tt
 not_chosen P false x holds = holds refl
 
 pub peer-is : (port : ℕ) (value : Data) → IfSome (peer port value) (IsPeerOf port)
 peer-is port value = by (as_str value)
   where
-    at : (o : Option SocketAddr) → IfSome o (λ a. (port ≡ 0) × (socket_port a ≢ 0)) → IfSome (option_map Some o) (IsPeerOf port)
+    at : (o : Option SocketAddr) → IfSome o (λ a. (port ≡ 0) × (socket_port a ≢ 0))
+        → IfSome (option_map Some o) (IsPeerOf port)
     at None holds = tt
     at (Some a) holds = holds
 
-    dials : (o : Option SocketAddr) → port ≡ 0 → IfSome (option_and_then peer_address o) (λ a. (port ≡ 0) × (socket_port a ≢ 0))
+    dials : (o : Option SocketAddr) → port ≡ 0
+        → IfSome (option_and_then peer_address o) (λ a. (port ≡ 0) × (socket_port a ≢ 0))
     dials None zero = tt
     dials (Some a) zero =
-        not_chosen (λ a. (port ≡ 0) × (socket_port a ≢ 0)) (socket_port a == 0) a (λ other. (zero, eqb-false (socket_port a) 0 other))
+        not_chosen (λ a. (port ≡ 0) × (socket_port a ≢ 0)) (socket_port a == 0) a
+        (λ other. (zero, eqb-false (socket_port a) 0 other))
 
     of_port : (test : Bool) (text : List ℕ) → (port == 0) ≡ test
-        → IfSome (cond test (option_and_then peer_address (address_of text)) None) (λ a. (port ≡ 0) × (socket_port a ≢ 0))
+        → IfSome (cond test (option_and_then peer_address (address_of text)) None)
+        (λ a. (port ≡ 0) × (socket_port a ≢ 0))
     of_port true text is = dials (address_of text) (eqb-true port 0 is)
     of_port false text is = tt
 

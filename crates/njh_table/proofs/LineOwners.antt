@@ -28,14 +28,17 @@ later_line customer first l lines o h =
     let next : o.1.number - first ≡ suc (o.1.number - (first + 1)) = omega (arith, h.1) in
     (h.0, omega (arith, h.1), omega (arith, h.1, h.2), ap (λ n. (get_or (l ∷ lines) n no_line).name) next ∙ h.3)
 
-lines_named : (customer first : ℕ) (lines : List NamedLine) → All (IsLineFrom customer first lines) (line_owners customer first lines)
+lines_named : (customer first : ℕ) (lines : List NamedLine)
+    → All (IsLineFrom customer first lines) (line_owners customer first lines)
 lines_named customer first [] = All-nil (IsLineFrom customer first [])
 lines_named customer first (l ∷ lines) =
     let here : first - first ≡ 0 = omega arith in
-    All-cons (IsLineFrom customer first (l ∷ lines)) (l.name, numbered customer first) (line_owners customer (first + 1) lines)
+    All-cons (IsLineFrom customer first (l ∷ lines)) (l.name, numbered customer first)
+    (line_owners customer (first + 1) lines)
     (refl, omega arith, omega arith, ap (λ n. (get_or (l ∷ lines) n no_line).name) here)
     (All-weaker (IsLineFrom customer (first + 1) lines) (IsLineFrom customer first (l ∷ lines))
-    (later_line customer first l lines) (line_owners customer (first + 1) lines) (lines_named customer (first + 1) lines))
+    (later_line customer first l lines) (line_owners customer (first + 1) lines)
+    (lines_named customer (first + 1) lines))
 
 -- the same, over the customers from a number on
 abbrev IsOwnerFrom : ℕ → List NamedCustomer → List ℕ × LineId → Type 0
@@ -49,7 +52,8 @@ own_line_from first c customers o h =
     let here : 0 ≡ o.1.customer - first = omega (arith, h.0) in
     let start : o.1.number - 0 ≡ o.1.number = omega arith in (
       omega (arith, h.0),
-      subst (λ n. o.1.number < length (get_or (c ∷ customers) n no_customer).lines) here (subst (λ n. n < length c.lines) start h.2),
+      subst (λ n. o.1.number < length (get_or (c ∷ customers) n no_customer).lines) here
+          (subst (λ n. n < length c.lines) start h.2),
       subst (λ n. (get_or (get_or (c ∷ customers) n no_customer).lines o.1.number no_line).name ≡ o.0) here
           (subst (λ n. (get_or c.lines n no_line).name ≡ o.0) start h.3),
     )
@@ -63,13 +67,15 @@ later_customer first c customers o h =
       subst (λ n. (get_or (get_or (c ∷ customers) n no_customer).lines o.1.number no_line).name ≡ o.0) next h.2,
     )
 
-owners_named : (first : ℕ) (customers : List NamedCustomer) → All (IsOwnerFrom first customers) (owners_from first customers)
+owners_named : (first : ℕ) (customers : List NamedCustomer)
+    → All (IsOwnerFrom first customers) (owners_from first customers)
 owners_named first [] = All-nil (IsOwnerFrom first [])
 owners_named first (c ∷ customers) =
     All-append (IsOwnerFrom first (c ∷ customers)) (line_owners first 0 c.lines) (owners_from (first + 1) customers)
     (All-weaker (IsLineFrom first 0 c.lines) (IsOwnerFrom first (c ∷ customers)) (own_line_from first c customers)
     (line_owners first 0 c.lines) (lines_named first 0 c.lines))
-    (All-weaker (IsOwnerFrom (first + 1) customers) (IsOwnerFrom first (c ∷ customers)) (later_customer first c customers)
+    (All-weaker (IsOwnerFrom (first + 1) customers) (IsOwnerFrom first (c ∷ customers))
+    (later_customer first c customers)
     (owners_from (first + 1) customers) (owners_named (first + 1) customers))
 
 -- ---- each line is an owner
@@ -82,17 +88,22 @@ lines_owned customer first (l ∷ lines) zero within =
     (0, omega arith, refl)
 lines_owned customer first (l ∷ lines) (suc i) within =
     let next : (first + 1) + i ≡ first + suc i = omega arith in
-    subst (λ n. Contains (line_owners customer first (l ∷ lines)) ((get_or lines i no_line).name, numbered customer n)) next
+    subst (λ n. Contains (line_owners customer first (l ∷ lines)) ((get_or lines i no_line).name, numbered customer n))
+    next
     (Contains-append_right ((l.name, numbered customer first) ∷ []) (line_owners customer (first + 1) lines) _
     (lines_owned customer (first + 1) lines i (omega arith)))
 
-owners_owned : (first : ℕ) (customers : List NamedCustomer) (i l : ℕ) → l < length (get_or customers i no_customer).lines
-    → Contains (owners_from first customers) ((get_or (get_or customers i no_customer).lines l no_line).name, numbered (first + i) l)
+owners_owned : (first : ℕ) (customers : List NamedCustomer) (i l : ℕ)
+    → l < length (get_or customers i no_customer).lines
+    → Contains (owners_from first customers)
+    ((get_or (get_or customers i no_customer).lines l no_line).name, numbered (first + i) l)
 owners_owned first [] i l within = absurd (omega (arith, within))
 owners_owned first (c ∷ customers) zero l within =
-    subst (λ n. Contains (owners_from first (c ∷ customers)) ((get_or c.lines l no_line).name, numbered n l)) (sym (add-zero first))
+    subst (λ n. Contains (owners_from first (c ∷ customers)) ((get_or c.lines l no_line).name, numbered n l))
+    (sym (add-zero first))
     (Contains-append_left (line_owners first 0 c.lines) (owners_from (first + 1) customers) _
-    (subst (λ n. Contains (line_owners first 0 c.lines) ((get_or c.lines l no_line).name, numbered first n)) (zero-add l)
+    (subst (λ n. Contains (line_owners first 0 c.lines) ((get_or c.lines l no_line).name, numbered first n))
+    (zero-add l)
     (lines_owned first 0 c.lines l within)))
 owners_owned first (c ∷ customers) (suc i) l within =
     let next : (first + 1) + i ≡ first + suc i = omega arith in
@@ -103,11 +114,13 @@ owners_owned first (c ∷ customers) (suc i) l within =
 
 -- ---- what `line_named` finds
 
-pub owner_found : (t : TableFile) (name : List ℕ) → IfSome (line_named t name) (λ line. HasLine t line × ((table_line t line).name ≡ name))
+pub owner_found : (t : TableFile) (name : List ℕ)
+    → IfSome (line_named t name) (λ line. HasLine t line × ((table_line t line).name ≡ name))
 owner_found t name =
     IfSome_then (line_named t name) (IfSome-lookup (λ x y. (bytes_eq-Decides x y).0) name (owners_from 0 t.customers))
     (λ line among. let owner =
-    All-contains (IsOwnerFrom 0 t.customers) (owners_from 0 t.customers) (name, line) (owners_named 0 t.customers) among in
+    All-contains (IsOwnerFrom 0 t.customers) (owners_from 0 t.customers) (name, line) (owners_named 0 t.customers) among
+    in
     let start : line.customer - 0 ≡ line.customer = omega arith in (
       subst (λ n. line.number < length (get_or t.customers n no_customer).lines) start owner.1,
       subst (λ n. (get_or (get_or t.customers n no_customer).lines line.number no_line).name ≡ name) start owner.2,

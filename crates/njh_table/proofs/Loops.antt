@@ -1,6 +1,7 @@
 -- The steps of the walk: one element more, one step more, and the exit at the first fault.
 use Rattle.std.proofs.Common.{◌≡◌, ◌≢◌, ℕ, ◌+◌, ◌<◌, Bool, true, false, List, [], ◌∷◌, length, get_or, drop, Result, Ok}
-use Rattle.std.proofs.Common.{Err, IsErrAnd, Option, Some, None, ok_or, option_and_then, refl, ap, sym, ◌∙◌, ◌==◌, arith}
+use Rattle.std.proofs.Common.{Err, IsErrAnd, Option, Some, None, ok_or, option_and_then, refl, ap, sym, ◌∙◌, ◌==◌}
+use Rattle.std.proofs.Common.{arith}
 use Rattle.std.specs.Result.{result_map_both}
 use Rattle.std.proofs.lemmas.Bool.{ne_eqb}
 use Rattle.toml.specs.Data.{Data, item, as_str}
@@ -31,10 +32,12 @@ module _ {A B E : Type 0} (next : A → Result B E) where
   ends step fault gave = ap (λ s. s >>= next) gave
 
 -- a test that was passed, or not
-pub passes : {B E : Type 0} (test : Bool) (fault : E) (next : Result B E) → test ≡ false → (fault_where test fault >> next) ≡ next
+pub passes : {B E : Type 0} (test : Bool) (fault : E) (next : Result B E) → test ≡ false
+    → (fault_where test fault >> next) ≡ next
 passes test fault next passed = ap (λ t. fault_where t fault >> next) passed
 
-pub fails : {B E : Type 0} (test : Bool) (fault : E) (next : Result B E) → test ≡ true → (fault_where test fault >> next) ≡ Err fault
+pub fails : {B E : Type 0} (test : Bool) (fault : E) (next : Result B E) → test ≡ true
+    → (fault_where test fault >> next) ≡ Err fault
 fails test fault next failed = ap (λ t. fault_where t fault >> next) failed
 
 -- ---- an exit by `?`
@@ -42,7 +45,8 @@ fails test fault next failed = ap (λ t. fault_where t fault >> next) failed
 pub stops : {A B : Type 0} (seen : A → B) (result : Placed A) (walked : Placed B) (fault : PlacedFault)
     → IsErrAnd result (λ e. e ≡ fault) → (fault.fault ≢ Memory → walked ≡ Err fault) → Walks seen result walked
 stops seen (Ok x) walked fault is_err told = elim is_err [ ]
-stops seen (Err e) walked fault same told = λ no_memory. told (λ memory. no_memory (ap (λ (p : PlacedFault). p.fault) same ∙ memory)) ∙ ap Err (sym same)
+stops seen (Err e) walked fault same told =
+    λ no_memory. told (λ memory. no_memory (ap (λ (p : PlacedFault). p.fault) same ∙ memory)) ∙ ap Err (sym same)
 
 -- the same, where no memory is asked for
 pub leaves : {A E : Type 0} (result walked : Result A E) (fault : E) → IsErrAnd result (λ e. e ≡ fault) → walked
@@ -62,9 +66,11 @@ is_empty_view (v ∷ values) = sym (ne_eqb (length (v ∷ values)) 0 (λ none. a
 -- ---- a text that a key must have
 
 -- what is read of a text has the text's own fault
-pub text_fails : {A : Type 0} (read : List ℕ → Option A) (part : Part) (key : Key) (found : Option Data) (fault : PlacedFault)
+pub text_fails : {A : Type 0} (read : List ℕ → Option A) (part : Part) (key : Key) (found : Option Data)
+    (fault : PlacedFault)
     → (ok_or found (at_value part key MissingKey) >>= (λ v. ok_or (as_str v) (at_value part key BadValue))) ≡ Err fault
-    → (ok_or found (at_value part key MissingKey) >>= (λ v. ok_or (option_and_then read (as_str v)) (at_value part key BadValue)))
+    → (ok_or found (at_value part key MissingKey) >>=
+    (λ v. ok_or (option_and_then read (as_str v)) (at_value part key BadValue)))
     ≡ Err fault
 text_fails read part key None fault told = ap Err (cc told)
 text_fails read part key (Some value) fault told = by (as_str value) told

@@ -27,7 +27,8 @@ module _ {K X : Type 0} where
   lookup-map_keys f test (e ∷ es) = ap (λ rest. cond (test (f e.0)) (Some e.1) rest) (lookup-map_keys f test es)
 
   -- a look-up finds where a key passes
-  pub is_some-lookup : (test : K → Bool) (es : List (K × X)) → is_some (lookup test es) ≡ list_any test (map (λ e. e.0) es)
+  pub is_some-lookup : (test : K → Bool) (es : List (K × X))
+      → is_some (lookup test es) ≡ list_any test (map (λ e. e.0) es)
   is_some-lookup test [] = refl
   is_some-lookup test (e ∷ es) = is_some-cond (test e.0) e.1 (lookup test es) _ (is_some-lookup test es)
 

@@ -32,22 +32,28 @@ customer_there t id has =
 still_line : (up : Bool) (l : NamedLine) → IsLine l → IsLine (line_marked up l)
 still_line up l is = record { name = is.name; block = is.block; streams = is.streams; port = is.port; peer = is.peer }
 
-marked_names : (line : ℕ) (up : Bool) (c : NamedCustomer) → map (λ l. l.name) (customer_marked line up c).lines ≡ map (λ l. l.name) c.lines
-marked_names line up c = reads_alike (λ (l : NamedLine). l.name) c.lines line (line_marked up (get_or c.lines line no_line)) no_line refl
+marked_names : (line : ℕ) (up : Bool) (c : NamedCustomer)
+    → map (λ l. l.name) (customer_marked line up c).lines ≡ map (λ l. l.name) c.lines
+marked_names line up c = reads_alike (λ (l : NamedLine). l.name) c.lines line
+    (line_marked up (get_or c.lines line no_line)) no_line refl
 
-marked_is : (line : ℕ) (up : Bool) (c : NamedCustomer) → line < length c.lines → IsCustomer c → IsCustomer (customer_marked line up c)
+marked_is : (line : ℕ) (up : Bool) (c : NamedCustomer) → line < length c.lines → IsCustomer c
+    → IsCustomer (customer_marked line up c)
 marked_is line up c there is =
     let l = get_or c.lines line no_line in
     record {
       quota = is.quota;
       files = is.files;
-      lines = All-set IsLine c.lines line (line_marked up l) (still_line up l (All-get_or IsLine c.lines line no_line there is.lines)) is.lines;
+      lines = All-set IsLine c.lines line (line_marked up l)
+          (still_line up l (All-get_or IsLine c.lines line no_line there is.lines)) is.lines;
       routes = is.routes;
-      each_route = subst (λ n. All (IsRoute n) c.routes) (sym (length-set c.lines line (line_marked up l))) is.each_route;
+      each_route = subst (λ n. All (IsRoute n) c.routes) (sym (length-set c.lines line (line_marked up l)))
+          is.each_route;
       nodes = is.nodes;
     }
 
-pub marked_accepted : (t : TableFile) (id : LineId) (up : Bool) → HasLine t id → IsAccepted t → IsAccepted (with_mark id up t)
+pub marked_accepted : (t : TableFile) (id : LineId) (up : Bool) → HasLine t id → IsAccepted t
+    → IsAccepted (with_mark id up t)
 marked_accepted t id up has was =
     let there = customer_there t id has in
     let old = customer_at t id.customer in
@@ -57,11 +63,13 @@ marked_accepted t id up has was =
     (reads_alike (λ (c : NamedCustomer). c.quota) t.customers id.customer new no_customer refl)
     (same_line_names t.customers id.customer new (marked_names id.number up old))
     (All-set IsCustomer t.customers id.customer new
-    (marked_is id.number up old has (All-get_or IsCustomer t.customers id.customer no_customer there was.each)) was.each)
+    (marked_is id.number up old has (All-get_or IsCustomer t.customers id.customer no_customer there was.each))
+    was.each)
     was
 
 pub marked_owners : (t : TableFile) (id : LineId) (up : Bool)
-    → owners_from 0 (set t.customers id.customer (customer_marked id.number up (customer_at t id.customer))) ≡ owners_from 0 t.customers
+    → owners_from 0 (set t.customers id.customer (customer_marked id.number up (customer_at t id.customer)))
+    ≡ owners_from 0 t.customers
 marked_owners t id up =
     same_owners 0 t.customers id.customer (customer_marked id.number up (customer_at t id.customer))
     (marked_names id.number up (customer_at t id.customer))
@@ -75,7 +83,8 @@ unmarked_is : (c : NamedCustomer) → IsCustomer c → IsCustomer (customer_unma
 unmarked_is c is = record {
   quota = is.quota;
   files = is.files;
-  lines = All-map IsLine (line_marked false) c.lines (All-weaker IsLine (λ l. IsLine (line_marked false l)) (still_line false) c.lines is.lines);
+  lines = All-map IsLine (line_marked false) c.lines
+      (All-weaker IsLine (λ l. IsLine (line_marked false l)) (still_line false) c.lines is.lines);
   routes = is.routes;
   each_route = subst (λ n. All (IsRoute n) c.routes) (sym (length-map c.lines (line_marked false))) is.each_route;
   nodes = is.nodes;
@@ -97,7 +106,8 @@ unmarked_owners t = same_owners_of_all customer_unmarked unmarked_names 0 t.cust
 
 -- ---- of an entry
 
-entry-marked : (line : ℕ) (up : Bool) (c : NamedCustomer) → entry_of (customer_marked line up c) ≡ entry_marked line up (entry_of c)
+entry-marked : (line : ℕ) (up : Bool) (c : NamedCustomer)
+    → entry_of (customer_marked line up c) ≡ entry_marked line up (entry_of c)
 entry-marked line up c =
     let l = line_marked up (get_or c.lines line no_line) in
     let lines = reads_alike (λ (l : NamedLine). l.entry) c.lines line l no_line refl in
@@ -105,7 +115,8 @@ entry-marked line up c =
     λ i. record { hub = c.hub; quota = c.quota; files = c.files; lines = lines i; up = marks i; routes = c.routes }
 
 pub own_entry-marked : (t : TableFile) (id : LineId) (up : Bool) → id.customer < length t.customers
-    → entry_of (customer_at (with_mark id up t) id.customer) ≡ entry_marked id.number up (entry_of (customer_at t id.customer))
+    → entry_of (customer_at (with_mark id up t) id.customer) ≡ entry_marked id.number up
+    (entry_of (customer_at t id.customer))
 own_entry-marked t id up there =
     let old = customer_at t id.customer in
     ap entry_of (get_or-set_same t.customers id.customer (customer_marked id.number up old) no_customer there)
@@ -114,7 +125,8 @@ own_entry-marked t id up there =
 pub others-marked : (t : TableFile) (id : LineId) (up : Bool) (c : ℕ) → c ≢ id.customer
     → customer_at (with_mark id up t) c ≡ customer_at t c
 others-marked t id up c apart =
-    get_or-set_other t.customers id.customer c (customer_marked id.number up (customer_at t id.customer)) no_customer apart
+    get_or-set_other t.customers id.customer c (customer_marked id.number up (customer_at t id.customer)) no_customer
+    apart
 
 entry-unmarked : (c : NamedCustomer) → entry_of (customer_unmarked c) ≡ entry_unmarked (entry_of c)
 entry-unmarked c =
@@ -126,4 +138,5 @@ entry-unmarked c =
 pub each_entry-unmarked : (t : TableFile) (c : ℕ) → c < length t.customers
     → entry_of (customer_at (without_marks t) c) ≡ entry_unmarked (entry_of (customer_at t c))
 each_entry-unmarked t c there =
-    ap entry_of (get_or-map customer_unmarked t.customers c no_customer no_customer there) ∙ entry-unmarked (customer_at t c)
+    ap entry_of (get_or-map customer_unmarked t.customers c no_customer no_customer there)
+    ∙ entry-unmarked (customer_at t c)

@@ -32,7 +32,8 @@ as_given r = route_entry (r.node, given_lines r)
 -- ---- what was passed
 
 -- a test that gave no fault, and what follows
-passed : {B : Type 0} (test : Bool) (fault : TableFault) (next : Walked B) (x : B) → (fault_where test fault >> next) ≡ Ok x
+passed : {B : Type 0} (test : Bool) (fault : TableFault) (next : Walked B) (x : B)
+    → (fault_where test fault >> next) ≡ Ok x
     → (test ≡ false) × (next ≡ Ok x)
 passed true fault next x e = absurd (cc e)
 passed false fault next x e = (refl, e)
@@ -41,7 +42,8 @@ passed_last : (test : Bool) (fault : TableFault) → fault_where test fault ≡ 
 passed_last true fault e = absurd (cc e)
 passed_last false fault e = refl
 
-both_ok : {B : Type 0} (first : Walked (Unit {0})) (next : Walked B) (x : B) → (first >> next) ≡ Ok x → (first ≡ Ok tt) × (next ≡ Ok x)
+both_ok : {B : Type 0} (first : Walked (Unit {0})) (next : Walked B) (x : B) → (first >> next) ≡ Ok x
+    → (first ≡ Ok tt) × (next ≡ Ok x)
 both_ok (Ok tt) next x e = (refl, e)
 both_ok (Err fault) next x e = absurd (cc e)
 
@@ -56,16 +58,24 @@ record IsNew (lines : ℕ) (taken : List (List ℕ)) (r : NewRoute) : Type 0 whe
   pub own : is_own lines r.line ≡ true
   pub second : may_be_second lines r.second ≡ true
 
-checked-is : (lines : ℕ) (taken : List (List ℕ)) (r : NewRoute) → route_checked lines taken r ≡ Ok tt → IsNew lines taken r
+checked-is : (lines : ℕ) (taken : List (List ℕ)) (r : NewRoute) → route_checked lines taken r ≡ Ok tt
+    → IsNew lines taken r
 unfolding route_checked
 checked-is lines taken r e =
     let (once, first) = passed (is_again r.second) BadValue _ tt e in
     let (absent, then) = passed (list_any (bytes_eq r.node) taken) DoubleNode _ tt first in
     let (own, last) = passed (not (is_own lines r.line)) UnknownLine _ tt then in
-    record { once = once; absent = absent; own = not_false _ own; second = not_false _ (passed_last _ UnknownLine last) }
+    record {
+      once = once;
+      absent = absent;
+      own = not_false _ own;
+      second = not_false _
+          (passed_last _ UnknownLine last);
+    }
 
 -- the nodes that are taken, and those of the routes
-pub distinct : (lines : ℕ) (taken : List (List ℕ)) (routes : List NewRoute) → AreDistinct taken → checked_from lines taken routes ≡ Ok tt
+pub distinct : (lines : ℕ) (taken : List (List ℕ)) (routes : List NewRoute) → AreDistinct taken
+    → checked_from lines taken routes ≡ Ok tt
     → AreDistinct (taken ++ map (λ r. r.node) routes)
 distinct lines taken [] were e = subst AreDistinct (sym (append-nil taken)) were
 distinct lines taken (r ∷ routes) were e =
@@ -107,7 +117,8 @@ mine lines c id = by (id.customer == c) refl
     by false other below = absurd (cc below)
 
 -- what is taken of a second line that was passed: another line of the customer's
-second-taken : (lines c : ℕ) (id : LineId) (second : Option LineId) → IsMine lines c id → is_again (own_second c id second) ≡ false
+second-taken : (lines c : ℕ) (id : LineId) (second : Option LineId) → IsMine lines c id
+    → is_again (own_second c id second) ≡ false
     → may_be_second lines (own_second c id second) ≡ true
     → (taken_second (own_second c id second) ≡ option_map (λ l. l.number) second)
     × IfSome (option_map (λ l. l.number) second) (λ n. (n < lines) × (n ≢ id.number))
@@ -117,24 +128,30 @@ second-taken lines c id (Some second) first once may =
   where
     apart : IsMine lines c second → repeats id (Some second) ≡ false → second.number ≢ id.number
     apart own other same =
-        both_ways (repeats id (Some second)) other (and_from _ _ (eq-eqb id.customer second.customer (first.customer ∙ sym own.customer))
+        both_ways (repeats id (Some second)) other
+        (and_from _ _ (eq-eqb id.customer second.customer (first.customer ∙ sym own.customer))
         (eq-eqb id.number second.number (sym same)))
 
-    told : (n : Option ℕ) → own_number c second ≡ n → repeats id (Some second) ≡ false → may_be_second lines (own_or_foreign n) ≡ true
-        → (taken_second (own_or_foreign n) ≡ Some second.number) × ((second.number < lines) × (second.number ≢ id.number))
+    told : (n : Option ℕ) → own_number c second ≡ n → repeats id (Some second) ≡ false
+        → may_be_second lines (own_or_foreign n) ≡ true
+        → (taken_second (own_or_foreign n) ≡ Some second.number)
+        × ((second.number < lines) × (second.number ≢ id.number))
     told None is other may = absurd (cc may)
     told (Some n) is other may =
         let own = mine lines c second (ap (is_own lines) is ∙ may) in
         (ap (λ o. taken_second (own_or_foreign o)) (sym is ∙ own.number), (own.below, apart own other))
 
     by : (same : Bool) → repeats id (Some second) ≡ same → (n : Option ℕ) → own_number c second ≡ n
-        → is_again (cond same Again (own_or_foreign n)) ≡ false → may_be_second lines (cond same Again (own_or_foreign n)) ≡ true
-        → (taken_second (cond same Again (own_or_foreign n)) ≡ Some second.number) × ((second.number < lines) × (second.number ≢ id.number))
+        → is_again (cond same Again (own_or_foreign n)) ≡ false
+        → may_be_second lines (cond same Again (own_or_foreign n)) ≡ true
+        → (taken_second (cond same Again (own_or_foreign n)) ≡ Some second.number)
+        × ((second.number < lines) × (second.number ≢ id.number))
     by true same n is once may = absurd (cc once)
     by false other n is once may = told n is other may
 
 -- what is taken of routes of lines that are all the customer's
-pub taken-given : (lines c : ℕ) (taken : List (List ℕ)) (routes : List GivenRoute) → checked_from lines taken (new_routes_of c routes) ≡ Ok tt
+pub taken-given : (lines c : ℕ) (taken : List (List ℕ)) (routes : List GivenRoute)
+    → checked_from lines taken (new_routes_of c routes) ≡ Ok tt
     → (entries_of_routes (new_routes_of c routes) ≡ map as_given routes) × All (IsRoute lines) (map as_given routes)
 taken-given lines c taken [] e = (refl, All-nil (IsRoute lines))
 taken-given lines c taken (r ∷ routes) e =
@@ -151,7 +168,8 @@ taken-given lines c taken (r ∷ routes) e =
 -- ---- the nodes of routes
 
 -- a node that none of them has
-unrouted : (routes : List GivenRoute) (node : List ℕ) → ((k : ℕ) (d : GivenRoute) → k < length routes → (get_or routes k d).node ≢ node)
+unrouted : (routes : List GivenRoute) (node : List ℕ)
+    → ((k : ℕ) (d : GivenRoute) → k < length routes → (get_or routes k d).node ≢ node)
     → lines_to (map as_given routes) node ≡ None
 unrouted [] node differ = refl
 unrouted (r ∷ routes) node differ =
@@ -164,11 +182,13 @@ unrouted (r ∷ routes) node differ =
     by false other rest = rest
 
 -- those before one of them have another node
-pub unrouted_before : (routes : List GivenRoute) (i : ℕ) (r : GivenRoute) → AreDistinct (map (λ r. r.node) routes) → i < length routes
+pub unrouted_before : (routes : List GivenRoute) (i : ℕ) (r : GivenRoute) → AreDistinct (map (λ r. r.node) routes)
+    → i < length routes
     → r ≡ get_or routes i r → lines_to (map as_given (take i routes)) r.node ≡ None
 unrouted_before routes i r differ within here = unrouted (take i routes) r.node other
   where
-    nodes : (k : ℕ) (d : GivenRoute) → k < length routes → get_or (map (λ (r : GivenRoute). r.node) routes) k r.node ≡ (get_or routes k d).node
+    nodes : (k : ℕ) (d : GivenRoute) → k < length routes
+        → get_or (map (λ (r : GivenRoute). r.node) routes) k r.node ≡ (get_or routes k d).node
     nodes k d below = get_or-map (λ (r : GivenRoute). r.node) routes k d r.node below
 
     other : (k : ℕ) (d : GivenRoute) → k < length (take i routes) → (get_or (take i routes) k d).node ≢ r.node
@@ -176,7 +196,8 @@ unrouted_before routes i r differ within here = unrouted (take i routes) r.node 
         let long : length (take i routes) ≡ i = length-take-le i routes (omega (arith, within)) in
         let before : k < i = omega (arith, below, long) in
         differ k i r.node before (omega (arith, within, length-map routes (λ (r : GivenRoute). r.node)))
-        (nodes k d (omega (arith, before, within)) ∙ ap (λ (x : GivenRoute). x.node) (sym (get_or-take i routes k d before)) ∙ same
+        (nodes k d (omega (arith, before, within))
+        ∙ ap (λ (x : GivenRoute). x.node) (sym (get_or-take i routes k d before)) ∙ same
         ∙ ap (λ (x : GivenRoute). x.node) here ∙ sym (nodes i r within))
 
 -- one node
@@ -185,13 +206,15 @@ alone hub = λ i j d below within. absurd (omega (arith, below, within))
 
 -- the nodes of routes that were checked differ from each other
 pub checked-distinct : (t : TableFile) (c : ℕ) (routes : List GivenRoute)
-    → routes_checked (entry_of (customer_at t c)) (new_routes_of c routes) ≡ Ok tt → AreDistinct (map (λ r. r.node) routes)
+    → routes_checked (entry_of (customer_at t c)) (new_routes_of c routes) ≡ Ok tt
+    → AreDistinct (map (λ r. r.node) routes)
 checked-distinct t c routes e =
     let entry = entry_of (customer_at t c) in
     let (few, rest) = passed (nat_lt max_routes (length (new_routes_of c routes))) TooMany _ tt e in
     let nodes : AreDistinct (entry.hub ∷ map (λ r. r.node) (new_routes_of c routes)) =
     distinct (length entry.lines) (entry.hub ∷ []) (new_routes_of c routes) (alone entry.hub) rest in
-    let given = subst (λ ns. AreDistinct (entry.hub ∷ ns)) (map-map (λ (r : NewRoute). r.node) (own_route c) routes) nodes in
+    let given = subst (λ ns. AreDistinct (entry.hub ∷ ns)) (map-map (λ (r : NewRoute). r.node) (own_route c) routes)
+    nodes in
     λ i j d below within. given (suc i) (suc j) d (omega (arith, below)) (omega (arith, within))
 
 pub checked-given : (t : TableFile) (c : ℕ) (routes : List GivenRoute)
@@ -220,15 +243,18 @@ with_routes-is t c given was e =
       quota = was.quota;
       files = was.files;
       lines = was.lines;
-      routes = subst (λ n. n ≤ max_routes) (sym (length-map routes taken_route)) (ltb-false max_routes (length routes) few);
+      routes = subst (λ n. n ≤ max_routes) (sym (length-map routes taken_route))
+          (ltb-false max_routes (length routes) few);
       each_route = subst (λ rs. All (IsRoute (length customer.lines)) rs) (sym same)
           (subst (λ n. All (IsRoute n) (map as_given given)) (entry_lines customer) each);
-      nodes = subst (λ ns. AreDistinct (customer.hub ∷ ns)) (sym (map-map (λ (r : RouteEntry). r.node) taken_route routes))
+      nodes = subst (λ ns. AreDistinct (customer.hub ∷ ns))
+          (sym (map-map (λ (r : RouteEntry). r.node) taken_route routes))
           (distinct (length (entry_of customer).lines) (customer.hub ∷ []) routes (alone customer.hub) rest);
     }
 
 pub still_accepted : (t : TableFile) (c : ℕ) (routes : List GivenRoute) → IsAccepted t → c < length t.customers
-    → routes_checked (entry_of (customer_at t c)) (new_routes_of c routes) ≡ Ok tt → IsAccepted (with_routes c (new_routes_of c routes) t)
+    → routes_checked (entry_of (customer_at t c)) (new_routes_of c routes) ≡ Ok tt
+    → IsAccepted (with_routes c (new_routes_of c routes) t)
 still_accepted t c routes accepted there e =
     let was : IsCustomer (customer_at t c) = All-get_or IsCustomer t.customers c no_customer there accepted.each in
     let now : NamedCustomer = record (customer_at t c) { routes = entries_of_routes (new_routes_of c routes) } in

@@ -24,16 +24,20 @@ names-line_owners customer line (l ∷ lines) = ap (λ names. l.name ∷ names) 
 pub names_after : (owners : Owners) (customer : ℕ) (lines : List NamedLine)
     → names_in (owners ++ line_owners customer 0 lines) ≡ names_in owners ++ map (λ l. l.name) lines
 names_after owners customer lines =
-    map-append _ owners (line_owners customer 0 lines) ∙ ap (λ names. names_in owners ++ names) (names-line_owners customer 0 lines)
+    map-append _ owners (line_owners customer 0 lines)
+    ∙ ap (λ names. names_in owners ++ names) (names-line_owners customer 0 lines)
 
 -- one more line at the end
 pub line_owners-push : (customer line : ℕ) (lines : List NamedLine) (l : NamedLine)
     → line_owners customer line (lines ++ l ∷ [])
     ≡ line_owners customer line lines ++ (l.name, record { customer = customer; number = line + length lines }) ∷ []
-line_owners-push customer line [] l = ap (λ n. (l.name, record { customer = customer; number = n }) ∷ []) (sym (add-zero line))
+line_owners-push customer line [] l = ap (λ n. (l.name, record { customer = customer; number = n }) ∷ [])
+    (sym (add-zero line))
 line_owners-push customer line (x ∷ lines) l =
-    ap (λ rest. (x.name, record { customer = customer; number = line }) ∷ rest) (line_owners-push customer (line + 1) lines l
-    ∙ ap (λ n. line_owners customer (line + 1) lines ++ (l.name, record { customer = customer; number = n }) ∷ []) (omega arith))
+    ap (λ rest. (x.name, record { customer = customer; number = line }) ∷ rest)
+    (line_owners-push customer (line + 1) lines l
+    ∙ ap (λ n. line_owners customer (line + 1) lines ++ (l.name, record { customer = customer; number = n }) ∷ [])
+    (omega arith))
 
 pub owners_push : (owners : Owners) (customer : ℕ) (lines : List NamedLine) (l : NamedLine) (n : ℕ) → n ≡ length lines
     → (owners ++ line_owners customer 0 lines) ++ (l.name, record { customer = customer; number = n }) ∷ []
@@ -46,7 +50,8 @@ owners_push owners customer lines l n same =
 
 -- ---- one more customer
 
-pub names-owners_from : (customer : ℕ) (customers : List NamedCustomer) → names_in (owners_from customer customers) ≡ line_names customers
+pub names-owners_from : (customer : ℕ) (customers : List NamedCustomer)
+    → names_in (owners_from customer customers) ≡ line_names customers
 names-owners_from customer [] = refl
 names-owners_from customer (c ∷ customers) =
     map-append _ (line_owners customer 0 c.lines) (owners_from (customer + 1) customers)
@@ -54,8 +59,10 @@ names-owners_from customer (c ∷ customers) =
     ∙ ap (λ names. map (λ l. l.name) c.lines ++ names) (names-owners_from (customer + 1) customers)
 
 owners_from-push : (customer : ℕ) (customers : List NamedCustomer) (c : NamedCustomer)
-    → owners_from customer (customers ++ c ∷ []) ≡ owners_from customer customers ++ line_owners (customer + length customers) 0 c.lines
-owners_from-push customer [] c = append-nil (line_owners customer 0 c.lines) ∙ ap (λ n. line_owners n 0 c.lines) (sym (add-zero customer))
+    → owners_from customer (customers ++ c ∷ []) ≡ owners_from customer customers ++ line_owners
+    (customer + length customers) 0 c.lines
+owners_from-push customer [] c = append-nil (line_owners customer 0 c.lines)
+    ∙ ap (λ n. line_owners n 0 c.lines) (sym (add-zero customer))
 owners_from-push customer (x ∷ customers) c =
     ap (λ rest. line_owners customer 0 x.lines ++ rest)
     (owners_from-push (customer + 1) customers c
@@ -76,7 +83,8 @@ lookup-append test [] after = refl
 lookup-append test (o ∷ before) after = by (test o.0) (lookup-append test before after)
   where
     by : (b : Bool) → lookup test (before ++ after) ≡ option_or (lookup test before) (lookup test after)
-        → cond b (Some o.1) (lookup test (before ++ after)) ≡ option_or (cond b (Some o.1) (lookup test before)) (lookup test after)
+        → cond b (Some o.1) (lookup test (before ++ after)) ≡ option_or (cond b (Some o.1) (lookup test before))
+        (lookup test after)
     by true rest = refl
     by false rest = rest
 
@@ -97,7 +105,8 @@ lookup-line_owners customer line [] name = refl
 lookup-line_owners customer line (l ∷ lines) name =
     ap (λ b. cond b (Some (numbered customer line)) (lookup (bytes_eq name) (line_owners customer (line + 1) lines)))
     (nat_list_eq_equiv.symm name l.name)
-    ∙ ap (λ rest. cond (bytes_eq l.name name) (Some (numbered customer line)) rest) (lookup-line_owners customer (line + 1) lines name)
+    ∙ ap (λ rest. cond (bytes_eq l.name name) (Some (numbered customer line)) rest)
+    (lookup-line_owners customer (line + 1) lines name)
     ∙ numbered-cond customer line (bytes_eq l.name name) (position_from (λ l. bytes_eq l.name name) (line + 1) lines)
 
 -- the owners so far are of customers below
@@ -108,7 +117,8 @@ below-numbered : (customer n : ℕ) (line : Option ℕ) → customer < n → Are
 below-numbered customer n None below = tt
 below-numbered customer n (Some line) below = below
 
-below-or : (n : ℕ) (first second : Option LineId) → AreBelow n first → AreBelow n second → AreBelow n (option_or first second)
+below-or : (n : ℕ) (first second : Option LineId) → AreBelow n first → AreBelow n second
+    → AreBelow n (option_or first second)
 below-or n None second a b = b
 below-or n (Some o) second a b = a
 
@@ -122,8 +132,10 @@ below-owners_from customer [] name = tt
 below-owners_from customer (c ∷ customers) name =
     let n = customer + length (c ∷ customers) in
     let later : AreBelow n (lookup (bytes_eq name) (owners_from (customer + 1) customers)) =
-    below-more ((customer + 1) + length customers) n _ (omega arith) (below-owners_from (customer + 1) customers name) in
-    subst (AreBelow n) (sym (lookup-append (bytes_eq name) (line_owners customer 0 c.lines) (owners_from (customer + 1) customers)))
+    below-more ((customer + 1) + length customers) n _ (omega arith) (below-owners_from (customer + 1) customers name)
+    in
+    subst (AreBelow n) (sym (lookup-append (bytes_eq name) (line_owners customer 0 c.lines)
+    (owners_from (customer + 1) customers)))
     (below-or n _ _ (subst (AreBelow n) (sym (lookup-line_owners customer 0 c.lines name))
     (below-numbered customer n _ (omega arith))) later)
 
@@ -143,20 +155,26 @@ no_line taken (l ∷ lines) name k apart is_taken =
 
 -- what is found of a customer, where its own come after those of customers below
 picked : (n : ℕ) (before : Option LineId) (own : Option ℕ) → AreBelow n before → (is_some before ≡ true → own ≡ None)
-    → option_and_then (λ o. cond (eqb o.customer n) (Some o.number) None) (option_or before (option_map (numbered n) own)) ≡ own
+    → option_and_then (λ o. cond (eqb o.customer n) (Some o.number) None)
+    (option_or before (option_map (numbered n) own)) ≡ own
 picked n None None below apart = refl
 picked n None (Some line) below apart = cond-true (eqb n n) (Some line) None (eq-eqb n n refl)
 picked n (Some o) own below apart =
-    cond-false (eqb o.customer n) (Some o.number) None (ne_eqb o.customer n (λ same. absurd (omega arith))) ∙ sym (apart refl)
+    cond-false (eqb o.customer n) (Some o.number) None (ne_eqb o.customer n (λ same. absurd (omega arith)))
+    ∙ sym (apart refl)
 
-own_line-at : (customers : List NamedCustomer) (lines : List NamedLine) (name : List ℕ) → AreApart (line_names customers) lines
-    → own_line (owners_from 0 customers ++ line_owners (length customers) 0 lines) (length customers) name ≡ line_number lines name
+own_line-at : (customers : List NamedCustomer) (lines : List NamedLine) (name : List ℕ)
+    → AreApart (line_names customers) lines
+    → own_line (owners_from 0 customers ++ line_owners (length customers) 0 lines) (length customers) name ≡ line_number
+    lines name
 own_line-at customers lines name apart =
     let n = length customers in
     let before = owners_from 0 customers in
     let pick : Option LineId → Option ℕ = λ o. option_and_then (λ o. cond (eqb o.customer n) (Some o.number) None) o in
-    let taken : is_some (lookup (bytes_eq name) before) ≡ true → list_any (bytes_eq name) (line_names customers) ≡ true =
-    λ found. ap (list_any (bytes_eq name)) (sym (names-owners_from 0 customers)) ∙ sym (is_some-lookup (bytes_eq name) before) ∙ found in
+    let taken : is_some (lookup (bytes_eq name) before) ≡ true
+    → list_any (bytes_eq name) (line_names customers) ≡ true =
+    λ found. ap (list_any (bytes_eq name)) (sym (names-owners_from 0 customers))
+    ∙ sym (is_some-lookup (bytes_eq name) before) ∙ found in
     ap pick (lookup-append (bytes_eq name) before (line_owners n 0 lines)
     ∙ ap (option_or (lookup (bytes_eq name) before)) (lookup-line_owners n 0 lines name))
     ∙ picked n (lookup (bytes_eq name) before) (line_number lines name)
@@ -165,5 +183,6 @@ own_line-at customers lines name apart =
 
 -- the lines of a customer are found among those of the hub
 pub own_line-is : (customers : List NamedCustomer) (lines : List NamedLine) → AreApart (line_names customers) lines
-    → own_line (owners_from 0 customers ++ line_owners (length customers) 0 lines) (length customers) ≡ line_number lines
+    → own_line (owners_from 0 customers ++ line_owners (length customers) 0 lines) (length customers) ≡ line_number
+    lines
 own_line-is customers lines apart = λ i name. own_line-at customers lines name apart i

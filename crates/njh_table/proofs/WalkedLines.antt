@@ -27,7 +27,8 @@ pub record IsNewLine (taken : List (List ℕ)) (l : NamedLine) : Type 0 where
   pub absent : list_any (bytes_eq l.name) taken ≡ false
   pub is : IsLine l
 
-line_of-gives : (part : Part) (name : List ℕ) (keys : Members) → is_line_name name ≡ true → Gives (λ l. (l.name ≡ name) × IsLine l) (walked_line part name keys)
+line_of-gives : (part : Part) (name : List ℕ) (keys : Members) → is_line_name name ≡ true
+    → Gives (λ l. (l.name ≡ name) × IsLine l) (walked_line part name keys)
 unfolding walked_line
 line_of-gives part name keys is_name =
     with_any _ node_name part named.Node keys _ (λ node.
@@ -42,7 +43,8 @@ line_of-gives part name keys is_name =
     with_value_or (IsPeerOf port) _ (peer port) None part named.Connect keys _ tt (peer-is port) (λ peer is_peer.
     (refl, record { name = is_name; block = in_block; streams = in_streams; port = in_port.1; peer = is_peer }))))))))
 
-next_line-gives : (part : Part) (taken : List (List ℕ)) (value : Data) → Gives (IsNewLine taken) (next_line part taken value)
+next_line-gives : (part : Part) (taken : List (List ℕ)) (value : Data)
+    → Gives (IsNewLine taken) (next_line part taken value)
 unfolding next_line
 next_line-gives part taken value =
     past _ (nat_le max_lines (length taken)) (at_part part TooMany) _ tt (λ room.
@@ -78,7 +80,8 @@ AreLines-push taken done l lines new =
       distinct = subst AreDistinct (sym names) (distinct_push before l.name lines.distinct new.absent);
     }
 
-pub lines_onto-gives : (customer : ℕ) (taken : List (List ℕ)) (done : List NamedLine) (values : Items) → AreLines taken done
+pub lines_onto-gives : (customer : ℕ) (taken : List (List ℕ)) (done : List NamedLine) (values : Items)
+    → AreLines taken done
     → Gives (AreLines taken) (lines_onto customer taken done values)
 lines_onto-gives customer taken done no_items lines = lines
 lines_onto-gives customer taken done (item value more) lines =
@@ -91,10 +94,13 @@ lines_onto-gives customer taken done (item value more) lines =
 AreApart-push : (taken : List (List ℕ)) (done : List NamedLine) (l : NamedLine) → AreApart taken done
     → IsNewLine (taken ++ map (λ l. l.name) done) l → AreApart taken (done ++ l ∷ [])
 AreApart-push taken done l apart new =
-    let (here, _) = or_parts _ _ (sym (list_any-append (bytes_eq l.name) taken (map (λ l. l.name) done)) ∙ new.absent) in
-    list_any-append (λ l. list_any (bytes_eq l.name) taken) done (l ∷ []) ∙ or_from _ _ apart (or_from _ false here refl)
+    let (here, _) = or_parts _ _ (sym (list_any-append (bytes_eq l.name) taken (map (λ l. l.name) done)) ∙ new.absent)
+    in
+    list_any-append (λ l. list_any (bytes_eq l.name) taken) done (l ∷ [])
+    ∙ or_from _ _ apart (or_from _ false here refl)
 
-pub lines_onto-apart : (customer : ℕ) (taken : List (List ℕ)) (done : List NamedLine) (values : Items) → AreApart taken done
+pub lines_onto-apart : (customer : ℕ) (taken : List (List ℕ)) (done : List NamedLine) (values : Items)
+    → AreApart taken done
     → Gives (AreApart taken) (lines_onto customer taken done values)
 lines_onto-apart customer taken done no_items apart = apart
 lines_onto-apart customer taken done (item value more) apart =

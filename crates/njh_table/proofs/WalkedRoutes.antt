@@ -36,7 +36,8 @@ there_is : {X : Type 0} (o : Option X) → IfSome o (λ x. o ≡ Some x)
 there_is None = tt
 there_is (Some x) = refl
 
-found-below : (lines : ℕ) (find : List ℕ → Option ℕ) (name : List ℕ) (l : ℕ) → Finds lines find → find name ≡ Some l → l < lines
+found-below : (lines : ℕ) (find : List ℕ → Option ℕ) (name : List ℕ) (l : ℕ) → Finds lines find → find name ≡ Some l
+    → l < lines
 found-below lines find name l finds found = subst (λ o. IfSome o (λ l. l < lines)) found (finds.below name)
 
 -- a name that isn't another
@@ -46,7 +47,8 @@ IsOther first second = IfSome second (λ name. name ≢ first)
 second_line-is : (first : List ℕ) (value : Data) → IfSome (second_line first value) (IsOther first)
 second_line-is first value = by (as_str value)
   where
-    told : (text : List ℕ) (same : Bool) → bytes_eq text first ≡ same → IfSome (cond same None (Some (Some text))) (IsOther first)
+    told : (text : List ℕ) (same : Bool) → bytes_eq text first ≡ same
+        → IfSome (cond same None (Some (Some text))) (IsOther first)
     told text true same = tt
     told text false other = λ same. both_ways (bytes_eq text first) other ((bytes_eq-Decides text first).1 same)
 
@@ -58,20 +60,27 @@ second_line-is first value = by (as_str value)
 abbrev IsSecond : ℕ → ℕ → Option ℕ → Type 0
 IsSecond lines first second = IfSome second (λ line. (line < lines) × (line ≢ first))
 
-number_of_second-gives : (part : Part) (lines : ℕ) (find : List ℕ → Option ℕ) (line : List ℕ) (number : ℕ) (second : Option (List ℕ)) → Finds lines find
+number_of_second-gives : (part : Part) (lines : ℕ) (find : List ℕ → Option ℕ) (line : List ℕ) (number : ℕ)
+    (second : Option (List ℕ)) → Finds lines find
     → find line ≡ Some number → IsOther line second → Gives (IsSecond lines number) (number_of_second part find second)
 number_of_second-gives part lines find line number None finds found other = tt
 number_of_second-gives part lines find line number (Some name) finds found other =
-    and_then (λ l. find name ≡ Some l) (IsSecond lines number) (ok_or (find name) (at_value part named.Second UnknownLine)) _
+    and_then (λ l. find name ≡ Some l) (IsSecond lines number)
+    (ok_or (find name) (at_value part named.Second UnknownLine)) _
     (some_or _ (find name) (at_value part named.Second UnknownLine) tt (there_is (find name)))
-    (λ l second. (found-below lines find name l finds second, λ same. other (finds.apart name line l second (found ∙ ap Some (sym same)))))
+    (λ l second. (
+      found-below lines find name l finds second,
+      λ same. other
+          (finds.apart name line l second (found ∙ ap Some (sym same))),
+    ))
 
 pub record IsNewRoute (hub : List ℕ) (lines : ℕ) (done : List RouteEntry) (r : RouteEntry) : Type 0 where
   pub room : length done < max_routes
   pub absent : is_routed hub done r.node ≡ false
   pub is : IsRoute lines r
 
-next_route-gives : (part : Part) (hub : List ℕ) (lines : ℕ) (find : List ℕ → Option ℕ) (done : List RouteEntry) (value : Data)
+next_route-gives : (part : Part) (hub : List ℕ) (lines : ℕ) (find : List ℕ → Option ℕ) (done : List RouteEntry)
+    (value : Data)
     → Finds lines find → Gives (IsNewRoute hub lines done) (next_route part hub find done value)
 unfolding next_route route_by
 next_route-gives part hub lines find done value finds =
@@ -79,7 +88,8 @@ next_route-gives part hub lines find done value finds =
     with_keys _ part value _ (λ keys.
     with_any _ node_name part named.Node keys _ (λ node.
     with_any _ as_str part named.Line keys _ (λ line.
-    with_value_or (IsOther line) _ (second_line line) None part named.Second keys _ tt (second_line-is line) (λ second other.
+    with_value_or (IsOther line) _ (second_line line) None part named.Second keys _ tt (second_line-is line)
+    (λ second other.
     past _ (is_routed hub done node) (at_value part named.Node DoubleNode) _ tt (λ absent.
     and_then (λ l. find line ≡ Some l) _ (ok_or (find line) (at_value part named.Line UnknownLine)) _
     (some_or _ (find line) (at_value part named.Line UnknownLine) tt (there_is (find line)))
@@ -92,7 +102,8 @@ next_route-gives part hub lines find done value finds =
       is = record { line = found-below lines find line number finds found; second = is };
     }))))))))
 
-is_some-cond : (test : Bool) (x : RouteLines) (rest : Option RouteLines) → is_some (cond test (Some x) rest) ≡ (test || is_some rest)
+is_some-cond : (test : Bool) (x : RouteLines) (rest : Option RouteLines)
+    → is_some (cond test (Some x) rest) ≡ (test || is_some rest)
 is_some-cond true x rest = refl
 is_some-cond false x rest = refl
 
@@ -101,7 +112,8 @@ unrouted : (routes : List RouteEntry) (node : List ℕ) → is_some (lines_to ro
     → list_any (bytes_eq node) (map (λ r. r.node) routes) ≡ false
 unrouted [] node absent = refl
 unrouted (r ∷ routes) node absent =
-    let first = sym (is_some-cond (bytes_eq r.node node) (route_lines r) (lines_to routes node)) ∙ ap is_some (sym (lines_to-cons r routes node)) in
+    let first = sym (is_some-cond (bytes_eq r.node node) (route_lines r) (lines_to routes node))
+    ∙ ap is_some (sym (lines_to-cons r routes node)) in
     let (here, rest) = or_parts (bytes_eq r.node node) (is_some (lines_to routes node)) (first ∙ absent) in
     or_from _ _ (nat_list_eq_equiv.symm node r.node ∙ here) (unrouted routes node rest)
 
@@ -114,7 +126,8 @@ pub AreRoutes-push : (hub : List ℕ) (lines : ℕ) (done : List RouteEntry) (r 
     → IsNewRoute hub lines done r → AreRoutes hub lines (done ++ r ∷ [])
 AreRoutes-push hub lines done r routes new =
     let (not_hub, not_routed) = or_parts (bytes_eq hub r.node) (is_some (lines_to done r.node)) new.absent in
-    let absent = or_from (bytes_eq r.node hub) _ (nat_list_eq_equiv.symm r.node hub ∙ not_hub) (unrouted done r.node not_routed) in
+    let absent = or_from (bytes_eq r.node hub) _ (nat_list_eq_equiv.symm r.node hub ∙ not_hub)
+    (unrouted done r.node not_routed) in
     record {
       count = simp length-append (omega (arith, new.room));
       each = All-push (IsRoute lines) done r routes.each new.is;
@@ -122,13 +135,17 @@ AreRoutes-push hub lines done r routes new =
           (distinct_push (hub ∷ map (λ r. r.node) done) r.node routes.nodes absent);
     }
 
-pub routes_onto-gives : (customer : ℕ) (hub : List ℕ) (lines : ℕ) (find : List ℕ → Option ℕ) (done : List RouteEntry) (values : Items)
-    → Finds lines find → AreRoutes hub lines done → Gives (AreRoutes hub lines) (routes_onto customer hub find done values)
+pub routes_onto-gives : (customer : ℕ) (hub : List ℕ) (lines : ℕ) (find : List ℕ → Option ℕ) (done : List RouteEntry)
+    (values : Items)
+    → Finds lines find → AreRoutes hub lines done
+    → Gives (AreRoutes hub lines) (routes_onto customer hub find done values)
 routes_onto-gives customer hub lines find done no_items finds routes = routes
 routes_onto-gives customer hub lines find done (item value more) finds routes =
-    and_then (IsNewRoute hub lines done) (AreRoutes hub lines) (next_route (parts.Route customer (length done)) hub find done value) _
+    and_then (IsNewRoute hub lines done) (AreRoutes hub lines)
+    (next_route (parts.Route customer (length done)) hub find done value) _
     (next_route-gives (parts.Route customer (length done)) hub lines find done value finds)
-    (λ r new. routes_onto-gives customer hub lines find (done ++ r ∷ []) more finds (AreRoutes-push hub lines done r routes new))
+    (λ r new. routes_onto-gives customer hub lines find (done ++ r ∷ []) more finds
+    (AreRoutes-push hub lines done r routes new))
 
 position_from-below : {X : Type 0} (test : X → Bool) (k : ℕ) (xs : List X)
     → IfSome (position_from test k xs) (λ i. (k ≤ i) × (i < k + length xs))
@@ -143,13 +160,15 @@ position_from-below test k (x ∷ xs) =
     by false later = later
 
 -- a line that comes later has another number
-later : (lines : List NamedLine) (k n : ℕ) (name : List ℕ) → position_from (λ l. bytes_eq l.name name) (k + 1) lines ≡ Some n → k ≢ n
+later : (lines : List NamedLine) (k n : ℕ) (name : List ℕ)
+    → position_from (λ l. bytes_eq l.name name) (k + 1) lines ≡ Some n → k ≢ n
 later lines k n name found same =
     let after = subst (λ o. IfSome o (λ i. (k + 1 ≤ i) × (i < (k + 1) + length lines))) found
     (position_from-below (λ l. bytes_eq l.name name) (k + 1) lines) in
     absurd (omega (arith, after.0, same))
 
-numbers_apart : (lines : List NamedLine) (k n : ℕ) (name other : List ℕ) → position_from (λ l. bytes_eq l.name name) k lines ≡ Some n
+numbers_apart : (lines : List NamedLine) (k n : ℕ) (name other : List ℕ)
+    → position_from (λ l. bytes_eq l.name name) k lines ≡ Some n
     → position_from (λ l. bytes_eq l.name other) k lines ≡ Some n → name ≡ other
 numbers_apart [] k n name other found too = absurd (cc found)
 numbers_apart (l ∷ lines) k n name other found too =
@@ -160,7 +179,8 @@ numbers_apart (l ∷ lines) k n name other found too =
         → cond that (Some k) (position_from (λ l. bytes_eq l.name other) (k + 1) lines) ≡ Some n
         → (position_from (λ l. bytes_eq l.name name) (k + 1) lines ≡ Some n
         → position_from (λ l. bytes_eq l.name other) (k + 1) lines ≡ Some n → name ≡ other) → name ≡ other
-    by true named true named_too found too rest = sym ((bytes_eq-Decides l.name name).0 named) ∙ (bytes_eq-Decides l.name other).0 named_too
+    by true named true named_too found too rest =
+        sym ((bytes_eq-Decides l.name name).0 named) ∙ (bytes_eq-Decides l.name other).0 named_too
     by true named false unlike found too rest = absurd (later lines k n other too (cc found))
     by false unlike true named found too rest = absurd (later lines k n name found (cc too))
     by false unlike false unlike_too found too rest = rest found too
@@ -168,6 +188,7 @@ numbers_apart (l ∷ lines) k n name other found too =
 pub line_number-finds : (lines : List NamedLine) → Finds (length lines) (line_number lines)
 line_number-finds lines = record {
   below = λ name.
-      IfSome_then (line_number lines name) (position_from-below (λ l. bytes_eq l.name name) 0 lines) (λ i is. omega (arith, is.1));
+      IfSome_then (line_number lines name) (position_from-below (λ l. bytes_eq l.name name) 0 lines)
+      (λ i is. omega (arith, is.1));
   apart = λ name other l. numbers_apart lines 0 l name other;
 }

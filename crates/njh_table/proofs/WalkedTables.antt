@@ -49,14 +49,17 @@ pub record AreKeys (done : List NamedCustomer) (own : CustomerKeys) : Type 0 whe
   pub quota : IsBetween 1 max_quota own.quota
   pub files : IsBetween 1 max_files own.files
 
-customer_keys-gives : (part : Part) (done : List NamedCustomer) (keys : Members) → Gives (AreKeys done) (customer_keys part done keys)
+customer_keys-gives : (part : Part) (done : List NamedCustomer) (keys : Members)
+    → Gives (AreKeys done) (customer_keys part done keys)
 unfolding customer_keys
 customer_keys-gives part done keys =
     with_any _ node_name part named.Name keys _ (λ name.
     past _ (list_any (λ c. bytes_eq c.name name) done) (at_value part named.Name BadValue) _ tt (λ absent.
     with_any _ node_name part named.Hub keys _ (λ hub.
-    with_value (IsBetween 1 max_quota) _ (number 1 max_quota) part named.Quota keys _ (number-is 1 max_quota) (λ quota in_quota.
-    with_value (IsBetween 1 max_files) _ (number 1 max_files) part named.Files keys _ (number-is 1 max_files) (λ files in_files.
+    with_value (IsBetween 1 max_quota) _ (number 1 max_quota) part named.Quota keys _ (number-is 1 max_quota)
+    (λ quota in_quota.
+    with_value (IsBetween 1 max_files) _ (number 1 max_files) part named.Files keys _ (number-is 1 max_files)
+    (λ files in_files.
     record { absent = absent; quota = in_quota; files = in_files })))))
 
 next_customer-gives : (done : List NamedCustomer) (value : Data) → AreCustomers done
@@ -71,8 +74,10 @@ next_customer-gives done value customers =
     with_any_or _ as_array no_items part named.Route keys _ (λ route_values.
     and_then (AreLines (line_names done)) _ (lines_onto (length done) (line_names done) [] line_values) _
     (lines_onto-gives (length done) (line_names done) [] line_values (none_yet done customers)) (λ lines are_lines.
-    and_then (AreRoutes own.hub (length lines)) _ (routes_onto (length done) own.hub (line_number lines) [] route_values) _
-    (routes_onto-gives (length done) own.hub (length lines) (line_number lines) [] route_values (line_number-finds lines)
+    and_then (AreRoutes own.hub (length lines)) _
+    (routes_onto (length done) own.hub (line_number lines) [] route_values) _
+    (routes_onto-gives (length done) own.hub (length lines) (line_number lines) [] route_values
+    (line_number-finds lines)
     (no_routes own.hub (length lines)))
     (λ routes are_routes.
     record {
@@ -98,11 +103,17 @@ next_customer-gives done value customers =
 
     no_routes : (hub : List ℕ) (lines : ℕ) → AreRoutes hub lines []
     no_routes hub lines =
-        record { count = omega arith; each = All-nil (IsRoute lines); nodes = λ i j d below within. absurd (omega arith) }
+        record {
+          count = omega arith;
+          each = All-nil (IsRoute lines);
+          nodes = λ i j d below within. absurd
+              (omega arith);
+        }
 
 line_names-push : (done : List NamedCustomer) (c : NamedCustomer) → line_names (done ++ c ∷ [])
     ≡ line_names done ++ map (λ l. l.name) c.lines
-line_names-push done c = flat_map-append _ done (c ∷ []) ∙ ap (λ names. line_names done ++ names) (append-nil (map (λ l. l.name) c.lines))
+line_names-push done c = flat_map-append _ done (c ∷ [])
+    ∙ ap (λ names. line_names done ++ names) (append-nil (map (λ l. l.name) c.lines))
 
 -- a customer's name that none of those done has
 new_name : (done : List NamedCustomer) (name : List ℕ) → list_any (λ d. bytes_eq d.name name) done ≡ false
@@ -134,9 +145,14 @@ pub customers_onto-gives : (least : ℕ) (done : List NamedCustomer) (values : I
     → Gives (AreAtLeast least) (customers_onto done values)
 customers_onto-gives least done no_items customers = customers
 customers_onto-gives least done (item value more) customers =
-    and_then (IsNewCustomer done) (AreAtLeast least) (next_customer done value) _ (next_customer-gives done value customers.are)
+    and_then (IsNewCustomer done) (AreAtLeast least) (next_customer done value) _
+    (next_customer-gives done value customers.are)
     (λ c new. customers_onto-gives least (done ++ c ∷ []) more
-    (record { are = AreCustomers-push done c customers.are new; count = simp length-append (omega (arith, customers.count)) }))
+    (record {
+      are = AreCustomers-push done c customers.are new;
+      count = simp length-append
+          (omega (arith, customers.count));
+    }))
 
 no_customers : AreCustomers []
 no_customers = record {
@@ -151,19 +167,22 @@ some_customers : (values : Items) → is_empty values ≡ false → Gives (AreAt
 some_customers no_items some = absurd (false≢true (sym some))
 some_customers (item value more) some =
     and_then (IsNewCustomer []) (AreAtLeast 1) (next_customer [] value) _ (next_customer-gives [] value no_customers)
-    (λ c new. customers_onto-gives 1 (c ∷ []) more (record { are = AreCustomers-push [] c no_customers new; count = omega arith }))
+    (λ c new. customers_onto-gives 1 (c ∷ []) more
+    (record { are = AreCustomers-push [] c no_customers new; count = omega arith }))
 
 -- ---- the whole file
 
 pub walk_in-gives : (keys : Members) → Gives IsAccepted (walk_in keys)
 unfolding walk_in
 walk_in-gives keys =
-    with_value (IsBetween 1 max_capacity) _ (number 1 max_capacity) parts.File named.Capacity keys _ (number-is 1 max_capacity)
+    with_value (IsBetween 1 max_capacity) _ (number 1 max_capacity) parts.File named.Capacity keys _
+    (number-is 1 max_capacity)
     (λ capacity in_capacity.
     with_any _ as_array parts.File named.Customer keys _ (λ values.
     past _ (is_empty values) (at_value parts.File named.Customer MissingKey) _ tt (λ some.
     and_then (AreAtLeast 1) _ (customers_onto [] values) _ (some_customers values some) (λ customers accepted.
-    past _ (nat_lt capacity (sum_by (λ c. c.quota) customers)) (at_value parts.File named.Capacity QuotaOver) _ tt (λ within.
+    past _ (nat_lt capacity (sum_by (λ c. c.quota) customers)) (at_value parts.File named.Capacity QuotaOver) _ tt
+    (λ within.
     record {
       capacity = in_capacity;
       customers = (accepted.count, accepted.are.count);
@@ -195,7 +214,8 @@ placed_ok : {A : Type 0} (w : Placed A) (x : A) → without_place w ≡ Ok x →
 placed_ok (Ok y) x told = ap Ok (cc told)
 placed_ok (Err placed) x told = absurd (cc told)
 
-of_walk : {A : Type 0} (P : A → Type 0) (w : Placed A) (fault : TableFault) → Gives P w → without_place w ≡ Err fault → IsOfWalk fault
+of_walk : {A : Type 0} (P : A → Type 0) (w : Placed A) (fault : TableFault) → Gives P w → without_place w ≡ Err fault
+    → IsOfWalk fault
 of_walk P (Ok x) fault gives told = absurd (cc told)
 of_walk P (Err placed) fault gives told = subst IsOfWalk (cc told) gives
 

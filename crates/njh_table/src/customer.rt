@@ -87,7 +87,8 @@ impl NamedCustomer {
         self.routes.at(index)
     }
 
-    /// Where a node's files and messages go now: by a route's second line where it has one and the first isn't up.
+    /// Where a node's files and messages go now: by a route's second line where it has one and the
+    /// first isn't up.
     pub fn route(&self, node: Name) -> Route
         ensures { result ≡ route_of (entry_of self.now) node }
     {

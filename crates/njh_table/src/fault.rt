@@ -6,7 +6,8 @@ ghost use Rattle.njh_table.specs.declared.fault.TableFault.TheVariants.{Memory};
 use std::alloc::{AllocError, AllocFailed};
 use thiserror::Error;
 
-/// The first fault of a table file, in the order of the walk over it; `Memory` comes wherever memory is refused.
+/// The first fault of a table file, in the order of the walk over it; `Memory` comes wherever
+/// memory is refused.
 #[derive(Clone, Copy, Debug, PartialEq, Eq, Error)]
 pub enum TableFault {
     /// The text is no TOML.
@@ -15,8 +16,8 @@ pub enum TableFault {
     /// A key that must be there isn't, or the list of customers is empty.
     #[error("K2 MissingKey")]
     MissingKey,
-    /// A value of another type or out of range, a customer's name twice, a route's second line that is its line, or a
-    /// line's `connect` beside a port.
+    /// A value of another type or out of range, a customer's name twice, a route's second line that
+    /// is its line, or a line's `connect` beside a port.
     #[error("K3 BadValue")]
     BadValue,
     /// A line's name twice on the whole hub.

@@ -1,5 +1,6 @@
-//! The values of a table's keys. A key that must be there and isn't is `MissingKey`; a value of another type or out of
-//! range is `BadValue`. Each fault has its place: the part of the file whose keys they are, and the key.
+//! The values of a table's keys. A key that must be there and isn't is `MissingKey`; a value of
+//! another type or out of range is `BadValue`. Each fault has its place: the part of the file whose
+//! keys they are, and the key.
 
 ghost use Rattle.std.specs.Prelude.{◌≡◌, ◌≤◌, [], Some, None, IfOk, ok_or, option_map};
 ghost use Rattle.std.specs.List.{list_all};
@@ -198,8 +199,8 @@ fn peer_in(value: &Value, port: u16) -> Option<SocketAddr>
     (port == 0 && address.port() != 0).then_some(address)
 }
 
-/// The address at which the peer of a line with this port listens, which may be missing: where there is one, the line's
-/// port is 0 and that of the address isn't.
+/// The address at which the peer of a line with this port listens, which may be missing: where
+/// there is one, the line's port is 0 and that of the address isn't.
 pub fn peer_at(
     keys: &Table,
     part: Part,

@@ -16,30 +16,31 @@ ghost use Rattle.njh_table.specs.Walk.{tables_in, tables_of};
 
 use crate::fault::TableFault;
 
-/// What the walk accepts is within the limits, and its quotas add to at most the capacity. What it refuses is a fault
-/// of the file's contents.
+/// What the walk accepts is within the limits, and its quotas add to at most the capacity. What it
+/// refuses is a fault of the file's contents.
 pub fn walk_keeps_limits()
     ensures accepted { (text : List ℕ) (t : TableFile) → tables_of text ≡ Ok t → IsAccepted t }
     ensures refused { (keys : Members) (fault : Fault) → tables_in keys ≡ Err fault
         → (fault ≢ TableFault.BadToml) × (fault ≢ TableFault.Memory) }
 {}
 
-/// The address that a text writes is the one that the grammar of such texts gives; a text outside that grammar writes
-/// none.
+/// The address that a text writes is the one that the grammar of such texts gives; a text outside
+/// that grammar writes none.
 pub fn addresses_are_of_the_grammar()
     ensures spelled { (text : List ℕ) (address : SocketAddr)
         → IsSocketText text address ↔ (address_of text ≡ Some address) }
 {}
 
-/// Customers with the same entry route alike, wherever each stands in its table; and what can be read of an entry is
-/// all of it.
+/// Customers with the same entry route alike, wherever each stands in its table; and what can be
+/// read of an entry is all of it.
 pub fn same_entries_route_alike()
     ensures alike { (t u : TableFile) (c d : ℕ) → SameEntry (customer_at t c) (customer_at u d)
         → (node : List ℕ) → route_of (entry_of (customer_at t c)) node ≡ route_of (entry_of (customer_at u d)) node }
     ensures equal { (c d : NamedCustomer) → SameEntry c d → c ≡ d }
 {}
 
-/// The mark of a line is a part of its customer's entry, and of no other's; all else of that entry stays.
+/// The mark of a line is a part of its customer's entry, and of no other's; all else of that entry
+/// stays.
 pub fn marks_change_one_entry()
     ensures own { (t : TableFile) (id : LineId) (up : Bool) → id.customer < length t.customers
         → entry_of (customer_at (with_mark id up t) id.customer)

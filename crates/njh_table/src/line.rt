@@ -94,8 +94,8 @@ impl NamedLine {
         self.port
     }
 
-    /// The address and the port at which the line's peer listens, where the hub is to connect to it. Such a line has
-    /// the port 0, and the peer's port isn't 0.
+    /// The address and the port at which the line's peer listens, where the hub is to connect to
+    /// it. Such a line has the port 0, and the peer's port isn't 0.
     pub fn peer(&self) -> Option<SocketAddr>
         ensures { result ≡ self.now.peer }
     {

@@ -33,10 +33,11 @@ impl Tables {
     ghost use Rattle.njh_table.specs.NewRoutes.{routes_checked, with_routes};
     ghost use Rattle.njh_table.specs.TableFile.{customer_at, entry_of};
 
-    /// Whether a customer may have these routes in place of its own. `TooMany` comes where there are more than 512;
-    /// then, from the left and at each route in this order, `BadValue` where its second line is its line, `DoubleNode`
-    /// where an earlier one has its node or that is the hub's own name, and `UnknownLine` where its line, and then
-    /// where its second line, isn't the customer's. Takes no memory.
+    /// Whether a customer may have these routes in place of its own. `TooMany` comes where there
+    /// are more than 512; then, from the left and at each route in this order, `BadValue` where its
+    /// second line is its line, `DoubleNode` where an earlier one has its node or that is the hub's
+    /// own name, and `UnknownLine` where its line, and then where its second line, isn't the
+    /// customer's. Takes no memory.
     pub fn check_routes(&self, customer: u16, routes: &[GivenRoute]) -> Result<(), TableFault>
         requires { customer < length self.now.customers }
         ensures { result ≡ routes_checked (entry_of (customer_at self.now customer))
@@ -48,8 +49,8 @@ impl Tables {
         check_each(customer, self.customer(customer), routes)
     }
 
-    /// Gives a customer these routes in place of its own. Want of memory is the only refusal, and then nothing has
-    /// changed.
+    /// Gives a customer these routes in place of its own. Want of memory is the only refusal, and
+    /// then nothing has changed.
     pub fn set_routes(&mut self, customer: u16, routes: &[GivenRoute]) -> Result<(), TableFault>
         requires known { customer < length self.old.customers }
         requires checked { routes_checked (entry_of (customer_at self.old customer)) (new_routes_of customer routes.now)

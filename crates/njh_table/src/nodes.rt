@@ -16,12 +16,13 @@ pub const MAX_NODES: usize = MAX_ROUTES + 1;
 /// How many buckets there are: a prime, so that each of a name's eight bytes counts.
 pub const BUCKETS: usize = 997;
 
-/// The names of nodes, in the order in which they came. Each is in a bucket by its bytes, and the names in a bucket are
-/// linked, from the last to the first.
+/// The names of nodes, in the order in which they came. Each is in a bucket by its bytes, and the
+/// names in a bucket are linked, from the last to the first.
 #[derive(Drop)]
 pub(crate) struct Nodes {
     names: ArrayVec<[u8; 8], MAX_NODES>,
-    /// For each name, how many names there are up to the last before it in its bucket; 0 where it is the first.
+    /// For each name, how many names there are up to the last before it in its bucket; 0 where it
+    /// is the first.
     before: ArrayVec<u16, MAX_NODES>,
     /// For each bucket, how many names there are up to the last in it; 0 where none is.
     ends: [u16; BUCKETS],

@@ -83,7 +83,8 @@ impl Key {
     }
 }
 
-/// The first fault of a table file, and where it is. Want of memory has no place: its part is the file.
+/// The first fault of a table file, and where it is. Want of memory has no place: its part is the
+/// file.
 #[derive(Clone, Copy, Debug, PartialEq, Eq)]
 pub struct PlacedFault {
     /// The fault.

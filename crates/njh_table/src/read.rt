@@ -52,8 +52,9 @@ impl Tables {
     ghost use Rattle.njh_table.specs.Base.{base_tables};
     ghost use Rattle.njh_table.specs.Walk.{tables_of, walk_of};
 
-    /// Reads a table file. `BadToml` comes where the text is no TOML, then the first fault of the walk over it, and
-    /// `Memory` wherever memory is refused. Keys that have no meaning here are ignored.
+    /// Reads a table file. `BadToml` comes where the text is no TOML, then the first fault of the
+    /// walk over it, and `Memory` wherever memory is refused. Keys that have no meaning here are
+    /// ignored.
     pub fn read(alloc: Global, text: &str) -> Result<Tables, TableFault>
         ensures read { IfOk result (λ t. tables_of text.now ≡ Ok t) }
         ensures fault { IfErr result (λ fault. fault ≢ TableFault.Memory → tables_of text.now ≡ Err fault) }
@@ -85,7 +86,8 @@ impl Tables {
         }
     }
 
-    /// The tables without a file: ACME with line a1, and BOLT with line b1, each with a node LYON of its own.
+    /// The tables without a file: ACME with line a1, and BOLT with line b1, each with a node LYON
+    /// of its own.
     pub fn base(alloc: Global) -> Result<Tables, TableFault>
         ensures base { IfOk result (λ t. t ≡ base_tables) }
         ensures memory { IfErr result (λ fault. fault ≡ TableFault.Memory) }

@@ -11,7 +11,8 @@ all_last : (ds : List ℕ) (d : ℕ) → AllByRecursion IsDigit ds → IsDigit d
 all_last [] d all is = (is, tt)
 all_last (e ∷ ds) d all is = (all.0, all_last ds d all.1 is)
 
-value-last : (higher : ℕ) (ds : List ℕ) (d : ℕ) → value_behind higher (ds ++ d ∷ []) ≡ 10 * value_behind higher ds + (d - 0xf0)
+value-last : (higher : ℕ) (ds : List ℕ) (d : ℕ)
+    → value_behind higher (ds ++ d ∷ []) ≡ 10 * value_behind higher ds + (d - 0xf0)
 value-last higher [] d = refl
 value-last higher (e ∷ ds) d = value-last (10 * higher + (e - 0xf0)) ds d
 
@@ -24,7 +25,8 @@ one n small =
       shortest = λ is. ap (λ (d : ℕ). d ∷ []) is;
     }
 
-one_more : (ds : List ℕ) (m d n : ℕ) → IsDecimal ds m → 0 < m → d < 10 → 10 * m + d ≡ n → IsDecimal (ds ++ (d + 0xf0) ∷ []) n
+one_more : (ds : List ℕ) (m d n : ℕ) → IsDecimal ds m → 0 < m → d < 10 → 10 * m + d ≡ n
+    → IsDecimal (ds ++ (d + 0xf0) ∷ []) n
 one_more [] m d n is above small sum = absurd (omega (arith, is.some))
 one_more (e ∷ ds) m d n is above small sum =
     record {
@@ -35,11 +37,13 @@ one_more (e ∷ ds) m d n is above small sum =
     }
 
 decimal_within : (k n : ℕ) → n ≤ k → n < 2 ^ 32 → (n < 10) ⊎ (10 ≤ n) → IsDecimal (digits n) n
-decimal_within k n within fits (inl small) = subst (λ (ds : List ℕ). IsDecimal ds n) (sym (digits-one n small)) (one n small)
+decimal_within k n within fits (inl small) =
+    subst (λ (ds : List ℕ). IsDecimal ds n) (sym (digits-one n small)) (one n small)
 decimal_within zero n within fits (inr large) = absurd (omega arith)
 decimal_within (suc k) n within fits (inr large) =
     subst (λ (ds : List ℕ). IsDecimal ds n) (sym (digits-last n fits large))
-    (one_more (digits (n / 10)) (n / 10) (n % 10) n (decimal_within k (n / 10) (omega arith) (omega arith) (cases_lt (n / 10) 10))
+    (one_more (digits (n / 10)) (n / 10) (n % 10) n
+    (decimal_within k (n / 10) (omega arith) (omega arith) (cases_lt (n / 10) 10))
     (omega arith) (omega arith) (omega arith))
 
 pub digits_say : (n : ℕ) → n < 2 ^ 32 → IsDecimal (digits n) n

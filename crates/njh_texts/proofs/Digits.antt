@@ -29,7 +29,8 @@ one_more (suc k) n fits (inr large) =
 pub digits-last : (n : ℕ) → n < 2 ^ 32 → 10 ≤ n → digits n ≡ digits (n / 10) ++ (n % 10 + 0xf0) ∷ []
 digits-last n fits large =
     more_digits 19 n large
-    ∙ ap (λ (higher : List ℕ). higher ++ (n % 10 + 0xf0) ∷ []) (one_more 18 (n / 10) (omega arith) (cases_lt (n / 10) 10))
+    ∙ ap (λ (higher : List ℕ). higher ++ (n % 10 + 0xf0) ∷ [])
+    (one_more 18 (n / 10) (omega arith) (cases_lt (n / 10) 10))
 
 pub digits-one : (n : ℕ) → n < 10 → digits n ≡ (n + 0xf0) ∷ []
 digits-one n small = one_digit 19 n small
@@ -40,7 +41,13 @@ length_digits zero m n fits (inr large) = absurd (omega (arith, pow-suc 10 zero)
 length_digits (suc k) zero n fits (inr large) = omega (arith, ap length (more_digits zero n large))
 length_digits (suc k) (suc m) n fits (inr large) =
     let higher = length_digits k m (n / 10) (omega (arith, pow-suc 10 (suc k))) (cases_lt (n / 10) 10) in
-    omega (arith, ap length (more_digits (suc m) n large), length-append (digits_within (suc m) (n / 10)) ((n % 10 + 0xf0) ∷ []), higher)
+    omega (
+      arith,
+      ap length (more_digits (suc m) n large),
+      length-append (digits_within (suc m) (n / 10))
+          ((n % 10 + 0xf0) ∷ []),
+      higher,
+    )
 
 pub length-digits : (n : ℕ) → n < 2 ^ 32 → length (digits n) ≤ 10
 length-digits n fits = length_digits 9 19 n (omega arith) (cases_lt n 10)

@@ -9,7 +9,8 @@ abbrev in_front : ℕ → List ℕ → List ℕ
 in_front b rest = elim rest as (λ _. List ℕ) [ [] ↦ cond (b == 0x40) [] (b ∷ []) | r ∷ rs ↦ b ∷ r ∷ rs ]
 
 none_left : (b : ℕ) (blank : Bool) (rest : List ℕ)
-    → (blank && is_empty rest) ≡ is_empty (elim rest as (λ _. List ℕ) [ [] ↦ cond blank [] (b ∷ []) | r ∷ rs ↦ b ∷ r ∷ rs ])
+    → (blank && is_empty rest) ≡ is_empty (elim rest as (λ _. List ℕ)
+    [ [] ↦ cond blank [] (b ∷ []) | r ∷ rs ↦ b ∷ r ∷ rs ])
 none_left b true [] = refl
 none_left b true (r ∷ rs) = refl
 none_left b false [] = refl
@@ -18,13 +19,15 @@ none_left b false (r ∷ rs) = refl
 -- whether bytes are blanks alone
 pub blank-test : (bytes : List ℕ) → bytes_eq bytes (replicate (length bytes) 0x40) ≡ is_empty (without_end_blanks bytes)
 blank-test [] = refl
-blank-test (b ∷ bytes) = ap (λ t. (b == 0x40) && t) (blank-test bytes) ∙ none_left b (b == 0x40) (without_end_blanks bytes)
+blank-test (b ∷ bytes) = ap (λ t. (b == 0x40) && t) (blank-test bytes)
+    ∙ none_left b (b == 0x40) (without_end_blanks bytes)
 
 none : (bytes : List ℕ) → is_empty bytes ≡ true → [] ≡ bytes
 none [] is = refl
 none (b ∷ bytes) is = absurd (both_ways (is_empty (b ∷ bytes)) refl is)
 
-behind_none : (front back : List ℕ) → [] ≡ without_end_blanks back → without_end_blanks front ≡ without_end_blanks (front ++ back)
+behind_none : (front back : List ℕ) → [] ≡ without_end_blanks back
+    → without_end_blanks front ≡ without_end_blanks (front ++ back)
 behind_none [] back is = is
 behind_none (b ∷ front) back is = ap (in_front b) (behind_none front back is)
 
@@ -33,9 +36,11 @@ in_front-some b [] [] some = absurd (both_ways (is_empty []) some refl)
 in_front-some b [] (r ∷ rs) some = refl
 in_front-some b (x ∷ front) rest some = refl
 
-behind_some : (front back : List ℕ) → is_empty (without_end_blanks back) ≡ false → front ++ without_end_blanks back ≡ without_end_blanks (front ++ back)
+behind_some : (front back : List ℕ) → is_empty (without_end_blanks back) ≡ false
+    → front ++ without_end_blanks back ≡ without_end_blanks (front ++ back)
 behind_some [] back some = refl
-behind_some (b ∷ front) back some = in_front-some b front (without_end_blanks back) some ∙ ap (in_front b) (behind_some front back some)
+behind_some (b ∷ front) back some = in_front-some b front (without_end_blanks back) some
+    ∙ ap (in_front b) (behind_some front back some)
 
 module _ (field : List ℕ) (is : length field ≡ 8) where
   back_is : take 4 (drop 4 field) ≡ drop 4 field
@@ -53,11 +58,14 @@ module _ (field : List ℕ) (is : length field ≡ 8) where
       ∙ blank-test (take 4 (drop 4 field))
 
   -- blanks alone behind the front
-  pub trimmed-front : bytes_eq (take 4 (drop 4 field)) (replicate 4 0x40) ≡ true → without_end_blanks (take 4 field) ≡ without_end_blanks field
+  pub trimmed-front : bytes_eq (take 4 (drop 4 field)) (replicate 4 0x40) ≡ true
+      → without_end_blanks (take 4 field) ≡ without_end_blanks field
   trimmed-front blank =
-      behind_none (take 4 field) (take 4 (drop 4 field)) (none (without_end_blanks (take 4 (drop 4 field))) (sym test ∙ blank)) ∙ ap without_end_blanks whole
+      behind_none (take 4 field) (take 4 (drop 4 field))
+      (none (without_end_blanks (take 4 (drop 4 field))) (sym test ∙ blank)) ∙ ap without_end_blanks whole
 
   -- something behind the front
   pub trimmed-back : bytes_eq (take 4 (drop 4 field)) (replicate 4 0x40) ≡ false
       → take 4 field ++ without_end_blanks (take 4 (drop 4 field)) ≡ without_end_blanks field
-  trimmed-back other = behind_some (take 4 field) (take 4 (drop 4 field)) (sym test ∙ other) ∙ ap without_end_blanks whole
+  trimmed-back other = behind_some (take 4 field) (take 4 (drop 4 field)) (sym test ∙ other)
+      ∙ ap without_end_blanks whole

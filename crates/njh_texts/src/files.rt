@@ -11,8 +11,8 @@ use njh_nmr::LONGEST_MESSAGE;
 use njh_record::Kind;
 use njh_spool::State;
 
-/// What NJH001 says of a file, behind its number: its name, destination, kind, number of records and state. It leaves
-/// out a name or a destination that there isn't.
+/// What NJH001 says of a file, behind its number: its name, destination, kind, number of records
+/// and state. It leaves out a name or a destination that there isn't.
 #[tactic(auto, unfolding(crate::specs::Texts::file_text))]
 pub fn file_text(
     name: Option<FileName>,

@@ -9,7 +9,8 @@ use njh_ebcdic::Name;
 use njh_header::FileName;
 use njh_spool::FileSummary;
 
-/// NJH001: a file by its name, destination, kind, number of records and state, in the place of what was there.
+/// NJH001: a file by its name, destination, kind, number of records and state, in the place of what
+/// was there.
 pub fn put_file_line(text: &mut MessageText, file: &FileSummary)
     ensures { text.new.items
         ≡ texts.listing_line file.now.headers.name file.now.headers.destination file.now.kind file.now.records

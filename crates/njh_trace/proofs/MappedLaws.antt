@@ -1,5 +1,6 @@
 -- A list of which the first elements were changed.
-use Rattle.std.proofs.Common.{◌≡◌, ℕ, zero, suc, ◌+◌, ◌<◌, ◌≤◌, List, [], ◌∷◌, length, refl, ap, ◌∙◌, arith, set, get_or, map, add-one}
+use Rattle.std.proofs.Common.{◌≡◌, ℕ, zero, suc, ◌+◌, ◌<◌, ◌≤◌, List, [], ◌∷◌, length, refl, ap, ◌∙◌, arith, set}
+use Rattle.std.proofs.Common.{get_or, map, add-one}
 
 abbrev pub mapped_upto : {X : Type 0} → (X → X) → ℕ → List X → List X
 mapped_upto f zero xs = xs
@@ -31,7 +32,8 @@ length-mapped_upto f (suc n) [] = refl
 length-mapped_upto f (suc n) (x ∷ xs) = ap suc (length-mapped_upto f n xs)
 
 -- a step of the loop
-pub mapped_upto-step : {X : Type 0} (f : X → X) (n : ℕ) (xs ys : List X) (x y : X) → ys ≡ mapped_upto f n xs → n < length ys
+pub mapped_upto-step : {X : Type 0} (f : X → X) (n : ℕ) (xs ys : List X) (x y : X) → ys ≡ mapped_upto f n xs
+    → n < length ys
     → x ≡ get_or ys n x → y ≡ f x → set ys n y ≡ mapped_upto f (n + 1) xs
 mapped_upto-step {X} f n xs ys x y so_far below at changed =
     let within : n < length xs = omega (arith, ap (length {A = X}) so_far, length-mapped_upto f n xs) in
@@ -40,7 +42,8 @@ mapped_upto-step {X} f n xs ys x y so_far below at changed =
     ∙ mapped_upto-more f n xs x within
 
 -- its end
-pub mapped_upto-end : {X : Type 0} (f : X → X) (n : ℕ) (xs ys : List X) → ys ≡ mapped_upto f n xs → length ys ≤ n → n ≤ length ys
+pub mapped_upto-end : {X : Type 0} (f : X → X) (n : ℕ) (xs ys : List X) → ys ≡ mapped_upto f n xs → length ys ≤ n
+    → n ≤ length ys
     → ys ≡ map f xs
 mapped_upto-end {X} f n xs ys so_far past within =
     let all : n ≡ length xs = omega (arith, ap (length {A = X}) so_far, length-mapped_upto f n xs) in

@@ -1,5 +1,6 @@
 -- A text parted at a byte.
-use Rattle.std.proofs.Common.{◌≡◌, ℕ, ◌+◌, ◌<◌, Bool, true, false, eqb, List, [], ◌∷◌, ◌++◌, length, refl, sym, ap, ◌∙◌, arith, cond, eq-eqb, subst}
+use Rattle.std.proofs.Common.{◌≡◌, ℕ, ◌+◌, ◌<◌, Bool, true, false, eqb, List, [], ◌∷◌, ◌++◌, length, refl, sym, ap, ◌∙◌}
+use Rattle.std.proofs.Common.{arith, cond, eq-eqb, subst}
 use Rattle.std.proofs.Common.{None, Some, get_or, take, drop, take-append-drop}
 use Rattle.std.specs.List.{All, onto_first, slice_split}
 use Rattle.std.proofs.lemmas.Bool.{eqb-true, false_from_ne_true}
@@ -45,13 +46,15 @@ parted-some byte place text front end behind first front_is end_is behind_is =
 pub split-parted : (byte : ℕ) (text front behind : List ℕ) → IsParted byte text front behind
     → slice_split (λ b. eqb b byte) text ≡ front ∷ slice_split (λ b. eqb b byte) behind
 split-parted byte text front behind x =
-    ap (slice_split (λ b. eqb b byte)) x.whole ∙ slice_split_at (λ b. eqb b byte) front byte behind x.none (eq-eqb byte byte refl)
+    ap (slice_split (λ b. eqb b byte)) x.whole ∙ slice_split_at (λ b. eqb b byte) front byte behind x.none
+    (eq-eqb byte byte refl)
 
 pub split-whole : (byte : ℕ) (text : List ℕ) → IsFirstByte (is_byte byte) text None
     → slice_split (λ b. eqb b byte) text ≡ text ∷ []
 split-whole byte text nowhere = slice_split_none (λ b. eqb b byte) text (parted-none byte text nowhere)
 
-onto_first-some : (x : ℕ) (parts : List (List ℕ)) → (part : List ℕ) × (rest : List (List ℕ)) × (onto_first x parts ≡ part ∷ rest)
+onto_first-some : (x : ℕ) (parts : List (List ℕ)) → (part : List ℕ) × (rest : List (List ℕ))
+    × (onto_first x parts ≡ part ∷ rest)
 onto_first-some x [] = (x ∷ [], [], refl)
 onto_first-some x (part ∷ parts) = (x ∷ part, parts, refl)
 
@@ -61,7 +64,8 @@ split-cond true x parts = ([], parts, refl)
 split-cond false x parts = onto_first-some x parts
 
 -- a text has one part at least
-pub split-some : (test : ℕ → Bool) (text : List ℕ) → (part : List ℕ) × (rest : List (List ℕ)) × (slice_split test text ≡ part ∷ rest)
+pub split-some : (test : ℕ → Bool) (text : List ℕ) → (part : List ℕ) × (rest : List (List ℕ))
+    × (slice_split test text ≡ part ∷ rest)
 split-some test [] = ([], [], refl)
 split-some test (x ∷ xs) = split-cond (test x) x (slice_split test xs)
 

@@ -12,7 +12,8 @@ use Rattle.njh_trace.specs.Trace.{line_told, lines_told, sources_behind}
 use Rattle.njh_trace.specs.code.Reading.{Progress, Takes, sources_behind_lines, told_behind}
 
 pub lines_told-append : (hex : Bool) (sources : List SourceView) (xs ys : List (List ℕ))
-    → lines_told hex sources (xs ++ ys) ≡ lines_told hex sources xs ++ lines_told hex (sources_behind_lines sources xs) ys
+    → lines_told hex sources (xs ++ ys) ≡ lines_told hex sources xs ++ lines_told hex (sources_behind_lines sources xs)
+    ys
 lines_told-append hex sources [] ys = refl
 lines_told-append hex sources (x ∷ xs) ys =
     ap (λ (text : List ℕ). line_told hex sources x ++ text) (lines_told-append hex (sources_behind sources x) xs ys)
@@ -31,13 +32,15 @@ neither : (a b : Bool) → a ≡ false → b ≡ false → (a || b) ≡ false
 neither a b p q = rw p q
 
 -- a piece, and then the next
-pub Takes-then : (hex : Bool) (a b c : Progress) (piece next told more_told : List ℕ) → Takes hex a piece told b → Takes hex b next more_told c
+pub Takes-then : (hex : Bool) (a b c : Progress) (piece next told more_told : List ℕ) → Takes hex a piece told b
+    → Takes hex b next more_told c
     → Takes hex a (piece ++ next) (told ++ more_told) c
 Takes-then hex a b c piece next told more_told x y = record {
   done = x.done ++ y.done;
   lines = λ more.
       ap (lines_from a.front) (append_assoc piece next more) ∙ x.lines (next ++ more)
-      ∙ ap (λ (ls : List (List ℕ)). x.done ++ ls) (y.lines more) ∙ sym (append_assoc x.done y.done (lines_from c.front more));
+      ∙ ap (λ (ls : List (List ℕ)). x.done ++ ls) (y.lines more)
+      ∙ sym (append_assoc x.done y.done (lines_from c.front more));
   short = list_any-append is_long_line x.done y.done ∙ neither _ _ x.short y.short;
   told_is =
       ap (λ (text : List ℕ). text ++ more_told) x.told_is
@@ -54,7 +57,8 @@ pub Takes-tells : (hex : Bool) (a b : Progress) (piece told : List ℕ) → Take
     → told_behind hex a (piece ++ more) ≡ told ++ told_behind hex b more
 Takes-tells hex a b piece told x more =
     ap (lines_told hex a.sources) (x.lines more) ∙ lines_told-append hex a.sources x.done (lines_from b.front more)
-    ∙ ap (λ (text : List ℕ). text ++ lines_told hex (sources_behind_lines a.sources x.done) (lines_from b.front more)) (sym x.told_is)
+    ∙ ap (λ (text : List ℕ). text ++ lines_told hex (sources_behind_lines a.sources x.done) (lines_from b.front more))
+    (sym x.told_is)
     ∙ ap (λ (s : List SourceView). told ++ lines_told hex s (lines_from b.front more)) (sym x.sources_are)
 
 -- a line is too long where one of what is left is

@@ -1,19 +1,23 @@
 -- The lines that are printed of frames which a hub sends, read as a trace.
-use Rattle.std.proofs.Common.{◌≡◌, ℕ, zero, suc, ◌<◌, Bool, true, false, not, ◌&&◌, eqb, List, [], ◌∷◌, ◌++◌, length, refl, sym, ap, ◌∙◌}
+use Rattle.std.proofs.Common.{◌≡◌, ℕ, zero, suc, ◌<◌, Bool, true, false, not, ◌&&◌, eqb, List, [], ◌∷◌, ◌++◌, length}
+use Rattle.std.proofs.Common.{refl, sym, ap, ◌∙◌}
 use Rattle.std.proofs.Common.{append_assoc, arith, Option, None, Some, Ok, inl, inr, subst}
 use Rattle.std.specs.Prelude.{flat_map, if◌then◌else◌}
 use Rattle.std.specs.List.{list_all, All, AllByRecursion}
 use Rattle.std.proofs.lemmas.Bool.{cases_Bool, eqb-true}
-use Rattle.std.proofs.lemmas.List.Elements.{All-append, All-from_recursion, All-push, All-set, All-take, All-weaker, recursion_from_All}
+use Rattle.std.proofs.lemmas.List.Elements.{All-append, All-from_recursion, All-push, All-set, All-take, All-weaker}
+use Rattle.std.proofs.lemmas.List.Elements.{recursion_from_All}
 use Rattle.std.proofs.lemmas.List.Splits.{slice_split_at, slice_split_none}
 use Rattle.hex.specs.Hex.{encode_lower, is_hex_digit, IsBytes}
 use Rattle.hex.proofs.HexLemmas.{decode_of-encode_lower, decode_of-ok}
 use Rattle.njh_bisync.specs.Reading.{Rest, Nothing}
 use Rattle.njh_bisync.specs.ByteSteps.{frames_after, rest_after}
-use Rattle.njh_trace.specs.Pieces.{is_letter_or_digit, is_name, is_script_word, mark_out, piece_in, piece_of_digits, some_bytes, words_of}
+use Rattle.njh_trace.specs.Pieces.{is_letter_or_digit, is_name, is_script_word, mark_out, piece_in, piece_of_digits}
+use Rattle.njh_trace.specs.Pieces.{some_bytes, words_of}
 use Rattle.njh_trace.specs.Pieces.{PieceView}
 use Rattle.njh_trace.specs.Sources.{max_sources, place_of, rest_at, sources_at, sources_with, SourceView}
-use Rattle.njh_trace.specs.Trace.{frames_told, line_as_it_is, line_told, lines_told, piece_told, sent_line, sent_text, sent_told}
+use Rattle.njh_trace.specs.Trace.{frames_told, line_as_it_is, line_told, lines_told, piece_told, sent_line, sent_text}
+use Rattle.njh_trace.specs.Trace.{sent_told}
 use Rattle.njh_trace.specs.Trace.{sources_behind, trace_told, IsSent}
 use Rattle.njh_io.specs.Lines.{lines_from}
 use Rattle.njh_io.proofs.LineLaws.{lines_from-end}
@@ -22,12 +26,15 @@ use Rattle.njh_io.proofs.LineLaws.{lines_from-end}
 other_byte : (test : ℕ → Bool) (c d : ℕ) → test d ≡ false → test c ≡ true → eqb c d ≡ false
 other_byte test c d at passes =
     elim (cases_Bool (eqb c d)) [
-      | inl same ↦ let e : c ≡ d = eqb-true c d same in absurd (let no : true ≡ false = sym passes ∙ ap test e ∙ at in cc)
+      | inl same ↦ let e : c ≡ d = eqb-true c d same in absurd
+          (let no : true ≡ false = sym passes ∙ ap test e ∙ at in cc)
       | inr other ↦ other
     ]
 
-pub without : (test : ℕ → Bool) (d : ℕ) (xs : List ℕ) → test d ≡ false → All (λ c. test c ≡ true) xs → All (λ c. eqb c d ≡ false) xs
-without test d xs at passes = All-weaker (λ c. test c ≡ true) (λ c. eqb c d ≡ false) (λ c p. other_byte test c d at p) xs passes
+pub without : (test : ℕ → Bool) (d : ℕ) (xs : List ℕ) → test d ≡ false → All (λ c. test c ≡ true) xs
+    → All (λ c. eqb c d ≡ false) xs
+without test d xs at passes = All-weaker (λ c. test c ≡ true) (λ c. eqb c d ≡ false) (λ c p. other_byte test c d at p)
+    xs passes
 
 both-first : (a b : Bool) → (a && b) ≡ true → a ≡ true
 both-first true b p = refl
@@ -39,7 +46,11 @@ both-second false b p = cc p
 
 all_pass : (test : ℕ → Bool) (xs : List ℕ) → list_all test xs ≡ true → AllByRecursion (λ c. test c ≡ true) xs
 all_pass test [] p = tt
-all_pass test (x ∷ xs) p = (both-first (test x) (list_all test xs) p, all_pass test xs (both-second (test x) (list_all test xs) p))
+all_pass test (x ∷ xs) p = (
+  both-first (test x) (list_all test xs) p,
+  all_pass test xs
+      (both-second (test x) (list_all test xs) p),
+)
 
 name_bytes : (name : List ℕ) → is_name name ≡ true → All (λ c. is_letter_or_digit c ≡ true) name
 name_bytes name p =
@@ -73,7 +84,8 @@ named_out : (named word : Bool) (piece : Option PieceView) → named ≡ true �
     → (if named && not word then piece else None) ≡ piece
 named_out named word piece p q = rw (p, q) refl
 
-pub piece_in-sent : (name frame : List ℕ) → is_name name ≡ true → is_script_word name ≡ false → IsBytes frame → 0 < length frame
+pub piece_in-sent : (name frame : List ℕ) → is_name name ≡ true → is_script_word name ≡ false → IsBytes frame
+    → 0 < length frame
     → piece_in (sent_line name frame) ≡ Some (record { mark = mark_out name; bytes = frame })
 unfolding piece_in
 piece_in-sent name frame named no_word bytes some =
@@ -98,10 +110,13 @@ rest_at-clear sources (Some place) clear = clear_at sources place (recursion_fro
 sources_at-clear : (source : SourceView) (sources : List SourceView) (place : Option ℕ) → IsClear sources
     → source.rest ≡ Nothing → IsClear (sources_at source sources place)
 sources_at-clear source sources None clear whole =
-    All-take (λ s. s.rest ≡ Nothing) max_sources (sources ++ source ∷ []) (All-push (λ s. s.rest ≡ Nothing) sources source clear whole)
-sources_at-clear source sources (Some place) clear whole = All-set (λ s. s.rest ≡ Nothing) sources place source whole clear
+    All-take (λ s. s.rest ≡ Nothing) max_sources (sources ++ source ∷ [])
+    (All-push (λ s. s.rest ≡ Nothing) sources source clear whole)
+sources_at-clear source sources (Some place) clear whole =
+    All-set (λ s. s.rest ≡ Nothing) sources place source whole clear
 
-line_told-piece : (hex : Bool) (sources : List SourceView) (line : List ℕ) (piece : PieceView) → piece_in line ≡ Some piece
+line_told-piece : (hex : Bool) (sources : List SourceView) (line : List ℕ) (piece : PieceView)
+    → piece_in line ≡ Some piece
     → line_told hex sources line ≡ piece_told hex line sources piece
 unfolding line_told
 line_told-piece hex sources line piece is = rw (is, line_told) refl
@@ -121,7 +136,8 @@ line_told-sent hex sources name frame clear sent =
     ++ frames_told hex (mark_out name) (frames_after rest frame))
     (rest_at-clear sources (place_of (mark_out name) sources) clear)
 
-sources_with-sent : (sources : List SourceView) (mark frame : List ℕ) → IsClear sources → rest_after Nothing frame ≡ Nothing
+sources_with-sent : (sources : List SourceView) (mark frame : List ℕ) → IsClear sources
+    → rest_after Nothing frame ≡ Nothing
     → IsClear (sources_with (record { mark = mark; bytes = frame }) sources)
 unfolding sources_with
 sources_with-sent sources mark frame clear whole =
@@ -140,7 +156,8 @@ sources_behind-sent sources name frame clear sent =
 line_whole : (name frame : List ℕ) → IsSent name frame → All (λ b. eqb b 10 ≡ false) (sent_line name frame)
 line_whole name frame sent =
     All-append (λ b. eqb b 10 ≡ false) (name ++ 32 ∷ []) (encode_lower frame)
-    (All-push (λ b. eqb b 10 ≡ false) name 32 (without is_letter_or_digit 10 name refl (name_bytes name sent.named)) refl)
+    (All-push (λ b. eqb b 10 ≡ false) name 32 (without is_letter_or_digit 10 name refl (name_bytes name sent.named))
+    refl)
     (without is_hex_digit 10 (encode_lower frame) refl (digits_of frame sent.bytes))
 
 lines_told-sent : (hex : Bool) (sources : List SourceView) (sent : List (List ℕ × List ℕ)) → IsClear sources

@@ -4,7 +4,8 @@ use Rattle.std.proofs.Common.{true, false, subst, Result, Ok, Err, OnOk, OnErr, 
 use Rattle.std.specs.Prelude.{IfSome, MatchOption}
 use Rattle.std.specs.List.{list_any}
 use Rattle.std.specs.Io.KnownBytes.{Appends, Consumes, IsAtEnd, Keeps, ReadConsumes}
-use Rattle.std.proofs.KnownBytes.{Appends-nil, Appends-trans, Consumes-nil, Consumes-trans, Consumes-kept, Consumes-whole}
+use Rattle.std.proofs.KnownBytes.{Appends-nil, Appends-trans, Consumes-nil, Consumes-trans, Consumes-kept}
+use Rattle.std.proofs.KnownBytes.{Consumes-whole}
 use Rattle.njh_io.specs.Written.{AppendsBeginning}
 use Rattle.njh_io.specs.Lines.{is_long_line, lines_from}
 use Rattle.njh_trace.specs.Trace.{has_long_line, trace_told}
@@ -45,7 +46,8 @@ IsTraced-more hex first now later old then new a b piece told x read written tak
 }
 
 -- a read that gave nothing
-pub IsTraced-kept : (hex : Bool) (first now later old new : Option (List ℕ)) (at : Progress) → IsTraced hex first now old new at
+pub IsTraced-kept : (hex : Bool) (first now later old new : Option (List ℕ)) (at : Progress)
+    → IsTraced hex first now old new at
     → Keeps now later → IsTraced hex first later old new at
 IsTraced-kept hex first now later old new at x kept = record {
   seen = x.seen;
@@ -56,16 +58,20 @@ IsTraced-kept hex first now later old new at x kept = record {
 }
 
 -- all was read, and then the last line was told
-pub IsTraced-whole : (hex : Bool) (first now old then new : Option (List ℕ)) (at : Progress) → IsTraced hex first now old then at
-    → IsAtEnd now → Appends then new (told_behind hex at []) → IfSome first (λ text. Appends old new (trace_told hex text))
+pub IsTraced-whole : (hex : Bool) (first now old then new : Option (List ℕ)) (at : Progress)
+    → IsTraced hex first now old then at
+    → IsAtEnd now → Appends then new (told_behind hex at [])
+    → IfSome first (λ text. Appends old new (trace_told hex text))
 IsTraced-whole hex first now old then new at x end last =
     Consumes-whole first now x.seen (λ text. Appends old new (trace_told hex text)) x.read end
     (let all : trace_told hex x.seen ≡ x.told ++ told_behind hex at [] =
-    ap (λ (text : List ℕ). told_behind hex start text) (sym (append-nil x.seen)) ∙ Takes-tells hex start at x.seen x.told x.takes [] in
+    ap (λ (text : List ℕ). told_behind hex start text) (sym (append-nil x.seen))
+    ∙ Takes-tells hex start at x.seen x.told x.takes [] in
     rw all (Appends-trans old then new x.told (told_behind hex at []) x.written last))
 
 -- the last line was told in part
-pub IsTraced-last_part : (hex : Bool) (first now old then new : Option (List ℕ)) (at : Progress) → IsTraced hex first now old then at
+pub IsTraced-last_part : (hex : Bool) (first now old then new : Option (List ℕ)) (at : Progress)
+    → IsTraced hex first now old then at
     → IsAtEnd now → AppendsBeginning then new (told_behind hex at [])
     → IfSome first (λ text. AppendsBeginning old new (trace_told hex text))
 IsTraced-last_part hex first now old then new at x end begun =
@@ -75,8 +81,10 @@ IsTraced-last_part hex first now old then new at x end begun =
     ∙ sym (Takes-tells hex start at x.seen x.told x.takes [])
     ∙ ap (λ (text : List ℕ). told_behind hex start text) (append-nil x.seen)))
 
-pub IsTraced-short : (hex : Bool) (first now old new : Option (List ℕ)) (at : Progress) → IsTraced hex first now old new at
-    → IsAtEnd now → list_any is_long_line (lines_from at.front []) ≡ false → IfSome first (λ text. has_long_line text ≡ false)
+pub IsTraced-short : (hex : Bool) (first now old new : Option (List ℕ)) (at : Progress)
+    → IsTraced hex first now old new at
+    → IsAtEnd now → list_any is_long_line (lines_from at.front []) ≡ false
+    → IfSome first (λ text. has_long_line text ≡ false)
 IsTraced-short hex first now old new at x end short =
     Consumes-whole first now x.seen (λ text. has_long_line text ≡ false) x.read end
     (ap (λ (text : List ℕ). list_any is_long_line (lines_from [] text)) (sym (append-nil x.seen))
@@ -102,14 +110,16 @@ IsTraced-part hex first now later old then new at piece x read begun =
     known_then first later (x.seen ++ piece) (λ text. AppendsBeginning old new (trace_told hex text))
     (Consumes-trans first now later x.seen piece x.read read)
     (λ more.
-    beginning-after old then new x.told (told_behind hex at (piece ++ more)) [] (trace_told hex ((x.seen ++ piece) ++ more))
+    beginning-after old then new x.told (told_behind hex at (piece ++ more)) []
+    (trace_told hex ((x.seen ++ piece) ++ more))
     x.written (begun more)
     (ap (λ (text : List ℕ). x.told ++ text) (append-nil (told_behind hex at (piece ++ more)))
     ∙ sym (Takes-tells hex start at x.seen x.told x.takes (piece ++ more))
     ∙ ap (λ (text : List ℕ). told_behind hex start text) (sym (append_assoc x.seen piece more))))
 
 -- it ended where all that was read is told
-pub IsTraced-begun : (hex : Bool) (first now old new : Option (List ℕ)) (at : Progress) → IsTraced hex first now old new at
+pub IsTraced-begun : (hex : Bool) (first now old new : Option (List ℕ)) (at : Progress)
+    → IsTraced hex first now old new at
     → IfSome first (λ text. AppendsBeginning old new (trace_told hex text))
 IsTraced-begun hex first now old new at x =
     known_then first now x.seen (λ text. AppendsBeginning old new (trace_told hex text)) x.read
@@ -137,19 +147,23 @@ written_part hex old new a b piece before after written empty same t begun more 
     )
 
 -- on Ok, and on Err, of the last line
-pub whole-on_ok : {T E : Type 0} (r : Result T E) (hex : Bool) (first now old then new : Option (List ℕ)) (at : Progress)
+pub whole-on_ok : {T E : Type 0} (r : Result T E) (hex : Bool) (first now old then new : Option (List ℕ))
+    (at : Progress)
     → IsTraced hex first now old then at → IsAtEnd now → OnOk r (Appends then new (told_behind hex at []))
     → OnOk r (IfSome first (λ text. Appends old new (trace_told hex text)))
-whole-on_ok (Ok x) hex first now old then new at traced end last = IsTraced-whole hex first now old then new at traced end last
+whole-on_ok (Ok x) hex first now old then new at traced end last =
+    IsTraced-whole hex first now old then new at traced end last
 whole-on_ok (Err e) hex first now old then new at traced end last = tt
 
 pub short-on_ok : {T E : Type 0} (r : Result T E) (hex : Bool) (first now old then : Option (List ℕ)) (at : Progress)
     → IsTraced hex first now old then at → IsAtEnd now → OnOk r (list_any is_long_line (lines_from at.front []) ≡ false)
     → OnOk r (IfSome first (λ text. has_long_line text ≡ false))
-short-on_ok (Ok x) hex first now old then at traced end short = IsTraced-short hex first now old then at traced end short
+short-on_ok (Ok x) hex first now old then at traced end short =
+    IsTraced-short hex first now old then at traced end short
 short-on_ok (Err e) hex first now old then at traced end short = tt
 
-pub part-on_err : {T E : Type 0} (r : Result T E) (hex : Bool) (first now old then new : Option (List ℕ)) (at : Progress)
+pub part-on_err : {T E : Type 0} (r : Result T E) (hex : Bool) (first now old then new : Option (List ℕ))
+    (at : Progress)
     → IsTraced hex first now old then at → IsAtEnd now → OnErr r (AppendsBeginning then new (told_behind hex at []))
     → OnErr r (IfSome first (λ text. AppendsBeginning old new (trace_told hex text)))
 part-on_err (Ok x) hex first now old then new at traced end last = tt
@@ -161,12 +175,14 @@ on_err_of (Ok x) P so = tt
 on_err_of (Err e) P so = so
 
 -- a read that gave nothing came to the end
-pub at_end : (now later : Option (List ℕ)) (bytes : List ℕ) → Consumes now later bytes → bytes ≡ [] → IsAtEnd later → IsAtEnd now
+pub at_end : (now later : Option (List ℕ)) (bytes : List ℕ) → Consumes now later bytes → bytes ≡ [] → IsAtEnd later
+    → IsAtEnd now
 at_end None later bytes read none end = tt
 at_end (Some xs) None bytes read none end = absurd read
 at_end (Some xs) (Some ys) bytes read none end = read ∙ ap (λ (zs : List ℕ). zs ++ ys) none ∙ end
 
-pub read_nothing : {E : Type 0} (r : Result ℕ E) (first now later : Option (List ℕ)) (n : ℕ) (buf : List ℕ) → Consumes first now []
+pub read_nothing : {E : Type 0} (r : Result ℕ E) (first now later : Option (List ℕ)) (n : ℕ) (buf : List ℕ)
+    → Consumes first now []
     → ReadConsumes now later r buf → r ≡ Ok n → n ≡ 0 → 0 < length buf → IsAtEnd first
 read_nothing {E} r first now later n buf none read is zero room =
     let P : Result ℕ E → Type 0 = λ x. ReadConsumes {E = E} now later x buf in
@@ -176,13 +192,15 @@ read_nothing {E} r first now later n buf none read is zero room =
 
 -- what a read answered
 pub end_read : (read : Option ℕ) (now later : Option (List ℕ)) (piece : List ℕ)
-    → MatchOption read (IsAtEnd now) (λ count. (count ≤ length piece) × Consumes now later (take count piece)) → read ≡ None
+    → MatchOption read (IsAtEnd now) (λ count. (count ≤ length piece) × Consumes now later (take count piece))
+    → read ≡ None
     → IsAtEnd now
 end_read None now later piece said is = said
 end_read (Some n) now later piece said is = absurd (cc is)
 
 pub piece_read : (read : Option ℕ) (n : ℕ) (now later : Option (List ℕ)) (piece front : List ℕ)
-    → MatchOption read (IsAtEnd now) (λ count. (count ≤ length piece) × Consumes now later (take count piece)) → read ≡ Some n
+    → MatchOption read (IsAtEnd now) (λ count. (count ≤ length piece) × Consumes now later (take count piece))
+    → read ≡ Some n
     → front ≡ take n piece → Consumes now later front
 piece_read None n now later piece front said is at = absurd (cc is)
 piece_read (Some m) n now later piece front said is at =

@@ -16,7 +16,8 @@ pub beginning-all : (old new : Option (List ℕ)) (text more whole : List ℕ) �
 beginning-all old new text more whole written all = (text, more, all, written)
 
 -- a text, and then a beginning of the next
-pub beginning-after : (a b c : Option (List ℕ)) (front text more whole : List ℕ) → Appends a b front → AppendsBeginning b c text
+pub beginning-after : (a b c : Option (List ℕ)) (front text more whole : List ℕ) → Appends a b front
+    → AppendsBeginning b c text
     → front ++ (text ++ more) ≡ whole → AppendsBeginning a c whole
 beginning-after a b c front text more whole written begun all =
     let begin = begun.0 in

@@ -46,7 +46,8 @@ some_bytes (Err e) = None
 
 -- what hex digits spell, two of either case for each byte, and at least one byte
 unfoldable pub piece_of_digits : List ℕ → List ℕ → Option PieceView
-piece_of_digits mark digits = option_map (λ bytes. record { mark = mark; bytes = bytes }) (some_bytes (decode_of digits))
+piece_of_digits mark digits = option_map (λ bytes. record { mark = mark; bytes = bytes })
+    (some_bytes (decode_of digits))
 
 -- Digits alone; the name of a line and digits, as the hub's frames are printed; or `BYTES`, a name and digits, as a
 -- script gives what comes in.

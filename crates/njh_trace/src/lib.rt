@@ -1,5 +1,5 @@
-//! What a trace says in words. A trace is the record of what went over the lines of a hub: a script, which gives what
-//! comes in, the frames that a replay printed, or bare hexadecimal digits.
+//! What a trace says in words. A trace is the record of what went over the lines of a hub: a
+//! script, which gives what comes in, the frames that a replay printed, or bare hexadecimal digits.
 //!
 //!     a1 in: ENQ
 //!     a1 out: block 0, on: SYSIN 1 SYSOUT 1 messages

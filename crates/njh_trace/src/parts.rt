@@ -5,7 +5,8 @@ ghost use Rattle.std.specs.List.{slice_split};
 
 use memchr::memchr;
 
-/// What stands before the first of a byte in a text and what stands behind it, or nothing where the byte isn't there.
+/// What stands before the first of a byte in a text and what stands behind it, or nothing where the
+/// byte isn't there.
 pub(crate) fn parted(text: &[u8], byte: u8) -> Option<(&[u8], &[u8])>
     ensures parts { MatchOption result (All (λ b. (b == byte) ≡ false) text.now)
         (λ parts. (text.now ≡ parts.0.now ++ byte ∷ parts.1.now) × All (λ b. (b == byte) ≡ false) parts.0.now) }

@@ -73,7 +73,8 @@ impl Reading {
         Ok(())
     }
 
-    /// Takes a piece up to the end of a line, and answers what stands behind that; or keeps all of it.
+    /// Takes a piece up to the end of a line, and answers what stands behind that; or keeps all of
+    /// it.
     fn read<'p>(&mut self, piece: &'p [u8]) -> Result<Option<&'p [u8]>, TraceFault>
         ensures lines { IfOk result (λ behind. (more : List ℕ) → MatchOption behind
             (lines_from self.old.front (piece.now ++ more) ≡ lines_from self.new.front more)

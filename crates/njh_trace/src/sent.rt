@@ -8,11 +8,11 @@ use crate::frames::put_frames;
 use njh_bisync::Deframer;
 use std::alloc::AllocError;
 
-/// Appends what `decode_trace` tells of a frame that the hub sends on a line of this name, each line of words ended by
-/// 0A. The bytes are those of the whole frame, and of nothing else.
+/// Appends what `decode_trace` tells of a frame that the hub sends on a line of this name, each
+/// line of words ended by 0A. The bytes are those of the whole frame, and of nothing else.
 ///
-/// The deframer is room for the frame's text, and what it has is dropped. Want of memory is the only refusal; then a
-/// part may have been appended.
+/// The deframer is room for the frame's text, and what it has is dropped. Want of memory is the
+/// only refusal; then a part may have been appended.
 pub fn put_sent_frame(
     lines: &mut Vec<u8>,
     deframer: &mut Deframer,

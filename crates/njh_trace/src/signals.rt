@@ -5,7 +5,8 @@ ghost use Rattle.njh_trace.specs.Pieces.{is_signal, signalled, signalled_of_word
 
 use crate::parts::parted;
 
-/// The name of the line of the hub of which a line of the trace tells a tick, a garbled block or a loss.
+/// The name of the line of the hub of which a line of the trace tells a tick, a garbled block or a
+/// loss.
 #[tactic(auto, unfolding(crate::specs::Pieces::signalled))]
 pub(crate) fn signalled(line: &[u8]) -> Option<&[u8]>
     ensures { option_map (λ name. name.now) result ≡ signalled line.now }

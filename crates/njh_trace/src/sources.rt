@@ -1,6 +1,7 @@
 //! Where the bytes of a trace come from.
 
-ghost use Rattle.std.specs.Prelude.{◌≡◌, ◌∷◌, ◌++◌, ◌<◌, ◌≤◌, [], Some, length, take, map, bytes_eq, IfOk, IfSome, OnOk};
+ghost use Rattle.std.specs.Prelude.{◌≡◌, ◌∷◌, ◌++◌, ◌<◌, ◌≤◌, [], Some, length, take, map, bytes_eq, IfOk, IfSome};
+ghost use Rattle.std.specs.Prelude.{OnOk};
 ghost use Rattle.njh_bisync.specs.Reading.{Nothing};
 ghost use Rattle.njh_bisync.specs.ByteSteps.{frames_after, rest_after};
 ghost use Rattle.njh_trace.specs.Trace.{frames_told, line_as_it_is, line_told, sources_behind};
@@ -71,8 +72,8 @@ impl Source {
     }
 }
 
-/// The sources of a trace so far, each with what has come of a frame that isn't whole. They are those that came first,
-/// 512 at most: of more, as no hub has, each line is told by itself.
+/// The sources of a trace so far, each with what has come of a frame that isn't whole. They are
+/// those that came first, 512 at most: of more, as no hub has, each line is told by itself.
 ///
 /// A clause sees the list of them.
 #[derive(Drop)]
@@ -103,11 +104,13 @@ impl Sources {
         }
     }
 
-    /// Appends what a line of a trace says, each line of words ended by 0A. Of a line that gives bytes these are the
-    /// words of each frame that ends in them, behind the mark of its source, as `a1 in: `, and before them the line
-    /// itself where `hex` is wanted; any other line stands as it is.
+    /// Appends what a line of a trace says, each line of words ended by 0A. Of a line that gives
+    /// bytes these are the words of each frame that ends in them, behind the mark of its source, as
+    /// `a1 in: `, and before them the line itself where `hex` is wanted; any other line stands as
+    /// it is.
     ///
-    /// Want of memory is the only refusal; then a part may have been appended, and the bytes may have been taken.
+    /// Want of memory is the only refusal; then a part may have been appended, and the bytes may
+    /// have been taken.
     #[tactic(auto, unfolding(crate::specs::Trace::line_told, crate::specs::Trace::sources_behind))]
     pub fn take_line(
         &mut self,
@@ -162,7 +165,8 @@ impl Sources {
         push_within(&mut self.sources, source)
     }
 
-    /// Drops what isn't whole on the line of the hub of which a line tells a tick, a garbled block or a loss.
+    /// Drops what isn't whole on the line of the hub of which a line tells a tick, a garbled block
+    /// or a loss.
     #[tactic(auto, unfolding(crate::specs::Sources::sources_without))]
     fn drop_signalled(&mut self, line: &[u8])
         ensures { self.new ≡ sources_without (signalled line.now) self.old }
@@ -182,7 +186,8 @@ fn place_of(sources: &[Source], mark: &[u8]) -> Option<usize>
     sources.iter().position(|source| source.is_marked(mark))
 }
 
-/// The source at the place of its mark takes bytes, and appends what each frame says that ends in them.
+/// The source at the place of its mark takes bytes, and appends what each frame says that ends in
+/// them.
 fn take_at(
     sources: &mut [Source],
     place: usize,

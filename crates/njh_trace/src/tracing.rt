@@ -18,11 +18,13 @@ use std::io::{ErrorKind, Read, Write};
 /// How many bytes are asked for at once: 64 kB.
 const PIECE: usize = 65_536;
 
-/// Writes what a trace says, line by line: a line that gives bytes becomes the words of the frames that end in them,
-/// and any other line stands as it is. What the lines of a piece say is written before the next piece is read.
+/// Writes what a trace says, line by line: a line that gives bytes becomes the words of the frames
+/// that end in them, and any other line stands as it is. What the lines of a piece say is written
+/// before the next piece is read.
 ///
-/// It keeps 512 sources and a line of 1,048,576 bytes at most; of a longer line, and of what stands behind it in
-/// the trace, nothing is told. A read or a write that was only interrupted is tried again.
+/// It keeps 512 sources and a line of 1,048,576 bytes at most; of a longer line, and of what stands
+/// behind it in the trace, nothing is told. A read or a write that was only interrupted is tried
+/// again.
 pub fn decode_trace<R: Read, W: Write>(
     alloc: Global,
     input: &mut R,

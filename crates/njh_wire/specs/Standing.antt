@@ -1,5 +1,6 @@
 -- How a wire of a line stands, and what leads it from one standing to the next.
-use Rattle.std.specs.Prelude.{ℕ, ◌+◌, ◌-◌, slice_index_or, min, ◌==◌, if◌then◌else◌, ◌++◌, length, Bool, true, false, List, [], Option, Some}
+use Rattle.std.specs.Prelude.{ℕ, ◌+◌, ◌-◌, slice_index_or, min, ◌==◌, if◌then◌else◌, ◌++◌, length, Bool, true, false}
+use Rattle.std.specs.Prelude.{List, [], Option, Some}
 use Rattle.std.specs.Prelude.{None}
 use Rattle.njh_wire.specs.declared.end.End.{End}
 use Rattle.njh_wire.specs.declared.ending.Ending.{Ending}

@@ -12,7 +12,8 @@ pub data IsWithheld {C : Type 0} (moved : C → C → List ℕ → List ℕ → 
   -- who is connected gave bytes and was sent none
   gives :
       (s last : Standing C) (before after : C) (bytes : List ℕ) → s.connection ≡ Some before
-      → moved before after bytes [] → IsWithheld moved (record s { connection = Some after }) last → IsWithheld moved s last
+      → moved before after bytes [] → IsWithheld moved (record s { connection = Some after }) last
+      → IsWithheld moved s last
   -- the connection was dropped with what waited
   drops :
       (s last : Standing C) (parting : Parting) (end : End)

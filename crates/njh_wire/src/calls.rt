@@ -8,7 +8,8 @@ ghost use Rattle.njh_wire.specs.declared.end.Stop.TheVariants.{Full};
 use crate::connection::{Connection, ConnectionFault, ConnectionRead};
 use crate::end::Stop;
 
-/// Reads a connection until the buffer is full or nothing more comes, and answers how many bytes came and why no more.
+/// Reads a connection until the buffer is full or nothing more comes, and answers how many bytes
+/// came and why no more.
 fn receive_all<C: Connection>(connection: &mut C, into: &mut [u8]) -> (usize, Stop)
     ensures moved { C.moved connection.old connection.new (take result.0 into.new) [] }
     ensures within { result.0 ≤ length into.new }

@@ -23,7 +23,8 @@ pub trait Connection {
     ghost use Rattle.std.specs.Prelude.{ℕ, List};
     ghost use Rattle.njh_wire.specs.declared.end.Stop.{Stop};
 
-    /// Between these two states these bytes came in and these went out, each in order, and nothing else.
+    /// Between these two states these bytes came in and these went out, each in order, and nothing
+    /// else.
     ghost moved: { Self → Self → List ℕ → List ℕ → Type 0 };
 
     /// It came to this state by a read that said so why no more bytes come.
@@ -44,7 +45,8 @@ pub trait Connection {
         ensures stops { IsStop (stops self.new) result }
         ensures place { place_of self.new ≡ place_of self.old };
 
-    /// Sends as many of the bytes as go out now, and answers how many, 0 where none can. A fault sends none.
+    /// Sends as many of the bytes as go out now, and answers how many, 0 where none can. A fault
+    /// sends none.
     fn send(&mut self, bytes: &[u8]) -> Result<usize, ConnectionFault>
         ensures moved { moved self.old self.new [] (take (count_put_out result) bytes.now) }
         ensures within { IfOk result (λ count. count ≤ length bytes.now) }

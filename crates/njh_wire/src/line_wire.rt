@@ -5,7 +5,8 @@ ghost use Rattle.std.specs.Prelude.{IsOk, OnOk, OnErr, IfOk};
 ghost use Rattle.njh_hub.specs.Sent.{IsCounted};
 ghost use Rattle.njh_hub.specs.Wires.{IsReading};
 ghost use Rattle.njh_wire.specs.declared.end.End.TheVariants.{Failed};
-ghost use Rattle.njh_wire.specs.Standing.{first_standing, with_connection, without_connection, with_failure, given_up, due};
+ghost use Rattle.njh_wire.specs.Standing.{first_standing, with_connection, without_connection, with_failure, given_up};
+ghost use Rattle.njh_wire.specs.Standing.{due};
 ghost use Rattle.njh_wire.specs.Standing.{after_displacement, after_admission, after_close};
 ghost use Rattle.std.specs.Option.{option_map};
 ghost use Rattle.njh_wire.specs.Places.{IsAt, IsOwn};
@@ -30,7 +31,8 @@ pub const STALL_TIME: u64 = 1000;
 
 /// The wire of a line over connections that never wait, of which it has one at a time.
 ///
-/// It looks at no clock: who serves it sets its time and marks it when its connection has something to read.
+/// It looks at no clock: who serves it sets its time and marks it when its connection has something
+/// to read.
 #[derive(Drop)]
 pub struct LineWire<C: Connection + Drop> {
     place: usize,
@@ -75,8 +77,8 @@ impl<C: Connection + Drop> Model for LineWire<C> {
 }
 
 impl<C: Connection + Drop> LineWire<C> {
-    /// The wire of the line at this place. Nobody is connected on it. Takes the room for bytes that wait, and no
-    /// memory later; out of memory is the only refusal.
+    /// The wire of the line at this place. Nobody is connected on it. Takes the room for bytes that
+    /// wait, and no memory later; out of memory is the only refusal.
     pub fn new(alloc: Global, place: usize) -> Result<Self, AllocError>
         ensures { IfOk result (λ wire. wire ≡ first_standing place) }
     {
@@ -100,7 +102,8 @@ impl<C: Connection + Drop> LineWire<C> {
         })
     }
 
-    /// The place of its line among those that are served. Each connection that it has is of that line.
+    /// The place of its line among those that are served. Each connection that it has is of that
+    /// line.
     pub fn place(&self) -> usize
         ensures place { result ≡ self.now.place }
         ensures own { IsOwn C.place_of self.now }
@@ -115,8 +118,8 @@ impl<C: Connection + Drop> LineWire<C> {
         self.clock = now;
     }
 
-    /// Sets how many milliseconds without a byte are a quiet, from the silence on that has begun. At first they are
-    /// 100.
+    /// Sets how many milliseconds without a byte are a quiet, from the silence on that has begun.
+    /// At first they are 100.
     pub fn set_quiet(&mut self, milliseconds: u64)
         ensures { self.new ≡ record self.old { quiet = milliseconds } }
     {
@@ -138,8 +141,8 @@ impl<C: Connection + Drop> LineWire<C> {
         self.end.take()
     }
 
-    /// Takes a connection of its own line. Where there is one it is dropped, the next read answers that it is closed,
-    /// and then the new one is read.
+    /// Takes a connection of its own line. Where there is one it is dropped, the next read answers
+    /// that it is closed, and then the new one is read.
     pub fn connect(&mut self, connection: C)
         requires { C.place_of connection ≡ self.old.place }
         ensures { self.new ≡ after_admission connection (after_displacement self.old) }
@@ -170,8 +173,8 @@ impl<C: Connection + Drop> LineWire<C> {
         self.connection.is_some() || self.next.is_some()
     }
 
-    /// Whether the next read is to be made now, whatever the time: something may be there to read, or an end is to be
-    /// told.
+    /// Whether the next read is to be made now, whatever the time: something may be there to read,
+    /// or an end is to be told.
     pub fn is_ready(&self) -> bool
         ensures { IsTrue result ↔ ((self.now.waiting ≡ []) × (IsSome self.now.parting ⊎ IsOpen self.now)) }
     {
@@ -185,8 +188,9 @@ impl<C: Connection + Drop> LineWire<C> {
         !self.waiting.is_empty()
     }
 
-    /// When its next read can answer something other than `Pending` though nothing came, in milliseconds: at its next
-    /// quiet, or when bytes will have waited for a second. `u64::MAX` where nobody is connected.
+    /// When its next read can answer something other than `Pending` though nothing came, in
+    /// milliseconds: at its next quiet, or when bytes will have waited for a second. `u64::MAX`
+    /// where nobody is connected.
     pub fn deadline(&self) -> u64
         ensures waits { 0 < length self.now.waiting → result ≡ min (self.now.since + 1000) u64.MAX }
         ensures quiet { self.now.waiting ≡ [] → IsSome self.now.connection → result ≡ due self.now }
@@ -223,8 +227,8 @@ impl<C: Connection + Drop> LineWire<C> {
         self.clock.saturating_sub(self.silence.heard)
     }
 
-    /// Sends on what waits, as far as it goes now. Where that fails the connection is dropped, and the next read
-    /// answers a fault.
+    /// Sends on what waits, as far as it goes now. Where that fails the connection is dropped, and
+    /// the next read answers a fault.
     pub fn flush(&mut self)
         ensures idle { self.old.waiting ≡ [] → self.new ≡ self.old }
         ensures flushed { 0 < length self.old.waiting → IsFlushed C.moved self.old self.new }
@@ -304,7 +308,8 @@ impl<C: Connection + Drop> Wire for LineWire<C> {
     ghost use Rattle.njh_wire.specs.code.WithheldLaws.{withheld_then};
     ghost use Rattle.njh_wire.specs.Withheld.{IsWithheld, nothing};
 
-    // What passes is in the clauses of `read` and `write`; here, that it stays the wire of its line.
+    // What passes is in the clauses of `read` and `write`; here, that it stays the wire of its
+    // line.
     ghost passed = { λ before after acts. before.place ≡ after.place };
 
     ghost withheld = { λ before after. IsWithheld C.moved before after };

@@ -19,7 +19,8 @@ pub struct Readiness {
     pub writes: bool,
 }
 
-/// The sockets of a service, its clocks, and the wait for them. `place` is a line's place among those that are served.
+/// The sockets of a service, its clocks, and the wait for them. `place` is a line's place among
+/// those that are served.
 pub trait Network {
     ghost use Rattle.std.specs.Prelude.{ℕ};
     ghost use Rattle.std.specs.declared.net.socket_addr.SocketAddr.{SocketAddr};
@@ -41,7 +42,8 @@ pub trait Network {
         ensures address { IfOk result (λ listener. address_of listener ≡ address) }
         ensures place { IfOk result (λ listener. listener_place listener ≡ place) };
 
-    /// Takes a connection that waits, which is of the listener's line, and says of whom it is. `None`: nobody waits.
+    /// Takes a connection that waits, which is of the listener's line, and says of whom it is.
+    /// `None`: nobody waits.
     fn accept(
         &mut self,
         listener: &mut Self::Listener,
@@ -58,8 +60,8 @@ pub trait Network {
     fn is_connected(&mut self, connection: &mut Self::Connection) -> io::Result<bool>
         ensures place { Self.Connection.place_of connection.new ≡ Self.Connection.place_of connection.old };
 
-    /// Waits until something is ready, so many milliseconds at most, and marks what is ready of each line, by place.
-    /// Clears no mark.
+    /// Waits until something is ready, so many milliseconds at most, and marks what is ready of
+    /// each line, by place. Clears no mark.
     fn wait(&mut self, milliseconds: u64, ready: &mut [Readiness]) -> io::Result<()>;
 
     /// Milliseconds on a clock that never goes back.

@@ -1,7 +1,8 @@
 -- Whole runs: files that go out, and what keeps them from it.
 use Rattle.std.specs.Prelude.{ℕ, List, [], ◌∷◌, ◌++◌, refl}
 use Rattle.njh_customer.specs.declared.signal.Signal.TheVariants.{Tick, Lost}
-use Rattle.tests_customer.specs.Spelled.{hex, ebcdic, nodal_message, job_header, data_set_header, trailer, file_end, says}
+use Rattle.tests_customer.specs.Spelled.{hex, ebcdic, nodal_message, job_header, data_set_header, trailer, file_end}
+use Rattle.tests_customer.specs.Spelled.{says}
 use Rattle.tests_customer.specs.Spelled.{hears, text, block}
 use Rattle.tests_customer.specs.Played.{Plays, PlayedEvent, on, signal}
 use Rattle.tests_customer.specs.Samples.{

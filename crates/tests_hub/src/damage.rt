@@ -1,11 +1,12 @@
 //! Damaged input on a hub.
 //!
-//! `NAME.script` has the steps, and `NAME.out` what they do. A step is a line of the program's own scripts, or `CUT`,
-//! which is `BYTES` with a piece that is cut, or `SHOW`, which says how many blocks the first customer's files take,
-//! partial ones too, and lists the whole ones. The table of `README.md` says how many bytes the piece of a script's
-//! `CUT` has, 0 where there is none. A script with a `CUT` is played on a new hub for each place after which the
-//! piece is cut. What all these do is said once where the steps do the same after several places: `from N` begins
-//! what they do from the place N on.
+//! `NAME.script` has the steps, and `NAME.out` what they do. A step is a line of the program's own
+//! scripts, or `CUT`, which is `BYTES` with a piece that is cut, or `SHOW`, which says how many
+//! blocks the first customer's files take, partial ones too, and lists the whole ones. The table of
+//! `README.md` says how many bytes the piece of a script's `CUT` has, 0 where there is none. A
+//! script with a `CUT` is played on a new hub for each place after which the piece is cut. What all
+//! these do is said once where the steps do the same after several places: `from N` begins what
+//! they do from the place N on.
 
 use crate::trial::{A1, A2, bytes_of, of_hub, open};
 use njh_ebcdic::text_of;

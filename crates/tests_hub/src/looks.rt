@@ -1,5 +1,5 @@
-//! What is seen of a hub while a file comes in and goes out, of a file that is refused, and of a line whose peer falls
-//! silent.
+//! What is seen of a hub while a file comes in and goes out, of a file that is refused, and of a
+//! line whose peer falls silent.
 
 use crate::steps::{CONTACT, FILE, REQUEST, SIGN_ON};
 use crate::trial::{A1, A2, NOWHERE, bytes_of, of_hub};
@@ -22,7 +22,8 @@ const PERMISSION: &str = "1002808fcfa09900001026";
 
 const COMPLETION: &str = "1002818fcfc09900001026";
 
-/// LYON sends a file for PARIS, which nobody has, and then the rest of it; then it asks for another.
+/// LYON sends a file for PARIS, which nobody has, and then the rest of it; then it asks for
+/// another.
 const FOR_PARIS: &str = concat!(
     "1002818fcf99c0c20064a300c160a300c12ab200ccd7c1e8d9d6d3d340c1d5d5c184b800c4d3e8d6d584c4c1d5d5c184c4d4c5e3e98c00",
     "99e0c20018a300c8140000d7c1d9c9e283c4d7c1e4d38400001026"

@@ -1,7 +1,8 @@
-//! Tries a hub by itself, without the program, and prints what it did; the file `stdout` has that, written by hand.
+//! Tries a hub by itself, without the program, and prints what it did; the file `stdout` has that,
+//! written by hand.
 //!
-//! First come stored scripts of damaged input, then single steps and what is seen of a hub, two runs of which one has
-//! another customer, and lines of scripts.
+//! First come stored scripts of damaged input, then single steps and what is seen of a hub, two
+//! runs of which one has another customer, and lines of scripts.
 #![tactic(auto)]
 
 mod damage;

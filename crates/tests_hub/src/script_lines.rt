@@ -7,7 +7,8 @@ use std::alloc::Global;
 use std::io;
 use std::io::{ErrorKind, Read};
 
-/// Says how many of a text's lines are said as they are to be: each is followed by what is said of it.
+/// Says how many of a text's lines are said as they are to be: each is followed by what is said of
+/// it.
 pub fn say_each<R: Print + AllocGlobal>(rt: &R, tables: &str, text: &str) -> io::Result<()> {
     let tables = tables_of(rt.alloc(), tables)?;
     let said = say_lines(rt, &tables, text);
@@ -43,7 +44,8 @@ fn is_said(alloc: Global, tables: &Tables, line: &str, wanted: &str) -> io::Resu
 /// How many bytes a script may have.
 const LIMIT: u64 = 1_048_576;
 
-/// Says how replays of scripts end that are one character again and again: of the greatest length, and longer.
+/// Says how replays of scripts end that are one character again and again: of the greatest length,
+/// and longer.
 pub fn try_lengths<R: Print + AllocGlobal>(rt: &R, tables: &str) -> io::Result<()> {
     for (what, character, count) in [
         ("a comment", b'#', LIMIT),

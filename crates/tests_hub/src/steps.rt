@@ -23,7 +23,8 @@ const LIST: &str =
 /// A request for SYSOUT 1.
 pub const REQUEST: &str = "1002808fcf909900001026";
 
-/// Job 42 of ANNA at LYON to PAUL at METZ: job header, data set header, HELLO, trailer, end of file.
+/// Job 42 of ANNA at LYON to PAUL at METZ: job header, data set header, HELLO, trailer, end of
+/// file.
 pub const FILE: &str = concat!(
     "1002818fcf",
     "99c0c20064a300c160a300c12ab200ccd7c1e8d9d6d3d340c1d5d5c184b800c4d3e8d6d584c4c1d5d5c184c4d4c5e3e98c00",
@@ -119,7 +120,8 @@ pub fn take<R: Print + AllocGlobal>(rt: &R, hub: &mut Hub) -> io::Result<()> {
     take_signal(rt, hub, "lost", A1)
 }
 
-/// A step asks for memory where `out` has no room for the longest frame, of 8,196 bytes, and nowhere else.
+/// A step asks for memory where `out` has no room for the longest frame, of 8,196 bytes, and
+/// nowhere else.
 pub fn fit<R: Print + AllocGlobal>(rt: &R, hub: &mut Hub) -> io::Result<()> {
     for room in [8_195, 8_196] {
         take_within(rt, hub, room)?;
@@ -189,7 +191,8 @@ fn bytes_came(alloc: Global, digits: &str) -> Result<Event, AllocError> {
     Ok(Event::Bytes(A1, Piece::of(alloc, &bytes_of(alloc, digits)?)?))
 }
 
-/// A sink refuses the second frame: the run says so, with that step counted, and the hub goes on after it.
+/// A sink refuses the second frame: the run says so, with that step counted, and the hub goes on
+/// after it.
 pub fn refuse<R: Print + AllocGlobal>(rt: &R, hub: &mut Hub) -> io::Result<()> {
     count_files(rt, hub, 0)?;
     count_files(rt, hub, 2)?;

@@ -1,4 +1,5 @@
-//! Tests of the keeper of a hub's whole files: after each step what a killed program would leave is what the hub has.
+//! Tests of the keeper of a hub's whole files: after each step what a killed program would leave is
+//! what the hub has.
 #![tactic(auto)]
 
 #[cfg(test)]

@@ -3,7 +3,8 @@
 use njh_table::LineId;
 use std::alloc::{AllocError, Global};
 
-/// Both customers' hub is BUREAU, and both have LYON and METZ. Lines of ACME alone lead to NICE and to nowhere.
+/// Both customers' hub is BUREAU, and both have LYON and METZ. Lines of ACME alone lead to NICE and
+/// to nowhere.
 const TABLES: &str = r#"
 capacity = 4000
 [[customer]]

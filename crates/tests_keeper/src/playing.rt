@@ -1,4 +1,5 @@
-//! Plays what peers send, in words, on a hub whose files are kept after each step, and looks at what is kept.
+//! Plays what peers send, in words, on a hub whose files are kept after each step, and looks at
+//! what is kept.
 
 ghost use Rattle.std.specs.Prelude.{List, OnOk};
 ghost use Rattle.njh_hub.specs.Keeping.{LeadsHub};
@@ -27,11 +28,11 @@ const WITHOUT_NICE: &str = "# NICE has no route\n";
 
 /// Plays lines of words. Beside those of `encode` these are known:
 ///
-/// `# kill`: the program is killed and begins again, with all lines down.
-/// `# NICE has no route`, directly behind that: in this run no route leads to NICE.
-/// `# cut 20`: of the file that follows 20 blocks come, up to `# uncut`.
-/// `# ACME has LYON.42 TO METZ PAUL OUT 4 RECORDS READY, ..`: these whole files of the customer are kept. Then and
-/// before the program is killed all that is kept is what the hub has.
+/// `# kill`: the program is killed and begins again, with all lines down. `# NICE has no route`,
+/// directly behind that: in this run no route leads to NICE. `# cut 20`: of the file that follows
+/// 20 blocks come, up to `# uncut`. `# ACME has LYON.42 TO METZ PAUL OUT 4 RECORDS READY, ..`:
+/// these whole files of the customer are kept. Then and before the program is killed all that is
+/// kept is what the hub has.
 pub fn play(rt: &HostRuntime, name: &str, words: &str) -> Result<(), Fail> {
     let alloc = rt.alloc();
     let mut files = SpoolFiles::of(rt, name)?;
@@ -200,7 +201,8 @@ fn keep<K: Keeper>(keeper: &mut K, hub: &Hub, customer: u16) -> Result<(), KeepF
     keeper.settle()
 }
 
-/// Checks that what is kept is what the hub has, and that these files of a customer are, where they are given.
+/// Checks that what is kept is what the hub has, and that these files of a customer are, where they
+/// are given.
 fn check_kept(
     files: &SpoolFiles<'_>,
     hub: &Hub,

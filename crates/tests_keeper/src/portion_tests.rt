@@ -86,7 +86,8 @@ a1: sign on as LYON block 1024
 # ACME has LYON.2 TO METZ PAUL OUT 3003 RECORDS READY
 "#;
 
-/// The last records of a file, which many came before, its end, and a command that sends it elsewhere are in one block.
+/// The last records of a file, which many came before, its end, and a command that sends it
+/// elsewhere are in one block.
 const REROUTED: &str = r#"
 a1: contact
 a1: sign on as LYON block 1024

@@ -10,7 +10,8 @@ use std::test::Fail;
 /// A file has fewer records than this.
 const PLACES: u32 = 1 << 23;
 
-/// Checks that a customer has the same whole files on a hub that was opened from what is kept, in the same order.
+/// Checks that a customer has the same whole files on a hub that was opened from what is kept, in
+/// the same order.
 pub fn check_same(kept: &Hub, hub: &Hub, customer: u16, moment: &str) -> Result<(), Fail> {
     let count = hub.file_count(customer);
     let found = kept.file_count(customer);
@@ -44,7 +45,8 @@ pub fn check_same(kept: &Hub, hub: &Hub, customer: u16, moment: &str) -> Result<
     Ok(())
 }
 
-/// What is another in a file that is kept. It is Held where the file is, and nothing else of its state is kept.
+/// What is another in a file that is kept. It is Held where the file is, and nothing else of its
+/// state is kept.
 fn difference(found: &FileSummaryView, wanted: &FileSummaryView) -> Option<&'static str> {
     if found.name != wanted.name || found.owner != wanted.owner || found.kind != wanted.kind {
         return Some("name, owner or kind");

@@ -8,7 +8,8 @@ use std::alloc::{AllocError, Global};
 use std::process::Abort;
 use std::test::Fail;
 
-/// Each a message, and the command that it is in the hub's own words, or what is printed where it is none.
+/// Each a message, and the command that it is in the hub's own words, or what is printed where it
+/// is none.
 const MESSAGES: &str = "
 LIST => LIST
 list => LIST

@@ -6,7 +6,8 @@ use std::io;
 /// How ACME's lines begin: frames on its lines to its peers, and its files.
 const OWN: [&[u8]; 3] = [b"a1 ", b"a2 ", b"ACME "];
 
-/// Says whether ACME's lines of what is stored of a run are those of another. ACME's events are the same in both.
+/// Says whether ACME's lines of what is stored of a run are those of another. ACME's events are the
+/// same in both.
 pub fn compare<R: Print + AllocGlobal>(
     rt: &R,
     name: &str,

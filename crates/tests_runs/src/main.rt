@@ -1,9 +1,10 @@
-//! Tries the whole program on what is stored, and prints what came of it; the file `stdout` has that.
+//! Tries the whole program on what is stored, and prints what came of it; the file `stdout` has
+//! that.
 //!
-//! Each line of the table of `data/README.md` is a run: the words of the command line, what the program is given to
-//! read, what it must print, and its status. Then each option that the program's help tells of is looked for in the man
-//! page. Last it is the program itself on its own arguments, whose tables are refused, and ends as the program ends
-//! then.
+//! Each line of the table of `data/README.md` is a run: the words of the command line, what the
+//! program is given to read, what it must print, and its status. Then each option that the
+//! program's help tells of is looked for in the man page. Last it is the program itself on its own
+//! arguments, whose tables are refused, and ends as the program ends then.
 #![tactic(auto)]
 
 mod likeness;

@@ -91,8 +91,8 @@ enum End {
     Whole,
 }
 
-/// How a run ends: it must with the whole output, or, where a call failed, as one whose device fails, with a beginning
-/// of it.
+/// How a run ends: it must with the whole output, or, where a call failed, as one whose device
+/// fails, with a beginning of it.
 fn ends_so<P: Program>(
     alloc: Global,
     program: &P,

@@ -1,4 +1,5 @@
-//! The program, as all that tries it sees it: what it stands on, files and sockets, is named here alone.
+//! The program, as all that tries it sees it: what it stands on, files and sockets, is named here
+//! alone.
 
 use crate::streams::{Log, Run};
 use njh_program::{Failure, Spooling, carry_out};
@@ -13,8 +14,8 @@ pub trait Program {
     /// Does what the words ask for, over the streams of a run, and answers the status.
     fn run(&self, words: &[&str], run: &mut Run<'_>) -> io::Result<u8>;
 
-    /// Does what the own arguments of this very program ask for, over its own streams. Why it failed, if it did, goes to
-    /// `errors`.
+    /// Does what the own arguments of this very program ask for, over its own streams. Why it
+    /// failed, if it did, goes to `errors`.
     fn run_itself<E: Print>(&self, errors: &E) -> ExitCode;
 }
 

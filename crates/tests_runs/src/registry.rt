@@ -8,7 +8,8 @@ pub const FILE: &str = "README.md";
 /// A run of the registry.
 #[derive(Clone, Copy)]
 pub struct Entry<'a> {
-    /// Its name: `NAME.script` is what the program is given to read, and `NAME.out` what is told of it.
+    /// Its name: `NAME.script` is what the program is given to read, and `NAME.out` what is told of
+    /// it.
     pub name: &'a str,
     /// How it is tried.
     pub how: &'a str,

@@ -1,8 +1,8 @@
 //! The stored runs: the program with each, and what it says.
 //!
-//! `NAME.script` is what it is given to read, and `NAME.out` what it prints, with the log without its times and the line
-//! of its failure at the end; a file of tables is named by the arguments. `NAME.words`, where it is there, is what
-//! `decode` prints of `NAME.out`.
+//! `NAME.script` is what it is given to read, and `NAME.out` what it prints, with the log without
+//! its times and the line of its failure at the end; a file of tables is named by the arguments.
+//! `NAME.words`, where it is there, is what `decode` prints of `NAME.out`.
 
 use crate::program::Program;
 use crate::registry::{self, Entry, entry_of};
@@ -13,7 +13,8 @@ use std::alloc::Global;
 use std::rt::Files;
 use std::{fs, io};
 
-/// Says of each run whether it is as it is stored, and how many scripts `decode` and `encode` bring back.
+/// Says of each run whether it is as it is stored, and how many scripts `decode` and `encode` bring
+/// back.
 pub fn compare_all<R: Files + Print + AllocGlobal, P: Program>(
     rt: &R,
     program: &P,
@@ -37,8 +38,8 @@ fn stored<R: Files + AllocGlobal>(rt: &R, name: &str, ending: &str) -> io::Resul
     fs::read(rt, file.as_str())
 }
 
-/// Says whether a run is as it is stored, and so with all that is asked of it; answers whether it is a script that
-/// `decode` and `encode` bring back.
+/// Says whether a run is as it is stored, and so with all that is asked of it; answers whether it
+/// is a script that `decode` and `encode` bring back.
 fn compare<R: Files + Print + AllocGlobal, P: Program>(
     rt: &R,
     program: &P,
@@ -61,8 +62,8 @@ fn compare<R: Files + Print + AllocGlobal, P: Program>(
     Ok(false)
 }
 
-/// Says whether a run prints what is stored and ends with the status that is stored. The text for arguments that are
-/// refused is that of `clap`, and isn't compared.
+/// Says whether a run prints what is stored and ends with the status that is stored. The text for
+/// arguments that are refused is that of `clap`, and isn't compared.
 fn compare_run<R: Print + AllocGlobal, P: Program>(
     rt: &R,
     program: &P,
@@ -119,7 +120,8 @@ fn compare_words<R: Files + Print + AllocGlobal, P: Program>(
     }
 }
 
-/// Whether `encode` makes a script of what `decode --hex` says of it; the end of the last line may be new.
+/// Whether `encode` makes a script of what `decode --hex` says of it; the end of the last line may
+/// be new.
 fn is_brought<R: Print + AllocGlobal, P: Program>(
     rt: &R,
     program: &P,

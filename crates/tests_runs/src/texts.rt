@@ -17,7 +17,8 @@ pub fn first_difference(text: &[u8], wanted: &[u8]) -> Option<u64> {
     Some(number)
 }
 
-/// The number of the first line, of those that have a count and words, whose words don't stand so often in a text.
+/// The number of the first line, of those that have a count and words, whose words don't stand so
+/// often in a text.
 pub fn first_miscount(text: &[u8], wanted: &[u8]) -> Option<u64> {
     let mut number = 1u64;
     for line in wanted.split_inclusive(|byte| *byte == b'\n') {

@@ -15,8 +15,8 @@ files = 8
 line = [{ name = "a1", node = "LYON", role = "call", block = 1024, streams = 4, connect = "10.0.0.9:9000" }]
 "#;
 
-/// Dials come at once, a second after the first failure and after an end, and ten seconds after a further failure. One
-/// that isn't answered is given up after ten seconds.
+/// Dials come at once, a second after the first failure and after an end, and ten seconds after a
+/// further failure. One that isn't answered is given up after ten seconds.
 #[test]
 fn dials(rt: HostRuntime) -> Result<(), Fail> {
     let acts = [

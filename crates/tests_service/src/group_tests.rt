@@ -1,4 +1,5 @@
-//! More lines than are watched together: each is served as if it were alone, at the edges of each sixteen too.
+//! More lines than are watched together: each is served as if it were alone, at the edges of each
+//! sixteen too.
 
 use crate::listening_tests::CONTACT;
 use crate::play::play;
@@ -13,7 +14,8 @@ const CUSTOMERS: u16 = 4;
 /// How many lines each has.
 const EACH: u16 = 10;
 
-/// Adds tables of forty lines: the line at place P is P of its customer, which is P / 10, and listens at port P + 1.
+/// Adds tables of forty lines: the line at place P is P of its customer, which is P / 10, and
+/// listens at port P + 1.
 fn add_tables(text: &mut Vec<u8>) -> io::Result<()> {
     text.extend_from_slice(b"capacity = 400\n")?;
     for customer in 0..CUSTOMERS {
@@ -44,8 +46,9 @@ fn add_line(text: &mut Vec<u8>, place: u16) -> io::Result<()> {
     )
 }
 
-/// Peers of the first and the last line of each group are told, answered, asked again at the tick 2.5 seconds later, and
-/// let go, each at its own moment and while nothing happens on any other line.
+/// Peers of the first and the last line of each group are told, answered, asked again at the tick
+/// 2.5 seconds later, and let go, each at its own moment and while nothing happens on any other
+/// line.
 #[test]
 fn lines_at_the_edges(rt: HostRuntime) -> Result<(), Fail> {
     let acts = [

@@ -1,5 +1,5 @@
-//! Two hubs that are joined line to line: their session stays up for an hour, whoever calls and whoever dials, after a
-//! text that either sent last, and after a frame that was lost each way.
+//! Two hubs that are joined line to line: their session stays up for an hour, whoever calls and
+//! whoever dials, after a text that either sent last, and after a frame that was lost each way.
 
 use crate::joint::Joint;
 use crate::joint_network::{JointLog, JointNetwork};
@@ -21,7 +21,8 @@ const SENDS: u64 = 600_000;
 /// When a frame of the first hub is lost, and when one of the second.
 const LOSSES: [u64; 2] = [1_200_000, 1_800_000];
 
-/// More steps than an hour takes, with a quiet of each hub every tenth of a second and four steps a quiet.
+/// More steps than an hour takes, with a quiet of each hub every tenth of a second and four steps a
+/// quiet.
 const STEPS: u32 = 400_000;
 
 /// LYON makes contact and signs on; ANNA there asks HUBB for LIST, which sends its reply as a text.
@@ -31,15 +32,16 @@ const LIST: &[u8] =
     \x00\x10\x26\x10\x02\x80\x8f\xcf\x9a\x80\xc8\xa0\x77\x00\x04\xc8\xe4\xc2\xc2\x84\xc5\x00\
     \xc1\xd5\xd5\xc1\x84\xc4\xd3\xe8\xd6\xd5\x84\xc5\x00\xd3\xc9\xe2\xe3\x00\x00\x10\x26";
 
-/// LYON makes contact and signs on; ANNA there says HI to PAUL at HUBB, which has nothing to say to that.
+/// LYON makes contact and signs on; ANNA there says HI to PAUL at HUBB, which has nothing to say to
+/// that.
 const MESSAGE: &[u8] =
     b"\x01\x2d\x10\x02\xa0\x8f\xcf\xf0\xc9\x29\xd3\xe8\xd6\xd5\x40\x40\x40\x40\x01\x00\x00\x00\x00\x00\
     \x00\x04\x00\x40\x40\x40\x40\x40\x40\x40\x40\x40\x40\x40\x40\x40\x40\x40\x40\x00\x00\x00\x00\x00\
     \x00\x10\x26\x10\x02\x80\x8f\xcf\x9a\x80\xc8\x20\x77\x00\x02\xc8\xe4\xc2\xc2\x84\xc5\x00\
     \xd7\xc1\xe4\xd3\x84\xc4\xd3\xe8\xd6\xd5\x84\xc3\x00\xc8\xc9\x00\x00\x10\x26";
 
-/// What the tables of the first hub have of their own: its name, the other one's, its line to LYON, and that line where
-/// it isn't the one to the other hub.
+/// What the tables of the first hub have of their own: its name, the other one's, its line to LYON,
+/// and that line where it isn't the one to the other hub.
 const FIRST: [&str; 4] = [
     "HUBA",
     "HUBB",

@@ -1,11 +1,13 @@
-//! Two hubs that are joined by a line in memory, their clock, and a peer on a further line of the first hub.
+//! Two hubs that are joined by a line in memory, their clock, and a peer on a further line of the
+//! first hub.
 
 ghost use Rattle.std.specs.Prelude.{◌≤◌, length};
 
 use std::alloc::Global;
 use std::cell::{Cell, RefCell};
 
-/// By how much the second hub's clock is ahead, in milliseconds: the hubs' moments don't fall together.
+/// By how much the second hub's clock is ahead, in milliseconds: the hubs' moments don't fall
+/// together.
 const AHEAD: u64 = 3;
 
 /// The place of the line that joins the hubs, at both ends.
@@ -131,7 +133,8 @@ impl Joint {
         }
     }
 
-    /// Where nothing moved since this was last called, lets the time pass until a hub waits no longer.
+    /// Where nothing moved since this was last called, lets the time pass until a hub waits no
+    /// longer.
     pub fn pass(&self) {
         if self.moves.replace(false) {
             return;
@@ -147,7 +150,8 @@ impl Joint {
         self.other(number).waits.set(true);
     }
 
-    /// Whether somebody waited to be accepted on the line between the hubs, and now doesn't any more.
+    /// Whether somebody waited to be accepted on the line between the hubs, and now doesn't any
+    /// more.
     pub fn accept(&self, number: usize) -> bool {
         self.moves.set(true);
         self.end(number).waits.replace(false)

@@ -1,5 +1,5 @@
-//! Lines that listen: what becomes of silent peers, of peers that wait, stall or send no more, and of the others
-//! meanwhile.
+//! Lines that listen: what becomes of silent peers, of peers that wait, stall or send no more, and
+//! of the others meanwhile.
 
 use crate::play::{add_text, play};
 use crate::world::{Act, Happens, at};
@@ -53,8 +53,8 @@ const ALL: Act = Act::Sends(
     \xc1\xd5\xd5\xc1\x84\xc4\xd3\xe8\xd6\xd5\x84\xc5\x00\xd3\xc9\xe2\xe3\x00\x00\x10\x26",
 );
 
-/// A session up that falls silent is asked five times, two and a half seconds apart since the hub answers; then it is
-/// down and its connection is closed, and the next peer is answered.
+/// A session up that falls silent is asked five times, two and a half seconds apart since the hub
+/// answers; then it is down and its connection is closed, and the next peer is answered.
 #[test]
 fn silence_ends_after_five_tries(rt: HostRuntime) -> Result<(), Fail> {
     let acts = [
@@ -167,8 +167,8 @@ fn another_takes_the_place_after_five_tries(rt: HostRuntime) -> Result<(), Fail>
     play(&rt, rt.alloc(), TABLES, &acts, 14_500, wanted)
 }
 
-/// A peer that takes half an answer and no more is dropped a second later, and who waits gets in; the other line
-/// answers at once.
+/// A peer that takes half an answer and no more is dropped a second later, and who waits gets in;
+/// the other line answers at once.
 #[test]
 fn peer_that_stalls(rt: HostRuntime) -> Result<(), Fail> {
     let acts = [
@@ -241,7 +241,8 @@ fn reset_in_a_frame(rt: HostRuntime) -> Result<(), Fail> {
     play(&rt, rt.alloc(), TABLES, &acts, 2700, wanted)
 }
 
-/// Where an answer fails to go out the hub hears of it first: the session goes down, and then the end is told.
+/// Where an answer fails to go out the hub hears of it first: the session goes down, and then the
+/// end is told.
 #[test]
 fn answer_that_fails(rt: HostRuntime) -> Result<(), Fail> {
     let acts = [
@@ -267,7 +268,8 @@ fn answer_that_fails(rt: HostRuntime) -> Result<(), Fail> {
     play(&rt, rt.alloc(), TABLES, &acts, 2700, wanted)
 }
 
-/// A silent line that was only contacted has its ticks two and a half seconds apart, whatever comes on another line.
+/// A silent line that was only contacted has its ticks two and a half seconds apart, whatever comes
+/// on another line.
 #[test]
 fn silence_beside_a_busy_line(rt: HostRuntime) -> Result<(), Fail> {
     let mut acts = Vec::new(rt.alloc());

@@ -41,8 +41,8 @@ const TURNS: u32 = 100;
 /// More turns than fill the buffers of a connection and pass a second.
 const MANY: u32 = 1_000_000;
 
-/// One line's peer closes, connects again, takes no answer until it is dropped, and connects again. All the while the
-/// other line's peer is answered.
+/// One line's peer closes, connects again, takes no answer until it is dropped, and connects again.
+/// All the while the other line's peer is answered.
 #[test]
 fn closes_stalls_and_connects_again(rt: HostRuntime) -> Result<(), Fail> {
     let tables = Tables::read(rt.alloc(), TABLES)?;
@@ -135,7 +135,8 @@ fn is_taken(peer: &mut TcpStream, bytes: &[u8]) -> io::Result<bool> {
     }
 }
 
-/// The answer that has come, if one has. What isn't two bytes is no answer, and counts as two of 00.
+/// The answer that has come, if one has. What isn't two bytes is no answer, and counts as two of
+/// 00.
 fn heard(peer: &mut TcpStream) -> io::Result<Option<[u8; 2]>> {
     let mut answer = [0; 2];
     match peer.read(&mut answer) {
@@ -154,8 +155,8 @@ fn is_early(kind: ErrorKind) -> bool {
     }
 }
 
-/// A peer of the first line sends contacts and reads no answer. Says whether it was dropped, and the other line's peer
-/// answered all the while.
+/// A peer of the first line sends contacts and reads no answer. Says whether it was dropped, and
+/// the other line's peer answered all the while.
 fn stalls<H: Rounds, R: Net>(rt: &R, hub: &mut H, other: &mut TcpStream) -> io::Result<bool> {
     let mut peer = connect(rt, 1, 27521)?;
     let flood = [[0x01, 0x2d]; FLOOD];

@@ -13,8 +13,8 @@ use std::net::{IpAddr, Ipv4Addr};
 use std::process::Abort;
 use std::test::Fail;
 
-/// How many rounds a second of a service may take, where each of its lines is due ten times and something happens fifty
-/// times.
+/// How many rounds a second of a service may take, where each of its lines is due ten times and
+/// something happens fifty times.
 const ROUNDS: u64 = 100;
 
 /// Plays what happens up to a moment on a service of these tables, and compares what is seen.

@@ -1,4 +1,5 @@
-//! A service that is made, lent and dropped in one place, over whatever network: nothing else names its type.
+//! A service that is made, lent and dropped in one place, over whatever network: nothing else names
+//! its type.
 
 use njh_hub::{Attendant, KeepsNothing, Wire};
 use njh_serve::{Service, Station, service_on};

@@ -13,10 +13,11 @@ use std::test::Fail;
 /// A peer makes contact, LYON signs on, and ANNA asks for LIST, each in one read.
 const STEPS: &str = "contact sign-on list";
 
-/// The step at which a keeper fails, and the settling; how many bytes of what LYON is told are written on a1 in five
-/// turns, and how often each of both wires is read. The keeper follows each step, in the order of the turns, before the
-/// step's frame is written: contact on both wires, the sign-on on both, LIST on a1. It settles once a round, behind the
-/// turns of both wires. Where it fails the frame of that step isn't written, and no wire is read after it.
+/// The step at which a keeper fails, and the settling; how many bytes of what LYON is told are
+/// written on a1 in five turns, and how often each of both wires is read. The keeper follows each
+/// step, in the order of the turns, before the step's frame is written: contact on both wires, the
+/// sign-on on both, LIST on a1. It settles once a round, behind the turns of both wires. Where it
+/// fails the frame of that step isn't written, and no wire is read after it.
 const FAILURES: [([u32; 2], usize, [u32; 2]); 10] = [
     ([1, 0], 0, [1, 0]),
     ([2, 0], 2, [1, 1]),
@@ -69,7 +70,8 @@ fn nothing_is_done_unkept(rt: HostRuntime) -> Result<(), Fail> {
     Ok(())
 }
 
-/// Where it fails to settle the attendant doesn't come after the round, so what was written isn't let out.
+/// Where it fails to settle the attendant doesn't come after the round, so what was written isn't
+/// let out.
 #[test]
 fn nothing_is_let_out_unsettled(rt: HostRuntime) -> Result<(), Fail> {
     let mut keeper = MemoryKeeper::new(0, 1);
@@ -91,8 +93,8 @@ fn nothing_is_let_out_unsettled(rt: HostRuntime) -> Result<(), Fail> {
     Ok(())
 }
 
-/// New routes, and a keeper that fails behind them: how often it followed and settled. No wire is read, and the
-/// attendant isn't told.
+/// New routes, and a keeper that fails behind them: how often it followed and settled. No wire is
+/// read, and the attendant isn't told.
 fn routes_fail<R: Abort>(
     rt: &R,
     alloc: Global,

@@ -1,5 +1,5 @@
-//! Tests of turns and of a service over wires in memory, with a keeper and an attendant in memory; and of the wire of a
-//! line, over connections in memory and a clock of its own.
+//! Tests of turns and of a service over wires in memory, with a keeper and an attendant in memory;
+//! and of the wire of a line, over connections in memory and a clock of its own.
 #![tactic(auto)]
 
 #[cfg(test)]

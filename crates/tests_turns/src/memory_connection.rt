@@ -6,8 +6,8 @@ ghost use Rattle.njh_wire.specs.Moved.{IsReceived};
 use njh_wire::{Connection, ConnectionFault, ConnectionRead};
 use std::cell::Cell;
 
-/// The other end of a connection. All bytes count up from 0, modulo 256, so that one that is lost or comes too early
-/// shows.
+/// The other end of a connection. All bytes count up from 0, modulo 256, so that one that is lost
+/// or comes too early shows.
 #[derive(Drop)]
 pub struct Peer {
     /// How many bytes are there to read, and whether then the end is.

@@ -26,9 +26,9 @@ pub struct MemoryWire {
 }
 
 impl MemoryWire {
-    /// A wire with these steps: `contact`, `sign-on`, `list`, or `all` three in one; `half` of the sign-on; `pending`,
-    /// `closed` and `absent`; `fails`. Any other word is a quiet, and so is what comes behind the last. The write of
-    /// this number fails, from 1 on; 0 is none.
+    /// A wire with these steps: `contact`, `sign-on`, `list`, or `all` three in one; `half` of the
+    /// sign-on; `pending`, `closed` and `absent`; `fails`. Any other word is a quiet, and so is
+    /// what comes behind the last. The write of this number fails, from 1 on; 0 is none.
     pub fn new(steps: &'static str, broken_write: u32) -> MemoryWire {
         MemoryWire {
             steps,

@@ -39,8 +39,8 @@ fn quiet_wires() -> [MemoryWire; 2] {
     ]
 }
 
-/// A service of the quiet wires: so many rounds, then so many more; what is sent on each of them, and how often it is
-/// read.
+/// A service of the quiet wires: so many rounds, then so many more; what is sent on each of them,
+/// and how often it is read.
 fn attend_quiet<R: Abort>(
     rt: &R,
     alloc: Global,
@@ -57,7 +57,8 @@ fn attend_quiet<R: Abort>(
     Ok(())
 }
 
-/// The tenth quiet is a tick, whatever call of the service it falls in; after a contact it is answered by NAK.
+/// The tenth quiet is a tick, whatever call of the service it falls in; after a contact it is
+/// answered by NAK.
 #[test]
 fn quiets_outlive_a_call(rt: HostRuntime) -> Result<(), Fail> {
     let mut attendant = MemoryAttendant::new(None);
@@ -82,8 +83,8 @@ fn quiets_outlive_a_call(rt: HostRuntime) -> Result<(), Fail> {
     Ok(())
 }
 
-/// A service with an attendant that brings a route to METZ on a line: how often it is told that routes were given, and
-/// the refusal that it is told.
+/// A service with an attendant that brings a route to METZ on a line: how often it is told that
+/// routes were given, and the refusal that it is told.
 fn bring<R: Abort>(
     rt: &R,
     alloc: Global,
@@ -98,8 +99,8 @@ fn bring<R: Abort>(
     Ok(())
 }
 
-/// Routes are given before the first round; those on a line of another customer are refused. Each is told to the
-/// attendant.
+/// Routes are given before the first round; those on a line of another customer are refused. Each
+/// is told to the attendant.
 #[test]
 fn routes_are_given_once(rt: HostRuntime) -> Result<(), Fail> {
     let cause = TableFault::UnknownLine;
@@ -127,8 +128,9 @@ fn pause<R: Abort>(
     attend_quiet(rt, alloc, &mut attendant, rounds, sent, reads)
 }
 
-/// The first wire is passed over in five rounds, after two quiets: these count, those five rounds don't. Its tenth quiet
-/// is in round 16; that of the other wire, which is pending once, is in round 12.
+/// The first wire is passed over in five rounds, after two quiets: these count, those five rounds
+/// don't. Its tenth quiet is in round 16; that of the other wire, which is pending once, is in
+/// round 12.
 #[test]
 fn quiets_outlive_a_pause(rt: HostRuntime) -> Result<(), Fail> {
     let both = [ACK0_AND_NAK, ACK0_AND_NAK];
@@ -143,7 +145,8 @@ fn quiets_outlive_a_pause(rt: HostRuntime) -> Result<(), Fail> {
     pause(&rt, rt.alloc(), [4, 9], [8, 8], both, [11, 16])
 }
 
-/// What came on a wire that is passed over waits there until it is due; the other wire is read in each round.
+/// What came on a wire that is passed over waits there until it is due; the other wire is read in
+/// each round.
 #[test]
 fn bytes_wait_while_a_wire_is_passed_over(rt: HostRuntime) -> Result<(), Fail> {
     pause(&rt, rt.alloc(), [1, 4], [2, 1], [b"", ACK0], [0, 3])?;

@@ -56,7 +56,8 @@ fn opened(alloc: Global) -> Result<Hub, Fail> {
     Ok(Hub::open(alloc, tables)?)
 }
 
-/// So many turns of wires of both lines, on a hub that is opened for them. Answers what the turns answer.
+/// So many turns of wires of both lines, on a hub that is opened for them. Answers what the turns
+/// answer.
 pub fn serve<R: Abort>(
     rt: &R,
     alloc: Global,
@@ -81,8 +82,8 @@ fn serve_on<R: Abort>(
     serve_turns(alloc, hub, keeper, wires, &LINES, turns)
 }
 
-/// A service of wires of both lines, on a hub that is opened for them: so many rounds, and then so many more. Answers
-/// what the service answers.
+/// A service of wires of both lines, on a hub that is opened for them: so many rounds, and then so
+/// many more. Answers what the service answers.
 pub fn attend_twice<R: Abort>(
     rt: &R,
     alloc: Global,

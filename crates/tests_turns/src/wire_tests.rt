@@ -8,10 +8,11 @@ use std::alloc::Global;
 use std::process::Abort;
 use std::test::Fail;
 
-/// The steps of a wire, how many turns there are, and the frames that are sent. A closed line has no session and no half
-/// of a frame: only a new contact is answered. After a contact a tick is answered by NAK. The tenth quiet in a row is
-/// one, and then the count begins anew. A pending answer is no event, and leaves the count as it is; that nobody is there
-/// is no event, and ends the row.
+/// The steps of a wire, how many turns there are, and the frames that are sent. A closed line has
+/// no session and no half of a frame: only a new contact is answered. After a contact a tick is
+/// answered by NAK. The tenth quiet in a row is one, and then the count begins anew. A pending
+/// answer is no event, and leaves the count as it is; that nobody is there is no event, and ends
+/// the row.
 static STEPS: [(&str, u32, &[u8]); 8] = [
     (
         "contact half closed sign-on contact",
@@ -51,7 +52,8 @@ fn frames_of_steps(rt: HostRuntime) -> Result<(), Fail> {
     Ok(())
 }
 
-/// A read or a write of a wire fails: it is counted once, and the other wire sends what it sends without that.
+/// A read or a write of a wire fails: it is counted once, and the other wire sends what it sends
+/// without that.
 fn fail<R: Abort>(rt: &R, alloc: Global, wire: MemoryWire) -> Result<(), Fail> {
     let mut wires = [wire, MemoryWire::new("contact sign-on list", 0)];
     serve(rt, alloc, &mut MemoryKeeper::new(0, 0), &mut wires, 5)??;

@@ -10,7 +10,8 @@ pub record OpenBlock : Type 0 where
   pub items : List Item
 
 -- These records were put, whatever follows them: the blocks that are full went out.
-pub record Puts (name : List ℕ) (old : OpenBlock) (items : List Item) (new : OpenBlock) (script grown : List ℕ) : Type 0 where
+pub record Puts (name : List ℕ) (old : OpenBlock) (items : List Item) (new : OpenBlock) (script grown : List ℕ) : Type
+    0 where
   pub full : List Block
   pub blocks : (next : List Item) → packed old.state old.items (items ++ next) ≡ full ++ packed new.state new.items next
   pub counts : new.state ≡ counted_by full old.state

@@ -35,8 +35,9 @@ impl Hub {
         Ok(&self.lines[usize::from(id.customer)])
     }
 
-    /// A line's session, as far as it is shown; the lines of its customer that count as up where a route has a second
-    /// line are those whose sessions are up. `UnknownLine` comes where the hub has no such line.
+    /// A line's session, as far as it is shown; the lines of its customer that count as up where a
+    /// route has a second line are those whose sessions are up. `UnknownLine` comes where the hub
+    /// has no such line.
     pub fn session(&self, id: LineId) -> Result<SessionView, HubFault>
         ensures session { IfOk result (λ s. s ≡ line_view (hub_line id self.now).state) }
         ensures marked { IsOk result → IsMarked (part id.customer self.now).customer }
@@ -50,9 +51,9 @@ impl Hub {
 
     /// Whether a line is down and its last session had made all its five tries.
     ///
-    /// So it is from the moment at which a session ends after its tries, until another session begins, and on a line
-    /// that calls until its next tick. A session that ends otherwise while it has made five tries looks the same: by
-    /// the line's loss, say.
+    /// So it is from the moment at which a session ends after its tries, until another session
+    /// begins, and on a line that calls until its next tick. A session that ends otherwise while it
+    /// has made five tries looks the same: by the line's loss, say.
     pub fn has_given_up(&self, id: LineId) -> bool
         ensures { IsTrue result ↔ HasGivenUp self.now id }
     {
@@ -62,8 +63,8 @@ impl Hub {
         }
     }
 
-    /// What each of a line's streams to the hub is about: SYSIN 1 to 4, SYSOUT 1 to 4; a file that comes on one is
-    /// partial. `UnknownLine` comes where the hub has no such line.
+    /// What each of a line's streams to the hub is about: SYSIN 1 to 4, SYSOUT 1 to 4; a file that
+    /// comes on one is partial. `UnknownLine` comes where the hub has no such line.
     pub fn receivers(&self, id: LineId) -> Result<&[Receiver], HubFault>
         ensures receivers { IfOk result (λ receivers. receivers.now ≡ (hub_line id self.now).receivers) }
         ensures eight { IfOk result (λ receivers. length receivers.now ≡ 8) }
@@ -77,9 +78,9 @@ impl Hub {
         Ok(lines.receivers(id.number))
     }
 
-    /// What the owner of the file was told that the hub refused last on each of a line's streams to the hub: none where
-    /// that file had no owner or there was nothing to say, and none once another file opens there. `UnknownLine` comes
-    /// where the hub has no such line.
+    /// What the owner of the file was told that the hub refused last on each of a line's streams to
+    /// the hub: none where that file had no owner or there was nothing to say, and none once
+    /// another file opens there. `UnknownLine` comes where the hub has no such line.
     pub fn notices(&self, id: LineId) -> Result<&[Option<Notice>], HubFault>
         ensures notices { IfOk result (λ notices. notices.now ≡ (hub_line id self.now).notices) }
         ensures eight { IfOk result (λ notices. length notices.now ≡ 8) }
@@ -90,8 +91,8 @@ impl Hub {
         Ok(lines.notices(id.number))
     }
 
-    /// What each of a line's streams from the hub is about, in the same order. `UnknownLine` comes where the hub has no
-    /// such line.
+    /// What each of a line's streams from the hub is about, in the same order. `UnknownLine` comes
+    /// where the hub has no such line.
     pub fn senders(&self, id: LineId) -> Result<&[Sender], HubFault>
         ensures senders { IfOk result (λ senders. senders.now ≡ (hub_line id self.now).senders) }
         ensures eight { IfOk result (λ senders. length senders.now ≡ 8) }
@@ -102,8 +103,8 @@ impl Hub {
         Ok(lines.senders(id.number))
     }
 
-    /// A customer's whole file of a number, without its records; none where it has none of that number, or the hub has
-    /// no such customer. Its headers read.
+    /// A customer's whole file of a number, without its records; none where it has none of that
+    /// number, or the hub has no such customer. Its headers read.
     pub fn file_summary(&self, customer: u16, file: FileId) -> Option<FileSummaryView>
         ensures summary { result ≡ option_map file_summary (whole_file_on customer file self.now) }
         ensures headers { OnSome result (HaveHeaders (part customer self.now).customer.spool.whole) }
@@ -124,9 +125,9 @@ impl Hub {
         self.shared.spool.files(customer)
     }
 
-    /// How many files of a customer have become whole so far: those that came on its lines and those that were put
-    /// back, whether they are still there or not. The count stays at the greatest `u64`. 0 where the hub has no such
-    /// customer.
+    /// How many files of a customer have become whole so far: those that came on its lines and
+    /// those that were put back, whether they are still there or not. The count stays at the
+    /// greatest `u64`. 0 where the hub has no such customer.
     pub fn arrived(&self, customer: u16) -> u64
         ensures { result ≡ (part customer self.now).customer.spool.arrived }
     {
@@ -136,7 +137,8 @@ impl Hub {
         self.shared.spool.arrived(customer)
     }
 
-    /// A customer's whole file without its records, by its index in order of arrival, from 0 on. Its headers read.
+    /// A customer's whole file without its records, by its index in order of arrival, from 0 on.
+    /// Its headers read.
     pub fn summary_at(&self, customer: u16, index: u32) -> FileSummaryView
         requires { index < length (part customer self.now).customer.spool.whole }
         ensures summary { result ≡ file_summary (file_at index (part customer self.now).customer.spool) }
@@ -145,7 +147,8 @@ impl Hub {
         summary_at(&self.shared.spool, customer, index)
     }
 
-    /// How many blocks a customer's files may take. `UnknownCustomer` comes where the hub has no such customer.
+    /// How many blocks a customer's files may take. `UnknownCustomer` comes where the hub has no
+    /// such customer.
     pub fn quota(&self, customer: u16) -> Result<u32, HubFault>
         ensures quota { IfOk result (λ blocks. blocks ≡ (part customer self.now).customer.entry.quota) }
         ensures known { IsOk result ↔ (customer < length self.now) }

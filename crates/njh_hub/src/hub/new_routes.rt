@@ -14,12 +14,12 @@ use njh_customer::routes_keep_coherent;
 use njh_table::{GivenRoute, Tables};
 
 impl Hub {
-    /// Gives a customer these routes in place of its own. Its files that are Ready or Refused and whose node has no
-    /// route now are Held; no frame goes out, and nothing else changes.
+    /// Gives a customer these routes in place of its own. Its files that are Ready or Refused and
+    /// whose node has no route now are Held; no frame goes out, and nothing else changes.
     ///
-    /// `UnknownCustomer` comes where the hub has no such customer; then `BadRoutes`, with the first fault in the
-    /// routes, by the customer's
-    /// own entry alone; then `Memory` where there was none for them. After each nothing has changed.
+    /// `UnknownCustomer` comes where the hub has no such customer; then `BadRoutes`, with the first
+    /// fault in the routes, by the customer's own entry alone; then `Memory` where there was none
+    /// for them. After each nothing has changed.
     pub fn set_routes(&mut self, customer: u16, routes: &[GivenRoute]) -> Result<(), HubFault>
         ensures hub { OnOk result (self.new
             ≡ slice_set self.old customer (part_after_routes (entries_of_routes (new_routes_of customer routes.now))

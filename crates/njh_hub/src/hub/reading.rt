@@ -19,8 +19,8 @@ impl Hub {
         number_of(&self.shared.spool, customer, index)
     }
 
-    /// The records of a customer's file of a number, whole or partial, from the first on; none where it has no file of
-    /// that number, or the hub has no such customer.
+    /// The records of a customer's file of a number, whole or partial, from the first on; none
+    /// where it has no file of that number, or the hub has no such customer.
     pub fn read_file(&self, customer: u16, file: FileId) -> Option<RecordReader<'_>>
         ensures { result ≡ records_numbered file (part customer self.now).customer.spool }
     {
@@ -33,8 +33,8 @@ impl Hub {
         }
     }
 
-    /// How many records a customer's file of a number has, whole or partial; 0 where it has no file of that number, or
-    /// the hub has no such customer.
+    /// How many records a customer's file of a number has, whole or partial; 0 where it has no file
+    /// of that number, or the hub has no such customer.
     pub fn record_count(&self, customer: u16, file: FileId) -> u32
         ensures { result ≡ length (records_in file (part customer self.now).customer.spool) }
     {

@@ -13,11 +13,12 @@ use njh_spool::{RestoreFault, restore};
 use njh_stream::{hold_unrouted, streams_stay_tied};
 
 impl Hub {
-    /// Puts a whole file back, last in its customer's order of arrival. One that was Held is Held again; any other is
-    /// Ready, or Held where its node has no route. No frame goes out, and nothing else changes.
+    /// Puts a whole file back, last in its customer's order of arrival. One that was Held is Held
+    /// again; any other is Ready, or Held where its node has no route. No frame goes out, and
+    /// nothing else changes.
     ///
-    /// `BadHeader` comes where a header of the file doesn't read; then `FilesOver`; then `QuotaOver`. After each
-    /// nothing has changed.
+    /// `BadHeader` comes where a header of the file doesn't read; then `FilesOver`; then
+    /// `QuotaOver`. After each nothing has changed.
     pub fn restore<F: FileRecords>(
         &mut self,
         customer: u16,

@@ -36,7 +36,8 @@ user_code = code_by (List ℕ × List ℕ) (coded× text_code text_code) (λ u. 
 
 abbrev whole_code : Coded KeptWhole
 whole_code = code_by (ℕ × (ℕ × (ℕ × (ℕ × (State × (User × Bool))))))
-    (coded× coded_ℕ (coded× coded_ℕ (coded× coded_ℕ (coded× coded_ℕ (coded× state_code (coded× user_code coded_bool))))))
+    (coded× coded_ℕ (coded× coded_ℕ (coded× coded_ℕ
+    (coded× coded_ℕ (coded× state_code (coded× user_code coded_bool))))))
     (λ k. (k.id, (k.key, (k.number, (k.records, (k.state, (k.destination, k.is_mixed)))))))
     (λ p. record {
       id = p.0;

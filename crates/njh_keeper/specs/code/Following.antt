@@ -1,5 +1,6 @@
 -- What calls of the keeper make of a customer's whole files on a spool file.
-use Rattle.std.specs.Prelude.{◌≡◌, ℕ, ◌+◌, ◌<◌, ◌≤◌, true, false, List, [], ◌∷◌, ◌++◌, length, get_or, take, string_bytes}
+use Rattle.std.specs.Prelude.{◌≡◌, ℕ, ◌+◌, ◌<◌, ◌≤◌, true, false, List, [], ◌∷◌, ◌++◌, length, get_or, take}
+use Rattle.std.specs.Prelude.{string_bytes}
 use Rattle.std.specs.Prelude.{Option, Some, None}
 use Rattle.std.specs.List.{AllByRecursion}
 use Rattle.sqlite.specs.State.{State}
@@ -22,7 +23,8 @@ use Rattle.njh_keeper.specs.declared.writer.SpoolWriter as spool_writer
 use Rattle.njh_keeper.specs.code.Leading.{Leads}
 use Rattle.njh_keeper.specs.code.Memory.{numbers_of, own_of}
 use Rattle.njh_keeper.specs.code.Mirrored.{HasRecords, IsOrdered}
-use Rattle.njh_keeper.specs.code.Remembered.{AreApart, AreBelow, Claim, IsRowOf, KeptPartial, KeptWhole, Mirrored, Moves}
+use Rattle.njh_keeper.specs.code.Remembered.{AreApart, AreBelow, Claim, IsRowOf, KeptPartial, KeptWhole, Mirrored}
+use Rattle.njh_keeper.specs.code.Remembered.{Moves}
 use Rattle.njh_keeper.specs.code.Remembered.{Numbers, OwnFiles, Remembers, claim, with_key}
 use Rattle.njh_keeper.specs.code.Alike.{AreAlike}
 use Rattle.njh_keeper.specs.code.Walking.{AreNumbered}
@@ -63,7 +65,8 @@ pub record GoesTo (m m' : Memory) (s t : SpoolContents) (files : List WholeFile)
   pub records : AllByRecursion (λ p. records_of p.key t ≡ records_of p.key s) m'.own.partial
 
 -- the same of a connection, where these whole files are given on the spool file
-abbrev pub LeadsFiles : (m m' : Memory) → (SpoolContents → List WholeFile → Type 0) → (List WholeFile → List WholeFile → Type 0)
+abbrev pub LeadsFiles : (m m' : Memory) → (SpoolContents → List WholeFile → Type 0)
+    → (List WholeFile → List WholeFile → Type 0)
     → State → State → Type 0
 LeadsFiles m m' Given Becomes old new =
     Leads (λ s t. (files : List WholeFile) → HasFiles m s files → Given s files

@@ -68,7 +68,8 @@ pub record IsOwnOf (name : List ℕ) (spool : CustomerSpool) (own : OwnFiles) : 
   pub partial : own.partial ≡ []
 
 -- these are its rows, and the hub's files were read from them
-abbrev pub Remembering : (name : List ℕ) (rows : List (ℕ × File)) (files : List WholeFile) (own : OwnFiles) → SpoolContents → SpoolContents → Type 0
+abbrev pub Remembering : (name : List ℕ) (rows : List (ℕ × File)) (files : List WholeFile) (own : OwnFiles)
+    → SpoolContents → SpoolContents → Type 0
 Remembering name rows files own s t =
     IsOrdered s → owned_of name rows ≡ own_rows name s → AllZip (IsReadFor s) (own_rows name s) files
     → IsRemembered own files s t
@@ -83,7 +84,8 @@ abbrev pub name_at : List (List ℕ) → ℕ → List ℕ
 name_at names c = slice_index_or names c []
 
 -- what is remembered of customer c
-pub record IsCustomer (names : List (List ℕ)) (hub : List Part) (s t : SpoolContents) (c : ℕ) (own : OwnFiles) : Type 0 where
+pub record IsCustomer (names : List (List ℕ)) (hub : List Part) (s t : SpoolContents) (c : ℕ) (own : OwnFiles) : Type
+    0 where
   pub name : own.name ≡ name_at names c
   pub arrived : own.arrived ≡ (part c hub).customer.spool.arrived
   pub partial : own.partial ≡ []
@@ -91,12 +93,14 @@ pub record IsCustomer (names : List (List ℕ)) (hub : List Part) (s t : SpoolCo
   pub keys : (n : ℕ) → keyed (λ k. k.key) n own.whole ≡ keyed_rows n (own_rows (name_at names c) s)
 
 -- so it is of the first so many customers, and nothing is written of any other
-pub record AreRemembered (names : List (List ℕ)) (hub : List Part) (owns : List OwnFiles) (s t : SpoolContents) : Type 0 where
+pub record AreRemembered (names : List (List ℕ)) (hub : List Part) (owns : List OwnFiles) (s t : SpoolContents) : Type
+    0 where
   pub each : (c : ℕ) → (own : OwnFiles) → c < length owns → own ≡ slice_index_or owns c own
       → IsCustomer names hub s t c own
   pub records : t.records ≡ s.records
   pub ordered : IsOrdered t
-  pub others : (name : List ℕ) → ((c : ℕ) → c < length owns → name_at names c ≢ name) → own_rows name t ≡ own_rows name s
+  pub others : (name : List ℕ) → ((c : ℕ) → c < length owns → name_at names c ≢ name)
+      → own_rows name t ≡ own_rows name s
   pub below : (end : ℕ) → AreBelow end s → AreBelow end t
 
 -- the hub's files of each customer were read from its rows
@@ -116,7 +120,8 @@ AllAreFound names hub = (c : ℕ) → c < length names → AreFound (part c hub)
 -- ---- the opening
 
 -- Of customer c the spool file has the hub's whole files, and so it is remembered.
-pub record IsOpened (names : List (List ℕ)) (hub : List Part) (now : SpoolContents) (c : ℕ) (own : OwnFiles) : Type 0 where
+pub record IsOpened (names : List (List ℕ)) (hub : List Part) (now : SpoolContents) (c : ℕ) (own : OwnFiles) : Type
+    0 where
   pub name : own.name ≡ name_at names c
   pub arrived : own.arrived ≡ (part c hub).customer.spool.arrived
   pub partial : own.partial ≡ []
@@ -133,7 +138,8 @@ pub record HasBegun (names : List (List ℕ)) (hub : List Part) (owns : List Own
   pub below : AreBelow w.next_id now
 
 -- From a spool on which the hub's files were read from the rows of these customers it goes there, and is committed.
-abbrev pub Begins : (names : List (List ℕ)) (hub : List Part) (owns : List OwnFiles) (w : Numbers) → State → State → Type 0
+abbrev pub Begins : (names : List (List ℕ)) (hub : List Part) (owns : List OwnFiles) (w : Numbers) → State → State
+    → Type 0
 Begins names hub owns w old new =
     (s : CommitState) → Stands s old → AreDistinct names → AllAreFound names hub → AllAreRead names hub s.now
     → (t : SpoolContents) × HasBegun names hub owns w t × Stands (record { now = t; kept = t }) new

@@ -33,7 +33,8 @@ pub record IsUpToDate (now : CustomerSpool) (p : KeptPartial) : Type 0 where
 
 -- Where it can be the file of its number now, records of that stand there.
 abbrev pub GoesOn : CustomerSpool → SpoolContents → KeptPartial → Type 0
-GoesOn now spool p = p.seen ≤ length (partial_records p.number now) → IsPartlyKept spool p (partial_records p.number now)
+GoesOn now spool p = p.seen ≤ length (partial_records p.number now)
+    → IsPartlyKept spool p (partial_records p.number now)
 
 -- each of a customer's
 abbrev pub AllSeen : CustomerSpool → OwnFiles → Type 0
@@ -51,7 +52,8 @@ AllGoOn now spool own = AllByRecursion (GoesOn now spool) own.partial
 -- ---- what calls make of the spool file
 
 -- The whole files are these, and records of the others stand there.
-pub record Goes (a b : Claim) (own : OwnFiles) (now : CustomerSpool) (files : List WholeFile) (s t : SpoolContents) : Type 0 where
+pub record Goes (a b : Claim) (own : OwnFiles) (now : CustomerSpool) (files : List WholeFile)
+    (s t : SpoolContents) : Type 0 where
   pub moves : Moves a b s t
   pub mirrored : Mirrored t own files
   pub go_on : AllGoOn now t own

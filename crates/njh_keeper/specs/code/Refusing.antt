@@ -15,7 +15,8 @@ IsRefusalOf (cause.File told) at files fault =
     (file : StoredFile) × (file ≡ slice_index_or files at file) × (fault ≡ File (record { file = file; fault = told }))
 
 -- the files before one of these were put back, and it wasn't
-pub record Refuses (names : List (List ℕ)) (parts : List Part) (spool : SpoolContents) (files : List StoredFile) (at : ℕ)
+pub record Refuses (names : List (List ℕ)) (parts : List Part) (spool : SpoolContents) (files : List StoredFile)
+    (at : ℕ)
     (file : StoredFile) : Type 0 where
   pub there : at < length files
   pub is : file ≡ slice_index_or files at file

@@ -57,7 +57,8 @@ StopsOn (cause.Store error) fault = ⊤
 StopsOn (cause.File told) fault = fault ≡ Some told
 
 -- none of the files before it failed, and it did
-pub record StopsAt (names : List (List ℕ)) (parts : List Part) (spool : SpoolContents) (files : List StoredFile) (stop : Stop)
+pub record StopsAt (names : List (List ℕ)) (parts : List Part) (spool : SpoolContents) (files : List StoredFile)
+    (stop : Stop)
     : Type 0 where
   pub before : NoneFails names parts (wholes spool (take stop.at files))
   pub why : (d : StoredFile) → StopsOn stop.cause (hub_fault names

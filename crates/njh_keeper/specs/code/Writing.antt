@@ -73,8 +73,8 @@ unmarked marks end = numbers_but (is_marked marks) end
 abbrev pub marked_by : List Bool → List StoredFile → List Bool
 marked_by marks files = fold (λ m f. slice_set m f.file.key true) marks files
 
--- The numbers under which all is dropped: those that no file's records stand under, up to 64 behind the next one. Of them
--- those below that one are free. Where more than 200,000 were taken none is looked for.
+-- The numbers under which all is dropped: those that no file's records stand under, up to 64 behind the next one. Of
+-- them those below that one are free. Where more than 200,000 were taken none is looked for.
 abbrev pub emptied_at : List StoredFile → ℕ → List ℕ
 emptied_at files next = if nat_lt 200000 next then [] else numbers_but (is_used files) (next + 64)
 

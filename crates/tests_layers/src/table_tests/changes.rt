@@ -1,12 +1,13 @@
-//! Each fault, by a change of the base tables; and files with two faults, of which the walk's first is told.
+//! Each fault, by a change of the base tables; and files with two faults, of which the walk's first
+//! is told.
 
 use super::*;
 use crate::same::is_same;
 use std::process::Abort;
 use std::test::Fail;
 
-/// What comes of the base tables after changes. `A > B` puts B where A stands first; `/` is the end of a line, and `#`
-/// begins a comment.
+/// What comes of the base tables after changes. `A > B` puts B where A stands first; `/` is the end
+/// of a line, and `#` begins a comment.
 const ONE: &str = r#"
 K1 BadToml: capacity = 200 > capacity =
 K1 BadToml: capacity = 200 > capacity = 200/capacity = 200

@@ -7,8 +7,8 @@ use njh_table::{LineId, NamedCustomer, NamedLine, Role, Route, RouteLines};
 use std::process::Abort;
 use std::test::Fail;
 
-/// Capacity; a customer with its hub, quota and files; its lines, each with its node, role, block, streams, password
-/// and port, and where its peer listens; its routes.
+/// Capacity; a customer with its hub, quota and files; its lines, each with its node, role, block,
+/// streams, password and port, and where its peer listens; its routes.
 const READ: &str = "200
 ACME BUREAU 100 8
 a1 LYON call 300 1 SECRET 5000

@@ -4,8 +4,8 @@ use super::*;
 use std::process::Abort;
 use std::test::Fail;
 
-/// Customers, the lines of the first, routes of each, what stands last in the file, and what comes of it. What is past
-/// its limit is told before its keys, which are missing.
+/// Customers, the lines of the first, routes of each, what stands last in the file, and what comes
+/// of it. What is past its limit is told before its keys, which are missing.
 const SIZES: [([u32; 3], &str, &str); 10] = [
     ([64, 4, 0], "", "taken"),
     ([1, 4, 512], "", "taken"),
@@ -19,7 +19,8 @@ const SIZES: [([u32; 3], &str, &str); 10] = [
     ([1, 4, 512], "[[customer.route]]", "K8 TooMany"),
 ];
 
-/// A file of so many customers with four lines each, the first with so many, and so many routes each.
+/// A file of so many customers with four lines each, the first with so many, and so many routes
+/// each.
 fn file(
     alloc: Global,
     [customers, lines, routes]: [u32; 3],

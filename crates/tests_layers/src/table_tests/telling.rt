@@ -1,5 +1,5 @@
-//! Table files in words: the report of one that is right, and the line that tells of the first fault
-//! of one that isn't.
+//! Table files in words: the report of one that is right, and the line that tells of the first
+//! fault of one that isn't.
 
 use njh_check::{check, fault_text};
 use std::alloc::Global;

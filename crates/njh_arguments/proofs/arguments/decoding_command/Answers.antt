@@ -3,4 +3,5 @@ use Rattle.njh_arguments.proofs.arguments.decoding_command.Goals as goal
 
 pub returns : goal.returns
 returns c =
-    c.with_subcommand.ensures serving_app decode_app c.serving_command.ensures c.decode_command.ensures.app c.decode_command.ensures.local
+    c.with_subcommand.ensures serving_app decode_app c.serving_command.ensures c.decode_command.ensures.app
+    c.decode_command.ensures.local

@@ -19,10 +19,12 @@ pub returns-clause-taken : goal.returns-clause-taken
 returns-clause-taken g c =
     let arguments = map g.S.AsStr.text c.args.arguments.now in
     let fails = c.try_get_matches_from_mut.ensures.kinds (ap is_simple_and_free c.requires ∙ is_free_program) in
-    FailsBy-ok _ _ (subst (λ (a : App). FailsBy (fault_of a arguments) c.try_get_matches_from_mut.result) c.requires fails)
+    FailsBy-ok _ _ (subst (λ (a : App). FailsBy (fault_of a arguments) c.try_get_matches_from_mut.result) c.requires
+    fails)
 
 pub returns-clause-refused : goal.returns-clause-refused
 returns-clause-refused g c =
     let arguments = map g.S.AsStr.text c.args.arguments.now in
     let fails = c.try_get_matches_from_mut.ensures.kinds (ap is_simple_and_free c.requires ∙ is_free_program) in
-    FailsBy-err _ _ (subst (λ (a : App). FailsBy (fault_of a arguments) c.try_get_matches_from_mut.result) c.requires fails)
+    FailsBy-err _ _ (subst (λ (a : App). FailsBy (fault_of a arguments) c.try_get_matches_from_mut.result) c.requires
+    fails)

@@ -11,5 +11,6 @@ returns-in-Some c =
     let named = subcommand_is found c.in-Some.name.now rows c.in-Some.ensures.name c.in-Some.ensures.rows in
     record {
       asked = asks_in found (c.in-Some.name.now, rows) named c.request_named.result c.request_named.ensures.asked;
-      refused = serves_refused found (c.in-Some.name.now, rows) named c.request_named.result c.request_named.ensures.refused;
+      refused = serves_refused found (c.in-Some.name.now, rows) named c.request_named.result
+          c.request_named.ensures.refused;
     }

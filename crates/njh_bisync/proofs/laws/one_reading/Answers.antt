@@ -5,4 +5,5 @@ pub returns-clause-some : goal.returns-clause-some
 returns-clause-some c = reads_from
 
 pub returns-clause-only : goal.returns-clause-only
-returns-clause-only c = λ bytes frames rest reads. (reads_frames bytes frames rest reads, reads_rest bytes frames rest reads)
+returns-clause-only c = λ bytes frames rest reads.
+    (reads_frames bytes frames rest reads, reads_rest bytes frames rest reads)

@@ -12,6 +12,7 @@ groups-preserved c =
     let size = length-take-le 32 rest (omega arith) in
     let none : AllWithin (λ byte. (byte == 0x10) ≡ false) (take 32 rest) 0 32 = λ k d low high.
     rw (← cut.0) (c.if-contains.ensures.cases k d low (omega (arith, ap length cut.0))) in
-    let passed : plain_len rest ≡ 32 + plain_len c.in-Some.after.now = rw cut.1 (plain_len-group 32 rest (omega arith) none) in
+    let passed : plain_len rest ≡ 32 + plain_len c.in-Some.after.now =
+    rw cut.1 (plain_len-group 32 rest (omega arith) none) in
     let left : length c.in-Some.after.now + 32 ≡ length rest = cut.2 in
     record { within = omega arith; plain = omega (arith, passed, left, c.groups.invariant.plain) }

@@ -35,7 +35,12 @@ runs-preserved c =
     let written = written-run rest c.in-Some.after.now c.in-Some.byte.now at in
     let items : c.put_bytes-in-runs.new.out.items ++ flat_map bytes_of_data c.in-Some.after.now
     ≡ c.runs.out.items ++ flat_map bytes_of_data rest =
-    rw (c.put_bytes-in-runs.ensures.items, c.put_bytes.ensures.items, c.split_at.ensures.front, c.plain_len.ensures.exact)
+    rw (
+      c.put_bytes-in-runs.ensures.items,
+      c.put_bytes.ensures.items,
+      c.split_at.ensures.front,
+      c.plain_len.ensures.exact,
+    )
     (put-run c.runs.out.items _ _ (flat_map bytes_of_data rest) c.in-Some.byte.now written) in
     record {
       items = items ∙ c.runs.invariant.items;

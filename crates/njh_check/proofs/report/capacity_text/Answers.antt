@@ -8,6 +8,7 @@ pub returns : goal.returns
 unfolding capacity_text
 returns c =
     subst (λ n. IfOk c.format.result (λ text. string_bytes text
-    ≡ codes "capacity " ++ (decimal c.args.capacity ++ (codes " blocks, quotas " ++ (decimal c.args.quotas ++ (codes ", left "
+    ≡ codes "capacity " ++ (decimal c.args.capacity
+    ++ (codes " blocks, quotas " ++ (decimal c.args.quotas ++ (codes ", left "
     ++ (decimal n ++ codes "\n")))))))
     c.left_of-left.ensures c.format.ensures.ok

@@ -12,4 +12,5 @@ loop-index-preserved c =
     c.as_str.ensures.value ∙ c.in_ok-text.ensures ∙ ap (λ ls. route_text ls route) c.lines.ensures in
     c.in_ok-put.ensures ∙ ap (λ told. c.loop-index.report.items ++ told) text
     ∙ ap (λ front. front ++ route_text lines route) c.loop-index.invariant
-    ∙ told_more (route_text lines) c.args.customer.now.routes c.loop-index.index route c.args.report.now.items c.route_at.ensures
+    ∙ told_more (route_text lines) c.args.customer.now.routes c.loop-index.index route c.args.report.now.items
+    c.route_at.ensures

@@ -22,6 +22,7 @@ returns-in-Other c =
       spool =
           unmoved c.args.spool.now c.args.customer
           ∙ ap (slice_set c.args.spool.now c.args.customer)
-          (same_file s c.args.index ∙ ap (λ (x : WholeFile). with_file c.args.index x s) (unchanged p (change_by c.args.change.now) f
+          (same_file s c.args.index ∙ ap (λ (x : WholeFile). with_file c.args.index x s)
+          (unchanged p (change_by c.args.change.now) f
           idle));
     }

@@ -20,20 +20,25 @@ loop-index-preserved c =
     let f : WholeFile = file_at i s in
     let inside : i < length s.whole = subst (λ (m : ℕ). i < m) c.files-index-end.ensures c.loop-index-test.true in
     let now_is : spool_at c.args.customer c.loop-index.spool ≡ changed_up_to g i s =
-    part_of c.args.spool.now c.loop-index.spool c.args.customer (changed_up_to g i s) c.requires c.loop-index.invariant.spool in
-    let here : file_at i (spool_at c.args.customer c.loop-index.spool) ≡ f = ap (file_at i) now_is ∙ changed_not_yet g i s inside in
+    part_of c.args.spool.now c.loop-index.spool c.args.customer (changed_up_to g i s) c.requires
+    c.loop-index.invariant.spool in
+    let here : file_at i (spool_at c.args.customer c.loop-index.spool) ≡ f =
+    ap (file_at i) now_is ∙ changed_not_yet g i s inside in
     let standing : c.change_at.result ≡ file_class_of p f = c.change_at.ensures.standing ∙ ap (file_class_of p) here in
     let spool : c.change_at.new.spool ≡ slice_set c.args.spool.now c.args.customer (changed_up_to g (i + 1) s) =
     moved_twice c.args.spool.now c.loop-index.spool c.change_at.new.spool c.args.customer (changed_up_to g i s)
-    (λ (x : CustomerSpool). with_file i (g (file_at i x)) x) c.requires c.loop-index.invariant.spool c.change_at.ensures.spool
+    (λ (x : CustomerSpool). with_file i (g (file_at i x)) x) c.requires c.loop-index.invariant.spool
+    c.change_at.ensures.spool
     ∙ ap (slice_set c.args.spool.now c.args.customer) (changed_one_more g i s inside) in
     elim c.match-change_at.branch [
       | in-Other w ↦
           let is = as_other (p f) (is_sending f.state) (sym standing ∙ w.in-Other.is) in
           record {
-            idle = counted_more (may_change p) false s i c.loop-index.idle c.match-change_at.idle inside is.0 c.loop-index.invariant.idle
+            idle = counted_more (may_change p) false s i c.loop-index.idle c.match-change_at.idle inside is.0
+                c.loop-index.invariant.idle
                 (omega (arith, w.idle-is));
-            busy = counted_more (is_busy p) false s i c.loop-index.busy c.match-change_at.busy inside is.1 c.loop-index.invariant.busy
+            busy = counted_more (is_busy p) false s i c.loop-index.busy c.match-change_at.busy inside is.1
+                c.loop-index.invariant.busy
                 (omega (arith, w.busy-is));
             few = omega (arith, w.idle-is, w.busy-is, c.loop-index.invariant.few);
             spool = spool;
@@ -41,9 +46,11 @@ loop-index-preserved c =
       | in-Busy w ↦
           let is = as_busy (p f) (is_sending f.state) (sym standing ∙ w.in-Busy.is) in
           record {
-            idle = counted_more (may_change p) false s i c.loop-index.idle c.match-change_at.idle inside is.0 c.loop-index.invariant.idle
+            idle = counted_more (may_change p) false s i c.loop-index.idle c.match-change_at.idle inside is.0
+                c.loop-index.invariant.idle
                 (omega (arith, w.idle-is));
-            busy = counted_more (is_busy p) true s i c.loop-index.busy c.match-change_at.busy inside is.1 c.loop-index.invariant.busy
+            busy = counted_more (is_busy p) true s i c.loop-index.busy c.match-change_at.busy inside is.1
+                c.loop-index.invariant.busy
                 (omega (arith, w.busy-is));
             few = omega (arith, w.idle-is, w.busy-is, c.loop-index.invariant.few);
             spool = spool;
@@ -51,9 +58,11 @@ loop-index-preserved c =
       | in-Idle w ↦
           let is = as_idle (p f) (is_sending f.state) (sym standing ∙ w.in-Idle.is) in
           record {
-            idle = counted_more (may_change p) true s i c.loop-index.idle c.match-change_at.idle inside is.0 c.loop-index.invariant.idle
+            idle = counted_more (may_change p) true s i c.loop-index.idle c.match-change_at.idle inside is.0
+                c.loop-index.invariant.idle
                 (omega (arith, w.idle-is));
-            busy = counted_more (is_busy p) false s i c.loop-index.busy c.match-change_at.busy inside is.1 c.loop-index.invariant.busy
+            busy = counted_more (is_busy p) false s i c.loop-index.busy c.match-change_at.busy inside is.1
+                c.loop-index.invariant.busy
                 (omega (arith, w.busy-is));
             few = omega (arith, w.idle-is, w.busy-is, c.loop-index.invariant.few);
             spool = spool;

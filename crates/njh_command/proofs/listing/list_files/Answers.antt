@@ -15,20 +15,23 @@ loop-index-preserved c =
     let i = c.loop-index.index in
     let own = is_owned c.args.who in
     let inside : i < length s.whole = subst (λ (m : ℕ). i < m) c.files-index-end.ensures c.loop-index-test.true in
-    let replies = one_listed c.args.who i s c.loop-index.replies c.list_file.new.replies inside c.loop-index.invariant.replies
+    let replies = one_listed c.args.who i s c.loop-index.replies c.list_file.new.replies inside
+    c.loop-index.invariant.replies
     c.list_file.ensures.replies in
     elim c.if-list_file.branch [
       | then-list_file w ↦
           record {
             replies = replies;
-            count = counted_more own true s i c.loop-index.count c.if-list_file.count inside (sym c.list_file.ensures.own
+            count = counted_more own true s i c.loop-index.count c.if-list_file.count inside
+                (sym c.list_file.ensures.own
                 ∙ w.if-list_file.true) c.loop-index.invariant.count (omega (arith, w.count-is));
             few = omega (arith, w.count-is, c.loop-index.invariant.few);
           }
       | else-list_file w ↦
           record {
             replies = replies;
-            count = counted_more own false s i c.loop-index.count c.if-list_file.count inside (sym c.list_file.ensures.own
+            count = counted_more own false s i c.loop-index.count c.if-list_file.count inside
+                (sym c.list_file.ensures.own
                 ∙ w.if-list_file.false) c.loop-index.invariant.count (omega (arith, w.count-is));
             few = omega (arith, w.count-is, c.loop-index.invariant.few);
           }
@@ -42,8 +45,11 @@ returns c =
     c.loop-index-test.false in
     let last : List (List ℕ) = files_line (count own s) ∷ [] in
     c.add.ensures
-    ∙ ap₂ (λ (replies : List (List ℕ)) (text : List ℕ). first_replies (replies ++ text ∷ [])) c.loop-index.invariant.replies
-    (c.files_line.ensures ∙ ap files_line (c.loop-index.invariant.count ∙ ap (λ files. length (filter own files)) (all_looked_at
+    ∙ ap₂ (λ (replies : List (List ℕ)) (text : List ℕ). first_replies (replies ++ text ∷ []))
+    c.loop-index.invariant.replies
+    (c.files_line.ensures ∙ ap files_line (c.loop-index.invariant.count
+    ∙ ap (λ files. length (filter own files)) (all_looked_at
     s.whole c.loop-index.index all)))
     ∙ kept_more 64 (map file_line (filter own (take c.loop-index.index s.whole))) last
-    ∙ ap (λ files. first_replies (map file_line (filter own files) ++ last)) (all_looked_at s.whole c.loop-index.index all)
+    ∙ ap (λ files. first_replies (map file_line (filter own files) ++ last))
+    (all_looked_at s.whole c.loop-index.index all)

@@ -7,7 +7,8 @@ use Rattle.njh_command.proofs.listing.list_files.Given as goal
 
 abbrev pub invariant-loop-index : goal.invariant-loop-index
 invariant-loop-index l = record {
-  replies : l.replies ≡ first_replies (map file_line (filter (is_owned l.who) (take l.index (spool_at l.customer l.spool).whole)));
+  replies : l.replies ≡ first_replies (map file_line
+      (filter (is_owned l.who) (take l.index (spool_at l.customer l.spool).whole)));
   count : l.count ≡ count_up_to (is_owned l.who) l.index (spool_at l.customer l.spool);
   few : l.count ≤ l.index;
 }

@@ -9,7 +9,8 @@ invariant-loop-n l = record {
   before : l.before ≡ srcb_before l.n (file_at l.index (spool_at l.customer l.initial.spool)).records;
   spool : l.spool
       ≡ slice_set l.initial.spool l.customer (with_file l.index
-      (with_records (redirected_up_to (file_at l.index (spool_at l.customer l.initial.spool)).kind l.fn.node l.n (file_at l.index (spool_at
+      (with_records (redirected_up_to (file_at l.index (spool_at l.customer l.initial.spool)).kind l.fn.node l.n
+      (file_at l.index (spool_at
       l.customer l.initial.spool)).records)
       (file_at l.index (spool_at l.customer l.initial.spool))) (spool_at l.customer l.initial.spool));
 }

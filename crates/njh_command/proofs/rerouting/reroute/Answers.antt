@@ -16,11 +16,14 @@ returns c =
     let g : WholeFile = with_records (records_to_node f.kind c.args.node None f.records) f in
     let ready : WholeFile → WholeFile = λ (x : WholeFile). file_in_state (state_after_reroute x.state) x in
     moved_twice c.args.spool.now c.redirect.new.spool c.try_again.new.spool c.args.customer (with_file c.args.index g s)
-    (λ (x : CustomerSpool). with_file c.args.index (ready (file_at c.args.index x)) x) c.requires.range c.redirect.ensures
+    (λ (x : CustomerSpool). with_file c.args.index (ready (file_at c.args.index x)) x) c.requires.range
+    c.redirect.ensures
     c.try_again.ensures
     ∙ ap (slice_set c.args.spool.now c.args.customer) (
-    ap (λ (x : WholeFile). with_file c.args.index (ready x) (with_file c.args.index g s)) (file_is s c.args.index g c.requires.within)
+    ap (λ (x : WholeFile). with_file c.args.index (ready x) (with_file c.args.index g s))
+    (file_is s c.args.index g c.requires.within)
     ∙ file_twice s c.args.index g (ready g)
-    ∙ ap (λ (records : List Stored). with_file c.args.index (file_in_state (state_after_reroute f.state) (with_records records f)) s)
+    ∙ ap (λ (records : List Stored). with_file c.args.index
+    (file_in_state (state_after_reroute f.state) (with_records records f)) s)
     (c.redirected_by_records.ensures f.kind c.args.node f.records)
     )

@@ -3,4 +3,5 @@ use Rattle.njh_command.specs.Commands.{without_file}
 use Rattle.njh_command.proofs.senders.give_up.Given as goal
 
 abbrev pub invariant-loop-place : goal.invariant-loop-place
-invariant-loop-place l = l.senders ≡ map (without_file l.file) (take l.place l.initial.senders) ++ drop l.place l.initial.senders
+invariant-loop-place l = l.senders ≡ map (without_file l.file) (take l.place l.initial.senders) ++ drop l.place
+    l.initial.senders

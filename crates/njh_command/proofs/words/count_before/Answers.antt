@@ -12,4 +12,8 @@ returns-in-Some c =
 pub returns-in-None : goal.returns-in-None
 returns-in-None c =
     let sought : ℕ → Bool = λ (b : ℕ). b == c.args.sought in
-    record { place = sym (missing sought c.args.bytes.now (sym c.place_of.ensures ∙ c.in-None.is)); within = omega arith }
+    record {
+      place = sym (missing sought c.args.bytes.now (sym c.place_of.ensures ∙ c.in-None.is));
+      within = omega
+          arith;
+    }

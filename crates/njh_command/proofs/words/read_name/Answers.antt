@@ -17,7 +17,8 @@ returns-then-count_before-number c =
       c.count_before-end.ensures.within,
       c.if-end-word.false,
     )) in
-    let behind : c.split_at-2.result.1.now ≡ drop (stop word + 1) word = c.split_at-2.ensures.back ∙ ap (λ (n : ℕ). drop (n + 1) word) at in
+    let behind : c.split_at-2.result.1.now ≡ drop (stop word + 1) word =
+    c.split_at-2.ensures.back ∙ ap (λ (n : ℕ). drop (n + 1) word) at in
     let place : c.count_before.result ≡ stop c.split_at-2.result.1.now = c.count_before.ensures.place in
     let more : stop c.split_at-2.result.1.now < length c.split_at-2.result.1.now
     = subst (λ (n : ℕ). n < length c.split_at-2.result.1.now) place c.if-count_before-number.true in
@@ -32,8 +33,10 @@ returns c =
       c.count_before-end.ensures.within,
       c.if-end-word.false,
     )) in
-    let front : c.split_at.result.0.now ≡ take (stop word) word = c.split_at.ensures.front ∙ ap (λ (n : ℕ). take n word) at in
-    let behind : c.split_at-2.result.1.now ≡ drop (stop word + 1) word = c.split_at-2.ensures.back ∙ ap (λ (n : ℕ). drop (n + 1) word) at in
+    let front : c.split_at.result.0.now ≡ take (stop word) word =
+    c.split_at.ensures.front ∙ ap (λ (n : ℕ). take n word) at in
+    let behind : c.split_at-2.result.1.now ≡ drop (stop word + 1) word =
+    c.split_at-2.ensures.back ∙ ap (λ (n : ℕ). drop (n + 1) word) at in
     let place : c.count_before.result ≡ stop c.split_at-2.result.1.now = c.count_before.ensures.place in
     let last : stop c.split_at-2.result.1.now ≡ length c.split_at-2.result.1.now
     = sym place ∙ omega (arith, c.count_before.ensures.within, c.if-count_before-number.false) in

@@ -9,7 +9,8 @@ pub loop-line-preserved : goal.loop-line-preserved
 loop-line-preserved c =
     put-line c.args.name.now c.args.text.now c.args.packing.now c.args.script.now.items c.loop-line.left.now
     c.loop-line.packing c.put_text_line.new.packing c.loop-line.script.items c.put_text_line.new.script.items
-    c.in-Some.line.now c.in-Some.behind.now c.loop-line.invariant c.in-Some.ensures.lines c.in_ok-put_text_line.ensures.put
+    c.in-Some.line.now c.in-Some.behind.now c.loop-line.invariant c.in-Some.ensures.lines
+    c.in_ok-put_text_line.ensures.put
 
 pub returns-clause-put : goal.returns-clause-put
 returns-clause-put c =

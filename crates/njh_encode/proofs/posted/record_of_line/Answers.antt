@@ -14,7 +14,8 @@ pub returns-in-Ok-clause-taken : goal.returns-in-Ok-clause-taken
 returns-in-Ok-clause-taken c =
     let some : 0 < length c.args.line.now = search rules in
     subst
-    (λ (v : Result (List ℕ) Reason). MatchResult c.bytes_of_text.result (λ taken. v ≡ Ok taken.items) (λ reason. v ≡ Err reason))
+    (λ (v : Result (List ℕ) Reason). MatchResult c.bytes_of_text.result (λ taken. v ≡ Ok taken.items)
+    (λ reason. v ≡ Err reason))
     (sym (record_text c.args.line.now c.in-Ok.text.now some c.in-Ok.ensures.cases.0 c.in-Ok.ensures.cases.1))
     c.bytes_of_text.ensures.bytes
 

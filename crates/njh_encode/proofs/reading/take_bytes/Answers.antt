@@ -12,7 +12,8 @@ returns-in-Ok g c =
       subst
           (λ (o : Result Outcome Reason). IsAppended c.take_words.result o c.args.encoder.now c.take_words.new.encoder
           c.args.script.now.items c.take_words.new.script.items)
-          (sym (text_taken texts c.args.encoder.now c.args.line.now c.in-Ok.words.now c.in-Ok.ensures.cases.0 c.in-Ok.ensures.cases.1))
+          (sym (text_taken texts c.args.encoder.now c.args.line.now c.in-Ok.words.now c.in-Ok.ensures.cases.0
+          c.in-Ok.ensures.cases.1))
           c.take_words.ensures.2,
     )
 
@@ -22,5 +23,9 @@ returns-in-Err g c =
     let texts = some_texts known in (
       texts,
       some_answered known,
-      λ other. (no_text_taken texts c.args.encoder.now c.args.line.now (λ text. c.in-Err.ensures.cases.0 text), refl, refl),
+      λ other. (
+        no_text_taken texts c.args.encoder.now c.args.line.now (λ text. c.in-Err.ensures.cases.0 text),
+        refl,
+        refl,
+      ),
     )

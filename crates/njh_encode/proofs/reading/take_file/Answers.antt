@@ -53,6 +53,7 @@ returns-in-Err g c =
       λ other.
           let gives : texts name ≡ given = answered_gives known name given
           (λ k is. c.in-Err.ensures k is (λ memory. other (c.reason.ensures ∙ ap reason_of memory))) in
-          let refused : file_taken texts c.args.encoder.now c.args.line.now ≡ Err c.reason.result = search (rules, gives) in
+          let refused : file_taken texts c.args.encoder.now c.args.line.now ≡ Err c.reason.result =
+          search (rules, gives) in
           (refused, refl, refl),
     )

@@ -7,7 +7,8 @@ pub returns-in_err-write_bytes-in-Ok-clause-begun :
 returns-in_err-write_bytes-in-Ok-clause-begun g c =
     on_err_of c.from_residual.result _
     (written_part (g.L.Letters.texts c.args.letters.now) (g.W.Write.contents c.args.out.now)
-    (g.W.Write.contents c.write_bytes.new.out) c.args.reading.now c.take.new.self c.args.piece.now c.args.script.now.items
+    (g.W.Write.contents c.write_bytes.new.out) c.args.reading.now c.take.new.self c.args.piece.now
+    c.args.script.now.items
     c.take.new.script.items c.deref.result.now c.requires c.deref.ensures.value c.in-Ok.ensures.taken
     c.in_err-write_bytes-in-Ok.ensures.err)
 
@@ -15,19 +16,25 @@ pub returns-in_err-write_last-in-Err-BadLine-clause-begun :
     goal.returns-in_err-write_last-in-Err-BadLine-clause-begun
 returns-in_err-write_last-in-Err-BadLine-clause-begun g c =
     on_err_of c.from_residual-in_err-write_last-in-Err-BadLine.result _
-    (bad_part (g.L.Letters.texts c.args.letters.now) (g.W.Write.contents c.args.out.now) (g.W.Write.contents c.write_last.new.out)
-    c.args.reading.now c.args.piece.now c.args.script.now.items c.take.new.script.items c.deref-in-Err-BadLine.result.now
+    (bad_part (g.L.Letters.texts c.args.letters.now) (g.W.Write.contents c.args.out.now)
+    (g.W.Write.contents c.write_last.new.out)
+    c.args.reading.now c.args.piece.now c.args.script.now.items c.take.new.script.items
+    c.deref-in-Err-BadLine.result.now
     c.in-Err-BadLine.fault c.requires c.deref-in-Err-BadLine.ensures.value
-    (c.in-Err-BadLine.ensures.bad c.in-Err-BadLine.fault (first_of (cc c.in-Err-BadLine.field-0-is, search (rules, c.in-Err-BadLine.field-0-is))))
+    (c.in-Err-BadLine.ensures.bad c.in-Err-BadLine.fault
+    (first_of (cc c.in-Err-BadLine.field-0-is, search (rules, c.in-Err-BadLine.field-0-is))))
     c.in_err-write_last-in-Err-BadLine.ensures.err)
 
 pub returns-in_ok-write_last-in-Err-BadLine-clause-begun :
     goal.returns-in_ok-write_last-in-Err-BadLine-clause-begun
 returns-in_ok-write_last-in-Err-BadLine-clause-begun g c =
-    bad_part (g.L.Letters.texts c.args.letters.now) (g.W.Write.contents c.args.out.now) (g.W.Write.contents c.write_last.new.out)
-    c.args.reading.now c.args.piece.now c.args.script.now.items c.take.new.script.items c.deref-in-Err-BadLine.result.now
+    bad_part (g.L.Letters.texts c.args.letters.now) (g.W.Write.contents c.args.out.now)
+    (g.W.Write.contents c.write_last.new.out)
+    c.args.reading.now c.args.piece.now c.args.script.now.items c.take.new.script.items
+    c.deref-in-Err-BadLine.result.now
     c.in-Err-BadLine.fault c.requires c.deref-in-Err-BadLine.ensures.value
-    (c.in-Err-BadLine.ensures.bad c.in-Err-BadLine.fault (first_of (cc c.in-Err-BadLine.field-0-is, search (rules, c.in-Err-BadLine.field-0-is)))) (
+    (c.in-Err-BadLine.ensures.bad c.in-Err-BadLine.fault
+    (first_of (cc c.in-Err-BadLine.field-0-is, search (rules, c.in-Err-BadLine.field-0-is)))) (
       c.deref-in-Err-BadLine.result.now,
       [],
       append-nil c.deref-in-Err-BadLine.result.now,

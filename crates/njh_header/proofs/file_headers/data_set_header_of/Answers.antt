@@ -16,7 +16,8 @@ returns-in-224 g c =
 pub returns-in_default : goal.returns-in_default
 returns-in_default g c =
     let r : Stored = record { srcb = c.copy_to.result; bytes = c.copy_to.new.into.items } in
-    sym (at_other (g.F.FileRecords.records c.args.file.now) c.loop-n.n r c.copy_to.ensures (search rules) (search rules))
+    sym (at_other (g.F.FileRecords.records c.args.file.now) c.loop-n.n r c.copy_to.ensures (search rules)
+    (search rules))
     ∙ c.loop-n.invariant
 
 pub loop-n-preserved : goal.loop-n-preserved

@@ -20,8 +20,14 @@ loop-rest-preserved c =
     record {
       shorter = omega arith;
       same =
-          walk_passes c.args.size c.args.bytes.now c.loop-rest.rest.now c.split_at-in-loop-rest.result.1.now (omega arith)
-          (record { length_field = omega arith; within = omega arith; kind = λ zero. c.if-read_number-eq-GENERAL.false (omega arith) })
+          walk_passes c.args.size c.args.bytes.now c.loop-rest.rest.now c.split_at-in-loop-rest.result.1.now
+          (omega arith)
+          (record {
+            length_field = omega arith;
+            within = omega arith;
+            kind = λ zero. c.if-read_number-eq-GENERAL.false
+                (omega arith);
+          })
           (c.split_at-in-loop-rest.ensures.back ∙ ap (λ n. drop n c.loop-rest.rest.now) length_is)
           ∙ c.loop-rest.invariant.same;
     }

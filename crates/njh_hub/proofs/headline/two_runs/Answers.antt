@@ -13,7 +13,8 @@ returns g c agree same =
     let other = entry_at c.args.other.customer (entries_of c.args.other.tables) in
     let outcomes : alone (entry_at c.args.one.customer (entries_of c.args.one.tables)) own
     ≡ alone other (events_of c.args.other.customer c.args.other.events.now) =
-    ap (λ (entry : CustomerEntry). alone entry own) agree ∙ ap (λ (events : List OwnEvent). alone (entry_unmarked other) events) same in
+    ap (λ (entry : CustomerEntry). alone entry own) agree
+    ∙ ap (λ (events : List OwnEvent). alone (entry_unmarked other) events) same in
     let first = c.in_ok-files.ensures in
     let second = c.in_ok-other_files.ensures in
     record {

@@ -10,6 +10,7 @@ abbrev pub invariant-loop-customer : goal.invariant-loop-customer
 invariant-loop-customer l = record {
   count : length l.lines.items ≡ l.customer-index;
   opened : (c : ℕ) → c < l.customer-index →
-      part_with (entry_unmarked (entry_of (customer_at l.fn.tables c))) (empty_files (customer_at l.fn.tables c)) (lines_at c l.lines.items)
+      part_with (entry_unmarked (entry_of (customer_at l.fn.tables c))) (empty_files (customer_at l.fn.tables c))
+      (lines_at c l.lines.items)
       ≡ part_at_open (entry_of (customer_at l.fn.tables c));
 }

@@ -28,10 +28,16 @@ open-requires-clause-limits c =
     subst (λ (qs : List Quota). All IsWithinLimits qs) (sym is)
     (All-map IsWithinLimits quota_in customers (λ i d h.
     let each = c.quotas_of.ensures.accepted.each i d h in
-    record { some_blocks = each.quota.0; most_blocks = each.quota.1; some_files = each.files.0; most_files = each.files.1 }))
+    record {
+      some_blocks = each.quota.0;
+      most_blocks = each.quota.1;
+      some_files = each.files.0;
+      most_files = each.files.1;
+    }))
 
 pub returns-in-Ok-clause-empty : goal.returns-in-Ok-clause-empty
 returns-in-Ok-clause-empty c =
     let customers = c.args.tables.now.customers in
     let is = c.as_slice.ensures.value ∙ c.in_ok-quotas.ensures.each in
-    c.in-Ok.ensures.ok ∙ ap (map (λ q. empty_spool q.blocks q.files)) is ∙ map-map (λ q. empty_spool q.blocks q.files) quota_in customers
+    c.in-Ok.ensures.ok ∙ ap (map (λ q. empty_spool q.blocks q.files)) is
+    ∙ map-map (λ q. empty_spool q.blocks q.files) quota_in customers

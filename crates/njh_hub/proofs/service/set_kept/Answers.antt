@@ -7,17 +7,25 @@ use Rattle.njh_hub.proofs.ServiceLaws.{given_by}
 use Rattle.njh_hub.proofs.service.set_kept.Goals as goal
 
 pub follow-requires : goal.follow-requires
-follow-requires g c = record { led = (c.args.hub.now, c.requires.settled.known, (_, by_routes _ refl, c.in-Ok.ensures.hub)) }
+follow-requires g c = record {
+  led = (
+    c.args.hub.now,
+    c.requires.settled.known,
+    (_, by_routes _ refl, c.in-Ok.ensures.hub),
+  );
+}
 
 pub returns-in-Ok-settle-clause-given : goal.returns-in-Ok-settle-clause-given
 returns-in-Ok-settle-clause-given g c =
     let did = c.set_routes.ensures in
-    given_by c.args.hub.now c.set_routes.new.self c.args.new.now.customer c.routes.result.now c.set_routes.result did.hub did.known
+    given_by c.args.hub.now c.set_routes.new.self c.args.new.now.customer c.routes.result.now c.set_routes.result
+    did.hub did.known
     did.checked did.stays.err
 
 pub returns-in-Ok-settle-clause-keeps : goal.returns-in-Ok-settle-clause-keeps
 returns-in-Ok-settle-clause-keeps g c =
-    keeps_well g.K.Keeper.may_leave g.K.Keeper.knows g.K.Keeper.count c.args.keeper.now c.settle.new.self _ c.set_routes.new.self
+    keeps_well g.K.Keeper.may_leave g.K.Keeper.knows g.K.Keeper.count c.args.keeper.now c.settle.new.self _
+    c.set_routes.new.self
     (c.in-Ok-settle.ensures.settled c.set_routes.new.self c.in-Ok-follow.ensures.known)
     (c.in-Ok-settle.ensures.faultless ∙ c.in-Ok-follow.ensures.faultless)
 
@@ -35,7 +43,8 @@ returns-in-Err-follow-clause-breaks g c = (
 
 pub returns-in-Err-follow-clause-keeps : goal.returns-in-Err-follow-clause-keeps
 returns-in-Err-follow-clause-keeps g c =
-    keeps_ill g.K.Keeper.may_leave g.K.Keeper.knows g.K.Keeper.count c.args.keeper.now c.follow.new.self c.in-Err-follow.fault
+    keeps_ill g.K.Keeper.may_leave g.K.Keeper.knows g.K.Keeper.count c.args.keeper.now c.follow.new.self
+    c.in-Err-follow.fault
     c.set_routes.new.self c.in-Err-follow.ensures.counts c.in-Err-follow.ensures.counted
 
 pub returns-in-Err-settle-clause-breaks : goal.returns-in-Err-settle-clause-breaks
@@ -50,7 +59,8 @@ returns-in-Err-settle-clause-breaks g c = (
 
 pub returns-in-Err-settle-clause-keeps : goal.returns-in-Err-settle-clause-keeps
 returns-in-Err-settle-clause-keeps g c =
-    keeps_ill g.K.Keeper.may_leave g.K.Keeper.knows g.K.Keeper.count c.args.keeper.now c.settle.new.self c.in-Err-settle.fault
+    keeps_ill g.K.Keeper.may_leave g.K.Keeper.knows g.K.Keeper.count c.args.keeper.now c.settle.new.self
+    c.in-Err-settle.fault
     c.set_routes.new.self (omega (arith, c.in-Ok-follow.ensures.faultless, c.in-Err-settle.ensures.counts))
     (counted_from _ _ _ (omega (arith, c.in-Ok-follow.ensures.faultless)) c.in-Err-settle.ensures.counted)
 

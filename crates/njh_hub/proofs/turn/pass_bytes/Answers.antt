@@ -31,7 +31,8 @@ loop-taken-init g c =
     }
 
 pub take_bytes-used-requires-clause-known : goal.take_bytes-used-requires-clause-known
-take_bytes-used-requires-clause-known g c = omega (arith, c.requires.known, c.loop-taken.invariant.same c.args.id.customer)
+take_bytes-used-requires-clause-known g c =
+    omega (arith, c.requires.known, c.loop-taken.invariant.same c.args.id.customer)
 
 pub take_bytes-used-requires-clause-room : goal.take_bytes-used-requires-clause-room
 take_bytes-used-requires-clause-room g c = c.loop-taken.invariant.room
@@ -66,7 +67,8 @@ loop-taken-preserved g c =
     let sent = subst F c.deref.ensures.value c.in-Ok-send.ensures.ok in
     let before = map sent_act (after_bytes start id (take c.loop-taken.taken c.args.piece.now)).sent in
     let frame = c.take_bytes-used.new.out.items in
-    let acts = g.met.W.Wire.more c.args.wire.now c.loop-taken.wire c.send.new.wire before (frame_acts frame) c.loop-taken.invariant.acts sent in
+    let acts = g.met.W.Wire.more c.args.wire.now c.loop-taken.wire c.send.new.wire before (frame_acts frame)
+    c.loop-taken.invariant.acts sent in
     let P : List WireAct → Type 0 = λ s. g.W.Wire.passed c.args.wire.now c.send.new.wire s in
     record {
       within = omega (arith, c.take_bytes-used.ensures.within, c.split_at.ensures.back_len);
@@ -75,7 +77,8 @@ loop-taken-preserved g c =
       same = λ d. did.lines d ∙ c.loop-taken.invariant.same d;
       room = did.room;
       counts = omega (arith, c.loop-taken.invariant.counts, c.in-Ok-send.ensures.counts);
-      withheld = g.met.W.Wire.withheld_more c.args.wire.now c.loop-taken.wire c.send.new.wire c.loop-taken.invariant.withheld
+      withheld = g.met.W.Wire.withheld_more c.args.wire.now c.loop-taken.wire c.send.new.wire
+          c.loop-taken.invariant.withheld
           c.in-Ok-send.ensures.withheld;
       knows = c.in-Ok.ensures.known;
       leaves = no_more_then g.K.Keeper.may_leave c.args.keeper.now c.loop-taken.keeper c.follow.new.self
@@ -110,7 +113,8 @@ returns-in-Err-clause-breaks g c =
 
 pub returns-in-Err-clause-follows : goal.returns-in-Err-clause-follows
 returns-in-Err-clause-follows g c =
-    follows_ill g.K.Keeper.may_leave g.K.Keeper.knows g.K.Keeper.count c.args.keeper.now c.follow.new.self c.in-Err.fault
+    follows_ill g.K.Keeper.may_leave g.K.Keeper.knows g.K.Keeper.count c.args.keeper.now c.follow.new.self
+    c.in-Err.fault
     c.take_bytes-used.new.hub (no_more_then g.K.Keeper.may_leave c.args.keeper.now c.loop-taken.keeper c.follow.new.self
     c.loop-taken.invariant.leaves c.in-Err.ensures.leaves)
     (omega (arith, c.loop-taken.invariant.kept, c.in-Err.ensures.counts))
@@ -150,13 +154,21 @@ returns-in-Err-send-clause-done g c =
     let frame = c.take_bytes-used.new.out.items in
     let F : List ℕ → Type 0 = λ b. g.W.Wire.passed c.loop-taken.wire c.send.new.wire (Unsent b ∷ []) in
     let unsent = subst F c.deref.ensures.value c.in-Err-send.ensures.err.0 in
-    let some : 0 < length frame = omega (arith, c.in-Err-send.ensures.err.1, ap (λ (b : List ℕ). length b) c.deref.ensures.value) in
-    let any : 0 < c.take_bytes-used.result = c.take_bytes-used.ensures.progress (omega (arith, c.split_at.ensures.back_len)) in
-    let within : n ≤ length c.args.piece.now = omega (arith, c.take_bytes-used.ensures.within, c.split_at.ensures.back_len) in
+    let some : 0 < length frame = omega (
+      arith,
+      c.in-Err-send.ensures.err.1,
+      ap (λ (b : List ℕ). length b)
+          c.deref.ensures.value,
+    ) in
+    let any : 0 < c.take_bytes-used.result =
+    c.take_bytes-used.ensures.progress (omega (arith, c.split_at.ensures.back_len)) in
+    let within : n ≤ length c.args.piece.now =
+    omega (arith, c.take_bytes-used.ensures.within, c.split_at.ensures.back_len) in
     on_ok c.lose.result (
       Some n,
       bytes_unsent g.W.Wire.passed g.W.Wire.count c.args.wire.now c.loop-taken.wire c.send.new.wire g.met.W.Wire.more
-          c.cuts_are_like.ensures c.lose.new.hub step some any within c.loop-taken.invariant.acts c.loop-taken.invariant.counts
+          c.cuts_are_like.ensures c.lose.new.hub step some any within c.loop-taken.invariant.acts
+          c.loop-taken.invariant.counts
           unsent c.in-Err-send.ensures.counts c.in-Err-send.ensures.counted c.lose.ensures.step.hub,
     )
 
@@ -181,21 +193,31 @@ returns-in-Err-send-clause-breaks g c =
     let frame = c.take_bytes-used.new.out.items in
     let F : List ℕ → Type 0 = λ b. g.W.Wire.passed c.loop-taken.wire c.send.new.wire (Unsent b ∷ []) in
     let unsent = subst F c.deref.ensures.value c.in-Err-send.ensures.err.0 in
-    let some : 0 < length frame = omega (arith, c.in-Err-send.ensures.err.1, ap (λ (b : List ℕ). length b) c.deref.ensures.value) in
-    let any : 0 < c.take_bytes-used.result = c.take_bytes-used.ensures.progress (omega (arith, c.split_at.ensures.back_len)) in
-    let within : n ≤ length c.args.piece.now = omega (arith, c.take_bytes-used.ensures.within, c.split_at.ensures.back_len) in
+    let some : 0 < length frame = omega (
+      arith,
+      c.in-Err-send.ensures.err.1,
+      ap (λ (b : List ℕ). length b)
+          c.deref.ensures.value,
+    ) in
+    let any : 0 < c.take_bytes-used.result =
+    c.take_bytes-used.ensures.progress (omega (arith, c.split_at.ensures.back_len)) in
+    let within : n ≤ length c.args.piece.now =
+    omega (arith, c.take_bytes-used.ensures.within, c.split_at.ensures.back_len) in
     on_err c.lose.result (
       AtLoss n,
       loss_breaks g.W.Wire.passed g.W.Wire.count start c.lose.new.hub (Bytes id c.args.piece.now) n c.args.wire.now
           c.send.new.wire
-          (bytes_unsent g.W.Wire.passed g.W.Wire.count c.args.wire.now c.loop-taken.wire c.send.new.wire g.met.W.Wire.more
-          c.cuts_are_like.ensures c.lose.new.hub step some any within c.loop-taken.invariant.acts c.loop-taken.invariant.counts
+          (bytes_unsent g.W.Wire.passed g.W.Wire.count c.args.wire.now c.loop-taken.wire c.send.new.wire
+          g.met.W.Wire.more
+          c.cuts_are_like.ensures c.lose.new.hub step some any within c.loop-taken.invariant.acts
+          c.loop-taken.invariant.counts
           unsent c.in-Err-send.ensures.counts c.in-Err-send.ensures.counted c.lose.ensures.step.hub),
     )
 
 pub returns-in-Err-send-clause-follows : goal.returns-in-Err-send-clause-follows
 returns-in-Err-send-clause-follows g c =
-    follows_on g.K.Keeper.may_leave g.K.Keeper.knows g.K.Keeper.count c.args.keeper.now c.follow.new.self c.lose.new.keeper c.lose.result
+    follows_on g.K.Keeper.may_leave g.K.Keeper.knows g.K.Keeper.count c.args.keeper.now c.follow.new.self
+    c.lose.new.keeper c.lose.result
     c.lose.new.hub (no_more_then g.K.Keeper.may_leave c.args.keeper.now c.loop-taken.keeper c.follow.new.self
     c.loop-taken.invariant.leaves c.in-Ok.ensures.leaves) (c.in-Ok.ensures.faultless ∙ c.loop-taken.invariant.kept)
     c.lose.ensures.follows
@@ -206,7 +228,8 @@ returns-in-Err-send-clause-withheld g c =
     c.in-Err-send.ensures.withheld
 
 pub returns-in-Err-send-clause-lines : goal.returns-in-Err-send-clause-lines
-returns-in-Err-send-clause-lines g c = λ d. c.lose.ensures.step.lines d ∙ c.take_bytes-used.ensures.step.lines d ∙ c.loop-taken.invariant.same d
+returns-in-Err-send-clause-lines g c = λ d. c.lose.ensures.step.lines d ∙ c.take_bytes-used.ensures.step.lines d
+    ∙ c.loop-taken.invariant.same d
 
 -- ---- all bytes were used
 
@@ -215,7 +238,8 @@ returns-clause-done g c =
     let all : take c.loop-taken.taken c.args.piece.now ≡ c.args.piece.now = take_all _ c.args.piece.now (omega arith) in
     let on : after_bytes c.args.hub.now c.args.id (take c.loop-taken.taken c.args.piece.now)
     ≡ hub_run c.args.hub.now (Bytes c.args.id c.args.piece.now ∷ []) =
-    ap (after_bytes c.args.hub.now c.args.id) all ∙ sym (whole_done c.args.hub.now (Bytes c.args.id c.args.piece.now)) in
+    ap (after_bytes c.args.hub.now c.args.id) all ∙ sym (whole_done c.args.hub.now (Bytes c.args.id c.args.piece.now))
+    in
     let P : HubRun → Type 0 = λ h. g.W.Wire.passed c.args.wire.now c.loop-taken.wire (map sent_act h.sent) in (
       None,
       record {
@@ -229,7 +253,8 @@ returns-clause-done g c =
 
 pub returns-clause-follows : goal.returns-clause-follows
 returns-clause-follows g c =
-    follows_well g.K.Keeper.may_leave g.K.Keeper.knows g.K.Keeper.count c.args.keeper.now c.loop-taken.keeper tt c.loop-taken.hub
+    follows_well g.K.Keeper.may_leave g.K.Keeper.knows g.K.Keeper.count c.args.keeper.now c.loop-taken.keeper tt
+    c.loop-taken.hub
     c.loop-taken.invariant.knows c.loop-taken.invariant.leaves c.loop-taken.invariant.kept
 
 pub returns-clause-withheld : goal.returns-clause-withheld

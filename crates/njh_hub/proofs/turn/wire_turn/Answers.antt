@@ -32,5 +32,6 @@ returns-in-Err-clause-breaks g c =
 
 pub returns-in-Err-clause-follows : goal.returns-in-Err-clause-follows
 returns-in-Err-clause-follows g c =
-    follows_ill g.K.Keeper.may_leave g.K.Keeper.knows g.K.Keeper.count c.args.keeper.now c.act_on.new.keeper c.in-Err.fault
+    follows_ill g.K.Keeper.may_leave g.K.Keeper.knows g.K.Keeper.count c.args.keeper.now c.act_on.new.keeper
+    c.in-Err.fault
     c.act_on.new.hub c.in-Err.ensures.follows.leaves c.in-Err.ensures.follows.counts c.in-Err.ensures.follows.counted

@@ -29,7 +29,8 @@ returns-clause-begun g c clean s stands distinct found reads =
     let hub = c.args.hub.now in
     let owns = map own_of c.in_ok-owns.owns.items in
     let w = numbers_of c.begin_numbers.new.self in
-    let same : third ≡ second = ap (λ (x : SpoolWriter g.row.S.Denot). shown g.S.Store x.store) c.forget_numbers.ensures.others in
+    let same : third ≡ second = ap (λ (x : SpoolWriter g.row.S.Denot). shown g.S.Store x.store)
+    c.forget_numbers.ensures.others in
     let clean_third : HasCleanDisk third = omega (arith, clean, c.begin_numbers.ensures.crash.clean) in
     let clean_second : HasCleanDisk second = subst HasCleanDisk same clean_third in
     let clean_first : HasCleanDisk first = omega (arith, clean_second, c.remember_all.ensures.crash.clean) in
@@ -43,18 +44,29 @@ returns-clause-begun g c clean s stands distinct found reads =
       kept = subst (λ (d : Database). Holds s.kept d.trees) (sym stays.committed) stands.kept;
     } in
     let led = (c.in_ok-owns.ensures.led found clean_second).leads s there in
-    let all : AreRemembered names hub owns s.now led.0 = led.2 (is_ordered s.now old.now.trees stands.now) (ap entries c.deref-2.ensures.value ∙ read) distinct reads in
+    let all : AreRemembered names hub owns s.now led.0 =
+    led.2 (is_ordered s.now old.now.trees stands.now) (ap entries c.deref-2.ensures.value ∙ read) distinct reads in
     let long : length owns ≡ length names =
-    (let a = length-map c.in_ok-owns.owns.items own_of in let b = length-map c.in_ok-owns.owns.items (λ own. own.name) in let d = ap length c.in_ok-owns.ensures.names in omega (arith, a, b, d)) in
+    (let a = length-map c.in_ok-owns.owns.items own_of in let b = length-map c.in_ok-owns.owns.items (λ own. own.name)
+    in let d = ap length c.in_ok-owns.ensures.names in omega (arith, a, b, d)) in
     let key = c.forget_numbers.new.self.next_key in
     let id = c.forget_numbers.new.self.next_id in
     let numbers = c.in_ok-begin_numbers.ensures.numbers in
-    let sweeps : w.sweeps ≡ [] = ap (λ xs. map sweep_in xs.items) c.begin_numbers.ensures.others.0 ∙ ap (map sweep_in) c.forget_numbers.ensures.none.1 in
-    let free : w.free_keys ≡ free_at files w.next_key = numbers.2 ∙ ap (λ xs. xs ++ free_at files w.next_key) c.forget_numbers.ensures.none.0 in
+    let sweeps : w.sweeps ≡ [] = ap (λ xs. map sweep_in xs.items) c.begin_numbers.ensures.others.0
+    ∙ ap (map sweep_in) c.forget_numbers.ensures.none.1 in
+    let free : w.free_keys ≡ free_at files w.next_key =
+    numbers.2 ∙ ap (λ xs. xs ++ free_at files w.next_key) c.forget_numbers.ensures.none.0 in
     let begun : HasBegun names hub owns w (without_keys (emptied_at files (key_behind key files)) led.0) =
-    has_begun files names hub owns s.now led.0 w id key (subst AreFilesApart same_files c.in_ok-check_numbers.ensures.0) (sym (ap have_low_ids same_files) ∙ c.in_ok-check_numbers.ensures.1) rows distinct long all sweeps free numbers.1 numbers.0 in
-    let moved : Stands (record s { now = led.0 }) third = subst (λ (x : State). Stands (record s { now = led.0 }) x) (sym same) led.1 in
-    (without_keys (emptied_at files (key_behind key files)) led.0, begun, c.in_ok-begin_numbers.ensures.begun clean (record s { now = led.0 }) moved)
+    has_begun files names hub owns s.now led.0 w id key (subst AreFilesApart same_files c.in_ok-check_numbers.ensures.0)
+    (sym (ap have_low_ids same_files) ∙ c.in_ok-check_numbers.ensures.1) rows distinct long all sweeps free numbers.1
+    numbers.0 in
+    let moved : Stands (record s { now = led.0 }) third =
+    subst (λ (x : State). Stands (record s { now = led.0 }) x) (sym same) led.1 in (
+      without_keys (emptied_at files (key_behind key files)) led.0,
+      begun,
+      c.in_ok-begin_numbers.ensures.begun clean
+          (record s { now = led.0 }) moved,
+    )
 
 pub returns-in_err-owns-clause-crash : goal.returns-in_err-owns-clause-crash
 returns-in_err-owns-clause-crash g c = survives_any _ _ _ _ _ c.files.ensures.crash c.remember_all.ensures.crash
@@ -64,11 +76,13 @@ returns-in_err-begin_numbers-clause-crash g c =
     let same = ap (λ (x : SpoolWriter g.row.S.Denot). shown g.S.Store x.store) c.forget_numbers.ensures.others in
     survives_any _ _ _ _ _ c.files.ensures.crash
     (survives_any _ _ _ _ _ c.remember_all.ensures.crash
-    (subst (λ (x : State). Survives x (shown g.S.Store c.begin_numbers.new.self.store) (λ _. ⊤)) same c.begin_numbers.ensures.crash))
+    (subst (λ (x : State). Survives x (shown g.S.Store c.begin_numbers.new.self.store) (λ _. ⊤)) same
+    c.begin_numbers.ensures.crash))
 
 pub returns-clause-crash : goal.returns-clause-crash
 returns-clause-crash g c =
     let same = ap (λ (x : SpoolWriter g.row.S.Denot). shown g.S.Store x.store) c.forget_numbers.ensures.others in
     survives_any _ _ _ _ _ c.files.ensures.crash
     (survives_any _ _ _ _ _ c.remember_all.ensures.crash
-    (subst (λ (x : State). Survives x (shown g.S.Store c.begin_numbers.new.self.store) (λ _. ⊤)) same c.begin_numbers.ensures.crash))
+    (subst (λ (x : State). Survives x (shown g.S.Store c.begin_numbers.new.self.store) (λ _. ⊤)) same
+    c.begin_numbers.ensures.crash))

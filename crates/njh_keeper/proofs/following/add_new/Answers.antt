@@ -39,14 +39,21 @@ new-preserved g c =
     let f = get_or whole index any_file in
     let here = is_at whole index there in
     let number = c.number_at-number.result in
-    let number_is : number ≡ f.number = c.number_at-number.ensures ∙ ap (λ (x : WholeFile). x.number) (get_or_default whole index _ any_file there) in
-    let summary_is : c.summary_at-summary.result ≡ file_summary f = c.summary_at-summary.ensures.summary ∙ ap file_summary (get_or_default whole index _ any_file there) in
+    let number_is : number ≡ f.number = c.number_at-number.ensures
+    ∙ ap (λ (x : WholeFile). x.number) (get_or_default whole index _ any_file there) in
+    let summary_is : c.summary_at-summary.result ≡ file_summary f =
+    c.summary_at-summary.ensures.summary ∙ ap file_summary (get_or_default whole index _ any_file there) in
     record {
-      crash = survives_then old mid new _ _ (λ _. ⊥) (λ _ db none. none) (λ _ db none. none) c.new.invariant.crash c.add_one.ensures.crash;
+      crash = survives_then old mid new _ _ (λ _. ⊥) (λ _ db none. none) (λ _ db none. none) c.new.invariant.crash
+          c.add_one.ensures.crash;
       led = λ numbered clean.
-          let hub_file = hub_file_at parts (record { customer = c.args.customer; number = number }) c.summary_at-summary.result index f numbered c.summary_at-summary.ensures.headers here number_is summary_is in
-          added_further m m1 m2 old mid new whole c.args.old index f here (c.new.invariant.led numbered (early clean)) (c.in_ok-add_one.ensures.led f hub_file clean);
-      quiet = quiet_then c.args.writer.now c.new.writer c.add_one.new.writer c.new.invariant.quiet (quiet_changed c.new.writer c.add_one.new.writer c.in_ok-add_one.ensures.due);
+          let hub_file = hub_file_at parts (record { customer = c.args.customer; number = number })
+          c.summary_at-summary.result index f numbered c.summary_at-summary.ensures.headers here number_is
+          summary_is in
+          added_further m m1 m2 old mid new whole c.args.old index f here (c.new.invariant.led numbered (early clean))
+          (c.in_ok-add_one.ensures.led f hub_file clean);
+      quiet = quiet_then c.args.writer.now c.new.writer c.add_one.new.writer c.new.invariant.quiet
+          (quiet_changed c.new.writer c.add_one.new.writer c.in_ok-add_one.ensures.due);
     }
 
 pub returns-clause-led : goal.returns-clause-led

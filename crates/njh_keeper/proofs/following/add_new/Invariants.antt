@@ -16,7 +16,8 @@ invariant-new g l =
     record {
       crash : Survives first now (λ _. ⊥);
       led : AreNumbered whole → HasCleanDisk now
-          → LeadsFiles (memory_of l.fn.writer l.fn.own) (memory_of l.writer l.own) (λ s files. (files ≡ take l.old whole) × AreFronts s (own_of l.fn.own).partial whole)
+          → LeadsFiles (memory_of l.fn.writer l.fn.own) (memory_of l.writer l.own)
+          (λ s files. (files ≡ take l.old whole) × AreFronts s (own_of l.fn.own).partial whole)
           (λ files here. here ≡ take l.index whole) first now;
       quiet : IsQuiet l.fn.writer l.writer;
     }

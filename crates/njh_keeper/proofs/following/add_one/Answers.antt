@@ -28,17 +28,22 @@ returns-clause-led g c f hub_file clean =
     let same : memory_of c.write_records.new.writer c.place_for.new.own ≡ m1 =
     λ j. record { numbers = ap numbers_of c.in_ok-write_records.ensures.others j; own = m1.own; text = m1.text } in
     let place = c.in_ok-place.place in
-    let hand = c.in_ok-place.ensures.led f hub_file.number_is (ap (λ (x : FileSummaryView). x.records) hub_file.summary_is) early in
-    let finish = subst (λ rs. Leads (Writes true place.key place.written rs) mid mid2) hub_file.records_are (c.in_ok-write_records.ensures.led later) in
+    let hand = c.in_ok-place.ensures.led f hub_file.number_is
+    (ap (λ (x : FileSummaryView). x.records) hub_file.summary_is) early in
+    let finish = subst (λ rs. Leads (Writes true place.key place.written rs) mid mid2) hub_file.records_are
+    (c.in_ok-write_records.ensures.led later) in
     let fits = subst (AllByRecursion FitsHub) hub_file.records_are c.in_ok-write_records.ensures.fit in
     ok_then c.add_row.result _ _
     (λ row.
-    add_leads m m1 f place.key place.written m2 summary old mid mid2 new hub_file.summary_is hub_file.headers fits hand finish
+    add_leads m m1 f place.key place.written m2 summary old mid mid2 new hub_file.summary_is hub_file.headers fits hand
+    finish
     (subst (λ x. AddsRow place.key summary f x m2 mid2 new) same row))
     (c.add_row.ensures.added f hub_file clean)
 
 pub returns-in_err-write_records-clause-crash : goal.returns-in_err-write_records-clause-crash
-returns-in_err-write_records-clause-crash g c = survives_both _ _ _ c.place_for.ensures.crash c.write_records.ensures.crash
+returns-in_err-write_records-clause-crash g c =
+    survives_both _ _ _ c.place_for.ensures.crash c.write_records.ensures.crash
 
 pub returns-clause-crash : goal.returns-clause-crash
-returns-clause-crash g c = survives_both _ _ _ c.place_for.ensures.crash (survives_both _ _ _ c.write_records.ensures.crash c.add_row.ensures.crash)
+returns-clause-crash g c = survives_both _ _ _ c.place_for.ensures.crash
+    (survives_both _ _ _ c.write_records.ensures.crash c.add_row.ensures.crash)

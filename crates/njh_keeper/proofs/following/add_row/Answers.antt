@@ -28,7 +28,8 @@ returns-clause-added g c f hub_file clean =
       came = c.take_id.new.self.now;
     } in
     let row = file_of c.in_ok-row.row in
-    let before : shown g.S.Store c.take_id.new.self.store ≡ shown g.S.Store c.args.writer.now.store = ap (λ (x : SpoolWriter g.row.S.Denot). shown g.S.Store x.store) c.in_ok-take_id.ensures.others in
+    let before : shown g.S.Store c.take_id.new.self.store ≡ shown g.S.Store c.args.writer.now.store =
+    ap (λ (x : SpoolWriter g.row.S.Denot). shown g.S.Store x.store) c.in_ok-take_id.ensures.others in
     ok_then c.add_file-added.result _ _
     (λ changed. record {
       kept = whole_of now;
@@ -44,7 +45,10 @@ returns-clause-added g c f hub_file clean =
       };
       memory = λ j. record {
         numbers = (ap numbers_of c.add_file-added.ensures.others ∙ ap numbers_of c.in_ok-take_id.ensures.others) j;
-        own = record m.own { whole = (ap (map whole_of) c.in_ok-push.ensures.items ∙ map-append whole_of c.args.own.now.whole.items (now ∷ [])) j };
+        own = record m.own {
+          whole = (ap (map whole_of) c.in_ok-push.ensures.items
+              ∙ map-append whole_of c.args.own.now.whole.items (now ∷ [])) j;
+        };
         text = m.text;
       };
       is_row = (let is : IsRowFor m.text c.args.key summary row = search rules in is);
@@ -53,4 +57,5 @@ returns-clause-added g c f hub_file clean =
     (c.add_file-added.ensures.changed clean)
 
 pub returns-clause-due : goal.returns-clause-due
-returns-clause-due g c = on_ok c.add_file-added.result (ap (λ (x : SpoolWriter g.row.S.Denot). x.is_changed) c.add_file-added.ensures.others)
+returns-clause-due g c = on_ok c.add_file-added.result
+    (ap (λ (x : SpoolWriter g.row.S.Denot). x.is_changed) c.add_file-added.ensures.others)

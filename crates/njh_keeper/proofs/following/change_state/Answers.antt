@@ -24,12 +24,14 @@ returns-clause-led g c f hub_file kept kept_is said several clean =
     let first = c.index-kept.result.now in
     let k = whole_of first in
     let there : i < length m.own.whole = (let long = length-map items whole_of in omega (arith, long, c.requires)) in
-    let is : k ≡ get_or m.own.whole i k = ap whole_of c.index-kept.ensures ∙ sym (get_or-map whole_of items i first k c.requires) in
+    let is : k ≡ get_or m.own.whole i k = ap whole_of c.index-kept.ensures
+    ∙ sym (get_or-map whole_of items i first k c.requires) in
     let summary = c.args.summary.now in
     let new = shown g.S.Store c.if-changes_hold.writer.store in
     let same : kept ≡ first = kept_is ∙ get_or_default items i kept first c.requires ∙ sym c.index-kept.ensures in
     let said_first : first.destination ≡ summary.destination = ap (λ x. x.destination) (sym same) ∙ said in
-    let several_first : first.is_mixed ≡ true → AreOne (named_nodes None f.records) → ⊥ = λ mixed. several (ap (λ x. x.is_mixed) same ∙ mixed) in
+    let several_first : first.is_mixed ≡ true → AreOne (named_nodes None f.records) → ⊥ =
+    λ mixed. several (ap (λ x. x.is_mixed) same ∙ mixed) in
     let now = record first { state = summary.state } in
     let to = memory_changed m i k there is (now_kept m i k there is f summary hub_file.summary_is hub_file.headers) in
     let whole : map whole_of (set items i now) ≡ set m.own.whole i (whole_of now) = map-set whole_of items i now in
@@ -37,35 +39,45 @@ returns-clause-led g c f hub_file kept kept_is said several clean =
       | then-changes_hold+in_ok-change_row w ↦
           rw w.writer-is (
           let there_now = shown g.S.Store w.change_row.new.writer.store in
-          let led : memory_of w.change_row.new.writer (record c.args.own.now { whole = with_item c.args.own.now.whole i now }) ≡ to =
-          λ j. record { numbers = ap numbers_of w.change_row.ensures.others j; own = record m.own { whole = whole j }; text = m.text } in
-          let changed = w.in_ok-change_row.ensures.changed (subst (λ (x : SpoolWriter g.row.S.Denot). HasCleanDisk (shown g.S.Store x.store)) w.writer-is clean) in
+          let led : memory_of w.change_row.new.writer
+          (record c.args.own.now { whole = with_item c.args.own.now.whole i now }) ≡ to =
+          λ j. record {
+            numbers = ap numbers_of w.change_row.ensures.others j;
+            own = record m.own { whole = whole j };
+            text = m.text;
+          } in
+          let changed = w.in_ok-change_row.ensures.changed
+          (subst (λ (x : SpoolWriter g.row.S.Denot). HasCleanDisk (shown g.S.Store x.store)) w.writer-is clean) in
           leads_weaker (λ s t. t ≡ with_changed k.id changed.row s) _ old there_now
           (λ s t is_changed files has before. (
             set files i f,
             refl,
             subst (λ x. GoesTo m x s t (set files i f)) (sym led)
                 (subst (λ x. GoesTo m to s x (set files i f)) (sym is_changed)
-                (held_goes m i k there is f summary hub_file.summary_is hub_file.headers s files has before said_first several_first changed.row changed.is_row)),
+                (held_goes m i k there is f summary hub_file.summary_is hub_file.headers s files has before said_first
+                several_first changed.row changed.is_row)),
           ))
           (leads_by (with_changed k.id changed.row) old there_now changed.changes))
       | else-changes_hold w ↦
           let held : is_held summary.state ≡ is_held first.state = c.changes_hold.ensures w.if-changes_hold.false in
           rw w.writer-is (
-          let led : memory_of c.args.writer.now (record c.args.own.now { whole = with_item c.args.own.now.whole i now }) ≡ to =
+          let led : memory_of c.args.writer.now (record c.args.own.now { whole = with_item c.args.own.now.whole i now })
+          ≡ to =
           λ j. record { numbers = m.numbers; own = record m.own { whole = whole j }; text = m.text } in
           leads_nothing _ old
           (λ s files has before. (
             set files i f,
             refl,
             subst (λ x. GoesTo m x s s (set files i f)) (sym led)
-                (kept_goes m i k there is f summary hub_file.summary_is hub_file.headers s files has before said_first several_first held),
+                (kept_goes m i k there is f summary hub_file.summary_is hub_file.headers s files has before said_first
+                several_first held),
           )))
     ]
 
 pub returns-clause-quiet : goal.returns-clause-quiet
 returns-clause-quiet g c =
     elim c.if-changes_hold.branch [
-      | then-changes_hold+in_ok-change_row w ↦ rw w.writer-is (quiet_changed c.args.writer.now w.change_row.new.writer w.in_ok-change_row.ensures.due)
+      | then-changes_hold+in_ok-change_row w ↦
+          rw w.writer-is (quiet_changed c.args.writer.now w.change_row.new.writer w.in_ok-change_row.ensures.due)
       | else-changes_hold w ↦ rw w.writer-is (quiet_same c.args.writer.now)
     ]

@@ -22,21 +22,29 @@ returns-clause-led g c clean =
     let sweep = sweep_in (sweep_of gone.key gone.records) in
     let items = c.args.own.now.whole.items in
     let there : i < length m.own.whole = (let long = length-map items whole_of in omega (arith, long, c.requires)) in
-    let is : k ≡ get_or m.own.whole i k = ap whole_of c.remove-gone.ensures.value ∙ sym (get_or-map whole_of items i gone k c.requires) in
+    let is : k ≡ get_or m.own.whole i k = ap whole_of c.remove-gone.ensures.value
+    ∙ sym (get_or-map whole_of items i gone k c.requires) in
     let m' = memory_of c.drop_file.new.self (record c.args.own.now { whole = c.remove-gone.new.self }) in
     ok_both c.drop_file.result _ _ _
     (λ changed later.
     let sweeps : map sweep_in c.drop_file.new.self.sweeps.items ≡ m.numbers.sweeps ++ sweep ∷ [] =
-    ap (map sweep_in) later ∙ map-append sweep_in c.args.writer.now.sweeps.items (sweep_of gone.key gone.records ∷ []) in
+    ap (map sweep_in) later ∙ map-append sweep_in c.args.writer.now.sweeps.items (sweep_of gone.key gone.records ∷ [])
+    in
     let numbers : m'.numbers ≡ record m.numbers { sweeps = m.numbers.sweeps ++ sweep ∷ [] } =
     ap numbers_of c.drop_file.ensures.others ∙ ap (λ xs. record m.numbers { sweeps = xs }) sweeps in
     let whole : m'.own ≡ record m.own { whole = remove m.own.whole i } =
-    ap (λ xs. record m.own { whole = map whole_of xs }) c.remove-gone.ensures.items ∙ ap (λ xs. record m.own { whole = xs }) (map-remove whole_of items i) in
-    let led : m' ≡ memory_without m i k sweep there is refl = λ j. record { numbers = numbers j; own = whole j; text = m.text } in
+    ap (λ xs. record m.own { whole = map whole_of xs }) c.remove-gone.ensures.items
+    ∙ ap (λ xs. record m.own { whole = xs }) (map-remove whole_of items i) in
+    let led : m' ≡ memory_without m i k sweep there is refl =
+    λ j. record { numbers = numbers j; own = whole j; text = m.text } in
     subst (λ x. LeadsFiles m x (λ s files. ⊤) (λ files now. now ≡ remove files i) old new) (sym led)
     (leads_weaker (λ s t. t ≡ without_file gone.id s) _ old new
-    (λ s t same files has given.
-    (remove files i, refl, subst (λ u. GoesTo m (memory_without m i k sweep there is refl) s u (remove files i)) (sym same) (file_goes m i k sweep there is refl s files has)))
+    (λ s t same files has given. (
+      remove files i,
+      refl,
+      subst (λ u. GoesTo m (memory_without m i k sweep there is refl) s u (remove files i))
+          (sym same) (file_goes m i k sweep there is refl s files has),
+    ))
     (leads_by (without_file gone.id) old new changed)))
     (c.drop_file.ensures.changed clean) c.drop_file.ensures.later
 

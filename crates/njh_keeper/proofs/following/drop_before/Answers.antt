@@ -11,7 +11,8 @@ use Rattle.njh_keeper.proofs.FollowingLaws.{goes_nowhere, goes_then}
 use Rattle.njh_keeper.proofs.LeadingLaws.{leads_nothing, leads_then, leads_weaker, survives_both, survives_here}
 use Rattle.njh_keeper.proofs.WalkedLaws.{is_another, is_that, passed_here, reached_at_end, reached_here}
 use Rattle.njh_keeper.proofs.QuietLaws.{quiet_changed, quiet_same}
-use Rattle.njh_keeper.proofs.following.drop_before.Goals.{then-place-len-via-then-place-len, then-place-len-via-else-place-len+then-eq}
+use Rattle.njh_keeper.proofs.following.drop_before.Goals.{then-place-len-via-then-place-len}
+use Rattle.njh_keeper.proofs.following.drop_before.Goals.{then-place-len-via-else-place-len+then-eq}
 use Rattle.njh_keeper.proofs.following.drop_before.Goals as goal
 
 pub whole-init : goal.whole-init
@@ -39,17 +40,26 @@ whole-preserved g c =
     let k = whole_of c.index.result.now in
     let low : place < length items = omega (arith, c.if-place-len.false, c.len.ensures) in
     let there : place < length m1.own.whole = (let long = length-map items whole_of in omega (arith, long, low)) in
-    let is : k ≡ get_or m1.own.whole place k = ap whole_of c.index.ensures ∙ sym (get_or-map whole_of items place c.index.result.now k low) in
+    let is : k ≡ get_or m1.own.whole place k =
+    ap whole_of c.index.ensures ∙ sym (get_or-map whole_of items place c.index.result.now k low) in
     record {
-      crash = survives_then old mid new _ _ (λ _. ⊥) (λ _ db none. none) (λ _ db none. none) c.whole.invariant.crash c.drop_at.ensures.crash;
+      crash = survives_then old mid new _ _ (λ _. ⊥) (λ _ db none. none) (λ _ db none. none) c.whole.invariant.crash
+          c.drop_at.ensures.crash;
       led = λ still next clean.
-          leads_then _ _ _ old mid new (c.whole.invariant.led still next (early clean)) (c.in_ok-drop_at.ensures.led clean)
+          leads_then _ _ _ old mid new (c.whole.invariant.led still next (early clean))
+          (c.in_ok-drop_at.ensures.led clean)
           (λ s t u first second files has walk.
           let one = first files has walk in
           let two = second one.0 one.2.has tt in
-          let other : c.args.number ≡ Some k.number → ⊥ = is_another k.number c.args.number (sym c.if-eq.ensures) in
-          (two.0, subst (λ now. IsWalkedTo still now place) (sym two.1) (passed_here m1 t one.0 one.2.has place k there is c.args.number still next one.1 other), goes_then m m1 m2 s t u one.0 two.0 one.2 two.2));
-      fewer = let less = length-remove items place low in let now = ap length c.drop_at.ensures.memory in omega (arith, c.whole.invariant.fewer, less, now);
+          let other : c.args.number ≡ Some k.number → ⊥ = is_another k.number c.args.number (sym c.if-eq.ensures) in (
+            two.0,
+            subst (λ now. IsWalkedTo still now place) (sym two.1)
+                (passed_here m1 t one.0 one.2.has place k there is c.args.number still next one.1 other),
+            goes_then m m1 m2 s
+                t u one.0 two.0 one.2 two.2,
+          ));
+      fewer = let less = length-remove items place low in let now =
+          ap length c.drop_at.ensures.memory in omega (arith, c.whole.invariant.fewer, less, now);
       quiet = quiet_changed c.args.writer.now c.drop_at.new.writer c.drop_at.ensures.due;
     }
 
@@ -69,12 +79,16 @@ returns-then-place-len-clause-led g c still next clean =
       (
         one.1,
         elim c.then-place-len.branch [
-          | then-place-len-via-then-place-len w ↦ reached_at_end m1 t one.0 one.2.has c.args.number still place next one.1 (omega (arith, long, w.if-place-len))
+          | then-place-len-via-then-place-len w ↦
+              reached_at_end m1 t one.0 one.2.has c.args.number still place next one.1
+              (omega (arith, long, w.if-place-len))
           | then-place-len-via-else-place-len+then-eq w ↦ (
               let low : place < length items = omega (arith, w.if-place-len.false, c.len.ensures) in
               let k = whole_of w.index.result.now in
-              let is : k ≡ get_or m1.own.whole place k = ap whole_of w.index.ensures ∙ sym (get_or-map whole_of items place w.index.result.now k low) in
-              reached_here m1 t one.0 one.2.has place k (omega (arith, long, low)) is c.args.number (is_that k.number c.args.number (sym w.if-eq.ensures)))
+              let is : k ≡ get_or m1.own.whole place k =
+              ap whole_of w.index.ensures ∙ sym (get_or-map whole_of items place w.index.result.now k low) in
+              reached_here m1 t one.0 one.2.has place k (omega (arith, long, low)) is c.args.number
+              (is_that k.number c.args.number (sym w.if-eq.ensures)))
         ],
       ),
       one.2,
@@ -92,8 +106,15 @@ returns-clause-led g c still next clean =
     let fewer = c.whole.invariant.fewer in
     leads_weaker _ _ old new
     (λ s t first files has walk.
-    let one = first files has walk in
-    (one.0, (one.1, reached_at_end m1 t one.0 one.2.has c.args.number still place next one.1 (omega (arith, long, fewer, c.whole-test.false, c.len-end.ensures))), one.2))
+    let one = first files has walk in (
+      one.0,
+      (
+        one.1,
+        reached_at_end m1 t one.0 one.2.has c.args.number still place next one.1
+            (omega (arith, long, fewer, c.whole-test.false, c.len-end.ensures)),
+      ),
+      one.2,
+    ))
     (c.whole.invariant.led still next clean)
 
 pub returns-then-place-len-clause-quiet : goal.returns-then-place-len-clause-quiet

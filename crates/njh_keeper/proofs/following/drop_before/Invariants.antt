@@ -14,7 +14,8 @@ invariant-whole g l =
     record {
       crash : Survives old now (λ _. ⊥);
       led : (still : List WholeFile) → IsNext l.number still l.place → HasCleanDisk now
-          → LeadsFiles (memory_of l.fn.writer l.fn.own) (memory_of l.writer l.own) (λ s files. IsWalkedTo still files l.place) (λ files here. IsWalkedTo still here l.place) old now;
+          → LeadsFiles (memory_of l.fn.writer l.fn.own) (memory_of l.writer l.own)
+          (λ s files. IsWalkedTo still files l.place) (λ files here. IsWalkedTo still here l.place) old now;
       fewer : length l.own.whole.items + l.counter ≤ length l.fn.own.whole.items;
       quiet : IsQuiet l.fn.writer l.writer;
     }

@@ -25,12 +25,16 @@ returns-clause-led g c numbered clean =
     let is : arrived ≡ customer.spool.arrived = c.arrived-arrived.ensures in
     followed_all arrived m m1 m2 first mid new customer c.args.own.now.arrived old
     (λ files go_on.
-    first_survive c.files_survive.ensures.first customer files c.args.own.now.arrived count new_files old c.file_count-count.ensures c.file_count-count.type_inv (omega (arith, is, c.arrived-arrived.type_inv))
-    (λ all. c.new_files.ensures.all (is ∙ all)) (λ less. omega (arith, is, less, c.new_files.ensures.some (omega (arith, is, less)))) (omega (arith, c.saturating_sub-old.ensures)) go_on)
+    first_survive c.files_survive.ensures.first customer files c.args.own.now.arrived count new_files old
+    c.file_count-count.ensures c.file_count-count.type_inv (omega (arith, is, c.arrived-arrived.type_inv))
+    (λ all. c.new_files.ensures.all (is ∙ all))
+    (λ less. omega (arith, is, less, c.new_files.ensures.some (omega (arith, is, less))))
+    (omega (arith, c.saturating_sub-old.ensures)) go_on)
     (c.in_ok-follow_old.ensures.led numbered early) (c.in_ok-add_new.ensures.led numbered clean)
 
 pub returns-clause-quiet : goal.returns-clause-quiet
-returns-clause-quiet g c = quiet_then c.args.writer.now c.follow_old.new.writer c.add_new.new.writer c.in_ok-follow_old.ensures.quiet c.in_ok-add_new.ensures.quiet
+returns-clause-quiet g c = quiet_then c.args.writer.now c.follow_old.new.writer c.add_new.new.writer
+    c.in_ok-follow_old.ensures.quiet c.in_ok-add_new.ensures.quiet
 
 pub returns-in_err-add_new-clause-crash : goal.returns-in_err-add_new-clause-crash
 returns-in_err-add_new-clause-crash g c = survives_both _ _ _ c.follow_old.ensures.crash c.add_new.ensures.crash

@@ -22,7 +22,8 @@ old-init g c =
     record {
       crash = survives_here at (λ _. ⊥);
       place = refl;
-      led = λ numbered clean. leads_nothing _ at (λ s files has given. (files, walk_begins still files given.0 given.1, goes_nowhere m s files has));
+      led = λ numbered clean. leads_nothing _ at
+          (λ s files has given. (files, walk_begins still files given.0 given.1, goes_nowhere m s files has));
       quiet = quiet_same c.args.writer.now;
     }
 
@@ -42,15 +43,19 @@ old-preserved g c =
     let there : index < length whole = omega (arith, c.old-test.true, c.requires) in
     let f = get_or whole index any_file in
     let here = is_at whole index there in
-    let next : IsAt still index f = is_at_of_first whole c.args.old index f c.requires (omega (arith, c.old-test.true)) here in
+    let next : IsAt still index f = is_at_of_first whole c.args.old index f c.requires (omega (arith, c.old-test.true))
+    here in
     record {
-      crash = survives_then first mid new _ _ (λ _. ⊥) (λ _ db none. none) (λ _ db none. none) c.old.invariant.crash c.follow_at.ensures.crash;
+      crash = survives_then first mid new _ _ (λ _. ⊥) (λ _ db none. none) (λ _ db none. none) c.old.invariant.crash
+          c.follow_at.ensures.crash;
       place = ap (λ n. n + 1) place;
       led = λ numbered clean.
           walked_further m m1 m2 first mid new _ still index (c.old.invariant.led numbered (early clean))
-          (subst (λ n. LeadsFiles m1 m2 (λ s files. IsWalkedTo still files n) (λ files now. IsWalkedTo still now (n + 1)) mid new) place
+          (subst (λ n. LeadsFiles m1 m2 (λ s files. IsWalkedTo still files n)
+          (λ files now. IsWalkedTo still now (n + 1)) mid new) place
           (c.in_ok-follow_at.ensures.led still f numbered here (subst (λ n. IsAt still n f) (sym place) next) clean));
-      quiet = quiet_then c.args.writer.now c.old.writer c.follow_at.new.writer c.old.invariant.quiet c.in_ok-follow_at.ensures.quiet;
+      quiet = quiet_then c.args.writer.now c.old.writer c.follow_at.new.writer c.old.invariant.quiet
+          c.in_ok-follow_at.ensures.quiet;
     }
 
 pub returns-clause-led : goal.returns-clause-led
@@ -71,12 +76,14 @@ returns-clause-led g c numbered clean =
     ok_then c.drop_before.result _ _
     (λ more.
     walked_to_end m m1 m2 first mid new _ still index last (c.old.invariant.led numbered early)
-    (subst (λ n. LeadsFiles m1 m2 (λ s files. IsWalkedTo still files n) (λ files now. IsWalkedTo still now n × IsReached None now n) mid new) place more))
+    (subst (λ n. LeadsFiles m1 m2 (λ s files. IsWalkedTo still files n)
+    (λ files now. IsWalkedTo still now n × IsReached None now n) mid new) place more))
     (c.drop_before.ensures.led still (subst (λ n. length still ≤ n) (sym place) last) clean)
 
 pub returns-clause-quiet : goal.returns-clause-quiet
 returns-clause-quiet g c =
-    ok_then c.drop_before.result _ _ (quiet_then c.args.writer.now c.old.writer c.drop_before.new.writer c.old.invariant.quiet) c.drop_before.ensures.quiet
+    ok_then c.drop_before.result _ _ (quiet_then c.args.writer.now c.old.writer c.drop_before.new.writer
+    c.old.invariant.quiet) c.drop_before.ensures.quiet
 
 pub returns-in_err-follow_at-clause-crash : goal.returns-in_err-follow_at-clause-crash
 returns-in_err-follow_at-clause-crash g c = survives_both _ _ _ c.old.invariant.crash c.follow_at.ensures.crash

@@ -17,7 +17,8 @@ invariant-old g l =
       crash : Survives first now (λ _. ⊥);
       place : l.place ≡ l.index;
       led : AreNumbered whole → HasCleanDisk now
-          → LeadsFiles (memory_of l.fn.writer l.fn.own) (memory_of l.writer l.own) (λ s files. Survive files (take l.old whole) × AreNumbered files)
+          → LeadsFiles (memory_of l.fn.writer l.fn.own) (memory_of l.writer l.own)
+          (λ s files. Survive files (take l.old whole) × AreNumbered files)
           (λ files here. IsWalkedTo (take l.old whole) here l.index) first now;
       quiet : IsQuiet l.fn.writer l.writer;
     }

@@ -5,7 +5,9 @@ use Rattle.njh_keeper.proofs.StillLaws.{job_is_named, one_is_named}
 use Rattle.njh_keeper.proofs.following.names_several.Goals as goal
 
 pub returns-in-In : goal.returns-in-In
-returns-in-In c f hub_file none = job_is_named f.kind f.records hub_file.headers.destination hub_file.headers.goes (ap (λ (x : FileSummaryView). x.kind) (sym hub_file.summary_is) ∙ c.in-In.is)
+returns-in-In c f hub_file none = job_is_named f.kind f.records hub_file.headers.destination hub_file.headers.goes
+    (ap (λ (x : FileSummaryView). x.kind) (sym hub_file.summary_is) ∙ c.in-In.is)
 
 pub returns-in-Out : goal.returns-in-Out
-returns-in-Out c f hub_file none = one_is_named f.kind f.records hub_file.headers.destination hub_file.headers.goes (subst (λ rs. AreOne (named_nodes None rs)) hub_file.records_are (c.is_mixed.ensures.one none))
+returns-in-Out c f hub_file none = one_is_named f.kind f.records hub_file.headers.destination hub_file.headers.goes
+    (subst (λ rs. AreOne (named_nodes None rs)) hub_file.records_are (c.is_mixed.ensures.one none))

@@ -20,11 +20,13 @@ returns-in-Some-clause-led g c f number records clean =
     let i = taken.0 in
     let long = length-map items partial_of in
     let others = c.take_partial.ensures.others in
-    partial_leads m m1 f p.key p.written i (partial_of p) at (omega (arith, long, taken.1)) (ap partial_of taken.2 ∙ sym (get_or-map partial_of items i p (partial_of p) taken.1))
+    partial_leads m m1 f p.key p.written i (partial_of p) at (omega (arith, long, taken.1))
+    (ap partial_of taken.2 ∙ sym (get_or-map partial_of items i p (partial_of p) taken.1))
     (sym number ∙ sym taken.4) (subst (λ n. p.seen ≤ n) records taken.5) refl refl
     (λ j. record {
       numbers = m.numbers;
-      own = (ap own_of others ∙ ap (λ xs. record m.own { partial = xs }) (ap (map partial_of) taken.3 ∙ map-remove partial_of items i)) j;
+      own = (ap own_of others ∙ ap (λ xs. record m.own { partial = xs })
+          (ap (map partial_of) taken.3 ∙ map-remove partial_of items i)) j;
       text = ap (λ (x : OwnFiles). string_bytes x.text) others j;
     })
 
@@ -35,6 +37,12 @@ returns-in_ok-take_key-in-None-clause-led g c f number records clean =
     let m = memory_of c.args.writer.now c.args.own.now in
     let m1 = memory_of c.take_key.new.self c.take_partial.new.self in
     let same = (c.take_partial.ensures.none c.in-None.is).0 in
-    key_leads m m1 f c.in_ok-take_key-in-None.field-0 0 c.take_key.new.self.free_keys.items c.take_key.new.self.next_key old new c.in_ok-take_key-in-None.ensures.taken refl
-    (λ j. record { numbers = ap numbers_of c.take_key.ensures.others j; own = ap own_of same j; text = ap (λ (x : OwnFiles). string_bytes x.text) same j })
+    key_leads m m1 f c.in_ok-take_key-in-None.field-0 0 c.take_key.new.self.free_keys.items c.take_key.new.self.next_key
+    old new c.in_ok-take_key-in-None.ensures.taken refl
+    (λ j. record {
+      numbers = ap numbers_of c.take_key.ensures.others j;
+      own = ap own_of same j;
+      text = ap
+          (λ (x : OwnFiles). string_bytes x.text) same j;
+    })
     (c.in_ok-take_key-in-None.ensures.emptied clean)

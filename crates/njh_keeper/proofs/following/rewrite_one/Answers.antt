@@ -21,34 +21,42 @@ returns-clause-led g c f hub_file kept kept_is one clean =
     let first = c.index-kept.result.now in
     let k = whole_of first in
     let there : i < length m.own.whole = (let long = length-map items whole_of in omega (arith, long, c.requires)) in
-    let is : k ≡ get_or m.own.whole i k = ap whole_of c.index-kept.ensures ∙ sym (get_or-map whole_of items i first k c.requires) in
+    let is : k ≡ get_or m.own.whole i k = ap whole_of c.index-kept.ensures
+    ∙ sym (get_or-map whole_of items i first k c.requires) in
     let summary = c.args.summary.now in
     let mid = shown g.S.Store c.write_records.new.writer.store in
     let new = shown g.S.Store c.change_row.new.writer.store in
     let early : HasCleanDisk mid = omega (arith, c.change_row.ensures.crash.clean, clean) in
     let same : kept ≡ first = kept_is ∙ get_or_default items i kept first c.requires ∙ sym c.index-kept.ensures in
     let now = record first { state = summary.state; destination = summary.destination; is_mixed = false } in
-    let m' = memory_of c.change_row.new.writer (record c.args.own.now { whole = with_item c.args.own.now.whole i now }) in
-    let led : m' ≡ memory_changed m i k there is (now_rewritten m i k there is f summary hub_file.summary_is hub_file.headers) =
+    let m' = memory_of c.change_row.new.writer (record c.args.own.now { whole = with_item c.args.own.now.whole i now })
+    in
+    let led : m' ≡ memory_changed m i k there is
+    (now_rewritten m i k there is f summary hub_file.summary_is hub_file.headers) =
     λ j. record {
       numbers = (ap numbers_of c.change_row.ensures.others ∙ ap numbers_of c.in_ok-write_records.ensures.others) j;
       own = record m.own { whole = map-set whole_of items i now j };
       text = m.text;
     } in
     let changed = c.in_ok-change_row.ensures.changed clean in
-    leads_then _ (λ t u. u ≡ with_changed k.id changed.row t) _ old mid new (c.in_ok-write_records.ensures.led early) (leads_by (with_changed k.id changed.row) mid new changed.changes)
+    leads_then _ (λ t u. u ≡ with_changed k.id changed.row t) _ old mid new (c.in_ok-write_records.ensures.led early)
+    (leads_by (with_changed k.id changed.row) mid new changed.changes)
     (λ s t u writes is_changed files has before. (
       set files i f,
       refl,
       subst (λ x. GoesTo m x s u (set files i f)) (sym led)
-          (subst (λ x. GoesTo m (memory_changed m i k there is (now_rewritten m i k there is f summary hub_file.summary_is hub_file.headers)) s x (set files i f)) (sym is_changed)
-          (rewritten_goes m i k there is f summary hub_file.summary_is hub_file.headers s files has before (λ said. one (ap (λ x. x.destination) same ∙ said)) t changed.row
+          (subst (λ x. GoesTo m (memory_changed m i k there is
+          (now_rewritten m i k there is f summary hub_file.summary_is hub_file.headers)) s x (set files i f))
+          (sym is_changed)
+          (rewritten_goes m i k there is f summary hub_file.summary_is hub_file.headers s files has before
+          (λ said. one (ap (λ x. x.destination) same ∙ said)) t changed.row
           (subst (λ n. Writes true k.key n f.records s t) (ap (λ (x : FileSummaryView). x.records) hub_file.summary_is)
           (subst (λ rs. Writes true k.key summary.records rs s t) hub_file.records_are writes)) changed.is_row)),
     ))
 
 pub returns-in_err-change_row-clause-crash : goal.returns-in_err-change_row-clause-crash
-returns-in_err-change_row-clause-crash g c = survives_both _ _ _ c.write_records.ensures.crash c.change_row.ensures.crash
+returns-in_err-change_row-clause-crash g c =
+    survives_both _ _ _ c.write_records.ensures.crash c.change_row.ensures.crash
 
 pub returns-clause-crash : goal.returns-clause-crash
 returns-clause-crash g c = survives_both _ _ _ c.write_records.ensures.crash c.change_row.ensures.crash

@@ -1,4 +1,5 @@
-use Rattle.std.proofs.Common.{◌≡◌, ℕ, ◌+◌, ◌^◌, ◌-◌, ◌<◌, ◌≤◌, List, length, drop, slice_get, refl, sym, ap, subst, ◌∙◌, min, arith}
+use Rattle.std.proofs.Common.{◌≡◌, ℕ, ◌+◌, ◌^◌, ◌-◌, ◌<◌, ◌≤◌, List, length, drop, slice_get, refl, sym, ap, subst, ◌∙◌}
+use Rattle.std.proofs.Common.{min, arith}
 use Rattle.std.specs.List.{AllByRecursion}
 use Rattle.std.proofs.lemmas.List.{take_all}
 use Rattle.sqlite.specs.State.{HasCleanDisk}
@@ -11,9 +12,12 @@ use Rattle.njh_spoolfile.specs.Shelf.{shown}
 use Rattle.njh_keeper.specs.code.Mirrored.{FitsHub}
 use Rattle.njh_keeper.proofs.LeadingLaws.{survives_both, survives_here}
 use Rattle.njh_keeper.specs.code.Alike.{AreBegun}
-use Rattle.njh_keeper.proofs.ReachLaws.{begun_front, begun_is_same, bytes_read, file_is_read, next_stands, none_is_left, one_fewer_left, one_more_fits, only_waits, reach_adds, reach_begins}
+use Rattle.njh_keeper.proofs.ReachLaws.{begun_front, begun_is_same, bytes_read, file_is_read, next_stands, none_is_left}
+use Rattle.njh_keeper.proofs.ReachLaws.{one_fewer_left, one_more_fits, only_waits, reach_adds, reach_begins}
 use Rattle.njh_keeper.proofs.ReachLaws.{reach_passes, reach_rewrites, write_done}
-use Rattle.njh_keeper.proofs.hub_records.write_records.Goals.{then-place-written+in_ok-add_record, else-place-written+then-is_old_header+in_ok-replace_record, else-place-written+else-is_old_header}
+use Rattle.njh_keeper.proofs.hub_records.write_records.Goals.{then-place-written+in_ok-add_record}
+use Rattle.njh_keeper.proofs.hub_records.write_records.Goals.{else-place-written+then-is_old_header+in_ok-replace_record}
+use Rattle.njh_keeper.proofs.hub_records.write_records.Goals.{else-place-written+else-is_old_header}
 use Rattle.njh_keeper.proofs.hub_records.write_records.Goals as goal
 
 pub places-init : goal.places-init
@@ -23,8 +27,10 @@ places-init g c =
     let old = shown g.S.Store c.args.writer.now.store in
     record {
       crash = survives_here old (λ _. ⊥);
-      led = λ clean. reach_begins c.args.key (AreBegun c.args.is_old c.args.written all) all (begun_front c.args.is_old c.args.written all) old;
-      left = file_is_read c.args.file.number spool c.in-Some.records (sym {b = records_numbered c.args.file.number spool} c.read_file.ensures ∙ c.in-Some.is);
+      led = λ clean. reach_begins c.args.key (AreBegun c.args.is_old c.args.written all) all
+          (begun_front c.args.is_old c.args.written all) old;
+      left = file_is_read c.args.file.number spool c.in-Some.records
+          (sym {b = records_numbered c.args.file.number spool} c.read_file.ensures ∙ c.in-Some.is);
       fit = tt;
       others = refl;
     }
@@ -37,40 +43,68 @@ places-preserved g c =
     let at = c.places.place in
     let so_far = c.places.invariant in
     let r : Stored = record { srcb = c.in-Some-next.srcb; bytes = c.next.new.into.items } in
-    let stands = next_stands all at r (c.in-Some-next.ensures.first ∙ ap (λ (rs : List Stored). slice_get rs 0) so_far.left) in
-    let left : c.next.new.self ≡ drop (at + 1) all = c.in-Some-next.ensures.rest ∙ ap (λ (rs : List Stored). drop 1 rs) so_far.left ∙ one_fewer_left all at in
+    let stands = next_stands all at r (c.in-Some-next.ensures.first
+    ∙ ap (λ (rs : List Stored). slice_get rs 0) so_far.left) in
+    let left : c.next.new.self ≡ drop (at + 1) all =
+    c.in-Some-next.ensures.rest ∙ ap (λ (rs : List Stored). drop 1 rs) so_far.left ∙ one_fewer_left all at in
     let low : c.in-Some-next.srcb < 256 = omega arith in
-    let short : length c.next.new.into.items ≤ 256 = omega (arith, ap (λ (xs : List ℕ). length xs) c.deref.ensures.0, c.deref.ensures.1) in
+    let short : length c.next.new.into.items ≤ 256 =
+    omega (arith, ap (λ (xs : List ℕ). length xs) c.deref.ensures.0, c.deref.ensures.1) in
     let fit = one_more_fits all at r stands.0 stands.1 (low, short) so_far.fit in
     elim c.if-place-written.branch [
       | then-place-written+in_ok-add_record w ↦
           let new = shown g.S.Store w.add_record.new.self.store in
           let early : HasCleanDisk new → HasCleanDisk mid = λ clean. omega (arith, w.add_record.ensures.crash.clean) in
-          let kept : Record = record { key = c.args.key; place = at; srcb = c.in-Some-next.srcb; bytes = c.deref.result.now } in
-          let is = bytes_read all at c.in-Some-next.srcb c.next.new.into.items c.deref.result.now c.deref.ensures.0 stands.1 in
+          let kept : Record = record {
+            key = c.args.key;
+            place = at;
+            srcb = c.in-Some-next.srcb;
+            bytes = c.deref.result.now;
+          } in
+          let is = bytes_read all at c.in-Some-next.srcb c.next.new.into.items c.deref.result.now c.deref.ensures.0
+          stands.1 in
           rw w.writer-is (record {
             crash = survives_both old mid new so_far.crash w.add_record.ensures.crash;
-            led = λ clean. reach_adds c.args.key (AreBegun c.args.is_old c.args.written all) all (begun_front c.args.is_old c.args.written all) at old mid new (so_far.led (early clean)) kept c.places-test.true refl refl is (λ before given. omega (arith, given.0, w.if-place-written.true)) stands.0 (w.in_ok-add_record.ensures.changed clean);
+            led = λ clean. reach_adds c.args.key (AreBegun c.args.is_old c.args.written all) all
+                (begun_front c.args.is_old c.args.written all) at old mid new (so_far.led (early clean)) kept
+                c.places-test.true refl refl is (λ before given. omega (arith, given.0, w.if-place-written.true))
+                stands.0
+                (w.in_ok-add_record.ensures.changed clean);
             left = left;
             fit = fit;
-            others = only_waits c.args.writer.now c.places.writer w.add_record.new.self (min (c.places.writer.waiting + 1) (2 ^ 32 - 1)) so_far.others w.add_record.ensures.others;
+            others = only_waits c.args.writer.now c.places.writer w.add_record.new.self
+                (min (c.places.writer.waiting + 1) (2 ^ 32 - 1)) so_far.others w.add_record.ensures.others;
           })
       | else-place-written+then-is_old_header+in_ok-replace_record w ↦
           let new = shown g.S.Store w.replace_record.new.self.store in
-          let early : HasCleanDisk new → HasCleanDisk mid = λ clean. omega (arith, w.replace_record.ensures.crash.clean) in
-          let kept : Record = record { key = c.args.key; place = at; srcb = c.in-Some-next.srcb; bytes = c.deref.result.now } in
-          let is = bytes_read all at c.in-Some-next.srcb c.next.new.into.items c.deref.result.now c.deref.ensures.0 stands.1 in
+          let early : HasCleanDisk new → HasCleanDisk mid =
+          λ clean. omega (arith, w.replace_record.ensures.crash.clean) in
+          let kept : Record = record {
+            key = c.args.key;
+            place = at;
+            srcb = c.in-Some-next.srcb;
+            bytes = c.deref.result.now;
+          } in
+          let is = bytes_read all at c.in-Some-next.srcb c.next.new.into.items c.deref.result.now c.deref.ensures.0
+          stands.1 in
           rw w.writer-is (record {
             crash = survives_both old mid new so_far.crash w.replace_record.ensures.crash;
-            led = λ clean. reach_rewrites c.args.key (AreBegun c.args.is_old c.args.written all) all (begun_front c.args.is_old c.args.written all) at old mid new (so_far.led (early clean)) kept c.places-test.true refl refl is (λ before given. omega (arith, given.0, w.if-place-written.false)) (w.in_ok-replace_record.ensures.changed clean);
+            led = λ clean. reach_rewrites c.args.key (AreBegun c.args.is_old c.args.written all) all
+                (begun_front c.args.is_old c.args.written all) at old mid new (so_far.led (early clean)) kept
+                c.places-test.true refl refl is (λ before given. omega (arith, given.0, w.if-place-written.false))
+                (w.in_ok-replace_record.ensures.changed clean);
             left = left;
             fit = fit;
-            others = only_waits c.args.writer.now c.places.writer w.replace_record.new.self (min (c.places.writer.waiting + 1) (2 ^ 32 - 1)) so_far.others w.in_ok-replace_record.ensures.others;
+            others = only_waits c.args.writer.now c.places.writer w.replace_record.new.self
+                (min (c.places.writer.waiting + 1) (2 ^ 32 - 1)) so_far.others w.in_ok-replace_record.ensures.others;
           })
       | else-place-written+else-is_old_header w ↦
           rw w.writer-is (record {
             crash = so_far.crash;
-            led = λ clean. reach_passes c.args.key (AreBegun c.args.is_old c.args.written all) all (begun_front c.args.is_old c.args.written all) at old mid mid (so_far.led clean) (begun_is_same c.args.is_old c.args.written all at r (omega (arith, w.if-place-written.false)) stands.1 (sym w.is_old_header.ensures ∙ w.if-is_old_header.false));
+            led = λ clean. reach_passes c.args.key (AreBegun c.args.is_old c.args.written all) all
+                (begun_front c.args.is_old c.args.written all) at old mid mid (so_far.led clean)
+                (begun_is_same c.args.is_old c.args.written all at r (omega (arith, w.if-place-written.false)) stands.1
+                (sym w.is_old_header.ensures ∙ w.if-is_old_header.false));
             left = left;
             fit = fit;
             others = so_far.others;
@@ -84,7 +118,8 @@ returns-in_default-next-clause-led g c =
     let mid = shown g.S.Store c.places.writer.store in
     let at = c.places.place in
     let so_far = c.places.invariant in
-    let past = none_is_left all at (c.in_default-next.ensures.first ∙ ap (λ (rs : List Stored). slice_get rs 0) so_far.left) in
+    let past = none_is_left all at (c.in_default-next.ensures.first
+    ∙ ap (λ (rs : List Stored). slice_get rs 0) so_far.left) in
     λ clean. write_done c.args.is_old c.args.key c.args.written all at old mid past (so_far.led clean)
 
 pub returns-in_default-next-clause-fit : goal.returns-in_default-next-clause-fit
@@ -92,7 +127,8 @@ returns-in_default-next-clause-fit g c =
     let all = records_in c.args.file.number (part c.args.file.customer c.args.hub.now).customer.spool in
     let at = c.places.place in
     let so_far = c.places.invariant in
-    let past = none_is_left all at (c.in_default-next.ensures.first ∙ ap (λ (rs : List Stored). slice_get rs 0) so_far.left) in
+    let past = none_is_left all at (c.in_default-next.ensures.first
+    ∙ ap (λ (rs : List Stored). slice_get rs 0) so_far.left) in
     subst (AllByRecursion FitsHub) (take_all at all past) so_far.fit
 
 pub returns-in_default-next-clause-others : goal.returns-in_default-next-clause-others
@@ -105,4 +141,5 @@ pub returns-in_err-add_record-clause-crash : goal.returns-in_err-add_record-clau
 returns-in_err-add_record-clause-crash g c = survives_both _ _ _ c.places.invariant.crash c.add_record.ensures.crash
 
 pub returns-in_err-replace_record-clause-crash : goal.returns-in_err-replace_record-clause-crash
-returns-in_err-replace_record-clause-crash g c = survives_both _ _ _ c.places.invariant.crash c.replace_record.ensures.crash
+returns-in_err-replace_record-clause-crash g c =
+    survives_both _ _ _ c.places.invariant.crash c.replace_record.ensures.crash

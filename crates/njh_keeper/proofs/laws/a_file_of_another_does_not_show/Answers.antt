@@ -3,4 +3,5 @@ use Rattle.njh_keeper.specs.Opened.{is_own, part_opened}
 use Rattle.njh_keeper.proofs.laws.a_file_of_another_does_not_show.Goals as goal
 
 pub returns : goal.returns
-returns c entry name id file spool above other = ap (part_opened entry) (c.others_do_not_show.ensures (is_own name) id file spool above other)
+returns c entry name id file spool above other =
+    ap (part_opened entry) (c.others_do_not_show.ensures (is_own name) id file spool above other)

@@ -12,7 +12,8 @@ returns-clause-hub g c clean =
     let mid = shown g.S.Store c.find.new.store in
     let early : HasCleanDisk mid = omega (arith, c.fill.ensures.crash.clean) in
     if_ok _ _ (λ opened is spool held.
-    let moved : Holds spool mid.now.trees = subst (λ (d : Database). Holds spool d.trees) (sym (c.in-Ok.ensures.same early).now) held in
+    let moved : Holds spool mid.now.trees =
+    subst (λ (d : Database). Holds spool d.trees) (sym (c.in-Ok.ensures.same early).now) held in
     let f : Finds c.args.tables spool c.in-Ok.found.names.items c.in-Ok-open.hub c.in-Ok.found.files.items = record {
       distinct = c.find.ensures.distinct;
       names_are = c.in-Ok.ensures.names;
@@ -26,7 +27,8 @@ returns-clause-back g c clean =
     let mid = shown g.S.Store c.find.new.store in
     let early : HasCleanDisk mid = omega (arith, c.fill.ensures.crash.clean) in
     on_ok _ _ (λ none spool held.
-    let moved : Holds spool mid.now.trees = subst (λ (d : Database). Holds spool d.trees) (sym (c.in-Ok.ensures.same early).now) held in
+    let moved : Holds spool mid.now.trees =
+    subst (λ (d : Database). Holds spool d.trees) (sym (c.in-Ok.ensures.same early).now) held in
     let f : Finds c.args.tables spool c.in-Ok.found.names.items c.in-Ok-open.hub c.in-Ok.found.files.items = record {
       distinct = c.find.ensures.distinct;
       names_are = c.in-Ok.ensures.names;
@@ -40,7 +42,8 @@ returns-clause-refused g c clean =
     let mid = shown g.S.Store c.find.new.store in
     let early : HasCleanDisk mid = omega (arith, c.fill.ensures.crash.clean) in
     if_err _ _ (λ fault stops spool held.
-    let moved : Holds spool mid.now.trees = subst (λ (d : Database). Holds spool d.trees) (sym (c.in-Ok.ensures.same early).now) held in
+    let moved : Holds spool mid.now.trees =
+    subst (λ (d : Database). Holds spool d.trees) (sym (c.in-Ok.ensures.same early).now) held in
     let f : Finds c.args.tables spool c.in-Ok.found.names.items c.in-Ok-open.hub c.in-Ok.found.files.items = record {
       distinct = c.find.ensures.distinct;
       names_are = c.in-Ok.ensures.names;

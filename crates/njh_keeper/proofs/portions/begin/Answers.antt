@@ -15,14 +15,24 @@ pub returns-clause-kept : goal.returns-clause-kept
 returns-clause-kept g c =
     let now = (part c.args.file.customer c.args.hub.now).customer.spool in
     let count = c.record_count-count.result in
-    let counted : count ≡ length (partial_records c.args.file.number now) = c.record_count-count.ensures ∙ ap length c.requires.partial in
-    let p : KeptPartial = record { number = c.args.file.number; key = c.args.key; seen = count; written = count; is_open = true } in
+    let counted : count ≡ length (partial_records c.args.file.number now) =
+    c.record_count-count.ensures ∙ ap length c.requires.partial in
+    let p : KeptPartial = record {
+      number = c.args.file.number;
+      key = c.args.key;
+      seen = count;
+      written = count;
+      is_open = true;
+    } in
     let old = shown g.S.Store c.args.writer.now.store in
     let new = shown g.S.Store c.write_records.new.writer.store in
     ok_then c.remember.result _ _
     (λ last.
-    keeps_first g.S.Store now c.args.writer.now c.write_records.new.writer c.args.own.now c.remember.new.own c.in_ok-write_records.ensures.others c.remember.ensures.others p last refl
+    keeps_first g.S.Store now c.args.writer.now c.write_records.new.writer c.args.own.now c.remember.new.own
+    c.in_ok-write_records.ensures.others c.remember.ensures.others p last refl
     counted (omega (arith, c.record_count-count.ensures, c.requires.many)) counted
-    (λ clean. leads_weaker _ _ old new (λ s t wrote h empty. wrote [] h empty (begun_same 0 (partial_records c.args.file.number now) (omega arith)))
-    (subst (λ rs. Leads (Writes false c.args.key 0 rs) old new) c.requires.partial (c.in_ok-write_records.ensures.led clean))))
+    (λ clean. leads_weaker _ _ old new (λ s t wrote h empty. wrote [] h empty
+    (begun_same 0 (partial_records c.args.file.number now) (omega arith)))
+    (subst (λ rs. Leads (Writes false c.args.key 0 rs) old new) c.requires.partial
+    (c.in_ok-write_records.ensures.led clean))))
     c.remember.ensures.last

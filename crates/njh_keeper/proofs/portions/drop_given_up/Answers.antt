@@ -23,14 +23,17 @@ partial-preserved-then-index g c =
     let q : KeptPartial = record p { is_open = false } in
     let own1 : OwnFiles = record own { partial = with_item own.partial place q } in
     let at : p ≡ get_or items place p = c.index_mut.ensures.value in
-    let same : p ≡ c.index.result.now = at ∙ get_or_default items place p c.index.result.now there ∙ sym c.index.ensures in
+    let same : p ≡ c.index.result.now = at ∙ get_or_default items place p c.index.result.now there
+    ∙ sym c.index.ensures in
     let about : p.is_open ≡ true = ap (λ (x : KeptPartial). x.is_open) same ∙ c.if-index.true in
     record {
       crash = c.partial.invariant.crash;
       kept = λ now.
-          keeps_then g.S.Store now c.args.writer.now c.partial.writer c.partial.writer c.args.own.now own own1 (λ clean. clean) (c.partial.invariant.kept now)
+          keeps_then g.S.Store now c.args.writer.now c.partial.writer c.partial.writer c.args.own.now own own1
+          (λ clean. clean) (c.partial.invariant.kept now)
           (keeps_shut g.S.Store now own own1 place p there at q refl refl c.partial.writer refl);
-      seen = λ now all. halves_shut g.S.Store now own own1 place p there at q refl refl about (c.partial.invariant.seen now all);
+      seen = λ now all. halves_shut g.S.Store now own own1 place p there at q refl refl about
+          (c.partial.invariant.seen now all);
     }
 
 -- none was
@@ -49,13 +52,17 @@ partial-preserved g c =
     record {
       crash = rw store c.partial.invariant.crash;
       kept = λ now.
-          keeps_then g.S.Store now c.args.writer.now w w1 c.args.own.now own own1 (λ (clean : HasCleanDisk (shown g.S.Store w1.store)). rw (← store) clean) (c.partial.invariant.kept now)
-          (keeps_dropped g.S.Store now own own1 place p there at c.remove-gone.ensures.items w w1 (sweep_of p.key p.written) refl c.in_ok-sweep_later.ensures.later c.sweep_later.ensures.others refl);
-      seen = λ now all. halves_gone g.S.Store now own own1 place p there at c.remove-gone.ensures.items (c.partial.invariant.seen now all);
+          keeps_then g.S.Store now c.args.writer.now w w1 c.args.own.now own own1
+          (λ (clean : HasCleanDisk (shown g.S.Store w1.store)). rw (← store) clean) (c.partial.invariant.kept now)
+          (keeps_dropped g.S.Store now own own1 place p there at c.remove-gone.ensures.items w w1
+          (sweep_of p.key p.written) refl c.in_ok-sweep_later.ensures.later c.sweep_later.ensures.others refl);
+      seen = λ now all. halves_gone g.S.Store now own own1 place p there at c.remove-gone.ensures.items
+          (c.partial.invariant.seen now all);
     }
 
 pub returns-clause-seen : goal.returns-clause-seen
 returns-clause-seen g c now all =
     let items = c.partial.own.partial.items in
     let long = length-map items partial_of in
-    halves_end (IsUpToDate now) (IsSeen now) c.partial.place (map partial_of items) (omega (arith, long, c.partial-test.false, c.len.ensures)) (c.partial.invariant.seen now all)
+    halves_end (IsUpToDate now) (IsSeen now) c.partial.place (map partial_of items)
+    (omega (arith, long, c.partial-test.false, c.len.ensures)) (c.partial.invariant.seen now all)

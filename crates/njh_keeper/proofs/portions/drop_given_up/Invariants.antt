@@ -15,5 +15,6 @@ abbrev pub invariant-partial : goal.invariant-partial
 invariant-partial g l = record {
   crash : Survives (shown g.S.Store l.fn.writer.store) (shown g.S.Store l.writer.store) (λ _. ⊥);
   kept : (now : CustomerSpool) → KeepsPartly g.S.Store now l.fn.writer l.fn.own l.writer l.own;
-  seen : (now : CustomerSpool) → AllSeen now (own_of l.fn.own) → Halves (IsUpToDate now) (IsSeen now) l.place (own_of l.own).partial;
+  seen : (now : CustomerSpool) → AllSeen now (own_of l.fn.own)
+      → Halves (IsUpToDate now) (IsSeen now) l.place (own_of l.own).partial;
 }

@@ -17,15 +17,19 @@ streams-preserved g c =
     elim c.match-receiver.branch [
       | in-Open+in_ok-keep_portion w ↦
           let new = shown g.S.Store w.keep_portion.new.writer.store in
-          let early : HasCleanDisk new → HasCleanDisk mid = λ clean. omega (arith, w.keep_portion.ensures.crash.clean) in
+          let early : HasCleanDisk new → HasCleanDisk mid =
+          λ clean. omega (arith, w.keep_portion.ensures.crash.clean) in
           rw (w.writer-is, w.own-is) (record {
-            crash = survives_then old mid new _ _ (λ _. ⊥) (λ _ db none. none) (λ _ db none. none) so_far.crash w.keep_portion.ensures.crash;
+            crash = survives_then old mid new _ _ (λ _. ⊥) (λ _ db none. none) (λ _ db none. none) so_far.crash
+                w.keep_portion.ensures.crash;
             kept =
-                keeps_then g.S.Store now c.args.writer.now c.streams.writer w.keep_portion.new.writer c.args.own.now c.streams.own w.keep_portion.new.own early so_far.kept
+                keeps_then g.S.Store now c.args.writer.now c.streams.writer w.keep_portion.new.writer c.args.own.now
+                c.streams.own w.keep_portion.new.own early so_far.kept
                 w.in_ok-keep_portion.ensures.kept;
           })
       | in_default w ↦ rw (w.writer-is, w.own-is) so_far
     ]
 
 pub returns-in_err-keep_portion-clause-crash : goal.returns-in_err-keep_portion-clause-crash
-returns-in_err-keep_portion-clause-crash g c = survives_both _ _ _ c.streams.invariant.crash c.keep_portion.ensures.crash
+returns-in_err-keep_portion-clause-crash g c =
+    survives_both _ _ _ c.streams.invariant.crash c.keep_portion.ensures.crash

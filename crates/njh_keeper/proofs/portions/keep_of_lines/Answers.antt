@@ -16,9 +16,11 @@ lines-preserved g c =
     let early : HasCleanDisk new → HasCleanDisk mid = λ clean. omega (arith, c.keep_of_line.ensures.crash.clean) in
     let so_far = c.lines.invariant in
     record {
-      crash = survives_then old mid new _ _ (λ _. ⊥) (λ _ db none. none) (λ _ db none. none) so_far.crash c.keep_of_line.ensures.crash;
+      crash = survives_then old mid new _ _ (λ _. ⊥) (λ _ db none. none) (λ _ db none. none) so_far.crash
+          c.keep_of_line.ensures.crash;
       kept =
-          keeps_then g.S.Store now c.args.writer.now c.lines.writer c.keep_of_line.new.writer c.args.own.now c.lines.own c.keep_of_line.new.own early so_far.kept
+          keeps_then g.S.Store now c.args.writer.now c.lines.writer c.keep_of_line.new.writer c.args.own.now c.lines.own
+          c.keep_of_line.new.own early so_far.kept
           c.in_ok-keep_of_line.ensures.kept;
     }
 

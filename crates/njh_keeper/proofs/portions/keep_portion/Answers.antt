@@ -15,7 +15,8 @@ returns-in_ok-key-in-None-clause-kept g c =
     let early : HasCleanDisk new → HasCleanDisk mid = λ clean. omega (arith, c.begin.ensures.crash.clean) in
     ok_then c.begin.result _ _
     (λ kept.
-    keeps_with_taken g.S.Store now c.args.writer.now c.take_key.new.self c.begin.new.writer c.args.own.now c.begin.new.own c.in_ok-key-in-None.key early c.in_ok-key-in-None.ensures.taken
+    keeps_with_taken g.S.Store now c.args.writer.now c.take_key.new.self c.begin.new.writer c.args.own.now
+    c.begin.new.own c.in_ok-key-in-None.key early c.in_ok-key-in-None.ensures.taken
     c.take_key.ensures.others c.in_ok-key-in-None.ensures.emptied kept)
     c.begin.ensures.kept
 

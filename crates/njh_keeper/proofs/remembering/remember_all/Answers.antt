@@ -1,4 +1,5 @@
-use Rattle.std.proofs.Common.{rules, ◌≡◌, ◌<◌, ◌++◌, true, [], ◌∷◌, length, map, string_bytes, refl, sym, ap, subst, ◌∙◌, arith}
+use Rattle.std.proofs.Common.{rules, ◌≡◌, ◌<◌, ◌++◌, true, [], ◌∷◌, length, map, string_bytes, refl, sym, ap, subst}
+use Rattle.std.proofs.Common.{◌∙◌, arith}
 use Rattle.std.proofs.lemmas.List.{get_or_default, length-map, length-take, map-append, take_more}
 use Rattle.std.specs.List.{AllByRecursion}
 use Rattle.sqlite.specs.State.{HasCleanDisk}
@@ -47,29 +48,42 @@ names-preserved g c =
     let name_is : c.index-names-place.result ≡ name_at names place =
     c.index-names-place.is ∙ get_or_default names place c.index-names-place.result [] low in
     let long : length (map own_of items) ≡ place =
-    (let a = length-map items own_of in let b = length-map items (λ own. own.name) in let d = ap length so_far.names in let e = length-take place names in omega (arith, a, b, d, e, low)) in
+    (let a = length-map items own_of in let b = length-map items (λ own. own.name) in let d = ap length so_far.names
+    in let e = length-take place names in omega (arith, a, b, d, e, low)) in
     record {
-      crash = survives_then old mid new _ _ (λ _. ⊥) (λ _ db none. none) (λ _ db none. none) so_far.crash c.remember_customer.ensures.crash;
+      crash = survives_then old mid new _ _ (λ _. ⊥) (λ _ db none. none) (λ _ db none. none) so_far.crash
+          c.remember_customer.ensures.crash;
       writer =
           c.remember_customer.ensures.others
-          ∙ ap (λ (x : SpoolWriter g.row.S.Denot). record x { store = c.remember_customer.new.writer.store; is_changed = c.remember_customer.new.writer.is_changed }) so_far.writer;
+          ∙ ap (λ (x : SpoolWriter g.row.S.Denot). record x
+          { store = c.remember_customer.new.writer.store; is_changed = c.remember_customer.new.writer.is_changed })
+          so_far.writer;
       names =
           ap (map (λ own. own.name)) pushed ∙ map-append (λ own. own.name) items (own ∷ [])
-          ∙ (λ i. so_far.names i ++ (c.in_ok-own.ensures.own.name_is ∙ c.index-names-place.is) i ∷ []) ∙ sym (take_more names place c.index-names-place.result low);
+          ∙ (λ i. so_far.names i ++ (c.in_ok-own.ensures.own.name_is ∙ c.index-names-place.is) i ∷ [])
+          ∙ sym (take_more names place c.index-names-place.result low);
       texts =
           subst (AllByRecursion (λ own. is_name_of (string_bytes own.text) own.name ≡ true)) (sym pushed)
-          (all_push (λ own. is_name_of (string_bytes own.text) own.name ≡ true) items own so_far.texts c.in_ok-own.ensures.text);
+          (all_push (λ own. is_name_of (string_bytes own.text) own.name ≡ true) items own so_far.texts
+          c.in_ok-own.ensures.text);
       led = λ found clean.
-          let whose : IsOwnOf (name_at names (length (map own_of items))) (part (length (map own_of items)) hub).customer.spool (own_of own) =
+          let whose : IsOwnOf (name_at names (length (map own_of items)))
+          (part (length (map own_of items)) hub).customer.spool (own_of own) =
           subst (λ n. IsOwnOf (name_at names n) (part n hub).customer.spool (own_of own)) (sym long)
           (subst (λ who. IsOwnOf who (part place hub).customer.spool (own_of own)) name_is c.in_ok-own.ensures.own) in
-          leads_then _ _ _ old mid new (so_far.led found (early clean)) (c.in_ok-own.ensures.led (found place low) clean)
+          leads_then _ _ _ old mid new (so_far.led found (early clean))
+          (c.in_ok-own.ensures.led (found place low) clean)
           (λ s t u first one ordered rows distinct reads.
-          let next : Remembering (name_at names (length (map own_of items))) (entries c.args.files.now) (files_at (length (map own_of items)) hub) (own_of own) t u =
-          subst (λ n. Remembering (name_at names n) (entries c.args.files.now) (files_at n hub) (own_of own) t u) (sym long)
-          (subst (λ who. Remembering who (entries c.args.files.now) (files_at place hub) (own_of own) t u) name_is one) in
-          subst (λ owns. AreRemembered names hub owns s u) (sym (ap (map own_of) pushed ∙ map-append own_of items (own ∷ [])))
-          (one_more_remembered names hub (entries c.args.files.now) (map own_of items) (own_of own) s t u rows distinct reads (omega (arith, long, low)) whose
+          let next : Remembering (name_at names (length (map own_of items))) (entries c.args.files.now)
+          (files_at (length (map own_of items)) hub) (own_of own) t u =
+          subst (λ n. Remembering (name_at names n) (entries c.args.files.now) (files_at n hub) (own_of own) t u)
+          (sym long)
+          (subst (λ who. Remembering who (entries c.args.files.now) (files_at place hub) (own_of own) t u) name_is one)
+          in
+          subst (λ owns. AreRemembered names hub owns s u)
+          (sym (ap (map own_of) pushed ∙ map-append own_of items (own ∷ [])))
+          (one_more_remembered names hub (entries c.args.files.now) (map own_of items) (own_of own) s t u rows distinct
+          reads (omega (arith, long, low)) whose
           (first ordered rows distinct reads) next));
     }
 
@@ -79,7 +93,8 @@ returns-in_err-own-clause-crash g c = survives_both _ _ _ c.names.invariant.cras
 pub returns-in_err-own-clause-others : goal.returns-in_err-own-clause-others
 returns-in_err-own-clause-others g c =
     c.remember_customer.ensures.others
-    ∙ ap (λ (x : SpoolWriter g.row.S.Denot). record x { store = c.remember_customer.new.writer.store; is_changed = c.remember_customer.new.writer.is_changed })
+    ∙ ap (λ (x : SpoolWriter g.row.S.Denot). record x
+    { store = c.remember_customer.new.writer.store; is_changed = c.remember_customer.new.writer.is_changed })
     c.names.invariant.writer
 
 pub returns-in_err-push-clause-crash : goal.returns-in_err-push-clause-crash
@@ -88,5 +103,6 @@ returns-in_err-push-clause-crash g c = survives_both _ _ _ c.names.invariant.cra
 pub returns-in_err-push-clause-others : goal.returns-in_err-push-clause-others
 returns-in_err-push-clause-others g c =
     c.remember_customer.ensures.others
-    ∙ ap (λ (x : SpoolWriter g.row.S.Denot). record x { store = c.remember_customer.new.writer.store; is_changed = c.remember_customer.new.writer.is_changed })
+    ∙ ap (λ (x : SpoolWriter g.row.S.Denot). record x
+    { store = c.remember_customer.new.writer.store; is_changed = c.remember_customer.new.writer.is_changed })
     c.names.invariant.writer

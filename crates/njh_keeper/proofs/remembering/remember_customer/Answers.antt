@@ -22,7 +22,8 @@ returns-clause-own g c =
 pub returns-clause-text : goal.returns-clause-text
 returns-clause-text g c =
     let first = c.in_ok-own.ensures in
-    ap (λ o. is_name_of (string_bytes o.text) o.name) c.remember_files.ensures.others ∙ ap (is_name_of (string_bytes c.in_ok-own.own.text)) first.0 ∙ first.1
+    ap (λ o. is_name_of (string_bytes o.text) o.name) c.remember_files.ensures.others
+    ∙ ap (is_name_of (string_bytes c.in_ok-own.own.text)) first.0 ∙ first.1
 
 pub returns-clause-led : goal.returns-clause-led
 returns-clause-led g c found clean =
@@ -34,10 +35,12 @@ returns-clause-led g c found clean =
     let spool = (part c.args.place c.args.hub.now).customer.spool in
     let rows = entries c.args.files.now in
     let whole = map whole_of now.whole.items in
-    let named : is_name_of (string_bytes own.text) own.name ≡ true = ap (is_name_of (string_bytes own.text)) first.0 ∙ first.1 in
+    let named : is_name_of (string_bytes own.text) own.name ≡ true =
+    ap (is_name_of (string_bytes own.text)) first.0 ∙ first.1 in
     let led : Leads (Reads c.args.name spool [] whole (owned_of c.args.name rows) []) old new =
     subst (λ xs. Leads (Reads c.args.name spool (map whole_of xs) whole (owned_of c.args.name rows) []) old new) first.3
     (subst (λ who. Leads (Reads who spool (map whole_of own.whole.items) whole (owned_of who rows) []) old new) first.0
     (c.in_ok-remember_files.ensures.led named found clean)) in
     leads_weaker _ _ old new
-    (λ s t reads. remembered (own_of now) c.args.name rows spool.whole s t (ap (λ o. o.name) c.remember_files.ensures.others ∙ first.0) (reads s)) led
+    (λ s t reads. remembered (own_of now) c.args.name rows spool.whole s t
+    (ap (λ o. o.name) c.remember_files.ensures.others ∙ first.0) (reads s)) led

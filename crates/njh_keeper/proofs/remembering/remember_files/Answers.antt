@@ -35,20 +35,27 @@ files-preserved g c =
     let rest = entries (drop (c.files.at + 1) files) in
     let name : c.files.own.name ≡ own.name = ap (λ o. o.name) so_far.others in
     record {
-      crash = survives_then old mid new _ _ (λ _. ⊥) (λ _ db none. none) (λ _ db none. none) so_far.crash c.remember_if_own.ensures.crash;
+      crash = survives_then old mid new _ _ (λ _. ⊥) (λ _ db none. none) (λ _ db none. none) so_far.crash
+          c.remember_if_own.ensures.crash;
       writer = search rules;
       others = search rules;
       led = λ text found clean.
-          let named : is_name_of (string_bytes c.files.own.text) c.files.own.name ≡ true = ap (λ o. is_name_of (string_bytes o.text) o.name) so_far.others ∙ text in
+          let named : is_name_of (string_bytes c.files.own.text) c.files.own.name ≡ true =
+          ap (λ o. is_name_of (string_bytes o.text) o.name) so_far.others ∙ text in
           let one = c.in_ok-remember_if_own.ensures.led named found clean rest in
           let was = map whole_of c.files.own.whole.items in
           let is = map whole_of c.remember_if_own.new.own.whole.items in
           let next : entries (drop c.files.at files) ≡ entry_of c.index-files-at.result ∷ rest =
-          ap entries (drop_more files c.files.at c.index-files-at.result c.files-test.true) ∙ ap (λ x. entry_of x ∷ rest) (sym c.index-files-at.is) in
-          let step : Leads (Reads own.name spool was is (owned_of own.name (entries (drop c.files.at files))) (owned_of own.name rest)) mid new =
-          subst (λ es. Leads (Reads own.name spool was is (owned_of own.name es) (owned_of own.name rest)) mid new) (sym next)
-          (subst (λ who. Leads (Reads who spool was is (owned_of who (entry_of c.index-files-at.result ∷ rest)) (owned_of who rest)) mid new) name one) in
-          leads_then _ _ _ old mid new (so_far.led text found (early clean)) step (λ s t u first second from before. second from (first from before));
+          ap entries (drop_more files c.files.at c.index-files-at.result c.files-test.true)
+          ∙ ap (λ x. entry_of x ∷ rest) (sym c.index-files-at.is) in
+          let step : Leads (Reads own.name spool was is (owned_of own.name (entries (drop c.files.at files)))
+          (owned_of own.name rest)) mid new =
+          subst (λ es. Leads (Reads own.name spool was is (owned_of own.name es) (owned_of own.name rest)) mid new)
+          (sym next)
+          (subst (λ who. Leads (Reads who spool was is (owned_of who (entry_of c.index-files-at.result ∷ rest))
+          (owned_of who rest)) mid new) name one) in
+          leads_then _ _ _ old mid new (so_far.led text found (early clean)) step
+          (λ s t u first second from before. second from (first from before));
     }
 
 pub returns-clause-led : goal.returns-clause-led
@@ -60,8 +67,10 @@ returns-clause-led g c text found clean =
     let files = c.args.files.now in
     let end : drop c.files.at files ≡ [] = drop_all c.files.at files (omega (arith, c.files-test.false)) in
     subst
-    (λ xs. Leads (Reads own.name spool (map whole_of own.whole.items) (map whole_of c.files.own.whole.items) (owned_of own.name (entries files)) (owned_of own.name (entries xs))) old new)
+    (λ xs. Leads (Reads own.name spool (map whole_of own.whole.items) (map whole_of c.files.own.whole.items)
+    (owned_of own.name (entries files)) (owned_of own.name (entries xs))) old new)
     end (c.files.invariant.led text found clean)
 
 pub returns-in_err-remember_if_own-clause-crash : goal.returns-in_err-remember_if_own-clause-crash
-returns-in_err-remember_if_own-clause-crash g c = survives_both _ _ _ c.files.invariant.crash c.remember_if_own.ensures.crash
+returns-in_err-remember_if_own-clause-crash g c =
+    survives_both _ _ _ c.files.invariant.crash c.remember_if_own.ensures.crash

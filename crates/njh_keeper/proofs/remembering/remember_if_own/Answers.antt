@@ -17,11 +17,13 @@ returns-then-reads_as-clause-led g c text found clean =
     let name = c.args.own.now.name in
     let spool = (part c.args.customer c.args.hub.now).customer.spool in
     let e = entry_of c.args.stored.now in
-    let owned : is_own name e.1 ≡ true = ap (λ (t : List ℕ). is_name_of t name) (sym c.as_str.ensures.value) ∙ sym c.reads_as.ensures ∙ c.if-reads_as.true in
+    let owned : is_own name e.1 ≡ true = ap (λ (t : List ℕ). is_name_of t name) (sym c.as_str.ensures.value)
+    ∙ sym c.reads_as.ensures ∙ c.if-reads_as.true in
     on_ok _ _
     (λ led left.
     subst
-    (λ (es : List (ℕ × File)). Leads (Reads name spool (map whole_of c.args.own.now.whole.items) (map whole_of c.remember_one.new.own.whole.items) es (owned_of name left)) old new)
+    (λ (es : List (ℕ × File)). Leads (Reads name spool (map whole_of c.args.own.now.whole.items)
+    (map whole_of c.remember_one.new.own.whole.items) es (owned_of name left)) old new)
     (sym (ap (λ (b : Bool). cond b (e ∷ owned_of name left) (owned_of name left)) owned))
     (led (owned_of name left)))
     c.remember_one.result (c.remember_one.ensures.led text found clean)
@@ -33,6 +35,8 @@ returns-clause-led g c text found clean left =
     let spool = (part c.args.customer c.args.hub.now).customer.spool in
     let whole = map whole_of c.args.own.now.whole.items in
     let e = entry_of c.args.stored.now in
-    let foreign : is_own name e.1 ≡ false = ap (λ (t : List ℕ). is_name_of t name) (sym c.as_str.ensures.value) ∙ sym c.reads_as.ensures ∙ c.if-reads_as.false in
+    let foreign : is_own name e.1 ≡ false = ap (λ (t : List ℕ). is_name_of t name) (sym c.as_str.ensures.value)
+    ∙ sym c.reads_as.ensures ∙ c.if-reads_as.false in
     leads_nothing _ at (λ s from is.
-    subst (λ (es : List (ℕ × File)). IsRead name whole es spool.whole from s) (ap (λ (b : Bool). cond b (e ∷ owned_of name left) (owned_of name left)) foreign) is)
+    subst (λ (es : List (ℕ × File)). IsRead name whole es spool.whole from s)
+    (ap (λ (b : Bool). cond b (e ∷ owned_of name left) (owned_of name left)) foreign) is)

@@ -23,8 +23,10 @@ returns-then-is_held-stored-clause-led g c text found clean left =
     let whole = map whole_of items in
     let k = whole_of c.kept_at-kept.result in
     let e = entry_of c.args.stored.now in
-    let now : map whole_of c.push.new.self.items ≡ whole ++ k ∷ [] = ap (map whole_of) c.in_ok-push.ensures.items ∙ map-append whole_of items (c.kept_at-kept.result ∷ []) in
-    let same : length whole ≡ c.len-index.result = (let long = length-map items whole_of in omega (arith, long, c.len-index.ensures)) in
+    let now : map whole_of c.push.new.self.items ≡ whole ++ k ∷ [] =
+    ap (map whole_of) c.in_ok-push.ensures.items ∙ map-append whole_of items (c.kept_at-kept.result ∷ []) in
+    let same : length whole ≡ c.len-index.result =
+    (let long = length-map items whole_of in omega (arith, long, c.len-index.ensures)) in
     leads_nothing _ at (λ s from is.
     let nx = next_read name whole e left spool from s is in
     let f = nx.0 in
@@ -32,11 +34,14 @@ returns-then-is_held-stored-clause-led g c text found clean left =
     let remembers : Remembers k f = c.kept_at-kept.ensures.remembers found f at_index in
     let there : c.len-index.result < length spool.whole = subst (λ n. n < length spool.whole) same nx.1.there in
     let summary : c.summary_at-summary.result ≡ file_summary f =
-    c.summary_at-summary.ensures.summary ∙ ap file_summary (get_or_default spool.whole c.len-index.result _ f there ∙ sym at_index) in
+    c.summary_at-summary.ensures.summary ∙ ap file_summary
+    (get_or_default spool.whole c.len-index.result _ f there ∙ sym at_index) in
     let noted : c.is_held.result ≡ c.args.stored.now.file.held = search rules in
-    let held : is_held f.state ≡ e.1.held = sym (ap (λ (v : FileSummaryView). is_held v.state) summary) ∙ sym c.is_held.ensures ∙ noted in
+    let held : is_held f.state ≡ e.1.held = sym (ap (λ (v : FileSummaryView). is_held v.state) summary)
+    ∙ sym c.is_held.ensures ∙ noted in
     subst (λ (ks : List KeptWhole). IsRead name ks left spool.whole from s) (sym now)
-    (goes_on_same name whole e left spool from s is k f nx.1 c.kept_at-kept.ensures.id.0 c.kept_at-kept.ensures.id.1 remembers held))
+    (goes_on_same name whole e left spool from s is k f nx.1 c.kept_at-kept.ensures.id.0 c.kept_at-kept.ensures.id.1
+    remembers held))
 
 pub returns-clause-led : goal.returns-clause-led
 returns-clause-led g c text found clean =
@@ -49,8 +54,10 @@ returns-clause-led g c text found clean =
     let kept = c.kept_at-kept.result in
     let k = whole_of kept in
     let e = entry_of c.args.stored.now in
-    let now : map whole_of c.push.new.self.items ≡ whole ++ k ∷ [] = ap (map whole_of) c.in_ok-push.ensures.items ∙ map-append whole_of items (kept ∷ []) in
-    let same : length whole ≡ c.len-index.result = (let long = length-map items whole_of in omega (arith, long, c.len-index.ensures)) in
+    let now : map whole_of c.push.new.self.items ≡ whole ++ k ∷ [] =
+    ap (map whole_of) c.in_ok-push.ensures.items ∙ map-append whole_of items (kept ∷ []) in
+    let same : length whole ≡ c.len-index.result =
+    (let long = length-map items whole_of in omega (arith, long, c.len-index.ensures)) in
     on_ok _ _
     (λ changed left.
     leads_weaker (λ s t. t ≡ with_changed kept.id changed.row s) _ old new
@@ -61,10 +68,13 @@ returns-clause-led g c text found clean =
     let remembers : Remembers k f = c.kept_at-kept.ensures.remembers found f at_index in
     let there : c.len-index.result < length spool.whole = subst (λ n. n < length spool.whole) same nx.1.there in
     let summary : c.summary_at-summary.result ≡ file_summary f =
-    c.summary_at-summary.ensures.summary ∙ ap file_summary (get_or_default spool.whole c.len-index.result _ f there ∙ sym at_index) in
+    c.summary_at-summary.ensures.summary ∙ ap file_summary
+    (get_or_default spool.whole c.len-index.result _ f there ∙ sym at_index) in
     subst (λ (ks : List KeptWhole). IsRead name ks left spool.whole from t) (sym now)
-    (subst (λ (u : SpoolContents). IsRead name (whole ++ k ∷ []) left spool.whole from u) (sym (by ∙ ap (λ n. with_changed n changed.row s) c.kept_at-kept.ensures.id.0))
-    (goes_on_anew name whole e left spool from s is k f nx.1 c.kept_at-kept.ensures.id.0 c.kept_at-kept.ensures.id.1 remembers changed.row
+    (subst (λ (u : SpoolContents). IsRead name (whole ++ k ∷ []) left spool.whole from u)
+    (sym (by ∙ ap (λ n. with_changed n changed.row s) c.kept_at-kept.ensures.id.0))
+    (goes_on_anew name whole e left spool from s is k f nx.1 c.kept_at-kept.ensures.id.0 c.kept_at-kept.ensures.id.1
+    remembers changed.row
     (changed.is_row.owned name text) (changed.is_row.of_file f summary))))
     (leads_by (with_changed kept.id changed.row) old new changed.changes))
     c.change_row.result (c.change_row.ensures.changed clean)

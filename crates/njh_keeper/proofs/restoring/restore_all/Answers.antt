@@ -19,15 +19,20 @@ files-preserved g c =
     record {
       count = c.restore_one.ensures.count ∙ so_far.count;
       lines = λ d. c.restore_one.ensures.lines d ∙ so_far.lines d;
-      crash = survives_then old mid new _ _ (λ _. ⊥) (λ _ db none. none) (λ _ db none. none) so_far.crash c.restore_one.ensures.crash;
+      crash = survives_then old mid new _ _ (λ _. ⊥) (λ _ db none. none) (λ _ db none. none) so_far.crash
+          c.restore_one.ensures.crash;
       same = λ clean. stays_then old mid new (so_far.same (early clean)) (done.same clean);
       hub = λ clean spool held.
-          let now : Holds spool mid.now.trees = subst (λ (d : Database). Holds spool d.trees) (sym (so_far.same (early clean)).now) held in
-          hub_more c.args.names.now c.args.hub.now c.files.hub c.restore_one.new.hub spool c.args.files.now c.files.at c.index-files-at.result c.files-test.true c.index-files-at.is
+          let now : Holds spool mid.now.trees =
+          subst (λ (d : Database). Holds spool d.trees) (sym (so_far.same (early clean)).now) held in
+          hub_more c.args.names.now c.args.hub.now c.files.hub c.restore_one.new.hub spool c.args.files.now c.files.at
+          c.index-files-at.result c.files-test.true c.index-files-at.is
           (so_far.hub (early clean) spool held) (done.ok clean spool now).0;
       back = λ clean spool held.
-          let now : Holds spool mid.now.trees = subst (λ (d : Database). Holds spool d.trees) (sym (so_far.same (early clean)).now) held in
-          none_more c.args.names.now c.args.hub.now c.files.hub spool c.args.files.now c.files.at c.index-files-at.result c.files-test.true c.index-files-at.is
+          let now : Holds spool mid.now.trees =
+          subst (λ (d : Database). Holds spool d.trees) (sym (so_far.same (early clean)).now) held in
+          none_more c.args.names.now c.args.hub.now c.files.hub spool c.args.files.now c.files.at
+          c.index-files-at.result c.files-test.true c.index-files-at.is
           (so_far.hub (early clean) spool held) (so_far.back (early clean) spool held) (done.ok clean spool now).1;
     }
 

@@ -17,6 +17,8 @@ invariant-files g l =
       lines : SameLines l.fn.hub l.hub;
       crash : Survives old now (λ _. ⊥);
       same : HasCleanDisk now → Stays old now;
-      hub : HasCleanDisk now → (spool : SpoolContents) → Holds spool old.now.trees → l.hub ≡ hub_with_all l.names l.fn.hub (wholes spool (take l.at l.files));
-      back : HasCleanDisk now → (spool : SpoolContents) → Holds spool old.now.trees → NoneFails l.names l.fn.hub (wholes spool (take l.at l.files));
+      hub : HasCleanDisk now → (spool : SpoolContents) → Holds spool old.now.trees
+          → l.hub ≡ hub_with_all l.names l.fn.hub (wholes spool (take l.at l.files));
+      back : HasCleanDisk now → (spool : SpoolContents) → Holds spool old.now.trees
+          → NoneFails l.names l.fn.hub (wholes spool (take l.at l.files));
     }

@@ -11,7 +11,11 @@ use Rattle.njh_keeper.proofs.restoring.restore_one.Goals as goal
 pub put_back-requires : goal.put_back-requires
 put_back-requires g c =
     let text = c.as_str.result.now in
-    omega (arith, (found c.args.names.now text c.in-Some.customer (sym c.number_of.ensures ∙ c.in-Some.is)).0, c.requires.same)
+    omega (
+      arith,
+      (found c.args.names.now text c.in-Some.customer (sym c.number_of.ensures ∙ c.in-Some.is)).0,
+      c.requires.same,
+    )
 
 pub returns-in-Ok-put_back-clause-ok : goal.returns-in-Ok-put_back-clause-ok
 returns-in-Ok-put_back-clause-ok g c clean spool held =
@@ -21,11 +25,14 @@ returns-in-Ok-put_back-clause-ok g c clean spool held =
     let w = whole_in spool (entry_of stored) in
     let read = map contents_of c.in-Ok.records.items in
     let customer : number_of names w.file.customer ≡ Some c.in-Some.customer =
-    ap (λ (text : List ℕ). number_of names text) (sym c.as_str.ensures.value) ∙ sym c.number_of.ensures ∙ c.in-Some.is in
-    let whole : read ≡ w.records = all_read spool _ stored.file.key c.in-Ok.records.items held (c.in-Ok.ensures.records clean spool held) in (
+    ap (λ (text : List ℕ). number_of names text) (sym c.as_str.ensures.value) ∙ sym c.number_of.ensures
+    ∙ c.in-Some.is in
+    let whole : read ≡ w.records = all_read spool _ stored.file.key c.in-Ok.records.items held
+    (c.in-Ok.ensures.records clean spool held) in (
       with_it names hub w c.in-Some.customer read c.put_back.new.hub customer whole c.in-Ok-put_back.ensures.ok,
       fault_is names hub w c.in-Some.customer read customer whole
-          ∙ no_fault (file_fault (part c.in-Some.customer hub) (file_of stored.file) read) c.put_back.result c.in-Ok-put_back.field-0 c.put_back.ensures.fault c.in-Ok-put_back.is,
+          ∙ no_fault (file_fault (part c.in-Some.customer hub) (file_of stored.file) read) c.put_back.result
+          c.in-Ok-put_back.field-0 c.put_back.ensures.fault c.in-Ok-put_back.is,
     )
 
 pub returns-in-Err-put_back-clause-fault : goal.returns-in-Err-put_back-clause-fault
@@ -36,7 +43,10 @@ returns-in-Err-put_back-clause-fault g c clean spool held =
     let w = whole_in spool (entry_of stored) in
     let read = map contents_of c.in-Ok.records.items in
     let customer : number_of names w.file.customer ≡ Some c.in-Some.customer =
-    ap (λ (text : List ℕ). number_of names text) (sym c.as_str.ensures.value) ∙ sym c.number_of.ensures ∙ c.in-Some.is in
-    let whole : read ≡ w.records = all_read spool _ stored.file.key c.in-Ok.records.items held (c.in-Ok.ensures.records clean spool held) in
+    ap (λ (text : List ℕ). number_of names text) (sym c.as_str.ensures.value) ∙ sym c.number_of.ensures
+    ∙ c.in-Some.is in
+    let whole : read ≡ w.records = all_read spool _ stored.file.key c.in-Ok.records.items held
+    (c.in-Ok.ensures.records clean spool held) in
     fault_is names hub w c.in-Some.customer read customer whole
-    ∙ this_fault (file_fault (part c.in-Some.customer hub) (file_of stored.file) read) c.put_back.result c.in-Err-put_back.fault c.put_back.ensures.fault c.in-Err-put_back.is
+    ∙ this_fault (file_fault (part c.in-Some.customer hub) (file_of stored.file) read) c.put_back.result
+    c.in-Err-put_back.fault c.put_back.ensures.fault c.in-Err-put_back.is

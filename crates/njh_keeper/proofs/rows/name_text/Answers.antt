@@ -1,4 +1,5 @@
-use Rattle.std.proofs.Common.{◌≡◌, ℕ, Bool, true, false, List, bytes_eq, string_bytes, Result, Ok, Err, IfOk, refl, ap, subst, ◌∙◌}
+use Rattle.std.proofs.Common.{◌≡◌, ℕ, Bool, true, false, List, bytes_eq, string_bytes, Result, Ok, Err, IfOk, refl, ap}
+use Rattle.std.proofs.Common.{subst, ◌∙◌}
 use Rattle.std.specs.Prelude.{IsTrue}
 use Rattle.std.proofs.lemmas.Slice.Eq.{bytes_eq-Decides}
 use Rattle.njh_ebcdic.specs.Names.{is_name}
@@ -13,13 +14,17 @@ if_ok P Q then (Err e) so = tt
 
 pub returns : goal.returns
 returns c =
-    if_ok (λ text. string_bytes text ≡ field_text c.args.name) (λ text. is_name_of (string_bytes text) c.args.name ≡ true)
+    if_ok (λ text. string_bytes text ≡ field_text c.args.name)
+    (λ text. is_name_of (string_bytes text) c.args.name ≡ true)
     (λ text is. reads (string_bytes text) is) c.field_text.result
-    (subst (λ (field : List ℕ). IfOk c.field_text.result (λ text. string_bytes text ≡ field_text field)) c.bytes.ensures.same c.field_text.ensures)
+    (subst (λ (field : List ℕ). IfOk c.field_text.result (λ text. string_bytes text ≡ field_text field))
+    c.bytes.ensures.same c.field_text.ensures)
   where
     reads : (text : List ℕ) → text ≡ field_text c.args.name → is_name_of text c.args.name ≡ true
     reads text is =
         ap (λ (t : List ℕ). is_name_of t c.args.name) is
-        ∙ ap (λ (r : Result (List ℕ) NameFault). elim r as (λ _. Bool) [ Ok read ↦ bytes_eq read c.args.name | Err fault ↦ false ])
-        (c.names_read_back.ensures.text c.args.name (subst (λ (field : List ℕ). IsTrue (is_name field)) c.bytes.ensures.same c.bytes.ensures.name))
+        ∙ ap (λ (r : Result (List ℕ) NameFault). elim r as (λ _. Bool)
+        [ Ok read ↦ bytes_eq read c.args.name | Err fault ↦ false ])
+        (c.names_read_back.ensures.text c.args.name
+        (subst (λ (field : List ℕ). IsTrue (is_name field)) c.bytes.ensures.same c.bytes.ensures.name))
         ∙ (bytes_eq-Decides c.args.name c.args.name).1 refl

@@ -11,7 +11,8 @@ customers-preserved c = record {
     | inl before ↦ c.customers.invariant.sound d before
     | inr not_before ↦
         (let is : c.in-Ok.customer ≡ d = omega (arith, c.in-Ok.ensures, not_before, low) in
-        subst (λ n. IsSound (part n c.args.hub.now).customer.spool × HaveHeaders (part n c.args.hub.now).customer.spool.whole) is
+        subst (λ n. IsSound (part n c.args.hub.now).customer.spool
+        × HaveHeaders (part n c.args.hub.now).customer.spool.whole) is
         (c.files_are_sound.ensures.sound, c.files_are_sound.ensures.headers))
   ];
 }

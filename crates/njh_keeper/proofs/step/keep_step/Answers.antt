@@ -15,13 +15,19 @@ use Rattle.njh_keeper.proofs.LeadingLaws.{survives_both}
 use Rattle.njh_keeper.proofs.step.keep_step.Goals as goal
 
 pub returns-clause-led : goal.returns-clause-led
-returns-clause-led g c sound headers clean = by c.keep_portions.result c.keep_portions.ensures.kept c.keep_portions.ensures.seen
+returns-clause-led g c sound headers clean =
+    by c.keep_portions.result c.keep_portions.ensures.kept c.keep_portions.ensures.seen
   where
     by : (r : Result (Unit {0}) Error)
-        → OnOk r (KeepsPartly g.S.Store (part c.args.customer c.args.hub.now).customer.spool c.follow.new.writer c.follow.new.own c.keep_portions.new.writer c.keep_portions.new.own)
-        → (AllClosed (own_of c.follow.new.own) → OnOk r (AllUpToDate (part c.args.customer c.args.hub.now).customer.spool (own_of c.keep_portions.new.own)))
-        → OnOk r (LeadsStep (memory_of c.args.writer.now c.args.own.now) (memory_of c.keep_portions.new.writer c.keep_portions.new.own) c.args.writer.now.is_changed c.keep_portions.new.writer.is_changed
-        (part c.args.customer c.args.hub.now) (shown g.S.Store c.args.writer.now.store) (shown g.S.Store c.keep_portions.new.writer.store))
+        → OnOk r (KeepsPartly g.S.Store (part c.args.customer c.args.hub.now).customer.spool c.follow.new.writer
+        c.follow.new.own c.keep_portions.new.writer c.keep_portions.new.own)
+        → (AllClosed (own_of c.follow.new.own)
+        → OnOk r (AllUpToDate (part c.args.customer c.args.hub.now).customer.spool (own_of c.keep_portions.new.own)))
+        → OnOk r (LeadsStep (memory_of c.args.writer.now c.args.own.now)
+        (memory_of c.keep_portions.new.writer c.keep_portions.new.own) c.args.writer.now.is_changed
+        c.keep_portions.new.writer.is_changed
+        (part c.args.customer c.args.hub.now) (shown g.S.Store c.args.writer.now.store)
+        (shown g.S.Store c.keep_portions.new.writer.store))
     by (Err e) kept seen = tt
     by (Ok u) kept seen =
         let now = part c.args.customer c.args.hub.now in
@@ -33,11 +39,15 @@ returns-clause-led g c sound headers clean = by c.keep_portions.result c.keep_po
         let mid : HasCleanDisk (shown g.S.Store w1.store) = omega (arith, clean, c.keep_portions.ensures.crash.clean) in
         λ before led known.
         step_leads c.files_survive.ensures.events c.files_survive.ensures.takes c.files_grow.ensures.takes
-        (memory_of w c.args.own.now) (memory_of w1 own1) (memory_of w2 own2) w.is_changed w2.is_changed before now led known headers
+        (memory_of w c.args.own.now) (memory_of w1 own1) (memory_of w2 own2) w.is_changed w2.is_changed before now led
+        known headers
         (shown g.S.Store w.store) (shown g.S.Store w1.store) (shown g.S.Store w2.store)
-        (c.in_ok-follow.ensures.led (numbered_of_sound now.customer.spool sound) mid) c.in_ok-follow.ensures.arrived (kept.led clean) seen
-        (ap (λ (o : OwnFiles). string_bytes o.text) kept.others) (ap (λ (o : OwnFiles). o.name) kept.others) (ap (λ (o : OwnFiles). o.arrived) kept.others)
-        (λ unchanged. let q = c.in_ok-follow.ensures.quiet (sym (ap (λ x. x.is_changed) kept.numbers) ∙ unchanged) in (q.0, ap (λ st. shown g.S.Store st) q.1))
+        (c.in_ok-follow.ensures.led (numbered_of_sound now.customer.spool sound) mid) c.in_ok-follow.ensures.arrived
+        (kept.led clean) seen
+        (ap (λ (o : OwnFiles). string_bytes o.text) kept.others) (ap (λ (o : OwnFiles). o.name) kept.others)
+        (ap (λ (o : OwnFiles). o.arrived) kept.others)
+        (λ unchanged. let q = c.in_ok-follow.ensures.quiet (sym (ap (λ x. x.is_changed) kept.numbers) ∙ unchanged)
+        in (q.0, ap (λ st. shown g.S.Store st) q.1))
 
 pub returns-clause-crash : goal.returns-clause-crash
 returns-clause-crash g c = survives_both _ _ _ c.follow.ensures.crash c.keep_portions.ensures.crash

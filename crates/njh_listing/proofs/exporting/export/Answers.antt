@@ -37,7 +37,8 @@ pub returns-in_err-key-clause-refused : goal.returns-in_err-key-clause-refused
 returns-in_err-key-clause-refused g c clean =
     let customer = option_map (λ c'. c'.now) c.args.asked.now.customer in
     let fault : IfErr c.from_residual-in_err-key.result
-    (FitsFault (map key_in (asked_of customer c.args.asked.now.number c.args.name.now (map entry_of c.as_slice.result.now)))) =
+    (FitsFault (map key_in (asked_of customer c.args.asked.now.number c.args.name.now
+    (map entry_of c.as_slice.result.now)))) =
     search rules in
     if_err _ _
     (λ fault fits spool held.

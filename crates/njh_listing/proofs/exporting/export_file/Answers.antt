@@ -5,7 +5,8 @@ use Rattle.njh_listing.proofs.exporting.export_file.Goals as goal
 
 pub returns-clause-begun : goal.returns-clause-begun
 returns-clause-begun g c =
-    exported_in_part c.write_text.result _ c.in_ok-text.text.items c.deref.result.now _ _ c.deref.ensures.value c.in_ok-text.ensures.some
+    exported_in_part c.write_text.result _ c.in_ok-text.text.items c.deref.result.now _ _ c.deref.ensures.value
+    c.in_ok-text.ensures.some
     c.write_text.ensures.err
 
 pub returns-clause-refused : goal.returns-clause-refused

@@ -8,4 +8,5 @@ pub returns-in-Some : goal.returns-in-Some
 returns-in-Some c =
     ok_other (λ v. v.items) c.customer_text.result _ _
     (flat_map_mapped (line_of c.in-Some.customer.now) entry_of c.args.files.now
-    ∙ ap (λ o. listing_text (option_map (λ s. s.now) o) (map entry_of c.args.files.now)) (sym c.in-Some.is)) c.customer_text.ensures
+    ∙ ap (λ o. listing_text (option_map (λ s. s.now) o) (map entry_of c.args.files.now)) (sym c.in-Some.is))
+    c.customer_text.ensures

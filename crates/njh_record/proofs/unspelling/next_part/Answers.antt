@@ -6,7 +6,8 @@ pub returns-in_default : goal.returns-in_default
 returns-in_default c = cut_none _ c.in_default.len_below
 
 pub returns-in_default-rest : goal.returns-in_default-rest
-returns-in_default-rest c = cut_repeat _ (omega (arith, length-take {A = ℕ}, length-drop {A = ℕ})) (omega arith) (omega arith)
+returns-in_default-rest c = cut_repeat _ (omega (arith, length-take {A = ℕ}, length-drop {A = ℕ})) (omega arith)
+    (omega arith)
 
 pub returns-in_default-split_at_checked : goal.returns-in_default-split_at_checked
 returns-in_default-split_at_checked c =

@@ -6,7 +6,8 @@ use Rattle.njh_record.proofs.writing.add_spelling.Goals as goal
 pub put-requires : goal.put-requires
 put-requires g c =
     let some : 0 < length c.loop-rest.rest.now = search rules in
-    let fits : length (c.args.out.now.items ++ spelling_of c.args.contents.now) ≤ g.row.N = omega (arith, c.requires, length-append c.args.out.now.items (spelling_of c.args.contents.now)) in
+    let fits : length (c.args.out.now.items ++ spelling_of c.args.contents.now) ≤ g.row.N =
+    omega (arith, c.requires, length-append c.args.out.now.items (spelling_of c.args.contents.now)) in
     let room = spelling_of-room _ _ _ _ _ some c.first_item-item.ensures.item fits c.loop-rest.invariant in
     (omega arith, (search rules, room))
 

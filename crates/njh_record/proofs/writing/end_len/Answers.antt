@@ -5,12 +5,14 @@ use Rattle.njh_record.proofs.writing.end_len.Goals as goal
 
 pub returns-then-begins_run-clause-front : goal.returns-then-begins_run-clause-front
 returns-then-begins_run-clause-front c =
-    let at : begins_run (drop c.loop-place.place c.args.bytes.now) ≡ true = rw (← c.split_at.ensures.back) (sym c.begins_run.ensures ∙ c.if-begins_run.true) in
+    let at : begins_run (drop c.loop-place.place c.args.bytes.now) ≡ true =
+    rw (← c.split_at.ensures.back) (sym c.begins_run.ensures ∙ c.if-begins_run.true) in
     NoRunBefore-at _ _ (omega arith) at c.loop-place.invariant
 
 pub loop-place-preserved : goal.loop-place-preserved
 loop-place-preserved c =
-    let past : begins_run (drop c.loop-place.place c.args.bytes.now) ≡ false = rw (← c.split_at.ensures.back) (sym c.begins_run.ensures ∙ c.if-begins_run.false) in
+    let past : begins_run (drop c.loop-place.place c.args.bytes.now) ≡ false =
+    rw (← c.split_at.ensures.back) (sym c.begins_run.ensures ∙ c.if-begins_run.false) in
     NoRunBefore-more _ _ (omega arith) past c.loop-place.invariant
 
 pub returns-clause-front : goal.returns-clause-front

@@ -6,16 +6,19 @@ use Rattle.njh_record.proofs.writing.literal_len.Goals as goal
 
 pub returns-then-begins_run-clause-front : goal.returns-then-begins_run-clause-front
 returns-then-begins_run-clause-front c =
-    let at : begins_run (drop c.loop-place.place c.args.bytes.now) ≡ true = rw (← c.split_at.ensures.back) (sym c.begins_run.ensures ∙ c.if-begins_run.true) in
+    let at : begins_run (drop c.loop-place.place c.args.bytes.now) ≡ true =
+    rw (← c.split_at.ensures.back) (sym c.begins_run.ensures ∙ c.if-begins_run.true) in
     NoRunBefore-at _ _ (omega arith) at c.loop-place.invariant.passed
 
 pub loop-place-preserved : goal.loop-place-preserved
 loop-place-preserved c =
-    let rest : NoRunBefore (drop c.loop-place.place c.args.bytes.now) c.passed_len-place-in-loop-place.result = rw (← c.split_at.ensures.back) c.passed_len-place-in-loop-place.ensures.passed in
+    let rest : NoRunBefore (drop c.loop-place.place c.args.bytes.now) c.passed_len-place-in-loop-place.result =
+    rw (← c.split_at.ensures.back) c.passed_len-place-in-loop-place.ensures.passed in
     record {
       within = omega (arith, c.passed_len-place-in-loop-place.ensures.within, c.split_at.ensures.back_len);
       passed = NoRunBefore-then _ _ _ c.loop-place.invariant.passed rest;
     }
 
 pub returns-clause-front : goal.returns-clause-front
-returns-clause-front c = NoRunBefore-limit _ _ _ c.min-limit.ensures (omega arith) c.loop-place.invariant.within c.loop-place.invariant.passed
+returns-clause-front c = NoRunBefore-limit _ _ _ c.min-limit.ensures (omega arith) c.loop-place.invariant.within
+    c.loop-place.invariant.passed

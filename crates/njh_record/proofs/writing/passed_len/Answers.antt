@@ -8,7 +8,9 @@ returns-then-rest-gt-GROUP-clause-passed c =
     let bytes = c.args.bytes.now in
     let n = c.apart_len.result in
     let one : NoRunBefore bytes 1 = NoRunBefore-more bytes 0 c.requires.some c.requires.first refl in
-    let behind : NoRunBefore (drop 1 bytes) n = rw (← c.split_at.ensures.back) (NoRunBefore-apart _ n (omega (arith, c.apart_len.ensures.within)) c.apart_len.ensures.apart) in
+    let behind : NoRunBefore (drop 1 bytes) n =
+    rw (← c.split_at.ensures.back) (NoRunBefore-apart _ n (omega (arith, c.apart_len.ensures.within))
+    c.apart_len.ensures.apart) in
     NoRunBefore-then bytes 1 n one behind
 
 pub returns-else-rest-gt-GROUP-clause-passed : goal.returns-else-rest-gt-GROUP-clause-passed

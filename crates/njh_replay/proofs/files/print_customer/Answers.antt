@@ -19,10 +19,12 @@ returns-in_err-write_bytes-clause-err g c =
     let back = flat_map (line_text name) (drop (suc i) whole) in
     let line : c.deref.result.now ≡ line_text name (get_or whole i no_file) = search rules in
     on_err_of c.from_residual.result _
-    (beginning-after _ _ _ front c.deref.result.now back (files_text name (map view_of_file whole)) c.loop-index.invariant
+    (beginning-after _ _ _ front c.deref.result.now back (files_text name (map view_of_file whole))
+    c.loop-index.invariant
     c.in_err-write_bytes.ensures.err
     (ap (λ (text : List ℕ). front ++ (text ++ back)) line
-    ∙ flat_map-split (line_text name) whole i no_file (omega (arith, c.loop-index-test.true, c.file_count-index-end.ensures))
+    ∙ flat_map-split (line_text name) whole i no_file
+    (omega (arith, c.loop-index-test.true, c.file_count-index-end.ensures))
     ∙ lines-same name whole))
 
 pub returns-clause-ok : goal.returns-clause-ok
@@ -32,4 +34,5 @@ returns-clause-ok g c =
     let i = c.loop-index.index in
     let all = take_all i whole (omega (arith, c.loop-index-test.false, c.file_count-index-end.ensures)) in
     subst (λ (text : List ℕ). Appends (g.W.Write.contents c.args.out.now) (g.W.Write.contents c.loop-index.out) text)
-    (ap (λ (files : List WholeFile). flat_map (line_text name) files) all ∙ lines-same name whole) c.loop-index.invariant
+    (ap (λ (files : List WholeFile). flat_map (line_text name) files) all ∙ lines-same name whole)
+    c.loop-index.invariant

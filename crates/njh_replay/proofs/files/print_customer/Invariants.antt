@@ -7,4 +7,5 @@ use Rattle.njh_replay.proofs.files.print_customer.Given as goal
 
 abbrev pub invariant-loop-index : goal.invariant-loop-index
 invariant-loop-index g l =
-    Appends (g.W.Write.contents l.fn.out) (g.W.Write.contents l.out) (flat_map (line_text l.name) (take l.index (part l.customer l.hub).customer.spool.whole))
+    Appends (g.W.Write.contents l.fn.out) (g.W.Write.contents l.out)
+    (flat_map (line_text l.name) (take l.index (part l.customer l.hub).customer.spool.whole))

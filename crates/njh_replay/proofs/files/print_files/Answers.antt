@@ -17,7 +17,8 @@ returns-in_err-print_customer-clause-err g c =
     let back = files_from-split 0 names parts (suc i) in
     let more = files_from-more 0 i names parts i name (omega arith) c.index-customers-customer.is (omega arith) in
     on_err_of c.from_residual.result _
-    (beginning-after _ _ _ front own back.0 (files_from 0 names parts) c.loop-customer.invariant c.in_err-print_customer.ensures.err
+    (beginning-after _ _ _ front own back.0 (files_from 0 names parts) c.loop-customer.invariant
+    c.in_err-print_customer.ensures.err
     (sym (append_assoc front own back.0) ∙ ap (λ (text : List ℕ). text ++ back.0) more ∙ back.1))
 
 pub loop-customer-preserved : goal.loop-customer-preserved

@@ -23,7 +23,8 @@ returns-in_err-write_bytes-2-clause-err g c =
     let P : List ℕ → Type 0 = λ text. Appends (contents c.args.out.now) (contents c.write_bytes.new.out) text in
     on_err_of c.from_residual-in_err-write_bytes-2.result _
     (beginning-after _ _ _ name (32 ∷ []) (encode_lower frame ++ 10 ∷ []) (frame_text name frame)
-    (subst P c.as_bytes.ensures.value c.in_ok-write_bytes.ensures.ok) c.in_err-write_bytes-2.ensures.err (frame-parts name frame))
+    (subst P c.as_bytes.ensures.value c.in_ok-write_bytes.ensures.ok) c.in_err-write_bytes-2.ensures.err
+    (frame-parts name frame))
 
 pub returns-in_err-print_hex-clause-err : goal.returns-in_err-print_hex-clause-err
 returns-in_err-print_hex-clause-err g c =
@@ -47,5 +48,6 @@ returns-clause-err g c =
     let second = Appends-trans _ _ _ name (32 ∷ []) first c.in_ok-write_bytes-2.ensures.ok in
     let third = Appends-trans _ _ _ (name ++ 32 ∷ []) (encode_lower frame) second c.in_ok-print_hex.ensures.ok in
     on_err_then c.write_bytes-3.result _ _
-    (λ begun. beginning-after _ _ _ ((name ++ 32 ∷ []) ++ encode_lower frame) (10 ∷ []) [] (frame_text name frame) third begun refl)
+    (λ begun. beginning-after _ _ _ ((name ++ 32 ∷ []) ++ encode_lower frame) (10 ∷ []) [] (frame_text name frame) third
+    begun refl)
     c.write_bytes-3.ensures.err

@@ -11,11 +11,13 @@ pub returns-in_err-print_run : goal.returns-in_err-print_run
 returns-in_err-print_run g c =
     let stopped = c.in_err-print_run.ensures.printed in
     let same = c.print_run.ensures.same_reference in
-    subst (λ (out : g.row.W.Denot). Prints c.from_residual.result (g.W.Write.contents c.args.out.now) (g.W.Write.contents out)
+    subst (λ (out : g.row.W.Denot). Prints c.from_residual.result (g.W.Write.contents c.args.out.now)
+    (g.W.Write.contents out)
     (text_by c.args.names.now c.args.hub.now c.args.events.now c.args.customers.now)
     (IsRunShort c.args.names.now c.args.hub.now c.args.events.now))
     (search (rules, same))
-    (prints_stopped c.from_residual.result _ _ (g.W.Write.contents c.print_run.new.printer.out.now) _ _ c.from_residual.ensures.1
+    (prints_stopped c.from_residual.result _ _ (g.W.Write.contents c.print_run.new.printer.out.now) _ _
+    c.from_residual.ensures.1
     (frames_begun c.args.names.now c.args.hub.now c.args.events.now c.args.customers.now _ _ stopped.0) stopped.1
     stopped.2)
 
@@ -31,7 +33,8 @@ returns-in_err-print_files g c =
 
 pub returns-in-Ok : goal.returns-in-Ok
 returns-in-Ok g c =
-    Appends-kept _ _ _ _ (all_printed c.args.names.now c.args.hub.now c.print_run.new.hub c.args.events.now c.args.customers.now _ _ _
+    Appends-kept _ _ _ _ (all_printed c.args.names.now c.args.hub.now c.print_run.new.hub c.args.events.now
+    c.args.customers.now _ _ _
     c.in_ok-print_run.ensures.after (omega (arith, c.requires.all))
     (Appends-kept _ _ _ _ c.in_ok-print_run.ensures.printed (search (rules, c.print_run.ensures.same_reference)))
     c.in_ok-print_files.ensures.ok)

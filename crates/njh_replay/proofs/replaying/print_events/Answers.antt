@@ -15,6 +15,7 @@ print_all-requires-clause-all g c =
 pub returns : goal.returns
 returns g c =
     let contents = g.W.Write.contents in
-    fresh_prints c.args.tables c.in_ok-names.names c.in_ok-hub.hub c.args.events.now c.deref.result.now c.print_all.result
+    fresh_prints c.args.tables c.in_ok-names.names c.in_ok-hub.hub c.args.events.now c.deref.result.now
+    c.print_all.result
     (contents c.args.out.now) (contents c.print_all.new.out) c.in_ok-names.ensures c.in_ok-hub.ensures.opened
     (c.deref.ensures.value ∙ c.in_ok-customers.ensures.names) c.print_all.ensures

@@ -21,12 +21,15 @@ returns-in-Err-clause-printed g c =
     let sent = (hub_run start (first_events events fault.events fault.bytes)).sent in
     let whole = (hub_run start events).sent in
     let begins = c.sent_in_order.ensures start events fault.events fault.bytes in
-    let begun : AppendsBeginning (contents c.args.printer.now.out.now) (contents c.run.new.sink.out.now) (frames_text names whole) =
+    let begun : AppendsBeginning (contents c.args.printer.now.out.now) (contents c.run.new.sink.out.now)
+    (frames_text names whole) =
     stopped_begun _ _ fault.cause _ _ sent whole _ c.in-Err.ensures.handed begins
     (λ front more printed all. printed_begins names _ _ _ front more whole printed.1 all)
-    (λ front last between more printed part all. beginning-part names _ _ _ _ front last more whole printed.1 _ part.1 all) in (
+    (λ front last between more printed part all. beginning-part names _ _ _ _ front last more whole printed.1 _ part.1
+    all) in (
       begun,
-      rw c.fault_after.ensures (MayStop-stopped start events fault.events c.requires fault.cause c.in-Err.ensures.causes),
+      rw c.fault_after.ensures (MayStop-stopped start events fault.events c.requires fault.cause
+          c.in-Err.ensures.causes),
       λ memory.
           let stop : fault_after fault.cause ≡ Hub Memory = cc (c.fault_after.ensures, memory) in
           let stopped = stopped_whole _ _ fault.cause _ _ sent c.in-Err.ensures.handed stop in

@@ -12,7 +12,8 @@ returns-clause-good g c =
     (λ events. script_of c.args.tables.now c.deref.result.now ≡ Ok events.items)
     (λ events. HasScript c.args.tables.now (g.R.Read.remaining c.args.script.now) events.items)
     (λ events said. IfSome_then (g.R.Read.remaining c.args.script.now) c.in_ok-text.ensures.text
-    (λ text same. let read : c.deref.result.now ≡ text = search rules in (omega (arith, ap (length {A = ℕ}) same), rw read at said)))
+    (λ text same. let read : c.deref.result.now ≡ text = search rules
+    in (omega (arith, ap (length {A = ℕ}) same), rw read at said)))
     c.events_of.ensures.events
 
 pub returns-clause-bad : goal.returns-clause-bad
@@ -20,4 +21,5 @@ returns-clause-bad g c = λ number stopped.
     let within = c.in_ok-text.ensures.within in
     let said = c.events_of.ensures.bad number stopped in
     IfSome_then (g.R.Read.remaining c.args.script.now) c.in_ok-text.ensures.text
-    (λ text same. let read : c.deref.result.now ≡ text = search rules in (omega (arith, ap (length {A = ℕ}) same), rw read at said))
+    (λ text same. let read : c.deref.result.now ≡ text = search rules
+    in (omega (arith, ap (length {A = ℕ}) same), rw read at said))

@@ -9,7 +9,8 @@ returns-clause-replayed g c =
     let new = g.W.Write.contents c.print_events.new.out in
     let printed = subst (λ events. PrintsRun c.args.tables events c.print_events.result old new) c.deref.ensures.value
     c.print_events.ensures in
-    replayed-whole c.args.tables left old new c.in_ok-events.events.items c.in_ok-events.ensures.good c.print_events.result printed
+    replayed-whole c.args.tables left old new c.in_ok-events.events.items c.in_ok-events.ensures.good
+    c.print_events.result printed
 
 pub returns-clause-begun : goal.returns-clause-begun
 returns-clause-begun g c =
@@ -18,7 +19,8 @@ returns-clause-begun g c =
     let new = g.W.Write.contents c.print_events.new.out in
     let printed = subst (λ events. PrintsRun c.args.tables events c.print_events.result old new) c.deref.ensures.value
     c.print_events.ensures in
-    replayed-begun c.args.tables left old new c.in_ok-events.events.items c.in_ok-events.ensures.good c.print_events.result printed
+    replayed-begun c.args.tables left old new c.in_ok-events.events.items c.in_ok-events.ensures.good
+    c.print_events.result printed
 
 pub returns-clause-memory : goal.returns-clause-memory
 returns-clause-memory g c =
@@ -27,4 +29,5 @@ returns-clause-memory g c =
     let new = g.W.Write.contents c.print_events.new.out in
     let printed = subst (λ events. PrintsRun c.args.tables events c.print_events.result old new) c.deref.ensures.value
     c.print_events.ensures in
-    replayed-memory c.args.tables left old new c.in_ok-events.events.items c.in_ok-events.ensures.good c.print_events.result printed
+    replayed-memory c.args.tables left old new c.in_ok-events.events.items c.in_ok-events.ensures.good
+    c.print_events.result printed

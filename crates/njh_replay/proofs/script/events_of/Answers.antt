@@ -12,7 +12,8 @@ returns-then-not-branch-clause-bad c = λ number same.
     let next = IsNext-from (lines_of c.args.text.now) c.lines.number line (lines_behind c.first_line.result.1)
     (c.lines.invariant.left ∙ c.first_line.ensures.lines) in
     let bad : can_stand tables line ≡ false = search rules in
-    let first = Reads-bad tables (lines_of c.args.text.now) c.lines.number _ line c.lines.invariant.reads next.within next.at bad in
+    let first = Reads-bad tables (lines_of c.args.text.now) c.lines.number _ line c.lines.invariant.reads next.within
+    next.at bad in
     let counted : c.lines.number + 1 ≡ number = cc same in
     rw counted at first
 
@@ -23,10 +24,12 @@ lines-preserved c =
     let next = IsNext-from (lines_of c.args.text.now) c.lines.number line (lines_behind c.first_line.result.1)
     (c.lines.invariant.left ∙ c.first_line.ensures.lines) in
     let good : can_stand tables line ≡ true = search rules in
-    let shorter : length c.in-Some.behind.now < length c.lines.rest.now = rw c.in-Some.is at c.first_line.ensures.shorter in
+    let shorter : length c.in-Some.behind.now < length c.lines.rest.now =
+    rw c.in-Some.is at c.first_line.ensures.shorter in
     record {
       reads = rw c.in_ok-add_event.ensures.added
-          (Reads-more tables (lines_of c.args.text.now) c.lines.number _ _ line c.lines.invariant.reads next.within next.at good refl);
+          (Reads-more tables (lines_of c.args.text.now) c.lines.number _ _ line c.lines.invariant.reads next.within
+          next.at good refl);
       named = search rules;
       left = next.left ∙ ap lines_behind c.in-Some.is;
       start = c.start_of-start.ensures.start;
@@ -44,4 +47,5 @@ returns-in-None-clause-events c =
     let none : drop (c.lines.number + 1) lines ≡ [] = next.left ∙ ap lines_behind c.in-None.is in
     let reads = Reads-more tables lines c.lines.number _ _ line c.lines.invariant.reads next.within next.at good refl in
     rw c.in_ok-add_event.ensures.added
-    (Reads-all tables lines (c.lines.number + 1) _ reads (omega (arith, ap length none, length-drop (c.lines.number + 1) lines)))
+    (Reads-all tables lines (c.lines.number + 1) _ reads
+    (omega (arith, ap length none, length-drop (c.lines.number + 1) lines)))

@@ -7,7 +7,8 @@ pub returns-in-Some-clause-lines : goal.returns-in-Some-clause-lines
 returns-in-Some-clause-lines c =
     let text = c.args.text.now in
     let at : drop (line_len text) text ≡ c.in-Some.field-0-0.now ∷ c.in-Some.behind.now = search rules in
-    rw (c.split_at.ensures.front, c.line_len.ensures.exact) (lines_of-more text c.in-Some.behind.now c.in-Some.field-0-0.now at)
+    rw (c.split_at.ensures.front, c.line_len.ensures.exact)
+    (lines_of-more text c.in-Some.behind.now c.in-Some.field-0-0.now at)
 
 pub returns-in-None-clause-lines : goal.returns-in-None-clause-lines
 returns-in-None-clause-lines c =

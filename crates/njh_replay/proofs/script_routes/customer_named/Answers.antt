@@ -11,7 +11,8 @@ returns-in_err-place-clause-number c =
     let customers = c.args.tables.now.customers in
     let place : List ℕ → _ = λ (n : List ℕ). position (λ (x : NamedCustomer). bytes_eq n x.name) customers in
     let known : result_ok (name_of_text c.args.word.now) ≡ Some name = search rules in
-    let at = c.place_of.ensures.place ∙ ap (position (λ (x : NamedCustomer). bytes_eq name x.name)) c.customers.ensures.all in
+    let at = c.place_of.ensures.place ∙ ap (position (λ (x : NamedCustomer). bytes_eq name x.name))
+    c.customers.ensures.all in
     let none : c.from_residual-in_err-place.result ≡ None = search rules in
     none ∙ sym c.in_err-place.was ∙ at ∙ sym (ap (option_and_then place) known)
 
@@ -21,5 +22,6 @@ returns-clause-number c =
     let customers = c.args.tables.now.customers in
     let place : List ℕ → _ = λ (n : List ℕ). position (λ (x : NamedCustomer). bytes_eq n x.name) customers in
     let known : result_ok (name_of_text c.args.word.now) ≡ Some name = search rules in
-    let at = c.place_of.ensures.place ∙ ap (position (λ (x : NamedCustomer). bytes_eq name x.name)) c.customers.ensures.all in
+    let at = c.place_of.ensures.place ∙ ap (position (λ (x : NamedCustomer). bytes_eq name x.name))
+    c.customers.ensures.all in
     sym c.in_ok-place.was ∙ at ∙ sym (ap (option_and_then place) known)

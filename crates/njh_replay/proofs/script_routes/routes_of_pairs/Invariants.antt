@@ -6,7 +6,8 @@ use Rattle.njh_replay.proofs.script_routes.routes_of_pairs.Given as goal
 
 abbrev pub invariant-pairs : goal.invariant-pairs
 invariant-pairs l =
-    routes_of_pairs l.tables (parts_behind 32 l.pairs) ≡ option_map (λ more. l.routes.items ++ more) (routes_of_pairs l.tables (parts_behind 32 l.left))
+    routes_of_pairs l.tables (parts_behind 32 l.pairs) ≡ option_map (λ more. l.routes.items ++ more)
+    (routes_of_pairs l.tables (parts_behind 32 l.left))
 
 abbrev pub decreases-pairs : goal.decreases-pairs
 decreases-pairs l = length_behind l.left

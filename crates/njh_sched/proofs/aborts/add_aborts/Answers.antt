@@ -10,7 +10,8 @@ returns-then-not-add_abort-clause-source g c goes s =
     ∙ stream_stopped goes StreamAbort streams c.loop-place.place c.at.result c.add_abort.result
     (filling c.loop-place.writer (g.L.Outgoing.outlet c.loop-place.line) s) c.add_abort.new.writer
     (g.L.Outgoing.outlet c.add_abort.new.line) s
-    (stream_at c.loop-place.place c.loop-place-test.true ∙ ap Some (sym c.at.ensures)) no_room (c.add_abort.ensures.source goes s)
+    (stream_at c.loop-place.place c.loop-place-test.true ∙ ap Some (sym c.at.ensures)) no_room
+    (c.add_abort.ensures.source goes s)
 
 pub loop-place-preserved : goal.loop-place-preserved
 loop-place-preserved g c =
@@ -20,7 +21,8 @@ loop-place-preserved g c =
           ∙ stream_went_on goes StreamAbort streams c.loop-place.place c.at.result c.add_abort.result
           (filling c.loop-place.writer (g.L.Outgoing.outlet c.loop-place.line) s) c.add_abort.new.writer
           (g.L.Outgoing.outlet c.add_abort.new.line) s
-          (stream_at c.loop-place.place c.loop-place-test.true ∙ ap Some (sym c.at.ensures)) room (c.add_abort.ensures.source goes s);
+          (stream_at c.loop-place.place c.loop-place-test.true ∙ ap Some (sym c.at.ensures)) room
+          (c.add_abort.ensures.source goes s);
       rest = c.add_abort.ensures.rest ∙ c.loop-place.invariant.rest;
     }
 
@@ -28,5 +30,6 @@ pub returns-clause-source : goal.returns-clause-source
 returns-clause-source g c goes s =
     let done : c.loop-place.place ≡ 8 = omega arith in
     c.loop-place.invariant.source goes s
-    ∙ streams_done goes StreamAbort streams c.loop-place.place (filling c.loop-place.writer (g.L.Outgoing.outlet c.loop-place.line) s)
+    ∙ streams_done goes StreamAbort streams c.loop-place.place
+    (filling c.loop-place.writer (g.L.Outgoing.outlet c.loop-place.line) s)
     (no_streams c.loop-place.place done)

@@ -8,7 +8,8 @@ invariant-loop-message g l = record {
   source : (goes : WholeFile → Bool) (s : CustomerSpool)
       → after_sources goes (messages_where true (g.L.Outgoing.outlet l.initial.line).messages) (filling l.initial.writer
       (g.L.Outgoing.outlet l.initial.line) s)
-      ≡ after_sources goes (messages_where true (g.L.Outgoing.outlet l.line).messages) (filling l.writer (g.L.Outgoing.outlet l.line) s);
+      ≡ after_sources goes (messages_where true (g.L.Outgoing.outlet l.line).messages)
+      (filling l.writer (g.L.Outgoing.outlet l.line) s);
   rest : g.L.Outgoing.rest l.line ≡ g.L.Outgoing.rest l.initial.line;
 }
 

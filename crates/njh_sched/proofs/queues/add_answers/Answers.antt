@@ -14,7 +14,8 @@ returns-then-not-add_answer-clause-source g c goes s =
     (sym c.in-Some.ensures)
     (c.add_answer.ensures.source goes s
     ∙ ap (λ b. filling_where b c.add_answer.new.writer (g.L.Outgoing.outlet c.add_answer.new.line) s) no_room)
-    ∙ full_stays goes (replicate (length (drop 1 (g.L.Outgoing.outlet c.loop-answer.line).answers)) WaitingAnswer) c.add_answer.new.writer
+    ∙ full_stays goes (replicate (length (drop 1 (g.L.Outgoing.outlet c.loop-answer.line).answers)) WaitingAnswer)
+    c.add_answer.new.writer
     (g.L.Outgoing.outlet c.add_answer.new.line) s
 
 pub loop-answer-preserved : goal.loop-answer-preserved

@@ -8,7 +8,8 @@ invariant-loop-answer g l = record {
   source : (goes : WholeFile → Bool) (s : CustomerSpool)
       → after_sources goes (waiting_answers (g.L.Outgoing.outlet l.initial.line)) (filling l.initial.writer
       (g.L.Outgoing.outlet l.initial.line) s)
-      ≡ after_sources goes (waiting_answers (g.L.Outgoing.outlet l.line)) (filling l.writer (g.L.Outgoing.outlet l.line) s);
+      ≡ after_sources goes (waiting_answers (g.L.Outgoing.outlet l.line))
+      (filling l.writer (g.L.Outgoing.outlet l.line) s);
   rest : g.L.Outgoing.rest l.line ≡ g.L.Outgoing.rest l.initial.line;
 }
 

@@ -10,11 +10,13 @@ returns-then-not-add_record-clause-source g c goes =
     let no_room : c.add_record.result ≡ false = grind arith in
     let less : room_of c.args.writer.now < c.args.writer.now.limit
     = omega (arith, c.text-some_room.ensures.within, ap length c.text-some_room.ensures.text) in
-    enough goes c.args.writer.now.limit (room_of c.args.writer.now + 1) c.args.writer.now (g.L.Outgoing.outlet c.args.line.now)
+    enough goes c.args.writer.now.limit (room_of c.args.writer.now + 1) c.args.writer.now
+    (g.L.Outgoing.outlet c.args.line.now)
     (spool_at c.args.customer c.args.spool.now) less (omega arith)
     ∙ c.loop-stream.invariant.source goes
     ∙ turn_stopped goes c.in-Some.stream c.add_record.result c.loop-stream.writer c.add_record.new.writer
-    (g.L.Outgoing.outlet c.loop-stream.line) (g.L.Outgoing.outlet c.add_record.new.line) (spool_at c.args.customer c.args.spool.now)
+    (g.L.Outgoing.outlet c.loop-stream.line) (g.L.Outgoing.outlet c.add_record.new.line)
+    (spool_at c.args.customer c.args.spool.now)
     (sym c.in-Some.ensures) no_room (rw c.loop-stream.invariant.spool at c.add_record.ensures.candidate)
 
 pub loop-stream-preserved : goal.loop-stream-preserved
@@ -23,7 +25,8 @@ loop-stream-preserved g c =
     record {
       source = λ goes. c.loop-stream.invariant.source goes
           ∙ turn_went_on goes c.in-Some.stream c.add_record.result c.loop-stream.writer c.add_record.new.writer
-          (g.L.Outgoing.outlet c.loop-stream.line) (g.L.Outgoing.outlet c.add_record.new.line) (spool_at c.args.customer c.args.spool.now)
+          (g.L.Outgoing.outlet c.loop-stream.line) (g.L.Outgoing.outlet c.add_record.new.line)
+          (spool_at c.args.customer c.args.spool.now)
           (sym c.in-Some.ensures) room (rw c.loop-stream.invariant.spool at c.add_record.ensures.candidate)
           (c.add_record.ensures.room room);
       rest = c.add_record.ensures.rest ∙ c.loop-stream.invariant.rest;
@@ -35,7 +38,8 @@ returns-clause-source g c goes =
     let none : next_served (g.L.Outgoing.outlet c.loop-stream.line) ≡ None = search rules in
     let less : room_of c.args.writer.now < c.args.writer.now.limit
     = omega (arith, c.text-some_room.ensures.within, ap length c.text-some_room.ensures.text) in
-    enough goes c.args.writer.now.limit (room_of c.args.writer.now + 1) c.args.writer.now (g.L.Outgoing.outlet c.args.line.now)
+    enough goes c.args.writer.now.limit (room_of c.args.writer.now + 1) c.args.writer.now
+    (g.L.Outgoing.outlet c.args.line.now)
     (spool_at c.args.customer c.args.spool.now) less (omega arith)
     ∙ c.loop-stream.invariant.source goes
     ∙ no_turns goes (room_of c.loop-stream.writer + 1) c.loop-stream.writer (g.L.Outgoing.outlet c.loop-stream.line)

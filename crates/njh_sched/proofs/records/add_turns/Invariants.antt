@@ -10,7 +10,8 @@ invariant-loop-stream g l = record {
   source : (goes : WholeFile → Bool)
       → after_sources goes (turns (room_of l.initial.writer + 1))
       (filling l.initial.writer (g.L.Outgoing.outlet l.initial.line) (spool_at l.customer l.initial.spool))
-      ≡ after_sources goes (turns (room_of l.writer + 1)) (filling l.writer (g.L.Outgoing.outlet l.line) (spool_at l.customer l.initial.spool));
+      ≡ after_sources goes (turns (room_of l.writer + 1))
+      (filling l.writer (g.L.Outgoing.outlet l.line) (spool_at l.customer l.initial.spool));
   rest : g.L.Outgoing.rest l.line ≡ g.L.Outgoing.rest l.initial.line;
   spool : l.spool ≡ l.initial.spool;
 }

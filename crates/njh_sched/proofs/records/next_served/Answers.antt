@@ -21,4 +21,5 @@ pub returns : goal.returns
 returns g c =
     let done : c.loop-step.step ≡ 8 = omega arith in
     sym (c.loop-step.invariant
-    ∙ no_turn (may_send (g.L.Outgoing.outlet c.args.line.now)) (λ n. (c.place-served.result + 1 + n) % 8) c.loop-step.step done)
+    ∙ no_turn (may_send (g.L.Outgoing.outlet c.args.line.now)) (λ n. (c.place-served.result + 1 + n) % 8)
+    c.loop-step.step done)

@@ -35,7 +35,8 @@ returns-then-not-add_request-clause-source g c =
     ∙ stream_stopped (goes_by (entry_of c.args.entry.now) c.args.id.number) StreamRequest streams c.loop-place.place
     c.at.result
     c.add_request.result
-    (filling c.loop-place.writer (g.L.Outgoing.outlet c.loop-place.line) (spool_at c.args.id.customer c.loop-place.spool))
+    (filling c.loop-place.writer (g.L.Outgoing.outlet c.loop-place.line)
+    (spool_at c.args.id.customer c.loop-place.spool))
     c.add_request.new.writer (g.L.Outgoing.outlet c.add_request.new.line)
     (spool_at c.args.id.customer c.add_request.new.spool)
     (stream_at c.loop-place.place c.loop-place-test.true ∙ ap Some (sym c.at.ensures)) no_room
@@ -83,5 +84,6 @@ returns-clause-source g c =
     let done : c.loop-place.place ≡ 8 = omega arith in
     c.loop-place.invariant.source
     ∙ streams_done (goes_by (entry_of c.args.entry.now) c.args.id.number) StreamRequest streams c.loop-place.place
-    (filling c.loop-place.writer (g.L.Outgoing.outlet c.loop-place.line) (spool_at c.args.id.customer c.loop-place.spool))
+    (filling c.loop-place.writer (g.L.Outgoing.outlet c.loop-place.line)
+    (spool_at c.args.id.customer c.loop-place.spool))
     (no_streams c.loop-place.place done)

@@ -17,6 +17,7 @@ loop-line-preserved c =
           ∙ (ap (λ (endpoints : List Endpoint). endpoints ++ last) c.loop-line.invariant.added
           ∙ (append_assoc before front last
           ∙ ap (λ (endpoints : List Endpoint). before ++ endpoints)
-          (sym (filter_map_more h lines c.loop-line.line-index c.line-item.result c.loop-line-test.true c.line-item.is))));
+          (sym (filter_map_more h lines c.loop-line.line-index c.line-item.result c.loop-line-test.true
+          c.line-item.is))));
       known = λ all. c.in_ok-add_endpoint.ensures.known (c.loop-line.invariant.known all);
     }

@@ -7,7 +7,8 @@ use Rattle.njh_serve.proofs.endpoints.add_endpoints.Given as goal
 
 abbrev pub invariant-loop-line : goal.invariant-loop-line
 invariant-loop-line l = record {
-  added : l.endpoints.items ≡ l.initial.endpoints.items ++ filter_map (endpoint_of l.tables) (take l.line-index l.line-items);
+  added : l.endpoints.items ≡ l.initial.endpoints.items ++ filter_map (endpoint_of l.tables)
+      (take l.line-index l.line-items);
   known : All (λ endpoint. HasLine l.tables endpoint.line) l.initial.endpoints.items
       → All (λ endpoint. HasLine l.tables endpoint.line) l.endpoints.items;
 }

@@ -2,7 +2,8 @@ use Rattle.std.proofs.Common.{arith}
 use Rattle.njh_spoolfile.proofs.files.spool_of.Goals as goal
 
 pub over-requires : goal.over-requires
-over-requires g c clean = let idle = c.in-Ok.ensures.ready clean in record { is_open = idle.is_open; schema = idle.schema }
+over-requires g c clean = let idle = c.in-Ok.ensures.ready clean in record
+    { is_open = idle.is_open; schema = idle.schema }
 
 pub returns-in-Ok-clause-becomes : goal.returns-in-Ok-clause-becomes
 returns-in-Ok-clause-becomes g c = rw c.over.ensures.0 (record {

@@ -11,14 +11,20 @@ use Rattle.njh_spoolfile.proofs.making.create_spool.Goals as goal
 pub returns-clause-made : goal.returns-clause-made
 returns-clause-made g c clean =
     let early : HasCleanDisk (state g.S.Store c.args.conn.now) = omega (arith, c.execute.ensures.survives.clean) in
-    creates create_spool no_tables one_table spool_table 0 create_spool_is refl refl refl (state g.S.Store c.args.conn.now) (state g.S.Store c.execute.new.self) _ (c.requires.ready early).0 (c.requires.ready early).1 (c.in_ok-execute.ensures.runs clean)
+    creates create_spool no_tables one_table spool_table 0 create_spool_is refl refl refl
+    (state g.S.Store c.args.conn.now) (state g.S.Store c.execute.new.self) _ (c.requires.ready early).0
+    (c.requires.ready early).1 (c.in_ok-execute.ensures.runs clean)
 
 pub returns-clause-crash : goal.returns-clause-crash
 returns-clause-crash g c =
     survives_weaker (state g.S.Store c.args.conn.now) (state g.S.Store c.execute.new.self) _ _
-    (λ clean. let ready = c.requires.ready (omega (arith, c.execute.ensures.survives.clean)) in keeps_nothing create_spool _ (state g.S.Store c.args.conn.now) no_tables ready.0 _ create_spool_is.command ready.1 (λ e. absurd (cc)) (λ name e. absurd (cc))) c.execute.ensures.survives
+    (λ clean. let ready = c.requires.ready (omega (arith, c.execute.ensures.survives.clean)) in keeps_nothing
+    create_spool _ (state g.S.Store c.args.conn.now) no_tables ready.0 _ create_spool_is.command ready.1
+    (λ e. absurd (cc)) (λ name e. absurd (cc))) c.execute.ensures.survives
 
 pub returns-in_err-execute-clause-crash : goal.returns-in_err-execute-clause-crash
 returns-in_err-execute-clause-crash g c =
     survives_weaker (state g.S.Store c.args.conn.now) (state g.S.Store c.execute.new.self) _ _
-    (λ clean. let ready = c.requires.ready (omega (arith, c.execute.ensures.survives.clean)) in keeps_nothing create_spool _ (state g.S.Store c.args.conn.now) no_tables ready.0 _ create_spool_is.command ready.1 (λ e. absurd (cc)) (λ name e. absurd (cc))) c.execute.ensures.survives
+    (λ clean. let ready = c.requires.ready (omega (arith, c.execute.ensures.survives.clean)) in keeps_nothing
+    create_spool _ (state g.S.Store c.args.conn.now) no_tables ready.0 _ create_spool_is.command ready.1
+    (λ e. absurd (cc)) (λ name e. absurd (cc))) c.execute.ensures.survives

@@ -6,4 +6,5 @@ use Rattle.njh_spoolfile.proofs.reads.files_in.Goals as goal
 pub rows-preserved : goal.rows-preserved
 rows-preserved c files is =
     ap (map entry_of) c.in_ok-push.ensures.items
-    ∙ read_more file_shown (λ e. e) entry_of c.args.rows.now c.rows.stored.items c.in_ok-file_in.field-0 c.rows.row-index c.row-item.result c.rows-test.true c.row-item.is c.in_ok-file_in.ensures c.rows.invariant files is
+    ∙ read_more file_shown (λ e. e) entry_of c.args.rows.now c.rows.stored.items c.in_ok-file_in.field-0
+    c.rows.row-index c.row-item.result c.rows-test.true c.row-item.is c.in_ok-file_in.ensures c.rows.invariant files is

@@ -6,4 +6,6 @@ use Rattle.njh_spoolfile.proofs.reads.records_in.Goals as goal
 pub rows-preserved : goal.rows-preserved
 rows-preserved c records is =
     ap (map contents_of) c.in_ok-push.ensures.items
-    ∙ read_more record_shown contents contents_of c.args.rows.now c.rows.stored.items c.in_ok-record_in.field-0 c.rows.row-index c.row-item.result c.rows-test.true c.row-item.is c.in_ok-record_in.ensures c.rows.invariant records is
+    ∙ read_more record_shown contents contents_of c.args.rows.now c.rows.stored.items c.in_ok-record_in.field-0
+    c.rows.row-index c.row-item.result c.rows-test.true c.row-item.is c.in_ok-record_in.ensures c.rows.invariant records
+    is

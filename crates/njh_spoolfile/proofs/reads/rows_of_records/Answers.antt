@@ -9,16 +9,21 @@ use Rattle.njh_spoolfile.proofs.reads.rows_of_records.Goals as goal
 pub returns-clause-rows : goal.returns-clause-rows
 returns-clause-rows g c clean =
     let early : HasCleanDisk (state g.S.Store c.args.conn.now) = omega (arith, c.query_all.ensures.survives.clean) in
-    if_ok _ _ (λ rows shown spool held. records_are (state g.S.Store c.args.conn.now) (state g.S.Store c.query_all.new.self) c.args.key c.args.first c.args.end rows.items spool (c.requires.ready early) held shown)
+    if_ok _ _ (λ rows shown spool held. records_are (state g.S.Store c.args.conn.now)
+    (state g.S.Store c.query_all.new.self) c.args.key c.args.first c.args.end rows.items spool (c.requires.ready early)
+    held shown)
     c.query_all.result (rw c.values_of_places-values.ensures at (c.query_all.ensures.ok clean))
 
 pub returns-clause-crash : goal.returns-clause-crash
 returns-clause-crash g c =
     survives_weaker (state g.S.Store c.args.conn.now) (state g.S.Store c.query_all.new.self) _ _
-    (λ clean. select_records_keeps_nothing _ (state g.S.Store c.args.conn.now) (c.requires.ready (omega (arith, c.query_all.ensures.survives.clean)))) c.query_all.ensures.survives
+    (λ clean. select_records_keeps_nothing _ (state g.S.Store c.args.conn.now)
+    (c.requires.ready (omega (arith, c.query_all.ensures.survives.clean)))) c.query_all.ensures.survives
 
 pub returns-clause-same : goal.returns-clause-same
 returns-clause-same g c clean =
     let early : HasCleanDisk (state g.S.Store c.args.conn.now) = omega (arith, c.query_all.ensures.survives.clean) in
-    on_ok _ _ (λ rows shown. stays (state g.S.Store c.args.conn.now) (state g.S.Store c.query_all.new.self) (shown_same select_records _ (state g.S.Store c.args.conn.now) (state g.S.Store c.query_all.new.self) rows.items (c.requires.ready early) select_records_plain shown))
+    on_ok _ _ (λ rows shown. stays (state g.S.Store c.args.conn.now) (state g.S.Store c.query_all.new.self)
+    (shown_same select_records _ (state g.S.Store c.args.conn.now) (state g.S.Store c.query_all.new.self) rows.items
+    (c.requires.ready early) select_records_plain shown))
     c.query_all.result (c.query_all.ensures.ok clean)

@@ -5,7 +5,8 @@ use Rattle.njh_spoolfile.proofs.statements.commit.Goals as goal
 
 pub returns-clause-kept : goal.returns-clause-kept
 returns-clause-kept g c clean =
-    commits (state g.S.Store c.args.conn.now) (state g.S.Store c.execute.new.self) _ (c.in_ok-execute.ensures.runs clean)
+    commits (state g.S.Store c.args.conn.now) (state g.S.Store c.execute.new.self) _
+    (c.in_ok-execute.ensures.runs clean)
 
 pub returns-clause-crash : goal.returns-clause-crash
 returns-clause-crash g c =

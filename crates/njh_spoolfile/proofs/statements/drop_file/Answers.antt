@@ -9,15 +9,20 @@ use Rattle.njh_spoolfile.proofs.statements.drop_file.Goals as goal
 pub returns-clause-dropped : goal.returns-clause-dropped
 returns-clause-dropped g c clean =
     let early : HasCleanDisk (state g.S.Store c.args.conn.now) = omega (arith, c.execute.ensures.survives.clean) in
-    drops_file (state g.S.Store c.args.conn.now) (state g.S.Store c.execute.new.self) c.args.id _ (c.requires.ready early).0 (c.requires.ready early).1
+    drops_file (state g.S.Store c.args.conn.now) (state g.S.Store c.execute.new.self) c.args.id _
+    (c.requires.ready early).0 (c.requires.ready early).1
     (rw c.values_of_number-values.ensures at (c.in_ok-execute.ensures.runs clean))
 
 pub returns-clause-crash : goal.returns-clause-crash
 returns-clause-crash g c =
     survives_weaker (state g.S.Store c.args.conn.now) (state g.S.Store c.execute.new.self) _ _
-    (λ clean. let ready = c.requires.ready (omega (arith, c.execute.ensures.survives.clean)) in keeps_nothing delete_file _ (state g.S.Store c.args.conn.now) _ ready.0 _ delete_file_is ready.1 (λ e. absurd (cc)) (λ name e. absurd (cc))) c.execute.ensures.survives
+    (λ clean. let ready = c.requires.ready (omega (arith, c.execute.ensures.survives.clean)) in keeps_nothing
+    delete_file _ (state g.S.Store c.args.conn.now) _ ready.0 _ delete_file_is ready.1 (λ e. absurd (cc))
+    (λ name e. absurd (cc))) c.execute.ensures.survives
 
 pub returns-in_err-execute-clause-crash : goal.returns-in_err-execute-clause-crash
 returns-in_err-execute-clause-crash g c =
     survives_weaker (state g.S.Store c.args.conn.now) (state g.S.Store c.execute.new.self) _ _
-    (λ clean. let ready = c.requires.ready (omega (arith, c.execute.ensures.survives.clean)) in keeps_nothing delete_file _ (state g.S.Store c.args.conn.now) _ ready.0 _ delete_file_is ready.1 (λ e. absurd (cc)) (λ name e. absurd (cc))) c.execute.ensures.survives
+    (λ clean. let ready = c.requires.ready (omega (arith, c.execute.ensures.survives.clean)) in keeps_nothing
+    delete_file _ (state g.S.Store c.args.conn.now) _ ready.0 _ delete_file_is ready.1 (λ e. absurd (cc))
+    (λ name e. absurd (cc))) c.execute.ensures.survives

@@ -13,5 +13,7 @@ returns-clause-changed g c clean =
     let new = state g.S.Store c.add_file.new.conn in
     let late : HasCleanDisk mid = omega (arith, c.add_file.ensures.crash.clean) in
     let early : HasCleanDisk begun = omega (arith, late, c.in_ok-drop_file.ensures.crash.clean) in
-    let dropped = begun_then (without_file c.args.id) old begun mid (c.in_ok-begin.ensures.begun early) (c.in_ok-drop_file.ensures.dropped late) in
-    ok_then c.add_file.result _ _ (λ added. changes_then (without_file c.args.id) (with_file c.args.id (file_of c.args.file.now)) old mid new dropped added) (c.add_file.ensures.added clean)
+    let dropped = begun_then (without_file c.args.id) old begun mid (c.in_ok-begin.ensures.begun early)
+    (c.in_ok-drop_file.ensures.dropped late) in
+    ok_then c.add_file.result _ _ (λ added. changes_then (without_file c.args.id)
+    (with_file c.args.id (file_of c.args.file.now)) old mid new dropped added) (c.add_file.ensures.added clean)

@@ -3,4 +3,5 @@ use Rattle.njh_spoolfile.specs.Tables.{value_column}
 use Rattle.njh_spoolfile.proofs.tables.are_columns.Given as goal
 
 abbrev pub invariant-columns : goal.invariant-columns
-invariant-columns l = (length l.columns ≡ length l.wanted) × (take l.at l.columns ≡ map (λ w. value_column w.0.now w.1) (take l.at l.wanted))
+invariant-columns l = (length l.columns ≡ length l.wanted)
+    × (take l.at l.columns ≡ map (λ w. value_column w.0.now w.1) (take l.at l.wanted))

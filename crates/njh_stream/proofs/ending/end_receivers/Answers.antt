@@ -12,12 +12,17 @@ loop-place-preserved c = (
       ∙ become Idle c.loop-place.place c.args.receivers.now c.loop-place-test.true
       ∙ ap (λ n. replicate n Idle ++ drop n c.args.receivers.now) (sym (add-one c.loop-place.place)),
   moved_twice c.args.spool.now c.loop-place.spool c.end.new.spool c.args.customer
-      (without_all_open (take c.loop-place.place c.args.receivers.now) (spool_at c.args.customer c.args.spool.now)) (without_open c.index-receivers-place.result)
+      (without_all_open (take c.loop-place.place c.args.receivers.now) (spool_at c.args.customer c.args.spool.now))
+      (without_open c.index-receivers-place.result)
       c.requires c.loop-place.invariant.1 c.end.ensures.spool
       ∙ ap (slice_set c.args.spool.now c.args.customer)
-      (ap (λ x. without_open x (without_all_open (take c.loop-place.place c.args.receivers.now) (spool_at c.args.customer c.args.spool.now)))
-      (c.index-receivers-place.is ∙ ap (λ xs. get_or xs c.loop-place.place c.index-receivers-place.result) c.loop-place.invariant.0
+      (ap (λ x. without_open x (without_all_open (take c.loop-place.place c.args.receivers.now)
+      (spool_at c.args.customer c.args.spool.now)))
+      (c.index-receivers-place.is ∙ ap (λ xs. get_or xs c.loop-place.place c.index-receivers-place.result)
+      c.loop-place.invariant.0
       ∙ next_is Idle c.index-receivers-place.result c.loop-place.place c.args.receivers.now c.loop-place-test.true)
-      ∙ sym (open_so_far c.loop-place.place c.args.receivers.now c.index-receivers-place.result (spool_at c.args.customer c.args.spool.now) c.loop-place-test.true)
-      ∙ ap (λ n. without_all_open (take n c.args.receivers.now) (spool_at c.args.customer c.args.spool.now)) (sym (add-one c.loop-place.place))),
+      ∙ sym (open_so_far c.loop-place.place c.args.receivers.now c.index-receivers-place.result
+      (spool_at c.args.customer c.args.spool.now) c.loop-place-test.true)
+      ∙ ap (λ n. without_all_open (take n c.args.receivers.now) (spool_at c.args.customer c.args.spool.now))
+      (sym (add-one c.loop-place.place))),
 )

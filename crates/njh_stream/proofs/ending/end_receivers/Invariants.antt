@@ -7,4 +7,5 @@ use Rattle.njh_stream.proofs.ending.end_receivers.Given as goal
 abbrev pub invariant-loop-place : goal.invariant-loop-place
 invariant-loop-place l =
     (l.receivers ≡ replicate l.place Idle ++ drop l.place l.initial.receivers)
-    × (l.spool ≡ slice_set l.initial.spool l.customer (without_all_open (take l.place l.initial.receivers) (spool_at l.customer l.initial.spool)))
+    × (l.spool ≡ slice_set l.initial.spool l.customer
+    (without_all_open (take l.place l.initial.receivers) (spool_at l.customer l.initial.spool)))

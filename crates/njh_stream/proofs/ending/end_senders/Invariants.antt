@@ -7,4 +7,5 @@ use Rattle.njh_stream.proofs.ending.end_senders.Given as goal
 abbrev pub invariant-loop-place : goal.invariant-loop-place
 invariant-loop-place l =
     (l.senders ≡ replicate l.place Idle ++ drop l.place l.initial.senders)
-    × (l.spool ≡ slice_set l.initial.spool l.customer (all_ended (take l.place l.initial.senders) (spool_at l.customer l.initial.spool)))
+    × (l.spool ≡ slice_set l.initial.spool l.customer
+    (all_ended (take l.place l.initial.senders) (spool_at l.customer l.initial.spool)))

@@ -8,4 +8,5 @@ use Rattle.njh_stream.proofs.holding.hold_unrouted.Given as goal
 
 abbrev pub invariant-loop-index : goal.invariant-loop-index
 invariant-loop-index l =
-    l.spool ≡ slice_set l.initial.spool l.customer (restated_up_to (has_lost_route (entry_of l.entry)) Held l.index (spool_at l.customer l.initial.spool))
+    l.spool ≡ slice_set l.initial.spool l.customer
+    (restated_up_to (has_lost_route (entry_of l.entry)) Held l.index (spool_at l.customer l.initial.spool))

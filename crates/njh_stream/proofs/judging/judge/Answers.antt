@@ -31,5 +31,6 @@ returns-in-Placed-clause-verdict c =
 
 pub returns-in-Placed-clause-progress : goal.returns-in-Placed-clause-progress
 returns-in-Placed-clause-progress c =
-    placed_progress c.args.file.now.kind c.args.earlier.now (stored_of c.args.next.now) c.in-Placed.node c.in-Placed.last
+    placed_progress c.args.file.now.kind c.args.earlier.now (stored_of c.args.next.now) c.in-Placed.node
+    c.in-Placed.last
     c.judge_later.result (sym c.in-Placed.is ∙ c.requires.kept) c.judge_later.ensures.progress

@@ -15,6 +15,7 @@ returns-in-Request c =
     let s = spool_at from.id.customer c.args.spool.now in
     subst (λ x. IsAfter c.begin.result c.begin.new.spool c.args.spool.now from.id.customer x)
     (request_cuts entry from.id.number c.args.kind c.args.receiver s
-    ∙ ap (λ a. received_arrival entry from.id.number c.args.kind c.args.receiver (arrival_of a) s) (sym c.in-Request.is))
+    ∙ ap (λ a. received_arrival entry from.id.number c.args.kind c.args.receiver (arrival_of a) s)
+    (sym c.in-Request.is))
     (begun_after c.begin.result c.begin.new.spool c.give_up.new.spool c.args.spool.now from.id.customer
     (without_open c.args.receiver s) c.args.kind c.requires.spooled c.give_up.ensures c.begin.ensures)

@@ -28,7 +28,8 @@ returns-in-Stored c =
     let r = stored_of c.args.next.now in
     let s = spool_at from.id.customer c.args.spool.now in
     let entry = entry_of from.customer.now in
-    let known = subst (λ x. IsKnown x r.srcb s) (sym c.in-Stored.ensures) (class_known c.args.kind c.args.receiver r.srcb r.bytes s c.requires.agrees) in
+    let known = subst (λ x. IsKnown x r.srcb s) (sym c.in-Stored.ensures)
+    (class_known c.args.kind c.args.receiver r.srcb r.bytes s c.requires.agrees) in
     subst (λ x. IsAfter c.append.result c.append.new.spool c.args.spool.now from.id.customer x)
     (stored_unread entry from.id.number file r s (records_in file.number s) c.in-Stored.progress
     (partial_records_in file.kind file.progress file.number s c.quota_holds.ensures.sound known.0) known.0 known.1

@@ -12,16 +12,23 @@ use Rattle.njh_stream.proofs.routing.retry_refused.Goals as goal
 
 pub loop-index-preserved : goal.loop-index-preserved
 loop-index-preserved c =
-    let part_is : spool_at c.args.customer c.loop-index.spool ≡ restated_up_to (may_go_again (entry_of c.args.entry.now) c.args.line) Ready c.loop-index.index (spool_at c.args.customer c.args.spool.now)
+    let part_is : spool_at c.args.customer c.loop-index.spool ≡ restated_up_to
+    (may_go_again (entry_of c.args.entry.now) c.args.line) Ready c.loop-index.index
+    (spool_at c.args.customer c.args.spool.now)
     = ap (spool_at c.args.customer) c.loop-index.invariant
     ∙ get_or-set_same c.args.spool.now c.args.customer
-    (restated_up_to (may_go_again (entry_of c.args.entry.now) c.args.line) Ready c.loop-index.index (spool_at c.args.customer c.args.spool.now)) no_spool c.requires in
+    (restated_up_to (may_go_again (entry_of c.args.entry.now) c.args.line) Ready c.loop-index.index
+    (spool_at c.args.customer c.args.spool.now)) no_spool c.requires in
     moved_twice c.args.spool.now c.loop-index.spool c.retry_file.new.spool c.args.customer
-    (restated_up_to (may_go_again (entry_of c.args.entry.now) c.args.line) Ready c.loop-index.index (spool_at c.args.customer c.args.spool.now))
+    (restated_up_to (may_go_again (entry_of c.args.entry.now) c.args.line) Ready c.loop-index.index
+    (spool_at c.args.customer c.args.spool.now))
     (with_retry (entry_of c.args.entry.now) c.args.line c.file_at-file.result)
     c.requires c.loop-index.invariant c.retry_file.ensures
     ∙ ap (slice_set c.args.spool.now c.args.customer)
-    (one_more_at (may_go_again (entry_of c.args.entry.now) c.args.line) Ready (spool_at c.args.customer c.args.spool.now) c.loop-index.index c.file_at-file.result
+    (one_more_at (may_go_again (entry_of c.args.entry.now) c.args.line) Ready
+    (spool_at c.args.customer c.args.spool.now) c.loop-index.index c.file_at-file.result
     (subst IsSound part_is c.quota_holds.ensures.sound)
-    (subst (λ s. IsSomeAnd (slice_get s.whole c.loop-index.index) (λ f. c.file_at-file.result ≡ f.number)) part_is c.file_at-file.ensures)
-    ∙ ap (λ n. restated_up_to (may_go_again (entry_of c.args.entry.now) c.args.line) Ready n (spool_at c.args.customer c.args.spool.now)) (sym (add-one c.loop-index.index)))
+    (subst (λ s. IsSomeAnd (slice_get s.whole c.loop-index.index) (λ f. c.file_at-file.result ≡ f.number)) part_is
+    c.file_at-file.ensures)
+    ∙ ap (λ n. restated_up_to (may_go_again (entry_of c.args.entry.now) c.args.line) Ready n
+    (spool_at c.args.customer c.args.spool.now)) (sym (add-one c.loop-index.index)))

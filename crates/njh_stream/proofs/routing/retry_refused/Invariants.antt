@@ -8,4 +8,5 @@ use Rattle.njh_stream.proofs.routing.retry_refused.Given as goal
 
 abbrev pub invariant-loop-index : goal.invariant-loop-index
 invariant-loop-index l =
-    l.spool ≡ slice_set l.initial.spool l.customer (restated_up_to (may_go_again (entry_of l.entry) l.line) Ready l.index (spool_at l.customer l.initial.spool))
+    l.spool ≡ slice_set l.initial.spool l.customer
+    (restated_up_to (may_go_again (entry_of l.entry) l.line) Ready l.index (spool_at l.customer l.initial.spool))

@@ -1,4 +1,5 @@
--- The records of a file that is open are those of its number, and the verdict by what is kept is the verdict on the record.
+-- The records of a file that is open are those of its number, and the verdict by what is kept is the verdict on the
+-- record.
 use Rattle.std.proofs.Common.{sym, ap, ◌∙◌, subst, ◌++◌, ◌∷◌, []}
 use Rattle.std.specs.Option.{option_map}
 use Rattle.njh_spool.specs.Spools.{spool_at}
@@ -18,7 +19,8 @@ judge-verdict-requires-clause-kept c =
     let s = spool_at c.args.from.now.id.customer c.args.spool.now in
     progress_in file.kind file.progress file.number s c.requires.kept
     ∙ ap (progress_of file.kind)
-    (sym (c.of-earlier.ensures ∙ partial_records_in file.kind file.progress file.number s c.quota_holds.ensures.sound c.requires.kept))
+    (sym (c.of-earlier.ensures ∙ partial_records_in file.kind file.progress file.number s c.quota_holds.ensures.sound
+    c.requires.kept))
 
 pub returns-in-Cancelled : goal.returns-in-Cancelled
 returns-in-Cancelled c =
@@ -27,11 +29,13 @@ returns-in-Cancelled c =
     let r = stored_of c.args.next.now in
     let s = spool_at from.id.customer c.args.spool.now in
     subst (λ x. IsAfter c.cancel.result c.cancel.new.spool c.args.spool.now from.id.customer x)
-    (ap (λ h. received_cancelling file.number (notice_of (option_map (λ x. x.origin) h) (option_map (λ t. t.items) c.in-Cancelled.text)) s)
+    (ap (λ h. received_cancelling file.number
+    (notice_of (option_map (λ x. x.origin) h) (option_map (λ t. t.items) c.in-Cancelled.text)) s)
     c.header_with-header.ensures
     ∙ stored_cancelled (entry_of from.customer.now) from.id.number file.kind file.number r s
     c.of-earlier.result (option_map (λ t. t.items) c.in-Cancelled.text)
-    (c.of-earlier.ensures ∙ partial_records_in file.kind file.progress file.number s c.quota_holds.ensures.sound c.requires.kept)
+    (c.of-earlier.ensures ∙ partial_records_in file.kind file.progress file.number s c.quota_holds.ensures.sound
+    c.requires.kept)
     c.in-Cancelled.ensures.verdict)
     c.cancel.ensures
 
@@ -42,9 +46,12 @@ returns-in-Taken c =
     let r = stored_of c.args.next.now in
     let s = spool_at from.id.customer c.args.spool.now in
     subst (λ x. IsAfter c.append.result c.append.new.spool c.args.spool.now from.id.customer x)
-    (ap (λ x. appended_where (has_room_for file.number r s) file.number c.in-Taken.progress (job_header_of (x ++ r ∷ [])) r s)
+    (ap (λ x. appended_where (has_room_for file.number r s) file.number c.in-Taken.progress
+    (job_header_of (x ++ r ∷ [])) r s)
     (sym c.of-earlier.ensures)
-    ∙ stored_taken (entry_of from.customer.now) from.id.number file.kind file.number r s c.of-earlier.result c.in-Taken.progress
-    (c.of-earlier.ensures ∙ partial_records_in file.kind file.progress file.number s c.quota_holds.ensures.sound c.requires.kept)
+    ∙ stored_taken (entry_of from.customer.now) from.id.number file.kind file.number r s c.of-earlier.result
+    c.in-Taken.progress
+    (c.of-earlier.ensures ∙ partial_records_in file.kind file.progress file.number s c.quota_holds.ensures.sound
+    c.requires.kept)
     c.in-Taken.ensures.verdict c.in-Taken.ensures.progress)
     c.append.ensures

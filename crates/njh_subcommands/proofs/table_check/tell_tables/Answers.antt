@@ -16,7 +16,8 @@ returns-in-Ok-None-clause-right g c =
 pub returns-in-Ok-Some-clause-found : goal.returns-in-Ok-Some-clause-found
 returns-in-Ok-Some-clause-found g c = λ same.
     let is : c.in-Ok-Some.field-0 ≡ Some c.in-Ok-Some.field-0-0 = search rules in
-    told_fault c.args.bytes.now c.in-Ok.text.now c.in-Ok-Some.field-0 c.in-Ok-Some.field-0-0 (g.W.Write.contents c.args.out.now)
+    told_fault c.args.bytes.now c.in-Ok.text.now c.in-Ok-Some.field-0 c.in-Ok-Some.field-0-0
+    (g.W.Write.contents c.args.out.now)
     (g.W.Write.contents c.check.new.out) c.in-Ok.ensures.cases.0 c.in-Ok.ensures.cases.1 is c.in-Ok-Some.ensures.told
 
 pub returns-in-Ok-Some-clause-begun : goal.returns-in-Ok-Some-clause-begun
@@ -25,7 +26,8 @@ returns-in-Ok-Some-clause-begun g c =
     let old = g.W.Write.contents c.args.out.now in
     let new = g.W.Write.contents c.check.new.out in
     inr (begun_whole false c.args.bytes.now old new
-    (told_fault c.args.bytes.now c.in-Ok.text.now c.in-Ok-Some.field-0 c.in-Ok-Some.field-0-0 old new c.in-Ok.ensures.cases.0
+    (told_fault c.args.bytes.now c.in-Ok.text.now c.in-Ok-Some.field-0 c.in-Ok-Some.field-0-0 old new
+    c.in-Ok.ensures.cases.0
     c.in-Ok.ensures.cases.1 is c.in-Ok-Some.ensures.told))
 
 pub returns-in-Err-Device-clause-begun : goal.returns-in-Err-Device-clause-begun

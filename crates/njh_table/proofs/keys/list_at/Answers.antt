@@ -8,4 +8,5 @@ pub returns-in_err-value_at : goal.returns-in_err-value_at
 returns-in_err-value_at c = leaves_seen _ _ _ _ c.from_residual.ensures.1 (ends _ _ _ (sym c.in_err-value_at.ensures))
 
 pub returns-in-None : goal.returns-in-None
-returns-in-None c = ap Err c.fault_at.ensures ∙ ap (λ o. ok_or o (at_value c.args.part c.args.key BadValue)) c.in-None.ensures ∙ sym (goes_on _ _ _ (sym c.in_ok-value_at.ensures))
+returns-in-None c = ap Err c.fault_at.ensures ∙ ap (λ o. ok_or o (at_value c.args.part c.args.key BadValue))
+    c.in-None.ensures ∙ sym (goes_on _ _ _ (sym c.in_ok-value_at.ensures))

@@ -9,4 +9,5 @@ pub returns-in-None : goal.returns-in-None
 returns-in-None c = ap (value_or as_array no_items c.args.part c.args.key) c.in-None.ensures
 
 pub returns-in-None-as_array : goal.returns-in-None-as_array
-returns-in-None-as_array c = ap Err c.fault_at.ensures ∙ ap (λ o. ok_or o (at_value c.args.part c.args.key BadValue)) c.in-None-as_array.ensures ∙ ap (value_or as_array no_items c.args.part c.args.key) c.in-Some.ensures
+returns-in-None-as_array c = ap Err c.fault_at.ensures ∙ ap (λ o. ok_or o (at_value c.args.part c.args.key BadValue))
+    c.in-None-as_array.ensures ∙ ap (value_or as_array no_items c.args.part c.args.key) c.in-Some.ensures

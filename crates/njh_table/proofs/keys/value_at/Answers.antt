@@ -7,4 +7,5 @@ pub returns-in-Some : goal.returns-in-Some
 returns-in-Some c = ap (λ o. ok_or o (at_value c.args.part c.args.key MissingKey)) c.in-Some.ensures
 
 pub returns-in-None : goal.returns-in-None
-returns-in-None c = ap Err c.fault_at.ensures ∙ ap (λ o. ok_or o (at_value c.args.part c.args.key MissingKey)) c.in-None.ensures
+returns-in-None c = ap Err c.fault_at.ensures ∙ ap (λ o. ok_or o (at_value c.args.part c.args.key MissingKey))
+    c.in-None.ensures

@@ -23,4 +23,5 @@ pub loop-count-preserved : goal.loop-count-preserved
 loop-count-preserved c =
     left_next c.args.names.now c.args.name.now c.loop-count.count c.from-count-in-loop-count.result
     c.loop-count.invariant c.loop-count-test.true
-    (c.from-count-in-loop-count.ensures ∙ c.requires.before (c.loop-count.count - 1) (omega arith)) (sym c.eq.ensures ∙ c.if-eq.false)
+    (c.from-count-in-loop-count.ensures ∙ c.requires.before (c.loop-count.count - 1) (omega arith))
+    (sym c.eq.ensures ∙ c.if-eq.false)

@@ -10,11 +10,13 @@ returns-in-None-clause-split c = split-whole c.args.byte c.args.text.now c.in-No
 pub returns-in-Some-clause-parts : goal.returns-in-Some-clause-parts
 returns-in-Some-clause-parts c =
     let parted = parted-some c.args.byte c.in-Some.place c.args.text.now c.split_at.result.0.now c.split_at.result.1.now
-    c.split_at-in-Some.result.1.now c.in-Some.ensures c.split_at.ensures.front c.split_at.ensures.back c.split_at-in-Some.ensures.back in
+    c.split_at-in-Some.result.1.now c.in-Some.ensures c.split_at.ensures.front c.split_at.ensures.back
+    c.split_at-in-Some.ensures.back in
     (parted.whole, parted.none)
 
 pub returns-in-Some-clause-split : goal.returns-in-Some-clause-split
 returns-in-Some-clause-split c =
     split-parted c.args.byte c.args.text.now c.split_at.result.0.now c.split_at-in-Some.result.1.now
     (parted-some c.args.byte c.in-Some.place c.args.text.now c.split_at.result.0.now c.split_at.result.1.now
-    c.split_at-in-Some.result.1.now c.in-Some.ensures c.split_at.ensures.front c.split_at.ensures.back c.split_at-in-Some.ensures.back)
+    c.split_at-in-Some.result.1.now c.in-Some.ensures c.split_at.ensures.front c.split_at.ensures.back
+    c.split_at-in-Some.ensures.back)

@@ -5,8 +5,10 @@ use Rattle.njh_trace.proofs.sources.drop_marked.Goals as goal
 
 pub loop-source-preserved : goal.loop-source-preserved
 loop-source-preserved c =
-    mapped_upto-step (dropped_at (c.args.name.now ++ c.args.direction.now)) c.loop-source.source-index c.args.sources.now
-    c.loop-source.sources c.source-item.result c.drop_at.new.self c.loop-source.invariant (search rules) c.source-item.is
+    mapped_upto-step (dropped_at (c.args.name.now ++ c.args.direction.now)) c.loop-source.source-index
+    c.args.sources.now
+    c.loop-source.sources c.source-item.result c.drop_at.new.self c.loop-source.invariant (search rules)
+    c.source-item.is
     (c.drop_at.ensures ∙ sym (ap (dropped_at (c.args.name.now ++ c.args.direction.now)) c.source-item.is))
 
 pub returns : goal.returns

@@ -10,7 +10,8 @@ returns-in-Some c =
     let f = feed_outcome c.args.self.now c.args.piece.now in
     let taken : c.scan-taken.result.0 ≡ f.taken = cc in
     let frame : Some (received_of c.frame.result) ≡ f.frame = search rules in
-    let told = feeds c.args.self.now c.args.piece.now c.scan-taken.result.0 (Some (received_of c.frame.result)) taken frame in (
+    let told = feeds c.args.self.now c.args.piece.now c.scan-taken.result.0 (Some (received_of c.frame.result)) taken
+    frame in (
       (refl, λ _. tt, search rules),
       record {
         taken = taken;

@@ -6,4 +6,5 @@ use Rattle.njh_bisync.proofs.deframer.Deframer.reset.Goals as goal
 
 pub returns-clause-afresh : goal.returns-clause-afresh
 returns-clause-afresh c = λ bytes.
-    subst (λ (r : Rest). Reads bytes (frames_after r bytes) (rest_after r bytes)) (sym c.reset.ensures) (reads_from bytes)
+    subst (λ (r : Rest). Reads bytes (frames_after r bytes) (rest_after r bytes)) (sym c.reset.ensures)
+    (reads_from bytes)

@@ -6,7 +6,8 @@ use Rattle.njh_bisync.proofs.scanner.Scanner.scan.Given as goal
 -- What was taken so far, put before what is taken of the rest of the piece, is what is taken of all of it.
 abbrev pub invariant-loop-taken : goal.invariant-loop-taken
 invariant-loop-taken l = record {
-  all : ahead l.taken (feed_outcome (rest_in l.self) (drop l.taken l.piece)) ≡ feed_outcome (rest_in l.initial.self) l.piece;
+  all : ahead l.taken (feed_outcome (rest_in l.self) (drop l.taken l.piece)) ≡ feed_outcome (rest_in l.initial.self)
+      l.piece;
   within : l.taken ≤ length l.piece;
 }
 

@@ -21,7 +21,8 @@ returns-in-Some-clause-goes_on c =
     let long : 1 < length c.args.bytes.now = omega (arith, c.in-Some.ensures.lookup) in
     let at : c.in-Some.byte.now ≡ get_or c.args.bytes.now 1 0 = search rules in
     rw (c.requires.place, c.take_control.ensures.frame, c.take_control.ensures.rest)
-    (fed-behind (good_data scanner.spoiled scanner.held.items) c.args.bytes.now c.in-Some.byte.now c.if-bytes-ne-DLE.false long at)
+    (fed-behind (good_data scanner.spoiled scanner.held.items) c.args.bytes.now c.in-Some.byte.now
+    c.if-bytes-ne-DLE.false long at)
 
 pub returns-in-None-clause-goes_on : goal.returns-in-None-clause-goes_on
 returns-in-None-clause-goes_on c =

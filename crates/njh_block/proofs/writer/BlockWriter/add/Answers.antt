@@ -11,13 +11,15 @@ adds : (c : goal.After-push)
     ((without_end c.self.inside.text.items ++ written_bytes (outgoing_item c.args.out)) ++ 0 ∷ [])
 adds c =
     written_on c.reads_back.ensures
-    (writing_of c.self.inside.limit c.self.inside.text.items) c.self.inside.text.items c.self.inside.ended (outgoing_item c.args.out)
+    (writing_of c.self.inside.limit c.self.inside.text.items) c.self.inside.text.items c.self.inside.ended
+    (outgoing_item c.args.out)
     c.self.invariant (IsWritten-outgoing c.args.out c.requires.writable)
     (subst (λ (w : Writing). IsTrue (has_room w (outgoing_item c.args.out))) (sym c.self.view_is) c.requires.room)
 
 pub invariant_of-self : goal.invariant_of-self
 invariant_of-self c =
-    rw (c.push.ensures.items, c.put_record.ensures, c.pop-end.ensures.rest, c.is_general-self-inside.ensures) (adds c).whole
+    rw (c.push.ensures.items, c.put_record.ensures, c.pop-end.ensures.rest, c.is_general-self-inside.ensures)
+    (adds c).whole
 
 pub returns : goal.returns
 returns c =

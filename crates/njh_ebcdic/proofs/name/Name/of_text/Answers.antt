@@ -35,4 +35,5 @@ returns c =
     c.loop-place.yielded _ c.loop-place.yielded_by _ _ c.in-None.is c.next.ensures.steps in
     let count = ended.1 ∙ length-enumerate_from 0 (chars c.args.text.now) in
     let same = IsFilledTo-all _ _ (rw count at c.loop-place.invariant) in
-    c.of_word.ensures ∙ (ap (λ n. name_of_word (take n c.loop-place.word)) c.count_characters-count.ensures ∙ ap name_of_word same)
+    c.of_word.ensures ∙ (ap (λ n. name_of_word (take n c.loop-place.word)) c.count_characters-count.ensures
+    ∙ ap name_of_word same)

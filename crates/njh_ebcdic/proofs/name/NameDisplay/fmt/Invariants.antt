@@ -5,4 +5,5 @@ use Rattle.njh_ebcdic.proofs.name.NameDisplay.fmt.Given as goal
 
 abbrev pub invariant-loop-byte : goal.invariant-loop-byte
 invariant-loop-byte g l =
-    IsPlainFormatter l.initial.f → HasWritten g.W.Write.write_str_gives l.initial.f (shown_text (take l.byte-index l.byte-items)) l.f
+    IsPlainFormatter l.initial.f → HasWritten g.W.Write.write_str_gives l.initial.f
+    (shown_text (take l.byte-index l.byte-items)) l.f

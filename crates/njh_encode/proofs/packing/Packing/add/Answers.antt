@@ -14,4 +14,5 @@ returns c =
     let P : OpenBlock → Type 0 = λ k.
     Puts c.args.name.now c.args.self.now (item ∷ []) k c.args.script.now.items c.end.new.script.items in
     subst P (sym at)
-    (Puts-next c.args.name.now c.args.self.now item c.args.script.now.items c.end.new.script.items none c.in_ok-end.ensures.line)
+    (Puts-next c.args.name.now c.args.self.now item c.args.script.now.items c.end.new.script.items none
+    c.in_ok-end.ensures.line)

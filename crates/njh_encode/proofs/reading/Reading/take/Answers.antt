@@ -11,7 +11,8 @@ pub loop-behind-preserved : goal.loop-behind-preserved
 loop-behind-preserved g c =
     let at = c.loop-behind.self in
     let line : (more : List ℕ) → lines_from at.front (c.loop-behind.left.now ++ more)
-    ≡ c.read.new.self.front ∷ lines_of (c.in-Some.behind.now ++ more) = rw c.in-Some.is at c.in_ok-behind.ensures.lines in
+    ≡ c.read.new.self.front ∷ lines_of (c.in-Some.behind.now ++ more) =
+    rw c.in-Some.is at c.in_ok-behind.ensures.lines in
     read-line (g.L.Letters.texts c.args.letters.now) c.args.self.now at c.read.new.self c.take_front.new.self
     c.args.piece.now c.args.script.now.items c.loop-behind.left.now c.loop-behind.script.items c.in-Some.behind.now
     c.take_front.new.script.items c.loop-behind.invariant line
@@ -21,7 +22,8 @@ loop-behind-preserved g c =
 pub returns-clause-taken : goal.returns-clause-taken
 returns-clause-taken g c =
     let at = c.loop-behind.self in
-    let kept : (more : List ℕ) → lines_from at.front (c.loop-behind.left.now ++ more) ≡ lines_from c.read.new.self.front more
+    let kept : (more : List ℕ) → lines_from at.front (c.loop-behind.left.now ++ more) ≡ lines_from c.read.new.self.front
+    more
     = rw c.in_default.is at c.in_ok-behind.ensures.lines in
     read-all (g.L.Letters.texts c.args.letters.now) c.args.self.now at c.read.new.self c.args.piece.now
     c.args.script.now.items c.loop-behind.left.now c.loop-behind.script.items c.loop-behind.invariant kept
@@ -37,7 +39,8 @@ pub returns-in_err-take_front-clause-bad : goal.returns-in_err-take_front-clause
 returns-in_err-take_front-clause-bad g c = λ fault same.
     let at = c.loop-behind.self in
     let line : (more : List ℕ) → lines_from at.front (c.loop-behind.left.now ++ more)
-    ≡ c.read.new.self.front ∷ lines_of (c.in-Some.behind.now ++ more) = rw c.in-Some.is at c.in_ok-behind.ensures.lines in
+    ≡ c.read.new.self.front ∷ lines_of (c.in-Some.behind.now ++ more) =
+    rw c.in-Some.is at c.in_ok-behind.ensures.lines in
     let bad = c.take_front.ensures.bad fault (first_of (search (rules, same), cc same)) in
     read-bad (g.L.Letters.texts c.args.letters.now) c.args.self.now at c.read.new.self c.args.piece.now
     c.args.script.now.items c.loop-behind.left.now c.loop-behind.script.items c.in-Some.behind.now

@@ -15,7 +15,9 @@ returns-then-from-len c =
 pub returns : goal.returns
 returns c =
     let s = c.self.inside in
-    let there : c.args.customer < length s.shared.tables.customers = omega (arith, s.lines.ok.0, c.self.invariant.lined) in
+    let there : c.args.customer < length s.shared.tables.customers =
+    omega (arith, s.lines.ok.0, c.self.invariant.lined) in
     c.arrived.ensures
-    ∙ ap (λ (p : Part). p.customer.spool.arrived) (sym (part-there s.shared.tables s.shared.spool s.lines.items c.args.customer there))
+    ∙ ap (λ (p : Part). p.customer.spool.arrived)
+    (sym (part-there s.shared.tables s.shared.spool s.lines.items c.args.customer there))
     ∙ ap (λ (ps : List Part). (part c.args.customer ps).customer.spool.arrived) c.self.view_is

@@ -13,7 +13,8 @@ pub quota_holds-requires : goal.quota_holds-requires
 quota_holds-requires c =
     let s = c.self.inside in
     let there =
-    line-there s.shared.tables s.shared.spool s.lines.items c.args.id (subst (λ (ps : List Part). HasLine ps c.args.id) (sym c.self.view_is) c.requires) in
+    line-there s.shared.tables s.shared.spool s.lines.items c.args.id
+    (subst (λ (ps : List Part). HasLine ps c.args.id) (sym c.self.view_is) c.requires) in
     omega (arith, there, c.self.invariant.spooled)
 
 pub returns : goal.returns
@@ -21,9 +22,12 @@ returns c =
     let s = c.self.inside in
     let id = c.args.id in
     let there =
-    line-there s.shared.tables s.shared.spool s.lines.items id (subst (λ (ps : List Part). HasLine ps id) (sym c.self.view_is) c.requires) in
-    subst (λ (ps : List Part). AllByRecursion (IsPartialOn (part id.customer ps).customer.spool) (hub_line id ps).receivers) c.self.view_is
+    line-there s.shared.tables s.shared.spool s.lines.items id
+    (subst (λ (ps : List Part). HasLine ps id) (sym c.self.view_is) c.requires) in
+    subst (λ (ps : List Part). AllByRecursion (IsPartialOn (part id.customer ps).customer.spool)
+    (hub_line id ps).receivers) c.self.view_is
     (subst (λ (p : Part). AllByRecursion (IsPartialOn p.customer.spool) (line_at id.number p.customer.lines).receivers)
     (sym (part-there s.shared.tables s.shared.spool s.lines.items id.customer there))
     (let customer = (part_held s.shared.tables s.shared.spool s.lines.items id.customer).customer in
-    all_are_partial customer.lines customer.spool id.number _ c.quota_holds.ensures.sound (λ k. (c.self.invariant.coherent id.customer there).tied.agree id.number k)))
+    all_are_partial customer.lines customer.spool id.number _ c.quota_holds.ensures.sound
+    (λ k. (c.self.invariant.coherent id.customer there).tied.agree id.number k)))

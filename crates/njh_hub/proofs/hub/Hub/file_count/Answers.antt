@@ -15,7 +15,9 @@ returns-then-from-len c =
 pub returns : goal.returns
 returns c =
     let s = c.self.inside in
-    let there : c.args.customer < length s.shared.tables.customers = omega (arith, s.lines.ok.0, c.self.invariant.lined) in
+    let there : c.args.customer < length s.shared.tables.customers =
+    omega (arith, s.lines.ok.0, c.self.invariant.lined) in
     c.files.ensures
-    ∙ ap (λ (p : Part). length p.customer.spool.whole) (sym (part-there s.shared.tables s.shared.spool s.lines.items c.args.customer there))
+    ∙ ap (λ (p : Part). length p.customer.spool.whole)
+    (sym (part-there s.shared.tables s.shared.spool s.lines.items c.args.customer there))
     ∙ ap (λ (ps : List Part). length (part c.args.customer ps).customer.spool.whole) c.self.view_is

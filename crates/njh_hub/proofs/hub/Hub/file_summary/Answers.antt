@@ -24,13 +24,15 @@ returns-then-from-len-clause-summary c =
 pub file_summary-requires-clause-headers : goal.file_summary-requires-clause-headers
 file_summary-requires-clause-headers c =
     let s = c.self.inside in
-    let there : c.args.customer < length s.shared.tables.customers = omega (arith, s.lines.ok.0, c.self.invariant.lined) in
+    let there : c.args.customer < length s.shared.tables.customers =
+    omega (arith, s.lines.ok.0, c.self.invariant.lined) in
     (c.self.invariant.coherent c.args.customer there).headers
 
 pub returns-clause-headers : goal.returns-clause-headers
 returns-clause-headers c =
     let s = c.self.inside in
-    let there : c.args.customer < length s.shared.tables.customers = omega (arith, s.lines.ok.0, c.self.invariant.lined) in
+    let there : c.args.customer < length s.shared.tables.customers =
+    omega (arith, s.lines.ok.0, c.self.invariant.lined) in
     where_some c.file_summary.result
     (subst (λ (ps : List Part). HaveHeaders (part c.args.customer ps).customer.spool.whole) c.self.view_is
     (headers-there s.shared.tables s.shared.spool s.lines.items c.args.customer c.self.invariant there))
@@ -38,7 +40,8 @@ returns-clause-headers c =
 pub returns-clause-summary : goal.returns-clause-summary
 returns-clause-summary c =
     let s = c.self.inside in
-    let there : c.args.customer < length s.shared.tables.customers = omega (arith, s.lines.ok.0, c.self.invariant.lined) in
+    let there : c.args.customer < length s.shared.tables.customers =
+    omega (arith, s.lines.ok.0, c.self.invariant.lined) in
     c.file_summary.ensures
     ∙ ap (λ (p : Part). option_map file_summary (whole_numbered c.args.file p.customer.spool))
     (sym (part-there s.shared.tables s.shared.spool s.lines.items c.args.customer there))

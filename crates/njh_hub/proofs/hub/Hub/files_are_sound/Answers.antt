@@ -10,14 +10,17 @@ use Rattle.njh_hub.proofs.hub.Hub.files_are_sound.Goals as goal
 pub returns-then-from-len-clause-sound : goal.returns-then-from-len-clause-sound
 returns-then-from-len-clause-sound c =
     let s = c.self.inside in
-    let there : c.args.customer < length s.shared.tables.customers = omega (arith, s.lines.ok.0, c.self.invariant.lined) in
+    let there : c.args.customer < length s.shared.tables.customers =
+    omega (arith, s.lines.ok.0, c.self.invariant.lined) in
     subst (λ (ps : List Part). IsSound (part c.args.customer ps).customer.spool) c.self.view_is
-    (subst (λ (p : Part). IsSound p.customer.spool) (sym (part-there s.shared.tables s.shared.spool s.lines.items c.args.customer there)) c.quota_holds.ensures.sound)
+    (subst (λ (p : Part). IsSound p.customer.spool)
+    (sym (part-there s.shared.tables s.shared.spool s.lines.items c.args.customer there)) c.quota_holds.ensures.sound)
 
 pub returns-then-from-len-clause-headers : goal.returns-then-from-len-clause-headers
 returns-then-from-len-clause-headers c =
     let s = c.self.inside in
-    let there : c.args.customer < length s.shared.tables.customers = omega (arith, s.lines.ok.0, c.self.invariant.lined) in
+    let there : c.args.customer < length s.shared.tables.customers =
+    omega (arith, s.lines.ok.0, c.self.invariant.lined) in
     subst (λ (ps : List Part). HaveHeaders (part c.args.customer ps).customer.spool.whole) c.self.view_is
     (headers-there s.shared.tables s.shared.spool s.lines.items c.args.customer c.self.invariant there)
 
@@ -27,7 +30,8 @@ returns-else-from-len-clause-sound c =
     let count = length-parts_of s.shared.tables s.shared.spool s.lines.items in
     let past : length c.args.self.now ≤ c.args.customer =
     omega (arith, count, ap (λ (ps : List Part). length ps) c.self.view_is, s.lines.ok.0, c.self.invariant.lined) in
-    subst (λ (p : Part). IsSound p.customer.spool) (sym (get_or_past c.args.self.now c.args.customer no_part past)) no_part_is_sound
+    subst (λ (p : Part). IsSound p.customer.spool) (sym (get_or_past c.args.self.now c.args.customer no_part past))
+    no_part_is_sound
 
 pub returns-else-from-len-clause-headers : goal.returns-else-from-len-clause-headers
 returns-else-from-len-clause-headers c =
@@ -35,4 +39,5 @@ returns-else-from-len-clause-headers c =
     let count = length-parts_of s.shared.tables s.shared.spool s.lines.items in
     let past : length c.args.self.now ≤ c.args.customer =
     omega (arith, count, ap (λ (ps : List Part). length ps) c.self.view_is, s.lines.ok.0, c.self.invariant.lined) in
-    subst (λ (p : Part). HaveHeaders p.customer.spool.whole) (sym (get_or_past c.args.self.now c.args.customer no_part past)) no_headers_are_bad
+    subst (λ (p : Part). HaveHeaders p.customer.spool.whole)
+    (sym (get_or_past c.args.self.now c.args.customer no_part past)) no_headers_are_bad

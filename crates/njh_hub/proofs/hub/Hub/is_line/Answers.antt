@@ -16,7 +16,8 @@ returns-then-customer-len-clause-line c =
             arith,
             c.self.inside.lines.ok.0,
             c.self.invariant.lined,
-            line-there s.shared.tables s.shared.spool s.lines.items c.args.id (subst (λ ps. HasLine ps c.args.id) (sym c.self.view_is) here),
+            line-there s.shared.tables s.shared.spool s.lines.items c.args.id
+                (subst (λ ps. HasLine ps c.args.id) (sym c.self.view_is) here),
           )),
     )
 
@@ -25,10 +26,12 @@ returns-clause-line c =
     let s = c.self.inside in
     let n = c.args.id.customer in
     let within : n < length s.lines.items = omega (arith, c.self.inside.lines.ok.0) in
-    let is : c.index.result.now ≡ lines_at n s.lines.items = get_or_read s.lines.items n c.index.result.now within (search rules) no_lines in
+    let is : c.index.result.now ≡ lines_at n s.lines.items =
+    get_or_read s.lines.items n c.index.result.now within (search rules) no_lines in
     let count : length c.index.result.now.lines ≡ length (part n c.args.self.now).customer.lines =
     ap (λ (x : Lines). length x.lines) is
-    ∙ sym (ap (λ (p : Part). length p.customer.lines) (part-there s.shared.tables s.shared.spool s.lines.items n (omega (arith, within, c.self.invariant.lined))))
+    ∙ sym (ap (λ (p : Part). length p.customer.lines)
+    (part-there s.shared.tables s.shared.spool s.lines.items n (omega (arith, within, c.self.invariant.lined))))
     ∙ ap (λ ps. length (part n ps).customer.lines) c.self.view_is in
     search (rules, count)
 
@@ -37,9 +40,11 @@ returns-clause-rests c =
     let s = c.self.inside in
     let n = c.args.id.customer in
     let within : n < length s.lines.items = omega (arith, c.self.inside.lines.ok.0) in
-    let is : c.index.result.now ≡ lines_at n s.lines.items = get_or_read s.lines.items n c.index.result.now within (search rules) no_lines in
+    let is : c.index.result.now ≡ lines_at n s.lines.items =
+    get_or_read s.lines.items n c.index.result.now within (search rules) no_lines in
     let count : length c.index.result.now.rests ≡ length (part n c.args.self.now).rests =
     ap (λ (x : Lines). length x.rests) is
-    ∙ sym (ap (λ (p : Part). length p.rests) (part-there s.shared.tables s.shared.spool s.lines.items n (omega (arith, within, c.self.invariant.lined))))
+    ∙ sym (ap (λ (p : Part). length p.rests)
+    (part-there s.shared.tables s.shared.spool s.lines.items n (omega (arith, within, c.self.invariant.lined))))
     ∙ ap (λ ps. length (part n ps).rests) c.self.view_is in
     search (rules, count)

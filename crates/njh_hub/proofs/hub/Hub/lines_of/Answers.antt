@@ -11,7 +11,12 @@ index-requires c =
     let s = c.self.inside in
     let here : HasLine c.args.self.now c.args.id = search rules in
     let known = subst (λ ps. HasLine ps c.args.id) (sym c.self.view_is) here in
-    omega (arith, line-there s.shared.tables s.shared.spool s.lines.items c.args.id known, c.self.invariant.lined, s.lines.ok.0)
+    omega (
+      arith,
+      line-there s.shared.tables s.shared.spool s.lines.items c.args.id known,
+      c.self.invariant.lined,
+      s.lines.ok.0,
+    )
 
 pub returns-clause-lines : goal.returns-clause-lines
 returns-clause-lines c =
@@ -21,7 +26,8 @@ returns-clause-lines c =
     let known = subst (λ ps. HasLine ps c.args.id) (sym c.self.view_is) here in
     let there = line-there s.shared.tables s.shared.spool s.lines.items c.args.id known in
     let within : n < length s.lines.items = omega (arith, there, c.self.invariant.lined) in
-    let is : c.index.result.now ≡ lines_at n s.lines.items = get_or_read s.lines.items n c.index.result.now within (search rules) no_lines in
+    let is : c.index.result.now ≡ lines_at n s.lines.items =
+    get_or_read s.lines.items n c.index.result.now within (search rules) no_lines in
     ap (λ (x : Lines). x.lines) is
     ∙ sym (ap (λ (p : Part). p.customer.lines) (part-there s.shared.tables s.shared.spool s.lines.items n there))
     ∙ ap (λ (ps : List Part). (part n ps).customer.lines) c.self.view_is

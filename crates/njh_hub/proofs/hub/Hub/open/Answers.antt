@@ -15,11 +15,13 @@ opened c =
       each = c.in_ok-lines.ensures.opened;
     } in
     subst (λ t. AreOpened c.args.tables t c.new.result.spool c.in_ok-lines.lines.items) (sym c.new.ensures.tables)
-    (subst (λ s. AreOpened c.args.tables c.all_down-tables.result s c.in_ok-lines.lines.items) (sym c.new.ensures.spool) o)
+    (subst (λ s. AreOpened c.args.tables c.all_down-tables.result s c.in_ok-lines.lines.items) (sym c.new.ensures.spool)
+    o)
 
 pub invariant_of-result : goal.invariant_of-result
 invariant_of-result c =
-    hub-opened (opened c) (subst IsAccepted (sym c.new.ensures.tables) c.open_lines.ensures.accepted) c.opened_is_coherent.ensures
+    hub-opened (opened c) (subst IsAccepted (sym c.new.ensures.tables) c.open_lines.ensures.accepted)
+    c.opened_is_coherent.ensures
     c.marks_are_right.ensures.fresh
 
 pub returns-clause-opened : goal.returns-clause-opened

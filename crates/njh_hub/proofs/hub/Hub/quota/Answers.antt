@@ -9,7 +9,8 @@ use Rattle.njh_hub.proofs.hub.Hub.quota.Goals as goal
 pub returns-clause-quota : goal.returns-clause-quota
 returns-clause-quota c =
     let s = c.self.inside in
-    let there : c.args.customer < length s.shared.tables.customers = omega (arith, s.lines.ok.0, c.self.invariant.lined) in
+    let there : c.args.customer < length s.shared.tables.customers =
+    omega (arith, s.lines.ok.0, c.self.invariant.lined) in
     c.quota.ensures ∙ ap (λ (x : NamedCustomer). x.quota) c.customer.ensures
     ∙ sym (ap (λ (e : CustomerEntry). e.quota)
     (entry-there s.shared.tables s.shared.spool s.lines.items c.args.self.now c.args.customer c.self.view_is there))
@@ -19,11 +20,26 @@ returns-then-from-len-clause-known c =
     let s = c.self.inside in
     let count = length-parts_of s.shared.tables s.shared.spool s.lines.items in (
       λ e. absurd (false≢true e),
-      λ here. absurd (omega (arith, here, count, ap (λ (ps : List Part). length ps) c.self.view_is, s.lines.ok.0, c.self.invariant.lined)),
+      λ here. absurd (omega (
+        arith,
+        here,
+        count,
+        ap (λ (ps : List Part). length ps) c.self.view_is,
+        s.lines.ok.0,
+        c.self.invariant.lined,
+      )),
     )
 
 pub returns-clause-known : goal.returns-clause-known
 returns-clause-known c =
     let s = c.self.inside in
-    let count = length-parts_of s.shared.tables s.shared.spool s.lines.items in
-    (λ _. omega (arith, count, ap (λ (ps : List Part). length ps) c.self.view_is, s.lines.ok.0, c.self.invariant.lined), λ _. refl)
+    let count = length-parts_of s.shared.tables s.shared.spool s.lines.items in (
+      λ _. omega (
+        arith,
+        count,
+        ap (λ (ps : List Part). length ps) c.self.view_is,
+        s.lines.ok.0,
+        c.self.invariant.lined,
+      ),
+      λ _. refl,
+    )

@@ -21,12 +21,14 @@ returns-then-from-len c =
     let count = length-parts_of s.shared.tables s.shared.spool s.lines.items in
     let past : length c.args.self.now ≤ c.args.customer =
     omega (arith, count, ap (λ (ps : List Part). length ps) c.self.view_is, s.lines.ok.0, c.self.invariant.lined) in
-    sym (ap (λ (p : Part). records_numbered c.args.file p.customer.spool) (get_or_past c.args.self.now c.args.customer no_part past))
+    sym (ap (λ (p : Part). records_numbered c.args.file p.customer.spool)
+    (get_or_past c.args.self.now c.args.customer no_part past))
 
 pub returns-in-Ok : goal.returns-in-Ok
 returns-in-Ok c =
     let s = c.self.inside in
-    let there : c.args.customer < length s.shared.tables.customers = omega (arith, s.lines.ok.0, c.self.invariant.lined) in
+    let there : c.args.customer < length s.shared.tables.customers =
+    omega (arith, s.lines.ok.0, c.self.invariant.lined) in
     file_there _ c.in-Ok.reader (sym c.in-Ok.is ∙ c.read_all.ensures)
     ∙ ap (λ (p : Part). records_numbered c.args.file p.customer.spool)
     (sym (part-there s.shared.tables s.shared.spool s.lines.items c.args.customer there))
@@ -35,7 +37,8 @@ returns-in-Ok c =
 pub returns-in-Err : goal.returns-in-Err
 returns-in-Err c =
     let s = c.self.inside in
-    let there : c.args.customer < length s.shared.tables.customers = omega (arith, s.lines.ok.0, c.self.invariant.lined) in
+    let there : c.args.customer < length s.shared.tables.customers =
+    omega (arith, s.lines.ok.0, c.self.invariant.lined) in
     no_file _ c.in-Err.field-0 (sym c.in-Err.is ∙ c.read_all.ensures)
     ∙ ap (λ (p : Part). records_numbered c.args.file p.customer.spool)
     (sym (part-there s.shared.tables s.shared.spool s.lines.items c.args.customer there))

@@ -1,4 +1,5 @@
-use Rattle.std.proofs.Common.{◌≡◌, ℕ, ◌<◌, ◌≤◌, List, [], length, Option, Some, None, Ok, Err, ap, sym, ◌∙◌, refl, arith}
+use Rattle.std.proofs.Common.{◌≡◌, ℕ, ◌<◌, ◌≤◌, List, [], length, Option, Some, None, Ok, Err, ap, sym, ◌∙◌, refl}
+use Rattle.std.proofs.Common.{arith}
 use Rattle.std.proofs.lemmas.List.{get_or_past}
 use Rattle.std.specs.Option.{option_map}
 use Rattle.njh_record.specs.Stored.{Stored}
@@ -12,11 +13,13 @@ use Rattle.njh_hub.proofs.hub.Hub.record_count.Goals as goal
 abbrev or_none : Option (List Stored) → List Stored
 or_none o = elim o [ Some records ↦ records | None ↦ [] ]
 
-there_are : (o : Option (List Stored)) (n : ℕ) → Ok n ≡ or_no_file (option_map (λ records. length records) o) → n ≡ length (or_none o)
+there_are : (o : Option (List Stored)) (n : ℕ) → Ok n ≡ or_no_file (option_map (λ records. length records) o)
+    → n ≡ length (or_none o)
 there_are None n e = absurd (cc e)
 there_are (Some x) n e = cc e
 
-no_file : (o : Option (List Stored)) (fault : SpoolFault) → Err fault ≡ or_no_file (option_map (λ records. length records) o)
+no_file : (o : Option (List Stored)) (fault : SpoolFault)
+    → Err fault ≡ or_no_file (option_map (λ records. length records) o)
     → 0 ≡ length (or_none o)
 no_file None fault e = refl
 no_file (Some x) fault e = absurd (cc e)
@@ -27,12 +30,14 @@ returns-then-from-len c =
     let count = length-parts_of s.shared.tables s.shared.spool s.lines.items in
     let past : length c.args.self.now ≤ c.args.customer =
     omega (arith, count, ap (λ (ps : List Part). length ps) c.self.view_is, s.lines.ok.0, c.self.invariant.lined) in
-    sym (ap (λ (p : Part). length (records_in c.args.file p.customer.spool)) (get_or_past c.args.self.now c.args.customer no_part past))
+    sym (ap (λ (p : Part). length (records_in c.args.file p.customer.spool))
+    (get_or_past c.args.self.now c.args.customer no_part past))
 
 pub returns-in-Ok : goal.returns-in-Ok
 returns-in-Ok c =
     let s = c.self.inside in
-    let there : c.args.customer < length s.shared.tables.customers = omega (arith, s.lines.ok.0, c.self.invariant.lined) in
+    let there : c.args.customer < length s.shared.tables.customers =
+    omega (arith, s.lines.ok.0, c.self.invariant.lined) in
     there_are _ c.in-Ok.count (sym c.in-Ok.is ∙ c.records.ensures)
     ∙ ap (λ (p : Part). length (records_in c.args.file p.customer.spool))
     (sym (part-there s.shared.tables s.shared.spool s.lines.items c.args.customer there))
@@ -41,7 +46,8 @@ returns-in-Ok c =
 pub returns-in-Err : goal.returns-in-Err
 returns-in-Err c =
     let s = c.self.inside in
-    let there : c.args.customer < length s.shared.tables.customers = omega (arith, s.lines.ok.0, c.self.invariant.lined) in
+    let there : c.args.customer < length s.shared.tables.customers =
+    omega (arith, s.lines.ok.0, c.self.invariant.lined) in
     no_file _ c.in-Err.field-0 (sym c.in-Err.is ∙ c.records.ensures)
     ∙ ap (λ (p : Part). length (records_in c.args.file p.customer.spool))
     (sym (part-there s.shared.tables s.shared.spool s.lines.items c.args.customer there))

@@ -29,7 +29,8 @@ returns-in-Err-clause-parts g c = λ d there.
     c.index-events-index.is c.in-Err.ensures.one.1 c.loop-index.invariant.parts in
     ap (part d) (c.in-Err.ensures.leads ∙ ap (λ (h : HubRun). h.parts) (sym stop))
     ∙ (each_is_alone d start (first_events events (k + fault.events) fault.bytes) there).after
-    ∙ ap (λ (f : RunFault). (alone_run (part d start) (events_of d (first_events events f.events f.bytes))).after) (sym c.after.ensures)
+    ∙ ap (λ (f : RunFault). (alone_run (part d start) (events_of d (first_events events f.events f.bytes))).after)
+    (sym c.after.ensures)
 
 pub returns-in-Err-clause-handed : goal.returns-in-Err-clause-handed
 returns-in-Err-clause-handed g c =
@@ -46,8 +47,10 @@ returns-in-Err-clause-handed g c =
     let handed = HandedUntil-after g.S.Sink.took g.S.Sink.refused fault.cause c.args.sink.now c.loop-index.sink
     c.run_event.new.sink sent more
     g.met.S.Sink.more c.loop-index.invariant.sent c.in-Err.ensures.handed in
-    let P : HubRun → Type 0 = λ h. HandedUntil g.S.Sink.took g.S.Sink.refused fault.cause c.args.sink.now c.run_event.new.sink h.sent in
-    let Q : RunFault → Type 0 = λ f. HandedUntil g.S.Sink.took g.S.Sink.refused f.cause c.args.sink.now c.run_event.new.sink
+    let P : HubRun → Type 0 = λ h. HandedUntil g.S.Sink.took g.S.Sink.refused fault.cause c.args.sink.now
+    c.run_event.new.sink h.sent in
+    let Q : RunFault → Type 0 = λ f. HandedUntil g.S.Sink.took g.S.Sink.refused f.cause c.args.sink.now
+    c.run_event.new.sink
     (hub_run start (first_events events f.events f.bytes)).sent in
     subst Q (sym c.after.ensures) (subst P (sym stop) handed)
 
@@ -63,9 +66,11 @@ returns-in-Err-clause-refused g c = λ refused.
     c.index-events-index.is c.in-Err.ensures.one.1 c.loop-index.invariant.parts in
     let sent = (hub_run start (take k events)).sent in
     let more = (hub_run c.loop-index.self (first_events (event ∷ []) fault.events fault.bytes)).sent in
-    let some : 0 < length more = HandedUntil-some g.S.Sink.took g.S.Sink.refused fault.cause c.loop-index.sink c.run_event.new.sink more
+    let some : 0 < length more = HandedUntil-some g.S.Sink.took g.S.Sink.refused fault.cause c.loop-index.sink
+    c.run_event.new.sink more
     (sym (ap (λ (f : RunFault). f.cause) c.after.ensures) ∙ refused) c.in-Err.ensures.handed in
-    let same : length (hub_run start (first_events events c.after.result.events c.after.result.bytes)).sent ≡ length (sent ++ more) =
+    let same : length (hub_run start (first_events events c.after.result.events c.after.result.bytes)).sent
+    ≡ length (sent ++ more) =
     ap (λ (f : RunFault). length (hub_run start (first_events events f.events f.bytes)).sent) c.after.ensures
     ∙ ap (λ (h : HubRun). length h.sent) stop in
     omega (arith, same, length-append sent more, some)
@@ -78,7 +83,8 @@ returns-in-Err-clause-customers g c =
     let here : length now ≡ length start = ap (λ (ps : List Part). length ps) c.loop-index.invariant.parts
     ∙ hub_run-length start (take k c.args.events.now) in
     ap (λ (ps : List Part). length ps) c.in-Err.ensures.leads
-    ∙ hub_run-length now (first_events (c.index-events-index.result ∷ []) c.in-Err.fault.events c.in-Err.fault.bytes) ∙ here
+    ∙ hub_run-length now (first_events (c.index-events-index.result ∷ []) c.in-Err.fault.events c.in-Err.fault.bytes)
+    ∙ here
 
 pub returns-in-Err-clause-before : goal.returns-in-Err-clause-before
 returns-in-Err-clause-before g c =
@@ -88,7 +94,8 @@ returns-in-Err-clause-before g c =
     let event = c.index-events-index.result in
     let within : k < length events = omega arith in
     let P : RunFault → Type 0 = λ f. All (IsNamed start) (take f.events events) in
-    let on : LedOn start c.loop-index.self = led_on c.events_keep_entries.ensures.faults start c.loop-index.self (take k events)
+    let on : LedOn start c.loop-index.self =
+    led_on c.events_keep_entries.ensures.faults start c.loop-index.self (take k events)
     c.loop-index.invariant.parts c.loop-index.invariant.same in
     let behind : c.in-Err.fault.events ≡ 1 → IsNamed start event = λ one. named-before start c.loop-index.self on event
     (c.in-Err.ensures.behind one) in
@@ -119,10 +126,13 @@ returns-in-Err-clause-causes g c =
     let fault = c.in-Err.fault in
     let event = c.index-events-index.result in
     let within : k < length events = omega arith in
-    let on : LedOn start c.loop-index.self = led_on c.events_keep_entries.ensures.faults start c.loop-index.self (take k events)
+    let on : LedOn start c.loop-index.self =
+    led_on c.events_keep_entries.ensures.faults start c.loop-index.self (take k events)
     c.loop-index.invariant.parts c.loop-index.invariant.same in
-    let P : RunFault → Type 0 = λ f. IfHub f.cause (λ why. IsSomeAnd (slice_get events f.events) (λ e. IsRefused start e why)) in
-    subst P (sym c.after.ensures) (refused_at start c.loop-index.self on events k fault.events event within c.index-events-index.is
+    let P : RunFault → Type 0 = λ f. IfHub f.cause
+    (λ why. IsSomeAnd (slice_get events f.events) (λ e. IsRefused start e why)) in
+    subst P (sym c.after.ensures) (refused_at start c.loop-index.self on events k fault.events event within
+    c.index-events-index.is
     fault.cause c.in-Err.ensures.causes)
 
 pub returns-in-Err-clause-memory : goal.returns-in-Err-clause-memory
@@ -143,7 +153,8 @@ returns-in-Err-clause-memory g c = λ memory.
       ⊎_elim (λ (routes : IsRoutes event). inl (subst P (sym at) routes))
           (λ (less : vec_capacity c.loop-index.out < longest_frame). ⊎_elim
           (λ (all : Q k). inr (subst Q here all))
-          (λ (enough : longest_frame ≤ vec_capacity c.loop-index.out). absurd (omega arith)) c.loop-index.invariant.room) told.2,
+          (λ (enough : longest_frame ≤ vec_capacity c.loop-index.out). absurd (omega arith))
+          c.loop-index.invariant.room) told.2,
     )
 
 pub returns-in-Err-clause-begun : goal.returns-in-Err-clause-begun
@@ -156,7 +167,8 @@ returns-in-Err-clause-behind g c = λ sink.
     let events = c.args.events.now in
     let k = c.loop-index.index in
     let within : k < length events = omega arith in
-    stop_later c.args.self.now c.loop-index.self events k c.index-events-index.result c.in-Err.fault c.after.result within
+    stop_later c.args.self.now c.loop-index.self events k c.index-events-index.result c.in-Err.fault c.after.result
+    within
     c.index-events-index.is c.loop-index.invariant.parts c.after.ensures
     (c.in-Err.ensures.behind_frame (sym (ap (λ (f : RunFault). f.cause) c.after.ensures) ∙ sink))
 
@@ -167,8 +179,10 @@ loop-index-preserved g c =
     let k = c.loop-index.index in
     let event = c.index-events-index.result in
     let within : k < length events = omega arith in
-    let on = went_on start c.loop-index.self events k event within c.index-events-index.is c.loop-index.invariant.parts in
-    let led : LedOn start c.loop-index.self = led_on c.events_keep_entries.ensures.faults start c.loop-index.self (take k events)
+    let on = went_on start c.loop-index.self events k event within c.index-events-index.is c.loop-index.invariant.parts
+    in
+    let led : LedOn start c.loop-index.self =
+    led_on c.events_keep_entries.ensures.faults start c.loop-index.self (take k events)
     c.loop-index.invariant.parts c.loop-index.invariant.same in
     let known : IsNamed start event = named-before start c.loop-index.self led event c.in-Ok.ensures.known in
     let P : HubRun → Type 0 = λ h. g.S.Sink.took c.args.sink.now c.run_event.new.sink h.sent in
@@ -179,8 +193,10 @@ loop-index-preserved g c =
       same = λ d. c.in-Ok.ensures.lines d ∙ c.loop-index.invariant.same d;
       room = ⊎_elim (λ (line : IsSome (line_of_event event)). inr (c.in-Ok.ensures.room (inl line)))
           (λ (routes : IsRoutes event). ⊎_elim
-          (λ (all : All IsRoutes (take k events)). inl (All-more IsRoutes events k event within c.index-events-index.is all routes))
-          (λ (enough : longest_frame ≤ vec_capacity c.loop-index.out). inr (c.in-Ok.ensures.room (inr enough))) c.loop-index.invariant.room)
+          (λ (all : All IsRoutes (take k events)). inl
+          (All-more IsRoutes events k event within c.index-events-index.is all routes))
+          (λ (enough : longest_frame ≤ vec_capacity c.loop-index.out). inr (c.in-Ok.ensures.room (inr enough)))
+          c.loop-index.invariant.room)
           (either_event event);
       counts = omega (arith, c.in-Ok.ensures.counts);
     }
@@ -188,7 +204,8 @@ loop-index-preserved g c =
 pub returns-clause-parts : goal.returns-clause-parts
 returns-clause-parts g c = λ d there.
     let start = c.args.self.now in
-    let all : take c.loop-index.index c.args.events.now ≡ c.args.events.now = take_all _ c.args.events.now (omega arith) in
+    let all : take c.loop-index.index c.args.events.now ≡ c.args.events.now =
+    take_all _ c.args.events.now (omega arith) in
     ap (part d) (c.loop-index.invariant.parts ∙ ap (λ (es : List Event). (hub_run start es).parts) all)
     ∙ (each_is_alone d start c.args.events.now there).after
 
@@ -199,7 +216,8 @@ returns-clause-customers g c = ap (λ (ps : List Part). length ps) c.loop-index.
 pub returns-clause-handed : goal.returns-clause-handed
 returns-clause-handed g c =
     let start = c.args.self.now in
-    let all : take c.loop-index.index c.args.events.now ≡ c.args.events.now = take_all _ c.args.events.now (omega arith) in
+    let all : take c.loop-index.index c.args.events.now ≡ c.args.events.now =
+    take_all _ c.args.events.now (omega arith) in
     let P : List Event → Type 0 = λ es. g.S.Sink.took c.args.sink.now c.loop-index.sink (hub_run start es).sent in
     subst P all c.loop-index.invariant.sent
 
@@ -208,5 +226,9 @@ returns-clause-sent g c =
     let start = c.args.self.now in
     let events = c.args.events.now in
     let all : take c.loop-index.index events ≡ events = take_all _ events (omega arith) in
-    let P : List Event → Type 0 = λ es. g.S.Sink.took c.args.sink.now c.loop-index.sink (hub_run start es).sent in
-    ((hub_run start events).sent, subst P all c.loop-index.invariant.sent, λ d there. (each_is_alone d start events there).sent)
+    let P : List Event → Type 0 = λ es. g.S.Sink.took c.args.sink.now c.loop-index.sink (hub_run start es).sent in (
+      (hub_run start events).sent,
+      subst P all c.loop-index.invariant.sent,
+      λ d there.
+          (each_is_alone d start events there).sent,
+    )

@@ -1,4 +1,5 @@
-use Rattle.std.proofs.Common.{◌≡◌, ℕ, ◌+◌, ◌<◌, ◌≤◌, List, [], ◌∷◌, ◌++◌, length, take, ap, sym, subst, ◌∙◌, arith, rules}
+use Rattle.std.proofs.Common.{◌≡◌, ℕ, ◌+◌, ◌<◌, ◌≤◌, List, [], ◌∷◌, ◌++◌, length, take, ap, sym, subst, ◌∙◌, arith}
+use Rattle.std.proofs.Common.{rules}
 use Rattle.std.proofs.lemmas.List.{take_all}
 use Rattle.njh_table.specs.declared.LineId.{LineId}
 use Rattle.njh_customer.specs.Feeding.{sent_on}
@@ -31,7 +32,8 @@ loop-used-preserved g c =
       frame_is = did.frame;
     } in
     let there = step_done step in
-    let F : List ℕ → Type 0 = λ b. g.S.Sink.took c.loop-used.sink c.hand_over.new.sink (sent_by id.customer (sent_on id.number b)) in
+    let F : List ℕ → Type 0 = λ b. g.S.Sink.took c.loop-used.sink c.hand_over.new.sink
+    (sent_by id.customer (sent_on id.number b)) in
     let handed = subst F c.deref.ensures.value c.in-Ok-hand_over.ensures.ok in
     let P : HubRun → Type 0 = λ h. g.S.Sink.took c.args.sink.now c.hand_over.new.sink h.sent in
     let took = subst P (sym there) (g.met.S.Sink.more _ _ _ _ _ c.loop-used.invariant.sent handed) in
@@ -66,11 +68,13 @@ returns-then-taken-piece g c =
       frame_is = did.frame;
     } in
     let there = step_done step in
-    let F : List ℕ → Type 0 = λ b. g.S.Sink.took c.loop-used.sink c.hand_over.new.sink (sent_by id.customer (sent_on id.number b)) in
+    let F : List ℕ → Type 0 = λ b. g.S.Sink.took c.loop-used.sink c.hand_over.new.sink
+    (sent_by id.customer (sent_on id.number b)) in
     let handed = subst F c.deref.ensures.value c.in-Ok-hand_over.ensures.ok in
     let P : HubRun → Type 0 = λ h. g.S.Sink.took c.args.sink.now c.hand_over.new.sink h.sent in
     let took = subst P (sym there) (g.met.S.Sink.more _ _ _ _ _ c.loop-used.invariant.sent handed) in
-    let all : take (c.loop-used.taken + c.in-Ok.used) c.args.piece.now ≡ c.args.piece.now = take_all _ c.args.piece.now (omega arith) in
+    let all : take (c.loop-used.taken + c.in-Ok.used) c.args.piece.now ≡ c.args.piece.now =
+    take_all _ c.args.piece.now (omega arith) in
     let on : after_bytes start id (take (c.loop-used.taken + c.in-Ok.used) c.args.piece.now)
     ≡ hub_run start (Bytes id c.args.piece.now ∷ []) =
     ap (after_bytes start id) all ∙ sym (whole_done start (Bytes id c.args.piece.now)) in
@@ -115,15 +119,19 @@ returns-in-Err-hand_over g c =
     c.after_sink.ensures.whole c.after_sink.ensures.part in
     let sent = (after_bytes start id (take c.loop-used.taken c.args.piece.now)).sent in
     let all = (hub_run start (first_events (Bytes id c.args.piece.now ∷ []) fault.events fault.bytes)).sent in
-    let Q : Cause → Type 0 = λ cause. HandedUntil g.S.Sink.took g.S.Sink.refused cause c.args.sink.now c.hand_over.new.sink all in
+    let Q : Cause → Type 0 = λ cause. HandedUntil g.S.Sink.took g.S.Sink.refused cause c.args.sink.now
+    c.hand_over.new.sink all in
     let some : 0 < length c.take.new.out.items =
     omega (arith, c.in-Err-hand_over.ensures.err.1, ap (λ (b : List ℕ). length b) c.deref.ensures.value) in
-    let left : 0 < length c.split_at.result.1.now = some_taken (part id.customer c.loop-used.self) id.number c.split_at.result.1.now
+    let left : 0 < length c.split_at.result.1.now =
+    some_taken (part id.customer c.loop-used.self) id.number c.split_at.result.1.now
     (omega (arith, some, ap (λ (b : List ℕ). length b) did.frame)) in
     let any : 0 < c.in-Ok.used = c.in-Ok.ensures.progress.0 left in
-    let inside : taken ≤ length c.args.piece.now = omega (arith, c.in-Ok.ensures.progress.1, c.split_at.ensures.back_len) in
+    let inside : taken ≤ length c.args.piece.now =
+    omega (arith, c.in-Ok.ensures.progress.1, c.split_at.ensures.back_len) in
     let B : Cause → Type 0 = λ cause. IfHub cause (λ why. fault.bytes ≡ 0) in
-    let C : Cause → Type 0 = λ cause. IfHub cause (λ why. (fault.events ≡ 0) × IsRefused start (Bytes id c.args.piece.now) why) in
+    let C : Cause → Type 0 = λ cause. IfHub cause
+    (λ why. (fault.events ≡ 0) × IsRefused start (Bytes id c.args.piece.now) why) in
     record {
       leads = sym (ap (λ (h : HubRun). h.parts) (stop ∙ there));
       handed = subst Q (sym c.after_sink.ensures.cause) (record {
@@ -146,7 +154,8 @@ returns-in-Err-hand_over g c =
       memory = λ is. cc (is, c.after_sink.ensures.cause);
       begun = subst B (sym c.after_sink.ensures.cause) tt;
       behind_frame = λ _. bytes_stop start id c.args.piece.now taken fault
-          (step_stops c.cuts_are_like.ensures step some any inside) c.after_sink.ensures.whole c.after_sink.ensures.part;
+          (step_stops c.cuts_are_like.ensures step some any inside) c.after_sink.ensures.whole
+          c.after_sink.ensures.part;
       counts = omega (arith, c.in-Err-hand_over.ensures.counts);
       counted = λ _. counted_from (g.S.Sink.count c.args.sink.now) (g.S.Sink.count c.loop-used.sink)
           (g.S.Sink.count c.hand_over.new.sink) c.loop-used.invariant.counts c.in-Err-hand_over.ensures.counted;

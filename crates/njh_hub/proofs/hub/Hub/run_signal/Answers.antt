@@ -35,7 +35,8 @@ returns-in-Err-hand_over g c =
       begun = search rules;
       behind_frame = λ _. record {
         used = 0;
-        sends = signal_stops start c.args.signal id frame (sym same ∙ c.in-Ok.ensures.frame) c.in-Err-hand_over.ensures.err.1;
+        sends = signal_stops start c.args.signal id frame (sym same ∙ c.in-Ok.ensures.frame)
+            c.in-Err-hand_over.ensures.err.1;
         stops = inr (sym (signal-bytes c.args.signal id), refl, refl);
       };
       counts = c.in-Err-hand_over.ensures.counts;

@@ -26,18 +26,21 @@ known c =
     customer-known s.shared.tables s.shared.spool s.lines.items c.args.self.now c.args.customer c.self.view_is (there c)
 
 checked : (c : After-set_routes)
-    → routes_checked (part c.args.customer c.args.self.now).customer.entry (new_routes_of c.args.customer c.args.routes.now) ≡ Ok tt
+    → routes_checked (part c.args.customer c.args.self.now).customer.entry
+    (new_routes_of c.args.customer c.args.routes.now) ≡ Ok tt
 checked c =
     let s = c.self.inside in
     let n = c.args.customer in
     subst (λ e. routes_checked e (new_routes_of n c.args.routes.now) ≡ Ok tt)
-    (sym (entry-there s.shared.tables s.shared.spool s.lines.items c.args.self.now n c.self.view_is (there c))) c.in-Ok.ensures.checked
+    (sym (entry-there s.shared.tables s.shared.spool s.lines.items c.args.self.now n c.self.view_is (there c)))
+    c.in-Ok.ensures.checked
 
 -- the customer's part with them
 abbrev new_part : (c : After-set_routes) → Part
 new_part c = part_after_routes (given c) (part c.args.customer c.args.self.now)
 
-routes_set : (c : After-set_routes) → SetsRoutes c.self.inside.shared.tables c.self.inside.shared.spool c.self.inside.lines.items c.args.customer (given c)
+routes_set : (c : After-set_routes) → SetsRoutes c.self.inside.shared.tables c.self.inside.shared.spool
+    c.self.inside.lines.items c.args.customer (given c)
     c.set_in_tables.new.tables c.set_routes.new.spool
 routes_set c =
     let s = c.self.inside in
@@ -61,7 +64,8 @@ leads : (c : After-set_routes) → parts_of c.set_in_tables.new.tables c.set_rou
     ≡ slice_set c.args.self.now c.args.customer (new_part c)
 leads c =
     parts-set_routes (routes_set c)
-    ∙ ap (λ (ps : List Part). slice_set ps c.args.customer (part_after_routes (given c) (part c.args.customer ps))) c.self.view_is
+    ∙ ap (λ (ps : List Part). slice_set ps c.args.customer (part_after_routes (given c) (part c.args.customer ps)))
+    c.self.view_is
 
 pub invariant_of-self : goal.invariant_of-self
 invariant_of-self c =
@@ -77,13 +81,27 @@ pub returns-then-from-len-clause-refused : goal.returns-then-from-len-clause-ref
 returns-then-from-len-clause-refused c =
     let s = c.self.inside in
     let count = length-parts_of s.shared.tables s.shared.spool s.lines.items in
-    λ here cause told. absurd (omega (arith, here, count, ap (λ (ps : List Part). length ps) c.self.view_is, s.lines.ok.0, c.self.invariant.lined))
+    λ here cause told. absurd (omega (
+      arith,
+      here,
+      count,
+      ap (λ (ps : List Part). length ps) c.self.view_is,
+      s.lines.ok.0,
+      c.self.invariant.lined,
+    ))
 
 pub returns-then-from-len-clause-memory : goal.returns-then-from-len-clause-memory
 returns-then-from-len-clause-memory c =
     let s = c.self.inside in
     let count = length-parts_of s.shared.tables s.shared.spool s.lines.items in
-    λ here checked. absurd (omega (arith, here, count, ap (λ (ps : List Part). length ps) c.self.view_is, s.lines.ok.0, c.self.invariant.lined))
+    λ here checked. absurd (omega (
+      arith,
+      here,
+      count,
+      ap (λ (ps : List Part). length ps) c.self.view_is,
+      s.lines.ok.0,
+      c.self.invariant.lined,
+    ))
 
 -- ---- where it can't have the routes, or there is no memory for them
 
@@ -91,7 +109,8 @@ pub returns-in-Err-clause-unknown : goal.returns-in-Err-clause-unknown
 returns-in-Err-clause-unknown c =
     let s = c.self.inside in
     let is : c.args.customer < length s.shared.tables.customers = omega (arith, s.lines.ok.0, c.self.invariant.lined) in
-    λ nowhere. absurd (nowhere (customer-known s.shared.tables s.shared.spool s.lines.items c.args.self.now c.args.customer c.self.view_is is))
+    λ nowhere. absurd (nowhere (customer-known s.shared.tables s.shared.spool s.lines.items c.args.self.now
+    c.args.customer c.self.view_is is))
 
 pub returns-in-Err-clause-refused : goal.returns-in-Err-clause-refused
 returns-in-Err-clause-refused c =

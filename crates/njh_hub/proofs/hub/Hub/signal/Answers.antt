@@ -16,14 +16,20 @@ pub index_mut-lines-requires : goal.index_mut-lines-requires
 index_mut-lines-requires c =
     let s = c.self.inside in
     let known = subst (λ ps. HasLine ps c.args.id) (sym c.self.view_is) c.in_ok-frame.ensures.known in
-    omega (arith, line-there s.shared.tables s.shared.spool s.lines.items c.args.id known, c.self.invariant.lined, s.lines.ok.0)
+    omega (
+      arith,
+      line-there s.shared.tables s.shared.spool s.lines.items c.args.id known,
+      c.self.invariant.lined,
+      s.lines.ok.0,
+    )
 
 pub take_signal-requires : goal.take_signal-requires
 take_signal-requires c =
     let s = c.self.inside in
     let x = c.index_mut-lines.result.now in
     let here : x ≡ get_or s.lines.items c.args.id.customer x = search rules in
-    let f = found s.shared s.lines.items c.args.self.now c.args.id x c.self.invariant c.self.view_is c.in_ok-frame.ensures.known here in
+    let f = found s.shared s.lines.items c.args.self.now c.args.id x c.self.invariant c.self.view_is
+    c.in_ok-frame.ensures.known here in
     record { ready = f.ready }
 
 -- what the step finds, and what it leads to
@@ -33,7 +39,8 @@ finds c =
     let s = c.self.inside in
     let x = c.index_mut-lines.result.now in
     let here : x ≡ get_or s.lines.items c.args.id.customer x = search rules in
-    found s.shared s.lines.items c.args.self.now c.args.id x c.self.invariant c.self.view_is c.in_ok-frame.ensures.known here
+    found s.shared s.lines.items c.args.self.now c.args.id x c.self.invariant c.self.view_is c.in_ok-frame.ensures.known
+    here
 
 steps : (c : After-drop-out) → Stepped c.self.inside.shared c.index_mut-lines.result.now c.args.id
     c.take_signal.new.shared c.take_signal.new.self
@@ -41,7 +48,8 @@ steps c =
     let s = c.self.inside in
     let t = c.take_signal in
     let n = c.args.id.customer in
-    let p = part_with (entry_of (customer_at s.shared.tables n)) (spools.spool_at n s.shared.spool) c.index_mut-lines.result.now in
+    let p = part_with (entry_of (customer_at s.shared.tables n)) (spools.spool_at n s.shared.spool)
+    c.index_mut-lines.result.now in
     record {
       in_table = t.ensures.entries;
       in_files = t.ensures.others;
@@ -61,14 +69,16 @@ leads : (c : After-drop-out)
     ≡ slice_set c.args.self.now c.args.id.customer (after c)
 leads c =
     let t = c.take_signal in
-    ap (λ (n : ℕ). parts_of t.new.shared.tables t.new.shared.spool (slice_set c.self.inside.lines.items n t.new.self)) c.from.ensures
+    ap (λ (n : ℕ). parts_of t.new.shared.tables t.new.shared.spool (slice_set c.self.inside.lines.items n t.new.self))
+    c.from.ensures
     ∙ step-leads (finds c) (steps c) (after c)
     (t.ensures.part ∙ ap (λ (p : Part). (part_after_signal p c.args.id.number c.args.signal).after) (finds c).part_is)
 
 pub invariant_of-self : goal.invariant_of-self
 invariant_of-self c =
     let t = c.take_signal in
-    subst (λ (n : ℕ). IsHub t.new.shared.tables t.new.shared.spool (slice_set c.self.inside.lines.items n t.new.self)) (sym c.from.ensures)
+    subst (λ (n : ℕ). IsHub t.new.shared.tables t.new.shared.spool (slice_set c.self.inside.lines.items n t.new.self))
+    (sym c.from.ensures)
     (hub-moved (stepped (finds c) (steps c)))
 
 pub returns : goal.returns
@@ -82,7 +92,8 @@ returns c =
           ∙ ap (λ (p : Part). (part_after_signal p c.args.id.number c.args.signal).frame) (finds c).part_is;
       lines = λ d. ap (λ (ps : List Part). length (part d ps).customer.lines) (leads c)
           ∙ step-lines (finds c) (steps c) (after c)
-          (t.ensures.part ∙ ap (λ (p : Part). (part_after_signal p c.args.id.number c.args.signal).after) (finds c).part_is) d;
+          (t.ensures.part ∙ ap (λ (p : Part). (part_after_signal p c.args.id.number c.args.signal).after)
+          (finds c).part_is) d;
       room = c.into_bytes.ensures.room;
       known = known;
       unknown = λ nowhere. absurd (nowhere known);

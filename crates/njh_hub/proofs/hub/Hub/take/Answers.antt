@@ -15,14 +15,20 @@ pub index_mut-lines-requires : goal.index_mut-lines-requires
 index_mut-lines-requires c =
     let s = c.self.inside in
     let known = subst (λ ps. HasLine ps c.args.id) (sym c.self.view_is) c.in_ok-frame.ensures.known in
-    omega (arith, line-there s.shared.tables s.shared.spool s.lines.items c.args.id known, c.self.invariant.lined, s.lines.ok.0)
+    omega (
+      arith,
+      line-there s.shared.tables s.shared.spool s.lines.items c.args.id known,
+      c.self.invariant.lined,
+      s.lines.ok.0,
+    )
 
 pub take_bytes-taken-requires : goal.take_bytes-taken-requires
 take_bytes-taken-requires c =
     let s = c.self.inside in
     let x = c.index_mut-lines.result.now in
     let here : x ≡ get_or s.lines.items c.args.id.customer x = search rules in
-    let f = found s.shared s.lines.items c.args.self.now c.args.id x c.self.invariant c.self.view_is c.in_ok-frame.ensures.known here in
+    let f = found s.shared s.lines.items c.args.self.now c.args.id x c.self.invariant c.self.view_is
+    c.in_ok-frame.ensures.known here in
     record { ready = f.ready }
 
 -- what the step finds, and what it leads to
@@ -32,7 +38,8 @@ finds c =
     let s = c.self.inside in
     let x = c.index_mut-lines.result.now in
     let here : x ≡ get_or s.lines.items c.args.id.customer x = search rules in
-    found s.shared s.lines.items c.args.self.now c.args.id x c.self.invariant c.self.view_is c.in_ok-frame.ensures.known here
+    found s.shared s.lines.items c.args.self.now c.args.id x c.self.invariant c.self.view_is c.in_ok-frame.ensures.known
+    here
 
 steps : (c : After-drop-out) → Stepped c.self.inside.shared c.index_mut-lines.result.now c.args.id
     c.take_bytes-taken.new.shared c.take_bytes-taken.new.self
@@ -40,7 +47,8 @@ steps c =
     let s = c.self.inside in
     let t = c.take_bytes-taken in
     let n = c.args.id.customer in
-    let p = part_with (entry_of (customer_at s.shared.tables n)) (spools.spool_at n s.shared.spool) c.index_mut-lines.result.now in
+    let p = part_with (entry_of (customer_at s.shared.tables n)) (spools.spool_at n s.shared.spool)
+    c.index_mut-lines.result.now in
     record {
       in_table = t.ensures.step.entries;
       in_files = t.ensures.step.others;
@@ -52,7 +60,8 @@ steps c =
 
 -- the line's customer afterwards
 abbrev after : (c : After-drop-out) → Part
-after c = let p = part c.args.id.customer c.args.self.now in (part_after_bytes p c.args.id.number c.args.piece.now).after
+after c = let p = part c.args.id.customer c.args.self.now
+    in (part_after_bytes p c.args.id.number c.args.piece.now).after
 
 leads : (c : After-drop-out)
     → parts_of c.take_bytes-taken.new.shared.tables c.take_bytes-taken.new.shared.spool
@@ -60,19 +69,23 @@ leads : (c : After-drop-out)
     ≡ slice_set c.args.self.now c.args.id.customer (after c)
 leads c =
     let t = c.take_bytes-taken in
-    ap (λ (n : ℕ). parts_of t.new.shared.tables t.new.shared.spool (slice_set c.self.inside.lines.items n t.new.self)) c.from.ensures
+    ap (λ (n : ℕ). parts_of t.new.shared.tables t.new.shared.spool (slice_set c.self.inside.lines.items n t.new.self))
+    c.from.ensures
     ∙ step-leads (finds c) (steps c) (after c)
-    (t.ensures.step.part ∙ ap (λ (p : Part). (part_after_bytes p c.args.id.number c.args.piece.now).after) (finds c).part_is)
+    (t.ensures.step.part ∙ ap (λ (p : Part). (part_after_bytes p c.args.id.number c.args.piece.now).after)
+    (finds c).part_is)
 
 pub invariant_of-self : goal.invariant_of-self
 invariant_of-self c =
     let t = c.take_bytes-taken in
-    subst (λ (n : ℕ). IsHub t.new.shared.tables t.new.shared.spool (slice_set c.self.inside.lines.items n t.new.self)) (sym c.from.ensures)
+    subst (λ (n : ℕ). IsHub t.new.shared.tables t.new.shared.spool (slice_set c.self.inside.lines.items n t.new.self))
+    (sym c.from.ensures)
     (hub-moved (stepped (finds c) (steps c)))
 
 pub returns-clause-taken : goal.returns-clause-taken
 returns-clause-taken c =
-    c.take_bytes-taken.ensures.taken ∙ ap (λ (p : Part). (part_after_bytes p c.args.id.number c.args.piece.now).taken) (finds c).part_is
+    c.take_bytes-taken.ensures.taken ∙ ap (λ (p : Part). (part_after_bytes p c.args.id.number c.args.piece.now).taken)
+    (finds c).part_is
 
 pub returns-clause-step : goal.returns-clause-step
 returns-clause-step c =
@@ -85,7 +98,8 @@ returns-clause-step c =
           ∙ ap (λ (p : Part). (part_after_bytes p c.args.id.number c.args.piece.now).frame) (finds c).part_is;
       lines = λ d. ap (λ (ps : List Part). length (part d ps).customer.lines) (leads c)
           ∙ step-lines (finds c) (steps c) (after c)
-          (t.ensures.step.part ∙ ap (λ (p : Part). (part_after_bytes p c.args.id.number c.args.piece.now).after) (finds c).part_is) d;
+          (t.ensures.step.part ∙ ap (λ (p : Part). (part_after_bytes p c.args.id.number c.args.piece.now).after)
+          (finds c).part_is) d;
       room = c.into_bytes.ensures.room;
       known = known;
       unknown = λ nowhere. absurd (nowhere known);

@@ -9,8 +9,10 @@ use Rattle.njh_hub.proofs.hub.Hub.used.Goals as goal
 pub returns-clause-used : goal.returns-clause-used
 returns-clause-used c =
     let s = c.self.inside in
-    let there : c.args.customer < length s.shared.tables.customers = omega (arith, s.lines.ok.0, c.self.invariant.lined) in
-    c.used.ensures ∙ ap (λ (p : Part). used_blocks p.customer.spool) (sym (part-there s.shared.tables s.shared.spool s.lines.items c.args.customer there))
+    let there : c.args.customer < length s.shared.tables.customers =
+    omega (arith, s.lines.ok.0, c.self.invariant.lined) in
+    c.used.ensures ∙ ap (λ (p : Part). used_blocks p.customer.spool)
+    (sym (part-there s.shared.tables s.shared.spool s.lines.items c.args.customer there))
     ∙ ap (λ (ps : List Part). used_blocks (part c.args.customer ps).customer.spool) c.self.view_is
 
 pub returns-clause-quota : goal.returns-clause-quota
@@ -34,7 +36,8 @@ returns-clause-files c =
     (c.self.invariant.coherent n there).limit ∙ ap (λ (p : Part). p.customer.entry.files) (sym held)
     ∙ ap (λ (ps : List Part). (part n ps).customer.entry.files) c.self.view_is in
     let spool : spools.spool_at n s.shared.spool ≡ (part n c.args.self.now).customer.spool =
-    ap (λ (p : Part). p.customer.spool) (sym held) ∙ ap (λ (ps : List Part). (part n ps).customer.spool) c.self.view_is in
+    ap (λ (p : Part). p.customer.spool) (sym held) ∙ ap (λ (ps : List Part). (part n ps).customer.spool) c.self.view_is
+    in
     let whole = ap (λ (x : CustomerSpool). length x.whole) spool in
     let partial = ap (λ (x : CustomerSpool). length x.partial) spool in
     omega (arith, c.quota_holds.ensures.files, limit, whole, partial)
@@ -44,11 +47,26 @@ returns-then-from-len-clause-known c =
     let s = c.self.inside in
     let count = length-parts_of s.shared.tables s.shared.spool s.lines.items in (
       λ e. absurd (false≢true e),
-      λ here. absurd (omega (arith, here, count, ap (λ (ps : List Part). length ps) c.self.view_is, s.lines.ok.0, c.self.invariant.lined)),
+      λ here. absurd (omega (
+        arith,
+        here,
+        count,
+        ap (λ (ps : List Part). length ps) c.self.view_is,
+        s.lines.ok.0,
+        c.self.invariant.lined,
+      )),
     )
 
 pub returns-clause-known : goal.returns-clause-known
 returns-clause-known c =
     let s = c.self.inside in
-    let count = length-parts_of s.shared.tables s.shared.spool s.lines.items in
-    (λ _. omega (arith, count, ap (λ (ps : List Part). length ps) c.self.view_is, s.lines.ok.0, c.self.invariant.lined), λ _. refl)
+    let count = length-parts_of s.shared.tables s.shared.spool s.lines.items in (
+      λ _. omega (
+        arith,
+        count,
+        ap (λ (ps : List Part). length ps) c.self.view_is,
+        s.lines.ok.0,
+        c.self.invariant.lined,
+      ),
+      λ _. refl,
+    )

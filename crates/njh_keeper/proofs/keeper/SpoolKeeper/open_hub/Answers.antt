@@ -20,57 +20,81 @@ pub returns-clause-opened : goal.returns-clause-opened
 returns-clause-opened g c =
     let mid = shown g.S.Store c.open_from.new.store in
     let new = shown g.S.Store c.remember_hub.new.self.store in
-    let early : HasCleanDisk new → HasCleanDisk mid = λ clean. omega (arith, clean, c.remember_hub.ensures.crash.clean) in
+    let early : HasCleanDisk new → HasCleanDisk mid =
+    λ clean. omega (arith, clean, c.remember_hub.ensures.crash.clean) in
     let before = ap (λ k. shown g.S.Store k.store) (sym c.self.view_is) in
     if_ok _ _
     (λ opened same. record {
-      lines = subst (λ (ps : List Part). SameLines (map part_at_open (entries_of c.args.tables)) ps) (sym same) c.in-Ok-open_from.ensures.lines;
-      hub = λ clean spool held. same ∙ c.in-Ok-open_from.ensures.hub (early clean) spool (subst (λ (at : State). Holds spool at.now.trees) before held);
-      back = λ clean spool held. c.in-Ok-open_from.ensures.back (early clean) spool (subst (λ (at : State). Holds spool at.now.trees) before held);
+      lines = subst (λ (ps : List Part). SameLines (map part_at_open (entries_of c.args.tables)) ps) (sym same)
+          c.in-Ok-open_from.ensures.lines;
+      hub = λ clean spool held. same ∙ c.in-Ok-open_from.ensures.hub (early clean) spool
+          (subst (λ (at : State). Holds spool at.now.trees) before held);
+      back = λ clean spool held. c.in-Ok-open_from.ensures.back (early clean) spool
+          (subst (λ (at : State). Holds spool at.now.trees) before held);
     }) c.remember_hub.result c.remember_hub.ensures.hub
 
 pub returns-clause-settled : goal.returns-clause-settled
-returns-clause-settled g c = by c.remember_hub.result c.remember_hub.ensures.hub c.remember_hub.ensures.names c.remember_hub.ensures.kept
+returns-clause-settled g c = by c.remember_hub.result c.remember_hub.ensures.hub c.remember_hub.ensures.names
+    c.remember_hub.ensures.kept
   where
-    by : (r : Result (List Part) DepotFault) → IfOk r (λ remembered. remembered ≡ c.in-Ok-open_from.hub) → OnOk r (c.remember_hub.new.self.names ≡ c.in-Ok.names.items)
-        → (HasCleanDisk (shown g.S.Store c.remember_hub.new.self.store) → OnOk r ((s : CommitState) → Stands s (shown g.S.Store c.open_from.new.store) → AreDistinct c.in-Ok.names.items
-        → AllAreFound c.in-Ok.names.items c.in-Ok-open_from.hub → AllAreRead c.in-Ok.names.items c.in-Ok-open_from.hub s.now → length c.in-Ok.names.items ≡ length c.in-Ok-open_from.hub
+    by : (r : Result (List Part) DepotFault) → IfOk r (λ remembered. remembered ≡ c.in-Ok-open_from.hub)
+        → OnOk r (c.remember_hub.new.self.names ≡ c.in-Ok.names.items)
+        → (HasCleanDisk (shown g.S.Store c.remember_hub.new.self.store)
+        → OnOk r ((s : CommitState) → Stands s (shown g.S.Store c.open_from.new.store) → AreDistinct c.in-Ok.names.items
+        → AllAreFound c.in-Ok.names.items c.in-Ok-open_from.hub
+        → AllAreRead c.in-Ok.names.items c.in-Ok-open_from.hub s.now
+        → length c.in-Ok.names.items ≡ length c.in-Ok-open_from.hub
         → IsCommitted g.S.Store c.remember_hub.new.self c.in-Ok-open_from.hub))
         → IfOk r (λ hub. IsSettledFrom g.S.Store c.args.self.now c.remember_hub.new.self c.args.tables hub)
     by (Err e) same names kept = tt
     by (Ok hub) same names kept = record {
       names = names ∙ c.in-Ok.ensures.each;
       committed = λ clean s given.
-          let stands = subst (λ (at : State). Stands s at) (ap (λ k. shown g.S.Store k.store) (sym c.self.view_is)) given in
-          let early : HasCleanDisk (shown g.S.Store c.open_from.new.store) = omega (arith, clean, c.remember_hub.ensures.crash.clean) in
+          let stands = subst (λ (at : State). Stands s at) (ap (λ k. shown g.S.Store k.store) (sym c.self.view_is))
+          given in
+          let early : HasCleanDisk (shown g.S.Store c.open_from.new.store) =
+          omega (arith, clean, c.remember_hub.ensures.crash.clean) in
           let so =
-          opened_so c.next_number_is_least.ensures.free c.args.tables s.now c.in-Ok.names.items c.in-Ok-open_from.hub c.in-Ok.ensures.each
-          (c.in-Ok-open_from.ensures.hub early s.now stands.now) (c.in-Ok-open_from.ensures.back early s.now stands.now) in
+          opened_so c.next_number_is_least.ensures.free c.args.tables s.now c.in-Ok.names.items c.in-Ok-open_from.hub
+          c.in-Ok.ensures.each
+          (c.in-Ok-open_from.ensures.hub early s.now stands.now) (c.in-Ok-open_from.ensures.back early s.now stands.now)
+          in
           subst (λ (ps : List Part). IsCommitted g.S.Store c.remember_hub.new.self ps) (sym same)
-          (kept clean s (stood_still s _ _ (c.in-Ok-open_from.ensures.same early) stands) (subst AreDistinct (sym c.in-Ok.ensures.each) c.names_of.ensures.accepted.names) so.0 so.1 so.2);
+          (kept clean s (stood_still s _ _ (c.in-Ok-open_from.ensures.same early) stands)
+          (subst AreDistinct (sym c.in-Ok.ensures.each) c.names_of.ensures.accepted.names) so.0 so.1 so.2);
     }
 
 pub returns-clause-known : goal.returns-clause-known
 returns-clause-known g c = by c.remember_hub.result c.remember_hub.ensures.hub c.remember_hub.ensures.known
   where
     by : (r : Result (List Part) DepotFault) → IfOk r (λ remembered. remembered ≡ c.in-Ok-open_from.hub)
-        → (HasCleanDisk (shown g.S.Store c.remember_hub.new.self.store) → OnOk r ((s : CommitState) → Stands s (shown g.S.Store c.open_from.new.store) → AreDistinct c.in-Ok.names.items
-        → AllAreFound c.in-Ok.names.items c.in-Ok-open_from.hub → AllAreRead c.in-Ok.names.items c.in-Ok-open_from.hub s.now → length c.in-Ok.names.items ≡ length c.in-Ok-open_from.hub
-        → AllByRecursion HasShortRests c.in-Ok-open_from.hub → KnowsNow g.S.Store c.remember_hub.new.self c.in-Ok-open_from.hub))
+        → (HasCleanDisk (shown g.S.Store c.remember_hub.new.self.store)
+        → OnOk r ((s : CommitState) → Stands s (shown g.S.Store c.open_from.new.store) → AreDistinct c.in-Ok.names.items
+        → AllAreFound c.in-Ok.names.items c.in-Ok-open_from.hub
+        → AllAreRead c.in-Ok.names.items c.in-Ok-open_from.hub s.now
+        → length c.in-Ok.names.items ≡ length c.in-Ok-open_from.hub
+        → AllByRecursion HasShortRests c.in-Ok-open_from.hub
+        → KnowsNow g.S.Store c.remember_hub.new.self c.in-Ok-open_from.hub))
         → IfOk r (λ hub. KnowsHub g.S.Store g.S.Origin.found c.remember_hub.new.self hub)
     by (Err e) same known = tt
     by (Ok hub) same known = λ clean began found.
         let s : CommitState = record { now = began; kept = began } in
-        let early : HasCleanDisk (shown g.S.Store c.open_from.new.store) = omega (arith, clean, c.remember_hub.ensures.crash.clean) in
-        let first : HasCleanDisk (shown g.S.Store c.self.inside.writer.store) = omega (arith, early, c.open_from.ensures.crash.clean) in
+        let early : HasCleanDisk (shown g.S.Store c.open_from.new.store) =
+        omega (arith, clean, c.remember_hub.ensures.crash.clean) in
+        let first : HasCleanDisk (shown g.S.Store c.self.inside.writer.store) =
+        omega (arith, early, c.open_from.ensures.crash.clean) in
         let stands = c.self.invariant c.if-not-self.false first began found in
         let so =
-        opened_so c.next_number_is_least.ensures.free c.args.tables began c.in-Ok.names.items c.in-Ok-open_from.hub c.in-Ok.ensures.each
-        (c.in-Ok-open_from.ensures.hub early began stands.now) (c.in-Ok-open_from.ensures.back early began stands.now) in
+        opened_so c.next_number_is_least.ensures.free c.args.tables began c.in-Ok.names.items c.in-Ok-open_from.hub
+        c.in-Ok.ensures.each
+        (c.in-Ok-open_from.ensures.hub early began stands.now) (c.in-Ok-open_from.ensures.back early began stands.now)
+        in
         subst (λ (ps : List Part). KnowsNow g.S.Store c.remember_hub.new.self ps) (sym same)
-        (known clean s (stood_still s _ _ (c.in-Ok-open_from.ensures.same early) stands) (subst AreDistinct (sym c.in-Ok.ensures.each) c.names_of.ensures.accepted.names) so.0 so.1 so.2 so.3)
+        (known clean s (stood_still s _ _ (c.in-Ok-open_from.ensures.same early) stands)
+        (subst AreDistinct (sym c.in-Ok.ensures.each) c.names_of.ensures.accepted.names) so.0 so.1 so.2 so.3)
 
 pub returns-clause-stood : goal.returns-clause-stood
 returns-clause-stood g c =
     ok_always c.remember_hub.result _
-    (subst (λ k. StandsAsFound g.S.Store g.S.Origin.found k.store) c.self.view_is (c.self.invariant c.if-not-self.false))
+    (subst (λ k. StandsAsFound g.S.Store g.S.Origin.found k.store) c.self.view_is
+    (c.self.invariant c.if-not-self.false))

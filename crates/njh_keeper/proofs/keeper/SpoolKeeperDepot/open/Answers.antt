@@ -10,12 +10,17 @@ use Rattle.njh_keeper.proofs.keeper.SpoolKeeperDepot.open.Goals as goal
 
 pub returns-clause-settled : goal.returns-clause-settled
 returns-clause-settled g c =
-    by c.open_hub.result c.open_hub.ensures.settled c.open_hub.ensures.known c.open_hub.ensures.stood c.open_hub.ensures.clean
+    by c.open_hub.result c.open_hub.ensures.settled c.open_hub.ensures.known c.open_hub.ensures.stood
+    c.open_hub.ensures.clean
   where
-    by : (r : Result (List Part) DepotFault) → IfOk r (λ hub. IsSettledFrom g.S.Store c.args.self.now c.open_hub.new.self c.args.tables hub)
-        → IfOk r (λ hub. KnowsHub g.S.Store g.S.Origin.found c.open_hub.new.self hub) → OnOk r (StandsAsFound g.S.Store g.S.Origin.found c.args.self.now.store)
-        → (HasCleanDisk (shown g.S.Store c.open_hub.new.self.store) → OnOk r (HasCleanDisk (shown g.S.Store c.args.self.now.store)))
-        → IfOk r (λ hub. IsSettled (MayLeaveOf g.S.Store g.S.Origin.found) (KnowsHub g.S.Store g.S.Origin.found) c.open_hub.new.self hub)
+    by : (r : Result (List Part) DepotFault)
+        → IfOk r (λ hub. IsSettledFrom g.S.Store c.args.self.now c.open_hub.new.self c.args.tables hub)
+        → IfOk r (λ hub. KnowsHub g.S.Store g.S.Origin.found c.open_hub.new.self hub)
+        → OnOk r (StandsAsFound g.S.Store g.S.Origin.found c.args.self.now.store)
+        → (HasCleanDisk (shown g.S.Store c.open_hub.new.self.store)
+        → OnOk r (HasCleanDisk (shown g.S.Store c.args.self.now.store)))
+        → IfOk r (λ hub. IsSettled (MayLeaveOf g.S.Store g.S.Origin.found) (KnowsHub g.S.Store g.S.Origin.found)
+        c.open_hub.new.self hub)
     by (Err e) settled known stood early = tt
     by (Ok hub) settled known stood early = record {
       known = known;

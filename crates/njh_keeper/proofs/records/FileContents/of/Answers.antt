@@ -9,5 +9,6 @@ pub invariant_of-result : goal.invariant_of-result
 invariant_of-result c =
     let all : c.are_records.result ≡ true = search rules in
     let fit : are_records_from 0 (map contents_of c.args.records.items) ≡ true =
-    subst (λ (rs : List StoredRecord). are_records_from 0 (map contents_of rs) ≡ true) c.as_slice.ensures.value (sym c.are_records.ensures ∙ all) in
+    subst (λ (rs : List StoredRecord). are_records_from 0 (map contents_of rs) ≡ true) c.as_slice.ensures.value
+    (sym c.are_records.ensures ∙ all) in
     (omega arith, have_room c.args.records.items fit)

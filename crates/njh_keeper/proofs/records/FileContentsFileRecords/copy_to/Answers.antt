@@ -14,6 +14,14 @@ returns c =
     let bytes : c.put_bytes.new.out.items ≡ r.bytes.items =
     c.put_bytes.ensures ∙ (λ i. c.clear.ensures i ++ c.as_slice.ensures.value i) in
     let there : c.args.n < length items =
-    omega (arith, c.requires, ap (λ (xs : List Stored). length xs) c.self.view_is, length-map (map contents_of items) as_stored, length-map items contents_of) in
-    ap (λ (xs : List Stored). slice_get xs c.args.n) (sym c.self.view_is) ∙ got items c.args.n r there c.index-record.ensures
+    omega (
+      arith,
+      c.requires,
+      ap (λ (xs : List Stored). length xs) c.self.view_is,
+      length-map (map contents_of items)
+          as_stored,
+      length-map items contents_of,
+    ) in
+    ap (λ (xs : List Stored). slice_get xs c.args.n) (sym c.self.view_is)
+    ∙ got items c.args.n r there c.index-record.ensures
     ∙ (λ i. Some (record { srcb = r.srcb; bytes = sym bytes i }))

@@ -12,13 +12,18 @@ returns-clause-emptied g c clean =
     let files = c.args.files.now in
     let new = shown g.S.Store c.empty_unmarked-emptied.new.self.store in
     let few : next ≤ 200000 = omega (arith, c.if-self-gt-LOOKED_FOR.false) in
-    let same : unmarked c.deref.result.now (min (next + 64) (2 ^ 32 - 1)) ≡ emptied_at files next = emptied_is files next c.deref.result.now few c.requires.below (c.deref.ensures.value ∙ c.in_ok-marks.ensures) in
-    ok_then c.empty_unmarked-emptied.result _ _ (λ done s at. subst (λ keys. Stands (shows_now (without_keys keys) s) new) same (done s at)) (c.empty_unmarked-emptied.ensures.emptied clean)
+    let same : unmarked c.deref.result.now (min (next + 64) (2 ^ 32 - 1)) ≡ emptied_at files next =
+    emptied_is files next c.deref.result.now few c.requires.below (c.deref.ensures.value ∙ c.in_ok-marks.ensures) in
+    ok_then c.empty_unmarked-emptied.result _ _
+    (λ done s at. subst (λ keys. Stands (shows_now (without_keys keys) s) new) same (done s at))
+    (c.empty_unmarked-emptied.ensures.emptied clean)
 
 pub returns-clause-free : goal.returns-clause-free
 returns-clause-free g c =
     let next = c.args.self.now.next_key in
     let files = c.args.files.now in
     let few : next ≤ 200000 = omega (arith, c.if-self-gt-LOOKED_FOR.false) in
-    let same : unmarked c.deref.result.now next ≡ free_at files next = free_is files next c.deref.result.now few c.requires.below (c.deref.ensures.value ∙ c.in_ok-marks.ensures) in
-    ok_then c.empty_unmarked-emptied.result _ _ (λ done. done ∙ ap (λ keys. c.args.self.now.free_keys.items ++ keys) same) c.empty_unmarked-emptied.ensures.free
+    let same : unmarked c.deref.result.now next ≡ free_at files next =
+    free_is files next c.deref.result.now few c.requires.below (c.deref.ensures.value ∙ c.in_ok-marks.ensures) in
+    ok_then c.empty_unmarked-emptied.result _ _
+    (λ done. done ∙ ap (λ keys. c.args.self.now.free_keys.items ++ keys) same) c.empty_unmarked-emptied.ensures.free

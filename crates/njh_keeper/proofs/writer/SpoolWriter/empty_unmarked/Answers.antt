@@ -5,7 +5,8 @@ use Rattle.njh_spoolfile.specs.Shelf.{shown}
 use Rattle.njh_keeper.specs.declared.writer.SpoolWriter.{SpoolWriter}
 use Rattle.njh_keeper.proofs.WriterLaws.{emptied_more, free_more, marked_below, marked_more}
 use Rattle.njh_keeper.proofs.LeadingLaws.{survives_both}
-use Rattle.njh_keeper.proofs.writer.SpoolWriter.empty_unmarked.Goals.{then-not-is_marked+in_ok-empty_key, else-not-is_marked}
+use Rattle.njh_keeper.proofs.writer.SpoolWriter.empty_unmarked.Goals.{then-not-is_marked+in_ok-empty_key}
+use Rattle.njh_keeper.proofs.writer.SpoolWriter.empty_unmarked.Goals.{else-not-is_marked}
 use Rattle.njh_keeper.proofs.writer.SpoolWriter.empty_unmarked.Goals as goal
 
 pub keys-preserved : goal.keys-preserved
@@ -22,17 +23,24 @@ keys-preserved g c =
           let is : slice_index_or marks key false ≡ false = sym c.is_marked.ensures ∙ w.if-not-is_marked.true in
           let early : HasCleanDisk new → HasCleanDisk mid = λ clean. omega (arith, w.empty_key.ensures.crash.clean) in
           rw w.self-is (record {
-            crash = survives_then old mid new _ _ (λ _. ⊥) (λ _ db none. none) (λ _ db none. none) so_far.crash w.empty_key.ensures.crash;
-            emptied = λ clean s at. emptied_more marks key s mid new is (so_far.emptied (early clean) s at) (w.in_ok-empty_key.ensures.emptied clean);
-            free = free_more marks key next c.keys.self.next_key c.args.self.now.free_keys.items c.keys.self.free_keys.items w.empty_key.new.self.free_keys.items is (ap (λ x. x.next_key) so_far.others) so_far.free w.in_ok-empty_key.ensures.free;
-            others = w.empty_key.ensures.others ∙ ap (λ (x : SpoolWriter g.row.S.Denot). record x { store = w.empty_key.new.self.store; free_keys = w.empty_key.new.self.free_keys }) so_far.others;
+            crash = survives_then old mid new _ _ (λ _. ⊥) (λ _ db none. none) (λ _ db none. none) so_far.crash
+                w.empty_key.ensures.crash;
+            emptied = λ clean s at. emptied_more marks key s mid new is (so_far.emptied (early clean) s at)
+                (w.in_ok-empty_key.ensures.emptied clean);
+            free = free_more marks key next c.keys.self.next_key c.args.self.now.free_keys.items
+                c.keys.self.free_keys.items w.empty_key.new.self.free_keys.items is (ap (λ x. x.next_key) so_far.others)
+                so_far.free w.in_ok-empty_key.ensures.free;
+            others = w.empty_key.ensures.others
+                ∙ ap (λ (x : SpoolWriter g.row.S.Denot). record x
+                { store = w.empty_key.new.self.store; free_keys = w.empty_key.new.self.free_keys }) so_far.others;
           })
       | else-not-is_marked w ↦
           let is : slice_index_or marks key false ≡ true = sym c.is_marked.ensures ∙ w.if-not-is_marked.false in
           rw w.self-is (record {
             crash = so_far.crash;
             emptied = λ clean s at. rw (marked_more marks key is) (so_far.emptied clean s at);
-            free = so_far.free ∙ ap (λ keys. c.args.self.now.free_keys.items ++ keys) (sym (marked_below marks key next is));
+            free = so_far.free ∙ ap (λ keys. c.args.self.now.free_keys.items ++ keys)
+                (sym (marked_below marks key next is));
             others = so_far.others;
           })
     ]

@@ -12,7 +12,8 @@ invariant-keys g l =
     let now = shown g.S.Store l.self.store in
     record {
       crash : Survives old now (λ _. ⊥);
-      emptied : HasCleanDisk now → (s : CommitState) → Stands s old → Stands (shows_now (without_keys (unmarked l.marks l.key)) s) now;
+      emptied : HasCleanDisk now → (s : CommitState) → Stands s old
+          → Stands (shows_now (without_keys (unmarked l.marks l.key)) s) now;
       free : l.self.free_keys.items ≡ l.fn.self.free_keys.items ++ unmarked l.marks (min l.key l.fn.self.next_key);
       others : l.self ≡ record l.fn.self { store = l.self.store; free_keys = l.self.free_keys };
     }

@@ -14,7 +14,8 @@ returns-clause-changed g c clean =
     let mid = shown g.S.Store c.drop_records.new.self in
     let new = shown g.S.Store c.add_record.new.self.store in
     let early : HasCleanDisk mid = omega (arith, c.add_record.ensures.crash.clean) in
-    ok_then c.add_record.result _ _ (λ added. changes_then (without_records kept.key kept.place (kept.place + 1)) (with_record (record_of kept)) old mid new (c.in_ok-drop_records.ensures.changed early) added)
+    ok_then c.add_record.result _ _ (λ added. changes_then (without_records kept.key kept.place (kept.place + 1))
+    (with_record (record_of kept)) old mid new (c.in_ok-drop_records.ensures.changed early) added)
     (c.add_record.ensures.changed clean)
 
 pub returns-clause-crash : goal.returns-clause-crash

@@ -33,7 +33,8 @@ returns-then-may_go-clause-cursor c =
     subst (λ (x : FileCursor). GoesOn c.args.self.now x c.args.spool.now)
     (sym (c.may_go.ensures.cursor ∙ c.set.ensures))
     (again c.args.self.now c.loop-kind.self c.loop-kind.invariant.line
-    (cursor_at c.args.kind c.first_likely-index.result.0 c.first_likely-index.result.1 c.loop-kind.self) c.args.spool.now
+    (cursor_at c.args.kind c.first_likely-index.result.0 c.first_likely-index.result.1 c.loop-kind.self)
+    c.args.spool.now
     (goes_to c.loop-kind.self c.args.kind c.first_likely-index.result.0 c.first_likely-index.result.1 c.args.spool.now
     c.loop-kind.invariant.over.range c.first_likely-index.ensures.index c.first_likely-index.ensures.others))
 

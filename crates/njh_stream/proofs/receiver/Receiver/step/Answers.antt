@@ -15,15 +15,19 @@ returns-in-Some-clause-agrees c =
     let after = c.in-Some.ensures entry id.number in
     subst (λ k. Agrees k c.in-Some.after (spool_at id.customer c.receive_unread.new.spool)) c.kind.ensures
     (step_agrees entry id.number id.customer c.kind.result c.args.self.now c.in-Some.after
-    (arrival_of c.args.arrival) c.args.spool.now c.receive_unread.new.spool c.next_number_is_least.ensures.free c.requires.spooled
-    (subst (λ k. Agrees k c.args.self.now (spool_at id.customer c.args.spool.now)) (sym c.kind.ensures) c.requires.agrees)
+    (arrival_of c.args.arrival) c.args.spool.now c.receive_unread.new.spool c.next_number_is_least.ensures.free
+    c.requires.spooled
+    (subst (λ k. Agrees k c.args.self.now (spool_at id.customer c.args.spool.now)) (sym c.kind.ensures)
+    c.requires.agrees)
     after.receiver after.spool)
 
 pub returns-in-None-clause-agrees : goal.returns-in-None-clause-agrees
 returns-in-None-clause-agrees c =
     let id = c.args.id in
-    step_agrees (entry_of c.customer-customer.result.now) id.number id.customer (kind_of c.args.stream) c.args.self.now c.take.new.self
+    step_agrees (entry_of c.customer-customer.result.now) id.number id.customer (kind_of c.args.stream) c.args.self.now
+    c.take.new.self
     (arrival_of c.args.arrival) c.receive_unread.new.spool c.take.new.spool c.next_number_is_least.ensures.free
     (subst (λ x. id.customer < length x) (sym c.in-None.ensures) c.requires.spooled)
-    (subst (λ x. Agrees (kind_of c.args.stream) c.args.self.now (spool_at id.customer x)) (sym c.in-None.ensures) c.requires.agrees)
+    (subst (λ x. Agrees (kind_of c.args.stream) c.args.self.now (spool_at id.customer x)) (sym c.in-None.ensures)
+    c.requires.agrees)
     c.take.ensures.receiver c.take.ensures.spool

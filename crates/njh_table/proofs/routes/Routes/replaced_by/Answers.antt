@@ -6,4 +6,5 @@ use Rattle.njh_table.proofs.routes.Routes.replaced_by.Goals as goal
 pub insert-requires : goal.insert-requires
 insert-requires c =
     ap (λ routes. lines_to routes c.route-item.result.node) c.loop-route.invariant
-    ∙ unrouted_before c.args.routes.now c.loop-route.route-index c.route-item.result c.requires c.loop-route-test.true c.route-item.is
+    ∙ unrouted_before c.args.routes.now c.loop-route.route-index c.route-item.result c.requires c.loop-route-test.true
+    c.route-item.is

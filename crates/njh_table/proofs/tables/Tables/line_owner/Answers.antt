@@ -7,11 +7,13 @@ use Rattle.njh_table.proofs.tables.Tables.line_owner.Goals as goal
 use Rattle.njh_table.proofs.tables.Tables.line_owner.Goals.{After-get}
 
 owner : (c : After-get) → c.get.result ≡ line_named c.args.self.now c.args.name.now
-owner c = c.get.ensures ∙ ap (lookup (bytes_eq c.args.name.now)) c.self.invariant.1 ∙ ap (λ t. line_named t c.args.name.now) c.self.view_is
+owner c = c.get.ensures ∙ ap (lookup (bytes_eq c.args.name.now)) c.self.invariant.1
+    ∙ ap (λ t. line_named t c.args.name.now) c.self.view_is
 
 pub returns-clause-found : goal.returns-clause-found
 returns-clause-found c =
-    subst (λ r. IfSome r (λ line. HasLine c.args.self.now line × ((table_line c.args.self.now line).name ≡ c.args.name.now)))
+    subst (λ r. IfSome r (λ line. HasLine c.args.self.now line
+    × ((table_line c.args.self.now line).name ≡ c.args.name.now)))
     (sym (owner c)) (owner_found c.args.self.now c.args.name.now)
 
 pub returns-clause-only : goal.returns-clause-only

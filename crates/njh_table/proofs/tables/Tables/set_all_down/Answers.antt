@@ -8,6 +8,7 @@ use Rattle.njh_table.proofs.tables.Tables.set_all_down.Goals as goal
 pub invariant_of-self : goal.invariant_of-self
 invariant_of-self c =
     let t : TableFile = record { capacity = c.self.inside.capacity; customers = c.self.inside.customers.items } in (
-      subst (λ customers. IsAccepted (record t { customers = customers })) (sym c.take_marks.ensures) (unmarked_accepted t c.self.invariant.0),
+      subst (λ customers. IsAccepted (record t { customers = customers })) (sym c.take_marks.ensures)
+          (unmarked_accepted t c.self.invariant.0),
       c.self.invariant.1 ∙ sym (ap (owners_from 0) c.take_marks.ensures ∙ unmarked_owners t),
     )

@@ -16,25 +16,31 @@ replaced_by-requires c = checked-distinct c.args.self.now c.args.customer c.args
 abbrev before : (c : After-give_routes) → TableFile
 before c = record { capacity = c.self.inside.capacity; customers = c.self.inside.customers.items }
 
-checked : (c : After-give_routes) → routes_checked (entry_of (customer_at (before c) c.args.customer)) (new_routes_of c.args.customer c.args.routes.now) ≡ Ok tt
+checked : (c : After-give_routes) → routes_checked (entry_of (customer_at (before c) c.args.customer))
+    (new_routes_of c.args.customer c.args.routes.now) ≡ Ok tt
 checked c =
-    subst (λ t. routes_checked (entry_of (customer_at t c.args.customer)) (new_routes_of c.args.customer c.args.routes.now) ≡ Ok tt)
+    subst (λ t. routes_checked (entry_of (customer_at t c.args.customer))
+    (new_routes_of c.args.customer c.args.routes.now) ≡ Ok tt)
     (sym c.self.view_is) c.requires.checked
 
 abbrev with_new : (c : After-give_routes) → NamedCustomer
-with_new c = record (customer_at (before c) c.args.customer) { routes = entries_of_routes (new_routes_of c.args.customer c.args.routes.now) }
+with_new c = record (customer_at (before c) c.args.customer)
+    { routes = entries_of_routes (new_routes_of c.args.customer c.args.routes.now) }
 
-now_are : (c : After-give_routes) → c.give_routes.new.customers.items ≡ slice_set (before c).customers c.args.customer (with_new c)
+now_are : (c : After-give_routes) → c.give_routes.new.customers.items ≡ slice_set (before c).customers c.args.customer
+    (with_new c)
 now_are c =
     c.give_routes.ensures
-    ∙ ap (λ (rs : List RouteEntry). slice_set (before c).customers c.args.customer (record (customer_at (before c) c.args.customer) { routes = rs }))
+    ∙ ap (λ (rs : List RouteEntry). slice_set (before c).customers c.args.customer
+    (record (customer_at (before c) c.args.customer) { routes = rs }))
     (c.in_ok-new.ensures.routes ∙ sym (checked-given (before c) c.args.customer c.args.routes.now (checked c)).0)
 
 pub invariant_of-self : goal.invariant_of-self
 invariant_of-self c =
     let t = before c in
     let n = c.args.customer in
-    let there : n < length t.customers = subst (λ (t : TableFile). n < length t.customers) (sym c.self.view_is) c.requires.known in (
+    let there : n < length t.customers = subst (λ (t : TableFile). n < length t.customers) (sym c.self.view_is)
+    c.requires.known in (
       subst (λ customers. IsAccepted (record t { customers = customers })) (sym (now_are c))
           (still_accepted t n c.args.routes.now c.self.invariant.0 there (checked c)),
       c.self.invariant.1 ∙ sym (ap (owners_from 0) (now_are c) ∙ same_owners 0 t.customers n (with_new c) refl),

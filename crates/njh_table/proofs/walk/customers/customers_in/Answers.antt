@@ -11,7 +11,8 @@ next_customer-requires c = c.loop-value.invariant.1 ∙ ap (owners_from 0) (sym 
 pub returns-in_err-customer-clause-walk : goal.returns-in_err-customer-clause-walk
 returns-in_err-customer-clause-walk c =
     let done = c.loop-value.customers.items in
-    let here = turn c.args.values.now c.loop-value.value-index c.value-item.result c.loop-value-test.true c.value-item.is in
+    let here = turn c.args.values.now c.loop-value.value-index c.value-item.result c.loop-value-test.true
+    c.value-item.is in
     stops _ _ _ _ c.from_residual.ensures.1 (λ no_memory. sym c.loop-value.invariant.0 ∙ ap (customers_onto done) here
     ∙ ends _ _ _ (ap (λ d. next_customer d (view c.value-item.result)) (sym c.deref.ensures.value)
     ∙ c.in_err-customer.ensures.walk no_memory))
@@ -21,8 +22,10 @@ loop-value-preserved c =
     let done = c.loop-value.customers.items in
     let customer = c.in_ok-customer.customer in
     let rest = items_view (drop (c.loop-value.value-index + 1) c.args.values.now) in
-    let here = turn c.args.values.now c.loop-value.value-index c.value-item.result c.loop-value-test.true c.value-item.is in
-    let next = ap (λ d. next_customer d (view c.value-item.result)) (sym c.deref.ensures.value) ∙ c.in_ok-customer.ensures.walk in
+    let here = turn c.args.values.now c.loop-value.value-index c.value-item.result c.loop-value-test.true
+    c.value-item.is in
+    let next = ap (λ d. next_customer d (view c.value-item.result)) (sym c.deref.ensures.value)
+    ∙ c.in_ok-customer.ensures.walk in
     let walked = ap (customers_onto done) here ∙ goes_on _ _ _ next in (
       ap (λ cs. customers_onto cs rest) c.in_ok-push.ensures.items ∙ sym walked ∙ c.loop-value.invariant.0,
       c.in_ok-customer.ensures.owners ∙ ap (λ d. owners_from 0 (d ++ customer ∷ [])) c.deref.ensures.value

@@ -6,5 +6,6 @@ use Rattle.njh_table.proofs.walk.customers.customers_in.Given as goal
 
 abbrev pub invariant-loop-value : goal.invariant-loop-value
 invariant-loop-value l =
-    (customers_onto l.customers.items (items_view (drop l.value-index l.values)) ≡ customers_onto [] (items_view l.values))
+    (customers_onto l.customers.items (items_view (drop l.value-index l.values)) ≡ customers_onto []
+    (items_view l.values))
     × (l.owners ≡ owners_from 0 l.customers.items) × (vec_len l.customers ≤ 64)

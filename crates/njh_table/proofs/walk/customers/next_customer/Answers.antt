@@ -16,20 +16,24 @@ names : (c : In_ok-route_values) → line_names c.args.earlier.now ≡ names_in 
 names c = sym (ap names_in c.requires ∙ names-owners_from 0 c.args.earlier.now)
 
 walked : (c : In_ok-lines)
-    → lines_onto (length c.args.earlier.now) (line_names c.args.earlier.now) [] (items_view c.in_ok-line_values.line_values.now) ≡ Ok c.in_ok-lines.lines.items
+    → lines_onto (length c.args.earlier.now) (line_names c.args.earlier.now) []
+    (items_view c.in_ok-line_values.line_values.now) ≡ Ok c.in_ok-lines.lines.items
 walked c =
-    ap (λ n. lines_onto (length c.args.earlier.now) n [] (items_view c.in_ok-line_values.line_values.now)) (names (goal.at.In_ok-lines c).In_ok-route_values)
+    ap (λ n. lines_onto (length c.args.earlier.now) n [] (items_view c.in_ok-line_values.line_values.now))
+    (names (goal.at.In_ok-lines c).In_ok-route_values)
     ∙ c.in_ok-lines.ensures.walk
 
 -- the customer's own lines, found among all
-own : (c : In_ok-lines) → line_number c.in_ok-lines.lines.items ≡ own_line c.lines_in.new.owners (length c.args.earlier.now)
+own : (c : In_ok-lines) → line_number c.in_ok-lines.lines.items ≡ own_line c.lines_in.new.owners
+    (length c.args.earlier.now)
 own c =
     let lines = c.in_ok-lines.lines.items in
     let taken = line_names c.args.earlier.now in
     let n = length c.args.earlier.now in
     let owners = c.in_ok-lines.ensures.owners ∙ ap (λ o. o ++ line_owners n 0 lines) c.requires in
     let apart = lines_onto-apart n taken [] (items_view c.in_ok-line_values.line_values.now) refl in
-    sym (ap (λ o. own_line o n) owners ∙ own_line-is c.args.earlier.now lines (given (AreApart taken) _ lines (walked c) apart))
+    sym (ap (λ o. own_line o n) owners ∙ own_line-is c.args.earlier.now lines
+    (given (AreApart taken) _ lines (walked c) apart))
 
 pub returns-in_err-keys-clause-walk : goal.returns-in_err-keys-clause-walk
 unfolding next_customer
@@ -76,7 +80,8 @@ returns-in_err-lines-clause-walk c =
     ∙ goes_on _ _ _ (sym c.in_ok-own.ensures)
     ∙ goes_on _ _ _ (sym c.in_ok-line_values.ensures)
     ∙ goes_on _ _ _ (sym c.in_ok-route_values.ensures)
-    ∙ ends _ _ _ (ap (λ n. lines_onto (length c.args.earlier.now) n [] values) taken ∙ c.in_err-lines.ensures.walk no_memory))
+    ∙ ends _ _ _ (ap (λ n. lines_onto (length c.args.earlier.now) n [] values) taken
+    ∙ c.in_err-lines.ensures.walk no_memory))
 
 pub returns-in_err-routes-clause-walk : goal.returns-in_err-routes-clause-walk
 unfolding next_customer
@@ -90,7 +95,8 @@ returns-in_err-routes-clause-walk c =
     ∙ goes_on _ _ _ (sym c.in_ok-line_values.ensures)
     ∙ goes_on _ _ _ (sym c.in_ok-route_values.ensures)
     ∙ goes_on _ _ _ (walked at_lines)
-    ∙ ends _ _ _ (ap (λ f. routes_onto (length c.args.earlier.now) c.in_ok-own.own.hub f [] values) (own at_lines) ∙ c.in_err-routes.ensures no_memory))
+    ∙ ends _ _ _ (ap (λ f. routes_onto (length c.args.earlier.now) c.in_ok-own.own.hub f [] values) (own at_lines)
+    ∙ c.in_err-routes.ensures no_memory))
 
 pub returns-clause-walk : goal.returns-clause-walk
 unfolding next_customer
@@ -103,9 +109,11 @@ returns-clause-walk c =
     ∙ goes_on _ _ _ (sym c.in_ok-line_values.ensures)
     ∙ goes_on _ _ _ (sym c.in_ok-route_values.ensures)
     ∙ goes_on _ _ _ (walked at_lines)
-    ∙ goes_on _ _ _ (ap (λ f. routes_onto (length c.args.earlier.now) c.in_ok-own.own.hub f [] values) (own at_lines) ∙ c.in_ok-routes.ensures)
+    ∙ goes_on _ _ _ (ap (λ f. routes_onto (length c.args.earlier.now) c.in_ok-own.own.hub f [] values) (own at_lines)
+    ∙ c.in_ok-routes.ensures)
 
 pub returns-clause-owners : goal.returns-clause-owners
 returns-clause-owners c =
-    c.in_ok-lines.ensures.owners ∙ ap (λ o. o ++ line_owners (length c.args.earlier.now) 0 c.in_ok-lines.lines.items) c.requires
+    c.in_ok-lines.ensures.owners ∙ ap (λ o. o ++ line_owners (length c.args.earlier.now) 0 c.in_ok-lines.lines.items)
+    c.requires
     ∙ owners_after c.args.earlier.now _
