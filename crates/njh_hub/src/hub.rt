@@ -124,8 +124,8 @@ impl Hub {
         Ok(self.shared.spool.used(customer))
     }
 
-    /// Law: no two of a customer's files, whole or partial, have one number, they stand within its
-    /// quota, and the headers of its whole files read.
+    /// What holds of a customer's files: no two of them, whole or partial, have one number, they stand
+    /// within its quota, and the headers of its whole files read.
     pub fn files_are_sound(&self, customer: u16)
         ensures sound { IsSound (part customer self.now).customer.spool }
         ensures headers { HaveHeaders (part customer self.now).customer.spool.whole }
@@ -135,7 +135,7 @@ impl Hub {
         }
     }
 
-    /// Law: which of a customer's lines count as up where a route has a second line: those whose
+    /// Which of a customer's lines count as up where a route has a second line: those whose
     /// sessions are up, and no others.
     pub(crate) fn marks_hold(&self, customer: u16)
         requires { customer < length self.now }
@@ -144,7 +144,7 @@ impl Hub {
         let _tables = &self.shared.tables;
     }
 
-    /// Law: a file that comes on a line's stream to the hub is partial.
+    /// A file that comes on a line's stream to the hub is partial.
     pub(crate) fn comings_are_partial(&self, id: LineId)
         requires { HasLine self.now id }
         ensures { AllByRecursion (IsPartialOn (part id.customer self.now).customer.spool)

@@ -1,4 +1,4 @@
-//! A law of the turns of wires: what holds of all, whoever takes them.
+//! Laws of the turns of wires: what holds of all, whoever takes them.
 
 ghost use Rattle.njh_hub.specs.Service.{OwnWiresAndRoutesDecide};
 ghost use Rattle.njh_hub.specs.WireLaws.{OwnWiresDecide};

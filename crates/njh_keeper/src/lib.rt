@@ -1,4 +1,4 @@
-//! A hub whose customers have the whole files that a spool file keeps.
+//! Keeps the whole files of a hub's customers in a spool file, and opens a hub that has them.
 #![tactic(auto)]
 
 mod beginning;

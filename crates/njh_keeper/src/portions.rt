@@ -20,8 +20,8 @@ use njh_stream::Receiver;
 use njh_table::LineId;
 use sqlite::{Alter, Error};
 
-/// From how many records on a file's are kept before it is whole: more than one block has, which
-/// are fewer than a third of its 4,096 bytes. So where the number of a file that was given up is
+/// From how many records on a file's are kept before it is whole. A block brings fewer, since each
+/// record takes at least three of its 4,096 bytes. So if the number of a file that was given up is
 /// another file's after the same step, that one has fewer records than were seen.
 const MANY: u32 = 1_366;
 

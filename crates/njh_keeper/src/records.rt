@@ -1,4 +1,4 @@
-//! The records of a whole file that was read from a store.
+//! The records of a whole file that was read from a spool file.
 
 ghost use Rattle.std.specs.Prelude.{◌≡◌, map, MatchOption, false, true};
 ghost use Rattle.njh_keeper.specs.Opened.{are_records_from, are_records_of, as_stored, is_record_at};

@@ -52,7 +52,7 @@ pub(crate) struct SpoolWriter<S: Alter + Drop> {
     pub(crate) next_key: u32,
     /// Numbers below it that no file's records stand under.
     pub(crate) free_keys: Vec<u32>,
-    /// What files left that have left.
+    /// Records of files that have left, which are still to be dropped.
     sweeps: Vec<Sweep>,
     /// How many records were written or dropped since the last commit.
     waiting: u32,

@@ -36,7 +36,7 @@ impl From<Error> for OpenFault {
     }
 }
 
-/// Law: while a connection is open, its tables are sound.
+/// While a connection is open, its tables are sound.
 pub(crate) fn is_live<S: Alter>(conn: &Connection<S>)
     ensures { IsLive (state S.Store conn.now) }
 {

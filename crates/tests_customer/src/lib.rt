@@ -1,5 +1,6 @@
 //! Whole runs of a customer as the definitions have it, computed: in `specs/` stands what comes on
-//! its lines and what it sends. Its code does what these say, by its proof, for whatever comes.
+//! its lines and what it sends. The code of njh_customer does what the definitions say, by its
+//! proof, for whatever comes.
 //!
-//! They are a crate of their own, since one with tests is proved twice.
+//! They are a crate of their own, since a crate with tests is proved twice.
 #![tactic(auto)]

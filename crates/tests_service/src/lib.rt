@@ -1,7 +1,7 @@
 //! Tests of the attendant of a service, over a network in memory with a clock of its own, and of a
 //! service over sockets of this machine.
 //!
-//! Each test over memory is a list of what peers do and when, and the text of what must be seen:
+//! Most tests over memory are a list of what peers do and when, and the text of what must be seen:
 //! what the hub sent, the dials, and the lines of the log, word for word and in their order.
 #![tactic(auto)]
 

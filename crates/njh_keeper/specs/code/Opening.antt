@@ -21,7 +21,7 @@ owned_of name rows = filter (λ e. is_own name e.1) rows
 abbrev pub entries : List StoredFile → List (ℕ × File)
 entries files = map entry_of files
 
--- under how many of these rows' keys a number is
+-- how many of these rows have this number as their key
 abbrev pub keyed_rows : ℕ → List (ℕ × File) → ℕ
 keyed_rows n rows = keyed (λ e. e.1.key) n rows
 
