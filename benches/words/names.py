@@ -1,11 +1,14 @@
 #!/usr/bin/env python3
 """Whether the documents name what there is. Prints each name in backquotes of README.md and docs/*.md that stands in no
-source file, each wrong body that docs/PROMISES.md leaves out, and each clause, as in `Hub::take`: `taken`, `step`, that
-no function of that name has. Nothing printed: all are right. The status is 1 where something is printed."""
+source file, each wrong body that docs/PROMISES.md leaves out, each clause, as in `Hub::take`: `taken`, `step`, that no
+function of that name has, and each import of the sources that leads nowhere (imports.py). Nothing printed: all are right.
+The status is 1 if something is printed."""
 
 import pathlib
 import re
 import sys
+
+from imports import wrong_imports
 
 ROOT = pathlib.Path(__file__).resolve().parents[2]
 KINDS = {".rt", ".antt", ".edit", ".toml", ".py", ".sh", ".c", ".txt"}
@@ -50,6 +53,7 @@ def main():
             wrong += [f"{path.name}: `{call}`: {name}" for name in missing]
     told = (ROOT / "docs/PROMISES.md").read_text(encoding="utf-8")
     wrong += [f"PROMISES.md: {body}" for body in sorted(bodies) if f"`{body}`" not in told]
+    wrong += wrong_imports()
     print("\n".join(wrong), end="\n" if wrong else "")
     return 1 if wrong else 0
 
