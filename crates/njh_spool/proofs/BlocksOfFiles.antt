@@ -1,7 +1,7 @@
 -- A block that lies in one chain lies in one file.
 use Rattle.std.proofs.Common.{◌≡◌, ℕ, ◌*◌, ◌/◌, ◌%◌, ◌<◌, List, length, ap, ◌∙◌, arith}
 use Rattle.slab.specs.Slab.{Slab, ContainsKey}
-use Rattle.njh_spool.specs.declared.store.block.Block.{Block}
+use Rattle.njh_spool.specs.declared.store.spool_block.SpoolBlock.{SpoolBlock}
 use Rattle.njh_spool.specs.declared.store.chain_ends.ChainEnds.{ChainEnds}
 use Rattle.njh_spool.specs.code.BlocksOfFiles.{LiesInOneFile}
 use Rattle.njh_spool.specs.code.ChainedBlocks.{IsChained, times_at}
@@ -16,7 +16,7 @@ same_file : (c n at : ℕ) → n < 1024 → place_of c n ≡ at → (c ≡ at / 
 same_file c n at small is = (omega (arith, small, is), omega (arith, small, is))
 
 pub lies_in_one_file :
-    (blocks : Slab Block) (chains : List ChainEnds) (capacity customers : ℕ) → IsChained blocks chains capacity
+    (blocks : Slab SpoolBlock) (chains : List ChainEnds) (capacity customers : ℕ) → IsChained blocks chains capacity
     → length chains ≡ 1024 * customers → (key : ℕ) → ContainsKey blocks key → LiesInOneFile blocks chains customers key
 lies_in_one_file blocks chains capacity customers chained many key there =
     let one = lies_in_one blocks chains capacity chained key there in

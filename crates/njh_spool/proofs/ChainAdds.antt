@@ -8,7 +8,7 @@ use Rattle.std.proofs.lemmas.List.Concat.{flat_map-append, flat_map-cons}
 use Rattle.std.proofs.lemmas.List.Sums.{sum_by_push}
 use Rattle.slab.specs.Slab.{Slab, get, slab_len, ContainsKey, with_value, Updates}
 use Rattle.slab.proofs.SlabLemmas.{Updates-with_value}
-use Rattle.njh_spool.specs.declared.store.block.Block.{Block}
+use Rattle.njh_spool.specs.declared.store.spool_block.SpoolBlock.{SpoolBlock}
 use Rattle.njh_spool.specs.declared.store.chain_ends.ChainEnds.{ChainEnds}
 use Rattle.njh_spool.specs.code.Chains.{blocks_for}
 use Rattle.njh_spool.specs.code.ChainedBlocks.{link_in, data_in, blocks_in, data_at, blocks_at, keys_from, keys_of}
@@ -22,7 +22,7 @@ use Rattle.njh_spool.proofs.ChainLaws.{length_data}
 use Rattle.njh_spool.proofs.ChainPuts.{slab_len-with_value}
 
 -- a new block's data
-abbrev pub block_with : List ℕ → ℕ → Block
+abbrev pub block_with : List ℕ → ℕ → SpoolBlock
 block_with bytes next = record { bytes = bytes ++ replicate (252 - length bytes) 0; next = next }
 
 length-block_with : (bytes : List ℕ) → length bytes ≤ 252
@@ -34,7 +34,7 @@ length-block_with bytes short = omega (
 )
 
 -- a block is put in a vacant place
-module _ (s t1 : Slab Block) (k : ℕ) (bytes : List ℕ) (short : length bytes ≤ 252) (vacant : get s k ≡ None)
+module _ (s t1 : Slab SpoolBlock) (k : ℕ) (bytes : List ℕ) (short : length bytes ≤ 252) (vacant : get s k ≡ None)
     (updates : Updates s t1 k (Some (block_with bytes 0))) (more : slab_len t1 ≡ slab_len s + 1)
     (room : t1.capacity ≡ s.capacity)
     (chains : List ChainEnds) (i capacity : ℕ) (ends : ChainEnds) (chained : IsChained s chains capacity)
@@ -80,12 +80,12 @@ module _ (s t1 : Slab Block) (k : ℕ) (bytes : List ℕ) (short : length bytes 
                 | inl here ↦
                     let found = ap (get t1) here ∙ updates.changed in
                     let one = ap blocks_in found in
-                    let size = ap (λ (o : Option Block). length (data_in o)) found in
+                    let size = ap (λ (o : Option SpoolBlock). length (data_in o)) found in
                     omega (arith, length-block_with bytes short)
                 | inr differ ↦
                     let found = updates.others key differ in
                     let one = ap blocks_in found in
-                    let size = ap (λ (o : Option Block). length (data_in o)) found in
+                    let size = ap (λ (o : Option SpoolBlock). length (data_in o)) found in
                     omega (arith, chained.full key)
               ];
           last = λ h.
@@ -105,10 +105,10 @@ module _ (s t1 : Slab Block) (k : ℕ) (bytes : List ℕ) (short : length bytes 
 
   -- a block after the chain's last
   module _ (filled : ends.len ≡ 252 * blocks_for ends.len) (any : 0 < ends.len) where
-    abbrev linked : Block
+    abbrev linked : SpoolBlock
     linked = record { bytes = data_at t1 ends.last; next = k }
 
-    abbrev t : Slab Block
+    abbrev t : Slab SpoolBlock
     t = with_value t1 ends.last linked
 
     abbrev longer : ChainEnds
@@ -210,7 +210,7 @@ module _ (s t1 : Slab Block) (k : ℕ) (bytes : List ℕ) (short : length bytes 
                 | inl here ↦
                     let found = ap (get t) here ∙ at_new in
                     let one = ap blocks_in found in
-                    let size = ap (λ (o : Option Block). length (data_in o)) found in
+                    let size = ap (λ (o : Option SpoolBlock). length (data_in o)) found in
                     omega (arith, length-block_with bytes short)
                 | inr differ ↦
                     let size = ap length (data_same key differ) in

@@ -6,7 +6,7 @@ use Rattle.std.proofs.lemmas.List.Concat.{flat_map-cons}
 use Rattle.std.proofs.lemmas.List.Sums.{sum_by-cons}
 use Rattle.slab.specs.Slab.{Slab}
 use Rattle.njh_record.specs.Bytes.{field, with_field}
-use Rattle.njh_spool.specs.declared.store.block.Block.{Block}
+use Rattle.njh_spool.specs.declared.store.spool_block.SpoolBlock.{SpoolBlock}
 use Rattle.njh_spool.specs.code.ChainedBlocks.{next_at, data_at, keys_from, data_of, times_in}
 use Rattle.njh_spool.proofs.ChainLists.{with_field-left, with_field-right, drop-right, field-left}
 
@@ -25,12 +25,12 @@ times_at [] i within = absurd (omega arith)
 times_at (k ∷ rest) zero within = omega (arith, times-cons k k rest, one_itself k)
 times_at (k ∷ rest) (suc i) within = omega (arith, times-cons (get_or rest i 0) k rest, times_at rest i (omega arith))
 
-pub length-keys_from : (s : Slab Block) (n key : ℕ) → length (keys_from s n key) ≡ n
+pub length-keys_from : (s : Slab SpoolBlock) (n key : ℕ) → length (keys_from s n key) ≡ n
 length-keys_from s zero key = refl
 length-keys_from s (suc n) key = omega (arith, length-keys_from s n (next_at s key))
 
 -- the chain stays where its blocks' links stay
-pub keys_from-same : (s t : Slab Block) (n key : ℕ)
+pub keys_from-same : (s t : Slab SpoolBlock) (n key : ℕ)
     → ((k : ℕ) → 0 < times_in k (keys_from s n key) → next_at t k ≡ next_at s k)
     → keys_from t n key ≡ keys_from s n key
 keys_from-same s t zero key same = refl
@@ -40,7 +40,7 @@ keys_from-same s t (suc n) key same =
     let later = keys_from-same s t n (next_at s key) (λ k in_rest. same k (omega (arith, times-cons k key rest))) in
     ap (λ x. key ∷ keys_from t n x) here ∙ ap (λ xs. key ∷ xs) later
 
-pub data_of-same : (s t : Slab Block) (keys : List ℕ) → ((k : ℕ) → 0 < times_in k keys → data_at t k ≡ data_at s k) →
+pub data_of-same : (s t : Slab SpoolBlock) (keys : List ℕ) → ((k : ℕ) → 0 < times_in k keys → data_at t k ≡ data_at s k) →
     data_of t keys ≡ data_of s keys
 data_of-same s t [] same = refl
 data_of-same s t (k ∷ rest) same =
@@ -49,7 +49,7 @@ data_of-same s t (k ∷ rest) same =
     flat_map-cons (data_at t) k rest ∙ ap (λ xs. xs ++ data_of t rest) here ∙ ap (λ xs. data_at s k ++ xs) later
     ∙ sym (flat_map-cons (data_at s) k rest)
 
-pub length-data_of : (s : Slab Block) (keys : List ℕ) → ((k : ℕ) → 0 < times_in k keys → length (data_at s k) ≡ 252) →
+pub length-data_of : (s : Slab SpoolBlock) (keys : List ℕ) → ((k : ℕ) → 0 < times_in k keys → length (data_at s k) ≡ 252) →
     length (data_of s keys) ≡ 252 * length keys
 length-data_of s [] full = refl
 length-data_of s (k ∷ rest) full =
@@ -59,7 +59,7 @@ length-data_of s (k ∷ rest) full =
     omega (arith, length-append (data_at s k) (data_of s rest))
 
 -- a chain whose last block is linked to another
-pub keys_from-linked : (s t : Slab Block) (n key last k : ℕ) → get_or (keys_from s (suc n) key) n 0 ≡ last →
+pub keys_from-linked : (s t : Slab SpoolBlock) (n key last k : ℕ) → get_or (keys_from s (suc n) key) n 0 ≡ last →
     times_in last (keys_from s (suc n) key) ≤ 1 → next_at t last ≡ k →
     ((j : ℕ) → j ≢ last → 0 < times_in j (keys_from s (suc n) key) → next_at t j ≡ next_at s j)
     → keys_from t (suc (suc n)) key ≡
@@ -77,7 +77,7 @@ keys_from-linked s t (suc n) key last k is once link same =
     ap (λ x. key ∷ keys_from t (suc (suc n)) x) here ∙ ap (λ xs. key ∷ xs) later
 
 -- bytes written in one block of a chain
-pub data_of-put : (s t : Slab Block) (keys : List ℕ) (b k place : ℕ) (new : List ℕ) → b < length keys
+pub data_of-put : (s t : Slab SpoolBlock) (keys : List ℕ) (b k place : ℕ) (new : List ℕ) → b < length keys
     → get_or keys b 0 ≡ k →
     times_in k keys ≤ 1 → ((j : ℕ) → 0 < times_in j keys → length (data_at s j) ≡ 252) → place + length new ≤ 252 →
     data_at t k ≡ with_field place new (data_at s k) → ((j : ℕ) → j ≢ k → data_at t j ≡ data_at s j)
@@ -113,7 +113,7 @@ data_of-put s t (k0 ∷ rest) (suc b) k place new within is once full fits put s
     ∙ ap (λ p. with_field p new (data_of s (k0 ∷ rest))) (sym sum)
 
 -- bytes that lie in one block of a chain
-pub field-data_of : (s : Slab Block) (keys : List ℕ) (b k place n : ℕ) → b < length keys → get_or keys b 0 ≡ k →
+pub field-data_of : (s : Slab SpoolBlock) (keys : List ℕ) (b k place n : ℕ) → b < length keys → get_or keys b 0 ≡ k →
     ((j : ℕ) → 0 < times_in j keys → length (data_at s j) ≡ 252) → place + n ≤ 252
     → field (252 * b + place) n (data_of s keys) ≡
     field place n (data_at s k)

@@ -7,7 +7,7 @@ use Rattle.std.proofs.lemmas.Bool.{cases_lt}
 use Rattle.std.proofs.lemmas.List.{get_or-map, length-map, get_or_default}
 use Rattle.std.proofs.lemmas.List.Sums.{sum_by-cons, get_or-le-sum_by}
 use Rattle.slab.specs.Slab.{Slab, get, slab_len, ContainsKey}
-use Rattle.njh_spool.specs.declared.store.block.Block.{Block}
+use Rattle.njh_spool.specs.declared.store.spool_block.SpoolBlock.{SpoolBlock}
 use Rattle.njh_spool.specs.declared.store.chain_ends.ChainEnds.{ChainEnds}
 use Rattle.njh_spool.specs.code.Chains.{Chain, StoreValue, empty_chain, chain_at, blocks_for, blocks_of, blocks_used}
 use Rattle.njh_spool.specs.code.ChainedBlocks.{blocks_in, data_at, blocks_at, keys_from, keys_of, data_of, chain_of}
@@ -15,15 +15,15 @@ use Rattle.njh_spool.specs.code.ChainedBlocks.{chains_of, times_in, empty_ends, 
 use Rattle.njh_spool.proofs.ChainLists.{sum_by-same, sum_by-two}
 use Rattle.njh_spool.proofs.ChainKeys.{length-keys_from, length-data_of, times_at}
 
-pub blocks_in-le : (o : Option Block) → blocks_in o ≤ 1
+pub blocks_in-le : (o : Option SpoolBlock) → blocks_in o ≤ 1
 blocks_in-le (Some block) = omega arith
 blocks_in-le None = omega arith
 
-pub has_block : (o : Option Block) → 0 < blocks_in o → IsSome o
+pub has_block : (o : Option SpoolBlock) → 0 < blocks_in o → IsSome o
 has_block (Some block) some = search rules
 has_block None some = absurd (omega arith)
 
-pub from_block : (o : Option Block) → IsSome o → blocks_in o ≡ 1
+pub from_block : (o : Option SpoolBlock) → IsSome o → blocks_in o ≡ 1
 from_block (Some block) some = refl
 from_block None some = search rules
 
@@ -34,7 +34,7 @@ blocks_for_is size blocks fits least = omega arith
 pub blocks_for-bounds : (size : ℕ) → (size ≤ 252 * blocks_for size) × (252 * blocks_for size < size + 252)
 blocks_for-bounds size = (omega arith, omega arith)
 
-module _ (s : Slab Block) (chains : List ChainEnds) (i capacity : ℕ) (ends : ChainEnds)
+module _ (s : Slab SpoolBlock) (chains : List ChainEnds) (i capacity : ℕ) (ends : ChainEnds)
     (chained : IsChained s chains capacity)
     (within : i < length chains) (is : get_or chains i ends ≡ ends) where
   lies : (key : ℕ) → times_in key (keys_of s ends) ≤ blocks_at s key
@@ -110,7 +110,7 @@ module _ (s : Slab Block) (chains : List ChainEnds) (i capacity : ℕ) (ends : C
       rw at at h
 
 -- a chain of the store's value
-pub ends_within : (s : Slab Block) (chains : List ChainEnds) (capacity i : ℕ) (store : StoreValue) →
+pub ends_within : (s : Slab SpoolBlock) (chains : List ChainEnds) (capacity i : ℕ) (store : StoreValue) →
     record { capacity = capacity; chains = chains_of s chains } ≡ store → i < length store.chains → i < length chains
 ends_within s chains capacity i store view within = omega (
   arith,
@@ -120,7 +120,7 @@ ends_within s chains capacity i store view within = omega (
 )
 
 -- each chain has as many blocks as its bytes need
-pub sized : (s : Slab Block) (chains : List ChainEnds) (capacity : ℕ) → IsChained s chains capacity →
+pub sized : (s : Slab SpoolBlock) (chains : List ChainEnds) (capacity : ℕ) → IsChained s chains capacity →
     All (λ chain. length chain.keys ≡ blocks_of chain.bytes) (chains_of s chains)
 sized s chains capacity chained = λ k d within.
     let inside : k < length chains = omega (arith, length-map chains (chain_of s)) in
@@ -139,7 +139,7 @@ sum_by-map f g (x ∷ xs) =
     omega (arith, sum_by-cons f (g x) (map g xs), sum_by-cons (λ y. f (g y)) x xs, sum_by-map f g xs)
 
 -- the strings take as many blocks as the slab has
-pub used_is : (s : Slab Block) (chains : List ChainEnds) (capacity : ℕ) (store : StoreValue)
+pub used_is : (s : Slab SpoolBlock) (chains : List ChainEnds) (capacity : ℕ) (store : StoreValue)
     → IsChained s chains capacity →
     record { capacity = capacity; chains = chains_of s chains } ≡ store → (blocks_used store ≡ slab_len s)
     × (store.capacity ≡ capacity)
@@ -152,7 +152,7 @@ used_is s chains capacity store chained view =
     (omega (arith, chained.counted), sym (ap (λ (x : StoreValue). x.capacity) view))
 
 -- no key stands twice
-pub apart : (s : Slab Block) (chains : List ChainEnds) (capacity : ℕ) → IsChained s chains capacity → (key : ℕ) →
+pub apart : (s : Slab SpoolBlock) (chains : List ChainEnds) (capacity : ℕ) → IsChained s chains capacity → (key : ℕ) →
     sum_by (λ (chain : Chain). count_by (λ k. eqb k key) chain.keys) (chains_of s chains) ≤ 1
 apart s chains capacity chained key =
     omega (
@@ -163,12 +163,12 @@ apart s chains capacity chained key =
     )
 
 -- of chains with no byte yet
-pub chains_of-empty : (s : Slab Block) (count : ℕ)
+pub chains_of-empty : (s : Slab SpoolBlock) (count : ℕ)
     → chains_of s (replicate count empty_ends) ≡ replicate count empty_chain
 chains_of-empty s zero = refl
 chains_of-empty s (suc count) = ap (λ chains. empty_chain ∷ chains) (chains_of-empty s count)
 
-pub sized_chains : (s : Slab Block) (chains : List ChainEnds) (capacity : ℕ) → IsChained s chains capacity →
+pub sized_chains : (s : Slab SpoolBlock) (chains : List ChainEnds) (capacity : ℕ) → IsChained s chains capacity →
     All (λ ends. length (keys_of s ends) ≡ blocks_for ends.len) chains
 sized_chains s chains capacity chained =
     λ k d within. length-keys_from s (blocks_for (get_or chains k d).len) (get_or chains k d).head
@@ -184,7 +184,7 @@ one_of f (x ∷ xs) d one =
           (suc later.0, omega (arith, later.1), later.2)
     ]
 
-pub lies_in_one : (s : Slab Block) (chains : List ChainEnds) (capacity : ℕ) → IsChained s chains capacity → (key : ℕ) →
+pub lies_in_one : (s : Slab SpoolBlock) (chains : List ChainEnds) (capacity : ℕ) → IsChained s chains capacity → (key : ℕ) →
     ContainsKey s key → LiesInOne s chains key
 lies_in_one s chains capacity chained key has =
     let count = λ (ends : ChainEnds). times_in key (keys_of s ends) in

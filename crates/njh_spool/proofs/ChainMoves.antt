@@ -6,7 +6,7 @@ use Rattle.std.proofs.lemmas.Bool.{cases_eq}
 use Rattle.std.proofs.lemmas.List.{get_or-set_same, get_or-set_other, length-set, get_or_default}
 use Rattle.std.proofs.lemmas.List.Sums.{sum_by-set}
 use Rattle.slab.specs.Slab.{Slab, get, slab_len}
-use Rattle.njh_spool.specs.declared.store.block.Block.{Block}
+use Rattle.njh_spool.specs.declared.store.spool_block.SpoolBlock.{SpoolBlock}
 use Rattle.njh_spool.specs.declared.store.chain_ends.ChainEnds.{ChainEnds}
 use Rattle.njh_spool.specs.code.Chains.{Chain, StoreValue, Grows, empty_chain, chain_at, blocks_for, with_chain}
 use Rattle.njh_spool.specs.code.ChainedBlocks.{link_in, data_in, data_at, blocks_at, keys_of, data_of, chain_of}
@@ -15,7 +15,7 @@ use Rattle.njh_spool.proofs.ChainLists.{sum_by-two, sum_by-but, map-but}
 use Rattle.njh_spool.proofs.ChainKeys.{keys_from-same, data_of-same}
 
 -- what a change of one chain must be
-pub record Moves (s t : Slab Block) (old new : ChainEnds) : Type 0 where
+pub record Moves (s t : Slab SpoolBlock) (old new : ChainEnds) : Type 0 where
   pub same : (key : ℕ) → times_in key (keys_of s old) < blocks_at s key → get t key ≡ get s key
   pub once : (key : ℕ) → blocks_at t key + times_in key (keys_of s old) ≡ blocks_at s key + times_in key (keys_of t new)
   pub counted : slab_len t + blocks_for old.len ≡ slab_len s + blocks_for new.len
@@ -23,7 +23,7 @@ pub record Moves (s t : Slab Block) (old new : ChainEnds) : Type 0 where
   pub last : KnowsLast t new
   pub capacity : t.capacity ≡ s.capacity
 
-pub chain_of-same : (s t : Slab Block) (ends : ChainEnds)
+pub chain_of-same : (s t : Slab SpoolBlock) (ends : ChainEnds)
     → ((k : ℕ) → 0 < times_in k (keys_of s ends) → get t k ≡ get s k) →
     chain_of t ends ≡ chain_of s ends
 chain_of-same s t ends same =
@@ -33,7 +33,7 @@ chain_of-same s t ends same =
     ap (λ (ks : List ℕ). record { keys = ks; bytes = take ends.len (data_of t (keys_of t ends)) }) keys
     ∙ ap (λ (bs : List ℕ). record { keys = keys_of s ends; bytes = take ends.len bs }) bytes
 
-module _ (s t : Slab Block) (chains : List ChainEnds) (i capacity : ℕ) (old new : ChainEnds)
+module _ (s t : Slab SpoolBlock) (chains : List ChainEnds) (i capacity : ℕ) (old new : ChainEnds)
     (chained : IsChained s chains capacity)
     (within : i < length chains) (is : get_or chains i old ≡ old) (moves : Moves s t old new) where
   others : (j : ℕ) → j < length chains → j ≢ i → (k : ℕ) → 0 < times_in k (keys_of s (get_or chains j old))

@@ -5,7 +5,7 @@ use Rattle.std.specs.Prelude.{slice_get}
 use Rattle.std.proofs.lemmas.Option.{slice_get-get_or, get_or_from_slice_get}
 use Rattle.slab.specs.Slab.{Slab, get, slab_len, ContainsKey}
 use Rattle.njh_record.specs.Bytes.{field}
-use Rattle.njh_spool.specs.declared.store.block.Block.{Block}
+use Rattle.njh_spool.specs.declared.store.spool_block.SpoolBlock.{SpoolBlock}
 use Rattle.njh_spool.specs.declared.store.chain_ends.ChainEnds.{ChainEnds}
 use Rattle.njh_spool.specs.declared.store.BlockStore.TheInside.{Inside}
 use Rattle.njh_spool.specs.code.Chains.{StoreValue, chain_at, blocks_for, blocks_used}
@@ -18,7 +18,7 @@ use Rattle.njh_spool.proofs.ChainLaws.{ends_within, count_within, used_is}
 use Rattle.std.proofs.lemmas.List.{get_or_default}
 
 -- the key after one of a chain's
-keys_from-next : (s : Slab Block) (n key b : ℕ) → b + 1 < n → get_or (keys_from s n key) (b + 1) 0 ≡ next_at s
+keys_from-next : (s : Slab SpoolBlock) (n key b : ℕ) → b + 1 < n → get_or (keys_from s n key) (b + 1) 0 ≡ next_at s
     (get_or (keys_from s n key) b 0)
 keys_from-next s zero key b within = absurd (omega arith)
 keys_from-next s (suc zero) key b within = absurd (omega arith)
@@ -106,11 +106,11 @@ module _ (on : OnChain) where
           (key_lies s chains i capacity ends chained within is b key few key_at)
 
       -- bytes of the string that lie in the block
-      pub part_is : (at place n : ℕ) (block : Block) → get s key ≡ Some block → 252 * b + at ≡ place → at + n ≤ 252 →
+      pub part_is : (at place n : ℕ) (block : SpoolBlock) → get s key ≡ Some block → 252 * b + at ≡ place → at + n ≤ 252 →
           place + n ≤ length (chain_at i store).bytes → field at n block.bytes ≡ field place n (chain_at i store).bytes
       part_is at place n block held begins fits_here inside_too =
           let size = len_on in
-          ap (λ (o : Option Block). field at n (data_in o)) (sym held)
+          ap (λ (o : Option SpoolBlock). field at n (data_in o)) (sym held)
           ∙ sym (field-data_of s (keys_of s ends) b key at n long key_at
           (full_here s chains i capacity ends chained within is) fits_here)
           ∙ ap (λ p. field p n (data_of s (keys_of s ends))) begins
@@ -118,7 +118,7 @@ module _ (on : OnChain) where
           ∙ ap (field place n) (sym (bytes_is s chains i capacity ends chained within is store view))
 
       -- the key of the block after it
-      pub next_key : (block : Block) → get s key ≡ Some block → 252 * b + 252 < length (chain_at i store).bytes →
+      pub next_key : (block : SpoolBlock) → get s key ≡ Some block → 252 * b + 252 < length (chain_at i store).bytes →
           slice_get (chain_at i store).keys (b + 1) ≡ Some block.next
       next_key block at more =
           let size = len_on in

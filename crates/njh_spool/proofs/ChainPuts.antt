@@ -8,7 +8,7 @@ use Rattle.std.proofs.lemmas.List.Sums.{sum_by-set}
 use Rattle.slab.specs.Slab.{Slab, get, slab_len, ContainsKey, with_value}
 use Rattle.slab.proofs.SlabLemmas.{ContainsKey-within, Updates-with_value}
 use Rattle.njh_record.specs.Bytes.{with_field}
-use Rattle.njh_spool.specs.declared.store.block.Block.{Block}
+use Rattle.njh_spool.specs.declared.store.spool_block.SpoolBlock.{SpoolBlock}
 use Rattle.njh_spool.specs.declared.store.chain_ends.ChainEnds.{ChainEnds}
 use Rattle.njh_spool.specs.code.Chains.{blocks_for}
 use Rattle.njh_spool.specs.code.ChainedBlocks.{link_in, data_in, blocks_in, next_at, data_at, blocks_at, keys_of}
@@ -18,14 +18,14 @@ use Rattle.njh_spool.proofs.ChainMoves.{Moves}
 use Rattle.njh_spool.proofs.ChainLaws.{once_here, block_here, has_here, full_here, last_here, key_lies, length_data}
 use Rattle.njh_spool.proofs.ChainLaws.{blocks_for_is, blocks_for-bounds}
 
-counts_one : (o : Option Block) → IsSome o → cond {A = ℕ} (is_some o) 1 0 ≡ 1
+counts_one : (o : Option SpoolBlock) → IsSome o → cond {A = ℕ} (is_some o) 1 0 ≡ 1
 counts_one (Some block) has = refl
 counts_one None has = search rules
 
-pub slab_len-with_value : (s : Slab Block) (key : ℕ) (block : Block) → ContainsKey s key
+pub slab_len-with_value : (s : Slab SpoolBlock) (key : ℕ) (block : SpoolBlock) → ContainsKey s key
     → slab_len (with_value s key block) ≡ slab_len s
 slab_len-with_value s key block has =
-    let sum = sum_by-set (λ (o : Option Block). cond {A = ℕ} (is_some o) 1 0) s.slots key (Some block) None
+    let sum = sum_by-set (λ (o : Option SpoolBlock). cond {A = ℕ} (is_some o) 1 0) s.slots key (Some block) None
     (ContainsKey-within s key has) in
     let was = counts_one (get s key) has in
     omega arith
@@ -53,18 +53,18 @@ take-with_field_end size new bytes within =
     take_at (take size bytes ++ new) (drop (size + length new) bytes) (size + length new)
     (omega (arith, length-append (take size bytes) new, length-take size bytes))
 
-module _ (s : Slab Block) (chains : List ChainEnds) (i capacity : ℕ) (ends : ChainEnds)
+module _ (s : Slab SpoolBlock) (chains : List ChainEnds) (i capacity : ℕ) (ends : ChainEnds)
     (chained : IsChained s chains capacity)
     (within : i < length chains) (is : get_or chains i ends ≡ ends) (key b place len : ℕ) (bytes : List ℕ)
     (inside : b < blocks_for ends.len) (at : get_or (keys_of s ends) b 0 ≡ key) (fits : place + length bytes ≤ 252)
     (count : blocks_for len ≡ blocks_for ends.len) where
-  abbrev written : Block
+  abbrev written : SpoolBlock
   written = record { bytes = with_field place bytes (data_at s key); next = next_at s key }
 
   abbrev new : ChainEnds
   new = record { head = ends.head; last = ends.last; len = len }
 
-  abbrev t : Slab Block
+  abbrev t : Slab SpoolBlock
   t = with_value s key written
 
   pub has_key : ContainsKey s key
@@ -110,7 +110,7 @@ module _ (s : Slab Block) (chains : List ChainEnds) (i capacity : ℕ) (ends : C
             let one : blocks_at s k ≡ 1 = ap (blocks_at s) here ∙ one_block in
             omega (arith, long, length-with_field place bytes (data_at s key) (omega (arith, long)), blocks_same k)
         | inr differ ↦
-            let held = ap (λ (o : Option Block). length (data_in o)) (others k differ) in
+            let held = ap (λ (o : Option SpoolBlock). length (data_in o)) (others k differ) in
             omega (arith, chained.full k, blocks_same k)
       ]
 

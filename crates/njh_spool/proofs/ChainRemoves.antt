@@ -5,7 +5,7 @@ use Rattle.std.proofs.lemmas.Bool.{cases_eq, cases_lt}
 use Rattle.std.proofs.lemmas.List.{drop_all, drop_at}
 use Rattle.std.proofs.lemmas.List.Concat.{flat_map-cons}
 use Rattle.slab.specs.Slab.{Slab, get, slab_len, ContainsKey, Updates}
-use Rattle.njh_spool.specs.declared.store.block.Block.{Block}
+use Rattle.njh_spool.specs.declared.store.spool_block.SpoolBlock.{SpoolBlock}
 use Rattle.njh_spool.specs.declared.store.chain_ends.ChainEnds.{ChainEnds}
 use Rattle.njh_spool.specs.code.Chains.{blocks_for}
 use Rattle.njh_spool.specs.code.ChainedBlocks.{link_in, data_in, blocks_in, next_at, data_at, blocks_at, keys_from}
@@ -35,7 +35,7 @@ rest_of size xs ys long =
           ∙ sym (ap (λ n. take n ys) none)
     ]
 
-module _ (s t : Slab Block) (chains : List ChainEnds) (i capacity : ℕ) (ends : ChainEnds)
+module _ (s t : Slab SpoolBlock) (chains : List ChainEnds) (i capacity : ℕ) (ends : ChainEnds)
     (chained : IsChained s chains capacity)
     (within : i < length chains) (is : get_or chains i ends ≡ ends) (any : 0 < ends.len) where
   pub head_lies : 0 < times_in ends.head (keys_of s ends)
@@ -45,7 +45,7 @@ module _ (s t : Slab Block) (chains : List ChainEnds) (i capacity : ℕ) (ends :
   pub has_head : ContainsKey s ends.head
   has_head = has_here s chains i capacity ends chained within is ends.head head_lies
 
-  module _ (first : Block) (found : get s ends.head ≡ Some first) (updates : Updates s t ends.head None)
+  module _ (first : SpoolBlock) (found : get s ends.head ≡ Some first) (updates : Updates s t ends.head None)
       (fewer : slab_len t + 1 ≡ slab_len s) (room : t.capacity ≡ s.capacity) where
     abbrev shorter : ChainEnds
     shorter = record { head = first.next; last = ends.last; len = ends.len - 252 }
@@ -112,12 +112,12 @@ module _ (s t : Slab Block) (chains : List ChainEnds) (i capacity : ℕ) (ends :
                 | inl here ↦
                     let gone = ap (get t) here ∙ updates.changed in
                     let one = ap blocks_in gone in
-                    let size = ap (λ (o : Option Block). length (data_in o)) gone in
+                    let size = ap (λ (o : Option SpoolBlock). length (data_in o)) gone in
                     omega arith
                 | inr differ ↦
                     let kept = updates.others key differ in
                     let one = ap blocks_in kept in
-                    let size = ap (λ (o : Option Block). length (data_in o)) kept in
+                    let size = ap (λ (o : Option SpoolBlock). length (data_in o)) kept in
                     omega (arith, chained.full key)
               ];
           last = λ some.

@@ -5,7 +5,7 @@ use Rattle.std.specs.Prelude.{slice_get}
 use Rattle.std.proofs.lemmas.List.{set-get_or, take_at, nil_from_length}
 use Rattle.slab.specs.Slab.{Slab, get, slab_len, ContainsKey, with_value, Updates}
 use Rattle.njh_record.specs.Bytes.{with_field}
-use Rattle.njh_spool.specs.declared.store.block.Block.{Block}
+use Rattle.njh_spool.specs.declared.store.spool_block.SpoolBlock.{SpoolBlock}
 use Rattle.njh_spool.specs.declared.store.chain_ends.ChainEnds.{ChainEnds}
 use Rattle.njh_spool.specs.code.Chains.{Chain, Grows, chain_at, with_chain, with_bytes, blocks_for}
 use Rattle.njh_spool.specs.code.Chains.{blocks_of}
@@ -19,7 +19,7 @@ use Rattle.njh_spool.proofs.ChainAdds.{block_with, moves_first, chain_first, has
 use Rattle.njh_spool.proofs.ChainPlaces.{OnChain, len_on, keys_on, few, key_at}
 
 -- a block with other bytes
-abbrev pub put_in : Slab Block → ℕ → ℕ → List ℕ → Slab Block
+abbrev pub put_in : Slab SpoolBlock → ℕ → ℕ → List ℕ → Slab SpoolBlock
 put_in s key place bytes =
     with_value s key (record { bytes = with_field place bytes (data_at s key); next = next_at s key })
 
@@ -60,7 +60,7 @@ module _ (on : OnChain) where
     pub extended : IsChained (put_in s ends.last (ends.len % 252) bytes)
         (set chains i (record { head = ends.head; last = ends.last; len = ends.len + length bytes })) capacity
     extended =
-        let block : Block =
+        let block : SpoolBlock =
         record { bytes = with_field (ends.len % 252) bytes (data_at s ends.last); next = next_at s ends.last } in
         chained_moved s _ chains i capacity ends _ chained within is
         (moves_put s chains i capacity ends chained within is ends.last (blocks_for ends.len - 1) (ends.len % 252)
@@ -98,7 +98,7 @@ module _ (on : OnChain) where
 
     pub overwritten : IsChained (put_in s key at bytes) chains capacity
     overwritten =
-        let block : Block = record { bytes = with_field at bytes (data_at s key); next = next_at s key } in
+        let block : SpoolBlock = record { bytes = with_field at bytes (data_at s key); next = next_at s key } in
         let has = has_key s chains i capacity ends chained within is key b at ends.len bytes near here fits refl in
         let same : set chains i ends ≡ chains = ap (set chains i) (sym is) ∙ set-get_or chains i ends in
         subst (λ xs. IsChained (put_in s key at bytes) xs capacity) same
@@ -124,7 +124,7 @@ module _ (on : OnChain) where
         ∙ ap (λ (x : Chain). record { keys = x.keys; bytes = with_field place bytes x.bytes }) (sym old))
 
   -- a block's bytes behind the others
-  module _ (t1 : Slab Block) (k : ℕ) (bytes : List ℕ) (some : 0 < length bytes) (short : length bytes ≤ 252)
+  module _ (t1 : Slab SpoolBlock) (k : ℕ) (bytes : List ℕ) (some : 0 < length bytes) (short : length bytes ≤ 252)
       (vacant : get s k ≡ None) (updates : Updates s t1 k (Some (block_with bytes 0)))
       (more : slab_len t1 ≡ slab_len s + 1)
       (room : t1.capacity ≡ s.capacity) (free : slab_len s < capacity) where
@@ -157,7 +157,7 @@ module _ (on : OnChain) where
           (ap (λ (ks : List ℕ). take (length ks) (k ∷ [])) no_keys ∙ sym no_keys)
 
     module _ (filled : ends.len ≡ 252 * blocks_for ends.len) (any : 0 < ends.len) where
-      abbrev linked_to : Slab Block
+      abbrev linked_to : Slab SpoolBlock
       linked_to = with_value t1 ends.last (record { bytes = data_at t1 ends.last; next = k })
 
       pub has_last_block : ContainsKey t1 ends.last
@@ -170,7 +170,7 @@ module _ (on : OnChain) where
       pub linked : IsChained linked_to (set chains i (record
           { head = ends.head; last = k; len = ends.len + length bytes })) capacity
       linked =
-          let block : Block = record { bytes = data_at t1 ends.last; next = k } in
+          let block : SpoolBlock = record { bytes = data_at t1 ends.last; next = k } in
           chained_moved s _ chains i capacity ends _ chained within is
           (moves_next s t1 k bytes short vacant updates more room chains i capacity ends chained within is some filled
           any)

@@ -3,10 +3,10 @@
 //! All memory is taken by `open`.
 
 mod appending;
-pub mod block;
 pub mod chain_block;
 pub mod chain_ends;
 mod laws;
+pub mod spool_block;
 mod string_places;
 
 ghost use Rattle.std.specs.Prelude.{◌≡◌, ℕ, ◌+◌, ◌<◌, ◌≤◌, ◌==◌, ◌++◌, length, replicate, count_by, sum_by, IfOk, All};
@@ -15,19 +15,19 @@ ghost use Rattle.njh_spool.specs.code.Chains.{empty_chain, chain_at, with_chain,
 ghost use Rattle.njh_spool.specs.code.Chains.{blocks_used, Grows, IsBlockOf, IsNear};
 ghost use Rattle.njh_table.specs.Limits.{max_capacity};
 
-use block::{BLOCK_DATA, Block};
 use chain_block::ChainBlock;
 use chain_ends::{ChainEnds, empty_chains};
 pub use laws::each_block_lies_once;
 use njh_record::Record;
 use slab::Slab;
+use spool_block::{BLOCK_DATA, SpoolBlock};
 use std::alloc::{AllocError, Global};
 use std::marker::Model;
 
 /// The strings of all chains.
 #[derive(Drop)]
 pub struct BlockStore {
-    blocks: Slab<Block>,
+    blocks: Slab<SpoolBlock>,
     chains: Vec<ChainEnds>,
     capacity: u32,
 }

@@ -2,13 +2,13 @@
 use Rattle.std.specs.Prelude.{◌≡◌, ℕ, ◌<◌, List}
 use Rattle.slab.specs.Slab.{Slab}
 use Rattle.njh_table.specs.Limits.{max_files}
-use Rattle.njh_spool.specs.declared.store.block.Block.{Block}
+use Rattle.njh_spool.specs.declared.store.spool_block.SpoolBlock.{SpoolBlock}
 use Rattle.njh_spool.specs.declared.store.chain_ends.ChainEnds.{ChainEnds}
 use Rattle.njh_spool.specs.code.ChainedBlocks.{times_at}
 use Rattle.njh_spool.specs.code.Slots.{place_of}
 
 -- A key stands once among the blocks of one file of one customer, and among those of no other file.
-pub record LiesInOneFile (blocks : Slab Block) (chains : List ChainEnds) (customers key : ℕ) : Type 0 where
+pub record LiesInOneFile (blocks : Slab SpoolBlock) (chains : List ChainEnds) (customers key : ℕ) : Type 0 where
   pub customer : ℕ
   pub number : ℕ
   pub known : customer < customers

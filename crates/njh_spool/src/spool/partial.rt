@@ -14,7 +14,7 @@ use crate::laws::quotas_leave_room;
 use crate::record_places::{RECORD_HEAD, head_of};
 use crate::slot_places::{free_number, place, slot_at};
 use crate::spool::Spool;
-use crate::store::block::BLOCK_DATA;
+use crate::store::spool_block::BLOCK_DATA;
 use crate::{SpoolFault, State};
 use njh_record::Kind;
 

@@ -4,8 +4,8 @@ ghost use Rattle.std.specs.Prelude.{◌≡◌, ◌+◌, ◌*◌, ◌<◌, ◌≤
 ghost use Rattle.njh_spool.specs.code.Chains.{Grows, chain_at, with_chain, with_bytes, blocks_of, blocks_used};
 
 use crate::store::BlockStore;
-use crate::store::block::{BLOCK_DATA, Block, link, put};
 use crate::store::chain_ends::ChainEnds;
+use crate::store::spool_block::{BLOCK_DATA, SpoolBlock, link, put};
 
 impl BlockStore {
     /// How many bytes more go into the last block of a chain.
@@ -60,7 +60,7 @@ impl BlockStore {
         requires room { blocks_used self.old < self.old.capacity }
         ensures { Grows chain bytes.now self.old self.new }
     {
-        let key = self.blocks.insert_reserved(Block::of(bytes)) as u32;
+        let key = self.blocks.insert_reserved(SpoolBlock::of(bytes)) as u32;
         self.chains[chain as usize] = ChainEnds {
             head: key,
             last: key,
@@ -79,7 +79,7 @@ impl BlockStore {
         ensures { Grows chain bytes.now self.old self.new }
     {
         let old = self.chains[chain as usize];
-        let key = self.blocks.insert_reserved(Block::of(bytes)) as u32;
+        let key = self.blocks.insert_reserved(SpoolBlock::of(bytes)) as u32;
         link(&mut self.blocks, old.last, key);
         self.chains[chain as usize] = ChainEnds {
             head: old.head,

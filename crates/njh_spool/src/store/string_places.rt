@@ -5,8 +5,8 @@ ghost use Rattle.njh_record.specs.Bytes.{field, with_field};
 ghost use Rattle.njh_spool.specs.code.Chains.{chain_at, with_bytes, IsBlockOf, IsNear};
 
 use crate::store::BlockStore;
-use crate::store::block::{BLOCK_DATA, put};
 use crate::store::chain_block::{ChainBlock, FIRST_BLOCK};
+use crate::store::spool_block::{BLOCK_DATA, put};
 use njh_record::Record;
 
 impl BlockStore {

@@ -1,6 +1,6 @@
 use Rattle.std.proofs.Common.{◌≡◌, ◌<◌, Some, subst, arith}
 use Rattle.slab.specs.Slab.{slab_len, Updates}
-use Rattle.njh_spool.specs.declared.store.block.Block.{Block}
+use Rattle.njh_spool.specs.declared.store.spool_block.SpoolBlock.{SpoolBlock}
 use Rattle.njh_spool.proofs.ChainLaws.{used_is}
 use Rattle.njh_spool.proofs.ChainWrites.{begun, grows_begun}
 use Rattle.njh_spool.proofs.ChainPlaces.{on_chain, len_on, used_on}
@@ -16,7 +16,7 @@ insert_reserved-key-requires c =
 pub invariant_of-self : goal.invariant_of-self
 invariant_of-self c =
     let on = on_chain c.self.inside c.args.self.now c.args.chain c.self.invariant c.self.view_is c.requires.chain in
-    let updates = subst (λ (b : Block). Updates c.self.inside.blocks c.insert_reserved-key.new.self
+    let updates = subst (λ (b : SpoolBlock). Updates c.self.inside.blocks c.insert_reserved-key.new.self
     c.insert_reserved-key.result (Some b))
     c.of.ensures c.insert_reserved-key.ensures.updates in
     let used = used_on on in
@@ -31,7 +31,7 @@ invariant_of-self c =
 pub returns : goal.returns
 returns c =
     let on = on_chain c.self.inside c.args.self.now c.args.chain c.self.invariant c.self.view_is c.requires.chain in
-    let updates = subst (λ (b : Block). Updates c.self.inside.blocks c.insert_reserved-key.new.self
+    let updates = subst (λ (b : SpoolBlock). Updates c.self.inside.blocks c.insert_reserved-key.new.self
     c.insert_reserved-key.result (Some b))
     c.of.ensures c.insert_reserved-key.ensures.updates in
     let used = used_on on in

@@ -1,6 +1,6 @@
 use Rattle.std.proofs.Common.{◌≡◌, ◌*◌, ◌<◌, Some, sym, subst, arith}
 use Rattle.slab.specs.Slab.{slab_len, Updates}
-use Rattle.njh_spool.specs.declared.store.block.Block.{Block}
+use Rattle.njh_spool.specs.declared.store.spool_block.SpoolBlock.{SpoolBlock}
 use Rattle.njh_spool.specs.code.Chains.{blocks_for}
 use Rattle.njh_spool.proofs.ChainLaws.{used_is}
 use Rattle.njh_spool.proofs.ChainWrites.{has_last_block, fits_longer, linked, grows_linked}
@@ -19,7 +19,7 @@ link-requires c =
     let on = on_ends c.self.inside c.args.self.now c.args.chain c.index-old.result.now c.self.invariant c.self.view_is
     c.requires.chain
     (sym c.index-old.ensures) in
-    let updates = subst (λ (b : Block). Updates c.self.inside.blocks c.insert_reserved-key.new.self
+    let updates = subst (λ (b : SpoolBlock). Updates c.self.inside.blocks c.insert_reserved-key.new.self
     c.insert_reserved-key.result (Some b))
     c.of.ensures c.insert_reserved-key.ensures.updates in
     let used = used_on on in
@@ -38,7 +38,7 @@ overflow_add-old c =
     let on = on_ends c.self.inside c.args.self.now c.args.chain c.index-old.result.now c.self.invariant c.self.view_is
     c.requires.chain
     (sym c.index-old.ensures) in
-    let updates = subst (λ (b : Block). Updates c.self.inside.blocks c.insert_reserved-key.new.self
+    let updates = subst (λ (b : SpoolBlock). Updates c.self.inside.blocks c.insert_reserved-key.new.self
     c.insert_reserved-key.result (Some b))
     c.of.ensures c.insert_reserved-key.ensures.updates in
     let used = used_on on in
@@ -58,7 +58,7 @@ invariant_of-self c =
     let on = on_ends c.self.inside c.args.self.now c.args.chain c.index-old.result.now c.self.invariant c.self.view_is
     c.requires.chain
     (sym c.index-old.ensures) in
-    let updates = subst (λ (b : Block). Updates c.self.inside.blocks c.insert_reserved-key.new.self
+    let updates = subst (λ (b : SpoolBlock). Updates c.self.inside.blocks c.insert_reserved-key.new.self
     c.insert_reserved-key.result (Some b))
     c.of.ensures c.insert_reserved-key.ensures.updates in
     let used = used_on on in
@@ -77,7 +77,7 @@ returns c =
     let on = on_ends c.self.inside c.args.self.now c.args.chain c.index-old.result.now c.self.invariant c.self.view_is
     c.requires.chain
     (sym c.index-old.ensures) in
-    let updates = subst (λ (b : Block). Updates c.self.inside.blocks c.insert_reserved-key.new.self
+    let updates = subst (λ (b : SpoolBlock). Updates c.self.inside.blocks c.insert_reserved-key.new.self
     c.insert_reserved-key.result (Some b))
     c.of.ensures c.insert_reserved-key.ensures.updates in
     let used = used_on on in

@@ -12,12 +12,12 @@ pub const BLOCK_DATA: usize = 252;
 
 /// A block's data, and the key of the next block of its chain, where there is one.
 #[derive(Clone, Copy)]
-pub struct Block {
+pub struct SpoolBlock {
     pub bytes: [u8; BLOCK_DATA],
     pub next: u32,
 }
 
-impl Block {
+impl SpoolBlock {
     /// A block that begins with these bytes.
     pub fn of(bytes: &[u8]) -> Self
         requires { length bytes.now ≤ 252 }
@@ -25,7 +25,7 @@ impl Block {
     {
         let mut data = [0; BLOCK_DATA];
         data[..bytes.len()].copy_from_slice(bytes);
-        Block {
+        SpoolBlock {
             bytes: data,
             next: 0,
         }
@@ -33,7 +33,7 @@ impl Block {
 }
 
 /// Links a block to another.
-pub fn link(blocks: &mut Slab<Block>, key: u32, next: u32)
+pub fn link(blocks: &mut Slab<SpoolBlock>, key: u32, next: u32)
     requires { ContainsKey blocks.old key }
     ensures { blocks.new ≡ with_value blocks.old key (record { bytes = data_at blocks.old key; next = next }) }
 {
@@ -41,7 +41,7 @@ pub fn link(blocks: &mut Slab<Block>, key: u32, next: u32)
 }
 
 /// Writes bytes at a place of a block.
-pub fn put(blocks: &mut Slab<Block>, key: u32, place: usize, bytes: &[u8])
+pub fn put(blocks: &mut Slab<SpoolBlock>, key: u32, place: usize, bytes: &[u8])
     requires block { ContainsKey blocks.old key }
     requires within { place + length bytes.now ≤ 252 }
     ensures { blocks.new ≡ with_value blocks.old key

@@ -1,6 +1,6 @@
 use Rattle.std.proofs.Common.{ℕ, List, ◌++◌, length, replicate, drop, ap, ◌∙◌}
 use Rattle.std.proofs.lemmas.List.{drop-replicate}
-use Rattle.njh_spool.proofs.store.block.Block.of.Goals as goal
+use Rattle.njh_spool.proofs.store.spool_block.SpoolBlock.of.Goals as goal
 
 pub returns : goal.returns
 returns c =
