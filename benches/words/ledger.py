@@ -5,14 +5,14 @@ the wrong bodies that the gate refuses because of it, and at the end every publi
     python3 -B benches/words/ledger.py            # writes it
     python3 -B benches/words/ledger.py --check    # writes nothing; says whether it is what would be written
 
-docs/promises.txt is copied as it stands, but for these lines; what goes on in the next line is indented there:
+docs/promises.txt is copied as it is, but for these lines; what goes on in the next line is indented there:
 
     njh_hub: Hub::take, two_runs        functions of a crate that carry the promise, public or not
     refused: drops_a_second_frame       wrong bodies of the promise
     contents                            where the promises are listed
     calls that can refuse               where these are listed
 
-A wrong body that no such line names stands at each promise that names a function at which it falls, as the edit's first
+A wrong body that no such line names is told at each promise that names a function at which it falls, as the edit's first
 line has it. A function, a clause or a wrong body that the sources don't have, and a wrong body without a promise, are
 errors. The status is 1 if there is one, or if with --check the page is another."""
 
@@ -125,7 +125,7 @@ def listed(names):
 
 
 def with_clauses(functions):
-    """Functions with their clauses; those that follow each other and have the same stand together."""
+    """Functions with their clauses; those that follow each other and have the same are told together."""
     texts = []
     same = lambda one: ([*filter(None, one.ensures)], one.requires)
     for (ensures, requires), group in itertools.groupby(functions, same):
@@ -195,7 +195,7 @@ class Ledger:
         self.errors += [f"promises.txt: no crate {crate}" for crate in unknown]
 
     def carry(self, crate, names):
-        """Functions of a crate with their clauses, its laws behind the others."""
+        """Functions of a crate with their clauses, its laws after the others."""
         table = self.tables[crate]
         self.errors += [f"promises.txt: {crate} has no function {name}" for name in names if name not in table]
         ones = [table[name] for name in names if name in table]
@@ -212,7 +212,7 @@ class Ledger:
             self.lines += point(text)
 
     def end(self, placed):
-        """The wrong bodies of the promise that ends here. Of one that stands above already the name is enough."""
+        """The wrong bodies of the promise that ends here. Of one that is told above already the name is enough."""
         others = [body for body in self.bodies.values() if body.name not in placed]
         falls = [body.name for body in others if any((body.crate, name) in self.own for name in body.functions)]
         names, texts = [*self.refused, *falls], []
@@ -229,7 +229,7 @@ class Ledger:
         self.own, self.refused = set(), []
 
     def refusals(self):
-        """Every public call that can answer a fault. The clauses of one that a promise has stand there."""
+        """Every public call that can answer a fault. The clauses of one that a promise has are told there."""
         for crate, table in self.tables.items():
             by_fault = collections.defaultdict(list)
             for one in table.values():
