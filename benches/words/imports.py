@@ -1,9 +1,9 @@
 #!/usr/bin/env python3
 """Which imports of the sources lead nowhere. Each `use` of a .rt file is followed through crates, modules, items and
-variants, as far as each shows them to others; each `use` of an .antt file, and each `ghost use`, through the definitions
-of specs/ and proofs/, and through the types, variants, constants and functions of the code for which the toolchain makes
-a module. What is imported of std and of the toolchain's crates is left alone. A `mod` line without its file, and a file
-without its `mod` line, are told too. names.py prints what is found here."""
+variants, as far as each shows them to others; each `use` of an .antt file, and each `ghost use`, through definitions
+and proofs, and through the types, variants, constants and functions of the code for which the toolchain makes a module.
+What is imported of std and of the toolchain's crates is left alone. A `mod` line without its file, and a file without
+its `mod` line, are told too. names.py prints what is found here."""
 
 import functools
 import pathlib
@@ -63,7 +63,7 @@ def spec_uses(text):
 
 
 def names_in(text):
-    """The names that an .antt file defines, with whether others see each: constructors and fields go with their type."""
+    """The names that an .antt file defines, and whether others see each; constructors and fields go with their type."""
     names, holds = {}, False
     for line in text.split("\n"):
         words = line.split()

@@ -12,8 +12,8 @@ docs/promises.txt is copied as it is, but for these lines; what goes on in the n
     contents                            where the promises are listed
     calls that can refuse               where these are listed
 
-A wrong body that no such line names is told at each promise that names a function at which it falls, as the edit's first
-line has it. A function, a clause or a wrong body that the sources don't have, and a wrong body without a promise, are
+A wrong body that no such line names is told at each promise that names a function at which it falls, as the first line
+of the edit has it. A function, a clause or a wrong body that the sources don't have, and a wrong body without a promise, are
 errors. The status is 1 if there is one, or if with --check the page is another."""
 
 import collections

@@ -1,8 +1,8 @@
 #!/usr/bin/env python3
 """Whether the documents name what there is. Prints each name in backquotes of README.md and docs/*.md that stands in no
 source file, each wrong body that docs/PROMISES.md leaves out, each clause, as in `Hub::take`: `taken`, `step`, that no
-function of that name has, and each import of the sources that leads nowhere (imports.py). Nothing printed: all are right.
-The status is 1 if something is printed."""
+function of that name has, and each import of the sources that leads nowhere (imports.py). If nothing is printed all are
+right, else the status is 1."""
 
 import pathlib
 import re
@@ -28,7 +28,8 @@ def sources():
 
 def named(text):
     """The names in backquotes, outside blocks of code, with their lines. Bytes, times and places of fields are none."""
-    for number, line in enumerate(re.sub(r"```.*?```", lambda m: "\n" * m[0].count("\n"), text, flags=re.S).split("\n"), 1):
+    text = re.sub(r"```.*?```", lambda m: "\n" * m[0].count("\n"), text, flags=re.S)
+    for number, line in enumerate(text.split("\n"), 1):
         for quoted in re.findall(r"`([^`]+)`", line):
             if not re.search(r"[0-9a-f]{6}|\d{4}-\d\d|[A-Z]{4}\b(?!_)|\\x", quoted):
                 yield from ((number, word) for word in WORD.findall(quoted) if len(word) > 2)
@@ -49,8 +50,8 @@ def main():
         wrong += [f"{path.name}:{number}: {word}" for number, word in named(text) if word not in words]
         for call, names in CLAUSES.findall(re.sub(r"\s+", " ", text)):
             has = clauses.get(call.split("::")[-1])
-            missing = [] if has is None else [name for name in re.findall(r"\w+", names.replace(" and ", " ")) if name not in has]
-            wrong += [f"{path.name}: `{call}`: {name}" for name in missing]
+            told = [] if has is None else re.findall(r"\w+", names.replace(" and ", " "))
+            wrong += [f"{path.name}: `{call}`: {name}" for name in told if name not in has]
     told = (ROOT / "docs/PROMISES.md").read_text(encoding="utf-8")
     wrong += [f"PROMISES.md: {body}" for body in sorted(bodies) if f"`{body}`" not in told]
     wrong += wrong_imports()
