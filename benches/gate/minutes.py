@@ -64,7 +64,8 @@ class Run:
     """What was seen of a run."""
 
     def __init__(self, root):
-        self.root, self.kinds, self.used, self.most, self.alone = root, {}, {}, collections.Counter(), collections.Counter()
+        self.root, self.kinds, self.used = root, {}, {}
+        self.most, self.alone = collections.Counter(), collections.Counter()
 
     def look(self):
         """Looks at the processes below the run's own."""
@@ -136,7 +137,8 @@ def main():
     used = resource.getrusage(resource.RUSAGE_CHILDREN)
     run.table()
     minutes = (used.ru_utime + used.ru_stime) / 60
-    print(f"{minutes:.0f} minutes of CPU, {(time.monotonic() - begin) / 60:.0f} of wall time, on {len(os.sched_getaffinity(0))} processors")
+    wall, processors = (time.monotonic() - begin) / 60, len(os.sched_getaffinity(0))
+    print(f"{minutes:.0f} minutes of CPU, {wall:.0f} of wall time, on {processors} processors")
     sys.exit(process.returncode)
 
 

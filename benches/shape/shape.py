@@ -3,10 +3,11 @@
 
     python3 benches/shape/shape.py [--tests] [the top of another clone]
 
-A row for each crate (with --tests those that only try others too): lines of code, of definitions (specs/) and of proofs,
-a line longer than 120 columns counted as the lines of 120 that it would be; functions, and how many of them have more
-than three arguments, `self` not counted; clauses (`requires` and `ensures`) for a function that has any; lines of
-contracts for each line of bodies; wrong bodies in must-fail; lines of code over 100 columns. The last row sums up.
+A row for each crate (with --tests those that only try others too): lines of code, of definitions (specs/) and of
+proofs, a line longer than 120 columns counted as the lines of 120 that it would be; functions, and how many of them
+have more than three arguments, `self` not counted; clauses (`requires` and `ensures`) for a function that has any;
+lines of contracts for each line of bodies; wrong bodies in must-fail; lines of code over 100 columns. The last row sums
+up.
 """
 
 import argparse
@@ -39,7 +40,7 @@ def closing(text, start, pair):
 
 
 def arguments_in(inner):
-    """How many arguments stand between a function's parentheses, `self` not counted."""
+    """How many arguments are between a function's parentheses, `self` not counted."""
     parts, depth, part = [], 0, ""
     for place, sign in enumerate(inner):
         depth += (sign in "([{<") - (sign in ")]}" or (sign == ">" and inner[place - 1] != "-"))
@@ -54,21 +55,24 @@ def arguments_in(inner):
 def functions_in(text):
     """Each function's arguments, clauses, and lines of its contract and of its body."""
     for match in FUNCTION.finditer(text):
-        # a parameter list stands behind the type parameters
+        # a parameter list comes after the type parameters
         begin = text.find("(", match.end())
         if begin < 0:
             continue
         end = closing(text, begin, "()")
         stop = re.compile(r"^ *\{ *$|\{ *$|;$", re.M)
         place = end
-        while (found := stop.search(text, place)) and text.count("{", end, found.start()) != text.count("}", end, found.start()):
+        while found := stop.search(text, place):
+            if text.count("{", end, found.start()) == text.count("}", end, found.start()):
+                break
             place = found.end()
         if not found:
             continue
         contract = text[end : found.start()]
         body = closing(text, found.start() + found[0].index("{"), "{}") if "{" in found[0] else found.end()
         clauses = len(CLAUSE.findall(contract))
-        yield arguments_in(text[begin + 1 : end - 1]), clauses, contract.count("\n") * bool(clauses), text.count("\n", found.start(), body)
+        lines = contract.count("\n") * bool(clauses), text.count("\n", found.start(), body)
+        yield arguments_in(text[begin + 1 : end - 1]), clauses, *lines
 
 
 def row_of(crate):
@@ -97,7 +101,8 @@ def row_of(crate):
 def shown(name, row):
     clauses = f"{row['clauses'] / row['bound']:.1f}" if row["bound"] else "-"
     ratio = f"{row['contract'] / row['body']:.2f}" if row["body"] else "-"
-    cells = [row["code"], row["specs"], row["proofs"], row["fns"], row[">3 args"], clauses, ratio, row["edits"], row[">100"]]
+    sizes = [row[column] for column in ("code", "specs", "proofs", "fns", ">3 args")]
+    cells = [*sizes, clauses, ratio, row["edits"], row[">100"]]
     return f"{name:<17}" + "".join(f"{cell:>{max(8, len(column) + 1)}}" for column, cell in zip(COLUMNS[1:], cells))
 
 
@@ -106,7 +111,8 @@ def main():
     words.add_argument("--tests", action="store_true")
     words.add_argument("top", nargs="?", default=pathlib.Path(__file__).resolve().parents[2], type=pathlib.Path)
     asked = words.parse_args()
-    names = [line.split(":")[0] for line in (asked.top / "crates.txt").read_text().splitlines() if line and line[0] != "#"]
+    lines = (asked.top / "crates.txt").read_text().splitlines()
+    names = [line.split(":")[0].split()[0] for line in lines if line and line[0] != "#"]
     print(f"{COLUMNS[0]:<17}" + "".join(f"{column:>{max(8, len(column) + 1)}}" for column in COLUMNS[1:]))
     total = {}
     for name in names:
