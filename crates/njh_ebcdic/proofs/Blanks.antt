@@ -39,7 +39,7 @@ pub trimmed-other : (bytes front : List ℕ) (last : ℕ) → bytes ≡ front ++
 trimmed-other bytes front last is other =
     ap without_end_blanks is ∙ trimmed-push front last (ne_eqb last 0x40 other) ∙ sym is
 
--- blanks behind go
+-- blanks at the end go
 pub trimmed-append_blanks : (bytes : List ℕ) (count : ℕ)
     → without_end_blanks (bytes ++ replicate count 0x40) ≡ without_end_blanks bytes
 trimmed-append_blanks bytes zero = ap without_end_blanks (append-nil bytes)

@@ -57,7 +57,7 @@ character_of-byte byte character is =
     (option_map (λ (other : ℕ × ℕ). other.1) (find (λ other. eqb other.0 pair.0) table))) table at.0 at.1 refl in
     ap character_of (sym at.2) ∙ (is_just-true _ _ known.1 ∙ ap Some (eqb-true _ character known.0))
 
--- a test that a condition brings about, where both are computed
+-- a test that a condition brings about, if both are computed
 pub brings : (p q : Bool) → (not p || q) ≡ true → p ≡ true → q ≡ true
 brings true q holds is = holds
 brings false q holds is = absurd (false≢true is)

@@ -4,11 +4,11 @@ use Rattle.std.specs.Prelude.{slice_index, unwrap_or}
 use Rattle.njh_ebcdic.specs.Names.{within}
 use Rattle.njh_ebcdic.specs.declared.code_page.TheConstants.{PAGE}
 
--- the character of a byte, or a full stop where nothing is seen
+-- the character of a byte, or a full stop if nothing is seen
 unfoldable pub page_character : ℕ → ℕ
 page_character byte = cond (slice_index PAGE byte == 0) 46 (slice_index PAGE byte)
 
--- the byte of a character: its place in the page, or 0 where it has none
+-- the byte of a character: its place in the page, or 0 if it has none
 unfoldable pub page_byte : ℕ → ℕ
 page_byte character = unwrap_or (position (λ known. known == character) PAGE) 0
 

@@ -7,15 +7,14 @@ ghost use Rattle.njh_ebcdic.specs.Names.{ebcdic_byte, upper};
 
 use crate::code_page::{place_of, seen_character};
 use crate::fields::BLANK;
-use crate::laws::characters_and_bytes;
 
 /// What is shown of a byte that has no character.
 const NONE: char = '?';
 
-/// How far a capital stands behind its lower-case letter.
+/// How far a capital's byte is above that of its lower-case letter.
 const CASE: u8 = 0x40;
 
-/// The character of a byte, or `?` where it has none.
+/// The character of a byte, or `?` if it has none.
 pub fn text_of(byte: u8) -> char
     ensures { result ≡ printed_character byte }
 {
@@ -31,7 +30,6 @@ pub fn text_of(byte: u8) -> char
 pub fn byte_of(character: char) -> Option<u8>
     ensures { result ≡ byte_of_character character }
 {
-    characters_and_bytes();
     match character {
         // Names are made of these, so they are found without a look through the page.
         'A'..='Z' | '0'..='9' => Some(plain_byte(character as u8)),

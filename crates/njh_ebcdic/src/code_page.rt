@@ -7,7 +7,7 @@ ghost use Rattle.njh_ebcdic.specs.CodePage.{character_words, is_seen, page_byte,
 
 use std::alloc::AllocError;
 
-/// The character of each byte, by its number in Unicode, and 0 where nothing is seen: of controls,
+/// The character of each byte, by its number in Unicode, and 0 if nothing is seen: of controls,
 /// of the blank that doesn't break (41) and of the hyphen that is seen only where a word is parted
 /// (CA).
 static PAGE: [u8; 256] = [
@@ -47,7 +47,7 @@ pub fn bytes_are_told()
     ensures back { (character : ℕ) → 0 < page_byte character → page_character (page_byte character) ≡ character }
 {}
 
-/// The character of a byte, and 0 where nothing is seen.
+/// The character of a byte, and 0 if nothing is seen.
 pub(crate) fn seen_character(byte: u8) -> u8
     ensures { result ≡ slice_index PAGE byte }
 {
@@ -63,7 +63,7 @@ pub(crate) fn place_of(character: char) -> Option<usize>
         .position(|known| char::from(*known) == character)
 }
 
-/// The byte of a character, and 0 where it has none.
+/// The byte of a character, and 0 if it has none.
 #[tactic(auto, unfolding(crate::specs::CodePage::page_byte))]
 pub fn page_byte(character: char) -> u8
     ensures { result ≡ page_byte character }
@@ -74,7 +74,7 @@ pub fn page_byte(character: char) -> u8
     }
 }
 
-/// The character of a byte, or a full stop where nothing is seen.
+/// The character of a byte, or a full stop if nothing is seen.
 #[tactic(auto, unfolding(crate::specs::CodePage::page_character))]
 fn page_character(byte: u8) -> u8
     ensures { result ≡ page_character byte }

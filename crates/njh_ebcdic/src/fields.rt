@@ -1,10 +1,10 @@
-//! Fields of eight bytes: what makes one a name, and the blanks behind it.
+//! Fields of eight bytes: what makes one a name, and the blanks after it.
 
 ghost use Rattle.std.specs.Prelude.{◌≡◌, ◌≤◌, length};
 ghost use Rattle.std.specs.List.{list_all};
 ghost use Rattle.njh_ebcdic.specs.Names.{is_name as names, is_name_byte as name_byte, padded_field, without_end_blanks};
 
-/// What fills a field behind its characters.
+/// What fills a field after its characters.
 pub const BLANK: u8 = 0x40;
 
 /// How many bytes a field has.
@@ -24,7 +24,7 @@ pub fn trim_blanks(bytes: &[u8]) -> &[u8]
     rest
 }
 
-/// A word of at most eight bytes, with blanks behind it: as it stands in a field.
+/// A word of at most eight bytes, with blanks after it: as it is in a field.
 pub fn pad(word: &[u8]) -> [u8; FIELD]
     requires { length word.now ≤ 8 }
     ensures { result ≡ padded_field word.now }

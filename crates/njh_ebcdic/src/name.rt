@@ -23,7 +23,7 @@ pub enum NameFault {
     BadCharacter,
 }
 
-/// Eight bytes of EBCDIC: 1 to 8 of A to Z, 0 to 9, `$`, `#`, `@`, and blanks behind them.
+/// Eight bytes of EBCDIC: 1 to 8 of A to Z, 0 to 9, `$`, `#`, `@`, and blanks after them.
 #[derive(Clone, Copy, Debug, PartialEq, Eq, PartialOrd, Ord, Hash)]
 pub struct Name {
     bytes: [u8; FIELD],
@@ -47,8 +47,8 @@ impl Name {
     ghost use Rattle.njh_ebcdic.specs.Names.{is_name, without_end_blanks};
     ghost use Rattle.njh_ebcdic.specs.Reading.{name_of_field, name_of_text, name_of_word};
 
-    /// The name that a field of eight bytes holds. `Empty` where the field is blank, else
-    /// `BadCharacter` where a byte before its last blanks is none of a name, a blank too.
+    /// The name that a field of eight bytes holds. `Empty` if the field is blank, else
+    /// `BadCharacter` if a byte before its last blanks is none of a name, a blank too.
     pub fn of_field(field: &[u8; 8]) -> Result<Name, NameFault>
         ensures read { result ≡ name_of_field field.now }
         ensures named { is_ok result ≡ is_name field.now }
@@ -122,7 +122,7 @@ impl Name {
     }
 }
 
-/// The characters of the name, without the blanks behind them.
+/// The characters of the name, without the blanks after them.
 impl fmt::Display for Name {
     ghost use Rattle.std.specs.Prelude.{Some};
     ghost use Rattle.njh_ebcdic.specs.Names.{without_end_blanks};
