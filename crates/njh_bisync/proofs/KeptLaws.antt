@@ -14,7 +14,7 @@ use Rattle.njh_bisync.specs.ByteSteps.{kept_with}
 abbrev kept_of : Bool → List ℕ → Option (List ℕ)
 kept_of bad held = if bad || nat_lt 4096 (length held) then None else Some held
 
--- where there is no room for one more the data is lost, by what it was already or by the new byte
+-- if there is no room for one more the data is lost, by what it was already or by the new byte
 full-kept_with : (t : Bool) (held : List ℕ) (byte : ℕ) → 4096 ≤ length held
     → kept_with (if t then None else Some held) byte ≡ None
 full-kept_with true held byte full = refl

@@ -92,7 +92,7 @@ plain_len-group n bytes within none =
     ap plain_len (sym (take-append-drop n bytes))
     ∙ (plain_len-append (take n bytes) (drop n bytes) plain ∙ ap (λ m. m + plain_len (drop n bytes)) size)
 
--- what is written of bytes in which no 10 stands, and of those that have one
+-- what is written of bytes without a 10, and of those that have one
 pub written-whole : (bytes : List ℕ) → length bytes ≤ plain_len bytes
     → flat_map bytes_of_data bytes ≡ take (plain_len bytes) bytes
 written-whole bytes past =
@@ -114,7 +114,7 @@ written-run bytes more byte at =
     (plain-written (take n bytes) (plain-front bytes))
     ∙ (ap (λ (xs : List ℕ). take n bytes ++ flat_map bytes_of_data xs) at ∙ rw same)))
 
--- such a run and the 10 behind it, written behind what is there
+-- such a run and the 10 after it, written after what is there
 pub put-run : (out run later written : List ℕ) (byte : ℕ) → written ≡ run ++ (0x10 ∷ byte ∷ later)
     → ((out ++ run) ++ (0x10 ∷ byte ∷ [])) ++ later ≡ out ++ written
 put-run out run later written byte is = rw is (simp append_assoc)

@@ -17,7 +17,7 @@ fed-begin more =
     let sum : 1 + (1 + later.taken) ≡ 2 + later.taken = omega arith in
     ap (λ (n : ℕ). record later { taken = n }) sum
 
--- what the second of two bytes does, where the first ends nothing
+-- what the second of two bytes does, if the first ends nothing
 after-two : (frame : Option Received) (rest : Rest) (first second : ℕ) (more : List ℕ)
     → ahead 1 (stop_or (record { frame = frame; rest = rest }) (feed_outcome rest more)) ≡ fed_on 2 frame rest
     (first ∷ second ∷ more)
@@ -27,7 +27,7 @@ after-two None rest first second more =
     let sum : 1 + (1 + later.taken) ≡ 2 + later.taken = omega arith in
     ap (λ (n : ℕ). record later { taken = n }) sum
 
--- in a text, a 10 and the byte behind it
+-- in a text, a 10 and the byte after it
 pub fed-control : (held : Option (List ℕ)) (byte : ℕ) (more : List ℕ)
     → feed_outcome (InText held false) (0x10 ∷ byte ∷ more)
     ≡ fed_on 2 (rest_step (InText held true) byte).frame (rest_step (InText held true) byte).rest (0x10 ∷ byte ∷ more)
@@ -52,7 +52,7 @@ fed-behind held bytes byte first long second =
     ap (feed_outcome (InText held false)) front
     ∙ (fed-control held byte (drop 2 bytes) ∙ ap (fed_on 2 after.frame after.rest) (sym front))
 
--- in a text, a 10 with nothing behind it, or with what is there
+-- in a text, a 10 with nothing after it, or with what is there
 one-front : (bytes : List ℕ) → get_or bytes 0 0 ≡ 0x10 → bytes ≡ 0x10 ∷ drop 1 bytes
 one-front [] first = absurd (omega (arith, first))
 one-front (head ∷ more) first = rw first refl
@@ -66,7 +66,7 @@ pub fed-dle : (held : Option (List ℕ)) (bytes : List ℕ) → get_or bytes 0 0
     → feed_outcome (InText held false) bytes ≡ ahead 1 (feed_outcome (InText held true) (drop 1 bytes))
 fed-dle held bytes first = ap (feed_outcome (InText held false)) (one-front bytes first) ∙ fed-open held (drop 1 bytes)
 
--- a run of plain bytes is not empty where the first is plain
+-- a run of plain bytes is not empty if the first is plain
 pub run-some : (bytes : List ℕ) → 0 < length bytes → (get_or bytes 0 0 ≡ 0x10 → ⊥) → 0 < plain_len bytes
 run-some [] some plain = absurd (omega (arith, some))
 run-some (byte ∷ more) some plain = rw (ne_eqb byte 0x10 plain) (omega arith)

@@ -7,7 +7,7 @@ ghost use Rattle.njh_bisync.specs.Calls.{Call, Feed, Reset, taken_by, given_by, 
 /// After `reset` the frames that are given are those of the bytes that are taken from then on, and
 /// of these alone: whatever was fed before, and whatever pieces they are fed in.
 ///
-/// Where each piece is fed on until it is used, the bytes that are taken are the pieces, one behind
+/// If each piece is fed on until it is used, the bytes that are taken are the pieces, one after
 /// another.
 pub fn reset_begins_afresh()
     // Nothing that was called before the last `reset` makes a difference.

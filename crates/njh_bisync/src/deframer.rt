@@ -43,7 +43,7 @@ impl Deframer {
         })
     }
 
-    /// Takes the bytes up to and including the end of the first frame, or the whole piece where no
+    /// Takes the bytes up to and including the end of the first frame, or the whole piece if no
     /// frame ends in it.
     ///
     /// It answers how many bytes that is, and the frame, whose text is lent until the next call.

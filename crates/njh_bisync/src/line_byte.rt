@@ -9,7 +9,7 @@ pub const STX: u8 = 0x02;
 /// After DLE: ends a text, the last of a transmission.
 pub const ETX: u8 = 0x03;
 
-/// Says that the byte behind it is a control.
+/// Says that the byte after it is a control.
 pub const DLE: u8 = 0x10;
 
 /// After DLE: ends a text.

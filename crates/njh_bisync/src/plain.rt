@@ -1,4 +1,4 @@
-//! Runs of bytes in which no DLE stands.
+//! Runs of bytes without a DLE.
 ghost use Rattle.std.specs.Prelude.{◌≡◌, ◌≤◌, length};
 ghost use Rattle.njh_bisync.specs.code.PlainBytes.{plain_len};
 
@@ -7,14 +7,14 @@ use crate::line_byte::DLE;
 /// How many bytes are searched at once.
 const GROUP: usize = 32;
 
-/// How many bytes stand before the first DLE, or all where there is none.
+/// How many bytes come before the first DLE, or all if there is none.
 #[tactic(auto, using(crate::proofs::PlainLaws::plain_within))]
 pub fn plain_len(bytes: &[u8]) -> usize
     ensures exact { result ≡ plain_len bytes.now }
     ensures within { result ≤ length bytes.now }
 {
     let mut rest = bytes;
-    'groups: while let Some((group, after)) = rest.split_first_chunk::<GROUP>() {
+    while let Some((group, after)) = rest.split_first_chunk::<GROUP>() {
         if group.contains(&DLE) {
             break;
         }

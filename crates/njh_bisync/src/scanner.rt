@@ -24,9 +24,9 @@ pub enum Place {
     Soh,
     /// Behind DLE outside a text.
     Dle,
-    /// Within a text, behind a whole unit.
+    /// Within a text, after a whole unit.
     Inside,
-    /// Within a text, behind DLE.
+    /// Within a text, after DLE.
     InsideDle,
 }
 
@@ -113,8 +113,8 @@ impl Scanner {
         self.place = Place::Between;
     }
 
-    /// Takes one byte, or the two that begin a text, or in a text all that stand before the next
-    /// DLE, or that DLE and the byte behind it: how many, and the frame that they end.
+    /// Takes one byte, or the two that begin a text, or in a text all that come before the next
+    /// DLE, or that DLE and the byte after it: how many, and the frame that they end.
     fn take_some(&mut self, bytes: &[u8]) -> (usize, Option<Ended>)
         requires { 0 < length bytes.now }
         ensures some { 0 < result.0 }
@@ -144,7 +144,7 @@ impl Scanner {
         (1, self.take(bytes[0]))
     }
 
-    /// In a text: takes all bytes that stand before the next DLE, or that DLE and the byte behind
+    /// In a text: takes all bytes that come before the next DLE, or that DLE and the byte after
     /// it.
     fn take_inside(&mut self, bytes: &[u8]) -> (usize, Option<Ended>)
         requires place { self.old.place ≡ Place.Inside }
@@ -163,7 +163,7 @@ impl Scanner {
         }
     }
 
-    /// Takes all bytes of a text that stand before the next DLE: how many.
+    /// Takes all bytes of a text that come before the next DLE: how many.
     fn take_run(&mut self, bytes: &[u8]) -> usize
         requires { self.old.place ≡ Place.Inside }
         ensures count { result ≡ plain_len bytes.now }
@@ -177,7 +177,7 @@ impl Scanner {
         count
     }
 
-    /// Takes one byte; where it ends a frame, that frame.
+    /// Takes one byte; if it ends a frame, that frame.
     #[tactic(auto, unfolding(crate::specs::ByteSteps::rest_step))]
     fn take(&mut self, byte: u8) -> Option<Ended>
         ensures frame { option_map (frame_in self.new.held.items) result
@@ -199,7 +199,7 @@ impl Scanner {
         }
     }
 
-    /// Takes the byte behind a DLE in a text; where it ends a frame, that frame.
+    /// Takes the byte after a DLE in a text; if it ends a frame, that frame.
     #[tactic(auto, unfolding(crate::specs::ByteSteps::rest_step))]
     fn take_control(&mut self, byte: u8) -> Option<Ended>
         ensures frame { option_map (frame_in self.new.held.items) result
@@ -245,7 +245,7 @@ impl Scanner {
         None
     }
 
-    /// Spoils the text where it has no room for the byte.
+    /// Spoils the text if it has no room for the byte.
     fn keep(&mut self, byte: u8) -> Option<Ended>
         ensures none { result ≡ None }
         ensures rest { rest_in self.new
@@ -259,7 +259,7 @@ impl Scanner {
         None
     }
 
-    /// Spoils the text where it has no room for the bytes.
+    /// Spoils the text if it has no room for the bytes.
     fn keep_all(&mut self, bytes: &[u8])
         requires { self.old.place ≡ Place.Inside }
         ensures rest { rest_in self.new

@@ -10,7 +10,7 @@ use crate::plain::plain_len;
 use std::alloc::AllocError;
 use std::mem;
 
-/// How many bytes stand around the data of a text.
+/// How many bytes there are around the data of a text.
 const FRAMING: usize = 4;
 
 /// Appends a text of these 0 to 4,096 bytes, each DLE doubled (IBM GA27-3004, transparent text).
@@ -93,7 +93,7 @@ fn text_len(data: &[u8]) -> usize
     FRAMING + data.len() + doubled
 }
 
-/// Makes room for a text, whose bytes are counted only where the room for as many DLE might be
+/// Makes room for a text, whose bytes are counted only if the room for as many DLE might be
 /// missing.
 #[tactic(auto, using(crate::proofs::WrittenLaws::lengths))]
 fn make_text_room(data: &[u8], out: &mut Vec<u8>) -> Result<(), AllocError>
@@ -112,7 +112,7 @@ fn make_text_room(data: &[u8], out: &mut Vec<u8>) -> Result<(), AllocError>
     make_room(out, text_len(data))
 }
 
-/// Asks for memory only where the room is missing.
+/// Asks for memory only if the room is missing.
 fn make_room(out: &mut Vec<u8>, count: usize) -> Result<(), AllocError>
     ensures items { out.new.items ≡ out.old.items }
     ensures room { OnOk result (vec_len out.new + count ≤ vec_capacity out.new) }
@@ -133,8 +133,8 @@ fn put_bytes(bytes: &[u8], out: &mut Vec<u8>)
     ensures items { out.new.items ≡ out.old.items ++ bytes.now }
     ensures capacity { vec_capacity out.new ≡ vec_capacity out.old }
 {
-    // While it is filled it stands apart, where no byte that is written can change its length or
-    // its place.
+    // While it is filled it is a value of its own, so that no byte that is written can change its
+    // length or its place.
     let mut filled = mem::replace(out, Vec::new(*out.allocator()));
     for byte in bytes {
         filled.push_reserved(*byte);
@@ -149,7 +149,7 @@ fn put_data(data: &[u8], out: &mut Vec<u8>)
     ensures capacity { vec_capacity out.new ≡ vec_capacity out.old }
 {
     let mut rest = data;
-    'runs: loop {
+    loop {
         let (run, after) = rest.split_at(plain_len(rest));
         put_bytes(run, out);
         let Some((byte, after)) = after.split_first() else {

@@ -6,7 +6,7 @@ use Rattle.njh_bisync.specs.Frames.{Received}
 use Rattle.njh_bisync.specs.Reading.{Rest}
 use Rattle.njh_bisync.specs.ByteSteps.{Fed, ahead, feed_outcome}
 
--- how many bytes stand before the first 10, or all where there is none
+-- how many bytes come before the first 10, or all if there is none
 abbrev pub plain_len : List ℕ → ℕ
 plain_len bytes = position_or_len (λ byte. byte == 0x10) bytes
 

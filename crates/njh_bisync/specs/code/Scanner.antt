@@ -1,4 +1,4 @@
--- What the scanner and what it finds stand for.
+-- What the scanner and what it finds mean.
 use Rattle.std.specs.Prelude.{ℕ, Bool, true, false, List, Option, Some, None}
 use Rattle.njh_bisync.specs.Frames as grammar
 use Rattle.njh_bisync.specs.Frames.{Received}
