@@ -9,6 +9,8 @@ use Rattle.njh_record.specs.Spelling.{Spelling}
 use Rattle.njh_record.specs.Unspelled.{Unspelled, record_at_front, Fault, ReadsAs}
 use Rattle.njh_record.specs.declared.End.{End}
 use Rattle.njh_record.specs.declared.End.TheVariants.{Record, Abort}
+use Rattle.njh_record.proofs.ReadBack.{unspelled-spelling}
+use Rattle.njh_record.proofs.ReadingLaws.{found}
 use Rattle.njh_block.specs.declared.fault.BlockFault.{BlockFault}
 use Rattle.njh_block.specs.declared.fault.BlockFault.TheVariants.{TooShort, BadBcb, BadFcs, BadRcb, BadRecord}
 use Rattle.njh_block.specs.declared.rcb.ControlRcb.{ControlRcb}
@@ -86,76 +88,72 @@ item-covers rcb srcb Record contents rest spelling is s =
 item-covers rcb srcb Abort contents rest spelling is s =
     (contents, record { form = is; spelling = spelling; parts = refl; spelled = s })
 
--- found: what is unspelled stands so; again: a spelling is read, whatever follows it
-module _ (found : (bytes : List ℕ) → AreBytes bytes → ReadsAs bytes (record_at_front bytes))
-    (again : (spelling contents rest : List ℕ) (end : End) → Spelling spelling contents end
-    → record_at_front (spelling ++ rest) ≡ Ok (record { contents = contents; end = end; rest = rest })) where
-  record_of_spelling-stands : (rcb srcb : ℕ) (rest : List ℕ) (read : Result Unspelled Fault)
-      → form_of rcb ≡ form.Spelled → 0x80 ≤ rcb
-      → ReadsAs rest read → Stands (rcb ∷ srcb ∷ rest) (record_of_spelling rcb srcb read)
-  record_of_spelling-stands rcb srcb rest (Ok r) is high reads = (
-    rcb ∷ srcb ∷ reads.0,
-    ap
-        (λ (bytes : List ℕ). rcb ∷ srcb ∷ bytes) reads.2,
-    item-covers rcb srcb r.end r.contents r.rest reads.0 is reads.1,
-  )
-  record_of_spelling-stands rcb srcb rest (Err e) is high reads = (rcb, srcb ∷ rest, refl, high)
+record_of_spelling-stands : (rcb srcb : ℕ) (rest : List ℕ) (read : Result Unspelled Fault)
+    → form_of rcb ≡ form.Spelled → 0x80 ≤ rcb
+    → ReadsAs rest read → Stands (rcb ∷ srcb ∷ rest) (record_of_spelling rcb srcb read)
+record_of_spelling-stands rcb srcb rest (Ok r) is high reads = (
+  rcb ∷ srcb ∷ reads.0,
+  ap
+      (λ (bytes : List ℕ). rcb ∷ srcb ∷ bytes) reads.2,
+  item-covers rcb srcb r.end r.contents r.rest reads.0 is reads.1,
+)
+record_of_spelling-stands rcb srcb rest (Err e) is high reads = (rcb, srcb ∷ rest, refl, high)
 
-  record_of_form-stands : (f : Form) (rcb srcb : ℕ) (rest : List ℕ) → form_of rcb ≡ f → FormFact f rcb → AreBytes rest
-      → Stands (rcb ∷ srcb ∷ rest) (record_of_form f rcb srcb rest)
-  record_of_form-stands form.End rcb srcb rest is fact bytes = fact
-  record_of_form-stands form.Bad rcb srcb rest is fact bytes = fact
-  record_of_form-stands form.General rcb srcb rest is fact bytes =
-      (0xf0 ∷ srcb ∷ rest, ap (λ (x : ℕ). x ∷ srcb ∷ rest) fact ∙ sym (append-nil (0xf0 ∷ srcb ∷ rest)), (refl, refl))
-  record_of_form-stands (form.Control c) rcb srcb rest is fact bytes = control-stands c rcb srcb rest fact
-  record_of_form-stands form.Spelled rcb srcb rest is fact bytes =
-      record_of_spelling-stands rcb srcb rest (record_at_front rest) is fact (found rest bytes)
+record_of_form-stands : (f : Form) (rcb srcb : ℕ) (rest : List ℕ) → form_of rcb ≡ f → FormFact f rcb → AreBytes rest
+    → Stands (rcb ∷ srcb ∷ rest) (record_of_form f rcb srcb rest)
+record_of_form-stands form.End rcb srcb rest is fact bytes = fact
+record_of_form-stands form.Bad rcb srcb rest is fact bytes = fact
+record_of_form-stands form.General rcb srcb rest is fact bytes =
+    (0xf0 ∷ srcb ∷ rest, ap (λ (x : ℕ). x ∷ srcb ∷ rest) fact ∙ sym (append-nil (0xf0 ∷ srcb ∷ rest)), (refl, refl))
+record_of_form-stands (form.Control c) rcb srcb rest is fact bytes = control-stands c rcb srcb rest fact
+record_of_form-stands form.Spelled rcb srcb rest is fact bytes =
+    record_of_spelling-stands rcb srcb rest (record_at_front rest) is fact (found rest bytes)
 
-  pub first_record-stands : (bytes : List ℕ) → AreBytes bytes → Stands bytes (first_record bytes)
-  first_record-stands [] bytes = tt
-  first_record-stands (rcb ∷ []) bytes = record_of_one_byte-stands (form_of rcb) rcb (form_fact rcb)
-  first_record-stands (rcb ∷ srcb ∷ rest) bytes =
-      record_of_form-stands (form_of rcb) rcb srcb rest refl (form_fact rcb)
-      (AreBytes-tail srcb rest (AreBytes-tail rcb (srcb ∷ rest) bytes))
+pub first_record-stands : (bytes : List ℕ) → AreBytes bytes → Stands bytes (first_record bytes)
+first_record-stands [] bytes = tt
+first_record-stands (rcb ∷ []) bytes = record_of_one_byte-stands (form_of rcb) rcb (form_fact rcb)
+first_record-stands (rcb ∷ srcb ∷ rest) bytes =
+    record_of_form-stands (form_of rcb) rcb srcb rest refl (form_fact rcb)
+    (AreBytes-tail srcb rest (AreBytes-tail rcb (srcb ∷ rest) bytes))
 
-  -- ---- from the grammar to the reading
+-- ---- from the grammar to the reading
 
-  record_of_spelling-first : (rcb srcb : ℕ) (contents : List ℕ) (end : End) (bytes after : List ℕ)
-      → IsSpelled rcb srcb contents end bytes
-      → first_record (bytes ++ after)
-      ≡ Ok (Some (record {
-        item = item_of rcb srcb (record { contents = contents; end = end; rest = after });
-        rest = after;
-      }))
-  record_of_spelling-first rcb srcb contents end bytes after s =
-      ap (λ (b : List ℕ). first_record (b ++ after)) s.parts
-      ∙ (record_of_form-first form.Spelled rcb srcb (s.spelling ++ after) s.form
-      ∙ ap (record_of_spelling rcb srcb) (again s.spelling contents after end s.spelled))
+record_of_spelling-first : (rcb srcb : ℕ) (contents : List ℕ) (end : End) (bytes after : List ℕ)
+    → IsSpelled rcb srcb contents end bytes
+    → first_record (bytes ++ after)
+    ≡ Ok (Some (record {
+      item = item_of rcb srcb (record { contents = contents; end = end; rest = after });
+      rest = after;
+    }))
+record_of_spelling-first rcb srcb contents end bytes after s =
+    ap (λ (b : List ℕ). first_record (b ++ after)) s.parts
+    ∙ (record_of_form-first form.Spelled rcb srcb (s.spelling ++ after) s.form
+    ∙ ap (record_of_spelling rcb srcb) (unspelled-spelling s.spelling contents end after s.spelled))
 
-  pub Covers-first : (i : Item) (bytes after : List ℕ) → Covers i bytes after
-      → first_record (bytes ++ after) ≡ Ok (Some (record { item = i; rest = after }))
-  Covers-first (Data rcb srcb contents) bytes after (s, short) =
-      record_of_spelling-first rcb srcb contents Record bytes after s
-      ∙ ap (λ (i : Item). Ok (Some (record { item = i; rest = after })))
-      (cond-true (leb (length contents) 256) (Data rcb srcb contents) (Long rcb srcb) (le-leb _ _ short))
-  Covers-first (Long rcb srcb) bytes after (contents, s, long) =
-      record_of_spelling-first rcb srcb contents Record bytes after s
-      ∙ ap (λ (i : Item). Ok (Some (record { item = i; rest = after })))
-      (cond-false (leb (length contents) 256) (Data rcb srcb contents) (Long rcb srcb) (lt-leb _ _ long))
-  Covers-first (Aborted rcb srcb) bytes after (contents, s) =
-      record_of_spelling-first rcb srcb contents Abort bytes after s
-  Covers-first (Control rcb srcb) bytes after (c, is, inl (two, none)) =
-      ap (λ (b : List ℕ). first_record (b ++ after)) two
-      ∙ (record_of_form-first (form.Control c) rcb srcb after (ap form_of is ∙ form_of-control c)
-      ∙ ap (λ (rest : List ℕ). Ok (Some (record { item = Control rcb srcb; rest = rest })))
-      (after_control-none after none))
-  Covers-first (Control rcb srcb) bytes after (c, is, inr (three, some)) =
-      ap (λ (b : List ℕ). first_record (b ++ after)) three
-      ∙ (record_of_form-first (form.Control c) rcb srcb (0 ∷ after) (ap form_of is ∙ form_of-control c)
-      ∙ ap (λ (rest : List ℕ). Ok (Some (record { item = Control rcb srcb; rest = rest })))
-      (after_control-own after some))
-  Covers-first (General srcb rest) bytes after (is, none) =
-      ap (λ (b : List ℕ). first_record (b ++ after)) is
-      ∙ (ap (λ (b : List ℕ). first_record ((0xf0 ∷ srcb ∷ rest) ++ b)) none
-      ∙ (ap (λ (b : List ℕ). Ok (Some (record { item = General srcb b; rest = [] }))) (append-nil rest)
-      ∙ ap (λ (b : List ℕ). Ok (Some (record { item = General srcb rest; rest = b }))) (sym none)))
+pub Covers-first : (i : Item) (bytes after : List ℕ) → Covers i bytes after
+    → first_record (bytes ++ after) ≡ Ok (Some (record { item = i; rest = after }))
+Covers-first (Data rcb srcb contents) bytes after (s, short) =
+    record_of_spelling-first rcb srcb contents Record bytes after s
+    ∙ ap (λ (i : Item). Ok (Some (record { item = i; rest = after })))
+    (cond-true (leb (length contents) 256) (Data rcb srcb contents) (Long rcb srcb) (le-leb _ _ short))
+Covers-first (Long rcb srcb) bytes after (contents, s, long) =
+    record_of_spelling-first rcb srcb contents Record bytes after s
+    ∙ ap (λ (i : Item). Ok (Some (record { item = i; rest = after })))
+    (cond-false (leb (length contents) 256) (Data rcb srcb contents) (Long rcb srcb) (lt-leb _ _ long))
+Covers-first (Aborted rcb srcb) bytes after (contents, s) =
+    record_of_spelling-first rcb srcb contents Abort bytes after s
+Covers-first (Control rcb srcb) bytes after (c, is, inl (two, none)) =
+    ap (λ (b : List ℕ). first_record (b ++ after)) two
+    ∙ (record_of_form-first (form.Control c) rcb srcb after (ap form_of is ∙ form_of-control c)
+    ∙ ap (λ (rest : List ℕ). Ok (Some (record { item = Control rcb srcb; rest = rest })))
+    (after_control-none after none))
+Covers-first (Control rcb srcb) bytes after (c, is, inr (three, some)) =
+    ap (λ (b : List ℕ). first_record (b ++ after)) three
+    ∙ (record_of_form-first (form.Control c) rcb srcb (0 ∷ after) (ap form_of is ∙ form_of-control c)
+    ∙ ap (λ (rest : List ℕ). Ok (Some (record { item = Control rcb srcb; rest = rest })))
+    (after_control-own after some))
+Covers-first (General srcb rest) bytes after (is, none) =
+    ap (λ (b : List ℕ). first_record (b ++ after)) is
+    ∙ (ap (λ (b : List ℕ). first_record ((0xf0 ∷ srcb ∷ rest) ++ b)) none
+    ∙ (ap (λ (b : List ℕ). Ok (Some (record { item = General srcb b; rest = [] }))) (append-nil rest)
+    ∙ ap (λ (b : List ℕ). Ok (Some (record { item = General srcb rest; rest = b }))) (sym none)))

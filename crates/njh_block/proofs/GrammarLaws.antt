@@ -2,9 +2,6 @@
 use Rattle.std.proofs.Common.{◌≡◌, ℕ, zero, suc, ◌<◌, ◌≤◌, List, [], ◌∷◌, ◌++◌, length, Option, Some, None, Result, Ok}
 use Rattle.std.proofs.Common.{Err, refl, sym, ◌∙◌, ap, subst, append_assoc, arith}
 use Rattle.njh_record.specs.Bytes.{AreBytes}
-use Rattle.njh_record.specs.Spelling.{Spelling}
-use Rattle.njh_record.specs.Unspelled.{record_at_front, ReadsAs}
-use Rattle.njh_record.specs.declared.End.{End}
 use Rattle.njh_block.specs.declared.fault.BlockFault.{BlockFault}
 use Rattle.njh_block.specs.declared.fault.BlockFault.TheVariants.{TooShort, BadBcb, BadFcs, BadRcb, BadRecord}
 use Rattle.njh_block.specs.declared.rcb.Form.{Form}
@@ -93,74 +90,70 @@ Reads-more i covered rest bytes (Err TooShort) joined covers reads = reads
 Reads-more i covered rest bytes (Err BadBcb) joined covers reads = reads
 Reads-more i covered rest bytes (Err BadFcs) joined covers reads = reads
 
--- found: what is unspelled stands so; again: a spelling is read, whatever follows it
-module _ (found : (bytes : List ℕ) → AreBytes bytes → ReadsAs bytes (record_at_front bytes))
-    (again : (spelling contents rest : List ℕ) (end : End) → Spelling spelling contents end
-    → record_at_front (spelling ++ rest) ≡ Ok (record { contents = contents; end = end; rest = rest })) where
-  pub items_in-parts : (parts : List TextRecord) (after : List ℕ) → EachCovers parts after
-      → items_in (covered_bytes parts ++ after) ≡ with_items (items_of parts) (items_in after)
-  items_in-parts [] after each = refl
-  items_in-parts (p ∷ ps) after each =
-      ap items_in (append_assoc p.bytes (covered_bytes ps) after)
-      ∙ (items_in-first (p.bytes ++ (covered_bytes ps ++ after))
-      (record { item = p.item; rest = covered_bytes ps ++ after })
-      (Covers-first found again p.item p.bytes (covered_bytes ps ++ after) each.0)
-      ∙ ap (with_item p.item) (items_in-parts ps after each.1))
+pub items_in-parts : (parts : List TextRecord) (after : List ℕ) → EachCovers parts after
+    → items_in (covered_bytes parts ++ after) ≡ with_items (items_of parts) (items_in after)
+items_in-parts [] after each = refl
+items_in-parts (p ∷ ps) after each =
+    ap items_in (append_assoc p.bytes (covered_bytes ps) after)
+    ∙ (items_in-first (p.bytes ++ (covered_bytes ps ++ after))
+    (record { item = p.item; rest = covered_bytes ps ++ after })
+    (Covers-first p.item p.bytes (covered_bytes ps ++ after) each.0)
+    ∙ ap (with_item p.item) (items_in-parts ps after each.1))
 
-  -- where no record stands at an RCB, the reading says so
-  bad_record-first : (bytes : List ℕ) (read : Result (Option First) BlockFault) → IsBadRecord bytes → Stands bytes read
-      → read ≡ Err BadRecord
-  bad_record-first [] read is stands = absurd is
-  bad_record-first (rcb ∷ rest) (Ok None) is stands = absurd (omega (arith, is.0, stands))
-  bad_record-first (rcb ∷ rest) (Ok (Some x)) is stands = absurd (is.1 x.item stands.0 x.rest stands.1 stands.2)
-  bad_record-first (rcb ∷ rest) (Err BadRcb) is stands = absurd (omega (arith, is.0, stands.1))
-  bad_record-first (rcb ∷ rest) (Err BadRecord) is stands = refl
-  bad_record-first (rcb ∷ rest) (Err TooShort) is stands = absurd stands
-  bad_record-first (rcb ∷ rest) (Err BadBcb) is stands = absurd stands
-  bad_record-first (rcb ∷ rest) (Err BadFcs) is stands = absurd stands
+-- if an RCB begins no record, the reading says so
+bad_record-first : (bytes : List ℕ) (read : Result (Option First) BlockFault) → IsBadRecord bytes → Stands bytes read
+    → read ≡ Err BadRecord
+bad_record-first [] read is stands = absurd is
+bad_record-first (rcb ∷ rest) (Ok None) is stands = absurd (omega (arith, is.0, stands))
+bad_record-first (rcb ∷ rest) (Ok (Some x)) is stands = absurd (is.1 x.item stands.0 x.rest stands.1 stands.2)
+bad_record-first (rcb ∷ rest) (Err BadRcb) is stands = absurd (omega (arith, is.0, stands.1))
+bad_record-first (rcb ∷ rest) (Err BadRecord) is stands = refl
+bad_record-first (rcb ∷ rest) (Err TooShort) is stands = absurd stands
+bad_record-first (rcb ∷ rest) (Err BadBcb) is stands = absurd stands
+bad_record-first (rcb ∷ rest) (Err BadFcs) is stands = absurd stands
 
-  pub items_in-bad_record : (after : List ℕ) → AreBytes after → IsBadRecord after → items_in after ≡ Err BadRecord
-  items_in-bad_record after bytes is =
-      items_in_step after
-      ∙ ap (λ (f : Result (Option First) BlockFault). items_from f items_in)
-      (bad_record-first after (first_record after) is (first_record-stands found again after bytes))
+pub items_in-bad_record : (after : List ℕ) → AreBytes after → IsBadRecord after → items_in after ≡ Err BadRecord
+items_in-bad_record after bytes is =
+    items_in_step after
+    ∙ ap (λ (f : Result (Option First) BlockFault). items_from f items_in)
+    (bad_record-first after (first_record after) is (first_record-stands after bytes))
 
-  not_read : (item : Item) (covered after bytes : List ℕ) → first_record bytes ≡ Err BadRecord
-      → bytes ≡ covered ++ after
-      → Covers item covered after → ⊥
-  not_read item covered after bytes is joined covers =
-      let read : first_record bytes ≡ Ok (Some (record { item = item; rest = after })) =
-      ap first_record joined ∙ Covers-first found again item covered after covers in cc
+not_read : (item : Item) (covered after bytes : List ℕ) → first_record bytes ≡ Err BadRecord
+    → bytes ≡ covered ++ after
+    → Covers item covered after → ⊥
+not_read item covered after bytes is joined covers =
+    let read : first_record bytes ≡ Ok (Some (record { item = item; rest = after })) =
+    ap first_record joined ∙ Covers-first item covered after covers in cc
 
-  bad_record : (bytes : List ℕ) → first_record bytes ≡ Err BadRecord → Stands bytes (Err BadRecord) → IsBadRecord bytes
-  bad_record [] is (rcb, rest, split, high) = absurd cc
-  bad_record (b ∷ bytes) is (rcb, rest, split, high) =
-      let same : b ≡ rcb = cc in
-      (omega arith, λ item covered after joined covers. not_read item covered after (b ∷ bytes) is joined covers)
+bad_record : (bytes : List ℕ) → first_record bytes ≡ Err BadRecord → Stands bytes (Err BadRecord) → IsBadRecord bytes
+bad_record [] is (rcb, rest, split, high) = absurd cc
+bad_record (b ∷ bytes) is (rcb, rest, split, high) =
+    let same : b ≡ rcb = cc in
+    (omega arith, λ item covered after joined covers. not_read item covered after (b ∷ bytes) is joined covers)
 
-  from_first : (bytes : List ℕ) (read : Result (Option First) BlockFault)
-      (onward : List ℕ → Result (List Item) BlockFault)
-      → AreBytes bytes → first_record bytes ≡ read → Stands bytes read → Shorter (length bytes) read
-      → ((rest : List ℕ) → length rest < length bytes → AreBytes rest → Reads rest (onward rest))
-      → Reads bytes (items_from read onward)
-  from_first bytes (Ok None) onward are is stands shorter reads = Split-none bytes IsEnd stands
-  from_first bytes (Ok (Some x)) onward are is stands shorter reads =
-      Reads-more x.item stands.0 x.rest bytes (onward x.rest) stands.1 stands.2
-      (reads x.rest shorter (AreBytes-drop stands.0 x.rest (subst AreBytes stands.1 are)))
-  from_first bytes (Err BadRcb) onward are is stands shorter reads = ([], Split-none bytes IsBadRcb stands)
-  from_first bytes (Err BadRecord) onward are is stands shorter reads =
-      ([], Split-none bytes IsBadRecord (bad_record bytes is stands))
-  from_first bytes (Err TooShort) onward are is stands shorter reads = stands
-  from_first bytes (Err BadBcb) onward are is stands shorter reads = stands
-  from_first bytes (Err BadFcs) onward are is stands shorter reads = stands
+from_first : (bytes : List ℕ) (read : Result (Option First) BlockFault)
+    (onward : List ℕ → Result (List Item) BlockFault)
+    → AreBytes bytes → first_record bytes ≡ read → Stands bytes read → Shorter (length bytes) read
+    → ((rest : List ℕ) → length rest < length bytes → AreBytes rest → Reads rest (onward rest))
+    → Reads bytes (items_from read onward)
+from_first bytes (Ok None) onward are is stands shorter reads = Split-none bytes IsEnd stands
+from_first bytes (Ok (Some x)) onward are is stands shorter reads =
+    Reads-more x.item stands.0 x.rest bytes (onward x.rest) stands.1 stands.2
+    (reads x.rest shorter (AreBytes-drop stands.0 x.rest (subst AreBytes stands.1 are)))
+from_first bytes (Err BadRcb) onward are is stands shorter reads = ([], Split-none bytes IsBadRcb stands)
+from_first bytes (Err BadRecord) onward are is stands shorter reads =
+    ([], Split-none bytes IsBadRecord (bad_record bytes is stands))
+from_first bytes (Err TooShort) onward are is stands shorter reads = stands
+from_first bytes (Err BadBcb) onward are is stands shorter reads = stands
+from_first bytes (Err BadFcs) onward are is stands shorter reads = stands
 
-  read_items-reads : (k : ℕ) (bytes : List ℕ) → length bytes ≤ k → AreBytes bytes → Reads bytes (read_items k bytes)
-  read_items-reads zero [] within are = Split-none [] IsEnd tt
-  read_items-reads zero (b ∷ bytes) within are = absurd (omega arith)
-  read_items-reads (suc k) bytes within are =
-      from_first bytes (first_record bytes) (read_items k) are refl (first_record-stands found again bytes are)
-      (first_record-shorter bytes)
-      (λ rest less rest_are. read_items-reads k rest (omega arith) rest_are)
+read_items-reads : (k : ℕ) (bytes : List ℕ) → length bytes ≤ k → AreBytes bytes → Reads bytes (read_items k bytes)
+read_items-reads zero [] within are = Split-none [] IsEnd tt
+read_items-reads zero (b ∷ bytes) within are = absurd (omega arith)
+read_items-reads (suc k) bytes within are =
+    from_first bytes (first_record bytes) (read_items k) are refl (first_record-stands bytes are)
+    (first_record-shorter bytes)
+    (λ rest less rest_are. read_items-reads k rest (omega arith) rest_are)
 
-  pub items_in-reads : (bytes : List ℕ) → AreBytes bytes → Reads bytes (items_in bytes)
-  items_in-reads bytes are = read_items-reads (length bytes) bytes (omega arith) are
+pub items_in-reads : (bytes : List ℕ) → AreBytes bytes → Reads bytes (items_in bytes)
+items_in-reads bytes are = read_items-reads (length bytes) bytes (omega arith) are

@@ -11,7 +11,7 @@ use Rattle.njh_block.specs.Blocks.{Item, First, form_of, after_control, record_o
 use Rattle.njh_block.specs.Blocks.{record_of_form, first_record, with_item, read_items, items_in}
 use Rattle.njh_block.proofs.Unspelling.{RestWithin, unspelled-within}
 
--- the items where the first record is this, and onward reads what follows it
+-- the items if the first record is this, and onward reads what follows it
 abbrev pub items_from : Result (Option First) BlockFault → (List ℕ → Result (List Item) BlockFault)
     → Result (List Item) BlockFault
 items_from found onward =
@@ -106,7 +106,7 @@ fault_in-with_item i (Err e) = refl
 
 -- ---- what a record at the front leaves
 
--- the items, where they are whole
+-- the items, if they are whole
 abbrev pub items_or_none : Result (List Item) BlockFault → List Item
 items_or_none read = result_unwrap_or read []
 

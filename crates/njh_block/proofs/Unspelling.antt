@@ -1,5 +1,5 @@
 -- What an unspelling leaves of the bytes, and what an answer of the reader of records says.
-use Rattle.std.proofs.Common.{◌≡◌, ℕ, zero, suc, ◌-◌, ◌≤◌, Bool, true, false, eqb, leb, ltb, List, [], ◌∷◌, ◌++◌}
+use Rattle.std.proofs.Common.{◌≡◌, ℕ, zero, suc, ◌-◌, ◌≤◌, Bool, true, false, eqb, leb, ltb, List, [], ◌∷◌}
 use Rattle.std.proofs.Common.{length, take, drop, cond, Option, Some, Result, Ok, Err, refl, sym, ◌∙◌, ap, length-drop}
 use Rattle.std.proofs.Common.{arith}
 use Rattle.std.proofs.lemmas.Bool.{le-leb, lt-leb}
@@ -8,10 +8,11 @@ use Rattle.njh_record.specs.declared.End.{End}
 use Rattle.njh_record.specs.declared.End.TheVariants.{Record, Abort}
 use Rattle.njh_record.specs.declared.RecordFault.{RecordFault}
 use Rattle.njh_record.specs.declared.RecordFault.TheVariants as faults
-use Rattle.njh_record.specs.Spelling.{Spelling, blanks, literal, added_bytes}
+use Rattle.njh_record.specs.Spelling.{blanks, literal, added_bytes}
 use Rattle.njh_record.specs.Reading.{Begins, Unspells}
 use Rattle.njh_record.specs.Unspelled.{Front, OfItem, OfEnd, Bad, Cut, repeat_front, literal_front, front_of, Unspelled}
-use Rattle.njh_record.specs.Unspelled.{record_at_front, unspelled_within, Fault, BadScb, Truncated, with_front, ReadsAs}
+use Rattle.njh_record.specs.Unspelled.{record_at_front, unspelled_within, Fault, BadScb, Truncated, with_front}
+use Rattle.njh_record.proofs.ReadBack.{only, unspelled-spelling}
 use Rattle.njh_block.specs.declared.fault.BlockFault.{BlockFault}
 use Rattle.njh_block.specs.declared.fault.BlockFault.TheVariants.{BadRecord}
 use Rattle.njh_block.specs.Blocks.{First, Data, Aborted, Long, record_of_spelling}
@@ -91,7 +92,7 @@ unspelled-within bytes = within_steps (length bytes) bytes
 
 -- ---- what an answer of the reader of records says
 
--- the record of a block that an answer makes, where it leaves these contents
+-- the record of a block that an answer makes, if it leaves these contents
 abbrev pub answered : ℕ → ℕ → List ℕ → List ℕ → Result (ℕ × End) RecordFault → Result (Option First) BlockFault
 answered rcb srcb bytes contents (Ok (used, Record)) =
     Ok (Some (record { item = Data rcb srcb contents; rest = drop used bytes }))
@@ -102,47 +103,44 @@ answered rcb srcb bytes contents (Err (faults.TooLong used)) =
 answered rcb srcb bytes contents (Err faults.BadScb) = Err BadRecord
 answered rcb srcb bytes contents (Err faults.Truncated) = Err BadRecord
 
--- only: nothing but what is unspelled stands so; again: a spelling is read, whatever follows it
-module _ (only : (bytes : List ℕ) (read : Result Unspelled Fault) → ReadsAs bytes read → record_at_front bytes ≡ read)
-    (again : (spelling contents rest : List ℕ) (end : End) → Spelling spelling contents end
-    → record_at_front (spelling ++ rest) ≡ Ok (record { contents = contents; end = end; rest = rest })) where
-  begins-spelled : (rcb srcb : ℕ) (bytes contents : List ℕ) (used : ℕ) (end : End) → Begins bytes used contents end
-      → record_of_spelling rcb srcb (record_at_front bytes)
-      ≡ record_of_spelling rcb srcb (Ok (record { contents = contents; end = end; rest = drop used bytes }))
-  begins-spelled rcb srcb bytes contents used end begins =
-      ap (λ (b : List ℕ). record_of_spelling rcb srcb (record_at_front b)) (sym (take-append-drop used bytes))
-      ∙ ap (record_of_spelling rcb srcb) (again (take used bytes) contents (drop used bytes) end begins.spelling)
+begins-spelled : (rcb srcb : ℕ) (bytes contents : List ℕ) (used : ℕ) (end : End) → Begins bytes used contents end
+    → record_of_spelling rcb srcb (record_at_front bytes)
+    ≡ record_of_spelling rcb srcb (Ok (record { contents = contents; end = end; rest = drop used bytes }))
+begins-spelled rcb srcb bytes contents used end begins =
+    ap (λ (b : List ℕ). record_of_spelling rcb srcb (record_at_front b)) (sym (take-append-drop used bytes))
+    ∙ ap (record_of_spelling rcb srcb)
+    (unspelled-spelling (take used bytes) contents end (drop used bytes) begins.spelling)
 
-  pub record_of_spelling-unspells : (rcb srcb : ℕ) (bytes contents : List ℕ) (answer : Result (ℕ × End) RecordFault)
-      → Unspells bytes answer contents → record_of_spelling rcb srcb (record_at_front bytes) ≡ answered rcb srcb bytes
-      contents answer
-  record_of_spelling-unspells rcb srcb bytes contents (Ok (used, Record)) (begins, fits) =
-      begins-spelled rcb srcb bytes contents used Record begins
-      ∙ ap (λ (t : Bool). Ok (Some (record
-      { item = cond t (Data rcb srcb contents) (Long rcb srcb); rest = drop used bytes })))
-      (le-leb (length contents) 256 fits)
-  record_of_spelling-unspells rcb srcb bytes contents (Ok (used, Abort)) ((given_up, begins), none) =
-      begins-spelled rcb srcb bytes given_up used Abort begins
-  record_of_spelling-unspells rcb srcb bytes contents (Err (faults.TooLong used)) ((long, begins, over), none) =
-      begins-spelled rcb srcb bytes long used Record begins
-      ∙ ap (λ (t : Bool). Ok (Some (record
-      { item = cond t (Data rcb srcb long) (Long rcb srcb); rest = drop used bytes })))
-      (lt-leb (length long) 256 over)
-  record_of_spelling-unspells rcb srcb bytes contents (Err faults.BadScb) (bad, none) =
-      ap (record_of_spelling rcb srcb) (only bytes (Err BadScb) bad)
-  record_of_spelling-unspells rcb srcb bytes contents (Err faults.Truncated) (cut, none) =
-      ap (record_of_spelling rcb srcb) (only bytes (Err Truncated) cut)
+pub record_of_spelling-unspells : (rcb srcb : ℕ) (bytes contents : List ℕ) (answer : Result (ℕ × End) RecordFault)
+    → Unspells bytes answer contents → record_of_spelling rcb srcb (record_at_front bytes) ≡ answered rcb srcb bytes
+    contents answer
+record_of_spelling-unspells rcb srcb bytes contents (Ok (used, Record)) (begins, fits) =
+    begins-spelled rcb srcb bytes contents used Record begins
+    ∙ ap (λ (t : Bool). Ok (Some (record
+    { item = cond t (Data rcb srcb contents) (Long rcb srcb); rest = drop used bytes })))
+    (le-leb (length contents) 256 fits)
+record_of_spelling-unspells rcb srcb bytes contents (Ok (used, Abort)) ((given_up, begins), none) =
+    begins-spelled rcb srcb bytes given_up used Abort begins
+record_of_spelling-unspells rcb srcb bytes contents (Err (faults.TooLong used)) ((long, begins, over), none) =
+    begins-spelled rcb srcb bytes long used Record begins
+    ∙ ap (λ (t : Bool). Ok (Some (record
+    { item = cond t (Data rcb srcb long) (Long rcb srcb); rest = drop used bytes })))
+    (lt-leb (length long) 256 over)
+record_of_spelling-unspells rcb srcb bytes contents (Err faults.BadScb) (bad, none) =
+    ap (record_of_spelling rcb srcb) (only bytes (Err BadScb) bad)
+record_of_spelling-unspells rcb srcb bytes contents (Err faults.Truncated) (cut, none) =
+    ap (record_of_spelling rcb srcb) (only bytes (Err Truncated) cut)
 
-  pub record_of_spelling-left : (rcb srcb : ℕ) (bytes contents : List ℕ) (answer : Result (ℕ × End) RecordFault)
-      → Unspells bytes answer contents → contents ≡ contents_after (record_of_spelling rcb srcb (record_at_front bytes))
-  record_of_spelling-left rcb srcb bytes contents answer unspells =
-      left answer unspells ∙ ap contents_after
-      (sym (record_of_spelling-unspells rcb srcb bytes contents answer unspells))
-    where
-      left : (answer : Result (ℕ × End) RecordFault) → Unspells bytes answer contents
-          → contents ≡ contents_after (answered rcb srcb bytes contents answer)
-      left (Ok (used, Record)) unspells = refl
-      left (Ok (used, Abort)) unspells = unspells.1
-      left (Err (faults.TooLong used)) unspells = unspells.1
-      left (Err faults.BadScb) unspells = unspells.1
-      left (Err faults.Truncated) unspells = unspells.1
+pub record_of_spelling-left : (rcb srcb : ℕ) (bytes contents : List ℕ) (answer : Result (ℕ × End) RecordFault)
+    → Unspells bytes answer contents → contents ≡ contents_after (record_of_spelling rcb srcb (record_at_front bytes))
+record_of_spelling-left rcb srcb bytes contents answer unspells =
+    left answer unspells ∙ ap contents_after
+    (sym (record_of_spelling-unspells rcb srcb bytes contents answer unspells))
+  where
+    left : (answer : Result (ℕ × End) RecordFault) → Unspells bytes answer contents
+        → contents ≡ contents_after (answered rcb srcb bytes contents answer)
+    left (Ok (used, Record)) unspells = refl
+    left (Ok (used, Abort)) unspells = unspells.1
+    left (Err (faults.TooLong used)) unspells = unspells.1
+    left (Err faults.BadScb) unspells = unspells.1
+    left (Err faults.Truncated) unspells = unspells.1

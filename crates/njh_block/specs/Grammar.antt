@@ -25,12 +25,12 @@ BeginsZeroAndMore [] = ⊥
 BeginsZeroAndMore (b ∷ []) = ⊥
 BeginsZeroAndMore (b ∷ c ∷ rest) = b ≡ 0
 
--- an RCB and an SRCB, with a 00 behind them that another byte follows
+-- an RCB and an SRCB, with a 00 after them that another byte follows
 abbrev pub IsTwoBytes : ℕ → ℕ → List ℕ → List ℕ → Type 0
 IsTwoBytes rcb srcb bytes after =
     ((bytes ≡ rcb ∷ srcb ∷ []) × ¬ BeginsZeroAndMore after) ⊎ ((bytes ≡ rcb ∷ srcb ∷ 0 ∷ []) × (0 < length after))
 
--- The bytes are those of the item, where these follow them in the text.
+-- The bytes are those of the item, if these follow them in the text.
 abbrev pub Covers : Item → List ℕ → List ℕ → Type 0
 Covers (Data rcb srcb contents) bytes after = IsSpelled rcb srcb contents Record bytes × (length contents ≤ 256)
 Covers (Long rcb srcb) bytes after =
@@ -51,19 +51,19 @@ abbrev pub items_of : List TextRecord → List Item
 items_of [] = []
 items_of (p ∷ ps) = p.item ∷ items_of ps
 
--- each part covers its bytes, where those of the later parts and these follow it
+-- each part covers its bytes, if those of the later parts and these follow it
 abbrev pub EachCovers : List TextRecord → List ℕ → Type 0
 EachCovers [] after = Unit {0}
 EachCovers (p ∷ ps) after = Covers p.item p.bytes (covered_bytes ps ++ after) × EachCovers ps after
 
--- A text's block control byte, function control sequence and whole records, and what stands behind these.
+-- A text's block control byte, function control sequence and whole records, and what comes after these.
 pub record Front (text : List ℕ) (bcb : ℕ) (fcs : ℕ × ℕ) (parts : List TextRecord) (after : List ℕ) : Type 0 where
   pub good_bcb : IsTrue (is_bcb bcb)
   pub good_fcs : IsTrue (is_fcs fcs)
   pub joined : text ≡ bcb ∷ fcs.0 ∷ fcs.1 ∷ (covered_bytes parts ++ after)
   pub each : EachCovers parts after
 
--- the end of the text, or a 00 with anything behind it
+-- the end of the text, or a 00 with anything after it
 abbrev pub IsEnd : List ℕ → Type 0
 IsEnd [] = Unit {0}
 IsEnd (b ∷ rest) = b ≡ 0
@@ -81,13 +81,13 @@ abbrev pub IsBadRcb : List ℕ → Type 0
 IsBadRcb [] = ⊥
 IsBadRcb (rcb ∷ rest) = (0 < rcb) × (rcb < 0x80)
 
--- an RCB at which no record stands
+-- an RCB that begins no record
 abbrev pub IsBadRecord : List ℕ → Type 0
 IsBadRecord [] = ⊥
 IsBadRecord (rcb ∷ rest) =
     (0x80 ≤ rcb) × ((item : Item) (bytes after : List ℕ) → rcb ∷ rest ≡ bytes ++ after → ¬ Covers item bytes after)
 
--- behind a good front stands something bad
+-- after a good front comes something bad
 pub record StopsAt (IsBad : List ℕ → Type 0) (text : List ℕ) : Type 0 where
   pub bcb : ℕ
   pub fcs : ℕ × ℕ

@@ -9,7 +9,7 @@ use Rattle.njh_block.specs.declared.rcb.Form.TheVariants as form
 use Rattle.std.specs.Borrow.{Bor}
 use Rattle.njh_block.specs.Blocks.{Item, Data, Aborted, Long, Control, General, First, control_byte, form_of}
 
--- the item, where these bytes are in the record
+-- the item, if these bytes are in the record
 abbrev pub given_item : List ℕ → Given → Item
 given_item bytes (given.Data rcb srcb) = Data rcb.byte srcb bytes
 given_item bytes (given.Abort rcb srcb) = Aborted rcb.byte srcb
@@ -54,7 +54,7 @@ outgoing_item (out.Abort rcb srcb) = Aborted rcb.byte srcb
 outgoing_item (out.Control rcb srcb) = Control (control_byte rcb) srcb
 outgoing_item (out.General srcb bytes) = General srcb bytes.now
 
--- It can be written: a spelling stands behind its RCB, and its bytes are few enough.
+-- It can be written: a spelling comes after its RCB, and its bytes are few enough.
 abbrev pub IsWritable : Out → Type 0
 IsWritable (out.Data rcb srcb bytes) = (form_of rcb.byte ≡ form.Spelled) × (length bytes.now ≤ 256)
 IsWritable (out.Abort rcb srcb) = form_of rcb.byte ≡ form.Spelled

@@ -30,12 +30,12 @@ is_general (Long rcb srcb) = false
 is_general (Control rcb srcb) = false
 is_general (General srcb rest) = true
 
--- Items as they are written one behind the other: nothing stands behind a general one.
+-- Items as they are written one after the other: nothing comes after a general one.
 abbrev pub AreWritten : List Item → Type 0
 AreWritten [] = Unit {0}
 AreWritten (i ∷ is) = IsWritten i × (is_general i ≡ true → is ≡ []) × AreWritten is
 
--- whether one more item has room: nothing does behind a general one
+-- whether one more item has room: nothing does after a general one
 abbrev pub has_room : Writing → Item → Bool
 has_room w i = not (list_any is_general w.items) && nat_le (length (text_of w.bcb w.fcs (w.items ++ i ∷ []))) w.limit
 

@@ -10,7 +10,6 @@ use crate::fault::BlockFault;
 use crate::fcs::Fcs;
 use crate::front_record::{check_records, ends, read_first, read_general};
 use crate::item::Item;
-use crate::laws::one_reading;
 use njh_record::Record;
 use std::marker::Model;
 
@@ -45,7 +44,6 @@ impl<'a> Block<'a> {
 
         ensures exact { result ≡ read_block text.now }
     {
-        one_reading();
         Self::of_text(text)
     }
 
@@ -75,14 +73,14 @@ impl<'a> Block<'a> {
         self.fcs
     }
 
-    /// Whether no record is left: the text ends, or the end of the block stands next.
+    /// Whether no record is left: the text ends, or the end of the block comes next.
     pub fn is_empty(&self) -> bool
         ensures { IsTrue result ↔ (self.now.items ≡ []) }
     {
         ends(self.rest)
     }
 
-    /// The next record, where it is a general one: its SRCB, and the rest of the text.
+    /// The next record, if it is a general one: its SRCB, and the rest of the text.
     #[tactic(auto, using(crate::proofs::GeneralLaws::general_first_in))]
     pub fn first_general(&self) -> Option<(u8, &'a [u8])>
         ensures { option_map (λ x. (x.0, x.1.now)) result ≡ general_first self.now.items }

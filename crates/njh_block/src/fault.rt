@@ -14,10 +14,10 @@ pub enum BlockFault {
     /// The next two bytes are no function control sequence.
     #[error("B3 BadFcs")]
     BadFcs,
-    /// A byte 01 to 7F stands in the place of an RCB.
+    /// A byte 01 to 7F is in the place of an RCB.
     #[error("B4 BadRcb")]
     BadRcb,
-    /// Behind an RCB stands no record: no SRCB, or no whole spelling.
+    /// After an RCB comes no record: no SRCB, or no whole spelling.
     #[error("B5 BadRecord")]
     BadRecord,
 }

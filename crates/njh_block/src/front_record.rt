@@ -10,9 +10,9 @@ ghost use Rattle.njh_block.specs.ItemViews.{first_shown, general_at, contents_af
 use crate::fault::BlockFault;
 use crate::item::Item;
 use crate::rcb::{END, Form, GENERAL, OWN_ZERO, Rcb};
-use njh_record::{End, Record, RecordFault, one_reading, reads_spellings, skip, unspell};
+use njh_record::{End, Record, RecordFault, skip, unspell};
 
-/// A record, and the bytes behind it.
+/// A record, and the bytes after it.
 type First<'a> = (Item<'a>, &'a [u8]);
 
 /// What follows a two-byte record: a 00 that another byte follows is its own.
@@ -37,8 +37,6 @@ fn read_spelled<'a>(
     ensures contents { contents.new.items
         ≡ contents_after (record_of_spelling rcb.byte srcb (record_at_front bytes.now)) }
 {
-    one_reading();
-    reads_spellings();
     match unspell(bytes, contents) {
         Ok((used, End::Record)) => Ok(Some((Item::Data { rcb, srcb }, &bytes[used..]))),
         Ok((used, End::Abort)) => Ok(Some((Item::Abort { rcb, srcb }, &bytes[used..]))),
@@ -48,8 +46,8 @@ fn read_spelled<'a>(
     }
 }
 
-/// A record by its RCB, the byte behind it, and what follows the two.
-// It stands apart, so that the end of a block is found without a call.
+/// A record by its RCB, the byte after it, and what follows the two.
+// A function of its own, so that the end of a block is found without a call.
 #[inline(never)]
 fn read_formed<'a>(
     rcb: Rcb,
@@ -71,7 +69,7 @@ fn read_formed<'a>(
     Ok(Some((item, rest)))
 }
 
-/// The record at the front of the bytes behind a function control sequence; none where the block
+/// The record at the front of the bytes after a function control sequence; none if the block
 /// ends. A record other than `Data` leaves `contents` empty.
 #[inline(always)]
 pub(crate) fn read_first<'a>(
@@ -93,7 +91,7 @@ pub(crate) fn read_first<'a>(
     }
 }
 
-/// Whether no record is at the front of the bytes behind a function control sequence: they end, or
+/// Whether no record is at the front of the bytes after a function control sequence: they end, or
 /// the block does.
 pub(crate) fn ends(bytes: &[u8]) -> bool
     ensures { IsTrue result ↔ (first_record bytes.now ≡ Ok None) }
@@ -104,7 +102,7 @@ pub(crate) fn ends(bytes: &[u8]) -> bool
     }
 }
 
-/// Whether the bytes behind a function control sequence are whole records up to their end, or the
+/// Whether the bytes after a function control sequence are whole records up to their end, or the
 /// first fault from the left.
 pub(crate) fn check_records(bytes: &[u8]) -> Result<(), BlockFault>
     ensures { MatchResult result (λ _. IsOk (items_in bytes.now)) (λ e. items_in bytes.now ≡ Err e) }
@@ -127,8 +125,8 @@ fn check_each(bytes: &[u8]) -> Result<(), BlockFault>
     Ok(())
 }
 
-/// What follows the record at the front of the bytes behind a function control sequence; none where
-/// the block ends.
+/// What follows the record at the front of the bytes after a function control sequence; none if the
+/// block ends.
 fn skip_first(bytes: &[u8]) -> Result<Option<&[u8]>, BlockFault>
     ensures { rest_shown result ≡ rest_behind (first_record bytes.now) }
 {
@@ -143,7 +141,7 @@ fn skip_first(bytes: &[u8]) -> Result<Option<&[u8]>, BlockFault>
     }
 }
 
-/// The same, of a record by its RCB and what follows the byte behind it.
+/// The same, of a record by its RCB and what follows the byte after it.
 fn skip_formed(rcb: Rcb, rest: &[u8]) -> Result<Option<&[u8]>, BlockFault>
     ensures { (srcb : ℕ) → rest_shown result ≡ rest_behind (record_of_form (form_of rcb.byte) rcb.byte srcb rest.now) }
 {

@@ -37,7 +37,7 @@ pub enum Item<'a> {
     General {
         /// Its SRCB.
         srcb: u8,
-        /// The rest of the text, behind the SRCB.
+        /// The rest of the text, after the SRCB.
         rest: &'a [u8],
     },
 }

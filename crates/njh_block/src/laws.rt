@@ -14,16 +14,11 @@ pub fn one_reading()
     ensures block { (text : List ℕ) (b : Block) → AreBytes text → (read_block text ≡ Ok b) ↔ IsBlock text b }
     ensures fault { (text : List ℕ) (f : BlockFault) → AreBytes text → (read_block text ≡ Err f) ↔ IsFault text f }
     ensures one { (text : List ℕ) (b c : Block) → IsBlock text b → IsBlock text c → b ≡ c }
-{
-    njh_record::one_reading();
-    njh_record::reads_spellings();
-}
+{}
 
 /// What is written is read back as the items that were written; a general one has taken the closing
 /// 00 too.
 pub fn reads_back()
     ensures { (bcb : ℕ) (fcs : ℕ × ℕ) (items : List Item) → IsTrue (is_bcb bcb) → IsTrue (is_fcs fcs) → AreWritten items
         → read_block (text_of bcb fcs items) ≡ Ok (record { bcb = bcb; fcs = fcs; items = read_back items }) }
-{
-    njh_record::reads_back();
-}
+{}

@@ -28,11 +28,11 @@ pub enum Out<'a> {
         /// Its SRCB.
         srcb: u8,
     },
-    /// A general control record, behind which nothing has room.
+    /// A general control record, after which nothing has room.
     General {
         /// Its SRCB.
         srcb: u8,
-        /// What goes as it is behind the SRCB, at most 41 bytes.
+        /// What goes as it is after the SRCB, at most 41 bytes.
         bytes: &'a [u8],
     },
 }

@@ -50,7 +50,7 @@ impl ControlRcb {
     }
 }
 
-/// What stands behind a byte in the place of an RCB.
+/// What comes after a byte in the place of an RCB.
 #[derive(Clone, Copy, Debug, PartialEq, Eq)]
 pub enum Form {
     /// Nothing: the byte ends the block.
@@ -75,7 +75,7 @@ pub struct Rcb {
 /// What ends a block in the place of an RCB.
 pub(crate) const END: u8 = 0x00;
 
-/// What a two-byte record has behind it where another byte follows.
+/// What a two-byte record has after it if another byte follows.
 pub(crate) const OWN_ZERO: u8 = 0x00;
 
 /// The RCB of a general control record.
@@ -100,7 +100,7 @@ impl Rcb {
     /// That of a nodal message.
     pub const MESSAGE: Rcb = Rcb { byte: 0x9a };
 
-    /// What stands behind it.
+    /// What comes after it.
     pub fn form(self) -> Form
         ensures { result ≡ form_of self.byte }
     {
@@ -130,7 +130,7 @@ impl Rcb {
         }
     }
 
-    /// The stream that it names, where a line has so many streams of each kind.
+    /// The stream that it names, if a line has so many streams of each kind.
     pub fn stream(self, streams: u8) -> Option<Stream>
         requires { streams ≤ 4 }
         ensures { result ≡ stream_of streams self.byte }

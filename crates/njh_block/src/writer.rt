@@ -19,7 +19,7 @@ pub type BlockText = ArrayVec<u8, 4096>;
 /// How many bytes the text of a block without records has.
 const WITHOUT_RECORDS: usize = 4;
 
-/// Puts the text of a block without records where nothing stands.
+/// Puts the text of a block without records where nothing is yet.
 fn put_header(text: &mut BlockText, bcb: Bcb, fcs: Fcs)
     requires { text.old.items ≡ [] }
     ensures { text.new.items ≡ text_of bcb fcs [] }
@@ -29,12 +29,12 @@ fn put_header(text: &mut BlockText, bcb: Bcb, fcs: Fcs)
 }
 
 /// How many bytes a record takes.
+#[tactic(auto, using(crate::proofs::WritingLaws::spelling_bounds))]
 fn written_len(out: &Out<'_>) -> usize
     requires { IsWritable out.now }
     ensures value { result ≡ length (written_bytes (outgoing_item out.now)) }
     ensures bound { result ≤ 264 }
 {
-    njh_record::spelling_bounds();
     match out {
         Out::Data { bytes, .. } => 2 + spelled_len(bytes),
         Out::Abort { .. } | Out::Control { .. } => 3,
@@ -43,12 +43,12 @@ fn written_len(out: &Out<'_>) -> usize
 }
 
 /// A bound on how many bytes a record takes, which looks at none of its bytes.
+#[tactic(auto, using(crate::proofs::WritingLaws::spelling_bounds))]
 fn most_written(out: &Out<'_>) -> usize
     requires { IsWritable out.now }
     ensures enough { length (written_bytes (outgoing_item out.now)) ≤ result }
     ensures bound { result ≤ 512 }
 {
-    njh_record::spelling_bounds();
     match out {
         // A literal has a byte in front of 63 of its own at most.
         Out::Data { bytes, .. } => 2 + bytes.len() + (bytes.len() + 125) / 63,
@@ -140,7 +140,7 @@ impl BlockWriter {
         self.text.len() == WITHOUT_RECORDS
     }
 
-    /// Whether a record has room, with the closing 00 behind it. Behind a general one nothing has,
+    /// Whether a record has room, with the closing 00 after it. After a general one nothing has,
     /// and in a block without records each has.
     pub fn fits(&self, out: &Out<'_>) -> bool
         requires { IsWritable out.now }
@@ -160,7 +160,6 @@ impl BlockWriter {
         requires room { IsTrue (has_room self.old (outgoing_item out)) }
         ensures { self.new ≡ with_last (outgoing_item out.entry) self.old }
     {
-        njh_record::reads_back();
         self.ended = is_general(&out);
         let _end = self.text.pop();
         put_record(&mut self.text, out);

@@ -1,4 +1,4 @@
--- What stands first in some bytes: the function gives it, and nothing else.
+-- What comes first in some bytes: the function gives it, and nothing else.
 use Rattle.std.proofs.Common.{◌≡◌, ℕ, ◌+◌, ◌-◌, ◌<◌, ◌≤◌, eqb, leb, ltb, cond, List, [], ◌∷◌, ◌++◌, length, take, drop}
 use Rattle.std.proofs.Common.{replicate, get_or, refl, sym, ◌∙◌, ap, arith, length-append, length-take}
 use Rattle.std.proofs.lemmas.Bool.{cond_both, cond-false, eqb-true, eqb-false, ne_eqb, ltb-true, ltb-false, lt-ltb}
@@ -10,7 +10,7 @@ use Rattle.njh_record.specs.Spelling.{Item, blanks, repeat, literal, IsItem, ite
 use Rattle.njh_record.specs.Unspelled.{Front, OfItem, OfEnd, Bad, Cut, repeat_front, literal_front, front_of}
 use Rattle.njh_record.specs.code.Parts.{IsCounted, IsCutItem, StandsFirst}
 
--- ---- what the function gives stands there
+-- ---- what the function gives is there
 
 pub cut_item : (bytes missing : List ℕ) (item : Item) → IsCounted item → 0 < length missing
     → bytes ++ missing ≡ item_bytes item → IsCutItem bytes
@@ -70,7 +70,7 @@ front-stands (b ∷ rest) =
     (λ low. let above = eqb-false b 0x00 other in (omega arith, ltb-true b 0x80 low, eqb-false b 0x40 neither))
     (λ high. counted-stands b rest (ltb-false b 0x80 high))))
 
--- ---- what stands there is what the function gives
+-- ---- what is there is what the function gives
 
 front_of-blanks : (b n : ℕ) (rest : List ℕ) → b ≡ 0x80 + n → n < 32 → front_of (b ∷ rest) ≡ OfItem (blanks n) rest
 front_of-blanks b n rest is below =

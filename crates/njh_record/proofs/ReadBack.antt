@@ -1,4 +1,4 @@
--- What stands in the bytes is what the reading function gives.
+-- What is in the bytes is what the reading function gives.
 use Rattle.std.proofs.Common.{◌≡◌, ℕ, ◌<◌, ◌≤◌, inl, inr, List, [], ◌∷◌, ◌++◌, length, take, drop, Result, Ok, Err}
 use Rattle.std.proofs.Common.{refl, sym, ◌∙◌, ap, subst, append_assoc, arith, length-append, length-drop}
 use Rattle.std.proofs.lemmas.Bool.{cases_lt}
@@ -12,7 +12,7 @@ use Rattle.njh_record.specs.code.Parts.{StandsFirst}
 use Rattle.njh_record.proofs.Fronts.{cut_item, front_leaves_less, IsCounted-item}
 use Rattle.njh_record.proofs.ReadingLaws.{read_on, by_steps, unspelled-first}
 
--- ---- what stands there is found
+-- ---- what is there is found
 
 pub with_front-with_front : (a b : List ℕ) (read : Result Unspelled Fault)
     → with_front a (with_front b read) ≡ with_front (a ++ b) read
@@ -51,7 +51,7 @@ unspelled-spelling bytes contents end rest spells =
       spells.adds,
     ) refl
 
--- what is cut off lies within an item, or behind whole ones
+-- what is cut off lies within an item, or after whole ones
 unspelled-cut : (items : List Item) (end : End) (bytes missing : List ℕ) → AllByRecursion IsItem items
     → 0 < length missing
     → bytes ++ missing ≡ flat_map item_bytes items ++ end_byte end ∷ [] → record_at_front bytes ≡ Err Truncated
@@ -94,9 +94,9 @@ only bytes (Err Truncated) cut =
     unspelled-cut cut.spelling.items cut.end bytes cut.missing cut.spelling.whole.each cut.some_missing
     cut.spelling.whole.parts
 
--- ---- the rest stands behind what is read
+-- ---- the rest comes after what is read
 
--- what is read has a byte at least, and the rest stands behind it
+-- what is read has a byte at least, and the rest comes after it
 abbrev RestBehind : List ℕ → Result Unspelled Fault → Type 0
 RestBehind bytes (Ok found) = (front : List ℕ) × (0 < length front) × (bytes ≡ front ++ found.rest)
 RestBehind bytes (Err fault) = Unit {0}

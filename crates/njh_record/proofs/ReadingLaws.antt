@@ -1,4 +1,4 @@
--- What the reading function gives stands in the bytes.
+-- What the reading function gives is in the bytes.
 use Rattle.std.proofs.Common.{◌≡◌, ℕ, zero, suc, ◌<◌, ◌≤◌, List, [], ◌∷◌, ◌++◌, length, get_or, Result, Ok, Err, refl}
 use Rattle.std.proofs.Common.{◌∙◌, ap, subst, append_assoc, arith, length-append}
 use Rattle.std.proofs.lemmas.List.{get_or_append_left}
@@ -68,7 +68,7 @@ module _ (P : List ℕ → Result Unspelled Fault → Type 0)
   pub by_steps : (bytes : List ℕ) → P bytes (record_at_front bytes)
   by_steps bytes = at_most (length bytes) bytes (omega arith)
 
--- ---- what is found stands there
+-- ---- what is found is there
 
 ItemsThen-item : (item : Item) (bytes : List ℕ) (items : List Item) (rest : List ℕ) → IsItem item
     → ItemsThen bytes items rest
@@ -139,7 +139,7 @@ pub AreBytes-behind : (front rest : List ℕ) → AreBytes (front ++ rest) → A
 AreBytes-behind [] rest are = are
 AreBytes-behind (b ∷ front) rest are = AreBytes-behind front rest (λ place. are (suc place))
 
--- what stands first, and what the rest reads as
+-- what comes first, and what the rest reads as
 pub AreBytes-left : (bytes rest : List ℕ) (item : Item) → AreBytes bytes → StandsFirst bytes (OfItem item rest)
     → AreBytes rest
 AreBytes-left bytes rest item are stands = AreBytes-behind (item_bytes item) rest (subst AreBytes stands.1 are)

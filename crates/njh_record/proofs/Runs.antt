@@ -89,7 +89,7 @@ pub NoRunBefore-at : (bytes : List ℕ) (place : ℕ) → place ≤ 63 → begin
 NoRunBefore-at bytes place short at so_far =
     NoRunBefore-stops bytes place short (before_run-at (drop place bytes) at) so_far
 
--- where the bytes that were looked at reach the longest literal or the end
+-- if the bytes that were looked at reach the longest literal or the end
 pub NoRunBefore-limit : (bytes : List ℕ) (limit place : ℕ) → limit ≡ min (length bytes) 63 → limit ≤ place
     → place ≤ length bytes
     → NoRunBefore bytes place → take limit bytes ≡ take 63 (before_run bytes)
@@ -106,7 +106,7 @@ NoRunBefore-limit bytes limit place is reached within so_far =
           (ap before_run (drop_all place bytes (omega arith)) ∙ before_run-nil) so_far)
     ]
 
--- more bytes were looked at behind those
+-- more bytes were looked at after those
 pub take-more : (place more : ℕ) (bytes : List ℕ)
     → take place bytes ++ take more (drop place bytes) ≡ take (place + more) bytes
 take-more place more bytes =
@@ -149,7 +149,7 @@ pub begins_run-tested : (rest tail : List ℕ) (count : ℕ) (answer value : Boo
 begins_run-tested rest tail count answer value same counted tests is =
     ap begins_run (sym same) ∙ (ap (is_run (first_byte_of tail)) (sym counted) ∙ (sym tests ∙ is))
 
--- some bytes stand at the front, and behind them a run or nothing
+-- some bytes are at the front, and after them a run or nothing
 pub record StandsBefore (bytes before : List ℕ) : Type 0 where
   pub front : take (length before) bytes ≡ before
   pub ends : (drop (length before) bytes ≡ []) ⊎ (begins_run (drop (length before) bytes) ≡ true)

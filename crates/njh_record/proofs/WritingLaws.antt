@@ -42,7 +42,7 @@ pub first_item-literal : (bytes : List ℕ) → begins_run bytes ≡ false
 unfolding first_item
 first_item-literal bytes is = cond-false (begins_run bytes) _ _ is
 
--- what is spelled first stands first
+-- what is spelled first comes first
 SpellsFront-run : (bytes : List ℕ) → begins_run bytes ≡ true
     → SpellsFront bytes (run_item (first_byte_of bytes) (run_of bytes))
 SpellsFront-run bytes at =
@@ -168,7 +168,7 @@ length-cons byte bytes = rw (spelling_of-cons byte bytes, length-append) refl
 abbrev BeginsRunOrEnds : List ℕ → Type 0
 BeginsRunOrEnds bytes = (bytes ≡ []) ⊎ (begins_run bytes ≡ true)
 
--- a literal of less than 63 bytes costs a byte more than it spells, and the run behind it saves one
+-- a literal of less than 63 bytes costs a byte more than it spells, and the run after it saves one
 record IsBounded (bytes : List ℕ) : Type 0 where
   some : 0 < length (spelling_of bytes)
   most : 63 * length (spelling_of bytes) ≤ 64 * length bytes + 125
@@ -191,7 +191,7 @@ bounded-run byte bytes at rest =
     let most : 63 * length (spelling_of (byte ∷ bytes)) ≤ 64 * length (byte ∷ bytes) + 63 = omega (arith, rest.most) in
     record { some = omega (arith, rest.some); most = omega arith; at_run = λ run. most }
 
--- behind a literal of less than 63 bytes stands a run, or nothing
+-- after a literal of less than 63 bytes comes a run, or nothing
 behind_literal : (byte : ℕ) (bytes : List ℕ) → begins_run (byte ∷ bytes) ≡ false
     → length (before_run (byte ∷ bytes)) < 63
     → BeginsRunOrEnds (after_first (byte ∷ bytes))

@@ -42,7 +42,7 @@ impl Item<'_> {
         }
     }
 
-    /// Writes it behind what `out` has.
+    /// Writes it after what `out` has.
     pub fn put<const N: usize>(self, out: &mut ArrayVec<u8, N>)
         requires item { IsItem (item_of self) }
         requires room { length out.old.items + length (item_bytes (item_of self)) ≤ N }
@@ -61,7 +61,7 @@ impl Item<'_> {
         }
     }
 
-    /// Adds what it spells where it all has room, and says whether it had.
+    /// Adds what it spells if it all has room, and says whether it had.
     pub fn add_to(self, contents: &mut Record) -> bool
         requires { IsCounted (item_of self) }
         ensures { Takes result contents.old.items (added_bytes (item_of self.entry)) contents.new.items }
@@ -74,14 +74,14 @@ impl Item<'_> {
     }
 }
 
-/// Adds bytes where they all have room, and says whether they had.
+/// Adds bytes if they all have room, and says whether they had.
 fn add_bytes(contents: &mut Record, bytes: &[u8]) -> bool
     ensures { Takes result contents.old.items bytes.now contents.new.items }
 {
     contents.try_extend_from_slice(bytes).is_ok()
 }
 
-/// Adds copies of a byte where they all have room, and says whether they had.
+/// Adds copies of a byte if they all have room, and says whether they had.
 fn add_copies(contents: &mut Record, byte: u8, count: usize) -> bool
     requires { count ≤ 31 }
     ensures { Takes result contents.old.items (replicate count byte) contents.new.items }

@@ -10,16 +10,15 @@ ghost use Rattle.njh_record.specs.Reading.{Unspells};
 ghost use Rattle.njh_record.specs.Unspelled.{Unspelled, Fault, ReadsAs, record_at_front};
 ghost use Rattle.njh_record.specs.Writing.{spelling_of};
 
-/// The function that reads gives what stands in the bytes, and nothing else stands there: a
-/// spelling at their front, or a bad string control byte behind whole items, or the front of a
-/// spelling alone.
+/// The function that reads gives what is in the bytes, and nothing else is there: a spelling at
+/// their front, or a bad string control byte after whole items, or the front of a spelling alone.
 pub fn one_reading()
     ensures found { (bytes : List ℕ) → AreBytes bytes → ReadsAs bytes (record_at_front bytes) }
     ensures only { (bytes : List ℕ) (read : Result Unspelled Fault) →
         ReadsAs bytes read → record_at_front bytes ≡ read }
 {}
 
-/// What follows a spelling begins behind it, and a spelling has a byte at least.
+/// What follows a spelling begins right after it, and a spelling has a byte at least.
 pub fn rest_behind()
     ensures { (bytes : List ℕ) (found : Unspelled) → record_at_front bytes ≡ Ok found →
         (used : ℕ) × (0 < used) × (used ≤ length bytes) × (found.rest ≡ drop used bytes) }

@@ -35,7 +35,7 @@ pub enum End {
 /// Why no record was read.
 #[derive(Clone, Copy, Debug, PartialEq, Eq, Error)]
 pub enum RecordFault {
-    /// A byte stands in the place of a string control byte that is none: 01 to 3F and 41 to 7F.
+    /// A byte is in the place of a string control byte and is none: 01 to 3F and 41 to 7F.
     #[error("C1 BadScb")]
     BadScb,
     /// The bytes end before the spelling does.

@@ -19,7 +19,7 @@ enum SpellingPart<'a> {
     End(End),
 }
 
-/// The first part of a spelling, and the bytes behind it.
+/// The first part of a spelling, and the bytes after it.
 fn next_part(bytes: &[u8]) -> Result<(SpellingPart<'_>, &[u8]), RecordFault>
     ensures { LeadsToPart bytes.now result }
 {
@@ -86,7 +86,7 @@ fn read_parts(bytes: &[u8], contents: &mut Record) -> Result<(usize, End), Recor
 /// many bytes its spelling takes, and how it ends.
 ///
 /// `BadScb` and `Truncated` come at the first place from the left that has them. `TooLong` comes
-/// where the spelling is good and ends a record, of more than 256 bytes; a spelling that is given
+/// if the spelling is good and ends a record, of more than 256 bytes; a spelling that is given
 /// up is `Abort` whatever its length. After a fault or an abort `contents` is empty. Nothing else
 /// has this relation to the bytes: the law `one_answer`.
 pub fn unspell(bytes: &[u8], contents: &mut Record) -> Result<(usize, End), RecordFault>
@@ -100,7 +100,7 @@ pub fn unspell(bytes: &[u8], contents: &mut Record) -> Result<(usize, End), Reco
     answer
 }
 
-/// What follows the spelling at the front of some bytes, if one stands there. It is not put
+/// What follows the spelling at the front of some bytes, if one is there. It is not put
 /// together, and may be of any length.
 pub fn skip(bytes: &[u8]) -> Option<&[u8]>
     ensures { option_map (λ rest. rest.now) result ≡ behind (record_at_front bytes.now) }

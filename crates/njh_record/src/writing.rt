@@ -15,7 +15,7 @@ use std::simd::prelude::*;
 /// How many bytes are looked at at once.
 const GROUP: usize = 16;
 
-/// How many bytes equal to the first stand at the front, 31 at most.
+/// How many bytes equal to the first are at the front, 31 at most.
 fn run_len(bytes: &[u8]) -> usize
     requires { 0 < length bytes.now }
     ensures { result ≡ run_of bytes.now }
@@ -43,7 +43,7 @@ fn front_len(bytes: &[u8], first: u8, most: usize) -> usize
         .count()
 }
 
-/// How many of the 16 bytes in front stand before one that isn't this.
+/// How many of the 16 bytes in front come before one that isn't this.
 fn same_len(bytes: &[u8], first: u8) -> usize
     requires { GROUP ≤ length bytes.now }
     ensures { result ≡ prefix_len (λ b. b == first) (take GROUP bytes.now) }
@@ -72,7 +72,7 @@ fn begins_run(bytes: &[u8]) -> bool
     }
 }
 
-/// How many of the 16 bytes in front stand before the first that equals the next.
+/// How many of the 16 bytes in front come before the first that equals the next.
 fn apart_len(bytes: &[u8]) -> usize
     requires { GROUP < length bytes.now }
     ensures within { result ≤ GROUP }
@@ -105,7 +105,7 @@ fn passed_len(bytes: &[u8]) -> usize
     }
 }
 
-/// How many bytes stand before the first run, 63 at most, where none begins the bytes.
+/// How many bytes come before the first run, 63 at most, if none begins the bytes.
 fn literal_len(bytes: &[u8]) -> usize
     requires some { 0 < length bytes.now }
     requires first { begins_run bytes.now ≡ false }
@@ -127,7 +127,7 @@ fn literal_len(bytes: &[u8]) -> usize
     limit
 }
 
-/// The same, where so many bytes were looked at, byte by byte.
+/// The same, after so many bytes were looked at, byte by byte.
 fn end_len(bytes: &[u8], passed: usize, limit: usize) -> usize
     requires limit { limit ≡ min (length bytes.now) 63 }
     requires passed { NoRunBefore bytes.now passed }
@@ -168,8 +168,8 @@ fn first_item(bytes: &[u8]) -> Item<'_>
     }
 }
 
-/// Writes the one spelling of a record (IBM SC23-0070, "Compression") behind what `out` holds: at
-/// each place the run of equal bytes there, 31 at most, where it has 2 blanks or 3 other bytes at
+/// Writes the one spelling of a record (IBM SC23-0070, "Compression") after what `out` holds: at
+/// each place the run of equal bytes there, 31 at most, if it has 2 blanks or 3 other bytes at
 /// least, else a literal of 63 bytes at most that stops where such a run begins. Of a record of 256
 /// bytes it takes 262 at most: the law `spelling_bounds`.
 pub fn add_spelling<const N: usize>(contents: &[u8], out: &mut ArrayVec<u8, N>)

@@ -1,4 +1,4 @@
--- What follows a record, where the record itself isn't wanted.
+-- What follows a record, if the record itself isn't wanted.
 use Rattle.std.specs.Prelude.{ℕ, List, Option, Some, None, Result, Ok, Err}
 use Rattle.std.specs.Borrow.{Bor}
 use Rattle.njh_block.specs.declared.fault.BlockFault.{BlockFault}

@@ -1,4 +1,4 @@
--- What reading knows on its way: what stands first in the bytes, and what the items so far add.
+-- What reading knows on its way: what comes first in the bytes, and what the items so far add.
 use Rattle.std.specs.Prelude.{◌≡◌, ℕ, ◌<◌, ◌≤◌, Bool, true, false, List, [], ◌∷◌, ◌+◌, ◌++◌, length, Result, Ok, Err}
 use Rattle.std.specs.Borrow.{Bor}
 use Rattle.njh_record.specs.Bytes.{AreBytes}
@@ -39,14 +39,14 @@ abbrev pub BeginsBad : List ℕ → Type 0
 BeginsBad [] = ⊥
 BeginsBad (byte ∷ rest) = IsBadScb byte
 
--- this stands first in the bytes
+-- this comes first in the bytes
 abbrev pub StandsFirst : List ℕ → Front → Type 0
 StandsFirst bytes (OfItem item rest) = IsCounted item × (bytes ≡ item_bytes item ++ rest)
 StandsFirst bytes (OfEnd end rest) = bytes ≡ end_byte end ∷ rest
 StandsFirst bytes Bad = BeginsBad bytes
 StandsFirst bytes Cut = IsCutItem bytes
 
--- what the code finds first stands there
+-- what the code finds first is there
 abbrev pub LeadsToPart : List ℕ → Result (SpellingPart × Bor (List ℕ)) RecordFault → Type 0
 LeadsToPart bytes (Ok (part.Item item, rest)) = StandsFirst bytes (OfItem (item_of item) rest.now)
 LeadsToPart bytes (Ok (part.End end, rest)) = StandsFirst bytes (OfEnd end rest.now)
@@ -54,7 +54,7 @@ LeadsToPart bytes (Err faults.BadScb) = StandsFirst bytes Bad
 LeadsToPart bytes (Err faults.Truncated) = StandsFirst bytes Cut
 LeadsToPart bytes (Err (faults.TooLong used)) = ⊥
 
--- a record takes more bytes where it has the room for all of them
+-- a record takes more bytes if it has the room for all of them
 abbrev pub Takes : Bool → List ℕ → List ℕ → List ℕ → Type 0
 Takes true old more new = (new ≡ old ++ more) × (length old + length more ≤ 256)
 Takes false old more new = 256 < length old + length more

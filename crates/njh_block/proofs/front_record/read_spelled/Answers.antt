@@ -7,7 +7,7 @@ returns-in-Ok-default-Record-clause-first c =
     let m = c.in-Ok-default-Record in
     rw (
       take_rest,
-      record_of_spelling-unspells c.one_reading.ensures.only c.reads_spellings.ensures c.args.rcb.byte c.args.srcb _ _ _
+      record_of_spelling-unspells c.args.rcb.byte c.args.srcb _ _ _
           c.unspell.ensures,
       m.is,
       m.field-0-1-is,
@@ -15,7 +15,7 @@ returns-in-Ok-default-Record-clause-first c =
 
 pub returns-in-Ok-default-Record-clause-contents : goal.returns-in-Ok-default-Record-clause-contents
 returns-in-Ok-default-Record-clause-contents c =
-    record_of_spelling-left c.one_reading.ensures.only c.reads_spellings.ensures c.args.rcb.byte c.args.srcb _ _ _
+    record_of_spelling-left c.args.rcb.byte c.args.srcb _ _ _
     c.unspell.ensures
 
 pub returns-in-Ok-default-Abort-clause-first : goal.returns-in-Ok-default-Abort-clause-first
@@ -23,7 +23,7 @@ returns-in-Ok-default-Abort-clause-first c =
     let m = c.in-Ok-default-Abort in
     rw (
       take_rest,
-      record_of_spelling-unspells c.one_reading.ensures.only c.reads_spellings.ensures c.args.rcb.byte c.args.srcb _ _ _
+      record_of_spelling-unspells c.args.rcb.byte c.args.srcb _ _ _
           c.unspell.ensures,
       m.is,
       m.field-0-1-is,
@@ -31,7 +31,7 @@ returns-in-Ok-default-Abort-clause-first c =
 
 pub returns-in-Ok-default-Abort-clause-contents : goal.returns-in-Ok-default-Abort-clause-contents
 returns-in-Ok-default-Abort-clause-contents c =
-    record_of_spelling-left c.one_reading.ensures.only c.reads_spellings.ensures c.args.rcb.byte c.args.srcb _ _ _
+    record_of_spelling-left c.args.rcb.byte c.args.srcb _ _ _
     c.unspell.ensures
 
 pub returns-in-Err-TooLong-clause-first : goal.returns-in-Err-TooLong-clause-first
@@ -39,7 +39,7 @@ returns-in-Err-TooLong-clause-first c =
     let m = c.in-Err-TooLong in
     rw (
       take_rest,
-      record_of_spelling-unspells c.one_reading.ensures.only c.reads_spellings.ensures c.args.rcb.byte c.args.srcb _ _ _
+      record_of_spelling-unspells c.args.rcb.byte c.args.srcb _ _ _
           c.unspell.ensures,
       m.is,
       m.field-0-is,
@@ -47,14 +47,14 @@ returns-in-Err-TooLong-clause-first c =
 
 pub returns-in-Err-TooLong-clause-contents : goal.returns-in-Err-TooLong-clause-contents
 returns-in-Err-TooLong-clause-contents c =
-    record_of_spelling-left c.one_reading.ensures.only c.reads_spellings.ensures c.args.rcb.byte c.args.srcb _ _ _
+    record_of_spelling-left c.args.rcb.byte c.args.srcb _ _ _
     c.unspell.ensures
 
 pub returns-in-Err-BadScb-clause-first : goal.returns-in-Err-BadScb-clause-first
 returns-in-Err-BadScb-clause-first c =
     let m = c.in-Err-BadScb in
     rw (
-      record_of_spelling-unspells c.one_reading.ensures.only c.reads_spellings.ensures c.args.rcb.byte c.args.srcb _ _ _
+      record_of_spelling-unspells c.args.rcb.byte c.args.srcb _ _ _
           c.unspell.ensures,
       m.is,
       m.field-0-is,
@@ -62,14 +62,14 @@ returns-in-Err-BadScb-clause-first c =
 
 pub returns-in-Err-BadScb-clause-contents : goal.returns-in-Err-BadScb-clause-contents
 returns-in-Err-BadScb-clause-contents c =
-    record_of_spelling-left c.one_reading.ensures.only c.reads_spellings.ensures c.args.rcb.byte c.args.srcb _ _ _
+    record_of_spelling-left c.args.rcb.byte c.args.srcb _ _ _
     c.unspell.ensures
 
 pub returns-in-Err-Truncated-clause-first : goal.returns-in-Err-Truncated-clause-first
 returns-in-Err-Truncated-clause-first c =
     let m = c.in-Err-Truncated in
     rw (
-      record_of_spelling-unspells c.one_reading.ensures.only c.reads_spellings.ensures c.args.rcb.byte c.args.srcb _ _ _
+      record_of_spelling-unspells c.args.rcb.byte c.args.srcb _ _ _
           c.unspell.ensures,
       m.is,
       m.field-0-is,
@@ -77,5 +77,5 @@ returns-in-Err-Truncated-clause-first c =
 
 pub returns-in-Err-Truncated-clause-contents : goal.returns-in-Err-Truncated-clause-contents
 returns-in-Err-Truncated-clause-contents c =
-    record_of_spelling-left c.one_reading.ensures.only c.reads_spellings.ensures c.args.rcb.byte c.args.srcb _ _ _
+    record_of_spelling-left c.args.rcb.byte c.args.srcb _ _ _
     c.unspell.ensures

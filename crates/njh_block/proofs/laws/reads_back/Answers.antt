@@ -2,4 +2,4 @@ use Rattle.njh_block.proofs.WritingLaws.{text-read}
 use Rattle.njh_block.proofs.laws.reads_back.Goals as goal
 
 pub returns : goal.returns
-returns c = text-read c.reads_back.ensures
+returns c = text-read

@@ -10,8 +10,7 @@ adds : (c : goal.After-push)
     → Adds (writing_of c.self.inside.limit c.self.inside.text.items) (outgoing_item c.args.out)
     ((without_end c.self.inside.text.items ++ written_bytes (outgoing_item c.args.out)) ++ 0 ∷ [])
 adds c =
-    written_on c.reads_back.ensures
-    (writing_of c.self.inside.limit c.self.inside.text.items) c.self.inside.text.items c.self.inside.ended
+    written_on (writing_of c.self.inside.limit c.self.inside.text.items) c.self.inside.text.items c.self.inside.ended
     (outgoing_item c.args.out)
     c.self.invariant (IsWritten-outgoing c.args.out c.requires.writable)
     (subst (λ (w : Writing). IsTrue (has_room w (outgoing_item c.args.out))) (sym c.self.view_is) c.requires.room)
