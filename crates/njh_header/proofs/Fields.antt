@@ -18,13 +18,13 @@ number_at-append place bytes more within =
     let low = get_or_append_left bytes more 0 (place + 1) (omega arith) in
     omega arith
 
--- a field that stands behind some bytes
+-- a field that comes after some bytes
 pub field_at : (before inner after : List ℕ) (place size : ℕ) → length before ≡ place → length inner ≡ size
     → field place size (before ++ (inner ++ after)) ≡ inner
 field_at before inner after place size e f = ap (take size) (drop_at before (inner ++ after) place e)
     ∙ take_at inner after size f
 
--- a number that stands behind some bytes
+-- a number that comes after some bytes
 pub number_at-two_bytes : (before after : List ℕ) (place n : ℕ) → length before ≡ place → n < 65536
     → number_at place (before ++ (two_bytes n ++ after)) ≡ n
 number_at-two_bytes before after place n e small =

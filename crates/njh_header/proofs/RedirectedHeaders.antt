@@ -1,4 +1,4 @@
--- A file whose headers read has headers that read when its destination is another.
+-- A file whose headers read has headers that read if its destination is another.
 use Rattle.std.proofs.Common.{◌≡◌, ℕ, ◌+◌, ◌≤◌, Bool, true, false, List, [], ◌∷◌, ◌++◌, length, take, drop, Option}
 use Rattle.std.proofs.Common.{Some, None}
 use Rattle.std.proofs.Common.{Result, Ok, Err, ◌==◌, ◌&&◌, cond, refl, sym, ap, subst, ◌∙◌, arith, rules, append_assoc}
@@ -56,7 +56,7 @@ length_still at new bytes within =
     let all = length-append (take at bytes ++ new) (drop (at + length new) bytes) in
     omega arith
 
--- a field behind some bytes
+-- a field after some bytes
 field_behind : (at : ℕ) (new front rest : List ℕ)
     → with_field (length front + at) new (front ++ rest) ≡ front ++ with_field at new rest
 field_behind at new front rest =
@@ -99,7 +99,7 @@ module _ (size at : ℕ) (new : List ℕ) where
         whole = omega (arith, same, general.whole);
       }
 
-  -- it reads, where its name is one
+  -- it reads, if its name is one
   header_still : {H : Type 0} (name : ℕ) (fields : List ℕ → ℕ → H) (bytes : List ℕ) (place : ℕ)
       → HasGeneral size bytes place
       → 4 ≤ at → at + length new ≤ size → is_name (field (place + name) 8 (with_field (place + at) new bytes)) ≡ true

@@ -9,7 +9,7 @@ use Rattle.njh_header.specs.declared.fault.HeaderFault.TheVariants.{TooShort, No
 use Rattle.njh_header.specs.Walk.{Front, Ends, Cut, Small, General, Other, front_of, walk, general_section}
 use Rattle.njh_header.specs.Sections.{BeginsGeneral, IsCut}
 
--- a whole section of another kind stands at the front
+-- a whole section of another kind is at the front
 pub record BeginsOther (rest : List ℕ) : Type 0 where
   pub length_field : 4 ≤ number_at 0 rest
   pub within : number_at 0 rest ≤ length rest

@@ -26,7 +26,7 @@ abbrev pub redirected_record : List ℕ → Option ℕ → Stored → Stored
 redirected_record node None r = r
 redirected_record node (Some place) r = with_node_at place node r
 
--- the records behind one with this SRCB, or all of a file's, with another destination node
+-- the records after one with this SRCB, or all of a file's, with another destination node
 abbrev pub records_to_node : Kind → List ℕ → Option ℕ → List Stored → List Stored
 records_to_node kind node before [] = []
 records_to_node kind node before (r ∷ rs) =

@@ -22,7 +22,7 @@ pub record Passes (header : List ℕ) (place : ℕ) (rest : List ℕ) : Type 0 w
   pub parts : header ≡ before ++ flat_map (λ section. section) sections ++ rest
   pub end : place ≡ 4 + length (flat_map (λ section. section) sections)
 
--- a general section stands at the front
+-- a general section is at the front
 pub record BeginsGeneral (rest : List ℕ) : Type 0 where
   pub head : 4 ≤ length rest
   pub length_field : 4 ≤ number_at 0 rest
@@ -44,7 +44,7 @@ pub record HasSmallGeneral (size : ℕ) (header : List ℕ) : Type 0 where
   pub begins : BeginsGeneral rest
   pub small : (number_at 0 rest < size) ⊎ (length rest < size)
 
--- something stands at the front, and it is less than a section's first four bytes, or a section shorter than these, or
+-- something is at the front, and it is less than a section's first four bytes, or a section shorter than these, or
 -- one of another kind that isn't whole
 pub record IsCut (rest : List ℕ) : Type 0 where
   pub some_left : 0 < length rest

@@ -5,7 +5,7 @@ use Rattle.njh_record.specs.Bytes.{number_at}
 use Rattle.njh_header.specs.declared.fault.HeaderFault.{HeaderFault}
 use Rattle.njh_header.specs.declared.fault.HeaderFault.TheVariants.{TooShort, NoGeneralSection, SectionOverrun}
 
--- What stands at the front of the sections that are left.
+-- What is at the front of the sections that are left.
 pub data Front : Type 0 where
   Ends : Front
   Cut : Front

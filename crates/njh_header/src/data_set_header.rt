@@ -2,7 +2,6 @@
 
 use crate::fault::HeaderFault;
 use crate::field::{read_name, write_field};
-use crate::laws::one_data_set_header;
 use crate::places::data_set;
 use crate::section::find_general;
 use crate::user::{Destination, User};
@@ -41,7 +40,6 @@ impl DataSetHeader {
         ensures header { result ≡ data_set_header bytes.now }
         ensures within { IfOk result (λ header. header.place + 8 ≤ length bytes.now) }
     {
-        one_data_set_header();
         Self::of_sections(bytes)
     }
 

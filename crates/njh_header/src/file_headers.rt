@@ -26,7 +26,7 @@ pub trait FileRecords {
         ensures { slice_get (records self.now) n ≡ Some (record { srcb = result; bytes = into.new.items }) };
 }
 
-/// The job header of a file: its first record, where that reads.
+/// The job header of a file: its first record, if that reads.
 pub fn job_header_of<F: FileRecords>(file: &F) -> Option<JobHeader>
     ensures { result ≡ headers.job_header_of (F.records file.now) }
 {
@@ -40,8 +40,8 @@ pub fn job_header_of<F: FileRecords>(file: &F) -> Option<JobHeader>
     }
 }
 
-/// The first data set header of a file: the first record behind its job header and the
-/// continuations of that, where it reads.
+/// The first data set header of a file: the first record after its job header and the
+/// continuations of that, if it reads.
 pub fn data_set_header_of<F: FileRecords>(file: &F) -> Option<DataSetHeader>
     ensures { result ≡ headers.data_set_header_of (F.records file.now) }
 {

@@ -3,7 +3,6 @@
 use crate::fault::HeaderFault;
 use crate::field::{read_name, read_number, write_field};
 use crate::file_name::FileName;
-use crate::laws::one_job_header;
 use crate::places::job;
 use crate::section::find_general;
 use crate::user::{Destination, User};
@@ -60,7 +59,6 @@ impl JobHeader {
         ensures header { result ≡ job_header bytes.now }
         ensures within { IfOk result (λ header. header.place + 8 ≤ length bytes.now) }
     {
-        one_job_header();
         Self::of_sections(bytes)
     }
 

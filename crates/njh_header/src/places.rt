@@ -1,4 +1,4 @@
-//! Where the fields of headers and sign-ons (IBM SC23-0070) stand.
+//! Where the fields of headers and sign-ons (IBM SC23-0070) are.
 //!
 //! Each place is a count of bytes from the beginning of the part that its module names. Nodes,
 //! users, names and passwords are fields of eight bytes in EBCDIC, and numbers are of two bytes,
@@ -65,8 +65,8 @@ pub mod data_set {
     pub const DESTINATION_USER: usize = 12;
 }
 
-/// A sign-on from its length byte on, behind RCB and SRCB. Between these fields and behind them
-/// stand length (1) at 0, qualifier (1) at 9, event sequence (4), resistance (2), the node's own
+/// A sign-on from its length byte on, after RCB and SRCB. Between these fields and after them
+/// are length (1) at 0, qualifier (1) at 9, event sequence (4), resistance (2), the node's own
 /// password (8) at 26, flag (1) and features (4).
 pub mod sign_on {
     /// What has to be there: all up to the block size.

@@ -15,7 +15,7 @@ const BLANKS: [u8; FIELD] = [BLANK; FIELD];
 /// The length that is written: that of the whole record, with RCB and SRCB.
 const LENGTH_OF_ALL: u8 = 41;
 
-/// What stands behind the node.
+/// What comes after the node.
 const QUALIFIER: u8 = 0x01;
 
 /// Event sequence (4) and resistance (2).
@@ -31,7 +31,7 @@ pub struct SignOn {
     pub node: Name,
     /// The size of the longest text that its sender takes.
     pub block: u16,
-    /// The line's password with blanks behind, all blanks where there is none.
+    /// The line's password with blanks after it, all blanks if there is none.
     pub password: [u8; 8],
 }
 

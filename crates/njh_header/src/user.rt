@@ -8,7 +8,7 @@ use std::marker::Model;
 pub struct User {
     /// The node.
     pub node: Name,
-    /// The field of the user there, blanks where there is none.
+    /// The field of the user there, blanks if there is none.
     pub user: [u8; 8],
 }
 
@@ -27,7 +27,7 @@ impl Model for User {
 pub struct Destination {
     /// The field of the node, which needn't be a name.
     pub node: [u8; 8],
-    /// The field of the user there, blanks where there is none.
+    /// The field of the user there, blanks if there is none.
     pub user: [u8; 8],
 }
 
