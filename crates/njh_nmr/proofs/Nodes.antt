@@ -19,7 +19,7 @@ either_bad true false to origin n e (inr bad) = cc
 either_bad true true to origin n e (inl bad) = cc
 either_bad true true to origin n e (inr bad) = cc
 
--- where one of the nodes is no name, the record isn't one
+-- if one of the nodes is no name, the record isn't one
 pub nodal_of-bad_name : (bytes : List ℕ) (e : NmrFault) → 30 ≤ length bytes → slice_index bytes 3 ≤ longest_message
     → slice_index bytes 3 ≤ length bytes - 30 → (Err e ≡ node_of (field 4 8 bytes))
     ⊎ (Err e ≡ node_of (field 21 8 bytes))

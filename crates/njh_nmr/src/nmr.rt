@@ -84,7 +84,7 @@ impl Nmr {
     ghost use Rattle.njh_nmr.specs.Nodal.{nodal_of, record_of, cut_after_message, IsMessage, is_user_command};
     ghost use Rattle.njh_nmr.specs.Nodal.{notice_to, notice_record};
 
-    /// The message that a record holds; what stands behind it in the record is not read.
+    /// The message that a record holds; what comes after it in the record is not read.
     pub fn read(bytes: &[u8]) -> Result<Nmr, NmrFault>
         ensures read { result ≡ nodal_of bytes.now }
         ensures sent_on { IfOk result (λ n. record_of n ≡ cut_after_message bytes.now) }
