@@ -40,8 +40,8 @@ keys_from-same s t (suc n) key same =
     let later = keys_from-same s t n (next_at s key) (λ k in_rest. same k (omega (arith, times-cons k key rest))) in
     ap (λ x. key ∷ keys_from t n x) here ∙ ap (λ xs. key ∷ xs) later
 
-pub data_of-same : (s t : Slab SpoolBlock) (keys : List ℕ) → ((k : ℕ) → 0 < times_in k keys → data_at t k ≡ data_at s k) →
-    data_of t keys ≡ data_of s keys
+pub data_of-same : (s t : Slab SpoolBlock) (keys : List ℕ)
+    → ((k : ℕ) → 0 < times_in k keys → data_at t k ≡ data_at s k) → data_of t keys ≡ data_of s keys
 data_of-same s t [] same = refl
 data_of-same s t (k ∷ rest) same =
     let here = same k (omega (arith, times-cons k k rest, one_itself k)) in
@@ -49,8 +49,8 @@ data_of-same s t (k ∷ rest) same =
     flat_map-cons (data_at t) k rest ∙ ap (λ xs. xs ++ data_of t rest) here ∙ ap (λ xs. data_at s k ++ xs) later
     ∙ sym (flat_map-cons (data_at s) k rest)
 
-pub length-data_of : (s : Slab SpoolBlock) (keys : List ℕ) → ((k : ℕ) → 0 < times_in k keys → length (data_at s k) ≡ 252) →
-    length (data_of s keys) ≡ 252 * length keys
+pub length-data_of : (s : Slab SpoolBlock) (keys : List ℕ)
+    → ((k : ℕ) → 0 < times_in k keys → length (data_at s k) ≡ 252) → length (data_of s keys) ≡ 252 * length keys
 length-data_of s [] full = refl
 length-data_of s (k ∷ rest) full =
     let here = full k (omega (arith, times-cons k k rest, one_itself k)) in

@@ -184,8 +184,8 @@ one_of f (x ∷ xs) d one =
           (suc later.0, omega (arith, later.1), later.2)
     ]
 
-pub lies_in_one : (s : Slab SpoolBlock) (chains : List ChainEnds) (capacity : ℕ) → IsChained s chains capacity → (key : ℕ) →
-    ContainsKey s key → LiesInOne s chains key
+pub lies_in_one : (s : Slab SpoolBlock) (chains : List ChainEnds) (capacity : ℕ) → IsChained s chains capacity
+    → (key : ℕ) → ContainsKey s key → LiesInOne s chains key
 lies_in_one s chains capacity chained key has =
     let count = λ (ends : ChainEnds). times_in key (keys_of s ends) in
     let one = chained.once key ∙ from_block (get s key) has in

@@ -106,8 +106,9 @@ module _ (on : OnChain) where
           (key_lies s chains i capacity ends chained within is b key few key_at)
 
       -- bytes of the string that lie in the block
-      pub part_is : (at place n : ℕ) (block : SpoolBlock) → get s key ≡ Some block → 252 * b + at ≡ place → at + n ≤ 252 →
-          place + n ≤ length (chain_at i store).bytes → field at n block.bytes ≡ field place n (chain_at i store).bytes
+      pub part_is : (at place n : ℕ) (block : SpoolBlock) → get s key ≡ Some block → 252 * b + at ≡ place →
+          at + n ≤ 252 → place + n ≤ length (chain_at i store).bytes →
+          field at n block.bytes ≡ field place n (chain_at i store).bytes
       part_is at place n block held begins fits_here inside_too =
           let size = len_on in
           ap (λ (o : Option SpoolBlock). field at n (data_in o)) (sym held)

@@ -18,6 +18,6 @@ pub fn each_block_lies_once()
     ensures file { (blocks : Slab SpoolBlock) (chains : List ChainEnds) (capacity customers : ℕ)
         → IsChained blocks chains capacity → length chains ≡ max_files * customers
         → (key : ℕ) → ContainsKey blocks key → LiesInOneFile blocks chains customers key }
-    ensures sized { (blocks : Slab SpoolBlock) (chains : List ChainEnds) (capacity : ℕ) → IsChained blocks chains capacity
-        → All (λ ends. length (keys_of blocks ends) ≡ blocks_for ends.len) chains }
+    ensures sized { (blocks : Slab SpoolBlock) (chains : List ChainEnds) (capacity : ℕ)
+        → IsChained blocks chains capacity → All (λ ends. length (keys_of blocks ends) ≡ blocks_for ends.len) chains }
 {}
