@@ -146,10 +146,10 @@ checking_app = with_subcommand encoding_app check_app.top
 abbrev pub program_app : App
 program_app = with_subcommand checking_app files_app.top
 
--- as many turns as a text spells, or no end of them where there is none; of `files` the number of a file
-abbrev pub CountsTurns : Option Text → Option ℕ → Type 0
-CountsTurns None turns = turns ≡ None
-CountsTurns (Some text) turns = IsSomeAnd turns (Spells text)
+-- the number that an option's text spells, if there is one: of turns, or of a file
+abbrev pub SpellsNumber : Option Text → Option ℕ → Type 0
+SpellsNumber None number = number ≡ None
+SpellsNumber (Some text) number = IsSomeAnd number (Spells text)
 
 -- lines listen at the address that a text spells
 abbrev pub ListensAt : Option Text → IpAddr → Type 0
@@ -182,11 +182,11 @@ AsksFor named (Files spool customer file number raw) = (named.0 ≡ codes "files
     × (first_of (codes "spool") named.1 ≡ Some spool.now)
     × (first_of (codes "customer") named.1 ≡ option_map (λ s. s.now) customer)
     × (first_of (codes "export") named.1 ≡ option_map (λ s. s.now) file)
-    × CountsTurns (first_of (codes "number") named.1) number
+    × SpellsNumber (first_of (codes "number") named.1) number
     × IsFlag (codes "raw") named.1 raw
 AsksFor named (Serve tables turns listen quiet spool) = (named.0 ≡ codes "serve")
     × (first_of (codes "tables") named.1 ≡ Some tables.now)
-    × CountsTurns (first_of (codes "turns") named.1) turns
+    × SpellsNumber (first_of (codes "turns") named.1) turns
     × ListensAt (first_of (codes "listen") named.1) listen
     × IsFlag (codes "quiet") named.1 quiet
     × (first_of (codes "spool") named.1 ≡ option_map (λ s. s.now) spool)

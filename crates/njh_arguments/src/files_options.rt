@@ -1,13 +1,15 @@
 //! The options of `files`.
 
 ghost use Rattle.std.specs.Prelude.{◌≡◌, codes, false, IfOk, IfErr};
-ghost use Rattle.clap.specs.Words.{app_of, first_of, found_of, new_app, rows_of, rule_of};
+ghost use Rattle.clap.specs.Words.{app_of, found_of, new_app, rows_of, rule_of};
 ghost use Rattle.clap.specs.declared.builder.command.Command.TheViews.{out-Command};
-ghost use Rattle.njh_arguments.specs.Arguments.{AsksFor, CountsTurns, IsUnasked, customer_rule, export_rule, files_app};
+ghost use Rattle.njh_arguments.specs.Arguments.{AsksFor, IsUnasked, customer_rule, export_rule, files_app};
 ghost use Rattle.njh_arguments.specs.Arguments.{exporting_app, listing_app, number_rule};
 
 use crate::arguments::Request;
-use crate::options::{described_command, flag, is_set, spool_option, valued_option, with_option};
+use crate::options::{
+    described_command, flag, is_set, number_of, spool_option, valued_option, with_option,
+};
 use crate::serve_options::Unasked;
 use clap::builder::ValueParser;
 use clap::{Arg, ArgAction, ArgMatches, Command};
@@ -30,7 +32,7 @@ pub(crate) fn files_in<'a>(options: &ArgMatches<'a>) -> Result<Request<'a>, Unas
     let Some(spool) = options.get_str("spool") else {
         return Err(Unasked::Missing);
     };
-    let number = number_in(options)?;
+    let number = number_of(options, "number")?;
     Ok(Request::Files {
         spool,
         customer: options.get_str("customer"),
@@ -38,20 +40,6 @@ pub(crate) fn files_in<'a>(options: &ArgMatches<'a>) -> Result<Request<'a>, Unas
         number,
         raw: is_set(options, "raw"),
     })
-}
-
-/// Which of the files it is, where that is said.
-fn number_in<'a>(options: &ArgMatches<'a>) -> Result<Option<u32>, Unasked<'a>>
-    ensures asked { IfOk result (CountsTurns (first_of (codes "number") (rows_of (found_of options.now)))) }
-    ensures refused { IfErr result (IsUnasked (rows_of (found_of options.now))) }
-{
-    match options.get_str("number") {
-        Some(text) => match text.parse::<u32>() {
-            Ok(number) => Ok(Some(number)),
-            Err(_) => Err(Unasked::Missing),
-        },
-        None => Ok(None),
-    }
 }
 
 /// `files`, with its options.

@@ -1,11 +1,13 @@
 //! Options that several subcommands have.
 
-ghost use Rattle.std.specs.Prelude.{◌≡◌, false, IfOk, Some};
-ghost use Rattle.clap.specs.Words.{App, Rule, app_of, found_of, new_app, new_rule, rows_of, rule_of, with_rule};
+ghost use Rattle.std.specs.Prelude.{◌≡◌, false, IfOk, IfErr, Some};
+ghost use Rattle.clap.specs.Words.{App, Rule, app_of, first_of, found_of, new_app, new_rule, rows_of, rule_of};
+ghost use Rattle.clap.specs.Words.{with_rule};
 ghost use Rattle.clap.specs.declared.builder.ArgAction.TheVariants.{Set};
 ghost use Rattle.clap.specs.declared.builder.command.Command.TheViews.{out-Command};
-ghost use Rattle.njh_arguments.specs.Arguments.{IsFlag, flag_rule, spool_rule, tables_rule};
+ghost use Rattle.njh_arguments.specs.Arguments.{IsFlag, IsUnasked, SpellsNumber, flag_rule, spool_rule, tables_rule};
 
+use crate::serve_options::Unasked;
 use clap::{Arg, ArgAction, ArgMatches, Command};
 use std::alloc::{AllocError, Global};
 
@@ -96,5 +98,22 @@ pub(crate) fn is_set(options: &ArgMatches<'_>, flag: &str) -> bool
     match options.get_str(flag) {
         Some(text) => text == "true",
         None => false,
+    }
+}
+
+/// The number that an option of this name has, if there is one.
+pub(crate) fn number_of<'a>(
+    options: &ArgMatches<'a>,
+    name: &str,
+) -> Result<Option<u32>, Unasked<'a>>
+    ensures asked { IfOk result (SpellsNumber (first_of name.now (rows_of (found_of options.now)))) }
+    ensures refused { IfErr result (IsUnasked (rows_of (found_of options.now))) }
+{
+    match options.get_str(name) {
+        Some(text) => match text.parse::<u32>() {
+            Ok(number) => Ok(Some(number)),
+            Err(_) => Err(Unasked::Missing),
+        },
+        None => Ok(None),
     }
 }

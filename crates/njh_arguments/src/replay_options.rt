@@ -52,7 +52,8 @@ fn bare_replay<'a>(alloc: Global) -> Command<'a>
     described_command(
         alloc,
         "replay",
-        "Runs a script of events from standard input, and prints the frames that the hub sends and the files that it then has",
+        "Runs a script of events from standard input, and prints the frames that the hub sends \
+         and the files that it then has",
         REPLAY_EXAMPLE,
     )
 }

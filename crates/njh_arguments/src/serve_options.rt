@@ -3,12 +3,13 @@
 ghost use Rattle.std.specs.Prelude.{◌≡◌, codes, false, IfOk, IfErr};
 ghost use Rattle.clap.specs.Words.{app_of, first_of, found_of, new_app, rows_of, rule_of};
 ghost use Rattle.clap.specs.declared.builder.command.Command.TheViews.{out-Command};
-ghost use Rattle.njh_arguments.specs.Arguments.{AsksFor, CountsTurns, IsUnasked, ListensAt, bounded_serve_app};
+ghost use Rattle.njh_arguments.specs.Arguments.{AsksFor, IsUnasked, ListensAt, bounded_serve_app};
 ghost use Rattle.njh_arguments.specs.Arguments.{listen_rule, listening_app, serve_app, turns_rule};
 
 use crate::arguments::Request;
 use crate::options::{
-    described_command, flag, is_set, spool_option, tables_option, valued_option, with_option,
+    described_command, flag, is_set, number_of, spool_option, tables_option, valued_option,
+    with_option,
 };
 use clap::builder::ValueParser;
 use clap::{Arg, ArgAction, ArgMatches, Command};
@@ -41,7 +42,7 @@ pub(crate) fn served_in<'a>(options: &ArgMatches<'a>) -> Result<Request<'a>, Una
     let Some(tables) = options.get_str("tables") else {
         return Err(Unasked::Missing);
     };
-    let turns = turns_in(options)?;
+    let turns = number_of(options, "turns")?;
     let listen = address_in(options)?;
     Ok(Request::Serve {
         tables,
@@ -50,20 +51,6 @@ pub(crate) fn served_in<'a>(options: &ArgMatches<'a>) -> Result<Request<'a>, Una
         quiet: is_set(options, "quiet"),
         spool: options.get_str("spool"),
     })
-}
-
-/// How many turns there are to be, if they end.
-fn turns_in<'a>(options: &ArgMatches<'a>) -> Result<Option<u32>, Unasked<'a>>
-    ensures asked { IfOk result (CountsTurns (first_of (codes "turns") (rows_of (found_of options.now)))) }
-    ensures refused { IfErr result (IsUnasked (rows_of (found_of options.now))) }
-{
-    match options.get_str("turns") {
-        Some(text) => match text.parse::<u32>() {
-            Ok(turns) => Ok(Some(turns)),
-            Err(_) => Err(Unasked::Missing),
-        },
-        None => Ok(None),
-    }
 }
 
 /// Where lines are to listen.
