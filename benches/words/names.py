@@ -4,6 +4,7 @@ source file, each wrong body that docs/PROMISES.md leaves out, each clause, as i
 function of that name has, and each import of the sources that leads nowhere (imports.py). If nothing is printed all are
 right, else the status is 1."""
 
+import os
 import pathlib
 import re
 import sys
@@ -21,9 +22,11 @@ ELSEWHERE = {"RT_JOBS", "version", "logic", "memcpy", "memmove", "memset", "ratt
 
 
 def sources():
-    for path in sorted(ROOT.rglob("*")):
-        if path.suffix in KINDS and not {"out", ".git", "docs"} & set(path.relative_to(ROOT).parts):
-            yield path, path.read_text(encoding="utf-8")
+    for folder, folders, files in os.walk(ROOT):
+        folders[:] = sorted({*folders} - {"out", ".git", "docs"})
+        for path in (pathlib.Path(folder, file) for file in sorted(files)):
+            if path.suffix in KINDS:
+                yield path, path.read_text(encoding="utf-8")
 
 
 def named(text):
