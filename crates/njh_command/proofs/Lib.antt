@@ -4,7 +4,7 @@ mod SplitLaws
 mod RecordLaws
 mod ReplyLaws
 mod WalkLaws
-mod CommandMoves
-mod RerouteNodes
-mod HeadersKept
+pub mod CommandMoves
+pub mod RerouteNodes
+pub mod HeadersKept
 mod LookingLaws

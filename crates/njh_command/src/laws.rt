@@ -2,9 +2,6 @@
 
 ghost use Rattle.njh_command.specs.CommandLaws.{CommandsKeepHeaders, CommandsMoveFilesSo, ReroutesNameNodes};
 
-use njh_ebcdic::trimming;
-use njh_header::redirected_files_have_headers;
-
 /// A message of a user moves no whole file, or the user's own of one name, and these in one of four
 /// ways: they are held or released, go to another node, or are cancelled. A command that does one
 /// of these or nothing is known to all that stands on this law.
@@ -15,14 +12,9 @@ pub fn commands_move_files_so()
 /// A node that a message reroutes files to is a name.
 pub fn reroutes_name_nodes()
     ensures { ReroutesNameNodes }
-{
-    trimming();
-}
+{}
 
 /// Whole files with headers that read have them whatever a user says.
 pub fn commands_keep_headers()
     ensures { CommandsKeepHeaders }
-{
-    reroutes_name_nodes();
-    redirected_files_have_headers();
-}
+{}

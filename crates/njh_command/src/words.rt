@@ -48,7 +48,7 @@ fn after_blanks(bytes: &[u8]) -> &[u8]
     ensures front { position_or_len is_blank result.now ≡ 0 → result.now ≡ [] }
 {
     let mut rest = bytes;
-    'blanks: while let [BLANK, after @ ..] = rest {
+    while let [BLANK, after @ ..] = rest {
         rest = after;
     }
     rest

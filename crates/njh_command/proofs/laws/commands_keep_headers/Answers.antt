@@ -2,4 +2,4 @@ use Rattle.njh_command.proofs.HeadersKept.{headers_kept}
 use Rattle.njh_command.proofs.laws.commands_keep_headers.Goals as goal
 
 pub returns : goal.returns
-returns c = headers_kept c.reroutes_name_nodes.ensures c.redirected_files_have_headers.ensures
+returns c = headers_kept
