@@ -5,23 +5,16 @@ ghost use Rattle.njh_spool.specs.Spools.{spool_at};
 ghost use Rattle.njh_stream.specs.Sending.{goes_by};
 ghost use Rattle.njh_table.specs.TableFile.{customer_at, entry_of};
 ghost use Rattle.njh_sched.specs.NextBlock.{sources, after_sources, filled_block, filling};
-ghost use Rattle.njh_sched.specs.code.Filling.{filling_where, has_items};
+ghost use Rattle.njh_sched.specs.code.Filling.{filling_where};
 
 use crate::aborts::add_aborts;
 use crate::outgoing::Outgoing;
 use crate::queues::{add_answers, add_messages};
-use crate::records::add_records;
+use crate::records::add_turns;
 use crate::requests::add_requests;
 use njh_block::BlockWriter;
 use njh_spool::Spool;
 use njh_table::{LineId, NamedCustomer, Tables};
-
-/// Whether a block has records.
-fn has_items(writer: &BlockWriter) -> bool
-    ensures { result ≡ has_items writer.now.items }
-{
-    !writer.is_empty()
-}
 
 /// Adds from each source in its order, until a record has no room, and says whether all had.
 fn add_all<L: Outgoing>(
@@ -51,10 +44,10 @@ fn add_all<L: Outgoing>(
     if !add_messages(line, writer) {
         return false;
     }
-    add_records(line, id.customer, spool, writer)
+    add_turns(line, id.customer, spool, writer)
 }
 
-/// Fills a line's next block, and says whether it has records then: the answers that wait; the
+/// Fills a line's next block: the answers that wait; the
 /// streams' aborts; for each idle stream a request for the oldest file that is Ready, of its kind,
 /// and goes by the line; the nodal messages, where the peer lets them; and records and ends of file
 /// of the streams that the peer lets send, in turn. The first that has no room waits for another
@@ -66,7 +59,7 @@ pub fn fill<L: Outgoing>(
     spool: &mut Spool,
     tables: &Tables,
     writer: &mut BlockWriter,
-) -> bool
+)
     requires range { id.customer < length spool.old }
     requires known { id.customer < length tables.now.customers }
     ensures block { writer.new ≡ (filled_block (goes_by (entry_of (customer_at tables.now id.customer)) id.number)
@@ -77,12 +70,10 @@ pub fn fill<L: Outgoing>(
     ensures spool { spool.new ≡ slice_set spool.old id.customer
         (filled_block (goes_by (entry_of (customer_at tables.now id.customer)) id.number)
         (filling writer.old (L.outlet line.old) (spool_at id.customer spool.old))).spool }
-    ensures added { result ≡ has_items writer.new.items }
     // what isn't of its outlet stays
     ensures rest { L.rest line.new ≡ L.rest line.old }
 {
     if !line.peer_fcs().all_suspended() {
         add_all(line, id, tables.customer(id.customer), spool, writer);
     }
-    has_items(writer)
 }

@@ -38,7 +38,7 @@ fn next_served<L: Outgoing>(line: &L) -> Option<Stream>
 
 /// Adds a stream's next record, or its end of file, where it has room. Else the stream stays where
 /// it is.
-fn add_record<L: Outgoing>(
+fn add_turn<L: Outgoing>(
     stream: Stream,
     line: &mut L,
     customer: u16,
@@ -73,7 +73,7 @@ fn add_record<L: Outgoing>(
 
 /// Adds records and ends of file of the streams in turn, until one has no room, and says whether
 /// all had.
-fn add_turns<L: Outgoing>(
+fn add_all_turns<L: Outgoing>(
     line: &mut L,
     customer: u16,
     spool: &mut Spool,
@@ -89,15 +89,15 @@ fn add_turns<L: Outgoing>(
     let _some_room = writer.text();
     let mut record = Record::new();
     while let Some(stream) = next_served(line) {
-        if !add_record(stream, line, customer, spool, &mut record, writer) {
+        if !add_turn(stream, line, customer, spool, &mut record, writer) {
             return false;
         }
     }
     true
 }
 
-/// As `add_turns`, which makes room for a record, where a stream may send one.
-pub fn add_records<L: Outgoing>(
+/// As `add_all_turns`, which makes room for a record, where a stream may send one.
+pub fn add_turns<L: Outgoing>(
     line: &mut L,
     customer: u16,
     spool: &mut Spool,
@@ -111,7 +111,7 @@ pub fn add_records<L: Outgoing>(
     ensures rest { L.rest line.new ≡ L.rest line.old }
 {
     match next_served(line) {
-        Some(_) => add_turns(line, customer, spool, writer),
+        Some(_) => add_all_turns(line, customer, spool, writer),
         None => true,
     }
 }

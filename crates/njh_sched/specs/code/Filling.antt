@@ -1,5 +1,5 @@
 -- A block while the code fills it.
-use Rattle.std.specs.Prelude.{ℕ, ◌-◌, Bool, true, false, List, [], ◌∷◌, length, not}
+use Rattle.std.specs.Prelude.{ℕ, ◌-◌, Bool, true, false, length, not}
 use Rattle.njh_block.specs.Blocks.{Item, text_of}
 use Rattle.njh_block.specs.Writing.{Writing, with_last}
 use Rattle.njh_spool.specs.CustomerSpool.{CustomerSpool}
@@ -22,8 +22,3 @@ with_last_where false i w = w
 abbrev pub message_gone_where : Bool → Outlet → Outlet
 message_gone_where true o = without_message o
 message_gone_where false o = o
-
--- whether a block has records
-abbrev pub has_items : List Item → Bool
-has_items [] = false
-has_items (i ∷ is) = true

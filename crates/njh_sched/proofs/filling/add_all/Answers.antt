@@ -209,7 +209,7 @@ returns-clause-source g c =
     ∙ ap (λ n. after_sources (goes_by (entry_of c.args.entry.now) c.args.id.number) (turns n)
     (filling c.add_messages.new.writer
     (g.L.Outgoing.outlet c.add_messages.new.line) (spool_at c.args.id.customer c.add_requests.new.spool))) (sym limit)
-    ∙ c.add_records.ensures.source (goes_by (entry_of c.args.entry.now) c.args.id.number)
-    ∙ ap (λ spool. filling_where c.add_records.result c.add_records.new.writer
-    (g.L.Outgoing.outlet c.add_records.new.line)
-    (spool_at c.args.id.customer spool)) (sym c.add_records.ensures.spool)
+    ∙ c.add_turns.ensures.source (goes_by (entry_of c.args.entry.now) c.args.id.number)
+    ∙ ap (λ spool. filling_where c.add_turns.result c.add_turns.new.writer
+    (g.L.Outgoing.outlet c.add_turns.new.line)
+    (spool_at c.args.id.customer spool)) (sym c.add_turns.ensures.spool)

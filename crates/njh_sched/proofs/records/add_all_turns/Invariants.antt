@@ -3,7 +3,7 @@ use Rattle.njh_spool.specs.CustomerSpool.{WholeFile}
 use Rattle.njh_spool.specs.Spools.{spool_at}
 use Rattle.njh_sched.specs.NextBlock.{after_sources, filling, turns}
 use Rattle.njh_sched.specs.code.Filling.{room_of}
-use Rattle.njh_sched.proofs.records.add_turns.Given as goal
+use Rattle.njh_sched.proofs.records.add_all_turns.Given as goal
 
 abbrev pub invariant-loop-stream : goal.invariant-loop-stream
 invariant-loop-stream g l = record {

@@ -1,7 +1,7 @@
 use Rattle.std.proofs.Common.{sym}
 use Rattle.njh_spool.specs.Spools.{spool_at}
 use Rattle.njh_sched.proofs.TurnLaws.{no_turns}
-use Rattle.njh_sched.proofs.records.add_records.Goals as goal
+use Rattle.njh_sched.proofs.records.add_turns.Goals as goal
 
 pub returns-in-None-clause-source : goal.returns-in-None-clause-source
 returns-in-None-clause-source g c goes =
