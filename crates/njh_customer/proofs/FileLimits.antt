@@ -6,16 +6,15 @@ use Words.{arith, eqb-true, or_parts, sum_by_push, list_any, count_by_none, Cust
 use Words.{as_whole, has_file_room, is_number, next_number, partial_numbered, with_appended, with_arrived}
 use Words.{with_finished, without_partial, files_numbered, CustomerEntry, RouteEntry, with_new_destination}
 use Words.{changed_file, Customer, fresh_customer, AreApart, customer_with_routes, ℕ, Bool, true, false, cond, not}
-use Words.{List, [], length, map, filter, Option, Some, None, Result, Ok, Err, refl, sym, ap, arith, eqb-true}
+use Words.{List, [], length, map, filter, Option, Some, None, refl, sym, ap, arith, eqb-true}
 use Words.{length-append, leb-true, ltb-true, length-map, length-filter_both, sum_by-cons, sum_by_push, length-filter}
-use Words.{map-map, flat_map, sum_by, is_name, Stored, has_srcb, Kind, In, Out, header_law, with_data_set_node}
-use Words.{with_data_set_nodes, with_destination, with_job_node, with_node_at, DataSetHeader, JobHeader}
-use Words.{data_set_fields, data_set_header, job_fields, job_header, HasGeneral, HeaderFault, length-with_field}
+use Words.{map-map, sum_by, is_name, Stored, Kind, records_to_node}
 use Words.{CustomerSpool, PartialFile, WholeFile, as_whole, cost, next_number, partial_numbered, stored_size}
 use Words.{used_blocks, with_appended, with_arrived, with_finished, without_partial, CustomerEntry, RouteEntry}
 use Words.{find_counts, ready, changed_file, may_change, with_new_destination, Customer, fresh_customer, IsWithinQuota}
 use Words.{customer_with_routes, limits_of}
-use Rattle.std.proofs.Common.{◌≡◌, ◌≤◌, ◌+◌, ◌==◌, ◌∷◌, ◌++◌, ◌/◌, ◌&&◌, ◌∙◌}
+use Rattle.std.proofs.Common.{◌≡◌, ◌≤◌, ◌+◌, ◌==◌, ◌∷◌, ◌++◌, ◌/◌, ◌∙◌}
+use Rattle.njh_header.proofs.{DestinationRecords.{sent, sent_long}, Redirected.redirected_is}
 use Rattle.njh_customer.proofs.FileListLaws.{changed_numbers, changed_where, numbers, some_less, but_states, found_less}
 use Rattle.njh_customer.proofs.{FileListLaws.{same_sum, as_many}, Restated.IsRestated, SpoolWalks.StaysInFiles}
 use Rattle.njh_customer.proofs.SpoolWalks.{routes_so}
@@ -123,86 +122,24 @@ partial_cost f = cost f.records
 
 -- ---- another destination: eight bytes are written over eight bytes of a header
 
--- bytes up to a place in the general section
-within_general : (size place at : ℕ) (bytes : List ℕ) → HasGeneral size bytes place → at ≤ size
-    → place + at ≤ length bytes
-within_general size place at bytes general inside =
-    let passes = general.passes in
-    let sections : List ℕ = flat_map (λ section. section) passes.sections in
-    let front = length-append passes.before sections in
-    let all = length-append (passes.before ++ sections) general.rest in
-    omega (arith, ap length passes.parts)
-
-job_place : (bytes : List ℕ) (h : JobHeader) → job_header bytes ≡ Ok h → h.place + 8 ≤ length bytes
-job_place bytes h reads =
-    let is = (header_law 96 64 job_fields bytes h).0 reads in
-    let fact = ap (λ (x : JobHeader). x.place) is.says in
-    omega (arith, within_general 96 is.section 88 bytes is.general (omega arith))
-
-data_set_place : (bytes : List ℕ) (h : DataSetHeader) → data_set_header bytes ≡ Ok h → h.place + 8 ≤ length bytes
-data_set_place bytes h reads =
-    let is = (header_law 20 4 data_set_fields bytes h).0 reads in
-    let fact = ap (λ (x : DataSetHeader). x.place) is.says in
-    omega (arith, within_general 20 is.section 12 bytes is.general (omega arith))
-
--- a name is eight bytes
-name_eight : (node : List ℕ) → is_name node ≡ true → length node ≡ 8
-name_eight node named = at_test (length node == 8) _ refl named
-  where
-    at_test : (b more : Bool) → (length node == 8) ≡ b → (b && more) ≡ true → length node ≡ 8
-    at_test true more is e = eqb-true (length node) 8 is
-    at_test false more is e = absurd (cc e)
-
 abbrev size_of : Stored → ℕ
 size_of r = 3 + length r.bytes
 
-module _ (node : List ℕ) (eight : length node ≡ 8) where
-  written_size : (place : ℕ) (r : Stored) → place + 8 ≤ length r.bytes → size_of (with_node_at place node r) ≡ size_of r
-  written_size place r inside = omega (arith, length-with_field place node r.bytes (omega arith))
-
-  job_size : (records : List Stored) → stored_size (with_job_node node records) ≡ stored_size records
-  job_size [] = refl
-  job_size (r ∷ rs) = at_header (job_header r.bytes) refl
-    where
-      at_header : (h : Result JobHeader HeaderFault) → job_header r.bytes ≡ h
-          → stored_size (elim h [ Ok h ↦ with_node_at h.place node r ∷ rs | Err e ↦ r ∷ rs ]) ≡ stored_size (r ∷ rs)
-      at_header (Err fault) e = refl
-      at_header (Ok h) e =
-          let fact = sum_by-cons size_of (with_node_at h.place node r) rs in
-          let besides = sum_by-cons size_of r rs in
-          omega (arith, written_size h.place r (job_place r.bytes h e))
-
-  data_set_size : (r : Stored) → size_of (with_data_set_node node r) ≡ size_of r
-  data_set_size r = at_header (data_set_header r.bytes) refl
-    where
-      at_header : (h : Result DataSetHeader HeaderFault) → data_set_header r.bytes ≡ h
-          → size_of (elim h [ Ok h ↦ with_node_at h.place node r | Err e ↦ r ]) ≡ size_of r
-      at_header (Err fault) e = refl
-      at_header (Ok h) e = written_size h.place r (data_set_place r.bytes h e)
-
-  where_size : (b : Bool) (r : Stored) → size_of (cond b (with_data_set_node node r) r) ≡ size_of r
-  where_size true r = data_set_size r
-  where_size false r = refl
-
-  output_size : (after : Bool) (records : List Stored) → stored_size
-      (with_data_set_nodes node after records) ≡ stored_size records
-  output_size after [] = refl
-  output_size after (r ∷ rs) = omega (
+module _ (node : List ℕ) (named : is_name node ≡ true) where
+  redirected_size : (kind : Kind) (before : Option ℕ) (records : List Stored)
+      → stored_size (records_to_node kind node before records) ≡ stored_size records
+  redirected_size kind before [] = refl
+  redirected_size kind before (r ∷ rs) = omega (
     arith,
-    sum_by-cons size_of (cond (has_srcb 0xe0 r && not after) (with_data_set_node node r) r)
-        (with_data_set_nodes node (has_srcb 0xe0 r) rs),
+    sum_by-cons size_of (sent kind before r node) (records_to_node kind node (Some r.srcb) rs),
     sum_by-cons size_of r rs,
-    where_size (has_srcb 0xe0 r && not after) r,
-    output_size (has_srcb 0xe0 r) rs,
+    sent_long kind before r node named,
+    redirected_size kind (Some r.srcb) rs,
   )
 
-  redirected_size : (kind : Kind) (records : List Stored)
-      → stored_size (with_destination kind node records) ≡ stored_size records
-  redirected_size In records = job_size records
-  redirected_size Out records = output_size false records
-
   redirected_cost : (f : WholeFile) → whole_cost (with_new_destination node f) ≡ whole_cost f
-  redirected_cost f = ap (λ (n : ℕ). (n + 251) / 252) (redirected_size f.kind f.records)
+  redirected_cost f = ap (λ (n : ℕ). (n + 251) / 252)
+      (sym (ap stored_size (redirected_is f.kind node f.records)) ∙ redirected_size f.kind None f.records)
 
 -- ---- spools
 
@@ -275,7 +212,7 @@ within_files = record {
   rerouted = λ p node s named.
       same_cost s (record s { whole = map (changed_file p (with_new_destination node)) s.whole }) refl refl
       (changed_where whole_cost (may_change p) (with_new_destination node) s.whole
-      (redirected_cost node (name_eight node named)));
+      (redirected_cost node named));
 }
 
 pub within_routes : (routes : List RouteEntry) (c : Customer) → IsWithinQuota c.spool

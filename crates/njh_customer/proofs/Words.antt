@@ -23,26 +23,21 @@ pub use Rattle.njh_bisync.specs.{Reading.{AfterDle, AfterSoh, InText, Nothing, R
 pub use Rattle.njh_bisync.specs.declared.frame.Control.TheVariants.{Ack0, Enquiry, Nak}
 pub use Rattle.njh_ebcdic.specs.{Names.is_name, Users.User}
 pub use Rattle.njh_record.proofs.{Fronts.front_leaves_less, ReadingLaws.{by_steps, read_on}}
-pub use Rattle.njh_record.specs.{Spelling.added_bytes, Stored.{Stored, has_srcb}, Unspelled.{Bad, Cut, Fault, Front}}
+pub use Rattle.njh_record.specs.{Spelling.added_bytes, Stored.Stored, Unspelled.{Bad, Cut, Fault, Front}}
 pub use Rattle.njh_record.specs.Unspelled.{OfEnd, OfItem, Unspelled, record_at_front, with_front}
 pub use Rattle.njh_record.specs.{code.Parts.StandsFirst, declared.{End.{End, TheVariants.Record}, Kind.Kind}}
-pub use Rattle.njh_record.specs.declared.Kind.TheVariants.{In, Out}
 pub use Rattle.njh_block.specs.Blocks.{Aborted, First, General, Item, after_control, all_suspended, block_with}
 pub use Rattle.njh_block.specs.Blocks.{first_record, form_of, is_bcb, is_fcs, item_of, items_in, messages_on, rcb_of}
 pub use Rattle.njh_block.specs.Blocks.{read_block, read_items, record_of_form, record_of_one_byte, record_of_spelling}
 pub use Rattle.njh_block.specs.{Blocks.{same_fcs, stream_number, stream_of, text_of, with_item}, Codes.kind_of}
 pub use Rattle.njh_block.specs.{Writing.{Writing, has_room}, declared.answer.Answer.Answer}
 pub use Rattle.njh_block.specs.declared.{fault.BlockFault.{BlockFault, TheVariants.{BadBcb, BadFcs}}, rcb.Form.Form}
-pub use Rattle.njh_header.{proofs.HeadersLaw.header_law, specs.FileHeaders.{destination_of, with_data_set_node}}
-pub use Rattle.njh_header.specs.FileHeaders.{with_data_set_nodes, with_destination, with_job_node, with_node_at}
-pub use Rattle.njh_header.specs.{FileNames.FileName, Headers.{DataSetHeader, JobHeader, data_set_fields}}
-pub use Rattle.njh_header.specs.{Headers.{data_set_header, job_fields, job_header}, Redirecting.records_to_node}
-pub use Rattle.njh_header.specs.{Sections.HasGeneral, SignOns.SignOn, WholeFiles.HasHeaders}
-pub use Rattle.njh_header.specs.declared.fault.HeaderFault.{HeaderFault}
+pub use Rattle.njh_header.specs.{FileHeaders.{destination_of, with_destination}, FileNames.FileName}
+pub use Rattle.njh_header.specs.{Redirecting.records_to_node, SignOns.SignOn, WholeFiles.HasHeaders}
 pub use Rattle.njh_nmr.specs.Nodal.{Nodal, cut_after_message, is_user_command, nodal_of, notice_record, sender_of}
 pub use Rattle.njh_nmr.specs.declared.fault.NmrFault.{NmrFault}
 pub use Rattle.njh_texts.specs.Texts.{node_unknown}
-pub use Rattle.njh_spool.{proofs.{CostLaws.length-with_field, OnlyOne.count_by_none}, specs.CustomerSpool.CustomerSpool}
+pub use Rattle.njh_spool.{proofs.OnlyOne.count_by_none, specs.CustomerSpool.CustomerSpool}
 pub use Rattle.njh_spool.specs.CustomerSpool.{PartialFile, WholeFile, as_whole, cost, empty_spool, has_block}
 pub use Rattle.njh_spool.specs.CustomerSpool.{has_file_room, has_room_for, is_number, max_arrived, next_number}
 pub use Rattle.njh_spool.specs.CustomerSpool.{one_more, partial_numbered, partial_records, stored_size, used_blocks}

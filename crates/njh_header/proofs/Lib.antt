@@ -5,4 +5,6 @@ pub mod Redirected
 pub mod SectionsLaw
 pub mod HeadersLaw
 pub mod SignOnBack
-pub mod RedirectedHeaders
+pub mod ChangedFields
+pub mod DestinationRecords
+pub mod Destinations

@@ -12,7 +12,8 @@ use Rattle.njh_header.specs.FileHeaders.{with_node_at, with_data_set_node, with_
 use Rattle.njh_header.specs.Redirecting.{is_after_header, redirected_record, records_to_node}
 
 -- a job's file keeps its records after the first
-kept : (node : List ℕ) (before : ℕ) (records : List Stored) → records_to_node In node (Some before) records ≡ records
+pub kept : (node : List ℕ) (before : ℕ) (records : List Stored)
+    → records_to_node In node (Some before) records ≡ records
 kept node before [] = refl
 kept node before (r ∷ rs) = ap (λ (more : List Stored). r ∷ more) (kept node r.srcb rs)
 

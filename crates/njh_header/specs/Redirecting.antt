@@ -22,6 +22,14 @@ destination_place Out before r =
     cond (has_srcb 0xe0 r && not (is_after_header before))
     (option_map (λ h. h.place) (result_ok (data_set_header r.bytes))) None
 
+-- which node it names there
+abbrev pub destination_node : Kind → Option ℕ → Stored → Option (List ℕ)
+destination_node In None r = option_map (λ h. h.execution.node) (result_ok (job_header r.bytes))
+destination_node In (Some before) r = None
+destination_node Out before r =
+    cond (has_srcb 0xe0 r && not (is_after_header before))
+    (option_map (λ h. h.destination.node) (result_ok (data_set_header r.bytes))) None
+
 abbrev pub redirected_record : List ℕ → Option ℕ → Stored → Stored
 redirected_record node None r = r
 redirected_record node (Some place) r = with_node_at place node r
