@@ -14,7 +14,7 @@ use Rattle.njh_command.specs.CommandLaws.{FilesMove, CommandsKeepHeaders, stay, 
 use Rattle.njh_command.specs.CommandLaws.{rerouted, cancelled}
 use Rattle.njh_command.proofs.CommandMoves.{files_move}
 use Rattle.njh_command.proofs.RerouteNodes.{nodes_are_names}
-use Rattle.njh_header.proofs.RedirectedHeaders.{still_has_headers}
+use Rattle.njh_header.proofs.Destinations.{still_has_headers}
 
 abbrev Reads : WholeFile → Type 0
 Reads f = HasHeaders f.kind f.records
