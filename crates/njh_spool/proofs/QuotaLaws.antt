@@ -45,3 +45,11 @@ room_left (s ∷ spools) (suc c) blocks within_all within room =
           within_all,
       room_left spools c blocks (All-tail IsWithin s spools within_all) (omega arith) room,
     )
+
+-- nor does the capacity run out, if it is at least all quotas
+pub room_within : (spools : List CustomerSpool) (capacity c blocks : ℕ) → All IsWithin spools
+    → sum_by (λ (s : CustomerSpool). s.quota) spools ≤ capacity → c < length spools
+    → used_blocks (get_or spools c no_spool) + blocks ≤ (get_or spools c no_spool).quota
+    → sum_by used_blocks spools + blocks ≤ capacity
+room_within spools capacity c blocks within_all quotas within room =
+    omega (arith, room_left spools c blocks within_all within room)

@@ -10,7 +10,6 @@ ghost use Rattle.njh_spool.specs.Spools.{spool_at, begin_fault, append_fault, or
 use crate::file_headers::read_headers;
 use crate::file_id::FileId;
 use crate::file_slot::{FileSlot, Stage};
-use crate::laws::quotas_leave_room;
 use crate::record_places::{RECORD_HEAD, head_of};
 use crate::slot_places::{free_number, place, slot_at};
 use crate::spool::Spool;
@@ -89,7 +88,6 @@ impl Spool {
             return Err(SpoolFault::QuotaFull);
         }
         own.used = used;
-        quotas_leave_room();
         self.store.append_both(at, &head_of(srcb, bytes), bytes);
         slot.count += 1;
         self.slots.set(customer, id, slot);

@@ -12,6 +12,7 @@ use Rattle.njh_spool.proofs.CallLaws as call
 use Rattle.njh_record.specs.Stored.{Stored}
 use Rattle.njh_spool.specs.code.Packing.{packed_record}
 use Rattle.njh_spool.proofs.PackingLaws.{length-packed_record}
+use Rattle.njh_spool.proofs.QuotaLaws.{room_within}
 use Rattle.njh_spool.proofs.Calls.{MovesTo, call_on, slot_at, chain_of_file, spools_in}
 use Rattle.njh_spool.proofs.spool.Spool.append.Goals as goal
 use Rattle.njh_spool.proofs.spool.Spool.append.Goals.{After-is_partial, After-blocks_for, After-blocks_for-2}
@@ -157,7 +158,7 @@ append_both-requires-clause-room c =
     let room = finds.room here (record { srcb = c.args.srcb; bytes = c.args.bytes.now })
     (chain_of_file here).keys (there_is first) small
     (omega (arith, now_used at, quota, c.if-used-own.false))
-    (λ more. c.quotas_leave_room.ensures (spools_in c.self.inside) c.self.inside.store.capacity c.args.customer more
+    (λ more. room_within (spools_in c.self.inside) c.self.inside.store.capacity c.args.customer more
     (within_all c.self.inside.store c.self.inside.slots c.self.inside.customers.items c.self.invariant)
     (quotas_fit c.self.inside.store c.self.inside.slots c.self.inside.customers.items c.self.invariant)
     (rw c.self.view_is c.requires.range)) in
