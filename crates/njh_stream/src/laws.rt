@@ -17,7 +17,6 @@ ghost use Rattle.njh_header.specs.WholeFiles.{HasHeaders};
 ghost use Rattle.njh_record.specs.Stored.{Stored};
 
 use crate::receiver::{Progress, Receiver};
-use njh_spool::next_number_is_least;
 
 /// Of the records that came and how it ended, a transmission becomes one thing and no other.
 pub fn one_outcome()
@@ -59,9 +58,7 @@ pub fn streams_end_so()
         → (received_arrival entry l kind (Receiver.Open n progress) a s).spool ≡ without_partial n s }
     ensures cut { (entry : CustomerEntry) (l : ℕ) (kind : Kind) (receiver : Receiver) (s : CustomerSpool)
         → received_arrival entry l kind receiver Request s ≡ received_request kind (without_open receiver s) }
-{
-    next_number_is_least();
-}
+{}
 
 /// A customer's streams and its partial files stay tied: each open stream keeps what its file says,
 /// no two have the same file, and none is without a stream. So it is where nothing comes, and so it
@@ -79,6 +76,4 @@ pub fn streams_stay_tied()
         → AreTied (without_streams l lines) (without_all_open (streams_at l lines) s) }
     ensures untouched { (lines : List (List Receiver)) (s t : CustomerSpool) → t.partial ≡ s.partial → AreTied lines s
         → AreTied lines t }
-{
-    next_number_is_least();
-}
+{}

@@ -24,7 +24,7 @@ use njh_block::{Answer, ControlRcb, Stream};
 use njh_ebcdic::FIELD;
 use njh_header::srcb;
 use njh_record::Kind;
-use njh_spool::{FileId, Spool, next_number_is_least};
+use njh_spool::{FileId, Spool};
 use njh_table::{LineId, Tables};
 
 /// How far a file that comes in has got.
@@ -137,7 +137,6 @@ impl Receiver {
             stream id.customer spool.old spool.new self.new result }
         ensures agrees { Agrees (kind_of stream) self.new (spool_at id.customer spool.new) }
     {
-        next_number_is_least();
         let receiver = *self;
         match receive_unread(receiver, &arrival, stream.kind(), id.customer, spool) {
             Some(after) => {
