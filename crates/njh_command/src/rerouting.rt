@@ -11,7 +11,7 @@ use crate::files::{
     count_records, kind_of, read_record, read_srcb, rewrite_record, set_state, state_of,
 };
 use njh_ebcdic::Name;
-use njh_header::{destination_place, redirected_by_records, srcb};
+use njh_header::{destination_place, srcb};
 use njh_record::{Kind, Record};
 use njh_spool::{Spool, State};
 
@@ -32,7 +32,6 @@ pub(crate) fn reroute(node: Name, spool: &mut Spool, customer: u16, index: u32)
         (spool_at customer spool.old)) }
 {
     redirect(node, spool, customer, index);
-    redirected_by_records();
     try_again(spool, customer, index);
 }
 

@@ -4,6 +4,7 @@ use Rattle.njh_record.specs.Stored.{Stored}
 use Rattle.njh_spool.specs.CustomerSpool.{CustomerSpool, WholeFile}
 use Rattle.njh_spool.specs.Spools.{spool_at}
 use Rattle.njh_header.specs.Redirecting.{records_to_node}
+use Rattle.njh_header.proofs.Redirected.{redirected_is}
 use Rattle.njh_command.specs.Commands.{state_after_reroute, file_in_state}
 use Rattle.njh_command.specs.Files.{file_at, with_file, with_records}
 use Rattle.njh_command.proofs.WalkLaws.{file_is, file_twice, moved_twice}
@@ -25,5 +26,5 @@ returns c =
     ∙ file_twice s c.args.index g (ready g)
     ∙ ap (λ (records : List Stored). with_file c.args.index
     (file_in_state (state_after_reroute f.state) (with_records records f)) s)
-    (c.redirected_by_records.ensures f.kind c.args.node f.records)
+    (redirected_is f.kind c.args.node f.records)
     )
