@@ -93,7 +93,7 @@ fn files_in(alloc: Global, rows: &[Row]) -> Result<Vec<StoredFile>, Error>
         → map entry_of stored.items ≡ files) }
 {
     let mut stored = Vec::new(alloc);
-    'rows: for row in rows {
+    for row in rows {
         stored.push(file_in(row)?)?;
     }
     Ok(stored)
@@ -104,7 +104,7 @@ fn records_in(alloc: Global, rows: &[Row]) -> Result<Vec<StoredRecord>, Error>
         → map contents_of stored.items ≡ map contents records) }
 {
     let mut stored = Vec::new(alloc);
-    'rows: for row in rows {
+    for row in rows {
         stored.push(record_in(row)?)?;
     }
     Ok(stored)

@@ -39,7 +39,7 @@ fn are_columns(columns: &[Column], wanted: &[(&str, Kind)]) -> bool
     if columns.len() != wanted.len() {
         return false;
     }
-    'columns: for at in 0..columns.len() {
+    for at in 0..columns.len() {
         let (name, kind) = wanted[at];
         if !is_column(&columns[at], name, kind) {
             return false;

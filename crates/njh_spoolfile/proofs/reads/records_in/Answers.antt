@@ -3,9 +3,10 @@ use Rattle.njh_spoolfile.specs.Kept.{record_shown, contents, contents_of}
 use Rattle.njh_spoolfile.proofs.Loops.{read_more}
 use Rattle.njh_spoolfile.proofs.reads.records_in.Goals as goal
 
-pub rows-preserved : goal.rows-preserved
-rows-preserved c records is =
+pub loop-row-preserved : goal.loop-row-preserved
+loop-row-preserved c records is =
     ap (map contents_of) c.in_ok-push.ensures.items
-    ∙ read_more record_shown contents contents_of c.args.rows.now c.rows.stored.items c.in_ok-record_in.field-0
-    c.rows.row-index c.row-item.result c.rows-test.true c.row-item.is c.in_ok-record_in.ensures c.rows.invariant records
+    ∙ read_more record_shown contents contents_of c.args.rows.now c.loop-row.stored.items c.in_ok-record_in.field-0
+    c.loop-row.row-index c.row-item.result c.loop-row-test.true c.row-item.is c.in_ok-record_in.ensures
+    c.loop-row.invariant records
     is
