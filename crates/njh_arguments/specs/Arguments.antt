@@ -36,7 +36,7 @@ abbrev pub replay_app : App
 replay_app = with_rule (with_rule (new_app (codes "replay")) tables_rule) (flag_rule (codes "decode"))
 
 -- the options of `serve`: a table file, which it must have, a number of turns, an address, which is this machine's own
--- where none is given, and the flag `--quiet`
+-- if none is given, and the flag `--quiet`
 abbrev pub wanted_tables_rule : Rule
 wanted_tables_rule = record tables_rule { required = true }
 

@@ -44,9 +44,9 @@ pub enum Request<'a> {
     Files {
         /// The spool file.
         spool: &'a str,
-        /// Whose files; all customers' where none is named.
+        /// Whose files; all customers' if none is named.
         customer: Option<&'a str>,
-        /// The file whose records are written; where none is named the files are listed.
+        /// The file whose records are written; if none is named the files are listed.
         file: Option<&'a str>,
         /// Which of these files it is, counted from 1.
         number: Option<u32>,
@@ -60,7 +60,7 @@ pub enum Request<'a> {
 pub enum Task<'a> {
     /// To replay a script.
     Replay {
-        /// The table file; the built-in tables where none is named.
+        /// The table file; the built-in tables if none is named.
         tables: Option<&'a str>,
         /// With its output in words.
         in_words: bool,
@@ -79,7 +79,7 @@ pub enum Task<'a> {
     },
     /// To check a script.
     CheckScript {
-        /// The table file; the built-in tables where none is named.
+        /// The table file; the built-in tables if none is named.
         tables: Option<&'a str>,
         /// The file with the script.
         file: &'a str,

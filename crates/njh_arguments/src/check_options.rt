@@ -38,7 +38,7 @@ pub(crate) fn checked_in<'a>(options: &ArgMatches<'a>) -> Result<Request<'a>, Un
     }))
 }
 
-/// What they ask for where no script is named.
+/// What they ask for if no script is named.
 fn tables_in<'a>(options: &ArgMatches<'a>) -> Result<Request<'a>, Unasked<'a>>
     requires { first_of (codes "script") (rows_of (found_of options.now)) ≡ None }
     ensures asked { IfOk result (AsksFor (codes "check", rows_of (found_of options.now))) }

@@ -32,7 +32,7 @@ is_written (out.Abort rcb srcb) can = can
 is_written (out.Control rcb srcb) can = (rcb, refl)
 is_written (out.General srcb bytes) can = can
 
--- a message reads from its record where nothing stands behind
+-- a message reads from its record if nothing comes after
 pub nodal_back : (n : Nodal)
     → ((m : Nodal) (behind : List ℕ) → IsMessage m → nodal_of (record_of m ++ behind) ≡ Ok m)
     → IsMessage n → nodal_of (record_of n) ≡ Ok n

@@ -53,7 +53,7 @@ pub answered_gives : (known : Option Texts) (name : List ℕ) (given : Result (L
 answered_gives None name given holds = refl
 answered_gives (Some texts) name given holds = holds texts refl
 
--- some, where nothing was asked for
+-- some, if nothing was asked for
 abbrev pub some_texts : Option Texts → Texts
 some_texts known = answered known (Err NoFile)
 
@@ -104,7 +104,7 @@ long-first known states number [] long = absurd (false≢true long)
 long-first known states number (line ∷ lines) long =
     long-bad known states number line lines (ltb-true max_line_bytes (length line) long)
 
--- what the bytes of a line become where they are a text, and where they aren't
+-- what the bytes of a line become if they are a text, and if they aren't
 pub text_taken : (texts : Texts) (states : List LineState) (line words : List ℕ) → words ≡ line → IsUtf8 line
     → bytes_taken texts states line ≡ words_taken texts states words
 unfolding bytes_taken

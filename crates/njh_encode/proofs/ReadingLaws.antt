@@ -89,7 +89,7 @@ known_then (Some xs) (Some ys) seen P taken holds = subst P (sym taken) (holds y
 
 -- ---- how far a piece was read
 
--- What was taken of it became these lines of a script, and what is left comes behind what was kept.
+-- What was taken of it became these lines of a script, and what is left comes after what was kept.
 abbrev pub IsReadUpTo : (known : Option Texts) (a : Progress) (piece old_script left script : List ℕ) (b : Progress)
     → Type 0
 IsReadUpTo known a piece old_script left script b = (lines : List ℕ) × (script ≡ old_script ++ lines)

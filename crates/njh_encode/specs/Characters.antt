@@ -6,7 +6,7 @@ use Rattle.njh_ebcdic.specs.CodePage.{page_byte}
 use Rattle.njh_encode.specs.declared.fault.Reason.{Reason}
 use Rattle.njh_encode.specs.declared.fault.Reason.TheVariants.{NoCharacter, TooLong}
 
--- whether a character has a byte: it has 0 where there is none
+-- whether a character has a byte: it has 0 if there is none
 abbrev pub is_there : ℕ → Bool
 is_there byte = not (byte == 0)
 

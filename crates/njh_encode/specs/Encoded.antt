@@ -48,7 +48,7 @@ said_frame state (says.SignOn srcb on) = Some (frame_of_block (block_with 0xa0 (
 said_frame state says.SignOff = Some (frame_of_block (next_block state (General 0xc2 [])))
 said_frame state (says.Message n) = Some (frame_of_block (next_block state (Data 0x9a 0x80 (record_of n))))
 
--- what is kept of the line behind a statement
+-- what is kept of the line after a statement
 abbrev pub state_after : LineState → Statement → LineState
 state_after state (says.Control control) = state
 state_after state says.End = state
@@ -79,7 +79,7 @@ label words = words
 unfoldable pub script_line : List ℕ → List ℕ → List ℕ → List ℕ
 script_line word name rest = label word ++ name ++ rest ++ 10 ∷ []
 
--- digits behind a name
+-- digits after a name
 unfoldable pub digits_line : List ℕ → List ℕ → List ℕ
 digits_line name digits = script_line (codes "BYTES ") name (32 ∷ digits)
 
@@ -108,7 +108,7 @@ pub record Saying : Type 0 where
   pub state : LineState
   pub statement : Statement
 
--- what is said, where it is a statement; what is appended to the script; and what is then kept of each line
+-- what is said, if it is a statement; what is appended to the script; and what is then kept of each line
 pub record Outcome : Type 0 where
   pub saying : Option Saying
   pub script : List ℕ
@@ -141,7 +141,7 @@ bytes_outcome states name digits =
 unfoldable pub statement_outcome : List LineState → List ℕ → List ℕ → List ℕ → Result Outcome Reason
 statement_outcome states field name text = outcome_of name states (state_of field states) (statement_in text)
 
--- what stands right of the colon and its blank, on a line of this name
+-- what is right of the colon and its blank, on a line of this name
 unfoldable pub words_outcome : List LineState → List ℕ → List ℕ → List ℕ → Result Outcome Reason
 words_outcome states field name text =
     cond (bytes_eq (first_word text) (codes "bytes")) (bytes_outcome states name (behind text))
@@ -162,7 +162,7 @@ is_script_word word =
     bytes_eq word (codes "BYTES") || (bytes_eq word (codes "TICK") || (bytes_eq word (codes "GARBLED")
     || (bytes_eq word (codes "LOST") || bytes_eq word (codes "ROUTES"))))
 
--- a blank stands first
+-- a blank comes first
 abbrev pub is_indented : List ℕ → Bool
 is_indented [] = false
 is_indented (b ∷ bs) = b == 32
@@ -170,12 +170,12 @@ is_indented (b ∷ bs) = b == 32
 unfoldable pub is_direction : List ℕ → Bool
 is_direction word = bytes_eq word (codes "in") || bytes_eq word (codes "out")
 
--- the words of a frame, as `decode` prints them: the name of a line and ` in: ` or ` out: ` stand before them
+-- the words of a frame, as `decode` prints them: the name of a line and ` in: ` or ` out: ` come before them
 unfoldable pub is_of_frame : List ℕ → Bool
 is_of_frame line =
     is_name (first_word line) && (is_direction (front 58 (behind line)) && is_indented (back 58 (behind line)))
 
--- a line in words of `decode`, which is left out: those of a frame, or those of a record, which a blank stands before
+-- a line in words of `decode`, which is left out: those of a frame, or those of a record, which a blank comes before
 unfoldable pub is_left_out : List ℕ → Bool
 is_left_out line = is_indented line || is_of_frame line
 
@@ -184,7 +184,7 @@ abbrev pub is_comment : List ℕ → Bool
 is_comment [] = true
 is_comment (b ∷ bs) = b == 35
 
--- a line that stands in the script as it is
+-- a line that is in the script as it is
 unfoldable pub is_kept : List ℕ → Bool
 is_kept line = is_comment line || is_script_word (first_word line)
 

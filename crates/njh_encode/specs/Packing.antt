@@ -60,7 +60,7 @@ file_items p lines =
 
 -- ---- blocks
 
--- how many bytes a text has at most: as many as the line signed on with, from 300 to 4,096; 1,024 where it didn't
+-- how many bytes a text has at most: as many as the line signed on with, from 300 to 4,096; 1,024 if it didn't
 unfoldable pub text_limit : ℕ → ℕ
 text_limit size = cond (size == 0) 1024 (min (max size 300) 4096)
 
@@ -76,7 +76,7 @@ writing_on state items = record {
   items = items;
 }
 
--- records as blocks, where these are in the first one already: each goes into the block before it, as long as that has
+-- records as blocks, if these are in the first one already: each goes into the block before it, as long as that has
 -- room
 abbrev pub packed : LineState → List Item → List Item → List Block
 packed state begun [] = block_of state begun ∷ []
@@ -86,7 +86,7 @@ packed state begun (item ∷ items) =
       | false ↦ block_of state begun ∷ packed (counted state) (item ∷ []) items
     ]
 
--- what is kept of the line behind blocks
+-- what is kept of the line after blocks
 abbrev pub counted_by : List Block → LineState → LineState
 counted_by [] state = state
 counted_by (b ∷ blocks) state = counted_by blocks (counted state)

@@ -5,7 +5,7 @@ use Rattle.std.specs.Option.{option_map, option_and_then}
 use Rattle.njh_encode.specs.declared.posting.Posting.{Posting}
 use Rattle.njh_encode.specs.Words.{back, behind, first_word, front, line_in, name_in, named, number_in}
 
--- behind the owner: `to PAUL@METZ`
+-- after the owner: `to PAUL@METZ`
 unfoldable pub posting_to : List ℕ → ℕ → List ℕ → List ℕ → Option Posting
 posting_to origin number owner text =
     cond (bytes_eq (first_word text) (codes "to"))
@@ -20,7 +20,7 @@ posting_to origin number owner text =
     }) (name_in (back 64 (behind text))))
     (name_in (front 64 (behind text)))) None
 
--- behind the file's name: `of ANNA to PAUL@METZ`
+-- after the file's name: `of ANNA to PAUL@METZ`
 unfoldable pub posting_from : List ℕ → ℕ → List ℕ → Option Posting
 posting_from origin number text =
     option_and_then (λ owner. posting_to origin number owner (behind (behind text))) (named (codes "of") text)
@@ -34,7 +34,7 @@ posting_in text =
     (number_in (back 46 file)))
     (name_in (front 46 file))
 
--- behind the comma: a text's name, which has one byte at least
+-- after the comma: a text's name, which has one byte at least
 abbrev pub are_lines_from : List ℕ → Bool
 are_lines_from tail =
     (length (first_word tail) == 0) && (bytes_eq (first_word (behind tail)) (codes "lines")
@@ -44,7 +44,7 @@ are_lines_from tail =
 unfoldable pub letter_in : List ℕ → Option (List ℕ)
 letter_in text = cond (are_lines_from (back 44 text)) (Some (behind (behind (behind (back 44 text))))) None
 
--- whether a line says a file, whatever stands behind that word: a line of the hub, a colon, a blank and `file`
+-- whether a line says a file, whatever comes after that word: a line of the hub, a colon, a blank and `file`
 unfoldable pub is_of_file : List ℕ → Bool
 is_of_file line =
     is_some (line_in (front 58 line)) && ((length (first_word (back 58 line)) == 0)

@@ -30,7 +30,7 @@ reason_of letter.TooLong = LongFile
 reason_of letter.Device = UnreadFile
 reason_of letter.Memory = Memory
 
--- what a file becomes on a line of the hub: the script with its blocks, and the count behind them
+-- what a file becomes on a line of the hub: the script with its blocks, and the count after them
 abbrev pub posted : List LineState → List ℕ → List ℕ → Posting → Result (List (List ℕ)) Reason → Result Outcome Reason
 posted states field name p (Err reason) = Err reason
 posted states field name p (Ok records) = Ok (record {
@@ -43,7 +43,7 @@ abbrev pub posted_of : List LineState → List ℕ → List ℕ → Posting → 
 posted_of states field name p (Ok letter) = posted states field name p (records_of (lines_of letter))
 posted_of states field name p (Err fault) = Err (reason_of fault)
 
--- by its words: what stands before the comma, and the text behind it
+-- by its words: what comes before the comma, and the text after it
 abbrev pub posted_by : Texts → List LineState → List ℕ → List ℕ → Option Posting → Option (List ℕ)
     → Result Outcome Reason
 posted_by texts states field name None letter = Err NoFile
@@ -75,7 +75,7 @@ outcome_in_text texts states line = cond (is_long_line line) (Err LongLine) (byt
 
 -- ---- texts
 
--- the lines of a script that lines of words become, and the first bad line, where there is one: up to it alone
+-- the lines of a script that lines of words become, and the first bad line, if there is one: up to it alone
 pub record Encoding : Type 0 where
   pub script : List ℕ
   pub bad : Option EncodeFault
@@ -86,7 +86,7 @@ behind_script front encoding = record { script = front ++ encoding.script; bad =
 abbrev pub bad_line : ℕ → Reason → Encoding
 bad_line number reason = record { script = []; bad = Some (record { line = number; reason = reason }) }
 
--- of a line with this number, and then of those behind it
+-- of a line with this number, and then of those after it
 abbrev pub then_lines : ℕ → Result Outcome Reason → (List LineState → Encoding) → Encoding
 then_lines number (Ok outcome) behind = behind_script outcome.script (behind outcome.states)
 then_lines number (Err reason) behind = bad_line number reason
@@ -108,13 +108,13 @@ abbrev pub AreAnswered : (known : Option Texts) (texts : Texts) → Type 0
 AreAnswered None texts = ⊤
 AreAnswered (Some known) texts = texts ≡ known
 
--- a line with this number, and then those behind it, become this
+-- a line with this number, and then those after it, become this
 abbrev pub BecomesThen : ℕ → Result Outcome Reason → (behind : List LineState → Encoding → Type 0) → Encoding → Type 0
 BecomesThen number (Ok outcome) behind encoding =
     (rest : Encoding) × behind outcome.states rest × (encoding ≡ behind_script outcome.script rest)
 BecomesThen number (Err reason) behind encoding = encoding ≡ bad_line number reason
 
--- Lines that are counted from a number on become this. Each is taken by texts of its own where none are known: a file
+-- Lines that are counted from a number on become this. Each is taken by texts of its own if none are known: a file
 -- may have changed when its name comes again.
 abbrev pub LinesBecome : (known : Option Texts) → List LineState → ℕ → List (List ℕ) → Encoding → Type 0
 LinesBecome known states number [] encoding = encoding ≡ record { script = []; bad = None }

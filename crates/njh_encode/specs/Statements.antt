@@ -1,4 +1,4 @@
--- What stands right of the colon: a statement.
+-- What is right of the colon: a statement.
 use Rattle.std.specs.Prelude.{ℕ, ◌==◌, List, length, replicate, Option, Some, None, Result, Ok, Err, cond, bytes_eq}
 use Rattle.std.specs.Prelude.{codes}
 use Rattle.std.specs.Option.{option_map, option_and_then, ok_or}
@@ -58,7 +58,7 @@ control_in verb =
 unfoldable pub request : ControlRcb → List ℕ → Result Statement Reason
 request rcb text = ok_or (option_map (λ stream. says.Request rcb stream) (stream_in text)) NoStream
 
--- ---- sign-ons: `as NODE block SIZE`, and `password WORD` behind where there is one
+-- ---- sign-ons: `as NODE block SIZE`, and `password WORD` after it if there is one
 
 unfoldable pub password_in : List ℕ → Option (List ℕ)
 password_in text =

@@ -1,4 +1,4 @@
--- What stands in a line of words: words parted by one blank, numbers, names and streams.
+-- What is in a line of words: words parted by one blank, numbers, names and streams.
 use Rattle.std.specs.Prelude.{ℕ, ◌+◌, ◌-◌, ◌*◌, Bool, List, [], ◌∷◌, ◌++◌, length, replicate, Option, Some, None, ◌==◌}
 use Rattle.std.specs.Prelude.{nat_le, nat_lt, cond, ◌&&◌, ◌||◌, bytes_eq, codes}
 use Rattle.std.specs.List.{list_all, before_first, after_first}
@@ -7,15 +7,15 @@ use Rattle.std.specs.Result.{result_ok}
 use Rattle.njh_ebcdic.specs.Names.{within}
 use Rattle.njh_ebcdic.specs.Reading.{name_of_text}
 
--- what stands before the first of a mark, or all where there is none
+-- what comes before the first of a mark, or all if there is none
 unfoldable pub front : ℕ → List ℕ → List ℕ
 front mark text = before_first (λ b. b == mark) text
 
--- what stands behind it, or nothing
+-- what comes after it, or nothing
 unfoldable pub back : ℕ → List ℕ → List ℕ
 back mark text = after_first (λ b. b == mark) text
 
--- the first word, and what stands behind its blank
+-- the first word, and what comes after its blank
 abbrev pub first_word : List ℕ → List ℕ
 first_word text = front 32 text
 

@@ -44,7 +44,7 @@ impl Encoder {
     }
 
     /// Takes a line of words, without its end, and appends what it becomes to the script. After a
-    /// refusal nothing has changed, but where memory was refused.
+    /// refusal nothing has changed, but if memory was refused.
     pub fn take_line(&mut self, line: &str, script: &mut Vec<u8>) -> Result<(), Reason>
         // What is appended, and what is then kept of each line, are as the definitions have it; or
         // the line is refused for the reason that they have.

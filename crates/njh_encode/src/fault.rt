@@ -7,17 +7,17 @@ use thiserror::Error;
 /// Why a line can't be encoded.
 #[derive(Clone, Copy, Debug, PartialEq, Eq, Error)]
 pub enum Reason {
-    /// What stands left of the colon isn't 1 to 8 letters and digits of ASCII.
+    /// What is left of the colon isn't 1 to 8 letters and digits of ASCII.
     #[error("no line's name before the colon")]
     NoLine,
-    /// What stands right of the colon begins with none of the words that there are, or goes on
+    /// What is right of the colon begins with none of the words that there are, or goes on
     /// where it has to end.
     #[error("no such words")]
     NoSuchWords,
     /// A request or an answer names no stream: SYSIN 1 to 4, SYSOUT 1 to 4.
     #[error("no stream")]
     NoStream,
-    /// A sign-on is not `as NODE block SIZE`, with or without `password WORD` behind.
+    /// A sign-on is not `as NODE block SIZE`, with or without `password WORD` after it.
     #[error("no sign-on")]
     NoSignOn,
     /// A message is not `from NODE to NODE USER: TEXT`.

@@ -31,13 +31,13 @@ pub fn packed_frames_read_back()
     njh_record::spelling_bounds();
 }
 
-/// What a text becomes is one thing where it is known what each name gives.
+/// What a text becomes is one thing if it is known what each name gives.
 pub fn known_texts_settle()
     ensures { (texts : Texts) (text : List ℕ) (encoding : Encoding) → Becomes (Some texts) text encoding
         → encoding ≡ encoding_of texts text }
 {}
 
-/// What a text becomes is one thing where none of its lines says a file.
+/// What a text becomes is one thing if none of its lines says a file.
 pub fn no_file_settles()
     ensures { (known : Option Texts) (texts : Texts) (text : List ℕ) (encoding : Encoding)
         → All (λ line. is_of_file line ≡ false) (lines_of text) → Becomes known text encoding

@@ -21,7 +21,7 @@ pub enum LetterFault {
 
 /// Texts by their names.
 pub trait Letters {
-    /// What each name gives, where that is known.
+    /// What each name gives, if that is known.
     ghost texts: { Self → Option Texts };
 
     /// The text of a name.

@@ -1,6 +1,6 @@
 //! Lines in plain words, as lines of a script: so that nobody writes a script's bytes by hand.
 //!
-//! What stands left of the colon is a line of the hub, and what stands right of it comes on that
+//! What is left of the colon is a line of the hub, and what is right of it comes on that
 //! line. So these
 //!
 //!     a1: contact

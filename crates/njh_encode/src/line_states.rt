@@ -16,7 +16,7 @@ pub(crate) struct LineState {
     pub name: [u8; LINE_NAME],
     /// The count of its next block, modulo 16.
     pub count: u8,
-    /// The block size that it signed on with, 0 where it didn't.
+    /// The block size that it signed on with, 0 if it didn't.
     pub size: u16,
 }
 
@@ -53,7 +53,7 @@ pub(crate) fn keep(state: LineState, states: &mut Vec<LineState>) -> Result<(), 
     }
 }
 
-/// Where the state of a line stands.
+/// Where the state of a line is.
 fn place_of(name: [u8; LINE_NAME], states: &[LineState]) -> Option<usize>
     ensures place { result ≡ position (is_named name) states.now }
     ensures within { IfSome result (λ place. place < length states.now) }
@@ -70,7 +70,7 @@ impl LineState {
         self.count % COUNTS
     }
 
-    /// This, where one more block went out.
+    /// This, if one more block went out.
     #[tactic(auto, unfolding(crate::specs::LineStates::counted))]
     pub fn counted(self) -> LineState
         ensures { result ≡ counted self }
@@ -81,7 +81,7 @@ impl LineState {
         }
     }
 
-    /// This, where a sign-on went out.
+    /// This, if a sign-on went out.
     #[tactic(auto, unfolding(crate::specs::LineStates::signed_on))]
     pub fn signed_on(self, size: u16) -> LineState
         ensures { result ≡ signed_on size self }

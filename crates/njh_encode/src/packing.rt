@@ -16,7 +16,7 @@ use std::marker::Model;
 /// The RCB of the stream SYSOUT 1.
 const SYSOUT: Rcb = Rcb { byte: 0x99 };
 
-/// The most bytes of a text where the line didn't sign on.
+/// The most bytes of a text if the line didn't sign on.
 const USUAL_LIMIT: usize = 1024;
 
 /// The fewest and the most bytes that a text's limit may be.
@@ -77,7 +77,7 @@ impl Packing {
         self.state
     }
 
-    /// Adds a record of the file. Where the block has no room for it, the block's line is appended
+    /// Adds a record of the file. If the block has no room for it, the block's line is appended
     /// first.
     pub(crate) fn add(
         &mut self,

@@ -30,10 +30,10 @@ const BLANK: u8 = 0x40;
 /// 100 and 96.
 const JOB_HEAD: [u8; 8] = [0, 100, 0, 0, 0, 96, 0, 0];
 
-/// What stands between the job's number and its name.
+/// What is between the job's number and its name.
 const BEHIND_NUMBER: [u8; 18] = [0; 18];
 
-/// What stands between the user who gave the job and its origin.
+/// What is between the user who gave the job and its origin.
 const BEHIND_USER: [u8; 24] = [0; 24];
 
 /// The prefix of a data set header, and its general section up to its destination: their lengths

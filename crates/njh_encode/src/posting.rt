@@ -23,7 +23,7 @@ pub(crate) struct Posting {
     pub destination: Name,
 }
 
-/// Whether a line says a file, whatever stands behind that word.
+/// Whether a line says a file, whatever comes after that word.
 #[tactic(auto, unfolding(crate::specs::Posted::is_of_file))]
 pub(crate) fn is_of_file(line: &str) -> bool
     ensures { result ≡ is_of_file line.now }
@@ -34,7 +34,7 @@ pub(crate) fn is_of_file(line: &str) -> bool
     line_of(name).is_some() && blank.is_empty() && word == "file"
 }
 
-/// The name of the text whose lines are a file's: it stands behind `lines from`.
+/// The name of the text whose lines are a file's: it comes after `lines from`.
 #[tactic(auto, unfolding(crate::specs::Posted::letter_in))]
 pub(crate) fn letter_of(text: &str) -> Option<&str>
     ensures { option_map (λ name. name.now) result ≡ letter_in text.now }
@@ -62,7 +62,7 @@ pub(crate) fn posting_of(text: &str) -> Option<Posting>
     posting_from(origin, number, rest)
 }
 
-/// The same, behind the file's name.
+/// The same, after the file's name.
 #[tactic(auto, unfolding(crate::specs::Posted::posting_from))]
 fn posting_from(origin: Name, number: u16, text: &str) -> Option<Posting>
     ensures { result ≡ posting_from origin number text.now }
@@ -71,7 +71,7 @@ fn posting_from(origin: Name, number: u16, text: &str) -> Option<Posting>
     posting_to(origin, number, owner, behind_two(text))
 }
 
-/// The same, behind its owner.
+/// The same, after its owner.
 #[tactic(auto, unfolding(crate::specs::Posted::posting_to))]
 fn posting_to(origin: Name, number: u16, owner: Name, text: &str) -> Option<Posting>
     ensures { result ≡ posting_to origin number owner text.now }

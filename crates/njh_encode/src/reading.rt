@@ -68,7 +68,7 @@ impl Reading {
         Ok(())
     }
 
-    /// Appends what the last line becomes, where it has no end of its own.
+    /// Appends what the last line becomes, if it has no end of its own.
     pub(crate) fn end<L: Letters>(
         &mut self,
         letters: &L,
@@ -87,7 +87,7 @@ impl Reading {
         }
     }
 
-    /// Takes a piece up to the end of a line, and answers what stands behind that; or keeps all of
+    /// Takes a piece up to the end of a line, and answers what comes after that; or keeps all of
     /// it.
     fn read<'p>(&mut self, piece: &'p [u8]) -> Result<Option<&'p [u8]>, EncodeEnd>
         ensures lines { IfOk result (λ behind. (more : List ℕ) → MatchOption behind

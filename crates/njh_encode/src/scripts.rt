@@ -128,7 +128,7 @@ fn encode_piece<L: Letters, W: Write>(
     }
 }
 
-/// Writes what the last line becomes, where it has no end of its own.
+/// Writes what the last line becomes, if it has no end of its own.
 fn encode_end<L: Letters, W: Write>(
     reading: &mut Reading,
     letters: &L,

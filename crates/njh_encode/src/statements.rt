@@ -1,4 +1,4 @@
-//! The statement that stands right of a colon.
+//! The statement that is right of a colon.
 
 ghost use Rattle.std.specs.Prelude.{◌≡◌, ◌≤◌, length};
 ghost use Rattle.njh_encode.specs.Words.{behind, name_in, named};
@@ -191,7 +191,7 @@ fn with_size(node: Name, text: &str) -> Option<SignOn>
     })
 }
 
-/// The password that ends a sign-on, blanks where nothing does.
+/// The password that ends a sign-on, blanks if nothing does.
 #[tactic(auto, unfolding(crate::specs::Statements::password_in))]
 fn password_in(text: &str) -> Option<[u8; FIELD]>
     ensures { result ≡ password_in text.now }
@@ -292,7 +292,7 @@ fn command_to(origin: Name, user: Name, text: &str) -> Option<Ends>
     Some(Ends { to, user, origin })
 }
 
-/// The name behind a word of its own.
+/// The name after a word of its own.
 #[tactic(auto, unfolding(crate::specs::Words::named))]
 pub(crate) fn named(label: &str, text: &str) -> Option<Name>
     ensures { result ≡ named label.now text.now }
@@ -305,7 +305,7 @@ pub(crate) fn named(label: &str, text: &str) -> Option<Name>
     name_of(name)
 }
 
-/// What stands behind two words.
+/// What comes after two words.
 pub(crate) fn behind_two(text: &str) -> &str
     ensures { result.now ≡ behind (behind text.now) }
 {

@@ -12,7 +12,7 @@ use njh_ebcdic::Name;
 /// How many bytes a name of a line has at most.
 pub(crate) const LINE_NAME: usize = 8;
 
-/// What stands before the first of a mark, or all where there is none, and what stands behind it,
+/// What comes before the first of a mark, or all if there is none, and what comes after it,
 /// or nothing.
 #[tactic(auto, unfolding(crate::specs::Words::front, crate::specs::Words::back))]
 pub(crate) fn parted(text: &str, mark: char) -> (&str, &str)
@@ -26,7 +26,7 @@ pub(crate) fn parted(text: &str, mark: char) -> (&str, &str)
     }
 }
 
-/// The first word, and what stands behind its blank.
+/// The first word, and what comes after its blank.
 pub(crate) fn next_word(text: &str) -> (&str, &str)
     ensures word { result.0.now ≡ first_word text.now }
     ensures behind { result.1.now ≡ behind text.now }

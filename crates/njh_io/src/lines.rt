@@ -13,7 +13,7 @@ use std::marker::Model;
 /// How many bytes a line has at most that comes in pieces.
 pub const MAX_LINE_BYTES: usize = 1_048_576;
 
-/// The first line of a text, and what stands behind its end; nothing where the text has no line.
+/// The first line of a text, and what comes after its end; nothing if the text has no line.
 pub fn next_line(text: &[u8]) -> Option<(&[u8], &[u8])>
     ensures lines { MatchOption result (lines_of text.now ≡ [])
         (λ parts. lines_of text.now ≡ parts.0.now ∷ lines_of parts.1.now) }
@@ -28,7 +28,7 @@ pub fn next_line(text: &[u8]) -> Option<(&[u8], &[u8])>
     }
 }
 
-/// The first line that ends in a text, and what stands behind its end; nothing where none ends.
+/// The first line that ends in a text, and what comes after its end; nothing if none ends.
 fn ended_line(text: &[u8]) -> Option<(&[u8], &[u8])>
     ensures lines { (front more : List ℕ) → MatchOption result
         (lines_from front (text.now ++ more) ≡ lines_from (front ++ text.now) more)
@@ -71,8 +71,8 @@ impl LineReader {
         }
     }
 
-    /// Takes a piece up to the first end of a line, and answers what stands behind that: then the
-    /// line is whole. Where no line ends in it the piece is kept.
+    /// Takes a piece up to the first end of a line, and answers what comes after that: then the
+    /// line is whole. If no line ends in it the piece is kept.
     pub fn take<'p>(&mut self, piece: &'p [u8]) -> Result<Option<&'p [u8]>, ReadFault>
         ensures lines { IfOk result (λ behind. (more : List ℕ) → MatchOption behind
             (lines_from self.old (piece.now ++ more) ≡ lines_from self.new more)

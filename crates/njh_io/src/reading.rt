@@ -30,7 +30,7 @@ pub fn read_text<R: Read>(alloc: Global, limit: usize, reader: &mut R) -> Result
     Err(ReadFault::Device)
 }
 
-/// Adds a piece to a text, where the limit isn't passed.
+/// Adds a piece to a text, if the limit isn't passed.
 fn add_piece(text: &mut Vec<u8>, limit: usize, piece: &[u8]) -> Result<(), ReadFault>
     requires { vec_len text.old ≤ limit }
     ensures ok { OnOk result (text.new.items ≡ text.old.items ++ piece.now) }

@@ -6,7 +6,7 @@ use Rattle.njh_listing.specs.Listed.{name_text}
 use Rattle.njh_listing.specs.declared.fault.FilesFault.{FilesFault}
 use Rattle.njh_listing.specs.declared.fault.FilesFault.TheVariants.{NoFile, Several}
 
--- a customer's; any where no customer is named
+-- a customer's; any if no customer is named
 abbrev pub is_own : Option (List ℕ) → ℕ × File → Bool
 is_own None e = true
 is_own (Some customer) e = bytes_eq e.1.customer customer
@@ -15,7 +15,7 @@ is_own (Some customer) e = bytes_eq e.1.customer customer
 abbrev pub is_called : List ℕ → ℕ × File → Bool
 is_called name e = bytes_eq (name_text e.1) name
 
--- the one of this number, counted from 1 on; all where no number is given
+-- the one of this number, counted from 1 on; all if no number is given
 abbrev pub at_number : {X : Type 0} → Option ℕ → List X → List X
 at_number None xs = xs
 at_number (Some n) xs = drop (n - 1) (take n xs)
@@ -25,11 +25,11 @@ abbrev pub asked_of : (customer : Option (List ℕ)) → (number : Option ℕ) �
     → List (ℕ × File)
 asked_of customer number name es = filter (is_called name) (at_number number (filter (is_own customer) es))
 
--- the number under which a file's records stand
+-- the number under which a file's records are kept
 abbrev pub key_in : ℕ × File → ℕ
 key_in e = e.1.key
 
--- Where it isn't one file that is asked for: none, or several.
+-- If it isn't one file that is asked for: none, or several.
 abbrev pub FitsFault : (keys : List ℕ) → FilesFault → Type 0
 FitsFault keys (NoFile name) = keys ≡ []
 FitsFault keys (Several list) = 1 < length keys

@@ -7,7 +7,7 @@ use Rattle.std.specs.Io.KnownBytes.{Appends}
 use Rattle.njh_io.specs.Written.{AppendsBeginning}
 use Rattle.njh_spoolfile.specs.Kept.{File}
 
--- one text behind another, as the pieces of a line stand
+-- one text after another, as the pieces of a line come
 infixr 20 ◌+++◌
 abbrev pub ◌+++◌ : List ℕ → List ℕ → List ℕ
 front +++ back = front ++ back
@@ -16,7 +16,7 @@ front +++ back = front ++ back
 unfoldable pub name_text : File → List ℕ
 name_text f = f.owner_node +++ codes "." +++ decimal f.number
 
--- a user is left out with its blank where there is none
+-- a user is left out with its blank if there is none
 unfoldable pub user_words : List ℕ → List ℕ
 user_words user = cond (bytes_eq user (codes "")) (codes "") (codes " " +++ user)
 
@@ -27,7 +27,7 @@ kind_words kind =
 unfoldable pub state_words : Bool → List ℕ
 state_words held = cond held (codes "HELD") (codes "READY")
 
--- what NJH001 says of a file, behind its number: LYON.42 TO METZ PAUL OUT 4 RECORDS READY
+-- what NJH001 says of a file, after its number: LYON.42 TO METZ PAUL OUT 4 RECORDS READY
 unfoldable pub said_of : File → List ℕ
 said_of f = name_text f +++ codes " TO " +++ f.to_node +++ user_words f.to_user +++ codes " " +++ kind_words f.kind
     +++ codes " " +++ decimal f.records +++ codes " RECORDS " +++ state_words f.held
@@ -36,7 +36,7 @@ said_of f = name_text f +++ codes " TO " +++ f.to_node +++ user_words f.to_user 
 unfoldable pub file_line : File → List ℕ
 file_line f = f.customer +++ codes " " +++ said_of f +++ codes "\n"
 
--- a file's line where it is this customer's
+-- a file's line if it is this customer's
 unfoldable pub line_of : List ℕ → ℕ × File → List ℕ
 line_of customer e = cond (bytes_eq e.1.customer customer) (file_line e.1) []
 
@@ -47,7 +47,7 @@ listing_of customer es = flat_map (line_of customer) es
 abbrev pub has_customer : List ℕ → List (ℕ × File) → Bool
 has_customer customer es = list_any (λ e. bytes_eq e.1.customer customer) es
 
--- the files of the customer of the file at a place, where no earlier file is this customer's
+-- the files of the customer of the file at a place, if no earlier file is this customer's
 abbrev pub first_listing_of : (all before : List (ℕ × File)) → Option (ℕ × File) → List ℕ
 first_listing_of all before None = []
 first_listing_of all before (Some e) = cond (has_customer e.1.customer before) [] (listing_of e.1.customer all)

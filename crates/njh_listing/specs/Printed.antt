@@ -8,7 +8,7 @@ use Rattle.njh_listing.specs.declared.fault.FilesFault.{FilesFault}
 use Rattle.njh_listing.specs.Exported.{IsExported, IsExportedInPart, IsExportedOf}
 use Rattle.njh_listing.specs.Listed.{IsListed, IsListedInPart, listing_text}
 
--- where no file is named the listing, and else what is written of a file's records
+-- if no file is named the listing, and else what is written of a file's records
 abbrev pub IsPrinted : {Name : Type 0} → Option (List ℕ) → (file : Option Name) → (raw : Bool)
     → (old new : Option (List ℕ)) → Type 0
 IsPrinted customer None raw old new = IsListed customer old new
@@ -19,7 +19,7 @@ abbrev pub IsPrintedInPart : {Name : Type 0} → Option (List ℕ) → (file : O
 IsPrintedInPart customer None raw old new = IsListedInPart customer old new
 IsPrintedInPart customer (Some name) raw old new = IsExportedInPart raw old new
 
--- Of a spool: the listing of its files, of all or of the customer's; or where a file is named the records of the one
+-- Of a spool: the listing of its files, of all or of the customer's; or if a file is named the records of the one
 -- that is asked for.
 abbrev pub IsPrintedOf : (customer : Option (List ℕ)) → (file : Option (List ℕ)) → (number : Option ℕ) → (raw : Bool)
     → SpoolContents → (old new : Option (List ℕ)) → Type 0

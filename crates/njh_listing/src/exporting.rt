@@ -38,7 +38,7 @@ fn is_header(srcb: u32) -> bool
         || srcb == u32::from(DATA_SET_TRAILER)
 }
 
-/// Appends a record as a line of text, where it is data.
+/// Appends a record as a line of text, if it is data.
 #[tactic(auto, unfolding(crate::specs::Exported::record_line))]
 fn put_line(text: &mut Vec<u8>, stored: &StoredRecord) -> Result<(), AllocError>
     ensures { OnOk result (text.new.items ≡ text.old.items ++ record_line (contents_of stored.now)) }
@@ -107,7 +107,7 @@ fn export<S: Alter>(
 }
 
 /// Writes the records of a customer's file: those of data as characters of code page 37, a line a
-/// record, or all records as they are. Where the customer has no such file, or several and no
+/// record, or all records as they are. If the customer has no such file, or several and no
 /// number is asked for, nothing was written; after another fault a beginning of them was.
 pub(crate) fn export_file<S: Alter, W: Write>(
     alloc: Global,

@@ -15,9 +15,9 @@ use std::alloc::{AllocError, Global};
 /// Which files are asked for, or which one, and how its records are to be written.
 #[derive(Clone, Copy)]
 pub struct Asked<'a> {
-    /// Whose files: the customer's name in the table file; all customers' where none is named.
+    /// Whose files: the customer's name in the table file; all customers' if none is named.
     pub customer: Option<&'a str>,
-    /// The file whose records are written, as LYON.42; where none is named the files are listed.
+    /// The file whose records are written, as LYON.42; if none is named the files are listed.
     pub file: Option<&'a str>,
     /// Which of these files it is, counted from 1 in order of arrival.
     pub number: Option<u32>,
@@ -53,8 +53,8 @@ fn is_number(asked: Option<u32>, at: usize) -> bool
     }
 }
 
-/// Appends the key of the customer's file that stands at this place among them, counted from 1,
-/// where it is asked for.
+/// Appends the key of the customer's file that is at this place among them, counted from 1,
+/// if it is asked for.
 fn put_key(
     alloc: Global,
     keys: &mut Vec<u32>,
@@ -73,7 +73,7 @@ fn put_key(
     Ok(())
 }
 
-/// Appends the key of a file where it is asked for, and says how many of the files up to it are the
+/// Appends the key of a file if it is asked for, and says how many of the files up to it are the
 /// customer's.
 fn put_own(
     alloc: Global,
@@ -137,7 +137,7 @@ fn put_line(
     Ok(at)
 }
 
-/// The end of a line and a line for each of the files that are asked for, behind its number.
+/// The end of a line and a line for each of the files that are asked for, after its number.
 fn list_of(
     alloc: Global,
     files: &[StoredFile],
@@ -152,7 +152,7 @@ fn list_of(
     Ok(list)
 }
 
-/// The fault where the customer has no such file.
+/// The fault if the customer has no such file.
 fn no_file(alloc: Global, name: &str) -> FilesFault
     ensures { FitsFault [] result }
 {

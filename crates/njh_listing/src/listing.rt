@@ -29,7 +29,7 @@ pub(crate) fn name_text(alloc: Global, file: &FileRow) -> Result<String, AllocEr
     format!(in alloc; "{node}.{number}")
 }
 
-/// A blank and a user, where there is one.
+/// A blank and a user, if there is one.
 #[tactic(auto, unfolding(crate::specs::Listed::user_words))]
 fn user_words(alloc: Global, user: &str) -> Result<String, AllocError>
     ensures { IfOk result (λ text. string_bytes text ≡ user_words user.now) }
@@ -62,7 +62,7 @@ fn state_words(held: bool) -> &'static str
     if held { "HELD" } else { "READY" }
 }
 
-/// What NJH001 says of a file, behind its number.
+/// What NJH001 says of a file, after its number.
 #[tactic(auto, unfolding(crate::specs::Listed::said_of))]
 pub(crate) fn said_of(alloc: Global, file: &FileRow) -> Result<String, AllocError>
     ensures { IfOk result (λ text. string_bytes text ≡ said_of (file_of file.now)) }
@@ -86,7 +86,7 @@ fn file_line(alloc: Global, file: &FileRow) -> Result<String, AllocError>
     format!(in alloc; "{customer} {said}\n")
 }
 
-/// Appends the line of a file where it is a customer's.
+/// Appends the line of a file if it is a customer's.
 #[tactic(auto, unfolding(crate::specs::Listed::line_of))]
 fn put_own(
     alloc: Global,
@@ -133,7 +133,7 @@ fn has_customer(customer: &str, files: &[StoredFile]) -> bool
     files.iter().any(|stored| is_own(customer, stored))
 }
 
-/// Appends the lines of the files of a file's customer, where no earlier file is this customer's.
+/// Appends the lines of the files of a file's customer, if no earlier file is this customer's.
 fn put_first(
     alloc: Global,
     text: &mut Vec<u8>,

@@ -52,7 +52,7 @@ fn fault_of(error: io::Error) -> FilesFault
     }
 }
 
-/// Makes an empty file where none is: a database that has nothing yet. SQLite takes two kinds of
+/// Makes an empty file if none is: a database that has nothing yet. SQLite takes two kinds of
 /// names for no file.
 fn make_empty(rt: &HostRuntime, path: &str) -> Result<(), FilesFault>
     ensures { IfErr result IsOfSpool }
@@ -77,7 +77,7 @@ fn make_empty(rt: &HostRuntime, path: &str) -> Result<(), FilesFault>
     }
 }
 
-/// Sets the mode of a file, where it is there.
+/// Sets the mode of a file, if it is there.
 fn set_mode(rt: &HostRuntime, path: &str) -> Result<(), FilesFault>
     ensures { IfErr result IsOfSpool }
 {

@@ -18,7 +18,7 @@ use std::alloc::Global;
 use std::io::Write;
 
 /// Prints what is asked for: the list of the files (`print_files`), or the records of a file: those
-/// of data as characters of code page 37, a line a record, or all as they are. Where there is no
+/// of data as characters of code page 37, a line a record, or all as they are. If there is no
 /// such file, or several and no number is asked for, nothing was written; after another fault a
 /// beginning of it was.
 pub fn print<S: Alter, W: Write>(

@@ -14,7 +14,7 @@ pub record Progress : Type 0 where
   pub number : ℕ
   pub front : List ℕ
 
--- what still becomes of a text behind a progress of it
+-- what still becomes of a text after a progress of it
 abbrev pub BecomesBehind : (known : Option Texts) → Progress → (text : List ℕ) (encoding : Encoding) → Type 0
 BecomesBehind known at text encoding = LinesBecome known at.states at.number (lines_from at.front text) encoding
 

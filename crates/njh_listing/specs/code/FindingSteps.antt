@@ -8,7 +8,7 @@ abbrev pub is_number : Option ℕ → ℕ → Bool
 is_number None at = true
 is_number (Some n) at = n == at
 
--- a file's key, where it is asked for and so many of the customer's came before it
+-- a file's key, if it is asked for and so many of the customer's came before it
 abbrev pub found_at : Option (List ℕ) → Option ℕ → List ℕ → ℕ → ℕ × File → List ℕ
 found_at customer number name own e =
     cond (is_own customer e) (cond (is_number number (own + 1) && is_called name e) (key_in e ∷ []) []) []
