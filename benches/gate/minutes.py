@@ -9,8 +9,8 @@ Runs the command at the top of the repository (with --cpus, on these processors 
 times a second: the crate is the one that a check names, the part what the check is for. What a process used since it
 was last looked at is missed, a tenth of a second for each on average; the sum at the end is the system's own. The
 table has a row for each crate: minutes of its proof, of its tests' proof and their building, of its wrong bodies (the
-crate's proof for them among it), of building and running programs; the most memory of one process in GB; and for how
-many minutes its process was the only one at work.
+crate's proof for them among it), of building and running programs; for how many minutes its process was the only one at
+work; the most memory of one process in GB, and which process that was.
 """
 
 import collections
@@ -37,13 +37,14 @@ def words_of(pid):
 
 
 def use_of(pid):
-    """The parent of a process, the seconds of CPU that it used, its memory in bytes, and whether it runs now."""
+    """A process's parent, the seconds of CPU that it used, its memory in bytes, whether it runs now, and its name."""
     try:
         text = pathlib.Path(f"/proc/{pid}/stat").read_text()
     except OSError:
         return None
-    fields = text.rsplit(")", 1)[1].split()
-    return int(fields[1]), (int(fields[11]) + int(fields[12])) / TICK, int(fields[21]) * PAGE, fields[0] == "R"
+    before, behind = text.rsplit(")", 1)
+    name, fields = before.split("(", 1)[1], behind.split()
+    return int(fields[1]), (int(fields[11]) + int(fields[12])) / TICK, int(fields[21]) * PAGE, fields[0] == "R", name
 
 
 def kind_of(words, folder):
@@ -65,7 +66,7 @@ class Run:
 
     def __init__(self, root):
         self.root, self.kinds, self.used = root, {}, {}
-        self.most, self.alone = collections.Counter(), collections.Counter()
+        self.most, self.alone = collections.defaultdict(lambda: (0, "")), collections.Counter()
 
     def look(self):
         """Looks at the processes below the run's own."""
@@ -78,9 +79,9 @@ class Run:
             kind = self.kind(pid, uses)
             if not kind:
                 continue
-            parent, seconds, memory, runs = uses[pid]
+            parent, seconds, memory, runs, name = uses[pid]
             self.used[pid, kind] = max(seconds, self.used.get((pid, kind), 0))
-            self.most[kind[0]] = max(memory, self.most[kind[0]])
+            self.most[kind[0]] = max((memory, f"{name}, {kind[1]}"), self.most[kind[0]])
             if runs:
                 at_work.add(kind)
         if len(at_work) == 1:
@@ -100,16 +101,18 @@ class Run:
         minutes = collections.defaultdict(collections.Counter)
         for (_, (crate, part)), seconds in self.used.items():
             minutes[crate][part] += seconds / 60
-        row = "{:<18}" + "{:>8}" * (len(PARTS) + 3)
-        print(row.format("crate", *PARTS, "in all", "GB", "alone"))
+        row = "{:<18}" + "{:>8}" * (len(PARTS) + 3) + "  {}"
+        print(row.format("crate", *PARTS, "in all", "alone", "GB", "of"))
         sums = collections.Counter()
         for crate, parts in sorted(minutes.items(), key=lambda one: -sum(one[1].values())):
             sums.update(parts)
             figures = [f"{parts[part]:.1f}" for part in PARTS]
-            more = f"{sum(parts.values()):.1f}", f"{self.most[crate] / 1e9:.1f}", f"{self.alone[crate] / 60:.1f}"
+            memory, process = self.most[crate]
+            more = f"{sum(parts.values()):.1f}", f"{self.alone[crate] / 60:.1f}", f"{memory / 1e9:.1f}", process
             print(row.format(crate, *figures, *more))
         figures = [f"{sums[part]:.1f}" for part in PARTS]
-        more = f"{max(self.most.values(), default=0) / 1e9:.1f}", f"{sum(self.alone.values()) / 60:.1f}"
+        memory, process = max(self.most.values(), default=(0, ""))
+        more = f"{sum(self.alone.values()) / 60:.1f}", f"{memory / 1e9:.1f}", process
         print(row.format("all", *figures, f"{sum(sums.values()):.1f}", *more))
 
 
