@@ -156,7 +156,7 @@ def taking(line, streams):
 
 
 def ignored(line):
-    """Records on a stream that wasn't asked for, and on one that drains behind a first record that is no header."""
+    """Records on a stream that wasn't asked for, and on one that drains after a first record that is no header."""
 
     def records():
         yield bytes([0x90, SYSIN[1], 0])

@@ -1,5 +1,5 @@
 #!/usr/bin/env python3
-"""Which spec files must be read to know what a contract or a definition says: each behind those that it imports, with
+"""Which spec files must be read to know what a contract or a definition says: each after those that it imports, with
 its lines. FILE is a .rt or .antt file of this repository, NAME a function or a definition in it; without NAME all of
 FILE counts. Only `use` lines are followed, file by file; types that the code declares are listed last, not followed."""
 
@@ -66,7 +66,7 @@ def words_of(file, text, name):
 
 
 def closure(files):
-    """Spec files and all that they import, each behind its own imports; and the sources of the types that they name."""
+    """Spec files and all that they import, each after its own imports; and the sources of the types that they name."""
     order, seen = [], set()
 
     def visit(file):

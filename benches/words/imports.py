@@ -28,7 +28,7 @@ ELSEWHERE = ("elsewhere",)
 
 
 def leaves(tree, front=()):
-    """The paths of a `use` tree, each with the name that it has here and whether it stands in braces."""
+    """The paths of a `use` tree, each with the name that it has here and whether it is in braces."""
     head, brace, inner = tree.partition("{")
     steps = [step.strip("« »\n") for step in re.split(r"::|\.|\s+as\s+", head.strip()) if step]
     if not brace:

@@ -1,5 +1,5 @@
 #!/usr/bin/env python3
-"""Whether the documents name what there is. Prints each name in backquotes of README.md and docs/*.md that stands in no
+"""Whether the documents name what there is. Prints each name in backquotes of README.md and docs/*.md that is in no
 source file, each wrong body that docs/PROMISES.md leaves out, each clause, as in `Hub::take`: `taken`, `step`, that no
 function of that name has, and each import of the sources that leads nowhere (imports.py). If nothing is printed all are
 right, else the status is 1."""
