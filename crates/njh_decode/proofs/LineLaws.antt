@@ -1,4 +1,4 @@
--- What is left behind records, and words that are put one after the other.
+-- What is left after records, and words that are put one after the other.
 use Rattle.std.proofs.Common.{◌≡◌, ℕ, zero, suc, List, ◌++◌, Some, None, refl, ap}
 use Rattle.std.proofs.Common.{append_assoc, ◌∙◌}
 use Rattle.njh_block.specs.Blocks.{first_record}
@@ -13,7 +13,7 @@ pub left-some : (k : ℕ) (bytes rest : List ℕ) → behind_record (first_recor
     → left_within (suc k) bytes ≡ left_within k rest
 left-some k bytes rest is = rw (is, left_within) refl
 
--- two steps of two parts each, where the second part of each is another's
+-- two steps of two parts each, if the second part of each is another's
 pub two_and_two : (done a b c d f g between after : List ℕ) → b ≡ f → d ≡ g → between ≡ done ++ a ++ b
     → after ≡ between ++ c ++ d → after ≡ done ++ (a ++ f ++ c ++ g)
 two_and_two done a b c d f g between after same likewise first second =

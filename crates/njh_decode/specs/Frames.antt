@@ -1,5 +1,5 @@
 -- The lines of a frame (IBM GA27-3004), or of the block that a text is (IBM SC23-0070, multileaving): one for its head,
--- one for each record, and one for bytes behind its end.
+-- one for each record, and one for bytes after its end.
 use Rattle.std.specs.Prelude.{ℕ, zero, suc, ◌-◌, ◌==◌, Bool, List, [], ◌∷◌, ◌++◌, length, drop, codes, cond, flat_map}
 use Rattle.std.specs.Prelude.{Option, Some, None, Result, Ok, Err}
 use Rattle.njh_bisync.specs.Frames.{Received, Enquiry, Ack0, Nak, Eot, Text, Spoiled}
@@ -18,28 +18,28 @@ record_line hex item = label (codes "  ") ++ record_words hex item ++ 10 ∷ []
 abbrev pub record_lines : Bool → List Item → List ℕ
 record_lines hex items = flat_map (record_line hex) items
 
--- what follows a record that stands
+-- what follows a record that is there
 abbrev pub behind_record : Result (Option First) BlockFault → Option (List ℕ)
 behind_record (Ok (Some x)) = Some x.rest
 behind_record (Ok None) = None
 behind_record (Err fault) = None
 
--- what is left behind the records that stand one after the other, of at most so many
+-- what is left after the records that come one after the other, of at most so many
 abbrev pub left_within : ℕ → List ℕ → List ℕ
 left_within zero bytes = bytes
 left_within (suc k) bytes =
     elim (behind_record (first_record bytes)) [ None ↦ bytes | Some rest ↦ left_within k rest ]
 
--- the place behind the last record that stands: that of the 00 that ends the block, that of an RCB at which no record
--- stands, or the text's end
+-- the place after the last record that is whole: that of the 00 that ends the block, that of an RCB that begins no
+-- record, or the text's end
 unfoldable pub records_end : List ℕ → ℕ
 records_end text = length text - length (left_within (length text) (drop 3 text))
 
--- how many bytes stand behind the 00 that ends the block
+-- how many bytes come after the 00 that ends the block
 unfoldable pub unread_count : List ℕ → ℕ
 unread_count text = length text - records_end text - 1
 
--- where in a text its fault is: the text's end, the BCB, the FCS, or the RCB that is bad or has no record behind it
+-- where in a text its fault is: the text's end, the BCB, the FCS, or the RCB that is bad or has no record after it
 unfoldable pub fault_place : List ℕ → BlockFault → ℕ
 fault_place text block.TooShort = length text
 fault_place text block.BadBcb = 0
@@ -54,7 +54,7 @@ block_lines hex b = head_words b.bcb b.fcs ++ 10 ∷ [] ++ record_lines hex b.it
 unfoldable pub unread_words : ℕ → List ℕ
 unread_words n = label (codes "  unread bytes: ") ++ number_words n
 
--- bytes behind the end of a block, where there are any
+-- bytes after the end of a block, if there are any
 unfoldable pub unread_line : ℕ → List ℕ
 unread_line n = cond (n == 0) [] (unread_words n ++ 10 ∷ [])
 

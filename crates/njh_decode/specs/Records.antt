@@ -30,7 +30,7 @@ unfoldable pub node_and_size_words : SignOn → List ℕ
 node_and_size_words s =
     label (codes ": node ") ++ field_words s.node ++ label (codes ", block size ") ++ number_words s.block
 
--- the features of a sign-on from its length byte on, where they are whole
+-- the features of a sign-on from its length byte on, if they are whole
 unfoldable pub features_words : List ℕ → List ℕ
 features_words rest =
     cond (nat_lt (length rest) 39) [] (label (codes ", features ") ++ encode_lower (field 35 4 rest))
@@ -134,7 +134,7 @@ spelled_words rcb srcb bytes =
     cond (rcb == 0x9a) (message_words bytes)
     (stream_words rcb ++ contents_words rcb srcb bytes)
 
--- the bytes of a record beside it, where they are asked for and there are any
+-- the bytes of a record beside it, if they are asked for and there are any
 unfoldable pub hex_words : Bool → List ℕ → List ℕ
 hex_words hex bytes = cond (length bytes == 0) [] (cond hex (label (codes " ") ++ encode_lower bytes) [])
 

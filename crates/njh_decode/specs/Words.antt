@@ -10,7 +10,7 @@ use Rattle.njh_block.specs.Blocks.{stream_number}
 unfoldable pub label : List ℕ → List ℕ
 label words = words
 
--- a field without the blanks behind it
+-- a field without the blanks after it
 unfoldable pub field_words : List ℕ → List ℕ
 field_words field = text_words (without_end_blanks field)
 

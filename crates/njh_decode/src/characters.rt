@@ -7,7 +7,7 @@ use crate::words::put_words;
 use njh_ebcdic::{Name, put_characters, trim_blanks};
 use std::alloc::AllocError;
 
-/// Appends a field without the blanks behind it.
+/// Appends a field without the blanks after it.
 #[tactic(auto, unfolding(crate::specs::Words::field_words))]
 pub(crate) fn put_field(line: &mut Vec<u8>, field: &[u8]) -> Result<(), AllocError>
     ensures { OnOk result (line.new.items ≡ line.old.items ++ field_words field.now) }
@@ -15,7 +15,7 @@ pub(crate) fn put_field(line: &mut Vec<u8>, field: &[u8]) -> Result<(), AllocErr
     put_characters(line, trim_blanks(field))
 }
 
-/// Appends words, and a field without the blanks behind it.
+/// Appends words, and a field without the blanks after it.
 pub(crate) fn put_labelled(line: &mut Vec<u8>, words: &str, field: &[u8]) -> Result<(), AllocError>
     ensures { OnOk result (line.new.items ≡ line.old.items ++ label words.now ++ field_words field.now) }
 {

@@ -8,7 +8,7 @@ ghost use Rattle.njh_bisync.specs.ByteSteps.{frames_after, rest_after};
 ghost use Rattle.njh_decode.specs.Frames.{lines_of};
 
 use crate::frames::put_frame;
-use njh_bisync::{Deframer, Frame, frames_of_both};
+use njh_bisync::{Deframer, Frame};
 use std::alloc::AllocError;
 
 /// Appends the lines of each frame (IBM GA27-3004) that ends in a piece of a line's bytes, in
@@ -33,7 +33,6 @@ pub fn decode(
         → Reads (seen ++ piece.now) (frames ++ frames_after deframer.old piece.now)
         (rest_after deframer.old piece.now) }
 {
-    frames_of_both();
     let mut left = piece;
     while !left.is_empty() {
         let taken = put_first_frame(deframer, left, hex, lines)?;

@@ -19,7 +19,7 @@ use std::alloc::AllocError;
 
 /// Appends the lines of a frame, in UTF-8, each ended by 0A. Of a text that is a block (IBM
 /// SC23-0070, "Multileaving") these are one for its head, one for each record, and one for bytes
-/// behind its end, where there are any. Of a text that is none the one line tells its first fault
+/// after its end, if there are any. Of a text that is none the one line tells its first fault
 /// (B1 to B5) and the place of that, in bytes from 0. A text has at most 4,096 bytes, as each that
 /// a `Deframer` gives.
 ///
@@ -69,7 +69,7 @@ fn put_fault(lines: &mut Vec<u8>, text: &[u8], fault: BlockFault) -> Result<(), 
     put(lines, b"\n")
 }
 
-/// Appends how many bytes stand behind the end of a block, where there are any.
+/// Appends how many bytes come after the end of a block, if there are any.
 #[tactic(auto, unfolding(crate::specs::Frames::unread_line))]
 fn put_unread(lines: &mut Vec<u8>, count: usize) -> Result<(), AllocError>
     requires { count ≤ 4096 }
@@ -82,7 +82,7 @@ fn put_unread(lines: &mut Vec<u8>, count: usize) -> Result<(), AllocError>
     put(lines, b"\n")
 }
 
-/// Appends how many bytes stand behind the end of a block.
+/// Appends how many bytes come after the end of a block.
 #[tactic(auto, unfolding(crate::specs::Frames::unread_words))]
 fn put_unread_count(lines: &mut Vec<u8>, count: u16) -> Result<(), AllocError>
     ensures { OnOk result (lines.new.items ≡ lines.old.items ++ frames.unread_words count) }

@@ -120,7 +120,7 @@ fn put_sysout(line: &mut Vec<u8>, fcs: Fcs) -> Result<(), AllocError>
     put_on(line, fcs, Stream::sysout(3))
 }
 
-/// Appends a stream where it may come.
+/// Appends a stream if it may come.
 #[tactic(auto, unfolding(crate::specs::Heads::on_words))]
 fn put_on(line: &mut Vec<u8>, fcs: Fcs, stream: Stream) -> Result<(), AllocError>
     ensures { OnOk result (line.new.items ≡ line.old.items ++ on_words fcs stream) }

@@ -22,7 +22,7 @@ pub(crate) fn fault_place(text: &[u8], fault: BlockFault) -> usize
     }
 }
 
-/// How many bytes stand behind the 00 that ends a block.
+/// How many bytes come after the 00 that ends a block.
 #[tactic(auto, unfolding(crate::specs::Frames::unread_count))]
 pub(crate) fn unread_count(text: &[u8]) -> usize
     ensures count { result ≡ frames.unread_count text.now }
@@ -33,7 +33,7 @@ pub(crate) fn unread_count(text: &[u8]) -> usize
         .saturating_sub(1)
 }
 
-/// The place behind the last record that stands.
+/// The place after the last record that is whole.
 #[tactic(auto, unfolding(crate::specs::Frames::records_end))]
 fn records_end(text: &[u8]) -> usize
     ensures place { result ≡ frames.records_end text.now }
@@ -44,7 +44,7 @@ fn records_end(text: &[u8]) -> usize
         .saturating_sub(left_within(text.len(), rest).len())
 }
 
-/// What is left behind the records that stand one after the other, of at most so many.
+/// What is left after the records that come one after the other, of at most so many.
 fn left_within(count: usize, bytes: &[u8]) -> &[u8]
     ensures { result.now ≡ frames.left_within count bytes.now }
 {
@@ -58,7 +58,7 @@ fn left_within(count: usize, bytes: &[u8]) -> &[u8]
     rest
 }
 
-/// What follows the record at the front of some bytes, where one stands there.
+/// What follows the record at the front of some bytes, if one is there.
 fn behind_record(bytes: &[u8]) -> Option<&[u8]>
     ensures { option_map (λ rest. rest.now) result ≡ frames.behind_record (first_record bytes.now) }
 {

@@ -48,7 +48,7 @@ pub(crate) fn put_record(
     }
 }
 
-/// Appends the bytes of a record in hexadecimal, where they are asked for and there are any.
+/// Appends the bytes of a record in hexadecimal, if they are asked for and there are any.
 #[tactic(auto, unfolding(crate::specs::Records::hex_words))]
 fn put_hex_beside(line: &mut Vec<u8>, hex: bool, bytes: &[u8]) -> Result<(), AllocError>
     requires { length bytes.now ≤ 256 }

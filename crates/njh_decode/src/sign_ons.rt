@@ -118,7 +118,7 @@ fn put_node_and_size(line: &mut Vec<u8>, sign_on: &SignOn) -> Result<(), AllocEr
     put_numbered(line, ", block size ", sign_on.block)
 }
 
-/// Appends the features of a sign-on, where they are whole.
+/// Appends the features of a sign-on, if they are whole.
 #[tactic(auto, unfolding(crate::specs::Records::features_words))]
 fn put_features(line: &mut Vec<u8>, rest: &[u8]) -> Result<(), AllocError>
     ensures { OnOk result (line.new.items ≡ line.old.items ++ features_words rest.now) }
