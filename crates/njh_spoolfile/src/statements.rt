@@ -35,7 +35,7 @@ pub fn commit<S: Alter>(conn: &mut Connection<S>) -> Result<(), Error>
 }
 
 /// Adds a whole file under this number, in the order of arrival.
-pub fn add_file<S: Alter>(conn: &mut Connection<S>, id: u32, file: &FileRow) -> Result<(), Error>
+pub fn insert_file<S: Alter>(conn: &mut Connection<S>, id: u32, file: &FileRow) -> Result<(), Error>
     requires ready { IsWriting spool_schema (state S.Store conn.old) }
     ensures added { HasCleanDisk (state S.Store conn.new)
         → OnOk result (Changes (with_file id (file_of file.now)) (state S.Store conn.old) (state S.Store conn.new)) }
@@ -50,7 +50,7 @@ pub fn add_file<S: Alter>(conn: &mut Connection<S>, id: u32, file: &FileRow) -> 
 }
 
 /// Adds a record of a file, which needn't be whole yet.
-pub fn add_record<S: Alter>(conn: &mut Connection<S>, kept: &RecordRow<'_>) -> Result<(), Error>
+pub fn insert_record<S: Alter>(conn: &mut Connection<S>, kept: &RecordRow<'_>) -> Result<(), Error>
     requires ready { IsWriting spool_schema (state S.Store conn.old) }
     requires place { kept.now.place < 2 ^ 23 }
     ensures added { HasCleanDisk (state S.Store conn.new)
@@ -63,7 +63,7 @@ pub fn add_record<S: Alter>(conn: &mut Connection<S>, kept: &RecordRow<'_>) -> R
 }
 
 /// Takes the whole file of this number out. Its records stay, and are dropped later.
-pub fn drop_file<S: Alter>(conn: &mut Connection<S>, id: u32) -> Result<(), Error>
+pub fn delete_file<S: Alter>(conn: &mut Connection<S>, id: u32) -> Result<(), Error>
     requires ready { IsWriting spool_schema (state S.Store conn.old) }
     ensures dropped { HasCleanDisk (state S.Store conn.new) → OnOk result (Changes (without_file id)
         (state S.Store conn.old) (state S.Store conn.new)) }
@@ -75,7 +75,7 @@ pub fn drop_file<S: Alter>(conn: &mut Connection<S>, id: u32) -> Result<(), Erro
 }
 
 /// Drops the records of the file of this key at places from `first` on and before `end`.
-pub fn drop_records<S: Alter>(
+pub fn delete_records<S: Alter>(
     conn: &mut Connection<S>,
     key: u32,
     first: u32,

@@ -9,7 +9,8 @@ ghost use Rattle.njh_spoolfile.specs.Kept.{with_record};
 ghost use Rattle.njh_spoolfile.specs.Kept.{without_file, without_records, entry_of, contents, contents_of};
 ghost use Rattle.njh_spoolfile.specs.Kept.{records_between};
 ghost use Rattle.njh_spoolfile.specs.Shelf.{shown, IsUsable};
-ghost use Rattle.njh_spoolfile.specs.Steps.{Begins, Changes, Commits, Stays};
+ghost use Rattle.njh_spoolfile.specs.Steps.{Begins, Changes, Commits, IsWriting, Stays};
+ghost use Rattle.njh_spoolfile.specs.Tables.{spool_schema};
 
 use crate::kept::{FileRow, RecordRow, StoredFile, StoredRecord};
 use crate::{reads, statements};
@@ -64,62 +65,15 @@ fn begin<S: Alter>(conn: &mut Connection<S>) -> Result<(), Error>
     Ok(())
 }
 
-fn add_file<S: Alter>(conn: &mut Connection<S>, id: u32, file: &FileRow) -> Result<(), Error>
-    requires usable { HasCleanDisk (state S.Store conn.old) → IsUsable (state S.Store conn.old) }
-    ensures changed { HasCleanDisk (state S.Store conn.new)
-        → OnOk result (Changes (with_file id (file_of file.now)) (state S.Store conn.old) (state S.Store conn.new)) }
-    ensures crash { Survives (state S.Store conn.old) (state S.Store conn.new) (λ _. ⊥) }
-{
-    begin(conn)?;
-    statements::add_file(conn, id, file)
-}
-
-fn change_file<S: Alter>(conn: &mut Connection<S>, id: u32, file: &FileRow) -> Result<(), Error>
-    requires usable { HasCleanDisk (state S.Store conn.old) → IsUsable (state S.Store conn.old) }
+/// Puts a row in the place of the one of this number.
+fn replace_file<S: Alter>(conn: &mut Connection<S>, id: u32, file: &FileRow) -> Result<(), Error>
+    requires ready { IsWriting spool_schema (state S.Store conn.old) }
     ensures changed { HasCleanDisk (state S.Store conn.new)
         → OnOk result (Changes (with_changed id (file_of file.now)) (state S.Store conn.old) (state S.Store conn.new)) }
     ensures crash { Survives (state S.Store conn.old) (state S.Store conn.new) (λ _. ⊥) }
 {
-    begin(conn)?;
-    statements::drop_file(conn, id)?;
-    statements::add_file(conn, id, file)
-}
-
-fn add_record<S: Alter>(conn: &mut Connection<S>, kept: &RecordRow<'_>) -> Result<(), Error>
-    requires usable { HasCleanDisk (state S.Store conn.old) → IsUsable (state S.Store conn.old) }
-    requires place { kept.now.place < 2 ^ 23 }
-    ensures changed { HasCleanDisk (state S.Store conn.new)
-        → OnOk result (Changes (with_record (record_of kept.now)) (state S.Store conn.old) (state S.Store conn.new)) }
-    ensures crash { Survives (state S.Store conn.old) (state S.Store conn.new) (λ _. ⊥) }
-{
-    begin(conn)?;
-    statements::add_record(conn, kept)
-}
-
-fn drop_file<S: Alter>(conn: &mut Connection<S>, id: u32) -> Result<(), Error>
-    requires usable { HasCleanDisk (state S.Store conn.old) → IsUsable (state S.Store conn.old) }
-    ensures changed { HasCleanDisk (state S.Store conn.new) → OnOk result (Changes (without_file id)
-        (state S.Store conn.old) (state S.Store conn.new)) }
-    ensures crash { Survives (state S.Store conn.old) (state S.Store conn.new) (λ _. ⊥) }
-{
-    begin(conn)?;
-    statements::drop_file(conn, id)
-}
-
-fn drop_records<S: Alter>(
-    conn: &mut Connection<S>,
-    key: u32,
-    first: u32,
-    end: u32,
-) -> Result<(), Error>
-    requires usable { HasCleanDisk (state S.Store conn.old) → IsUsable (state S.Store conn.old) }
-    requires places { (first ≤ 2 ^ 23) × (end ≤ 2 ^ 23) }
-    ensures changed { HasCleanDisk (state S.Store conn.new)
-        → OnOk result (Changes (without_records key first end) (state S.Store conn.old) (state S.Store conn.new)) }
-    ensures crash { Survives (state S.Store conn.old) (state S.Store conn.new) (λ _. ⊥) }
-{
-    begin(conn)?;
-    statements::drop_records(conn, key, first, end)
+    statements::delete_file(conn, id)?;
+    statements::insert_file(conn, id, file)
 }
 
 fn commit<S: Alter>(conn: &mut Connection<S>) -> Result<(), Error>
@@ -159,6 +113,22 @@ impl<S: Alter> Store<S> {
         conn
     }
 
+    /// Before a change: begins a transaction where none is open.
+    fn begin(&mut self) -> Result<(), Error>
+        ensures begun { HasCleanDisk (shown S.Store self.new) → OnOk result (Begins (shown S.Store self.old)
+            (shown S.Store self.new)) }
+        ensures crash { Survives (shown S.Store self.old) (shown S.Store self.new) (λ _. ⊥) }
+        ensures failed { OnErr result (self.new.failed ≡ true) }
+        ensures works { OnOk result ((self.old.failed ≡ false) × (self.new.failed ≡ false)) }
+    {
+        if self.failed {
+            return Err(closed());
+        }
+        let done = begin(&mut self.conn);
+        self.failed = done.is_err();
+        done
+    }
+
     /// Adds a whole file under this number, in the order of arrival.
     pub fn add_file(&mut self, id: u32, file: &FileRow) -> Result<(), Error>
         ensures changed { HasCleanDisk (shown S.Store self.new)
@@ -168,10 +138,8 @@ impl<S: Alter> Store<S> {
         ensures failed { OnErr result (self.new.failed ≡ true) }
         ensures works { OnOk result ((self.old.failed ≡ false) × (self.new.failed ≡ false)) }
     {
-        if self.failed {
-            return Err(closed());
-        }
-        let done = add_file(&mut self.conn, id, file);
+        self.begin()?;
+        let done = statements::insert_file(&mut self.conn, id, file);
         self.failed = done.is_err();
         done
     }
@@ -186,10 +154,8 @@ impl<S: Alter> Store<S> {
         ensures failed { OnErr result (self.new.failed ≡ true) }
         ensures works { OnOk result ((self.old.failed ≡ false) × (self.new.failed ≡ false)) }
     {
-        if self.failed {
-            return Err(closed());
-        }
-        let done = change_file(&mut self.conn, id, file);
+        self.begin()?;
+        let done = replace_file(&mut self.conn, id, file);
         self.failed = done.is_err();
         done
     }
@@ -204,10 +170,8 @@ impl<S: Alter> Store<S> {
         ensures failed { OnErr result (self.new.failed ≡ true) }
         ensures works { OnOk result ((self.old.failed ≡ false) × (self.new.failed ≡ false)) }
     {
-        if self.failed {
-            return Err(closed());
-        }
-        let done = add_record(&mut self.conn, kept);
+        self.begin()?;
+        let done = statements::insert_record(&mut self.conn, kept);
         self.failed = done.is_err();
         done
     }
@@ -220,10 +184,8 @@ impl<S: Alter> Store<S> {
         ensures failed { OnErr result (self.new.failed ≡ true) }
         ensures works { OnOk result ((self.old.failed ≡ false) × (self.new.failed ≡ false)) }
     {
-        if self.failed {
-            return Err(closed());
-        }
-        let done = drop_file(&mut self.conn, id);
+        self.begin()?;
+        let done = statements::delete_file(&mut self.conn, id);
         self.failed = done.is_err();
         done
     }
@@ -237,10 +199,8 @@ impl<S: Alter> Store<S> {
         ensures failed { OnErr result (self.new.failed ≡ true) }
         ensures works { OnOk result ((self.old.failed ≡ false) × (self.new.failed ≡ false)) }
     {
-        if self.failed {
-            return Err(closed());
-        }
-        let done = drop_records(&mut self.conn, key, first, end);
+        self.begin()?;
+        let done = statements::delete_records(&mut self.conn, key, first, end);
         self.failed = done.is_err();
         done
     }

@@ -5,7 +5,7 @@ use Rattle.sqlite.proofs.StateLemmas.{survives_weaker}
 use Rattle.njh_spoolfile.specs.Kept.{file_of}
 use Rattle.njh_spoolfile.proofs.Meaning.{insert_file, insert_file_is}
 use Rattle.njh_spoolfile.proofs.Runs.{adds_file, keeps_nothing}
-use Rattle.njh_spoolfile.proofs.statements.add_file.Goals as goal
+use Rattle.njh_spoolfile.proofs.statements.insert_file.Goals as goal
 
 pub returns-clause-added : goal.returns-clause-added
 returns-clause-added g c clean =

@@ -4,7 +4,7 @@ use Rattle.sqlite.specs.Held.{state}
 use Rattle.sqlite.proofs.StateLemmas.{survives_weaker}
 use Rattle.njh_spoolfile.proofs.Meaning.{delete_file, delete_file_is}
 use Rattle.njh_spoolfile.proofs.Runs.{drops_file, keeps_nothing}
-use Rattle.njh_spoolfile.proofs.statements.drop_file.Goals as goal
+use Rattle.njh_spoolfile.proofs.statements.delete_file.Goals as goal
 
 pub returns-clause-dropped : goal.returns-clause-dropped
 returns-clause-dropped g c clean =
