@@ -8,7 +8,7 @@ bytes_eq-append : (name xs ys : List ℕ) → bytes_eq (name ++ xs) (name ++ ys)
 bytes_eq-append [] xs ys = refl
 bytes_eq-append (c ∷ name) xs ys = rw (eq-eqb c c refl) (bytes_eq-append name xs ys)
 
--- the name stands first
+-- the name comes first
 pub marked-some : (mark name rest direction : List ℕ) → mark ≡ name ++ rest
     → bytes_eq rest direction ≡ bytes_eq mark (name ++ direction)
 marked-some mark name rest direction whole =

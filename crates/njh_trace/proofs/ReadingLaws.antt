@@ -61,7 +61,7 @@ Takes-tells hex a b piece told x more =
     (sym x.told_is)
     ∙ ap (λ (s : List SourceView). told ++ lines_told hex s (lines_from b.front more)) (sym x.sources_are)
 
--- a line is too long where one of what is left is
+-- a line is too long if one of what is left is
 pub Takes-any_long : (hex : Bool) (a b : Progress) (piece told : List ℕ) → Takes hex a piece told b → (more : List ℕ)
     → list_any is_long_line (lines_from a.front (piece ++ more)) ≡ list_any is_long_line (lines_from b.front more)
 Takes-any_long hex a b piece told x more =
@@ -77,7 +77,7 @@ known_then (Some xs) (Some ys) seen P taken holds = subst P (sym taken) (holds y
 
 -- ---- how far a piece was read
 
--- These lines of it are done, and what is left comes behind what was kept.
+-- These lines of it are done, and what is left comes after what was kept.
 pub record IsReadUpTo (hex : Bool) (a : Progress) (piece old_lines left lines : List ℕ) (b : Progress) : Type 0 where
   pub done : List (List ℕ)
   pub parts : (more : List ℕ) → lines_from a.front (piece ++ more) ≡ done ++ lines_from b.front (left ++ more)

@@ -152,7 +152,7 @@ sources_behind-sent sources name frame clear sent =
     (piece_in-sent name frame sent.named sent.no_word sent.bytes sent.some)))
     (sources_with-sent sources (mark_out name) frame clear sent.whole)
 
--- no end of a line stands in such a line
+-- no end of a line is in such a line
 line_whole : (name frame : List ℕ) → IsSent name frame → All (λ b. eqb b 10 ≡ false) (sent_line name frame)
 line_whole name frame sent =
     All-append (λ b. eqb b 10 ≡ false) (name ++ 32 ∷ []) (encode_lower frame)

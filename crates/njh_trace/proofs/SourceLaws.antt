@@ -61,7 +61,7 @@ found-after piece sources place s is x =
     ∙ ap (λ (rest : Rest). set sources place (view piece.mark (rest_after rest piece.bytes))) (sym x.rest)
     ∙ sym (ap (sources_at (view piece.mark after) sources) is)
 
--- a source more, where there is room, and where there is none
+-- a source more, if there is room, and if there is none
 pub taken-room : (max : ℕ) (xs : List SourceView) (x : SourceView) → length xs < max
     → xs ++ x ∷ [] ≡ take max (xs ++ x ∷ [])
 taken-room max xs x room = sym (take_all max (xs ++ x ∷ []) (omega (arith, length-append xs (x ∷ []))))

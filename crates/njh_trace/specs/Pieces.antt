@@ -6,7 +6,7 @@ use Rattle.std.specs.Str.{bytes_eq}
 use Rattle.hex.specs.Hex.{decode_of}
 use Rattle.hex.specs.declared.error.FromHexError.{FromHexError}
 
--- bytes, with the mark that stands before the words of each of their frames
+-- bytes, with the mark that comes before the words of each of their frames
 pub record PieceView : Type 0 where
   pub mark : List ℕ
   pub bytes : List ℕ

@@ -1,4 +1,4 @@
--- Where bytes come from: the lines of the hub, each in its two directions, and hex digits that stand alone. Of each
+-- Where bytes come from: the lines of the hub, each in its two directions, and hex digits that are alone. Of each
 -- source a trace keeps what has come of a frame that isn't whole.
 use Rattle.std.specs.Prelude.{ℕ, List, [], ◌∷◌, ◌++◌, take, slice_get, slice_set, position, map}
 use Rattle.std.specs.Prelude.{if◌then◌else◌, Option, Some, None, bytes_eq}
@@ -18,7 +18,7 @@ max_sources = 512
 abbrev pub place_of : List ℕ → List SourceView → Option ℕ
 place_of mark sources = position (λ s. bytes_eq s.mark mark) sources
 
--- what has come of a frame of this source that isn't whole; nothing where the source is new
+-- what has come of a frame of this source that isn't whole; nothing if the source is new
 abbrev pub rest_at : List SourceView → Option ℕ → Rest
 rest_at sources None = Nothing
 rest_at sources (Some place) = elim (slice_get sources place) [ Some s ↦ s.rest | None ↦ Nothing ]
@@ -26,7 +26,7 @@ rest_at sources (Some place) = elim (slice_get sources place) [ Some s ↦ s.res
 abbrev pub rest_of : List ℕ → List SourceView → Rest
 rest_of mark sources = rest_at sources (place_of mark sources)
 
--- the sources with this one at a place, or behind them where it is new and there is room
+-- the sources with this one at a place, or after them if it is new and there is room
 abbrev pub sources_at : SourceView → List SourceView → Option ℕ → List SourceView
 sources_at source sources (Some place) = slice_set sources place source
 sources_at source sources None = take max_sources (sources ++ source ∷ [])

@@ -11,15 +11,15 @@ use Rattle.njh_decode.specs.Frames.{frame_lines}
 use Rattle.njh_trace.specs.Pieces.{PieceView, is_name, is_script_word, mark_out, piece_in, signalled}
 use Rattle.njh_trace.specs.Sources.{SourceView, rest_of, sources_with, sources_without}
 
--- a line of the trace as it stands
+-- a line of the trace as it is
 abbrev pub line_as_it_is : List ℕ → List ℕ
 line_as_it_is line = line ++ 10 ∷ []
 
--- what frames say, each behind the mark of its source
+-- what frames say, each after the mark of its source
 abbrev pub frames_told : Bool → List ℕ → List Received → List ℕ
 frames_told hex mark frames = flat_map (λ frame. mark ++ frame_lines hex frame) frames
 
--- of a line that gives bytes: the line itself where hex is wanted, and what each frame says that ends in these bytes
+-- of a line that gives bytes: the line itself if hex is wanted, and what each frame says that ends in these bytes
 abbrev pub piece_told : Bool → List ℕ → List SourceView → PieceView → List ℕ
 piece_told hex line sources piece =
     (if hex then line_as_it_is line else []) ++ frames_told hex piece.mark
@@ -30,7 +30,7 @@ unfoldable pub line_told : Bool → List SourceView → List ℕ → List ℕ
 line_told hex sources line =
     elim (piece_in line) [ Some piece ↦ piece_told hex line sources piece | None ↦ line_as_it_is line ]
 
--- the sources behind a line
+-- the sources after a line
 unfoldable pub sources_behind : List SourceView → List ℕ → List SourceView
 sources_behind sources line =
     elim (piece_in line) [

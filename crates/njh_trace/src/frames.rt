@@ -11,7 +11,7 @@ use njh_bisync::{Deframer, Frame};
 use njh_decode::put_frame;
 use std::alloc::AllocError;
 
-/// Appends what each frame says that ends in a piece of a source's bytes, behind the mark of the
+/// Appends what each frame says that ends in a piece of a source's bytes, after the mark of the
 /// source.
 pub(crate) fn put_frames(
     lines: &mut Vec<u8>,

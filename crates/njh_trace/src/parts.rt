@@ -5,7 +5,7 @@ ghost use Rattle.std.specs.List.{slice_split};
 
 use memchr::memchr;
 
-/// What stands before the first of a byte in a text and what stands behind it, or nothing where the
+/// What comes before the first of a byte in a text and what comes after it, or nothing if the
 /// byte isn't there.
 pub(crate) fn parted(text: &[u8], byte: u8) -> Option<(&[u8], &[u8])>
     ensures parts { MatchOption result (All (λ b. (b == byte) ≡ false) text.now)

@@ -27,7 +27,7 @@ impl Model for Piece {
 }
 
 impl Piece {
-    /// What stands before the words of each of their frames.
+    /// What comes before the words of each of their frames.
     pub(crate) fn mark(&self) -> &[u8]
         ensures { result.now ≡ self.now.mark }
     {

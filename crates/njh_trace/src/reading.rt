@@ -60,7 +60,7 @@ impl Reading {
         Ok(())
     }
 
-    /// Appends what the last line says, where it has no end of its own.
+    /// Appends what the last line says, if it has no end of its own.
     pub(crate) fn end(&mut self, hex: bool, lines: &mut Vec<u8>) -> Result<(), TraceFault>
         ensures told { OnOk result (lines.new.items ≡ lines.old.items ++ told_behind hex self.old []) }
         ensures short { OnOk result (list_any is_long_line (lines_from self.old.front []) ≡ false) }
@@ -73,7 +73,7 @@ impl Reading {
         Ok(())
     }
 
-    /// Takes a piece up to the end of a line, and answers what stands behind that; or keeps all of
+    /// Takes a piece up to the end of a line, and answers what comes after that; or keeps all of
     /// it.
     fn read<'p>(&mut self, piece: &'p [u8]) -> Result<Option<&'p [u8]>, TraceFault>
         ensures lines { IfOk result (λ behind. (more : List ℕ) → MatchOption behind

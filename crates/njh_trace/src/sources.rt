@@ -20,7 +20,7 @@ use std::marker::Model;
 /// How many sources are kept.
 const MAX_SOURCES: usize = 512;
 
-/// A source: a line of the hub in one direction, or hex digits that stand alone.
+/// A source: a line of the hub in one direction, or hex digits that are alone.
 #[derive(Drop)]
 struct Source {
     mark: Vec<u8>,
@@ -62,7 +62,7 @@ impl Source {
         put_frames(lines, &mut self.deframer, bytes, &self.mark, hex)
     }
 
-    /// Drops what isn't whole, where its mark has these two parts.
+    /// Drops what isn't whole, if its mark has these two parts.
     fn drop_at(&mut self, name: &[u8], direction: &[u8])
         ensures { self.new ≡ dropped_at (name.now ++ direction.now) self.old }
     {
@@ -105,8 +105,8 @@ impl Sources {
     }
 
     /// Appends what a line of a trace says, each line of words ended by 0A. Of a line that gives
-    /// bytes these are the words of each frame that ends in them, behind the mark of its source, as
-    /// `a1 in: `, and before them the line itself where `hex` is wanted; any other line stands as
+    /// bytes these are the words of each frame that ends in them, after the mark of its source, as
+    /// `a1 in: `, and before them the line itself if `hex` is wanted; any other line stays as
     /// it is.
     ///
     /// Want of memory is the only refusal; then a part may have been appended, and the bytes may
@@ -204,7 +204,7 @@ fn take_at(
     sources[place].take(piece.bytes(), hex, lines)
 }
 
-/// Adds a source behind the others, where there is room.
+/// Adds a source after the others, if there is room.
 fn push_within(sources: &mut Vec<Source>, source: Source) -> Result<(), AllocError>
     requires { length sources.old.items ≤ 512 }
     ensures sources { OnOk result (sources.new.items ≡ take max_sources (sources.old.items ++ source ∷ [])) }

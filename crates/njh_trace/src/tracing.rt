@@ -19,11 +19,11 @@ use std::io::{ErrorKind, Read, Write};
 const PIECE: usize = 65_536;
 
 /// Writes what a trace says, line by line: a line that gives bytes becomes the words of the frames
-/// that end in them, and any other line stands as it is. What the lines of a piece say is written
+/// that end in them, and any other line stays as it is. What the lines of a piece say is written
 /// before the next piece is read.
 ///
-/// It keeps 512 sources and a line of 1,048,576 bytes at most; of a longer line, and of what stands
-/// behind it in the trace, nothing is told. A read or a write that was only interrupted is tried
+/// It keeps 512 sources and a line of 1,048,576 bytes at most; of a longer line, and of what comes
+/// after it in the trace, nothing is told. A read or a write that was only interrupted is tried
 /// again.
 pub fn decode_trace<R: Read, W: Write>(
     alloc: Global,
@@ -40,7 +40,7 @@ pub fn decode_trace<R: Read, W: Write>(
     ensures long { result ≡ Err TraceFault.TooLong
         → IfSome (R.remaining input.old) (λ text. has_long_line text ≡ true) }
 
-    // Where it ends early, a beginning of the same text is written.
+    // If it ends early, a beginning of the same text is written.
     ensures begun { OnErr result (IfSome (R.remaining input.old)
         (λ text. AppendsBeginning (W.contents out.old) (W.contents out.new) (trace_told hex text))) }
 {
@@ -122,7 +122,7 @@ fn tell_piece<W: Write>(
     Ok(())
 }
 
-/// Writes what the last line says, where it has no end of its own.
+/// Writes what the last line says, if it has no end of its own.
 fn tell_end<W: Write>(
     reading: &mut Reading,
     hex: bool,

@@ -14,7 +14,7 @@ abbrev pub sources_behind_lines : List SourceView → List (List ℕ) → List S
 sources_behind_lines sources [] = sources
 sources_behind_lines sources (line ∷ lines) = sources_behind_lines (sources_behind sources line) lines
 
--- what is still told behind a progress of a text
+-- what is still told after a progress of a text
 abbrev pub told_behind : Bool → Progress → List ℕ → List ℕ
 told_behind hex at text = lines_told hex at.sources (lines_from at.front text)
 
