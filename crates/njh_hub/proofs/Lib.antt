@@ -7,15 +7,7 @@ pub mod RunLaws
 pub mod OrderLaws
 pub mod RunningLaws
 pub mod NamedLaws
+pub mod CutLaws
 pub mod StopLaws
-pub mod WireLaws
-pub mod TurnLaws
-pub mod RoundLaws
-pub mod OwnWires
 pub mod SetRoutesLaws
-pub mod ServiceLaws
-pub mod ServedLaws
-pub mod OwnRoutes
-pub mod KeepingLaws
-pub mod BreakLaws
 pub mod ComingLaws

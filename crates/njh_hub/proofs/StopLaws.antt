@@ -15,7 +15,7 @@ use Rattle.njh_hub.specs.declared.fault.RunFault.{RunFault}
 use Rattle.njh_hub.specs.OwnEvents.{bytes_in_event, event_by}
 use Rattle.njh_hub.specs.RunStops.{IsBehindFrame}
 use Rattle.njh_hub.specs.WholeHub.{Part, hub_run}
-use Rattle.njh_hub.specs.Wires.{SendsAt}
+use Rattle.njh_hub.specs.Cuts.{SendsAt}
 
 pub signal-bytes : (s : Signal) (id : LineId) → bytes_in_event (event_by s id) ≡ 0
 signal-bytes signal.Tick id = refl

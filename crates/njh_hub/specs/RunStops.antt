@@ -12,7 +12,7 @@ use Rattle.njh_hub.specs.declared.fault.Cause.TheVariants.{Hub, Sink}
 use Rattle.njh_hub.specs.declared.fault.RunFault.{RunFault}
 use Rattle.njh_hub.specs.OwnEvents.{line_of_event, routes_of, first_events, bytes_in_event}
 use Rattle.njh_hub.specs.Sent.{IsCounted}
-use Rattle.njh_hub.specs.Wires.{SendsAt}
+use Rattle.njh_hub.specs.Cuts.{SendsAt}
 use Rattle.njh_hub.specs.WholeHub.{Part, part, HasLine, IsNamed, SameLines, hub_run}
 
 -- the events that happened: all, or up to where the run stopped

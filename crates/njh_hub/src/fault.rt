@@ -2,7 +2,6 @@
 
 ghost use Rattle.std.specs.Prelude.{◌≡◌, ◌+◌, ◌<◌, ◌^◌};
 
-use crate::keeper::KeepFault;
 use njh_table::TableFault;
 use std::alloc::{AllocError, AllocFailed};
 use thiserror::Error;
@@ -47,17 +46,6 @@ impl<T: Drop> From<AllocFailed<T>> for HubFault {
     fn from(_error: AllocFailed<T>) -> HubFault {
         HubFault::Memory
     }
-}
-
-/// Why turns of wires ended early.
-#[derive(Clone, Copy, Debug, PartialEq, Eq, Error)]
-pub enum TurnsFault {
-    /// There was no memory; nothing was read then.
-    #[error("U3 Memory")]
-    Memory,
-    /// The keeper failed.
-    #[error("{0}")]
-    Keeper(KeepFault),
 }
 
 /// Who stopped a run.

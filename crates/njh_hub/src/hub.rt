@@ -206,12 +206,7 @@ impl Hub {
     }
 
     /// One step by a signal on a line. Refusals and `out` are those of `take`.
-    pub(crate) fn signal(
-        &mut self,
-        id: LineId,
-        signal: Signal,
-        out: &mut Vec<u8>,
-    ) -> Result<(), HubFault>
+    pub fn signal(&mut self, id: LineId, signal: Signal, out: &mut Vec<u8>) -> Result<(), HubFault>
         ensures { let t = part_after_signal (part id.customer self.old) id.number signal in
             IsStep self.old id t.after t.frame out.old result self.new out.new }
     {

@@ -4,7 +4,7 @@ use Rattle.std.proofs.Common.{sym, subst, arith}
 use Rattle.std.specs.List.{AllByRecursion}
 use Rattle.njh_spool.specs.CustomerSpool.{WholeFile}
 use Rattle.njh_spoolfile.specs.Kept.{File, SpoolContents, with_changed, with_file, without_file, without_records}
-use Rattle.njh_hub.specs.Keeping.{is_held}
+use Rattle.njh_turns.specs.Keeping.{is_held}
 use Rattle.njh_keeper.specs.Opened.{is_own}
 use Rattle.njh_keeper.specs.code.Mirrored.{FitsHub, HasRecords, IsOrdered, WritesUnder}
 use Rattle.njh_keeper.specs.code.Remembered.{AreApart, AreBelow, Claim, IsRowOf, KeptWhole, Mirrored, Moves, Numbers}

@@ -15,7 +15,7 @@ use Rattle.njh_customer.specs.Growing.{FilesGrow, HasBecomeWhole, HasShortRests,
 use Rattle.njh_customer.specs.Part.{Part}
 use Rattle.njh_customer.specs.Surviving.{EventsKeepFiles, Survive, TakesKeepFiles, leaves, none, stays}
 use Rattle.njh_customer.proofs.GrowingLaws.{rerouted_count}
-use Rattle.njh_hub.specs.Keeping.{IsLed}
+use Rattle.njh_turns.specs.Keeping.{IsLed}
 use Rattle.njh_spoolfile.specs.Kept.{SpoolContents}
 use Rattle.njh_keeper.specs.code.Alike.{AreAlike}
 use Rattle.njh_keeper.specs.code.Following.{AreFronts, GoOnIn, IsFrontOf}

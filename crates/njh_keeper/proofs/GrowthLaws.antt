@@ -20,7 +20,7 @@ use Rattle.njh_customer.proofs.GrowingLaws.{many_go_on, quiet}
 use Rattle.njh_customer.proofs.GrowingLaws.{partials_numbered}
 use Rattle.njh_customer.proofs.RestLengths.{events_short, takes_short}
 use Rattle.njh_customer.proofs.SurvivingLaws.{held_still}
-use Rattle.njh_hub.specs.Keeping.{IsLed, by_bytes, by_routes, by_signal}
+use Rattle.njh_turns.specs.Keeping.{IsLed, by_bytes, by_routes, by_signal}
 use Rattle.njh_keeper.specs.code.Following.{GoOnIn}
 use Rattle.njh_keeper.specs.code.Walking.{AreNumbered}
 use Rattle.njh_keeper.proofs.NumberedLaws.{equal_to}

@@ -4,7 +4,7 @@ use Rattle.std.specs.Prelude.{⊤}
 use Rattle.std.proofs.lemmas.List.{length-take-le, take-take}
 use Rattle.njh_record.specs.Stored.{Stored}
 use Rattle.njh_spool.specs.CustomerSpool.{CustomerSpool, partial_records}
-use Rattle.njh_hub.specs.Keeping.{kept_file}
+use Rattle.njh_turns.specs.Keeping.{kept_file}
 use Rattle.njh_spoolfile.specs.Kept.{SpoolContents, records_of}
 use Rattle.njh_keeper.specs.Keeper.{left_in}
 use Rattle.njh_keeper.specs.code.Alike.{AreAlike}

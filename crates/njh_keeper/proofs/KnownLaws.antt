@@ -14,8 +14,8 @@ use Rattle.njh_spool.specs.Spools.{IsSound}
 use Rattle.njh_stream.specs.WholeFiles.{HaveHeaders}
 use Rattle.njh_table.specs.Accepted.{AreDistinct}
 use Rattle.njh_table.specs.TableFile.{NamedCustomer, TableFile, entry_of}
-use Rattle.njh_hub.specs.Keeping.{IsLed, LeadsHub, LeavesEither, LeavesOnly, kept_file, kept_of}
 use Rattle.njh_hub.specs.WholeHub.{Part, no_part, part}
+use Rattle.njh_turns.specs.Keeping.{IsLed, LeadsHub, LeavesEither, LeavesOnly, kept_file, kept_of}
 use Rattle.njh_spoolfile.specs.Kept.{Holds, SpoolContents, kept}
 use Rattle.njh_spoolfile.specs.Shelf.{shown}
 use Rattle.njh_spoolfile.specs.CommitState.{CommitState, Stands}

@@ -9,7 +9,7 @@ use Rattle.njh_spool.specs.CustomerSpool.{WholeFile}
 use Rattle.njh_spoolfile.specs.Kept.{File, SpoolContents, Whole, contents, records_of}
 use Rattle.njh_keeper.specs.Opened.{file_in, kind_of_word, kind_word, own_files}
 use Rattle.njh_keeper.specs.code.Mirrored.{FitsHub, ReadsAs, own_rows}
-use Rattle.njh_hub.specs.Keeping.{kept_file}
+use Rattle.njh_turns.specs.Keeping.{kept_file}
 use Rattle.njh_keeper.specs.Keeper.{left_in}
 use Rattle.njh_keeper.specs.code.Remembered.{AllBeside, IsKept, KeptWhole, Mirrored, OwnFiles}
 use Rattle.njh_keeper.proofs.OwnFileLaws.{own_files_read_back}

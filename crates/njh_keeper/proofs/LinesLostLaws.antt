@@ -52,9 +52,9 @@ use Rattle.njh_customer.specs.Part.{Part, part_at_open, rest_at, rest_on}
 use Rattle.njh_customer.specs.Runs.{OwnEvent, OwnBytes, OwnSignal, OwnRoutes, alone_run, event_run}
 use Rattle.njh_customer.proofs.FileLimits.{FreeNumbers}
 use Rattle.njh_customer.proofs.OutgoingLaws.{stream_is}
-use Rattle.njh_hub.specs.Keeping.{is_held, kept_file, kept_files}
 use Rattle.njh_hub.specs.Restored.{part_with_file}
 use Rattle.njh_hub.proofs.RestoredLaws.{headers_by}
+use Rattle.njh_turns.specs.Keeping.{is_held, kept_file, kept_files}
 use Rattle.njh_spoolfile.specs.Kept.{Whole}
 use Rattle.njh_keeper.specs.LinesLost.{AreFilesOf, IsQuiet, LeftAsLinesLost, OpenedAsLinesLost, StandsAs, bare}
 use Rattle.njh_keeper.specs.LinesLost.{file_at_rest}

@@ -7,7 +7,7 @@ use Rattle.njh_spool.specs.CustomerSpool.{WholeFile}
 use Rattle.njh_spoolfile.specs.Kept.{File, SpoolContents, contents, records_of, with_changed, with_file, without_file}
 use Rattle.njh_keeper.specs.Opened.{is_own, kind_word}
 use Rattle.njh_keeper.specs.code.Mirrored.{FitsHub, HasRecords, IsOrdered, WritesRowsOf, WritesUnder, own_rows}
-use Rattle.njh_hub.specs.Keeping.{is_held}
+use Rattle.njh_turns.specs.Keeping.{is_held}
 use Rattle.njh_keeper.specs.code.Remembered.{AllBeside, AreBelow, Claim, IsKept, IsRowOf, KeptWhole, Mirrored, Moves}
 use Rattle.njh_keeper.specs.code.Remembered.{OwnFiles, Remembers, keyed}
 use Rattle.njh_keeper.proofs.BesideLaws.{BesideAt, beside_at, beside_push, beside_remove, beside_set, beside_weaker}

@@ -9,8 +9,8 @@ use Rattle.njh_spool.specs.CustomerSpool.{WholeFile}
 use Rattle.njh_stream.specs.WholeFiles.{HaveHeaders}
 use Rattle.njh_customer.specs.Growing.{TakesGrowFiles}
 use Rattle.njh_customer.specs.Surviving.{EventsKeepFiles, TakesKeepFiles}
-use Rattle.njh_hub.specs.Keeping.{IsLed, kept_file}
 use Rattle.njh_hub.specs.WholeHub.{Part}
+use Rattle.njh_turns.specs.Keeping.{IsLed, kept_file}
 use Rattle.njh_spoolfile.specs.Kept.{Holds, SpoolContents, Whole}
 use Rattle.njh_spoolfile.specs.CommitState.{CommitState, Stands}
 use Rattle.njh_keeper.specs.Opened.{file_in, is_name_of, own_files}

@@ -4,7 +4,7 @@ use Rattle.std.proofs.Common.{ap, subst, append_assoc, append-nil, ◌∙◌, ar
 use Rattle.std.specs.List.{AllZip}
 use Rattle.njh_spool.specs.CustomerSpool.{CustomerSpool, WholeFile}
 use Rattle.njh_spool.specs.Restoring.{KeptFile}
-use Rattle.njh_hub.specs.Keeping.{is_held}
+use Rattle.njh_turns.specs.Keeping.{is_held}
 use Rattle.njh_spoolfile.specs.Kept.{File, SpoolContents, contents, records_of, with_changed}
 use Rattle.njh_keeper.specs.Opened.{file_in, is_own}
 use Rattle.njh_keeper.specs.code.Mirrored.{HasRecords, IsOrdered, WritesRowsOf, own_rows}

@@ -1,8 +1,8 @@
 -- What a crash may leave after the opening.
 use Rattle.std.proofs.Common.{◌≡◌, ℕ, suc, ◌<◌, List, [], ◌∷◌, length, get_or, map, refl, sym, ap, ◌∙◌, arith}
 use Rattle.std.specs.List.{AllZip}
-use Rattle.njh_hub.specs.Keeping.{kept_of}
 use Rattle.njh_hub.specs.WholeHub.{Part, no_part}
+use Rattle.njh_turns.specs.Keeping.{kept_of}
 use Rattle.njh_spoolfile.specs.Kept.{SpoolContents}
 use Rattle.njh_keeper.specs.Keeper.{left_in}
 use Rattle.njh_keeper.specs.declared.own_files.OwnFiles as own_files

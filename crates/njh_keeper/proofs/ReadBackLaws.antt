@@ -10,7 +10,7 @@ use Rattle.njh_record.specs.declared.Kind.TheVariants.{In, Out}
 use Rattle.njh_spool.specs.Restoring.{KeptFile}
 use Rattle.njh_spool.specs.CustomerSpool.{WholeFile}
 use Rattle.njh_spoolfile.specs.Kept.{File, SpoolContents, contents, records_of}
-use Rattle.njh_hub.specs.Keeping.{is_held}
+use Rattle.njh_turns.specs.Keeping.{is_held}
 use Rattle.njh_keeper.specs.Opened.{Contents, are_records_from, are_records_of, as_stored, file_in, is_record_at}
 use Rattle.njh_keeper.specs.Opened.{kind_of_word, kind_word}
 use Rattle.njh_keeper.specs.code.Mirrored.{FitsHub, HasRecords, contents_from}

@@ -13,9 +13,9 @@ use Rattle.njh_header.specs.WholeFiles.{HasHeaders}
 use Rattle.njh_spool.specs.CustomerSpool.{WholeFile}
 use Rattle.njh_customer.specs.Surviving.{IsStill}
 use Rattle.njh_hub.specs.Files.{said_destination}
-use Rattle.njh_hub.specs.Keeping.{is_held}
 use Rattle.njh_hub.specs.Views.{file_summary}
 use Rattle.njh_hub.specs.declared.file_summary.FileSummaryView.{FileSummaryView}
+use Rattle.njh_turns.specs.Keeping.{is_held}
 use Rattle.njh_spoolfile.specs.Kept.{File, SpoolContents, records_of, with_changed}
 use Rattle.njh_keeper.specs.Opened.{is_own}
 use Rattle.njh_keeper.specs.code.Alike.{AreAlike, Writes}

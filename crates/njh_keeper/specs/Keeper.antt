@@ -6,8 +6,8 @@ use Rattle.sqlite.specs.State.{HasCleanDisk}
 use Rattle.sqlite.specs.Store.{Ghosts}
 use Rattle.sqlite.specs.Tree.{Trees}
 use Rattle.njh_hub.specs.Parts.{entries_of}
-use Rattle.njh_hub.specs.Keeping.{kept_of}
 use Rattle.njh_hub.specs.WholeHub.{Part, SameLines, part_at_open}
+use Rattle.njh_turns.specs.Keeping.{kept_of}
 use Rattle.njh_spoolfile.specs.Kept.{SpoolContents, Holds, kept}
 use Rattle.njh_spoolfile.specs.Shelf.{Shelf, shelf_code, shown}
 use Rattle.njh_spoolfile.specs.CommitState.{CommitState, Stands}

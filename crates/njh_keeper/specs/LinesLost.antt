@@ -12,8 +12,8 @@ use Rattle.njh_customer.specs.InOrder.{IsIdle, IsInOrder, after_losses, at_rest,
 use Rattle.njh_customer.specs.NewRoutes.{entry_with, part_after_routes}
 use Rattle.njh_customer.specs.Part.{rest_on}
 use Rattle.njh_customer.specs.Runs.{OwnEvent, alone_run}
-use Rattle.njh_hub.specs.Keeping.{kept_files}
 use Rattle.njh_hub.specs.WholeHub.{Part, part_at_open}
+use Rattle.njh_turns.specs.Keeping.{kept_files}
 use Rattle.njh_spoolfile.specs.Kept.{Whole}
 use Rattle.njh_keeper.specs.Opened.{AreBack, file_in, part_opened}
 use Rattle.njh_keeper.specs.OpenedFiles.{OpenedFile, opened_of}

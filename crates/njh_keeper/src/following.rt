@@ -4,8 +4,8 @@ ghost use Rattle.std.specs.Prelude.{◌≡◌, ◌<◌, ◌≤◌, ◌+◌, ◌-
 ghost use Rattle.std.specs.Prelude.{length, min, remove, set, string_bytes, take, ⊤, IfOk, OnOk};
 ghost use Rattle.njh_stream.specs.SpoolFiles.{records_in};
 ghost use Rattle.njh_customer.specs.Surviving.{Survive};
-ghost use Rattle.njh_hub.specs.Keeping.{is_held};
 ghost use Rattle.njh_hub.specs.WholeHub.{part};
+ghost use Rattle.njh_turns.specs.Keeping.{is_held};
 ghost use Rattle.njh_spool.specs.CustomerSpool.{WholeFile, max_arrived};
 ghost use Rattle.njh_spoolfile.specs.Shelf.{shown};
 ghost use Rattle.sqlite.specs.State.{HasCleanDisk, Survives};

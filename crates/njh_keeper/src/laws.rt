@@ -8,7 +8,7 @@ ghost use Rattle.njh_keeper.specs.Opened.{AreBack, hub_opened, is_own, own_files
 ghost use Rattle.njh_keeper.specs.LinesLost.{LeftAsLinesLost, OpenedAsLinesLost};
 ghost use Rattle.njh_keeper.specs.OpenedFiles.{HasOpened};
 ghost use Rattle.njh_keeper.specs.Keeper.{IsSettledFrom, Keeping, MayLeave, left_in};
-ghost use Rattle.njh_hub.specs.Keeping.{LeavesOnly};
+ghost use Rattle.njh_turns.specs.Keeping.{LeavesOnly};
 ghost use Rattle.njh_spool.specs.Restoring.{KeptFile};
 ghost use Rattle.njh_spoolfile.specs.Kept.{File, SpoolContents, Whole, with_file};
 ghost use Rattle.njh_spoolfile.specs.Shelf.{shown};

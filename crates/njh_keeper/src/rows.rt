@@ -2,8 +2,8 @@
 
 ghost use Rattle.std.specs.Prelude.{◌≡◌, ℕ, List, true, string_bytes, IfOk};
 ghost use Rattle.njh_spool.specs.CustomerSpool.{WholeFile};
-ghost use Rattle.njh_hub.specs.Keeping.{is_held};
 ghost use Rattle.njh_hub.specs.Views.{file_summary};
+ghost use Rattle.njh_turns.specs.Keeping.{is_held};
 ghost use Rattle.njh_spoolfile.specs.Kept.{file_of};
 ghost use Rattle.njh_keeper.specs.Opened.{is_name_of, is_own};
 ghost use Rattle.njh_keeper.specs.code.Remembered.{IsRowOf};

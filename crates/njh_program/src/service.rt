@@ -8,11 +8,11 @@ ghost use Rattle.njh_table.specs.TableFile.{TableFile};
 
 use crate::start_log::log_failure;
 use crate::table_source::TableFileSource;
-use njh_hub::{Depot, KeepsNothing};
 use njh_serve::{ServeFault, Setup, serve};
 use njh_service::{Log, Revision, TableSource};
 use njh_subcommands::{Failure, tables_twice};
 use njh_table::Tables;
+use njh_turns::{Depot, KeepsNothing};
 use std::io::Write;
 use std::net::{IpAddr, Net};
 use std::rt::{Clock, Files};

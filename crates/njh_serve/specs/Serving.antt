@@ -2,13 +2,13 @@
 use Rattle.std.specs.Prelude.{◌≡◌, ℕ, List, length, map, All, Option, Some, None}
 use Rattle.njh_table.specs.declared.LineId.{LineId}
 use Rattle.njh_table.specs.TableFile.{TableFile}
-use Rattle.njh_hub.specs.Breaks.{ServiceBreaks}
-use Rattle.njh_hub.specs.Keeping.{KeptFile, IsSettled}
-use Rattle.njh_hub.specs.Service.{Happening, ArePossible, IsAttended, service_rounds}
 use Rattle.njh_hub.specs.Parts.{entries_of}
-use Rattle.njh_hub.specs.Turns.{no_quiets}
 use Rattle.njh_hub.specs.WholeHub.{Part, part_at_open}
-use Rattle.njh_hub.specs.Wires.{WireAct}
+use Rattle.njh_turns.specs.Breaks.{ServiceBreaks}
+use Rattle.njh_turns.specs.Keeping.{KeptFile, IsSettled}
+use Rattle.njh_turns.specs.Service.{Happening, ArePossible, IsAttended, service_rounds}
+use Rattle.njh_turns.specs.Turns.{no_quiets}
+use Rattle.njh_turns.specs.Wires.{WireAct}
 use Rattle.njh_serve.specs.declared.endpoints.Endpoint.{Endpoint}
 use Rattle.njh_serve.specs.Endpoints.{endpoints_of, lines_of}
 use Rattle.njh_serve.specs.Opened.{IsApart}

@@ -1,6 +1,6 @@
 //! Why lines aren't served.
 
-use njh_hub::DepotFault;
+use njh_turns::DepotFault;
 use std::alloc::{AllocError, AllocFailed};
 use std::io;
 use thiserror::Error;

@@ -1,15 +1,16 @@
 //! A hub, the wires of its lines that are served, and who attends them.
 
 ghost use Rattle.std.specs.Prelude.{◌≡◌, length, All, IfOk, OnOk, OnErr, Err};
-ghost use Rattle.njh_hub.specs.Keeping.{IsSettled, Keeps};
-ghost use Rattle.njh_hub.specs.Turns.{no_quiets};
 ghost use Rattle.njh_hub.specs.WholeHub.{HasLine};
+ghost use Rattle.njh_turns.specs.Keeping.{IsSettled, Keeps};
+ghost use Rattle.njh_turns.specs.Turns.{no_quiets};
 ghost use Rattle.njh_serve.specs.Endpoints.{lines_of};
 ghost use Rattle.njh_serve.specs.Serving.{HasServed, IsBrokenOff, turn_count};
 
 use crate::endpoints::Endpoint;
-use njh_hub::{Attendant, Hub, HubFault, KeepFault, Keeper, Rounds, Wire, attend};
+use njh_hub::{Hub, HubFault};
 use njh_table::LineId;
+use njh_turns::{Attendant, KeepFault, Keeper, Rounds, Wire, attend};
 use std::alloc::{AllocError, Global};
 use std::marker::Model;
 

@@ -1,9 +1,9 @@
 //! Serves the lines of tables on sockets of this machine.
 
 ghost use Rattle.std.specs.Prelude.{◌≡◌, length, All, IfOk, OnOk};
-ghost use Rattle.njh_hub.specs.Keeping.{IsSettled};
-ghost use Rattle.njh_hub.specs.Turns.{no_quiets};
 ghost use Rattle.njh_hub.specs.WholeHub.{HasLine as HubHasLine};
+ghost use Rattle.njh_turns.specs.Keeping.{IsSettled};
+ghost use Rattle.njh_turns.specs.Turns.{no_quiets};
 ghost use Rattle.njh_table.specs.TableFile.{HasLine};
 ghost use Rattle.njh_serve.specs.Endpoints.{endpoints_of, lines_of};
 ghost use Rattle.njh_serve.specs.Opened.{IsApart};
@@ -15,9 +15,10 @@ use crate::network::{MioNetwork, utc_seconds};
 use crate::opening::{OpenCause, open};
 use crate::refusal::Refusal;
 use crate::service::Service;
-use njh_hub::{Depot, Hub};
+use njh_hub::Hub;
 use njh_service::{Exchange, LineNames, Log, Revision, TableSource, Way};
 use njh_table::{LineId, Tables};
+use njh_turns::Depot;
 use njh_wire::{Connection, LineWire, Network};
 use std::alloc::{AllocError, Global};
 use std::io::Write;

@@ -2,7 +2,7 @@
 use Rattle.std.proofs.Common.{◌≡◌, ◌≢◌, ℕ, ◌<◌, ◌≤◌, List, length, set, get_or, refl, sym, ap, ◌∙◌, arith, ⊎_elim}
 use Rattle.std.proofs.lemmas.Bool.{cases_eq}
 use Rattle.std.proofs.lemmas.List.{get_or-set_same, get_or-set_other, get_or_read}
-use Rattle.njh_hub.specs.Service.{AreStill}
+use Rattle.njh_turns.specs.Service.{AreStill}
 
 -- nothing changed
 pub still_same : {S : Type 0} (place count : S → ℕ) (wires : List S)

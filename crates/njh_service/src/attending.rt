@@ -2,7 +2,8 @@
 
 use crate::exchange::Exchange;
 use crate::table_source::TableSource;
-use njh_hub::{Attendant, Hub, HubFault, NewRoutes};
+use njh_hub::{Hub, HubFault};
+use njh_turns::{Attendant, NewRoutes};
 use njh_wire::{LineWire, Network};
 use std::io::Write;
 

@@ -1,7 +1,7 @@
 //! The attendant of a service.
 
 ghost use Rattle.std.specs.Prelude.{◌≡◌, ◌≤◌, ◌∷◌, ◌++◌, [], Some, slice_get, OnOk, OnErr};
-ghost use Rattle.njh_hub.specs.Service.{AreStill};
+ghost use Rattle.njh_turns.specs.Service.{AreStill};
 ghost use Rattle.njh_table.specs.declared.LineId.{LineId};
 ghost use Rattle.njh_hub.specs.Quiets.{quiet_on};
 ghost use Rattle.njh_hub.specs.Views.{HasGivenUp};

@@ -3,7 +3,8 @@
 use crate::entry::{LogEntry, LogEvent, Place};
 use crate::exchange::Exchange;
 use crate::table_source::TableSource;
-use njh_hub::{HubFault, NewRoutes};
+use njh_hub::HubFault;
+use njh_turns::NewRoutes;
 use njh_wire::Network;
 use std::io::Write;
 

@@ -2,9 +2,9 @@
 use Rattle.std.proofs.Common.{◌≡◌, ℕ, ◌⊎◌, inl, inr, Bool, true, false, IsTrue, List, [], take, Result, Ok, Err}
 use Rattle.std.proofs.Common.{Option, Some, None, IsSome, refl, sym, subst, ◌∙◌, ⊎_elim}
 use Rattle.std.proofs.lemmas.List.{append-nil}
-use Rattle.njh_hub.specs.declared.wire_reading.Reading.{Reading}
-use Rattle.njh_hub.specs.declared.wire_reading.Reading.TheVariants as reading
-use Rattle.njh_hub.specs.declared.wire_reading.WireFault.{WireFault}
+use Rattle.njh_turns.specs.declared.wire_reading.Reading.{Reading}
+use Rattle.njh_turns.specs.declared.wire_reading.Reading.TheVariants as reading
+use Rattle.njh_turns.specs.declared.wire_reading.WireFault.{WireFault}
 use Rattle.njh_wire.specs.declared.end.End.{End}
 use Rattle.njh_wire.specs.declared.end.End.TheVariants as ends
 use Rattle.njh_wire.specs.declared.end.Parting.{Parting}

@@ -1,9 +1,9 @@
 -- What a wire of a line answers, and how it stands then.
 use Rattle.std.specs.Prelude.{◌≡◌, ◌≢◌, ℕ, ◌-◌, ◌<◌, ◌≤◌, ◌⊎◌, IsTrue, List, [], ◌++◌, length, take}
 use Rattle.std.specs.Prelude.{Option, Some, None, IsSome, Result, Ok, Err}
-use Rattle.njh_hub.specs.declared.wire_reading.Reading.{Reading}
-use Rattle.njh_hub.specs.declared.wire_reading.Reading.TheVariants as reading
-use Rattle.njh_hub.specs.declared.wire_reading.WireFault.{WireFault}
+use Rattle.njh_turns.specs.declared.wire_reading.Reading.{Reading}
+use Rattle.njh_turns.specs.declared.wire_reading.Reading.TheVariants as reading
+use Rattle.njh_turns.specs.declared.wire_reading.WireFault.{WireFault}
 use Rattle.njh_wire.specs.declared.end.End.TheVariants as ends
 use Rattle.njh_wire.specs.declared.end.Parting.TheVariants.{Closed, Failed}
 use Rattle.njh_wire.specs.declared.end.Stop.{Stop}

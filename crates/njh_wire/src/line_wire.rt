@@ -3,7 +3,7 @@
 ghost use Rattle.std.specs.Prelude.{◌≡◌, ◌+◌, ◌-◌, ◌<◌, ◌≤◌, [], length, min, IsTrue, ◌↔◌, ◌⊎◌, ⊤, true, None, IsSome};
 ghost use Rattle.std.specs.Prelude.{IsOk, OnOk, OnErr, IfOk};
 ghost use Rattle.njh_hub.specs.Sent.{IsCounted};
-ghost use Rattle.njh_hub.specs.Wires.{IsReading};
+ghost use Rattle.njh_turns.specs.Wires.{IsReading};
 ghost use Rattle.njh_wire.specs.declared.end.End.TheVariants.{Failed};
 ghost use Rattle.njh_wire.specs.Standing.{first_standing, with_connection, without_connection, with_failure, given_up};
 ghost use Rattle.njh_wire.specs.Standing.{due};
@@ -22,7 +22,8 @@ use crate::end::{End, Parting};
 use crate::ending::Ending;
 use crate::outbox::{Outbox, ROOM};
 use crate::silence::Silence;
-use njh_hub::{QUIET_TIME, Reading, Wire, WireFault};
+use njh_hub::QUIET_TIME;
+use njh_turns::{Reading, Wire, WireFault};
 use std::alloc::{AllocError, Global};
 use std::marker::Model;
 

@@ -4,8 +4,8 @@ ghost use Rattle.njh_spoolfile.specs.Origin.{StandsAsFound};
 
 use crate::playing::play;
 use crate::spool_files::{SpoolFiles, kill};
-use njh_hub::{Depot, DepotFault};
 use njh_spoolfile::{Origin, Store};
+use njh_turns::{Depot, DepotFault};
 use sqlite::{Alter, Start, Unknown};
 use std::alloc::Global;
 use std::rt::HostRuntime;

@@ -2,8 +2,8 @@
 //! what is kept.
 
 ghost use Rattle.std.specs.Prelude.{List, OnOk};
-ghost use Rattle.njh_hub.specs.Keeping.{LeadsHub};
 ghost use Rattle.njh_hub.specs.WholeHub.{Part};
+ghost use Rattle.njh_turns.specs.Keeping.{LeadsHub};
 ghost use Rattle.njh_spoolfile.specs.Origin.{StandsAsFound};
 
 use crate::networks::{CUSTOMERS, customer_of, line_of};
@@ -11,9 +11,10 @@ use crate::numbered_lines::NumberedLines;
 use crate::same::{check_same, listing};
 use crate::spool_files::{SpoolFiles, kill};
 use njh_encode::encode_script;
-use njh_hub::{Depot, Hub, KeepFault, Keeper};
+use njh_hub::Hub;
 use njh_spoolfile::{Origin, Store};
 use njh_table::LineId;
+use njh_turns::{Depot, KeepFault, Keeper};
 use sqlite::{Start, Unknown};
 use std::alloc::Global;
 use std::rt::HostRuntime;

@@ -9,10 +9,11 @@ ghost use Rattle.njh_spoolfile.specs.Origin.{IsFoundIn, StandsAsFound};
 ghost use Rattle.njh_spoolfile.specs.CommitState.{Stands};
 
 use crate::networks::tables;
-use njh_hub::{Depot, DepotFault, Hub};
+use njh_hub::Hub;
 use njh_keeper::{SpoolKeeper, open_from};
 use njh_spoolfile::{OpenFault, Origin, Store};
 use njh_table::Tables;
+use njh_turns::{Depot, DepotFault};
 use sqlite::{Error, ErrorCode, FileFrom, FileStore, Start, Unknown};
 use std::alloc::Global;
 use std::fs;

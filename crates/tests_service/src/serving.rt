@@ -1,10 +1,10 @@
 //! A service that is made, lent and dropped in one place, over whatever network: nothing else names
 //! its type.
 
-use njh_hub::{Attendant, KeepsNothing, Wire};
 use njh_serve::{Service, Station, service_on};
 use njh_service::NoSource;
 use njh_table::Tables;
+use njh_turns::{Attendant, KeepsNothing, Wire};
 use njh_wire::Network;
 use std::alloc::Global;
 use std::io::Write;

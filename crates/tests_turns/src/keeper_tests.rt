@@ -5,7 +5,7 @@ use crate::memory_keeper::MemoryKeeper;
 use crate::memory_wire::MemoryWire;
 use crate::service_tests::metz_by;
 use crate::serving::{LINES, TOLD, attend_twice, serve};
-use njh_hub::{KeepFault, TurnsFault};
+use njh_turns::{KeepFault, TurnsFault};
 use std::alloc::Global;
 use std::process::Abort;
 use std::test::Fail;

@@ -1,7 +1,7 @@
 //! What a wire of a line answers, step by step.
 
 use crate::play::{Step, play};
-use njh_hub::{Reading, WireFault};
+use njh_turns::{Reading, WireFault};
 use njh_wire::End;
 use std::test::Fail;
 

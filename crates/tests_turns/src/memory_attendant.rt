@@ -1,7 +1,8 @@
 //! An attendant in memory.
 
 use crate::memory_wire::MemoryWire;
-use njh_hub::{Attendant, Hub, HubFault, NewRoutes};
+use njh_hub::{Hub, HubFault};
+use njh_turns::{Attendant, NewRoutes};
 
 /// Rounds in which a wire isn't due.
 #[derive(Clone, Copy)]

@@ -3,7 +3,8 @@
 ghost use Rattle.std.specs.Prelude.{◌≤◌};
 ghost use Rattle.njh_hub.specs.Sent.{IsCounted};
 
-use njh_hub::{Hub, KeepFault, Keeper};
+use njh_hub::Hub;
+use njh_turns::{KeepFault, Keeper};
 
 /// Counts what it is called for, and fails at one of its calls. It keeps nothing.
 #[derive(Drop)]

@@ -2,10 +2,10 @@
 
 ghost use Rattle.std.specs.Prelude.{◌≡◌, ◌≤◌, length};
 ghost use Rattle.njh_hub.specs.Sent.{IsCounted};
-ghost use Rattle.njh_hub.specs.Wires.{IsReading};
+ghost use Rattle.njh_turns.specs.Wires.{IsReading};
 
 use arrayvec::ArrayVec;
-use njh_hub::{Reading, Wire, WireFault};
+use njh_turns::{Reading, Wire, WireFault};
 
 /// A peer makes contact, LYON signs on, and ANNA there asks for LIST.
 static ASKED: [u8; 93] =

@@ -1,7 +1,7 @@
 //! Plays steps on a wire of a line.
 
 use crate::memory_connection::{MemoryConnection, Peer};
-use njh_hub::{Reading, Wire, WireFault};
+use njh_turns::{Reading, Wire, WireFault};
 use njh_wire::{End, LineWire};
 use std::alloc::Global;
 use std::process::Abort;

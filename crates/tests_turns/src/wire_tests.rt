@@ -3,7 +3,7 @@
 use crate::memory_keeper::MemoryKeeper;
 use crate::memory_wire::MemoryWire;
 use crate::serving::{TOLD, serve};
-use njh_hub::Wire;
+use njh_turns::Wire;
 use std::alloc::Global;
 use std::process::Abort;
 use std::test::Fail;

@@ -6,8 +6,8 @@ use Rattle.njh_customer.specs.Growing.{HasShortRests}
 use Rattle.njh_spool.specs.CustomerSpool.{CustomerSpool}
 use Rattle.njh_spool.specs.Spools.{IsSound}
 use Rattle.njh_stream.specs.WholeFiles.{HaveHeaders}
-use Rattle.njh_hub.specs.Keeping.{IsLed, kept_file}
 use Rattle.njh_hub.specs.WholeHub.{Part}
+use Rattle.njh_turns.specs.Keeping.{IsLed, kept_file}
 use Rattle.njh_spoolfile.specs.Kept.{SpoolContents}
 use Rattle.njh_keeper.specs.Opened.{is_name_of}
 use Rattle.njh_keeper.specs.code.Following.{Memory, claim_of}

@@ -11,7 +11,7 @@ use Rattle.njh_spool.specs.CustomerSpool.{WholeFile}
 use Rattle.njh_spool.specs.declared.State.{State}
 use Rattle.njh_spoolfile.specs.Kept.{File, SpoolContents, records_of}
 use Rattle.njh_hub.specs.Files.{said_destination}
-use Rattle.njh_hub.specs.Keeping.{is_held}
+use Rattle.njh_turns.specs.Keeping.{is_held}
 use Rattle.njh_keeper.specs.Opened.{kind_word}
 use Rattle.njh_keeper.specs.code.Mirrored.{FitsHub, HasRecords, IsOrdered, own_rows}
 

@@ -2,7 +2,7 @@
 
 ghost use Rattle.std.specs.Prelude.{◌≡◌, ◌<◌, ◌≤◌, length, take, IfOk, OnErr};
 ghost use Rattle.njh_hub.specs.Sent.{IsCounted};
-ghost use Rattle.njh_hub.specs.Wires.{IsReading};
+ghost use Rattle.njh_turns.specs.Wires.{IsReading};
 ghost use Rattle.njh_wire.specs.Standing.{after_stop, ending_after, hearing};
 ghost use Rattle.njh_wire.specs.Readings.{IsSilence, IsAnswer, IsOpen, IsWait, IsRead, Receives};
 
@@ -11,7 +11,7 @@ use crate::calls::receive_on;
 use crate::connection::Connection;
 use crate::end::{End, Parting, Stop};
 use crate::ending::Ending;
-use njh_hub::{Reading, WireFault};
+use njh_turns::{Reading, WireFault};
 
 impl<C: Connection + Drop> LineWire<C> {
     /// What it answers while bytes wait to go out.

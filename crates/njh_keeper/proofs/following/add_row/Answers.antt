@@ -9,7 +9,7 @@ use Rattle.njh_keeper.specs.declared.own_files.KeptWhole as declared
 use Rattle.njh_keeper.specs.declared.writer.SpoolWriter.{SpoolWriter}
 use Rattle.njh_keeper.specs.code.Following.{IsRowFor, memory_of}
 use Rattle.njh_keeper.specs.code.Memory.{numbers_of, whole_of}
-use Rattle.njh_hub.proofs.KeepingLaws.{on_ok}
+use Rattle.njh_turns.proofs.KeepingLaws.{on_ok}
 use Rattle.njh_keeper.proofs.following.add_row.Goals as goal
 
 pub returns-clause-added : goal.returns-clause-added

@@ -2,7 +2,7 @@ use Rattle.std.proofs.Common.{◌≡◌, ◌<◌, true, None, length, get_or, se
 use Rattle.std.proofs.lemmas.List.{get_or-map, get_or_default, length-map, map-set}
 use Rattle.std.specs.Vec.{with_item}
 use Rattle.sqlite.specs.State.{HasCleanDisk}
-use Rattle.njh_hub.specs.Keeping.{is_held}
+use Rattle.njh_turns.specs.Keeping.{is_held}
 use Rattle.njh_spoolfile.specs.Kept.{with_changed}
 use Rattle.njh_spoolfile.specs.Shelf.{shown}
 use Rattle.njh_keeper.specs.code.Following.{GoesTo, memory_of}

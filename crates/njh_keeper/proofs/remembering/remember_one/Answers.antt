@@ -1,9 +1,9 @@
 use Rattle.std.proofs.Common.{rules, ◌≡◌, ◌<◌, ◌++◌, List, [], ◌∷◌, length, get_or, map, sym, ap, subst, ◌∙◌, arith}
 use Rattle.std.proofs.lemmas.List.{get_or_default, length-map, map-append}
-use Rattle.njh_hub.specs.Keeping.{is_held}
 use Rattle.njh_hub.specs.Views.{file_summary}
 use Rattle.njh_hub.specs.WholeHub.{part}
 use Rattle.njh_hub.specs.declared.file_summary.FileSummaryView.{FileSummaryView}
+use Rattle.njh_turns.specs.Keeping.{is_held}
 use Rattle.njh_spoolfile.specs.Kept.{SpoolContents, entry_of, with_changed}
 use Rattle.njh_spoolfile.specs.Shelf.{shown}
 use Rattle.njh_keeper.specs.code.Memory.{whole_of}

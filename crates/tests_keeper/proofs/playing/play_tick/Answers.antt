@@ -1,5 +1,5 @@
 use Rattle.std.proofs.Common.{refl}
-use Rattle.njh_hub.specs.Keeping.{by_signal}
+use Rattle.njh_turns.specs.Keeping.{by_signal}
 use Rattle.tests_keeper.proofs.playing.play_tick.Goals as goal
 
 pub keep-requires : goal.keep-requires

@@ -11,7 +11,7 @@ use Rattle.njh_hub.specs.WholeHub.{HubRun, HasLine, part, sent_by, hub_run}
 use Rattle.njh_hub.proofs.PieceLaws.{after_bytes}
 use Rattle.njh_hub.proofs.RunningLaws.{GoesOn, step_done, sink_done, whole_done, sent_pair, is_within_one, counted_from}
 use Rattle.njh_hub.proofs.StopLaws.{bytes_stop, some_taken}
-use Rattle.njh_hub.proofs.WireLaws.{step_stops}
+use Rattle.njh_hub.proofs.CutLaws.{step_stops}
 use Rattle.njh_hub.proofs.hub.Hub.run_bytes.Goals as goal
 
 pub loop-used-preserved : goal.loop-used-preserved

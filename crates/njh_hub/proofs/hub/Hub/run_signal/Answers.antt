@@ -3,7 +3,7 @@ use Rattle.njh_customer.specs.Feeding.{sent_on}
 use Rattle.njh_hub.specs.WholeHub.{HubRun, sent_by}
 use Rattle.njh_hub.proofs.RunningLaws.{named-event_by, sent_pair, signal_done}
 use Rattle.njh_hub.proofs.StopLaws.{signal-bytes}
-use Rattle.njh_hub.proofs.WireLaws.{signal_stops}
+use Rattle.njh_hub.proofs.CutLaws.{signal_stops}
 use Rattle.njh_hub.proofs.hub.Hub.run_signal.Goals as goal
 
 pub returns-in-Err-hand_over : goal.returns-in-Err-hand_over

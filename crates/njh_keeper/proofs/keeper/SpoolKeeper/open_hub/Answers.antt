@@ -5,7 +5,7 @@ use Rattle.njh_table.specs.Accepted.{AreDistinct}
 use Rattle.njh_customer.specs.Growing.{HasShortRests}
 use Rattle.njh_hub.specs.Parts.{entries_of}
 use Rattle.njh_hub.specs.WholeHub.{Part, SameLines, part_at_open}
-use Rattle.njh_hub.specs.declared.depot.DepotFault.{DepotFault}
+use Rattle.njh_turns.specs.declared.depot.DepotFault.{DepotFault}
 use Rattle.njh_spoolfile.specs.Kept.{Holds}
 use Rattle.njh_spoolfile.specs.Shelf.{shown}
 use Rattle.njh_spoolfile.specs.CommitState.{CommitState, Stands}

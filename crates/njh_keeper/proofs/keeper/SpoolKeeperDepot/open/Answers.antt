@@ -1,8 +1,8 @@
 use Rattle.std.proofs.Common.{List, Result, Ok, Err, IfOk, OnOk, ◌∙◌}
 use Rattle.sqlite.specs.State.{HasCleanDisk}
-use Rattle.njh_hub.specs.Keeping.{IsSettled}
 use Rattle.njh_hub.specs.WholeHub.{Part}
-use Rattle.njh_hub.specs.declared.depot.DepotFault.{DepotFault}
+use Rattle.njh_turns.specs.Keeping.{IsSettled}
+use Rattle.njh_turns.specs.declared.depot.DepotFault.{DepotFault}
 use Rattle.njh_spoolfile.specs.Origin.{StandsAsFound}
 use Rattle.njh_spoolfile.specs.Shelf.{shown}
 use Rattle.njh_keeper.specs.Keeper.{IsSettledFrom, KnowsHub, MayLeaveOf}

@@ -1,5 +1,5 @@
 use Rattle.std.specs.Prelude.{◌≡◌}
-use Rattle.njh_hub.specs.Service.{AreStill}
+use Rattle.njh_turns.specs.Service.{AreStill}
 use Rattle.njh_service.proofs.exchange.Exchange.begin_round.Given as goal
 
 -- each wire is still that of its line, none failed less often, and the lines are the same

@@ -1,5 +1,0 @@
-use Rattle.njh_hub.proofs.KeepingLaws as laws
-use Rattle.njh_hub.proofs.keeper.kept_is_own.Goals as goal
-
-pub returns : goal.returns
-returns c = laws.kept_is_own

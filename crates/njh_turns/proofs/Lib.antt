@@ -1,0 +1,9 @@
+pub mod WireLaws
+pub mod TurnLaws
+pub mod RoundLaws
+pub mod OwnWires
+pub mod ServiceLaws
+pub mod ServedLaws
+pub mod OwnRoutes
+pub mod KeepingLaws
+pub mod BreakLaws

@@ -1,0 +1,289 @@
+-- A service that goes on: wires at rest, new routes, one round more.
+use Rattle.std.proofs.Common.{◌≡◌, ℕ, ◌<◌, ◌≤◌, List, [], ◌∷◌, ◌++◌, length, set, get_or, refl, Option, Some, None}
+use Rattle.std.proofs.Common.{Result, Ok, Err, ap, sym, subst, ◌∙◌, arith, append_assoc, append-nil}
+use Rattle.std.specs.Prelude.{All, IsSome, OnOk, OnErr}
+use Rattle.std.proofs.lemmas.Grind.{flat_map-append}
+use Rattle.std.proofs.lemmas.List.Elements.{All-push}
+use Rattle.njh_table.specs.declared.LineId.{LineId}
+use Rattle.njh_table.specs.declared.new_routes.GivenRoute.{GivenRoute}
+use Rattle.njh_table.specs.NewRoutes.{new_routes_of, routes_checked, entries_of_routes}
+use Rattle.njh_customer.specs.NewRoutes.{part_after_routes}
+use Rattle.njh_hub.specs.declared.event.Event.{Event}
+use Rattle.njh_hub.specs.declared.event.Event.TheVariants.{Routes}
+use Rattle.njh_turns.specs.Service.{Happening, Round, NewRoutes, happening_events, happening_quiets, happening_rounds}
+use Rattle.njh_turns.specs.Service.{happening_turns, IsPossible, ArePossible, IsBrought, service_events, service_quiets}
+use Rattle.njh_turns.specs.Service.{service_rounds, service_turns, AreStill, IsAttended, IsGiven}
+use Rattle.std.specs.List.{flat_map}
+use Rattle.njh_hub.specs.WholeHub.{Part, HubRun, part, hub_run}
+use Rattle.njh_hub.proofs.RunningLaws.{hub_run-append, routes_done}
+use Rattle.njh_turns.specs.Turns.{Turn, Placed, HadTurn, HadTurns, IsRound, turn_at, placed_acts, quiets_after}
+use Rattle.njh_turns.specs.Turns.{round_events}
+use Rattle.njh_turns.specs.Wires.{WireAct}
+use Rattle.njh_turns.proofs.RoundLaws.{had_more}
+use Rattle.njh_turns.proofs.TurnLaws.{counted_on}
+
+-- ---- a story that goes on
+
+service_quiets-more : (quiets : List ℕ) (story : List Happening) (more : Happening) →
+    service_quiets quiets (story ++ more ∷ []) ≡ happening_quiets (service_quiets quiets story) more
+service_quiets-more quiets [] more = refl
+service_quiets-more quiets (h ∷ story) more = service_quiets-more (happening_quiets quiets h) story more
+
+service_events-more : (lines : List LineId) (quiets : List ℕ) (story : List Happening) (more : Happening) →
+    service_events lines quiets (story ++ more ∷ [])
+    ≡ service_events lines quiets story ++ happening_events lines (service_quiets quiets story) more
+service_events-more lines quiets [] more = append-nil (happening_events lines quiets more)
+service_events-more lines quiets (h ∷ story) more =
+    let now = happening_quiets quiets h in
+    ap (λ (es : List Event). happening_events lines quiets h ++ es) (service_events-more lines now story more)
+    ∙ sym (append_assoc (happening_events lines quiets h) (service_events lines now story)
+    (happening_events lines (service_quiets now story) more))
+
+-- the parts after a story
+abbrev parts_after : List Part → List LineId → List ℕ → List Happening → List Part
+parts_after parts lines quiets story = (hub_run parts (service_events lines quiets story)).parts
+
+parts_after-first : (parts : List Part) (lines : List LineId) (quiets : List ℕ) (h : Happening) (story : List Happening)
+    →
+    parts_after parts lines quiets (h ∷ story)
+    ≡ parts_after (hub_run parts (happening_events lines quiets h)).parts lines (happening_quiets quiets h) story
+parts_after-first parts lines quiets h story =
+    ap (λ (x : HubRun). x.parts)
+    (hub_run-append parts (happening_events lines quiets h) (service_events lines (happening_quiets quiets h) story))
+
+parts_after-more : (parts : List Part) (lines : List LineId) (quiets : List ℕ) (story : List Happening)
+    (more : Happening) →
+    parts_after parts lines quiets (story ++ more ∷ [])
+    ≡ (hub_run (parts_after parts lines quiets story) (happening_events lines (service_quiets quiets story) more)).parts
+parts_after-more parts lines quiets story more =
+    ap (λ (es : List Event). (hub_run parts es).parts) (service_events-more lines quiets story more)
+    ∙ ap (λ (x : HubRun). x.parts)
+    (hub_run-append parts (service_events lines quiets story)
+    (happening_events lines (service_quiets quiets story) more))
+
+service_turns-more : (parts : List Part) (lines : List LineId) (quiets : List ℕ) (i : ℕ) (story : List Happening)
+    (more : Happening) →
+    service_turns parts lines quiets i (story ++ more ∷ [])
+    ≡ service_turns parts lines quiets i story
+    ++ happening_turns (parts_after parts lines quiets story) lines (service_quiets quiets story) i more
+service_turns-more parts lines quiets i [] more = append-nil (happening_turns parts lines quiets i more)
+service_turns-more parts lines quiets i (h ∷ story) more =
+    let first = happening_turns parts lines quiets i h in
+    let now = happening_quiets quiets h in
+    let led = (hub_run parts (happening_events lines quiets h)).parts in
+    ap (λ (ps : List Placed). first ++ ps) (service_turns-more led lines now i story more)
+    ∙ sym (append_assoc first (service_turns led lines now i story)
+    (happening_turns (parts_after led lines now story) lines (service_quiets now story) i more))
+    ∙ ap (λ (ps : List Part). service_turns parts lines quiets i (h ∷ story) ++ happening_turns ps lines
+    (service_quiets now story) i more)
+    (sym (parts_after-first parts lines quiets h story))
+
+possible-more : (parts : List Part) (lines : List LineId) (quiets : List ℕ) (story : List Happening) (more : Happening)
+    →
+    ArePossible parts lines quiets story → IsPossible (parts_after parts lines quiets story) more →
+    ArePossible parts lines quiets (story ++ more ∷ [])
+possible-more parts lines quiets [] more so_far this = (this, tt)
+possible-more parts lines quiets (h ∷ story) more so_far this =
+    let led = (hub_run parts (happening_events lines quiets h)).parts in (
+      so_far.0,
+      possible-more led lines (happening_quiets quiets h) story more so_far.1
+          (subst (λ (ps : List Part). IsPossible ps more) (parts_after-first parts lines quiets h story) this),
+    )
+
+service_rounds-more : (story : List Happening) (more : Happening) →
+    service_rounds (story ++ more ∷ []) ≡ service_rounds story ++ happening_rounds more
+service_rounds-more story more =
+    flat_map-append happening_rounds story (more ∷ [])
+    ∙ ap (λ (xs : List (List Turn)). service_rounds story ++ xs) (append-nil (happening_rounds more))
+
+-- ---- a service that came so far
+
+-- What `IsAttended` says, whatever the number of its rounds.
+pub record IsAt {S : Type 0} (passed : S → S → List WireAct → Type 0) (count : S → ℕ) (brings : Type 0)
+    (lines : List LineId)
+    (parts : List Part) (quiets : List ℕ) (wires : List S) (story : List Happening) (now : List Part)
+    (now_quiets : List ℕ)
+    (now_wires : List S) : Type 0 where
+  pub each : All (λ round. length round ≡ length lines) (service_rounds story)
+  pub possible : ArePossible parts lines quiets story
+  pub brought : All (IsBrought brings) story
+  pub hub : now ≡ (hub_run parts (service_events lines quiets story)).parts
+  pub calm : now_quiets ≡ service_quiets quiets story
+  pub had : (i : ℕ) (d : S) → i < length lines →
+      HadTurns passed count (service_turns parts lines quiets i story) (get_or wires i d) (get_or now_wires i d)
+
+-- what is said of it where so many of its happenings are rounds
+pub attended_at : {S : Type 0} (passed : S → S → List WireAct → Type 0) (count : S → ℕ) (brings : Type 0)
+    (lines : List LineId) (parts : List Part)
+    (quiets : List ℕ) (wires : List S) (story : List Happening) (now : List Part) (now_quiets : List ℕ)
+    (now_wires : List S)
+    {turns : ℕ} → length (service_rounds story) ≡ turns →
+    IsAt passed count brings lines parts quiets wires story now now_quiets now_wires →
+    IsAttended passed count brings lines turns parts quiets wires now now_quiets now_wires
+attended_at passed count brings lines parts quiets wires story now now_quiets now_wires many h = record {
+  story = story;
+  many = many;
+  each = h.each;
+  possible = h.possible;
+  brought = h.brought;
+  hub = h.hub;
+  calm = h.calm;
+  had = h.had;
+}
+
+pub at_first : {S : Type 0} (passed : S → S → List WireAct → Type 0) (count : S → ℕ) (brings : Type 0)
+    (lines : List LineId) (parts : List Part)
+    (quiets : List ℕ) (wires : List S) → ((s : S) → passed s s [])
+    → IsAt passed count brings lines parts quiets wires [] parts quiets wires
+at_first passed count brings lines parts quiets wires none = record {
+  each = λ k d never. absurd (omega (arith, never));
+  possible = tt;
+  brought = λ k d never. absurd (omega (arith, never));
+  hub = refl;
+  calm = refl;
+  had = λ i d within. record {
+    acts = none (get_or wires i d);
+    stops = λ k e never. absurd (omega (arith, never));
+    counts = omega arith;
+    counted = λ k e never. absurd (omega (arith, never));
+  };
+}
+
+had_still : {S : Type 0} (passed : S → S → List WireAct → Type 0) (count : S → ℕ) (turns : List Placed) (a b c : S) →
+    ((a b c : S) (xs ys : List WireAct) → passed a b xs → passed b c ys → passed a c (xs ++ ys)) →
+    HadTurns passed count turns a b → passed b c [] → count b ≤ count c → HadTurns passed count turns a c
+had_still {S} passed count turns a b c more h still counts =
+    let acts : List WireAct = flat_map placed_acts turns in
+    record {
+      acts = subst (λ (xs : List WireAct). passed a c xs) (append-nil acts) (more a b c acts [] h.acts still);
+      stops = h.stops;
+      counts = omega (arith, h.counts, counts);
+      counted = λ k d within fault. counted_on (count a) (count b) (count c) h.counts counts
+          (h.counted k d within fault);
+    }
+
+-- wires on which nothing passed
+pub at_still : {S : Type 0} (passed : S → S → List WireAct → Type 0) (count : S → ℕ) (brings : Type 0)
+    (lines : List LineId) (parts : List Part)
+    (quiets : List ℕ) (wires : List S) (story : List Happening) (now : List Part) (now_quiets : List ℕ)
+    (now_wires new_wires : List S) →
+    ((a b c : S) (xs ys : List WireAct) → passed a b xs → passed b c ys → passed a c (xs ++ ys)) →
+    length now_wires ≡ length lines →
+    IsAt passed count brings lines parts quiets wires story now now_quiets now_wires
+    → AreStill passed count now_wires new_wires →
+    IsAt passed count brings lines parts quiets wires story now now_quiets new_wires
+at_still passed count brings lines parts quiets wires story now now_quiets now_wires new_wires more same h still =
+    record {
+      each = h.each;
+      possible = h.possible;
+      brought = h.brought;
+      hub = h.hub;
+      calm = h.calm;
+      had = λ i d within. had_still passed count (service_turns parts lines quiets i story) (get_or wires i d)
+          (get_or now_wires i d)
+          (get_or new_wires i d) more (h.had i d within) (still.passed_none i d (omega (arith, same, within)))
+          (still.counts i d (omega (arith, same, within)));
+    }
+
+-- the happening, if any, of new routes
+abbrev pub with_given : List Happening → Option (ℕ × List GivenRoute) → List Happening
+with_given story None = story
+with_given story (Some given) = story ++ NewRoutes given.0 given.1 ∷ []
+
+pub rounds-with_given : (story : List Happening) (given : Option (ℕ × List GivenRoute)) →
+    service_rounds (with_given story given) ≡ service_rounds story
+rounds-with_given story None = refl
+rounds-with_given story (Some given) = service_rounds-more story (NewRoutes given.0 given.1)
+    ∙ append-nil (service_rounds story)
+
+pub at_given : {S : Type 0} (passed : S → S → List WireAct → Type 0) (count : S → ℕ) (brings : Type 0)
+    (lines : List LineId) (parts : List Part)
+    (quiets : List ℕ) (wires : List S) (story : List Happening) (now : List Part) (now_quiets : List ℕ)
+    (now_wires : List S)
+    (given : Option (ℕ × List GivenRoute)) (new : List Part) →
+    IsAt passed count brings lines parts quiets wires story now now_quiets now_wires → IsGiven now given new
+    → (IsSome given → brings) →
+    IsAt passed count brings lines parts quiets wires (with_given story given) new now_quiets now_wires
+at_given passed count brings lines parts quiets wires story now now_quiets now_wires None new h done from = record {
+  each = h.each;
+  possible = h.possible;
+  brought = h.brought;
+  hub = done ∙ h.hub;
+  calm = h.calm;
+  had = h.had;
+}
+at_given {S} passed count brings lines parts quiets wires story now now_quiets now_wires (Some given) new h done from =
+    let more = NewRoutes given.0 given.1 in
+    let P : List (List Turn) → Type 0 = λ rounds. All (λ round. length round ≡ length lines) rounds in
+    record {
+      each = subst P (sym (rounds-with_given story (Some given))) h.each;
+      possible = possible-more parts lines quiets story more h.possible
+          (subst (λ (ps : List Part). IsPossible ps more) h.hub done.0);
+      brought = All-push (IsBrought brings) story more h.brought (from refl);
+      hub = done.1 ∙ ap (λ (ps : List Part). (hub_run ps (Routes given.0 given.1 ∷ [])).parts) h.hub
+          ∙ sym (parts_after-more parts lines quiets story more);
+      calm = h.calm ∙ sym (service_quiets-more quiets story more);
+      had = λ i d within.
+          let Q : List Placed → Type 0 = λ ps. HadTurns passed count ps (get_or wires i d) (get_or now_wires i d) in
+          subst Q (sym (service_turns-more parts lines quiets i story more
+          ∙ append-nil (service_turns parts lines quiets i story)))
+          (h.had i d within);
+    }
+
+pub at_round : {S : Type 0} (passed : S → S → List WireAct → Type 0) (count : S → ℕ) (brings : Type 0)
+    (lines : List LineId) (parts : List Part)
+    (quiets : List ℕ) (wires : List S) (story : List Happening) (now : List Part) (now_quiets : List ℕ)
+    (now_wires : List S)
+    (round : List Turn) (new : List Part) (new_quiets : List ℕ) (new_wires : List S) →
+    ((a b c : S) (xs ys : List WireAct) → passed a b xs → passed b c ys → passed a c (xs ++ ys)) →
+    IsAt passed count brings lines parts quiets wires story now now_quiets now_wires → length round ≡ length lines →
+    IsRound passed count lines now now_quiets now_wires round new new_quiets new_wires →
+    IsAt passed count brings lines parts quiets wires (story ++ Round round ∷ []) new new_quiets new_wires
+at_round {S} passed count brings lines parts quiets wires story now now_quiets now_wires round new new_quiets new_wires
+    more h whole r =
+    let led = (hub_run parts (service_events lines quiets story)).parts in
+    let quieter = service_quiets quiets story in
+    let P : List (List Turn) → Type 0 = λ rounds. All (λ round. length round ≡ length lines) rounds in
+    record {
+      each = subst P (sym (service_rounds-more story (Round round)))
+          (All-push (λ round. length round ≡ length lines) (service_rounds story) round h.each whole);
+      possible = possible-more parts lines quiets story (Round round) h.possible tt;
+      brought = All-push (IsBrought brings) story (Round round) h.brought tt;
+      hub = r.hub ∙ ap (λ (ps : List Part). (hub_run ps (round_events lines now_quiets round)).parts) h.hub
+          ∙ ap (λ (qs : List ℕ). (hub_run led (round_events lines qs round)).parts) h.calm
+          ∙ sym (parts_after-more parts lines quiets story (Round round));
+      calm = r.calm ∙ ap (λ (qs : List ℕ). quiets_after qs round) h.calm
+          ∙ sym (service_quiets-more quiets story (Round round));
+      had = λ i d within.
+          let Q : Placed → Type 0 = λ p. HadTurn passed count p (get_or now_wires i d) (get_or new_wires i d) in
+          let place : turn_at now lines now_quiets i round ≡ turn_at led lines quieter i round =
+          ap (λ (ps : List Part). turn_at ps lines now_quiets i round) h.hub
+          ∙ ap (λ (qs : List ℕ). turn_at led lines qs i round) h.calm in
+          let R : List Placed → Type 0 = λ ps. HadTurns passed count ps (get_or wires i d) (get_or new_wires i d) in
+          subst R (sym (service_turns-more parts lines quiets i story (Round round)))
+          (had_more passed count (service_turns parts lines quiets i story) (turn_at led lines quieter i round)
+          (get_or wires i d) (get_or now_wires i d) (get_or new_wires i d) more (h.had i d within)
+          (subst Q place (r.had i d (omega (arith, whole, within)))));
+    }
+
+pub rounds-with_round : (story : List Happening) (round : List Turn) →
+    service_rounds (story ++ Round round ∷ []) ≡ service_rounds story ++ round ∷ []
+rounds-with_round story round = service_rounds-more story (Round round)
+
+-- ---- new routes
+
+-- what came of routes that a customer was to have
+pub given_by : {A E : Type 0} (parts new : List Part) (c : ℕ) (routes : List GivenRoute) (answer : Result A E) →
+    OnOk answer (new ≡ set parts c (part_after_routes (entries_of_routes (new_routes_of c routes)) (part c parts))) →
+    OnOk answer (c < length parts) →
+    OnOk answer (routes_checked (part c parts).customer.entry (new_routes_of c routes) ≡ Ok tt) →
+    OnErr answer (new ≡ parts) → (given : Option (ℕ × List GivenRoute)) × IsGiven parts given new
+given_by parts new c routes (Ok x) hub known checked err = (
+  Some (c, routes),
+  (
+    (known, checked),
+    hub
+        ∙ sym (ap (λ (h : HubRun). h.parts) (routes_done parts c routes checked)),
+  ),
+)
+given_by parts new c routes (Err e) hub known checked err = (None, err)

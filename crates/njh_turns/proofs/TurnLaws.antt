@@ -1,0 +1,53 @@
+-- A turn of a wire: its read, and what comes of the answer.
+use Rattle.std.proofs.Common.{◌≡◌, ℕ, ◌<◌, ◌≤◌, List, ◌++◌, Option, Result, Ok, Err, ⊎_elim, arith, inl, inr}
+use Rattle.std.specs.Prelude.{OnErr, IsSome}
+use Rattle.std.proofs.lemmas.Bool.{cases_lt}
+use Rattle.njh_table.specs.declared.LineId.{LineId}
+use Rattle.njh_hub.specs.Sent.{IsCounted}
+use Rattle.njh_hub.specs.WholeHub.{Part}
+use Rattle.njh_hub.proofs.RunningLaws.{counted_from}
+use Rattle.njh_turns.specs.declared.wire_reading.Reading.{Reading}
+use Rattle.njh_turns.specs.declared.wire_reading.Reading.TheVariants as reading
+use Rattle.njh_turns.specs.declared.wire_reading.WireFault.{WireFault}
+use Rattle.njh_turns.specs.Turns.{IsTurn, IsHeard, wire_event, written_where}
+use Rattle.njh_turns.specs.Wires.{Failed, heard_of, WireAct, answer_acts}
+
+-- an answer that is a failure is a fault
+pub failed-err : {P : Type 0} (answer : Result Reading WireFault) (buffer : List ℕ) → heard_of answer buffer ≡ Failed
+    → OnErr answer P → P
+failed-err (Ok (reading.Bytes n)) buffer is told = cc
+failed-err (Ok reading.Quiet) buffer is told = cc
+failed-err (Ok reading.Pending) buffer is told = cc
+failed-err (Ok reading.Closed) buffer is told = cc
+failed-err (Ok reading.Absent) buffer is told = cc
+failed-err (Err fault) buffer is told = told
+
+-- what was counted stays counted
+pub counted_on : (before now after : ℕ) → before ≤ now → now ≤ after → IsCounted before now → IsCounted before after
+counted_on before now after first then c =
+    ⊎_elim (λ (w : before < now). inl (omega arith))
+    (λ (w : now ≡ 18446744073709551615). ⊎_elim (λ (m : now < after). inl (omega arith))
+    (λ (m : after ≤ now). inr (omega arith))
+    (cases_lt now after)) c
+
+-- a turn of a read and of what came of its answer
+pub read_turn : {S : Type 0} (passed : S → S → List WireAct → Type 0) (count : S → ℕ) (parts new : List Part)
+    (id : LineId)
+    (quiet : ℕ) (answer : Result Reading WireFault) (buffer : List ℕ) (cut : Option ℕ) (wire read new_wire : S) →
+    ((a b c : S) (xs ys : List WireAct) → passed a b xs → passed b c ys → passed a c (xs ++ ys)) →
+    passed wire read (answer_acts (heard_of answer buffer)) → count wire ≤ count read →
+    OnErr answer (IsCounted (count wire) (count read)) →
+    IsHeard passed count parts (wire_event id quiet (heard_of answer buffer)) cut read new new_wire →
+    IsTurn passed count parts id quiet (record { heard = heard_of answer buffer; cut = cut }) wire new new_wire
+read_turn passed count parts new id quiet answer buffer cut wire read new_wire more answered counts counted h = record {
+  hub = h.hub;
+  acts = more wire read new_wire (answer_acts (heard_of answer buffer))
+      (written_where parts cut (wire_event id quiet (heard_of answer buffer)))
+      answered h.acts;
+  stop = h.stop;
+  counts = omega (arith, counts, h.counts);
+  counted = λ fault. ⊎_elim (λ (w : heard_of answer buffer ≡ Failed). counted_on (count wire) (count read)
+      (count new_wire) counts
+      h.counts (failed-err answer buffer w counted))
+      (λ (w : IsSome cut). counted_from (count wire) (count read) (count new_wire) counts (h.counted w)) fault;
+}

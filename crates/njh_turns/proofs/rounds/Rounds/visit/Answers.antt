@@ -1,0 +1,211 @@
+use Rattle.std.proofs.Common.{◌≡◌, ◌<◌, ℕ, List, [], ◌∷◌, ◌++◌, length, get_or, set, refl, ap, sym, subst, ◌∙◌, arith}
+use Rattle.std.proofs.lemmas.List.{length-append}
+use Rattle.njh_table.specs.declared.LineId.{LineId}
+use Rattle.njh_hub.specs.WholeHub.{HasLine}
+use Rattle.njh_hub.proofs.RunningLaws.{counted_from}
+use Rattle.njh_turns.specs.Breaks.{TurnBreaks}
+use Rattle.njh_turns.specs.Turns.{LineQuiets, IsRound, no_line_id}
+use Rattle.njh_turns.proofs.BreakLaws.{round_stops, withheld_on}
+use Rattle.njh_turns.proofs.KeepingLaws.{follows_ill, follows_well, no_more_then}
+use Rattle.njh_turns.proofs.RoundLaws.{GoesRound, round_more, round_none, round_over, passed_over}
+use Rattle.njh_turns.proofs.rounds.Rounds.visit.Goals as goal
+
+pub loop-i-init : goal.loop-i-init
+loop-i-init g c =
+    let rounds = c.args.self.now in
+    record {
+      turns = (
+        [],
+        refl,
+        round_none g.W.Wire.passed g.W.Wire.count rounds.lines c.args.hub.now rounds.quiets c.args.wires.now,
+      );
+      lines = refl;
+      same = λ d. refl;
+      withheld = λ k d. g.met.W.Wire.withheld_none (get_or c.args.wires.now k d);
+      knows = c.requires.follows;
+      leaves = λ left now. now;
+      kept = refl;
+    }
+
+pub take_turn-requires-clause-within : goal.take_turn-requires-clause-within
+take_turn-requires-clause-within g c =
+    omega (
+      arith,
+      c.loop-i-test.true,
+      c.len-i-end.ensures,
+      ap (λ (r : LineQuiets). length r.lines) c.self.view_is,
+      ap (λ (ls : List LineId). length ls) c.loop-i.invariant.lines,
+    )
+
+pub take_turn-requires-clause-known : goal.take_turn-requires-clause-known
+take_turn-requires-clause-known g c =
+    let i = c.loop-i.i in
+    let line = get_or c.args.self.now.lines i no_line_id in
+    let within : i < length c.args.self.now.lines = omega (
+      arith,
+      c.loop-i-test.true,
+      c.len-i-end.ensures,
+      ap (λ (r : LineQuiets). length r.lines) c.self.view_is,
+    ) in
+    let there : HasLine c.loop-i.hub line =
+    omega (arith, c.requires.known i no_line_id within, c.loop-i.invariant.same line.customer) in
+    subst (λ (ls : List LineId). HasLine c.loop-i.hub (get_or ls i no_line_id)) (sym c.loop-i.invariant.lines) there
+
+pub loop-i-preserved : goal.loop-i-preserved
+loop-i-preserved g c =
+    let passed = g.W.Wire.passed in
+    let count = g.W.Wire.count in
+    let i = c.loop-i.i in
+    let start = c.args.self.now in
+    let rounds = c.loop-i.self in
+    let wires = c.loop-i.wires in
+    let wire = get_or wires i c.index-wires-i.result in
+    let new = c.take_turn.new in
+    let so_far = c.loop-i.invariant.turns in
+    let did = c.in-Ok.ensures.turn in
+    let whole : length start.quiets ≡ length start.lines = omega (
+      arith,
+      c.self.invariant.0,
+      ap (λ (r : LineQuiets). length r.quiets) c.self.view_is,
+      ap (λ (r : LineQuiets). length r.lines) c.self.view_is,
+    ) in
+    let within : c.loop-i.i < length c.args.self.now.lines = omega (
+      arith,
+      c.loop-i-test.true,
+      c.len-i-end.ensures,
+      ap (λ (r : LineQuiets). length r.lines) c.self.view_is,
+    ) in
+    let wire_is = ap (get_or wires i) c.index-wires-i.is in
+    let goes : GoesRound passed count start.lines c.args.hub.now start.quiets c.args.wires.now so_far.0 c.loop-i.hub
+    rounds.quiets wires i (get_or rounds.lines i no_line_id) (get_or rounds.quiets i 0) did.0 wire new.hub new.wire =
+    record {
+      so_far = so_far.2;
+      at = so_far.1;
+      lines_left = within;
+      quiets_left = omega (arith, whole, within);
+      wires_left = omega (arith, c.requires.same, within);
+      line_is = ap (λ (ls : List LineId). get_or ls i no_line_id) c.loop-i.invariant.lines;
+      quiet_is = refl;
+      wire_is = wire_is;
+      did = did.1;
+    } in
+    let P : List ℕ → Type 0 = λ qs. IsRound passed count start.lines c.args.hub.now start.quiets c.args.wires.now
+    (so_far.0 ++ did.0 ∷ []) new.hub qs (set wires i new.wire) in
+    record {
+      turns = (
+        so_far.0 ++ did.0 ∷ [],
+        omega (arith, so_far.1, length-append so_far.0 (did.0 ∷ [])),
+        subst P (sym did.2) (round_more goes),
+      );
+      lines = c.take_turn.ensures.same ∙ c.loop-i.invariant.lines;
+      same = λ d. c.in-Ok.ensures.lines d ∙ c.loop-i.invariant.same d;
+      withheld = withheld_on g.W.Wire.withheld g.met.W.Wire.withheld_more c.args.wires.now wires i wire new.wire
+          (omega (arith, c.requires.same, within)) wire_is c.loop-i.invariant.withheld c.in-Ok.ensures.withheld;
+      knows = c.in-Ok.ensures.follows.known;
+      leaves = no_more_then g.K.Keeper.may_leave c.args.keeper.now c.loop-i.keeper new.keeper c.loop-i.invariant.leaves
+          c.in-Ok.ensures.follows.leaves;
+      kept = c.in-Ok.ensures.follows.faultless ∙ c.loop-i.invariant.kept;
+    }
+
+pub loop-i-preserved-then-not-is_due : goal.loop-i-preserved-then-not-is_due
+loop-i-preserved-then-not-is_due g c =
+    let start = c.args.self.now in
+    let so_far = c.loop-i.invariant.turns in
+    let whole : length start.quiets ≡ length start.lines = omega (
+      arith,
+      c.self.invariant.0,
+      ap (λ (r : LineQuiets). length r.quiets) c.self.view_is,
+      ap (λ (r : LineQuiets). length r.lines) c.self.view_is,
+    ) in
+    let within : c.loop-i.i < length c.args.self.now.lines = omega (
+      arith,
+      c.loop-i-test.true,
+      c.len-i-end.ensures,
+      ap (λ (r : LineQuiets). length r.lines) c.self.view_is,
+    ) in
+    record {
+      turns = (
+        so_far.0 ++ passed_over ∷ [],
+        omega (arith, so_far.1, length-append so_far.0 (passed_over ∷ [])),
+        round_over c.loop-i.wires g.met.W.Wire.none so_far.2 so_far.1 within
+            (omega (arith, whole, within)) (omega (arith, c.requires.same, within)),
+      );
+      lines = c.loop-i.invariant.lines;
+      same = c.loop-i.invariant.same;
+      withheld = c.loop-i.invariant.withheld;
+      knows = c.loop-i.invariant.knows;
+      leaves = c.loop-i.invariant.leaves;
+      kept = c.loop-i.invariant.kept;
+    }
+
+-- ---- the keeper failed in a turn
+
+pub returns-in-Err-clause-stops : goal.returns-in-Err-clause-stops
+returns-in-Err-clause-stops g c =
+    let i = c.loop-i.i in
+    let so_far = c.loop-i.invariant.turns in
+    let broke = c.in-Err.ensures.breaks in
+    let wire = get_or c.loop-i.wires i c.index-wires-i.result in
+    let P : List LineId → Type 0 = λ ls. TurnBreaks g.W.Wire.passed g.W.Wire.count c.loop-i.hub (get_or ls i no_line_id)
+    (get_or c.loop-i.self.quiets i 0) broke.0 wire c.take_turn.new.hub c.take_turn.new.wire in
+    let within : c.loop-i.i < length c.args.self.now.lines = omega (
+      arith,
+      c.loop-i-test.true,
+      c.len-i-end.ensures,
+      ap (λ (r : LineQuiets). length r.lines) c.self.view_is,
+    ) in
+    round_stops i wire broke.0 so_far.2 so_far.1 within (omega (arith, c.requires.same, within))
+    (ap (get_or c.loop-i.wires i) c.index-wires-i.is) (subst P c.loop-i.invariant.lines broke.1)
+
+pub returns-in-Err-clause-follows : goal.returns-in-Err-clause-follows
+returns-in-Err-clause-follows g c =
+    follows_ill g.K.Keeper.may_leave g.K.Keeper.knows g.K.Keeper.count c.args.keeper.now c.take_turn.new.keeper
+    c.in-Err.fault c.take_turn.new.hub (no_more_then g.K.Keeper.may_leave c.args.keeper.now c.loop-i.keeper
+    c.take_turn.new.keeper c.loop-i.invariant.leaves c.in-Err.ensures.follows.leaves)
+    (omega (arith, c.loop-i.invariant.kept, c.in-Err.ensures.follows.counts))
+    (counted_from _ _ _ (omega (arith, c.loop-i.invariant.kept)) c.in-Err.ensures.follows.counted)
+
+pub returns-in-Err-clause-withheld : goal.returns-in-Err-clause-withheld
+returns-in-Err-clause-withheld g c =
+    let i = c.loop-i.i in
+    let wires = c.loop-i.wires in
+    let within : c.loop-i.i < length c.args.self.now.lines = omega (
+      arith,
+      c.loop-i-test.true,
+      c.len-i-end.ensures,
+      ap (λ (r : LineQuiets). length r.lines) c.self.view_is,
+    ) in
+    withheld_on g.W.Wire.withheld g.met.W.Wire.withheld_more c.args.wires.now wires i
+    (get_or wires i c.index-wires-i.result)
+    c.take_turn.new.wire (omega (arith, c.requires.same, within)) (ap (get_or wires i) c.index-wires-i.is)
+    c.loop-i.invariant.withheld c.in-Err.ensures.withheld
+
+pub returns-in-Err-clause-same : goal.returns-in-Err-clause-same
+returns-in-Err-clause-same g c = c.take_turn.ensures.same ∙ c.loop-i.invariant.lines
+
+pub returns-in-Err-clause-lines : goal.returns-in-Err-clause-lines
+returns-in-Err-clause-lines g c = λ d. c.in-Err.ensures.lines d ∙ c.loop-i.invariant.same d
+
+-- ---- all wires had their turns
+
+pub returns-clause-round : goal.returns-clause-round
+returns-clause-round g c =
+    let turns = c.loop-i.invariant.turns in
+    let all : c.len-i-end.result ≡ length c.args.self.now.lines =
+    omega (arith, c.len-i-end.ensures, ap (λ (r : LineQuiets). length r.lines) c.self.view_is) in
+    (turns.0, omega (arith, turns.1, all), turns.2)
+
+pub returns-clause-follows : goal.returns-clause-follows
+returns-clause-follows g c =
+    follows_well g.K.Keeper.may_leave g.K.Keeper.knows g.K.Keeper.count c.args.keeper.now c.loop-i.keeper tt
+    c.loop-i.hub
+    c.loop-i.invariant.knows c.loop-i.invariant.leaves c.loop-i.invariant.kept
+
+pub returns-clause-withheld : goal.returns-clause-withheld
+returns-clause-withheld g c = c.loop-i.invariant.withheld
+
+pub returns-clause-same : goal.returns-clause-same
+returns-clause-same g c = c.loop-i.invariant.lines
+
+pub returns-clause-lines : goal.returns-clause-lines
+returns-clause-lines g c = c.loop-i.invariant.same

@@ -1,0 +1,206 @@
+use Rattle.std.proofs.Common.{◌≡◌, List, [], ◌∷◌, ◌++◌, ◌+◌, length, get_or, refl, ap, sym, subst, ◌∙◌, arith}
+use Rattle.std.proofs.Common.{inl, inr}
+use Rattle.std.specs.Prelude.{All}
+use Rattle.std.proofs.lemmas.List.{length-append}
+use Rattle.njh_table.specs.declared.LineId.{LineId}
+use Rattle.njh_hub.specs.WholeHub.{HasLine}
+use Rattle.njh_hub.proofs.RunningLaws.{counted_from}
+use Rattle.njh_turns.specs.Breaks.{RoundBreaks}
+use Rattle.njh_turns.specs.Service.{Round, service_rounds}
+use Rattle.njh_turns.specs.Turns.{Turn, IsRound}
+use Rattle.njh_turns.proofs.ServiceLaws.{at_first, at_still, at_given, at_round, rounds-with_given, rounds-with_round}
+use Rattle.njh_turns.proofs.ServiceLaws.{with_given, attended_at}
+use Rattle.njh_turns.proofs.KeepingLaws.{keeps_ill, keeps_well}
+use Rattle.njh_turns.proofs.service.attend.Goals as goal
+
+pub loop-turn-init : goal.loop-turn-init
+loop-turn-init g c = record {
+  story = (
+    [],
+    refl,
+    at_first g.W.Wire.passed g.W.Wire.count g.A.Attendant.brings c.args.rounds.now.lines c.args.hub.now
+        c.args.rounds.now.quiets c.args.wires.now
+        g.met.W.Wire.none,
+  );
+  lines = refl;
+  same = λ d. refl;
+  settled = c.requires.settled;
+  kept = refl;
+}
+
+pub loop-turn-preserved : goal.loop-turn-preserved
+loop-turn-preserved g c =
+    let passed = g.W.Wire.passed in
+    let count = g.W.Wire.count in
+    let brings = g.A.Attendant.brings in
+    let more = g.met.W.Wire.more in
+    let lines = c.args.rounds.now.lines in
+    let start = c.args.hub.now in
+    let quiets = c.args.rounds.now.quiets in
+    let wires = c.args.wires.now in
+    let now_quiets = c.loop-turn.rounds.quiets in
+    let lines_is : c.loop-turn.rounds.lines ≡ lines = c.loop-turn.invariant.lines in
+    let story = c.loop-turn.invariant.story.0 in
+    let many = c.loop-turn.invariant.story.1 in
+    let given = c.in-Ok.ensures.given in
+    let round = c.in-Ok-take_due.ensures.round in
+    let told = with_given story given.0 in
+    let before = at_still passed count brings lines start quiets wires story c.loop-turn.hub now_quiets
+    c.loop-turn.wires
+    c.before-in-loop-turn.new.wires more (omega (arith, c.requires.same)) c.loop-turn.invariant.story.2
+    c.before-in-loop-turn.ensures in
+    let routed = at_given passed count brings lines start quiets wires story c.loop-turn.hub now_quiets
+    c.before-in-loop-turn.new.wires given.0
+    c.give_routes.new.hub before given.1 given.2 in
+    let P : List LineId → Type 0 = λ ls. IsRound passed count ls c.give_routes.new.hub now_quiets
+    c.before-in-loop-turn.new.wires round.0
+    c.take_due.new.hub c.take_due.new.self.quiets c.take_due.new.wires in
+    let taken = at_round passed count brings lines start quiets wires told c.give_routes.new.hub now_quiets
+    c.before-in-loop-turn.new.wires round.0
+    c.take_due.new.hub c.take_due.new.self.quiets c.take_due.new.wires more routed
+    (round.1 ∙ ap (λ (ls : List LineId). length ls) lines_is)
+    (subst P lines_is round.2) in
+    let next = told ++ Round round.0 ∷ [] in
+    let one_more : length (service_rounds next) ≡ length (service_rounds story) + 1 =
+    ap (λ (rs : List (List Turn)). length rs) (rounds-with_round told round.0)
+    ∙ length-append (service_rounds told) (round.0 ∷ [])
+    ∙ ap (λ (rs : List (List Turn)). length rs + 1) (rounds-with_given story given.0) in
+    record {
+      story = (
+        next,
+        omega (arith, many, one_more),
+        at_still passed count brings lines start quiets wires next c.take_due.new.hub c.take_due.new.self.quiets
+            c.take_due.new.wires c.after.new.wires more
+            (omega (arith, c.requires.same)) taken c.after.ensures,
+      );
+      lines = c.take_due.ensures.same ∙ lines_is;
+      same = λ d. c.take_due.ensures.lines d ∙ c.give_routes.ensures.lines d ∙ c.loop-turn.invariant.same d;
+      settled = c.in-Ok-take_due.ensures.keeps.settled;
+      kept = c.in-Ok-take_due.ensures.keeps.faultless ∙ c.in-Ok.ensures.keeps.faultless ∙ c.loop-turn.invariant.kept;
+    }
+
+-- ---- the keeper failed where a customer was given routes
+
+pub returns-in-Err-clause-breaks : goal.returns-in-Err-clause-breaks
+returns-in-Err-clause-breaks g c =
+    let passed = g.W.Wire.passed in
+    let count = g.W.Wire.count in
+    let brings = g.A.Attendant.brings in
+    let lines = c.args.rounds.now.lines in
+    let quiets = c.args.rounds.now.quiets in
+    let so_far = c.loop-turn.invariant.story in
+    let before = at_still passed count brings lines c.args.hub.now quiets c.args.wires.now so_far.0 c.loop-turn.hub
+    c.loop-turn.rounds.quiets
+    c.loop-turn.wires c.before-in-loop-turn.new.wires g.met.W.Wire.more (omega (arith, c.requires.same)) so_far.2
+    c.before-in-loop-turn.ensures in
+    let broke = c.in-Err.ensures.breaks in
+    record {
+      rounds = c.loop-turn.turn;
+      fewer = c.loop-turn-test.true;
+      mid = c.loop-turn.hub;
+      mid_quiets = c.loop-turn.rounds.quiets;
+      mid_wires = c.before-in-loop-turn.new.wires;
+      before = attended_at passed count brings lines c.args.hub.now quiets c.args.wires.now so_far.0 c.loop-turn.hub
+          c.loop-turn.rounds.quiets c.before-in-loop-turn.new.wires so_far.1 before;
+      breaks = inl (broke.0, broke.1, broke.2, refl);
+    }
+
+pub returns-in-Err-clause-keeps : goal.returns-in-Err-clause-keeps
+returns-in-Err-clause-keeps g c =
+    keeps_ill g.K.Keeper.may_leave g.K.Keeper.knows g.K.Keeper.count c.args.keeper.now c.give_routes.new.keeper
+    c.in-Err.fault c.give_routes.new.hub
+    (omega (arith, c.loop-turn.invariant.kept, c.in-Err.ensures.keeps.counts))
+    (counted_from _ _ _ (omega (arith, c.loop-turn.invariant.kept)) c.in-Err.ensures.keeps.counted)
+
+pub returns-in-Err-clause-lines : goal.returns-in-Err-clause-lines
+returns-in-Err-clause-lines g c = λ d. c.in-Err.ensures.lines d ∙ c.loop-turn.invariant.same d
+
+-- ---- it failed in a round
+
+pub returns-in-Err-take_due-clause-breaks : goal.returns-in-Err-take_due-clause-breaks
+returns-in-Err-take_due-clause-breaks g c =
+    let passed = g.W.Wire.passed in
+    let count = g.W.Wire.count in
+    let brings = g.A.Attendant.brings in
+    let lines = c.args.rounds.now.lines in
+    let quiets = c.args.rounds.now.quiets in
+    let so_far = c.loop-turn.invariant.story in
+    let given = c.in-Ok.ensures.given in
+    let before = at_still passed count brings lines c.args.hub.now quiets c.args.wires.now so_far.0 c.loop-turn.hub
+    c.loop-turn.rounds.quiets
+    c.loop-turn.wires c.before-in-loop-turn.new.wires g.met.W.Wire.more (omega (arith, c.requires.same)) so_far.2
+    c.before-in-loop-turn.ensures in
+    let routed = at_given passed count brings lines c.args.hub.now quiets c.args.wires.now so_far.0 c.loop-turn.hub
+    c.loop-turn.rounds.quiets
+    c.before-in-loop-turn.new.wires given.0 c.give_routes.new.hub before given.1 given.2 in
+    let P : List LineId → Type 0 = λ ls. RoundBreaks passed count g.W.Wire.withheld g.K.Keeper.may_leave ls
+    c.give_routes.new.hub
+    c.loop-turn.rounds.quiets c.before-in-loop-turn.new.wires c.take_due.new.hub c.take_due.new.wires
+    c.take_due.new.keeper in
+    record {
+      rounds = c.loop-turn.turn;
+      fewer = c.loop-turn-test.true;
+      mid = c.give_routes.new.hub;
+      mid_quiets = c.loop-turn.rounds.quiets;
+      mid_wires = c.before-in-loop-turn.new.wires;
+      before = attended_at passed count brings lines c.args.hub.now quiets c.args.wires.now
+          (with_given so_far.0 given.0)
+          c.give_routes.new.hub c.loop-turn.rounds.quiets c.before-in-loop-turn.new.wires
+          (ap (λ (rs : List (List Turn)). length rs) (rounds-with_given so_far.0 given.0) ∙ so_far.1) routed;
+      breaks = inr (subst P c.loop-turn.invariant.lines c.in-Err-take_due.ensures.breaks);
+    }
+
+pub returns-in-Err-take_due-clause-keeps : goal.returns-in-Err-take_due-clause-keeps
+returns-in-Err-take_due-clause-keeps g c =
+    keeps_ill g.K.Keeper.may_leave g.K.Keeper.knows g.K.Keeper.count c.args.keeper.now c.take_due.new.keeper
+    c.in-Err-take_due.fault c.take_due.new.hub
+    (omega (arith, c.loop-turn.invariant.kept, c.in-Ok.ensures.keeps.counts, c.in-Err-take_due.ensures.keeps.counts))
+    (counted_from _ _ _ (omega (arith, c.loop-turn.invariant.kept, c.in-Ok.ensures.keeps.faultless))
+    c.in-Err-take_due.ensures.keeps.counted)
+
+pub returns-in-Err-take_due-clause-same : goal.returns-in-Err-take_due-clause-same
+returns-in-Err-take_due-clause-same g c = c.in-Err-take_due.ensures.same ∙ c.loop-turn.invariant.lines
+
+pub returns-in-Err-take_due-clause-lines : goal.returns-in-Err-take_due-clause-lines
+returns-in-Err-take_due-clause-lines g c = λ d.
+    c.in-Err-take_due.ensures.lines d ∙ c.give_routes.ensures.lines d ∙ c.loop-turn.invariant.same d
+
+-- ---- all rounds are over
+
+pub returns-clause-keeps : goal.returns-clause-keeps
+returns-clause-keeps g c =
+    keeps_well g.K.Keeper.may_leave g.K.Keeper.knows g.K.Keeper.count c.args.keeper.now c.loop-turn.keeper tt
+    c.loop-turn.hub
+    c.loop-turn.invariant.settled c.loop-turn.invariant.kept
+
+pub take_due-requires-clause-same : goal.take_due-requires-clause-same
+take_due-requires-clause-same g c = omega (
+  arith,
+  c.requires.same,
+  ap (λ (ls : List LineId). length ls)
+      c.loop-turn.invariant.lines,
+)
+
+pub take_due-requires-clause-known : goal.take_due-requires-clause-known
+take_due-requires-clause-known g c =
+    subst (λ (ls : List LineId). All (HasLine c.give_routes.new.hub) ls) (sym c.loop-turn.invariant.lines)
+    (λ k d within.
+    omega (
+      arith,
+      c.requires.known k d within,
+      c.loop-turn.invariant.same (get_or c.args.rounds.now.lines k d).customer,
+      c.give_routes.ensures.lines (get_or c.args.rounds.now.lines k d).customer,
+    ))
+
+pub returns-clause-attended : goal.returns-clause-attended
+returns-clause-attended g c =
+    let so_far = c.loop-turn.invariant.story in
+    attended_at g.W.Wire.passed g.W.Wire.count g.A.Attendant.brings c.args.rounds.now.lines c.args.hub.now
+    c.args.rounds.now.quiets c.args.wires.now so_far.0
+    c.loop-turn.hub c.loop-turn.rounds.quiets c.loop-turn.wires (omega (arith, so_far.1)) so_far.2
+
+pub returns-clause-lines : goal.returns-clause-lines
+returns-clause-lines g c = c.loop-turn.invariant.same
+
+pub returns-clause-same : goal.returns-clause-same
+returns-clause-same g c = c.loop-turn.invariant.lines

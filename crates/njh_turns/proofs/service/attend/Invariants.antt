@@ -1,0 +1,18 @@
+use Rattle.std.proofs.Common.{◌≡◌, List, length}
+use Rattle.njh_hub.specs.WholeHub.{SameLines}
+use Rattle.njh_turns.specs.Keeping.{IsSettled}
+use Rattle.njh_turns.specs.Service.{Happening, service_rounds}
+use Rattle.njh_turns.proofs.ServiceLaws.{IsAt}
+use Rattle.njh_turns.proofs.service.attend.Given as goal
+
+-- so many rounds are over
+abbrev pub invariant-loop-turn : goal.invariant-loop-turn
+invariant-loop-turn g l = record {
+  story : (story : List Happening) × (length (service_rounds story) ≡ l.turn) ×
+      IsAt g.W.Wire.passed g.W.Wire.count g.A.Attendant.brings l.fn.rounds.lines l.fn.hub l.fn.rounds.quiets l.fn.wires
+      story l.hub l.rounds.quiets l.wires;
+  lines : l.rounds.lines ≡ l.fn.rounds.lines;
+  same : SameLines l.fn.hub l.hub;
+  settled : IsSettled g.K.Keeper.may_leave g.K.Keeper.knows l.keeper l.hub;
+  kept : g.K.Keeper.count l.keeper ≡ g.K.Keeper.count l.fn.keeper;
+}

@@ -1,0 +1,270 @@
+use Rattle.std.proofs.Common.{◌≡◌, ℕ, ◌+◌, ◌<◌, ◌≤◌, List, [], ◌∷◌, length, map, take, Some, None, ap, sym, subst, ◌∙◌}
+use Rattle.std.proofs.Common.{refl, arith}
+use Rattle.std.proofs.lemmas.List.{take_all}
+use Rattle.njh_hub.specs.declared.event.Event.TheVariants.{Bytes}
+use Rattle.njh_hub.specs.WholeHub.{HubRun, HasLine, hub_run}
+use Rattle.njh_hub.proofs.PieceLaws.{after_bytes, after_bytes-none}
+use Rattle.njh_hub.proofs.RunningLaws.{GoesOn, counted_from, step_done, whole_done}
+use Rattle.njh_turns.specs.Breaks.{AtStep, AtLoss}
+use Rattle.njh_turns.specs.Keeping.{by_bytes}
+use Rattle.njh_turns.specs.Wires.{WireAct, Unsent, sent_act, frame_acts}
+use Rattle.njh_turns.proofs.BreakLaws.{bytes_break, bytes_unsent, loss_breaks}
+use Rattle.njh_turns.proofs.KeepingLaws.{follows_ill, follows_on, follows_well, no_more_then, on_err, on_ok}
+use Rattle.njh_turns.proofs.WireLaws.{step_written}
+use Rattle.njh_turns.proofs.turn.pass_bytes.Goals as goal
+
+pub loop-taken-init : goal.loop-taken-init
+loop-taken-init g c =
+    let none = after_bytes-none c.no_bytes_do_nothing.ensures c.args.hub.now c.args.id in
+    let P : HubRun → Type 0 = λ h. g.W.Wire.passed c.args.wire.now c.args.wire.now (map sent_act h.sent) in
+    record {
+      within = omega arith;
+      parts = sym (ap (λ (h : HubRun). h.parts) none);
+      acts = subst P (sym none) (g.met.W.Wire.none c.args.wire.now);
+      same = λ d. refl;
+      room = c.requires.room;
+      counts = omega arith;
+      withheld = g.met.W.Wire.withheld_none c.args.wire.now;
+      knows = c.requires.follows;
+      leaves = λ left now. now;
+      kept = refl;
+    }
+
+pub take_bytes-used-requires-clause-known : goal.take_bytes-used-requires-clause-known
+take_bytes-used-requires-clause-known g c =
+    omega (arith, c.requires.known, c.loop-taken.invariant.same c.args.id.customer)
+
+pub take_bytes-used-requires-clause-room : goal.take_bytes-used-requires-clause-room
+take_bytes-used-requires-clause-room g c = c.loop-taken.invariant.room
+
+pub follow-requires : goal.follow-requires
+follow-requires g c = record {
+  led = (
+    c.loop-taken.hub,
+    c.loop-taken.invariant.knows,
+    (_, by_bytes c.args.id.number _ c.take_bytes-used.ensures.rests refl, c.take_bytes-used.ensures.step.hub),
+  );
+}
+
+pub loop-taken-preserved : goal.loop-taken-preserved
+loop-taken-preserved g c =
+    let start = c.args.hub.now in
+    let id = c.args.id in
+    let known : HasLine start id = c.requires.known in
+    let did = c.take_bytes-used.ensures.step in
+    let step : GoesOn start c.loop-taken.hub c.take_bytes-used.new.hub id c.args.piece.now c.split_at.result.1.now
+    c.loop-taken.taken c.take_bytes-used.result c.take_bytes-used.new.out.items = record {
+      follow = c.steps_follow_bytes.ensures;
+      known = known;
+      now_is = c.loop-taken.invariant.parts;
+      left_is = c.split_at.ensures.back;
+      rests = c.take_bytes-used.ensures.rests;
+      used_is = c.take_bytes-used.ensures.taken;
+      after_is = did.hub;
+      frame_is = did.frame;
+    } in
+    let F : List ℕ → Type 0 = λ b. g.W.Wire.passed c.loop-taken.wire c.send.new.wire (frame_acts b) in
+    let sent = subst F c.deref.ensures.value c.in-Ok-send.ensures.ok in
+    let before = map sent_act (after_bytes start id (take c.loop-taken.taken c.args.piece.now)).sent in
+    let frame = c.take_bytes-used.new.out.items in
+    let acts = g.met.W.Wire.more c.args.wire.now c.loop-taken.wire c.send.new.wire before (frame_acts frame)
+    c.loop-taken.invariant.acts sent in
+    let P : List WireAct → Type 0 = λ s. g.W.Wire.passed c.args.wire.now c.send.new.wire s in
+    record {
+      within = omega (arith, c.take_bytes-used.ensures.within, c.split_at.ensures.back_len);
+      parts = sym (ap (λ (h : HubRun). h.parts) (step_done step));
+      acts = subst P (sym (step_written step)) acts;
+      same = λ d. did.lines d ∙ c.loop-taken.invariant.same d;
+      room = did.room;
+      counts = omega (arith, c.loop-taken.invariant.counts, c.in-Ok-send.ensures.counts);
+      withheld = g.met.W.Wire.withheld_more c.args.wire.now c.loop-taken.wire c.send.new.wire
+          c.loop-taken.invariant.withheld
+          c.in-Ok-send.ensures.withheld;
+      knows = c.in-Ok.ensures.known;
+      leaves = no_more_then g.K.Keeper.may_leave c.args.keeper.now c.loop-taken.keeper c.follow.new.self
+          c.loop-taken.invariant.leaves c.in-Ok.ensures.leaves;
+      kept = c.in-Ok.ensures.faultless ∙ c.loop-taken.invariant.kept;
+    }
+
+-- ---- the keeper failed behind a step
+
+pub returns-in-Err-clause-breaks : goal.returns-in-Err-clause-breaks
+returns-in-Err-clause-breaks g c =
+    let start = c.args.hub.now in
+    let id = c.args.id in
+    let known : HasLine start id = c.requires.known in
+    let did = c.take_bytes-used.ensures.step in
+    let step : GoesOn start c.loop-taken.hub c.take_bytes-used.new.hub id c.args.piece.now c.split_at.result.1.now
+    c.loop-taken.taken c.take_bytes-used.result c.take_bytes-used.new.out.items = record {
+      follow = c.steps_follow_bytes.ensures;
+      known = known;
+      now_is = c.loop-taken.invariant.parts;
+      left_is = c.split_at.ensures.back;
+      rests = c.take_bytes-used.ensures.rests;
+      used_is = c.take_bytes-used.ensures.taken;
+      after_is = did.hub;
+      frame_is = did.frame;
+    } in (
+      AtStep c.loop-taken.taken (c.loop-taken.taken + c.take_bytes-used.result),
+      bytes_break g.W.Wire.passed g.W.Wire.count c.args.wire.now c.loop-taken.wire c.no_bytes_do_nothing.ensures step
+          (omega (arith, c.take_bytes-used.ensures.within, c.split_at.ensures.back_len))
+          c.loop-taken.invariant.acts c.loop-taken.invariant.counts,
+    )
+
+pub returns-in-Err-clause-follows : goal.returns-in-Err-clause-follows
+returns-in-Err-clause-follows g c =
+    follows_ill g.K.Keeper.may_leave g.K.Keeper.knows g.K.Keeper.count c.args.keeper.now c.follow.new.self
+    c.in-Err.fault
+    c.take_bytes-used.new.hub (no_more_then g.K.Keeper.may_leave c.args.keeper.now c.loop-taken.keeper c.follow.new.self
+    c.loop-taken.invariant.leaves c.in-Err.ensures.leaves)
+    (omega (arith, c.loop-taken.invariant.kept, c.in-Err.ensures.counts))
+    (counted_from _ _ _ (omega (arith, c.loop-taken.invariant.kept)) c.in-Err.ensures.counted)
+
+pub returns-in-Err-clause-lines : goal.returns-in-Err-clause-lines
+returns-in-Err-clause-lines g c = λ d. c.take_bytes-used.ensures.step.lines d ∙ c.loop-taken.invariant.same d
+
+-- ---- a frame could not be written
+
+pub lose-requires-clause-known : goal.lose-requires-clause-known
+lose-requires-clause-known g c = omega (
+  arith,
+  c.requires.known,
+  c.loop-taken.invariant.same c.args.id.customer,
+  c.take_bytes-used.ensures.step.lines c.args.id.customer,
+)
+
+pub returns-in-Err-send-clause-done : goal.returns-in-Err-send-clause-done
+returns-in-Err-send-clause-done g c =
+    let start = c.args.hub.now in
+    let id = c.args.id in
+    let known : HasLine start id = c.requires.known in
+    let did = c.take_bytes-used.ensures.step in
+    let step : GoesOn start c.loop-taken.hub c.take_bytes-used.new.hub id c.args.piece.now c.split_at.result.1.now
+    c.loop-taken.taken c.take_bytes-used.result c.take_bytes-used.new.out.items = record {
+      follow = c.steps_follow_bytes.ensures;
+      known = known;
+      now_is = c.loop-taken.invariant.parts;
+      left_is = c.split_at.ensures.back;
+      rests = c.take_bytes-used.ensures.rests;
+      used_is = c.take_bytes-used.ensures.taken;
+      after_is = did.hub;
+      frame_is = did.frame;
+    } in
+    let n = c.loop-taken.taken + c.take_bytes-used.result in
+    let frame = c.take_bytes-used.new.out.items in
+    let F : List ℕ → Type 0 = λ b. g.W.Wire.passed c.loop-taken.wire c.send.new.wire (Unsent b ∷ []) in
+    let unsent = subst F c.deref.ensures.value c.in-Err-send.ensures.err.0 in
+    let some : 0 < length frame = omega (
+      arith,
+      c.in-Err-send.ensures.err.1,
+      ap (λ (b : List ℕ). length b)
+          c.deref.ensures.value,
+    ) in
+    let any : 0 < c.take_bytes-used.result =
+    c.take_bytes-used.ensures.progress (omega (arith, c.split_at.ensures.back_len)) in
+    let within : n ≤ length c.args.piece.now =
+    omega (arith, c.take_bytes-used.ensures.within, c.split_at.ensures.back_len) in
+    on_ok c.lose.result (
+      Some n,
+      bytes_unsent g.W.Wire.passed g.W.Wire.count c.args.wire.now c.loop-taken.wire c.send.new.wire g.met.W.Wire.more
+          c.cuts_are_like.ensures c.lose.new.hub step some any within c.loop-taken.invariant.acts
+          c.loop-taken.invariant.counts
+          unsent c.in-Err-send.ensures.counts c.in-Err-send.ensures.counted c.lose.ensures.step.hub,
+    )
+
+pub returns-in-Err-send-clause-breaks : goal.returns-in-Err-send-clause-breaks
+returns-in-Err-send-clause-breaks g c =
+    let start = c.args.hub.now in
+    let id = c.args.id in
+    let known : HasLine start id = c.requires.known in
+    let did = c.take_bytes-used.ensures.step in
+    let step : GoesOn start c.loop-taken.hub c.take_bytes-used.new.hub id c.args.piece.now c.split_at.result.1.now
+    c.loop-taken.taken c.take_bytes-used.result c.take_bytes-used.new.out.items = record {
+      follow = c.steps_follow_bytes.ensures;
+      known = known;
+      now_is = c.loop-taken.invariant.parts;
+      left_is = c.split_at.ensures.back;
+      rests = c.take_bytes-used.ensures.rests;
+      used_is = c.take_bytes-used.ensures.taken;
+      after_is = did.hub;
+      frame_is = did.frame;
+    } in
+    let n = c.loop-taken.taken + c.take_bytes-used.result in
+    let frame = c.take_bytes-used.new.out.items in
+    let F : List ℕ → Type 0 = λ b. g.W.Wire.passed c.loop-taken.wire c.send.new.wire (Unsent b ∷ []) in
+    let unsent = subst F c.deref.ensures.value c.in-Err-send.ensures.err.0 in
+    let some : 0 < length frame = omega (
+      arith,
+      c.in-Err-send.ensures.err.1,
+      ap (λ (b : List ℕ). length b)
+          c.deref.ensures.value,
+    ) in
+    let any : 0 < c.take_bytes-used.result =
+    c.take_bytes-used.ensures.progress (omega (arith, c.split_at.ensures.back_len)) in
+    let within : n ≤ length c.args.piece.now =
+    omega (arith, c.take_bytes-used.ensures.within, c.split_at.ensures.back_len) in
+    on_err c.lose.result (
+      AtLoss n,
+      loss_breaks g.W.Wire.passed g.W.Wire.count start c.lose.new.hub (Bytes id c.args.piece.now) n c.args.wire.now
+          c.send.new.wire
+          (bytes_unsent g.W.Wire.passed g.W.Wire.count c.args.wire.now c.loop-taken.wire c.send.new.wire
+          g.met.W.Wire.more
+          c.cuts_are_like.ensures c.lose.new.hub step some any within c.loop-taken.invariant.acts
+          c.loop-taken.invariant.counts
+          unsent c.in-Err-send.ensures.counts c.in-Err-send.ensures.counted c.lose.ensures.step.hub),
+    )
+
+pub returns-in-Err-send-clause-follows : goal.returns-in-Err-send-clause-follows
+returns-in-Err-send-clause-follows g c =
+    follows_on g.K.Keeper.may_leave g.K.Keeper.knows g.K.Keeper.count c.args.keeper.now c.follow.new.self
+    c.lose.new.keeper c.lose.result
+    c.lose.new.hub (no_more_then g.K.Keeper.may_leave c.args.keeper.now c.loop-taken.keeper c.follow.new.self
+    c.loop-taken.invariant.leaves c.in-Ok.ensures.leaves) (c.in-Ok.ensures.faultless ∙ c.loop-taken.invariant.kept)
+    c.lose.ensures.follows
+
+pub returns-in-Err-send-clause-withheld : goal.returns-in-Err-send-clause-withheld
+returns-in-Err-send-clause-withheld g c =
+    g.met.W.Wire.withheld_more c.args.wire.now c.loop-taken.wire c.send.new.wire c.loop-taken.invariant.withheld
+    c.in-Err-send.ensures.withheld
+
+pub returns-in-Err-send-clause-lines : goal.returns-in-Err-send-clause-lines
+returns-in-Err-send-clause-lines g c = λ d. c.lose.ensures.step.lines d ∙ c.take_bytes-used.ensures.step.lines d
+    ∙ c.loop-taken.invariant.same d
+
+-- ---- all bytes were used
+
+pub returns-clause-done : goal.returns-clause-done
+returns-clause-done g c =
+    let all : take c.loop-taken.taken c.args.piece.now ≡ c.args.piece.now = take_all _ c.args.piece.now (omega arith) in
+    let on : after_bytes c.args.hub.now c.args.id (take c.loop-taken.taken c.args.piece.now)
+    ≡ hub_run c.args.hub.now (Bytes c.args.id c.args.piece.now ∷ []) =
+    ap (after_bytes c.args.hub.now c.args.id) all ∙ sym (whole_done c.args.hub.now (Bytes c.args.id c.args.piece.now))
+    in
+    let P : HubRun → Type 0 = λ h. g.W.Wire.passed c.args.wire.now c.loop-taken.wire (map sent_act h.sent) in (
+      None,
+      record {
+        hub = c.loop-taken.invariant.parts ∙ ap (λ (h : HubRun). h.parts) on;
+        acts = subst P on c.loop-taken.invariant.acts;
+        stop = tt;
+        counts = c.loop-taken.invariant.counts;
+        counted = λ never. cc;
+      },
+    )
+
+pub returns-clause-follows : goal.returns-clause-follows
+returns-clause-follows g c =
+    follows_well g.K.Keeper.may_leave g.K.Keeper.knows g.K.Keeper.count c.args.keeper.now c.loop-taken.keeper tt
+    c.loop-taken.hub
+    c.loop-taken.invariant.knows c.loop-taken.invariant.leaves c.loop-taken.invariant.kept
+
+pub returns-clause-withheld : goal.returns-clause-withheld
+returns-clause-withheld g c = c.loop-taken.invariant.withheld
+
+pub returns-in-Err-clause-withheld : goal.returns-in-Err-clause-withheld
+returns-in-Err-clause-withheld g c = c.loop-taken.invariant.withheld
+
+pub returns-clause-lines : goal.returns-clause-lines
+returns-clause-lines g c = c.loop-taken.invariant.same
+
+pub returns-clause-room : goal.returns-clause-room
+returns-clause-room g c = c.loop-taken.invariant.room

@@ -1,0 +1,195 @@
+-- Turns of wires: one of one wire, and turn after turn of many, wire by wire in their order.
+use Rattle.std.specs.Prelude.{◌≡◌, ℕ, ◌+◌, ◌<◌, ◌≤◌, ◌==◌, ◌⊎◌, cond, List, [], ◌∷◌, ◌++◌, length, replicate, take}
+use Rattle.std.specs.Prelude.{Option, Some, None, IsSome, slice_index_or, All}
+use Rattle.std.specs.List.{flat_map}
+use Rattle.njh_table.specs.declared.LineId.{LineId}
+use Rattle.njh_hub.specs.declared.event.Event.{Event}
+use Rattle.njh_hub.specs.declared.event.Event.TheVariants.{Bytes, Tick, Lost}
+use Rattle.njh_hub.specs.Sent.{IsCounted}
+use Rattle.njh_hub.specs.WholeHub.{Part, hub_run}
+use Rattle.njh_turns.specs.Wires.{Heard, Came, Quiet, Pending, Closed, Absent, Failed, WireAct, answer_acts, heard_events}
+use Rattle.njh_turns.specs.Wires.{write_acts, IsStop}
+
+-- ---- one turn
+
+-- What a wire did in a turn: what its read answered; and if a write failed, how many bytes of what came were used then.
+pub record Turn : Type 0 where
+  pub heard : Heard
+  pub cut : Option ℕ
+
+-- What the hub is told of an answer: bytes that came; a tick, at the tenth quiet in a row; the loss of a line that was
+-- closed or could not be read.
+abbrev pub wire_event : LineId → ℕ → Heard → Option Event
+wire_event id quiet (Came piece) = Some (Bytes id piece)
+wire_event id quiet Quiet = cond (quiet == 9) (Some (Tick id)) None
+wire_event id quiet Pending = None
+wire_event id quiet Closed = Some (Lost id)
+wire_event id quiet Absent = None
+wire_event id quiet Failed = Some (Lost id)
+
+-- the quiets in a row, of which a tenth begins anew; an answer that is pending leaves them as they are
+abbrev pub quiet_after : ℕ → Heard → ℕ
+quiet_after quiet (Came piece) = 0
+quiet_after quiet Quiet = cond (quiet == 9) 0 (quiet + 1)
+quiet_after quiet Pending = quiet
+quiet_after quiet Closed = 0
+quiet_after quiet Absent = 0
+quiet_after quiet Failed = 0
+
+abbrev pub told_where : Option ℕ → Option Event → List Event
+told_where cut None = []
+told_where cut (Some event) = heard_events cut event
+
+abbrev pub written_where : List Part → Option ℕ → Option Event → List WireAct
+written_where parts cut None = []
+written_where parts cut (Some event) = write_acts parts cut event
+
+abbrev pub IsStopWhere : List Part → Option ℕ → Option Event → Type 0
+IsStopWhere parts cut None = cut ≡ None
+IsStopWhere parts cut (Some event) = IsStop parts cut event
+
+-- What came of an answer, as `IsDone` says it of an event.
+pub record IsHeard {S : Type 0} (passed : S → S → List WireAct → Type 0) (count : S → ℕ) (parts : List Part)
+    (event : Option Event)
+    (cut : Option ℕ) (wire : S) (new : List Part) (new_wire : S) : Type 0 where
+  pub hub : new ≡ (hub_run parts (told_where cut event)).parts
+  pub acts : passed wire new_wire (written_where parts cut event)
+  pub stop : IsStopWhere parts cut event
+  pub counts : count wire ≤ count new_wire
+  pub counted : IsSome cut → IsCounted (count wire) (count new_wire)
+
+-- the events of a turn
+abbrev pub turn_events : LineId → ℕ → Turn → List Event
+turn_events id quiet turn = told_where turn.cut (wire_event id quiet turn.heard)
+
+-- What passes on the wire in a turn. Where its answer is pending that is nothing: a wire that isn't visited has such a
+-- turn.
+abbrev pub turn_acts : List Part → LineId → ℕ → Turn → List WireAct
+turn_acts parts id quiet turn = answer_acts turn.heard ++ written_where parts turn.cut (wire_event id quiet turn.heard)
+
+-- a read or a write failed
+abbrev pub HasFault : Turn → Type 0
+HasFault turn = (turn.heard ≡ Failed) ⊎ IsSome turn.cut
+
+-- A turn of a wire: from a hub and a wire to what it leaves.
+pub record IsTurn {S : Type 0} (passed : S → S → List WireAct → Type 0) (count : S → ℕ) (parts : List Part)
+    (id : LineId)
+    (quiet : ℕ) (turn : Turn) (wire : S) (new : List Part) (new_wire : S) : Type 0 where
+  pub hub : new ≡ (hub_run parts (turn_events id quiet turn)).parts
+  pub acts : passed wire new_wire (turn_acts parts id quiet turn)
+  pub stop : IsStopWhere parts turn.cut (wire_event id quiet turn.heard)
+  pub counts : count wire ≤ count new_wire
+  pub counted : HasFault turn → IsCounted (count wire) (count new_wire)
+
+-- ---- a round: each wire has one turn, in their order
+
+-- the events of a round, or of its first turns
+abbrev pub round_events : List LineId → List ℕ → List Turn → List Event
+round_events [] quiets turns = []
+round_events (line ∷ lines) [] turns = []
+round_events (line ∷ lines) (quiet ∷ quiets) [] = []
+round_events (line ∷ lines) (quiet ∷ quiets) (turn ∷ turns) =
+    turn_events line quiet turn ++ round_events lines quiets turns
+
+-- the quiets in a row on each wire; on those without a turn they stay
+abbrev pub quiets_after : List ℕ → List Turn → List ℕ
+quiets_after [] turns = []
+quiets_after (quiet ∷ quiets) [] = quiet ∷ quiets
+quiets_after (quiet ∷ quiets) (turn ∷ turns) = quiet_after quiet turn.heard ∷ quiets_after quiets turns
+
+-- A turn with what it begins from.
+pub record Placed : Type 0 where
+  pub parts : List Part
+  pub line : LineId
+  pub quiet : ℕ
+  pub turn : Turn
+
+abbrev pub no_line_id : LineId
+no_line_id = record { customer = 0; number = 0 }
+
+abbrev pub no_turn : Turn
+no_turn = record { heard = Absent; cut = None }
+
+-- the i-th wire's turn, behind those of the wires before it
+abbrev pub turn_at : List Part → List LineId → List ℕ → ℕ → List Turn → Placed
+turn_at parts lines quiets i round = record {
+  parts = (hub_run parts (round_events lines quiets (take i round))).parts;
+  line = slice_index_or lines i no_line_id;
+  quiet = slice_index_or quiets i 0;
+  turn = slice_index_or round i no_turn;
+}
+
+abbrev pub placed_acts : Placed → List WireAct
+placed_acts p = turn_acts p.parts p.line p.quiet p.turn
+
+abbrev pub placed_stop : Placed → Type 0
+placed_stop p = IsStopWhere p.parts p.turn.cut (wire_event p.line p.quiet p.turn.heard)
+
+-- a wire had this turn
+pub record HadTurn {S : Type 0} (passed : S → S → List WireAct → Type 0) (count : S → ℕ) (p : Placed)
+    (wire new_wire : S) : Type 0 where
+  pub acts : passed wire new_wire (placed_acts p)
+  pub stop : placed_stop p
+  pub counts : count wire ≤ count new_wire
+  pub counted : HasFault p.turn → IsCounted (count wire) (count new_wire)
+
+-- The first wires had these turns of a round, and the others none yet.
+pub record IsRound {S : Type 0} (passed : S → S → List WireAct → Type 0) (count : S → ℕ) (lines : List LineId)
+    (parts : List Part)
+    (quiets : List ℕ) (wires : List S) (turns : List Turn) (new : List Part) (new_quiets : List ℕ)
+    (new_wires : List S) : Type 0 where
+  pub hub : new ≡ (hub_run parts (round_events lines quiets turns)).parts
+  pub calm : new_quiets ≡ quiets_after quiets turns
+  pub had : (i : ℕ) (d : S) → i < length turns →
+      HadTurn passed count (turn_at parts lines quiets i turns) (slice_index_or wires i d)
+      (slice_index_or new_wires i d)
+  pub rest : (i : ℕ) (d : S) → length turns ≤ i → slice_index_or new_wires i d ≡ slice_index_or wires i d
+
+-- ---- round after round
+
+-- Lines, and the quiets in a row on the wire of each.
+pub record LineQuiets : Type 0 where
+  pub lines : List LineId
+  pub quiets : List ℕ
+
+abbrev pub all_events : List LineId → List ℕ → List (List Turn) → List Event
+all_events lines quiets [] = []
+all_events lines quiets (round ∷ rounds) =
+    round_events lines quiets round ++ all_events lines (quiets_after quiets round) rounds
+
+-- the quiets in a row after these rounds
+abbrev pub all_quiets : List ℕ → List (List Turn) → List ℕ
+all_quiets quiets [] = quiets
+all_quiets quiets (round ∷ rounds) = all_quiets (quiets_after quiets round) rounds
+
+-- the turns of the i-th wire
+abbrev pub turns_of : List Part → List LineId → List ℕ → ℕ → List (List Turn) → List Placed
+turns_of parts lines quiets i [] = []
+turns_of parts lines quiets i (round ∷ rounds) = turn_at parts lines quiets i round
+    ∷ turns_of (hub_run parts (round_events lines quiets round)).parts lines (quiets_after quiets round) i rounds
+
+-- A wire had these turns, and nothing else passed on it.
+pub record HadTurns {S : Type 0} (passed : S → S → List WireAct → Type 0) (count : S → ℕ) (turns : List Placed)
+    (wire new_wire : S) :
+    Type 0 where
+  pub acts : passed wire new_wire (flat_map placed_acts turns)
+  pub stops : All placed_stop turns
+  pub counts : count wire ≤ count new_wire
+  pub counted : All (λ p. HasFault p.turn → IsCounted (count wire) (count new_wire)) turns
+
+-- the quiets in a row before the first round
+abbrev pub no_quiets : List LineId → List ℕ
+no_quiets lines = replicate (length lines) 0
+
+-- So many rounds: each wire had one turn in each, in their order, and the hub was told of these turns and of nothing
+-- else.
+pub record IsServed {S : Type 0} (passed : S → S → List WireAct → Type 0) (count : S → ℕ) (lines : List LineId)
+    (turns : ℕ)
+    (parts : List Part) (wires : List S) (new : List Part) (new_wires : List S) : Type 0 where
+  pub rounds : List (List Turn)
+  pub many : length rounds ≡ turns
+  pub each : All (λ round. length round ≡ length lines) rounds
+  pub hub : new ≡ (hub_run parts (all_events lines (no_quiets lines) rounds)).parts
+  pub had : (i : ℕ) (d : S) → i < length lines →
+      HadTurns passed count (turns_of parts lines (no_quiets lines) i rounds) (slice_index_or wires i d)
+      (slice_index_or new_wires i d)

@@ -1,0 +1,58 @@
+//! Who opens a hub with the whole files that were kept.
+
+ghost use Rattle.std.specs.Prelude.{◌≡◌, map, IfOk};
+ghost use Rattle.njh_hub.specs.Parts.{entries_of};
+ghost use Rattle.njh_hub.specs.WholeHub.{SameLines, part_at_open};
+ghost use Rattle.njh_turns.specs.Keeping.{IsSettled};
+
+use crate::keeper::{Keeper, KeepsNothing};
+use njh_hub::Hub;
+use njh_table::Tables;
+use std::alloc::Global;
+use thiserror::Error;
+
+/// Why no hub is opened.
+#[derive(Clone, Copy, Debug, PartialEq, Eq, Error)]
+pub enum DepotFault {
+    /// There was no memory.
+    #[error("U3 Memory")]
+    Memory,
+    /// What is kept can't be read or written.
+    #[error("device")]
+    Device,
+    /// A whole file that was kept can't be put back. Which one, and why, the depot tells.
+    #[error("a kept file can't be put back")]
+    Refused,
+}
+
+/// Opens a hub whose customers have the whole files that a keeper keeps.
+pub trait Depot: Keeper {
+    ghost use Rattle.std.specs.Prelude.{List};
+    ghost use Rattle.njh_table.specs.TableFile.{TableFile};
+    ghost use Rattle.njh_hub.specs.WholeHub.{Part};
+
+    /// Which customers' parts a hub of tables has that was just opened, by what was kept before the
+    /// opening, and by the depot behind it.
+    ghost opens: { Self → Self → TableFile → List Part → Type 0 };
+
+    /// Opens a hub of these tables. All lines are down, and each customer has those of its entry.
+    fn open(&mut self, alloc: Global, tables: Tables) -> Result<Hub, DepotFault>
+        ensures opened { IfOk result (λ hub. opens self.old self.new tables hub) }
+        ensures lines { IfOk result (λ hub. SameLines (map part_at_open (entries_of tables)) hub) }
+        ensures settled { IfOk result (λ hub. IsSettled Self.may_leave Self.knows self.new hub) };
+}
+
+impl Depot for KeepsNothing {
+    ghost use Rattle.std.specs.Prelude.{◌≡◌, map};
+    ghost use Rattle.njh_hub.specs.Parts.{entries_of};
+    ghost use Rattle.njh_hub.specs.WholeHub.{part_at_open};
+
+    ghost opens = { λ before behind table parts. parts ≡ map part_at_open (entries_of table) };
+
+    fn open(&mut self, alloc: Global, tables: Tables) -> Result<Hub, DepotFault> {
+        match Hub::open(alloc, tables) {
+            Ok(hub) => Ok(hub),
+            Err(_) => Err(DepotFault::Memory),
+        }
+    }
+}

@@ -1,0 +1,90 @@
+//! Who keeps whole files, so that they outlive the program.
+
+ghost use Rattle.std.specs.Prelude.{◌≡◌, ℕ, ◌≤◌, List, OnOk, OnErr, ⊤};
+ghost use Rattle.njh_hub.specs.Sent.{IsCounted};
+ghost use Rattle.njh_hub.specs.WholeHub.{Part};
+ghost use Rattle.njh_turns.specs.Keeping.{IsSettled, KeptIsOwn, LeadsHub, LeavesEither, LeavesNoMore, LeavesOnly};
+
+use njh_hub::Hub;
+use thiserror::Error;
+
+/// A keeper could not keep a customer's files.
+#[derive(Clone, Copy, Debug, PartialEq, Eq, Error)]
+#[error("files could not be kept")]
+pub struct KeepFault;
+
+/// Keeps the whole files of a hub's customers, so that they are found again after a crash.
+///
+/// It follows each step of a customer, and settles once a round, before the round's frames go out.
+/// A fault is answered only where the count of failures rose, or stands at its greatest value; else
+/// it stays.
+pub trait Keeper {
+    ghost use Rattle.std.specs.Prelude.{ℕ, List};
+    ghost use Rattle.njh_spool.specs.Restoring.{KeptFile};
+    ghost use Rattle.njh_hub.specs.WholeHub.{Part};
+
+    /// What a crash at this moment may leave: of each customer, by its number, what is kept of its
+    /// whole files, in their order of arrival.
+    ghost may_leave: { Self → List (List KeptFile) → Type 0 };
+
+    /// It has taken in all that a hub whose customers have these parts has of files.
+    ghost knows: { Self → List Part → Type 0 };
+
+    /// How often it failed.
+    ghost count: { Self → ℕ };
+
+    /// How often it failed.
+    fn failures(&self) -> u64
+        ensures { result ≡ count self.now };
+
+    /// Takes in what one step of a customer, or new routes of it, made of its files. Nothing more
+    /// is kept by that.
+    fn follow(&mut self, hub: &Hub, customer: u16) -> Result<(), KeepFault>
+        requires led { (before : List Part) × knows self.old before × LeadsHub customer before hub.now }
+        ensures known { OnOk result (knows self.new hub.now) }
+        ensures leaves { LeavesNoMore may_leave self.old self.new }
+        ensures faultless { OnOk result (count self.new ≡ count self.old) }
+        ensures counts { count self.old ≤ count self.new }
+        ensures counted { OnErr result (IsCounted (count self.old) (count self.new)) };
+
+    /// Keeps all that it has taken in. After a fault, or where the call itself is broken off, a
+    /// crash leaves what was kept before, or all.
+    fn settle(&mut self) -> Result<(), KeepFault>
+        ensures settled { OnOk result ((parts : List Part) → knows self.old parts
+            → IsSettled may_leave knows self.new parts) }
+        ensures crash { (before parts : List Part) → LeavesOnly may_leave self.old before → knows self.old parts
+            → LeavesEither may_leave self.new before parts }
+        ensures faultless { OnOk result (count self.new ≡ count self.old) }
+        ensures counts { count self.old ≤ count self.new }
+        ensures counted { OnErr result (IsCounted (count self.old) (count self.new)) };
+}
+
+/// Keeps nothing: a crash leaves no files, of no customer.
+#[derive(Clone, Copy, Debug, Drop)]
+pub struct KeepsNothing;
+
+impl Keeper for KeepsNothing {
+    ghost may_leave = { λ keeper left. ⊥ };
+
+    ghost knows = { λ keeper parts. ⊤ };
+
+    ghost count = { λ keeper. 0 };
+
+    fn failures(&self) -> u64 {
+        0
+    }
+
+    fn follow(&mut self, _hub: &Hub, _customer: u16) -> Result<(), KeepFault> {
+        Ok(())
+    }
+
+    fn settle(&mut self) -> Result<(), KeepFault> {
+        Ok(())
+    }
+}
+
+/// Law: whatever events come, and whosever they are, what is to be kept of a customer's files, and
+/// the frames on its lines, are those of that customer alone over its own events.
+pub fn kept_is_own()
+    ensures { KeptIsOwn }
+{}

@@ -1,0 +1,78 @@
+//! Turns of all wires of a hub.
+
+ghost use Rattle.std.specs.Prelude.{◌≡◌, ◌≢◌, length, OnOk, IfErr, Err, All};
+ghost use Rattle.njh_hub.specs.Sent.{IsCounted};
+ghost use Rattle.njh_hub.specs.WholeHub.{HasLine, SameLines};
+ghost use Rattle.njh_turns.specs.Breaks.{TurnsBreak};
+ghost use Rattle.njh_turns.specs.Keeping.{IsSettled};
+ghost use Rattle.njh_turns.specs.Turns.{IsServed};
+
+use crate::attendant::{Attendant, NewRoutes};
+use crate::fault::TurnsFault;
+use crate::keeper::Keeper;
+use crate::rounds::Rounds;
+use crate::service::attend;
+use crate::wire::Wire;
+use njh_hub::{Hub, HubFault};
+use njh_table::LineId;
+use std::alloc::Global;
+
+/// So many turns of the wires of a hub's lines: in each, one wire after the other is read once, and
+/// what comes of that is done.
+///
+/// What fails on a wire loses its own line and no other; the wire is read again in the next turn.
+/// `Memory` comes where there is no room for a turn, or for a line and a count a wire, before the
+/// first read. Where the keeper fails nothing is done after that.
+pub fn serve_turns<W: Wire, K: Keeper>(
+    alloc: Global,
+    hub: &mut Hub,
+    keeper: &mut K,
+    wires: &mut [W],
+    lines: &[LineId],
+    turns: u32,
+) -> Result<(), TurnsFault>
+    requires same { length wires.old ≡ length lines.now }
+    requires known { All (HasLine hub.old) lines.now }
+    requires settled { IsSettled K.may_leave K.knows keeper.old hub.old }
+    ensures served { OnOk result (IsServed W.passed W.count lines.now turns hub.old wires.old hub.new wires.new) }
+    ensures settled { OnOk result (IsSettled K.may_leave K.knows keeper.new hub.new) }
+    ensures faultless { OnOk result (K.count keeper.new ≡ K.count keeper.old) }
+    ensures lines { SameLines hub.old hub.new }
+    ensures memory { result ≡ Err TurnsFault.Memory → (hub.new ≡ hub.old) × (wires.new ≡ wires.old)
+        × (keeper.new ≡ keeper.old) }
+    ensures breaks { IfErr result (λ fault. fault ≢ TurnsFault.Memory → IsCounted (K.count keeper.old)
+        (K.count keeper.new) × TurnsBreak W.passed W.count W.withheld K.may_leave lines.now turns hub.old wires.old
+        hub.new wires.new keeper.new) }
+{
+    let mut rounds = match Rounds::new(alloc, lines) {
+        Ok(rounds) => rounds,
+        Err(_) => return Err(TurnsFault::Memory),
+    };
+    let turns = u64::from(turns);
+    match attend(hub, keeper, wires, &mut rounds, &mut EveryWire, turns) {
+        Ok(()) => Ok(()),
+        Err(fault) => Err(TurnsFault::Keeper(fault)),
+    }
+}
+
+/// Calls every wire due, brings no routes and does nothing else.
+#[derive(Drop)]
+struct EveryWire;
+
+impl<W: Wire> Attendant<W> for EveryWire {
+    ghost brings = { ⊥ };
+
+    fn before(&mut self, _wires: &mut [W]) {}
+
+    fn new_routes(&mut self) -> Option<NewRoutes> {
+        None
+    }
+
+    fn routes_given(&mut self, _customer: u16, _answer: Result<(), HubFault>) {}
+
+    fn is_due(&self, _place: usize) -> bool {
+        true
+    }
+
+    fn after(&mut self, _hub: &Hub, _wires: &mut [W]) {}
+}
