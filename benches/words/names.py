@@ -1,8 +1,8 @@
 #!/usr/bin/env python3
 """Whether the documents name what there is. Prints each name in backquotes of README.md and docs/*.md that is in no
 source file, each wrong body that docs/PROMISES.md leaves out, each clause, as in `Hub::take`: `taken`, `step`, that no
-function of that name has, and each import of the sources that leads nowhere (imports.py). If nothing is printed all are
-right, else the status is 1."""
+function of that name has, each diff in a document that doesn't apply, and each import of the sources that leads nowhere
+(imports.py). If nothing is printed all are right, else the status is 1."""
 
 import os
 import pathlib
@@ -38,6 +38,17 @@ def named(text):
                 yield from ((number, word) for word in WORD.findall(quoted) if len(word) > 2)
 
 
+def wrong_diffs(text):
+    """The files of diffs in a document that have other lines now than a hunk was made of."""
+    for diff in re.findall(r"```diff\n(.*?)```", text, re.S):
+        for file, hunks in re.findall(r"^\+\+\+ b/(.*)\n((?:[@ +\\-](?!-- a/).*\n)*)", diff, re.M):
+            source = (ROOT / file).read_text(encoding="utf-8") if (ROOT / file).is_file() else ""
+            for hunk in re.split(r"^@@.*\n", hunks, flags=re.M)[1:]:
+                old = "".join(line[1:] for line in hunk.splitlines(keepends=True) if line[0] in " -")
+                if old not in source:
+                    yield file
+
+
 def main():
     words, clauses, bodies, wrong = set(ELSEWHERE), {}, set(), []
     for path, text in sources():
@@ -51,6 +62,7 @@ def main():
     for path in [ROOT / "README.md", *sorted((ROOT / "docs").glob("*.md"))]:
         text = path.read_text(encoding="utf-8")
         wrong += [f"{path.name}:{number}: {word}" for number, word in named(text) if word not in words]
+        wrong += [f"{path.name}: its diff of {file}" for file in wrong_diffs(text)]
         for call, names in CLAUSES.findall(re.sub(r"\s+", " ", text)):
             has = clauses.get(call.split("::")[-1])
             told = [] if has is None else re.findall(r"\w+", names.replace(" and ", " "))
