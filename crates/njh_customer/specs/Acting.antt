@@ -63,7 +63,7 @@ after_peer_answer l rcb k c =
 
 -- ---- control records
 
--- the answer to a request for a stream that the line doesn't have: a refusal, where it names one at all
+-- the answer to a request for a stream that the line doesn't have: a refusal, if it names one at all
 abbrev pub refusal_of : ℕ → Option ℕ → Option Answer
 refusal_of srcb None = None
 refusal_of srcb (Some n) = Some (record { rcb = Refusal; stream = record { byte = srcb } })

@@ -98,7 +98,7 @@ receiver_at k x = slice_index_or x.receivers k receiver.Idle
 abbrev pub with_receiver : ℕ → Receiver → CustomerLine → CustomerLine
 with_receiver k r x = record x { receivers = slice_set x.receivers k r }
 
--- a notice stands until a file opens on its stream
+-- a notice stays until a file opens on its stream
 abbrev pub notices_after : ℕ → Receiver → Option Notice → List (Option Notice) → List (Option Notice)
 notices_after k r (Some n) notices = slice_set notices k (Some n)
 notices_after k (receiver.Open n progress) None notices = slice_set notices k None

@@ -19,7 +19,7 @@ pub record IsButSession (l : ℕ) (c d : Customer) : Type 0 where
   pub session : Session
   pub after : d ≡ record c { lines = on_line l (in_state (with_session session)) c.lines }
 
--- What is disregarded does nothing where no session is on, and in a session it moves nothing else; but where five tries
+-- What is disregarded does nothing if no session is on, and in a session it moves nothing else; but if five tries
 -- were made, the session ends.
 pub record IsDisregarded (l : ℕ) (c : Customer) (s : CustomerStep) : Type 0 where
   pub down : in_session (session_on l c).phase ≡ false → s ≡ silent c

@@ -7,7 +7,7 @@ use Rattle.njh_bisync.specs.ByteSteps.{rest_step}
 use Rattle.njh_customer.specs.Customer.{Customer}
 use Rattle.njh_customer.specs.Alone.{CustomerStep, after_frame}
 
--- a frame acts, where one ended
+-- a frame acts, if one ended
 abbrev pub acted_on : ℕ → Option Received → Customer → CustomerStep
 acted_on l None c = record { after = c; frame = [] }
 acted_on l (Some received) c = after_frame l received c
@@ -53,7 +53,7 @@ pub record LineRun : Type 0 where
   pub after : Customer
   pub sent : List (ℕ × List ℕ)
 
--- a frame with its line, where one was sent
+-- a frame with its line, if one was sent
 abbrev pub sent_on : ℕ → List ℕ → List (ℕ × List ℕ)
 sent_on l [] = []
 sent_on l (b ∷ frame) = (l, b ∷ frame) ∷ []

@@ -22,7 +22,7 @@ use Rattle.njh_customer.specs.Alone.{CustomerStep, with_raised_line}
 use Rattle.njh_customer.specs.OutgoingFiles.{Outgoing, outgoing, records_numbered, sender_on, streams_of}
 use Rattle.njh_customer.specs.Moves.{LeadsByMoves, OneActs, Over, Sends}
 
--- the records of a frame; none where it is no text, or its text is no block
+-- the records of a frame; none if it is no text, or its text is no block
 abbrev pub block_records : Result Block BlockFault → List Item
 block_records (Ok b) = b.items
 block_records (Err e) = []
@@ -36,8 +36,8 @@ records_of_frame (frame.Text text) = block_records (read_block text)
 records_of_frame frame.Spoiled = []
 
 -- What a block of these records carries of the file of stream k of line l: of a stream that sends none, nothing. Of one
--- that sends a file under its RCB the file's records from the stream's place before the block to its place behind it,
--- each once and in order; and the end of file only behind the last record, and then the stream has sent its end of
+-- that sends a file under its RCB the file's records from the stream's place before the block to its place after it,
+-- each once and in order; and the end of file only after the last record, and then the stream has sent its end of
 -- file.
 pub data Carries (l k : ℕ) (items : List Item) (x y : Outgoing) : Type 0 where
   nothing : sends_file (sender_on l k x) ≡ false → records_under (rcb_of k) items ≡ [] → Carries l k items x y
@@ -78,7 +78,7 @@ pub data Ends (entry : CustomerEntry) (l : ℕ) (x : Outgoing) (after : Customer
   still_on : outgoing after ≡ x → after.entry ≡ entry → Ends entry l x after
   over_now : Over l x (outgoing after) → after.entry ≡ entry_marked l false entry → Ends entry l x after
 
--- What a step on line l does by these records: where the line goes up by what came it counts as up from then on. The
+-- What a step on line l does by these records: if the line goes up by what came it counts as up from then on. The
 -- records act, or none does; then what goes out, of the line as it was; and at last the line's session goes on or ends.
 pub record Does (l : ℕ) (items : List Item) (c : Customer) (s : CustomerStep) : Type 0 where
   pub up : Bool  -- whether the line goes up

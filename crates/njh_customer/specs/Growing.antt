@@ -14,7 +14,7 @@ use Rattle.njh_customer.specs.Runs.{OwnEvent, OwnRoutes, event_run}
 use Rattle.njh_customer.specs.Surviving.{IsRerouted, Survive}
 
 -- These records have come of a file of this number and kind: they are few, at most k; or a partial file of that number
--- and kind was there, and they are its records and behind them at most k more.
+-- and kind was there, and they are its records and after them at most k more.
 pub data HasCome (k : ℕ) (before : List PartialFile) (number : ℕ) (kind : Kind) (records : List Stored) : Type 0 where
   few : length records ≤ k → HasCome k before number kind records
   goes_on :
@@ -27,7 +27,7 @@ pub record HasBecomeWhole (k : ℕ) (before : List PartialFile) (f : WholeFile) 
   pub has_come : HasCome k before f.number f.kind came
   pub records : IsRerouted f.kind came f.records
 
--- What was in a spool became this, by at most k records. Of the whole files some are still there, and behind them are
+-- What was in a spool became this, by at most k records. Of the whole files some are still there, and after them are
 -- others that became whole since, at most as many as were counted. Each of these, and each file that is partial now,
 -- has at most k records or goes on from a partial file of its number and kind.
 pub record FilesGrow (k : ℕ) (x y : CustomerSpool) : Type 0 where
@@ -113,7 +113,7 @@ ManyRecordsGoOn =
     (k n : ℕ) (before : List PartialFile) (kind : Kind) (records : List Stored) → k < length records
     → HasCome k before n kind records → GoesOnFrom before n kind records
 
--- Which one that was says its number, where no two partial files had one number.
+-- Which one that was says its number, if no two partial files had one number.
 abbrev pub PartialsAreNumbered : Type 0
 PartialsAreNumbered =
     (before : List PartialFile) (f : PartialFile) → count_by (λ g. g.number == f.number) before ≤ 1

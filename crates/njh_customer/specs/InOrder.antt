@@ -91,7 +91,7 @@ pub record IsInOrder (c : Customer) : Type 0 where
   pub idle : IdleUnlessUp c.lines
   pub set_up : AreSetUp c
 
--- So it is when it is opened, and stays so: whatever comes, by routes that are given, and where a whole file is put
+-- So it is when it is opened, and stays so: whatever comes, by routes that are given, and if a whole file is put
 -- back.
 pub record StaysInOrder : Type 0 where
   pub opened : (entry : CustomerEntry) → All (λ line. line.streams ≤ 4) entry.lines → IsInOrder (fresh_customer entry)
@@ -111,7 +111,7 @@ losses (suc l) = OwnSignal Lost l ∷ losses l
 abbrev pub after_losses : Part → Part
 after_losses p = (alone_run p (losses (length p.customer.lines))).after
 
--- Held where it is Held, and else Ready
+-- Held if it is Held, and else Ready
 abbrev pub state_at_rest : State → State
 state_at_rest Ready = Ready
 state_at_rest Held = Held
@@ -121,7 +121,7 @@ state_at_rest Sending = Ready
 abbrev pub at_rest : WholeFile → WholeFile
 at_rest f = record f { state = state_at_rest f.state }
 
--- What a customer has then: all its whole files, in their order, Held where they were, and none is being sent; no other
+-- What a customer has then: all its whole files, in their order, Held if they were, and none is being sent; no other
 -- file; and no line is up, no stream is about a file, no answer waits, and nothing has come of a frame.
 pub record HasAfterLosses (before after : Part) : Type 0 where
   pub files : map at_rest after.customer.spool.whole ≡ map at_rest before.customer.spool.whole

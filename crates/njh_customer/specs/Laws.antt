@@ -50,7 +50,7 @@ TakesKeepEntries =
     (p : Part) (l : ℕ) (piece : List ℕ) → let after = (part_after_bytes p l piece).after.customer.entry in
     after ≡ with_marks after.up p.customer.entry
 
--- So routes have the same first fault, or none, before an event and behind it.
+-- So routes have the same first fault, or none, before an event and after it.
 abbrev pub EventsKeepFaults : Type 0
 EventsKeepFaults =
     (p : Part) (event : OwnEvent) (routes : List NewRoute) →

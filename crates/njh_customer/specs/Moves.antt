@@ -117,7 +117,7 @@ pub data Sends (entry : CustomerEntry) (l : ℕ) (x y : Outgoing) : Type 0 where
   goes_on :
       (k n place : ℕ) (r : Stored) → sender_on l k x ≡ Sending n place → record_numbered n place x ≡ Some r
       → y ≡ with_sender_on l k (Sending n (place + 1)) x → Sends entry l x y
-  -- the end of file, where there is no record at the stream's place
+  -- the end of file, if there is no record at the stream's place
   ends :
       (k n place : ℕ) → sender_on l k x ≡ Sending n place → record_numbered n place x ≡ None
       → y ≡ with_sender_on l k (EofSent n) x

@@ -132,7 +132,7 @@ pub data StreamMoves (entry : CustomerEntry) (l : ℕ) (items : List Item) (j k 
   permitted :
       (i : Item) (streams n : ℕ) → j ≡ l → Contains items i → Tells 0xa0 streams k i → sender_on j k x ≡ Requested n
       → IsMovedAlone j k (Sending n 0) x y → StreamMoves entry l items j k x y
-  -- the record at its place goes out, and the next is behind it
+  -- the record at its place goes out, and the next is after it
   goes_on :
       (n place : ℕ) (r : Stored) → j ≡ l → Sends entry l x y → sender_on j k x ≡ Sending n place
       → record_numbered n place x ≡ Some r → IsMovedAlone j k (Sending n (place + 1)) x y

@@ -24,7 +24,7 @@ customer_with_routes routes c =
 abbrev pub part_after_routes : List RouteEntry → Part → Part
 part_after_routes routes p = record p { customer = customer_with_routes routes p.customer }
 
--- Routes that are given are the customer's from then on, where there is no fault in them; else nothing changes.
+-- Routes that are given are the customer's from then on, if there is no fault in them; else nothing changes.
 abbrev pub taken_where : Walked (Unit {0}) → List NewRoute → Part → Part
 taken_where (Ok faultless) routes p = part_after_routes (entries_of_routes routes) p
 taken_where (Err fault) routes p = p

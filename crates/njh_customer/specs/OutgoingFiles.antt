@@ -53,7 +53,7 @@ with_arrival f x = record x { files = x.files ++ f ∷ []; arrived = one_more x.
 abbrev pub has_file : ℕ → Outgoing → Bool
 has_file n x = list_any (λ f. f.number == n) x.files
 
--- the records of the file of a number; none where there is no such file
+-- the records of the file of a number; none if there is no such file
 abbrev pub records_numbered : ℕ → Outgoing → List Stored
 records_numbered n x = records_of (find (λ f. f.number == n) x.files)
 

@@ -20,7 +20,7 @@ use Rattle.njh_customer.specs.Customer.{CustomerLine, with_line_state}
 
 -- ---- frames
 
--- A line once it sent something, and the frame; [] where it sent none.
+-- A line once it sent something, and the frame; [] if it sent none.
 pub record Sending : Type 0 where
   pub line : LineState
   pub frame : List ℕ
@@ -61,7 +61,7 @@ abbrev pub sending_of_no_block : Bool → LineState → Sending
 sending_of_no_block true x = sending_of_control Ack0 x
 sending_of_no_block false x = sent_as line.Nothing [] x
 
--- a block without records goes only to tell a new function control sequence, and not where the peer suspends all
+-- a block without records goes only to tell a new function control sequence, and not if the peer suspends all
 abbrev pub sending_of_empty : Bool → Writing → LineState → Sending
 sending_of_empty or_ack0 w x =
     elim (all_suspended x.session.peer_fcs || same_fcs w.fcs x.session.own_fcs) [
@@ -106,7 +106,7 @@ next_block entry l s x = filled_block (goes_by entry l) (filling (own_block (own
 
 -- ---- what a verdict asks for
 
--- A line and its customer's files once the line sent something, and the frame; [] where it sent none.
+-- A line and its customer's files once the line sent something, and the frame; [] if it sent none.
 pub record LineSent : Type 0 where
   pub line : CustomerLine
   pub spool : CustomerSpool

@@ -36,7 +36,7 @@ pub data Survive : List WholeFile → List WholeFile → Type 0 where
   leaves :
       (before : WholeFile) (others still : List WholeFile) → Survive others still → Survive (before ∷ others) still
 
--- What was there became this: of the files some are still there, and behind them are others that came since, at most as
+-- What was there became this: of the files some are still there, and after them are others that came since, at most as
 -- many as were counted.
 pub record FilesGoOn (x y : Outgoing) : Type 0 where
   pub still : List WholeFile
@@ -85,7 +85,7 @@ files_before x y = take (length y.files - (y.arrived - x.arrived)) y.files
 abbrev pub FirstFilesSurvive : Type 0
 FirstFilesSurvive = (x y : Outgoing) → FilesGoOn x y → Survive x.files (files_before x y)
 
--- Which one a file was says its number, where no two files had one number.
+-- Which one a file was says its number, if no two files had one number.
 abbrev pub SurvivorsAreNumbered : Type 0
 SurvivorsAreNumbered =
     (files still : List WholeFile) (now : WholeFile) → Survive files still

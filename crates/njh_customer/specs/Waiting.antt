@@ -19,7 +19,7 @@ with_answer_on l (Some a) lines = on_line l (in_state (with_answer a)) lines
 abbrev pub with_waiting : ℕ → List ℕ → List CustomerLine → List CustomerLine
 with_waiting l m lines = on_line l (in_state (with_message m)) lines
 
--- a nodal message goes by a route, and is dropped where that is no line
+-- a nodal message goes by a route, and is dropped if that is no line
 abbrev pub goes : Route → List ℕ → List CustomerLine → List CustomerLine
 goes Here m lines = lines
 goes (Line k) m lines = with_waiting k m lines

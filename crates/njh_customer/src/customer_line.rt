@@ -41,7 +41,7 @@ pub(crate) struct CustomerLine {
     streams: u8,
     /// The streams to the hub: SYSIN 1 to 4, SYSOUT 1 to 4.
     receivers: [Receiver; 8],
-    /// On each of these, what the owner of the file that was refused last was told: none once
+    /// On each of these, what the owner of the file that was refused last was told: none after
     /// another file opens.
     notices: [Option<Notice>; 8],
     /// The streams from the hub.

@@ -59,7 +59,7 @@ impl CustomerLines {
         }
     }
 
-    /// Adds a line behind the others. Want of memory is the only refusal.
+    /// Adds a line after the others. Want of memory is the only refusal.
     pub(crate) fn push(&mut self, line: CustomerLine) -> Result<(), AllocError>
         ensures { IfOk result (λ done. self.new ≡ self.old ++ line ∷ []) }
     {
@@ -176,7 +176,7 @@ impl CustomerLines {
         }
     }
 
-    /// A nodal message goes by a route, and is dropped where that is no line.
+    /// A nodal message goes by a route, and is dropped if that is no line.
     fn send(&mut self, route: Route, message: Record)
         ensures { self.new ≡ goes route message.items self.old }
     {

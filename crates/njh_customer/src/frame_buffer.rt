@@ -1,4 +1,4 @@
-//! Where the frame stands that a step sends.
+//! The frame that a step sends.
 
 ghost use Rattle.std.specs.Prelude.{◌≡◌, ◌≤◌, ◌↔◌, [], length, IsTrue};
 ghost use Rattle.std.specs.Vec.{vec_capacity};
@@ -7,7 +7,7 @@ ghost use Rattle.njh_bisync.specs.Written.{text_bytes, control_bytes};
 use njh_bisync::{Control, LONGEST_FRAME, LONGEST_TEXT, put_control, put_text};
 use std::marker::Model;
 
-/// One frame, or nothing where none is sent, with the room for the longest. A caller sees its
+/// One frame, or nothing if none is sent, with the room for the longest. A caller sees its
 /// bytes.
 #[derive(Drop)]
 pub struct FrameBuffer {
@@ -45,7 +45,7 @@ impl FrameBuffer {
         self.bytes
     }
 
-    /// The frame; empty where there is none.
+    /// The frame; empty if there is none.
     pub fn bytes(&self) -> &[u8]
         ensures same { result.now ≡ self.now }
         ensures short { length result.now ≤ LONGEST_FRAME }

@@ -26,8 +26,8 @@ use std::marker::Model;
 
 /// The lines of one customer, each with what has come of its next frame.
 ///
-/// The deframers stand beside the lines, so that a text may stay lent from one while its records
-/// act on any line.
+/// The deframers are a field beside the lines, so that a text may stay lent from one while its
+/// records act on any line.
 #[derive(Drop)]
 pub struct Lines {
     deframers: Vec<Deframer>,
@@ -120,7 +120,7 @@ impl Lines {
     }
 
     /// One step by bytes of a line: those up to the end of the first frame that is answered, or
-    /// all. Says how many. The frame that is sent is put into `out`, which is empty then where none
+    /// all. Says how many. The frame that is sent is put into `out`, which is empty then if none
     /// is. Nothing depends on what room `shared` has.
     pub fn take_bytes(
         &mut self,
@@ -174,7 +174,7 @@ impl Lines {
     }
 
     /// One step by a signal on a line: a frame that isn't whole is dropped first. The frame that is
-    /// sent is put into `out`, which is empty then where none is.
+    /// sent is put into `out`, which is empty then if none is.
     pub fn take_signal(
         &mut self,
         id: LineId,

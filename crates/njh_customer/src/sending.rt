@@ -1,4 +1,4 @@
-//! What a line sends. Every frame is put into `out`, which is empty then where none is sent, and
+//! What a line sends. Every frame is put into `out`, which is empty then if none is sent, and
 //! the line keeps what it sent.
 
 ghost use Rattle.std.specs.Prelude.{◌≡◌, ◌≤◌, ◌||◌};

@@ -21,7 +21,7 @@ abbrev pub limits_of : CustomerSpool → ℕ × ℕ
 limits_of s = (s.quota, s.limit)
 
 -- What a customer's streams keep of its partial files is what those are, each of its whole files has headers that read,
--- its files stand under its own quota and its own limit, and each of its lines has a mark.
+-- its files have its own quota and its own limit, and each of its lines has a mark.
 pub record IsCoherent (c : Customer) : Type 0 where
   pub tied : AreTied (streams_to_hub c.lines) c.spool
   pub streamed : All HasStreams c.lines
