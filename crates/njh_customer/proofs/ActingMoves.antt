@@ -4,18 +4,19 @@ use Words.{ℕ, true, not, inl, inr, List, [], fold, map, filter, Option, Some, 
 use Words.{Contains, Item, stream_of, kind_of, Nodal, nodal_of, is_user_command, sender_of, node_unknown, CustomerSpool}
 use Words.{PartialFile, WholeFile, without_partial, as_whole, partial_numbered, partial_records, one_more, with_arrived}
 use Words.{with_finished, with_state, Held, Ready, Refused, route_of, Here, Arrival, file_in, after_grant}
-use Words.{after_refusal, after_completion, is_whole, Sender, FilesMove, CommandsMoveFilesSo, stay, held, released}
-use Words.{rerouted, cancelled, CommandOutcome, changed_file, file_in_state, is_of_name, message_outcome}
-use Words.{with_new_destination, command_of, Command, after_stream_arrival, with_sender_outcome, without_sending}
-use Words.{with_outcome, after_user_command, after_record, acted_where, Customer, CustomerLine, line_at, receiver_at}
-use Words.{Acts, Commands, busy_numbers, LeadsByMoves, nowhere, onward, OneActs, outgoing, streams_from_hub, sender_on}
-use Words.{with_answer_on, with_waiting, with_message_to}
+use Words.{after_refusal, after_completion, is_whole, Sender, FilesMove, stay, held, released, rerouted, cancelled}
+use Words.{CommandOutcome, changed_file, file_in_state, is_of_name, message_outcome, with_new_destination, command_of}
+use Words.{Command, after_stream_arrival, with_sender_outcome, without_sending, with_outcome, after_user_command}
+use Words.{after_record, acted_where, Customer, CustomerLine, line_at, receiver_at, Acts, Commands, busy_numbers}
+use Words.{LeadsByMoves, nowhere, onward, OneActs, outgoing, streams_from_hub, sender_on, with_answer_on, with_waiting}
+use Words.{with_message_to}
 use Rattle.{std.proofs.Common.{◌≡◌, ◌⊎◌, ◌∷◌, ◌++◌, ◌∙◌}, njh_block.specs.Blocks.{Data, Control}}
-use Rattle.njh_customer.{specs.Customer.sender_at, proofs.LineWalks.{acted_keeps, kepts, StaysWaiting, all_told_so}}
-use Rattle.njh_customer.proofs.{LineWalks.{answered_so, arrived_so, told_so}, OutgoingLaws.{all_given_up, leads_then}}
-use Rattle.njh_customer.proofs.OutgoingLaws.{of_parts, same_stream, senders_receiving, sent_is, stream_is}
-use Rattle.njh_customer.proofs.{RecordsDo.{RecordDoes, record_does, Brings, acted_where_so}, SpoolWalks.StaysInArrivals}
-use Rattle.njh_customer.proofs.SpoolWalks.{received_so}
+use Rattle.{njh_command.proofs.CommandMoves.files_move, njh_customer.proofs.LineWalks.{acted_keeps, kepts}}
+use Rattle.njh_customer.proofs.LineWalks.{StaysWaiting, all_told_so, answered_so, arrived_so, told_so}
+use Rattle.njh_customer.proofs.OutgoingLaws.{all_given_up, leads_then, of_parts, same_stream, senders_receiving}
+use Rattle.njh_customer.proofs.{OutgoingLaws.{sent_is, stream_is}, RecordsDo.{RecordDoes, record_does, Brings}}
+use Rattle.njh_customer.proofs.{RecordsDo.acted_where_so, SpoolWalks.{StaysInArrivals, received_so}}
+use Rattle.njh_customer.specs.Customer.{sender_at}
 use Rattle.njh_stream.specs.declared.sender.Sender.TheVariants as sender
 use Rattle.njh_command.specs.declared.command.Command.TheVariants as commands
 use Rattle.njh_customer.specs.Moves as moves
@@ -179,9 +180,9 @@ module _ (l : ℕ) (i : Item) (c : Customer) (n : Nodal) where
       ∙ ap (λ ns. of_parts kept c.spool.arrived (streams_from_hub (fold without_sending c.lines ns))) numbers
       ∙ sym (all_given_up (busy_numbers p c.spool.whole) kept c.spool.arrived c.lines)))
 
-  command_acts : CommandsMoveFilesSo → (srcb : ℕ) (bytes : List ℕ) → i ≡ Data 0x9a srcb bytes → nodal_of bytes ≡ Ok n
+  command_acts : (srcb : ℕ) (bytes : List ℕ) → i ≡ Data 0x9a srcb bytes → nodal_of bytes ≡ Ok n
       → route_of c.entry n.to ≡ Here → is_user_command n ≡ true → Acted l i c (after_user_command n c)
-  command_acts move srcb bytes is reads here user = moved_acts (message_outcome c.entry (sender_of n) n.message c.spool)
+  command_acts srcb bytes is reads here user = moved_acts (message_outcome c.entry (sender_of n) n.message c.spool)
       (λ x says. record {
         srcb = srcb;
         bytes = bytes;
@@ -192,12 +193,12 @@ module _ (l : ℕ) (i : Item) (c : Customer) (n : Nodal) where
         is_command = user;
         sender = refl;
         says = says;
-      }) (move c.entry (sender_of n) n.message c.spool)
+      }) (files_move c.entry (sender_of n) n.message c.spool)
 
 -- ---- every record
 
-pub acts_so : CommandsMoveFilesSo → (l : ℕ) (i : Item) (c : Customer) → Acted l i c (after_record l i c)
-acts_so move l i c = at i (after_record l i c) (record_does l c i)
+pub acts_so : (l : ℕ) (i : Item) (c : Customer) → Acted l i c (after_record l i c)
+acts_so l i c = at i (after_record l i c) (record_does l c i)
   where
     streams : ℕ
     streams = (line_at l c.lines).streams
@@ -217,7 +218,7 @@ acts_so move l i c = at i (after_record l i c) (record_does l c i)
     at _ _ (does.refuses srcb k named) = refused_acts l k streams srcb c named (x k) (stream_is l k c)
     at _ _ (does.completes srcb k named) = completed_acts l k streams srcb c named (x k) (stream_is l k c)
     at _ _ (does.commands srcb bytes n reads here user) =
-        command_acts l (Data 0x9a srcb bytes) c n move srcb bytes refl reads here user
+        command_acts l (Data 0x9a srcb bytes) c n srcb bytes refl reads here user
     at _ _ (does.knows_no_node i n) =
         lines_alone l i (with_message_to c.entry (sender_of n) (node_unknown n.to) c.lines) c
         (told_so l (λ lines. streams_from_hub lines ≡ streams_from_hub c.lines) same c.entry (sender_of n)
@@ -246,8 +247,8 @@ one_acts l items i c d e there acting acted keeps =
       kept = keeps ∙ acting.kept;
     }
 
-pub acting_where : CommandsMoveFilesSo → (b : Bool) (l : ℕ) (items : List Item) (c : Customer)
+pub acting_where : (b : Bool) (l : ℕ) (items : List Item) (c : Customer)
     → Acting l items c (acted_where b l items c).customer
-acting_where commands b l items c = acted_where_so l (Acting l items c) b items
-    (λ i there d acting. one_acts l items i c d (after_record l i d) there acting (acts_so commands l i d)
+acting_where b l items c = acted_where_so l (Acting l items c) b items
+    (λ i there d acting. one_acts l items i c d (after_record l i d) there acting (acts_so l i d)
     (acted_keeps l i d)) c (record { entry = refl; records = nowhere (outgoing c); kept = refl })

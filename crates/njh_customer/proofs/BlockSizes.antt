@@ -15,17 +15,17 @@ abbrev LeavesLess : List ℕ → Result Unspelled Fault → Type 0
 LeavesLess bytes (Ok r) = length r.rest < length bytes
 LeavesLess bytes (Err e) = Unit {0}
 
-behind_leaves : (front bytes rest : List ℕ) (r : Result Unspelled Fault) → length rest < length bytes
+then_leaves : (front bytes rest : List ℕ) (r : Result Unspelled Fault) → length rest < length bytes
     → LeavesLess rest r → LeavesLess bytes (with_front front r)
-behind_leaves front bytes rest (Ok r) less leaves = omega arith
-behind_leaves front bytes rest (Err e) less leaves = tt
+then_leaves front bytes rest (Ok r) less leaves = omega arith
+then_leaves front bytes rest (Err e) less leaves = tt
 
 step_leaves : (bytes : List ℕ) (front : Front) → StandsFirst bytes front
     → ((rest : List ℕ) → length rest < length bytes → LeavesLess rest (record_at_front rest))
     → LeavesLess bytes (read_on record_at_front front)
 step_leaves bytes (OfItem item rest) (counted, parts) again =
     let less = front_leaves_less bytes rest item parts in
-    behind_leaves (added_bytes item) bytes rest (record_at_front rest) less (again rest less)
+    then_leaves (added_bytes item) bytes rest (record_at_front rest) less (again rest less)
 step_leaves bytes (OfEnd end rest) parts again = omega (arith, ap (λ (bs : List ℕ). length bs) parts)
 step_leaves bytes Bad bad again = tt
 step_leaves bytes Cut cut again = tt

@@ -3,26 +3,24 @@ use Rattle.njh_customer.proofs.Words
 use Words.{ℕ, List, length, set, get_or, Some, None, refl, sym, ap, subst, arith, map, All, option_map, get_or-map}
 use Words.{map-set, length-map, length-set, All-set, map-map, Kind, Item, Aborted, kind_of, CustomerSpool}
 use Words.{partial_numbered, without_partial, as_whole, with_arrived, with_finished, CustomerEntry, answer_on, Arrival}
-use Words.{Request, received_arrival, without_all_open, streams_at, stream_at, with_stream, without_streams}
-use Words.{HaveHeaders, Agrees, AreTied, Receiver, CommandsKeepHeaders, after_arrival, after_stream_arrival, Customer}
-use Words.{CustomerLine, no_customer_line, line_at, on_line, with_notice, receiver_at, with_receiver, with_answer_on}
-use Words.{with_notice_to, streams_to_hub, limits_of, HasStreams, IsCoherent, ℕ, false, List, [], refl, sym, All}
-use Words.{length-map, All-map, All-nil, HasHeaders, CustomerSpool, WholeFile, empty_spool, CustomerEntry, stream_at}
-use Words.{AreTied, Receiver, config_of, fresh_customer, idle_line, IsCoherent, HasStreams, streams_to_hub, ℕ, Bool}
-use Words.{true, false, cond, List, length, fold, Option, Some, None, refl, arith, nat_lt, option_map, ltb-true}
-use Words.{length-set, Item, stream_number, stream_of, kind_of, Nodal, sender_of, node_unknown, answer_on, Arrival}
-use Words.{received_arrival, SenderOutcome, after_grant, after_refusal, after_completion, Sender, message_outcome}
-use Words.{without_file, Input, after_input, after_stream_arrival, with_sender_outcome, without_sending}
-use Words.{after_user_command, after_record, with_senders_by, accepted_on, goes_up_by, with_raised_line, Customer}
-use Words.{CustomerLine, no_customer_line, line_at, on_line, in_state, with_sender, with_notice, with_receiver}
-use Words.{receiver_at, with_answer_on, with_waiting, with_message_to, with_notice_to, IsCoherent}
+use Words.{Request, received_arrival, streams_at, stream_at, with_stream, Agrees, AreTied, Receiver, after_arrival}
+use Words.{after_stream_arrival, Customer, CustomerLine, no_customer_line, line_at, on_line, with_notice, receiver_at}
+use Words.{with_receiver, with_answer_on, with_notice_to, streams_to_hub, limits_of, HasStreams, IsCoherent, false}
+use Words.{All-map, All-nil, HasHeaders, WholeFile, empty_spool, config_of, fresh_customer, idle_line, Bool, true, cond}
+use Words.{fold, Option, nat_lt, ltb-true, stream_number, stream_of, Nodal, sender_of, node_unknown, SenderOutcome}
+use Words.{after_grant, after_refusal, after_completion, Sender, message_outcome, without_file, Input, after_input}
+use Words.{with_sender_outcome, without_sending, after_user_command, after_record, with_senders_by, accepted_on}
+use Words.{goes_up_by, with_raised_line, in_state, with_sender, with_waiting, with_message_to}
 use Rattle.{std.proofs.Common.{◌≡◌, ◌<◌, ◌∙◌, ◌≤◌, ◌+◌, ◌%◌, ◌==◌}, njh_block.specs.Blocks.Control}
-use Rattle.njh_stream.specs.{Receiving.{Data, Long, Abort, ReceiverStep}, declared.receiver.Receiver.TheVariants.Idle}
-use Rattle.njh_customer.proofs.{FileListLaws.{as_many, each_same}, LineWalks.{IsSeen, answered_so, notified_so}}
-use Rattle.njh_customer.proofs.LineWalks.{on_line_seen, StaysWaiting, seen_waiting, all_told_so, told_so, given_up_so}
-use Rattle.njh_customer.proofs.RecordsDo.{a_request, an_abort, some_data, too_long, Brings, RecordDoes, record_does}
-use Rattle.njh_customer.proofs.Restated.{IsHarmless, as_it_is, restated_harmless, completed_harmless, refused_restated}
-use Rattle.njh_customer.proofs.{SpoolWalks.received_so, IdleLines.{fresh_lines_idle, receivers_idle}}
+use Rattle.{njh_spool.proofs.NumberLaws.next_number-fresh, njh_stream.proofs.HeadersKept.received_headers}
+use Rattle.njh_stream.{proofs.TiedLaws.{arrival_tied, at_rest, untouched}, specs.Receiving.{Data, Long, Abort}}
+use Rattle.njh_stream.specs.{Receiving.ReceiverStep, declared.receiver.Receiver.TheVariants.Idle}
+use Rattle.{njh_command.proofs.HeadersKept.headers_kept, njh_customer.proofs.FileListLaws.{as_many, each_same}}
+use Rattle.njh_customer.proofs.{IdleLines.{fresh_lines_idle, receivers_idle}, LineWalks.{IsSeen, answered_so}}
+use Rattle.njh_customer.proofs.LineWalks.{notified_so, on_line_seen, StaysWaiting, seen_waiting, all_told_so, told_so}
+use Rattle.njh_customer.proofs.{LineWalks.given_up_so, RecordsDo.{a_request, an_abort, some_data, too_long, Brings}}
+use Rattle.njh_customer.proofs.{RecordsDo.{RecordDoes, record_does}, Restated.{IsHarmless, as_it_is, restated_harmless}}
+use Rattle.njh_customer.proofs.{Restated.{completed_harmless, refused_restated}, SpoolWalks.received_so}
 use Rattle.njh_customer.specs.Customer.{sender_at}
 use Rattle.njh_block.specs.Blocks as block
 use Rattle.njh_stream.specs.declared.receiver.Receiver.TheVariants as receiver
@@ -49,45 +47,16 @@ streamed_still xs ys same all k d h = let e : shape (get_or xs k d) ≡ shape (g
 pub shape_waiting : (l : ℕ) (before : List CustomerLine) → StaysWaiting l (IsSeen shape before)
 shape_waiting l before = seen_waiting shape l before (record { answers = λ a x. refl; messages = λ m x. refl })
 
--- what the streams of a customer owe to each other, as the crate of streams says it
-abbrev pub ArrivalsTie : Type 0
-ArrivalsTie = (entry : CustomerEntry) (l k : ℕ) (a : Arrival) (lines : List (List Receiver)) (s : CustomerSpool)
-    → l < length lines → k < length (streams_at l lines) → AreTied lines s
-    → AreTied (with_stream l k (received_arrival entry l (kind_of k) (stream_at l k lines) a s).receiver lines)
-    (received_arrival entry l (kind_of k) (stream_at l k lines) a s).spool
-
-abbrev pub NothingUnties : Type 0
-NothingUnties = (lines : List (List Receiver)) (s t : CustomerSpool) → t.partial ≡ s.partial → AreTied lines s
-    → AreTied lines t
-
-abbrev pub ArrivalsKeepHeaders : Type 0
-ArrivalsKeepHeaders =
-    (entry : CustomerEntry) (l : ℕ) (kind : Kind) (r : Receiver) (a : Arrival) (s : CustomerSpool) → Agrees kind r s
-    → HaveHeaders s.whole → HaveHeaders (received_arrival entry l kind r a s).spool.whole
-
--- what the crates of streams and of commands say of the records that come
-pub record RecordsKeep : Type 0 where
-  pub tied : ArrivalsTie
-  pub headers : ArrivalsKeepHeaders
-  pub commands : CommandsKeepHeaders
-
-pub records_keep : ArrivalsTie → ArrivalsKeepHeaders → CommandsKeepHeaders → RecordsKeep
-records_keep tied headers commands = record { tied = tied; headers = headers; commands = commands }
-
-abbrev pub EndsTie : Type 0
-EndsTie = (l : ℕ) (lines : List (List Receiver)) (s : CustomerSpool) → l < length lines → AreTied lines s
-    → AreTied (without_streams l lines) (without_all_open (streams_at l lines) s)
-
 -- the streams are the same, and the files changed harmlessly
 pub record IsLike (d c : Customer) : Type 0 where
   pub entry : d.entry ≡ c.entry
   pub lines : shapes d.lines ≡ shapes c.lines
   pub files : IsHarmless c.spool d.spool
 
-pub coherent_still : (d c : Customer) → NothingUnties → IsLike d c → IsCoherent c → IsCoherent d
-coherent_still d c untied like coherent = record {
+pub coherent_still : (d c : Customer) → IsLike d c → IsCoherent c → IsCoherent d
+coherent_still d c like coherent = record {
   tied = subst (λ lines. AreTied lines d.spool) (sym (same_streams d.lines c.lines like.lines))
-      (untied (streams_to_hub c.lines) c.spool d.spool like.files.partial coherent.tied);
+      (untouched (streams_to_hub c.lines) c.spool d.spool like.files.partial coherent.tied);
   streamed = streamed_still d.lines c.lines like.lines coherent.streamed;
   headers = like.files.headers coherent.headers;
   quota = ap (λ (l : ℕ × ℕ). l.0) like.files.limits ∙ coherent.quota ∙ ap (λ e. e.quota) (sym like.entry);
@@ -142,9 +111,9 @@ with_streams l k r lines = map-set (λ x. x.receivers) lines l (with_receiver k 
 abbrev moved : ℕ → ℕ → ReceiverStep → Customer → Customer
 moved l k done c = record c { spool = done.spool; lines = on_line l (with_receiver k done.receiver) c.lines }
 
-keeps_moved : (l k : ℕ) (a : Arrival) (c : Customer) → RecordsKeep → l < length c.lines → k < 8 → IsCoherent c
+keeps_moved : (l k : ℕ) (a : Arrival) (c : Customer) → l < length c.lines → k < 8 → IsCoherent c
     → IsCoherent (moved l k (received_arrival c.entry l (kind_of k) (receiver_at k (line_at l c.lines)) a c.spool) c)
-keeps_moved l k a c records line_there stream_there coherent =
+keeps_moved l k a c line_there stream_there coherent =
     let lines = streams_to_hub c.lines in
     let r = receiver_at k (line_at l c.lines) in
     let done = received_arrival c.entry l (kind_of k) r a c.spool in
@@ -153,7 +122,7 @@ keeps_moved l k a c records line_there stream_there coherent =
     (λ x. x.receivers) c.lines l no_customer_line in
     let there : l < length lines = omega (arith, length-map c.lines (λ x. x.receivers)) in
     let in_line : k < length (streams_at l lines) = omega (arith, ap length at) in
-    let tied = records.tied c.entry l k a lines c.spool there in_line coherent.tied in
+    let tied = arrival_tied c.entry l k a lines c.spool next_number-fresh there in_line coherent.tied in
     let now : AreTied (with_stream l k done.receiver lines) done.spool =
     subst (λ x. let d = received_arrival c.entry l (kind_of k) x a c.spool in
     AreTied (with_stream l k d.receiver lines) d.spool) (stream_is l k c.lines) tied in
@@ -161,34 +130,33 @@ keeps_moved l k a c records line_there stream_there coherent =
       tied = subst (λ rs. AreTied rs done.spool) (sym (with_streams l k done.receiver c.lines)) now;
       streamed = All-set HasStreams c.lines l (with_receiver k done.receiver (line_at l c.lines))
           (length-set (line_at l c.lines).receivers k done.receiver ∙ eight.0, eight.1) coherent.streamed;
-      headers = records.headers c.entry l (kind_of k) r a c.spool (agrees_there l k c coherent) coherent.headers;
+      headers = received_headers c.entry l (kind_of k) r a c.spool (agrees_there l k c coherent) coherent.headers;
       quota = ap (λ (l : ℕ × ℕ). l.0) (received_limits c.entry l (kind_of k) r a c.spool) ∙ coherent.quota;
       limit = ap (λ (l : ℕ × ℕ). l.1) (received_limits c.entry l (kind_of k) r a c.spool) ∙ coherent.limit;
       marks = coherent.marks ∙ sym (length-set c.lines l (with_receiver k done.receiver (line_at l c.lines)));
     }
 
-pub keeps_arrived : (l k : ℕ) (a : Arrival) (c : Customer) → RecordsKeep → NothingUnties → l < length c.lines → k < 8
-    → IsCoherent c → IsCoherent (after_stream_arrival l k a c)
-keeps_arrived l k a c records untied line_there stream_there coherent =
+keeps_arrived : (l k : ℕ) (a : Arrival) (c : Customer) → l < length c.lines → k < 8 → IsCoherent c
+    → IsCoherent (after_stream_arrival l k a c)
+keeps_arrived l k a c line_there stream_there coherent =
     let done = received_arrival c.entry l (kind_of k) (receiver_at k (line_at l c.lines)) a c.spool in
     let lines = on_line l (with_receiver k done.receiver) c.lines in
     let answer = option_map (answer_on k) done.answer in
     let told = with_notice_to c.entry done.notice (with_answer_on l answer lines) in
     let waiting = shape_waiting l lines in
-    coherent_still (after_arrival l k done c) (moved l k done c) untied (record {
+    coherent_still (after_arrival l k done c) (moved l k done c) (record {
       entry = refl;
       lines = on_line_seen shape l (with_notice k done.receiver done.notice) told (λ x. refl)
           ∙ notified_so l (IsSeen shape lines) waiting c.entry done.notice (with_answer_on l answer lines)
           (answered_so l (IsSeen shape lines) waiting answer lines refl);
       files = restated_harmless done.spool done.spool (as_it_is done.spool);
-    }) (keeps_moved l k a c records line_there stream_there coherent)
+    }) (keeps_moved l k a c line_there stream_there coherent)
 
 -- ---- a customer that was just opened
 
 pub fresh_coherent : (entry : CustomerEntry) → All (λ line. line.streams ≤ 4) entry.lines
-    → ((lines : List (List Receiver)) (s : CustomerSpool) → ((l k : ℕ) → stream_at l k lines ≡ receiver.Idle)
-    → s.partial ≡ [] → AreTied lines s) → IsCoherent (fresh_customer entry)
-fresh_coherent entry few at_rest = record {
+    → IsCoherent (fresh_customer entry)
+fresh_coherent entry few = record {
   tied = at_rest (streams_to_hub (fresh_customer entry).lines) (empty_spool entry.quota entry.files)
       (λ l k. stream_is l k (fresh_customer entry).lines ∙ receivers_idle (fresh_customer entry)
       (fresh_lines_idle entry) l k) refl;
@@ -201,147 +169,103 @@ fresh_coherent entry few at_rest = record {
       (λ line. idle_line (config_of entry line) line.streams));
 }
 
--- ---- what the steps of a customer leave
+-- ---- the steps of a customer
 
-pub record Stays (d c : Customer) : Type 0 where
-  pub coherent : IsCoherent d
-  pub lines : length d.lines ≡ length c.lines
+-- only its lines change, and no stream to the hub
+pub lines_coherent : (lines : List CustomerLine) (c : Customer) → shapes lines ≡ shapes c.lines → IsCoherent c
+    → IsCoherent (record c { lines = lines })
+lines_coherent lines c same = coherent_still (record c { lines = lines }) c
+    (record { entry = refl; lines = same; files = restated_harmless c.spool c.spool (as_it_is c.spool) })
 
-pub stays : (c : Customer) → IsCoherent c → Stays c c
-stays c coherent = record { coherent = coherent; lines = refl }
+-- a mark on a line
+raised_coherent : (up : Bool) (l : ℕ) (c : Customer) → IsCoherent c
+    → IsCoherent (record c { entry = with_raised_line up l c.entry })
+raised_coherent true l c coherent = record {
+  tied = coherent.tied;
+  streamed = coherent.streamed;
+  headers = coherent.headers;
+  quota = coherent.quota;
+  limit = coherent.limit;
+  marks = length-set c.entry.up l true ∙ coherent.marks;
+}
+raised_coherent false l c coherent = coherent
 
-module _ (untied : NothingUnties) where
-  pub stays_like : (d c : Customer) → IsLike d c → IsCoherent c → Stays d c
-  stays_like d c like coherent =
-      record { coherent = coherent_still d c untied like coherent; lines = as_many shape d.lines c.lines like.lines }
+pub accepted_coherent : (l : ℕ) (came : Input) (c : Customer) → IsCoherent c → IsCoherent (accepted_on l came c)
+accepted_coherent l came c coherent =
+    let lines = on_line l (in_state (after_input came)) c.lines in
+    raised_coherent (goes_up_by l came c) l (record c { lines = lines })
+    (lines_coherent lines c (on_line_seen shape l (in_state (after_input came)) c.lines (λ x. refl)) coherent)
 
-  -- only its lines changed, and no stream to the hub
-  pub stays_lines : (lines : List CustomerLine) (c : Customer) → shapes lines ≡ shapes c.lines → IsCoherent c
-      → Stays (record c { lines = lines }) c
-  stays_lines lines c same coherent = stays_like (record c { lines = lines }) c
-      (record { entry = refl; lines = same; files = restated_harmless c.spool c.spool (as_it_is c.spool) }) coherent
+-- a stream from the hub moves, and its file
+sent_coherent : (l k : ℕ) (sent : SenderOutcome) (c : Customer) → IsHarmless c.spool sent.spool → IsCoherent c
+    → IsCoherent (with_sender_outcome l k sent c)
+sent_coherent l k sent c files = coherent_still (with_sender_outcome l k sent c) c (record {
+  entry = refl;
+  lines = on_line_seen shape l (with_sender k sent.sender) c.lines (λ x. refl);
+  files = files;
+})
 
-  -- a mark on a line
-  raised_stays : (up : Bool) (l : ℕ) (c : Customer) → IsCoherent c
-      → Stays (record c { entry = with_raised_line up l c.entry }) c
-  raised_stays true l c coherent = record {
-    coherent = record {
-      tied = coherent.tied;
-      streamed = coherent.streamed;
-      headers = coherent.headers;
-      quota = coherent.quota;
-      limit = coherent.limit;
-      marks = length-set c.entry.up l true ∙ coherent.marks;
-    };
-    lines = refl;
-  }
-  raised_stays false l c coherent = stays c coherent
+command_coherent : (n : Nodal) (c : Customer) → IsCoherent c → IsCoherent (after_user_command n c)
+command_coherent n c =
+    let l : ℕ = 0 in
+    let done = message_outcome c.entry (sender_of n) n.message c.spool in
+    let lines = fold without_sending c.lines done.cancelled in
+    coherent_still (after_user_command n c) c (record {
+      entry = refl;
+      lines = all_told_so l (IsSeen shape lines) (shape_waiting l lines) c.entry (sender_of n) done.replies lines refl
+          ∙ given_up_so (IsSeen shape c.lines) (λ m xs so. each_same shape (with_senders_by (without_file m))
+          (λ x. refl) xs ∙ so) done.cancelled c.lines refl;
+      files = record { partial = refl; limits = refl; headers = headers_kept c.entry (sender_of n) n.message c.spool };
+    })
 
-  pub accepted_stays : (l : ℕ) (came : Input) (c : Customer) → IsCoherent c → Stays (accepted_on l came c) c
-  accepted_stays l came c coherent =
-      let d : Customer = record c { lines = on_line l (in_state (after_input came)) c.lines } in
-      let first = stays_lines d.lines c (on_line_seen shape l (in_state (after_input came)) c.lines (λ x. refl))
-      coherent in
-      record { coherent = (raised_stays (goes_up_by l came c) l d first.coherent).coherent; lines = first.lines }
+-- a stream of a line is one of eight
+one_of_eight : (streams rcb k : ℕ) → streams ≤ 4 → stream_of streams rcb ≡ Some k → k < 8
+one_of_eight streams rcb k few h = at_number (stream_number rcb) h
+  where
+    by_kind : (n : ℕ) (b : Bool) → n < streams → Some (cond b n (n + 4)) ≡ Some k → k < 8
+    by_kind n true lt e = let same : n ≡ k = cc e in omega arith
+    by_kind n false lt e = let same : n + 4 ≡ k = cc e in omega arith
 
-  -- a stream from the hub moves, and its file
-  sent_stays : (l k : ℕ) (sent : SenderOutcome) (c : Customer) → IsHarmless c.spool sent.spool → IsCoherent c
-      → Stays (with_sender_outcome l k sent c) c
-  sent_stays l k sent c files coherent = stays_like (with_sender_outcome l k sent c) c (record {
-    entry = refl;
-    lines = on_line_seen shape l (with_sender k sent.sender) c.lines (λ x. refl);
-    files = files;
-  }) coherent
+    at_limit : (n : ℕ) (b : Bool) → nat_lt n streams ≡ b
+        → cond b (Some (cond (rcb % 16 == 8) n (n + 4))) None ≡ Some k → k < 8
+    at_limit n true e h = by_kind n (rcb % 16 == 8) (ltb-true n streams e) h
+    at_limit n false e h = absurd (cc h)
 
-  module _ (records : RecordsKeep) where
-    command_stays : (n : Nodal) (c : Customer) → IsCoherent c → Stays (after_user_command n c) c
-    command_stays n c coherent =
-        let l : ℕ = 0 in
-        let done = message_outcome c.entry (sender_of n) n.message c.spool in
-        let lines = fold without_sending c.lines done.cancelled in
-        stays_like (after_user_command n c) c (record {
-          entry = refl;
-          lines =
-              all_told_so l (IsSeen shape lines) (shape_waiting l lines) c.entry (sender_of n) done.replies lines refl
-              ∙ given_up_so (IsSeen shape c.lines) (λ m xs so. each_same shape (with_senders_by (without_file m))
-              (λ x. refl) xs ∙ so) done.cancelled c.lines refl;
-          files = record {
-            partial = refl;
-            limits = refl;
-            headers = records.commands c.entry (sender_of n) n.message c.spool;
-          };
-        }) coherent
+    at_number : (o : Option ℕ) → elim o [
+      | None ↦ None
+      | Some n ↦ cond (nat_lt n streams) (Some (cond (rcb % 16 == 8) n (n + 4))) None
+    ] ≡ Some k → k < 8
+    at_number None h = absurd (cc h)
+    at_number (Some n) h = at_limit n (nat_lt n streams) refl h
 
-    arrived_stays : (l k : ℕ) (a : Arrival) (c : Customer) → l < length c.lines → k < 8 → IsCoherent c
-        → Stays (after_stream_arrival l k a c) c
-    arrived_stays l k a c line_there stream_there coherent =
-        let done = received_arrival c.entry l (kind_of k) (receiver_at k (line_at l c.lines)) a c.spool in
-        let lines = on_line l (with_receiver k done.receiver) c.lines in
-        let answer = option_map (answer_on k) done.answer in
-        let waiting = shape_waiting l lines in
-        let told = with_notice_to c.entry done.notice (with_answer_on l answer lines) in
-        record {
-          coherent = keeps_arrived l k a c records untied line_there stream_there coherent;
-          lines = as_many shape (on_line l (with_notice k done.receiver done.notice) told) lines
-              (on_line_seen shape l (with_notice k done.receiver done.notice) told (λ x. refl)
-              ∙ notified_so l (IsSeen shape lines) waiting c.entry done.notice (with_answer_on l answer lines)
-              (answered_so l (IsSeen shape lines) waiting answer lines refl))
-              ∙ length-set c.lines l (with_receiver k done.receiver (line_at l c.lines));
-        }
+pub acted_coherent : (l : ℕ) (i : Item) (c : Customer) → l < length c.lines → IsCoherent c
+    → IsCoherent (after_record l i c)
+acted_coherent l i c line_there coherent = at i (after_record l i c) (record_does l c i)
+  where
+    x : ℕ → Sender
+    x k = sender_at k (line_at l c.lines)
 
-    -- a stream of a line is one of eight
-    one_of_eight : (streams rcb k : ℕ) → streams ≤ 4 → stream_of streams rcb ≡ Some k → k < 8
-    one_of_eight streams rcb k few h = at_number (stream_number rcb) h
-      where
-        by_kind : (n : ℕ) (b : Bool) → n < streams → Some (cond b n (n + 4)) ≡ Some k → k < 8
-        by_kind n true lt e = let same : n ≡ k = cc e in omega arith
-        by_kind n false lt e = let same : n + 4 ≡ k = cc e in omega arith
+    waiting : StaysWaiting l (IsSeen shape c.lines)
+    waiting = shape_waiting l c.lines
 
-        at_limit : (n : ℕ) (b : Bool) → nat_lt n streams ≡ b
-            → cond b (Some (cond (rcb % 16 == 8) n (n + 4))) None ≡ Some k → k < 8
-        at_limit n true e h = by_kind n (rcb % 16 == 8) (ltb-true n streams e) h
-        at_limit n false e h = absurd (cc h)
+    lines : (new : List CustomerLine) → shapes new ≡ shapes c.lines → IsCoherent (record c { lines = new })
+    lines new same = lines_coherent new c same coherent
 
-        at_number : (o : Option ℕ) → elim o [
-          | None ↦ None
-          | Some n ↦ cond (nat_lt n streams) (Some (cond (rcb % 16 == 8) n (n + 4))) None
-        ] ≡ Some k → k < 8
-        at_number None h = absurd (cc h)
-        at_number (Some n) h = at_limit n (nat_lt n streams) refl h
-
-    -- of a line that is there
-    names_one : (l rcb : ℕ) (c : Customer) → l < length c.lines → IsCoherent c → (k : ℕ)
-        → stream_of (line_at l c.lines).streams rcb ≡ Some k → k < 8
-    names_one l rcb c line_there coherent k h = one_of_eight (line_at l c.lines).streams rcb k
-        (coherent.streamed l no_customer_line line_there).1 h
-
-    pub acted_stays : (l : ℕ) (i : Item) (c : Customer) → l < length c.lines → IsCoherent c
-        → Stays (after_record l i c) c
-    acted_stays l i c line_there coherent = at i (after_record l i c) (record_does l c i)
-      where
-        x : ℕ → Sender
-        x k = sender_at k (line_at l c.lines)
-
-        waiting : StaysWaiting l (IsSeen shape c.lines)
-        waiting = shape_waiting l c.lines
-
-        at : (i : Item) (d : Customer) → RecordDoes l c i d → Stays d c
-        at _ _ (does.nothing i) = stays c coherent
-        at _ _ (does.arrives i code k a brings named) =
-            arrived_stays l k a c line_there (names_one l code c line_there coherent k named) coherent
-        at _ _ (does.answers i a) =
-            stays_lines (with_answer_on l a c.lines) c (answered_so l (IsSeen shape c.lines) waiting a c.lines refl)
-            coherent
-        at _ _ (does.permits srcb k named) = stays_lines (on_line l (with_sender k (after_grant (x k))) c.lines) c
-            (on_line_seen shape l (with_sender k (after_grant (x k))) c.lines (λ y. refl)) coherent
-        at _ _ (does.refuses srcb k named) =
-            let sent = after_refusal (x k) c.spool in
-            sent_stays l k sent c (restated_harmless c.spool sent.spool (refused_restated (x k) c.spool)) coherent
-        at _ _ (does.completes srcb k named) =
-            sent_stays l k (after_completion (x k) c.spool) c (completed_harmless (x k) c.spool) coherent
-        at _ _ (does.commands srcb bytes n reads here user) = command_stays n c coherent
-        at _ _ (does.knows_no_node i n) =
-            stays_lines (with_message_to c.entry (sender_of n) (node_unknown n.to) c.lines) c
-            (told_so l (IsSeen shape c.lines) waiting c.entry (sender_of n) (node_unknown n.to) c.lines refl) coherent
-        at _ _ (does.passes_on i k m) =
-            stays_lines (with_waiting k m c.lines) c (waiting.waits k m c.lines refl) coherent
+    at : (i : Item) (d : Customer) → RecordDoes l c i d → IsCoherent d
+    at _ _ (does.nothing i) = coherent
+    at _ _ (does.arrives i code k a brings named) =
+        let few = (coherent.streamed l no_customer_line line_there).1 in
+        keeps_arrived l k a c line_there (one_of_eight (line_at l c.lines).streams code k few named) coherent
+    at _ _ (does.answers i a) =
+        lines (with_answer_on l a c.lines) (answered_so l (IsSeen shape c.lines) waiting a c.lines refl)
+    at _ _ (does.permits srcb k named) = lines (on_line l (with_sender k (after_grant (x k))) c.lines)
+        (on_line_seen shape l (with_sender k (after_grant (x k))) c.lines (λ y. refl))
+    at _ _ (does.refuses srcb k named) =
+        let sent = after_refusal (x k) c.spool in
+        sent_coherent l k sent c (restated_harmless c.spool sent.spool (refused_restated (x k) c.spool)) coherent
+    at _ _ (does.completes srcb k named) =
+        sent_coherent l k (after_completion (x k) c.spool) c (completed_harmless (x k) c.spool) coherent
+    at _ _ (does.commands srcb bytes n reads here user) = command_coherent n c coherent
+    at _ _ (does.knows_no_node i n) = lines (with_message_to c.entry (sender_of n) (node_unknown n.to) c.lines)
+        (told_so l (IsSeen shape c.lines) waiting c.entry (sender_of n) (node_unknown n.to) c.lines refl)
+    at _ _ (does.passes_on i k m) = lines (with_waiting k m c.lines) (waiting.waits k m c.lines refl)

@@ -3,21 +3,16 @@
 use Rattle.njh_customer.proofs.Words
 use Words.{cond_both, ℕ, true, false, cond, not, List, [], map, filter, count_by, Option, Some, None, refl, ap, subst}
 use Words.{arith, eqb-true, or_parts, sum_by_push, list_any, count_by_none, CustomerSpool, PartialFile, WholeFile}
-use Words.{as_whole, has_file_room, is_number, next_number, partial_numbered, with_appended, with_arrived}
-use Words.{with_finished, without_partial, files_numbered, CustomerEntry, RouteEntry, with_new_destination}
-use Words.{changed_file, Customer, fresh_customer, AreApart, customer_with_routes, ℕ, Bool, true, false, cond, not}
-use Words.{List, [], length, map, filter, Option, Some, None, refl, sym, ap, arith, eqb-true}
-use Words.{length-append, leb-true, ltb-true, length-map, length-filter_both, sum_by-cons, sum_by_push, length-filter}
-use Words.{map-map, sum_by, is_name, Stored, Kind, records_to_node}
-use Words.{CustomerSpool, PartialFile, WholeFile, as_whole, cost, next_number, partial_numbered, stored_size}
-use Words.{used_blocks, with_appended, with_arrived, with_finished, without_partial, CustomerEntry, RouteEntry}
-use Words.{find_counts, ready, changed_file, may_change, with_new_destination, Customer, fresh_customer, IsWithinQuota}
-use Words.{customer_with_routes, limits_of}
-use Rattle.std.proofs.Common.{◌≡◌, ◌≤◌, ◌+◌, ◌==◌, ◌∷◌, ◌++◌, ◌/◌, ◌∙◌}
-use Rattle.njh_header.proofs.{DestinationRecords.{sent, sent_long}, Redirected.redirected_is}
-use Rattle.njh_customer.proofs.FileListLaws.{changed_numbers, changed_where, numbers, some_less, but_states, found_less}
-use Rattle.njh_customer.proofs.{FileListLaws.{same_sum, as_many}, Restated.IsRestated, SpoolWalks.StaysInFiles}
-use Rattle.njh_customer.proofs.SpoolWalks.{routes_so}
+use Words.{as_whole, is_number, next_number, partial_numbered, with_appended, with_arrived, with_finished}
+use Words.{without_partial, files_numbered, CustomerEntry, RouteEntry, with_new_destination, changed_file, Customer}
+use Words.{fresh_customer, AreApart, customer_with_routes, Bool, length, sym, length-append, leb-true, ltb-true}
+use Words.{length-map, length-filter_both, sum_by-cons, length-filter, map-map, sum_by, is_name, Stored, Kind}
+use Words.{records_to_node, cost, stored_size, used_blocks, find_counts, ready, may_change, IsWithinQuota, limits_of}
+use Rattle.{std.proofs.Common.{◌≡◌, ◌≤◌, ◌+◌, ◌==◌, ◌∷◌, ◌++◌, ◌/◌, ◌∙◌}, njh_header.proofs.DestinationRecords.sent}
+use Rattle.njh_header.proofs.{DestinationRecords.sent_long, Redirected.redirected_is}
+use Rattle.{njh_spool.proofs.NumberLaws.next_number-fresh, njh_customer.proofs.FileListLaws.changed_numbers}
+use Rattle.njh_customer.proofs.FileListLaws.{changed_where, numbers, some_less, but_states, found_less, same_sum}
+use Rattle.njh_customer.proofs.{FileListLaws.as_many, Restated.IsRestated, SpoolWalks.{StaysInFiles, routes_so}}
 
 -- no two whole files have one number
 abbrev pub AreDistinct : List WholeFile → Type 0
@@ -27,10 +22,6 @@ pub whole_distinct : (s : CustomerSpool) → AreApart s → AreDistinct s.whole
 whole_distinct s apart n =
     let both : count_by (λ f. f.number == n) s.whole + count_by (λ f. f.number == n) s.partial ≤ 1 = apart n in
     omega arith
-
--- where there is room for one file more, the next number is no file's
-abbrev pub FreeNumbers : Type 0
-FreeNumbers = (s : CustomerSpool) → has_file_room s ≡ true → is_number (next_number s) s ≡ false
 
 free_count : (n : ℕ) (s : CustomerSpool) → is_number n s ≡ false → files_numbered n s ≡ 0
 free_count n s free =
@@ -79,15 +70,15 @@ whole_apart s t whole partial = apart_fewer s t (λ n.
 apart_restated : (s t : CustomerSpool) → IsRestated s t → AreApart s → AreApart t
 apart_restated s t restated = whole_apart s t (but_states t.whole s.whole restated.whole) restated.partial
 
-pub apart_files : FreeNumbers → StaysInFiles AreApart (λ i. AreApart)
-apart_files free = record {
+pub apart_files : StaysInFiles AreApart (λ i. AreApart)
+apart_files = record {
   arrivals = record {
     still = λ i s apart. apart;
     without = λ n s. apart_fewer s (without_partial n s) (λ m.
         omega (arith, some_less (counted (λ (f : PartialFile). f.number) m) (λ f. not (f.number == n)) s.partial));
     begun = λ rcb srcb kind s room apart n.
         let begun : PartialFile = record { number = next_number s; kind = kind; records = [] } in
-        let fact = one_more (next_number s) s (free s room) apart n in
+        let fact = one_more (next_number s) s (next_number-fresh s room) apart n in
         omega (arith, sum_by_push (counted (λ (g : PartialFile). g.number) n) s.partial begun);
     appended = λ rcb r n s room. apart_fewer s (with_appended n r s) (λ m. omega (
       arith,

@@ -6,18 +6,16 @@ use Words.{append_assoc, append-nil, Contains-append_cases, Contains-push_cases,
 use Words.{records_to_node, CustomerSpool, PartialFile, WholeFile, max_arrived, next_number, with_new_partial}
 use Words.{with_appended, without_partial, as_whole, with_arrived, partial_numbered, with_finished, HasCome, few}
 use Words.{goes_on, HasBecomeWhole, FilesGrow, FilesGrowFurther, ReroutesKeepCounts, ManyRecordsGoOn, IsRerouted}
-use Words.{as_before, to_node, IsStill, Survive, ℕ, Bool, true, false, List, [], None, refl, arith, filter, map, Ok}
-use Words.{Err, Stored, Kind, Item, with_destination, records_to_node, CustomerSpool, without_partial, with_appended}
-use Words.{with_finished, with_new_partial, entries_of_routes, routes_checked, CommandsMoveFilesSo, ReroutesNameNodes}
-use Words.{changed_file, with_new_destination, LineReply, after_record, ends_session, ended_or, all_acted, replied_to}
-use Words.{session_over, session_over_where, Customer, FilesGrow, RoutesGrowFiles, taken_where, Survive}
-use Rattle.std.proofs.Common.{◌≡◌, ◌<◌, ◌≤◌, ◌+◌, ◌==◌, ◌⊎◌, ◌∷◌, ◌++◌, ◌∙◌}
+use Words.{as_before, to_node, IsStill, Survive, Bool, true, false, filter, map, Ok, Err, Item, entries_of_routes}
+use Words.{routes_checked, changed_file, with_new_destination, LineReply, after_record, ends_session, ended_or}
+use Words.{all_acted, replied_to, session_over, session_over_where, Customer, RoutesGrowFiles, taken_where}
+use Rattle.{std.proofs.Common.{◌≡◌, ◌<◌, ◌≤◌, ◌+◌, ◌==◌, ◌⊎◌, ◌∷◌, ◌++◌, ◌∙◌}, njh_block.specs.Blocks.Data}
 use Rattle.njh_customer.proofs.FileListLaws.{from_filter, first_or_later, found_one, from_where, found_numbered}
-use Rattle.njh_customer.proofs.SurvivingLaws.{rerouted_then, same_files, survive_then, no_more, SurviveBoth}
-use Rattle.njh_customer.proofs.SurvivingLaws.{survive_both, was_there, all_still, some_still, changed_still}
-use Rattle.njh_customer.proofs.{SurvivingLaws.{rerouted_still, but_states}, Restated.IsRestated}
-use Rattle.njh_customer.proofs.SpoolWalks.{StaysInFiles, record_so, replied_so, routes_so, session_over_so}
-use Rattle.{njh_customer.specs.Growing.PartialsAreNumbered, njh_block.specs.Blocks.Data}
+use Rattle.njh_customer.proofs.{Restated.IsRestated, SpoolWalks.{StaysInFiles, record_so, replied_so, routes_so}}
+use Rattle.njh_customer.proofs.{SpoolWalks.session_over_so, SurvivingLaws.{rerouted_then, same_files, survive_then}}
+use Rattle.njh_customer.proofs.SurvivingLaws.{no_more, SurviveBoth, survive_both, was_there, all_still, some_still}
+use Rattle.njh_customer.proofs.SurvivingLaws.{changed_still, rerouted_still, but_states}
+use Rattle.njh_customer.specs.Growing.{PartialsAreNumbered}
 
 -- ---- records that have come
 
@@ -240,51 +238,46 @@ abbrev pub data_count : List Item → ℕ
 data_count [] = 0
 data_count (i ∷ is) = data_in i + data_count is
 
-abbrev pub RedirectsByRecords : Type 0
-RedirectsByRecords = (kind : Kind) (node : List ℕ) (records : List Stored)
-    → records_to_node kind node None records ≡ with_destination kind node records
-
 -- whole files alone change
 whole_grows : (s t u : CustomerSpool) → Survive t.whole u.whole → FilesGrow 0 s t → u.arrived ≡ t.arrived
     → u.partial ≡ t.partial → FilesGrow 0 s u
 whole_grows s t u survive grow arrived partial = then_quietly 0 s t u grow (quiet t u survive arrived partial)
 
-module _ (by_records : RedirectsByRecords) (names : ReroutesNameNodes) (commands : CommandsMoveFilesSo) where
-  -- from these files
-  grow_files : (s : CustomerSpool) → StaysInFiles (FilesGrow 0 s) (λ i. FilesGrow (data_in i) s)
-  grow_files s = record {
-    arrivals = record {
-      still = λ i t grow. grow_within 0 (data_in i) s t (omega arith) grow;
-      without = λ n t grow. then_quietly 0 s t (without_partial n t) grow (without_grows n t);
-      begun = λ rcb srcb kind t room grow. then_quietly 0 s t (with_new_partial kind t) grow (begun_grows kind t);
-      appended = λ rcb r n t room grow. quietly_then 1 s t (with_appended n r t) grow (appended_grows n r t);
-      finished = λ rcb srcb n t whole grow. quietly_then 1 s t (with_finished n t) grow
-          (grow_within 0 1 t (with_finished n t) (omega arith) (finished_grows n t));
-    };
-    restated = restated_grows s;
-    left = λ p t grow. whole_grows s t (record t { whole = filter p t.whole }) (some_still p t.whole) grow refl refl;
-    rerouted = λ p node t named grow. let change = changed_file p (with_new_destination node) in
-        whole_grows s t (record t { whole = map change t.whole })
-        (all_still change (changed_still p (with_new_destination node) (rerouted_still by_records names node named))
-        t.whole) grow refl refl;
-  }
+-- from these files
+grow_files : (s : CustomerSpool) → StaysInFiles (FilesGrow 0 s) (λ i. FilesGrow (data_in i) s)
+grow_files s = record {
+  arrivals = record {
+    still = λ i t grow. grow_within 0 (data_in i) s t (omega arith) grow;
+    without = λ n t grow. then_quietly 0 s t (without_partial n t) grow (without_grows n t);
+    begun = λ rcb srcb kind t room grow. then_quietly 0 s t (with_new_partial kind t) grow (begun_grows kind t);
+    appended = λ rcb r n t room grow. quietly_then 1 s t (with_appended n r t) grow (appended_grows n r t);
+    finished = λ rcb srcb n t whole grow. quietly_then 1 s t (with_finished n t) grow
+        (grow_within 0 1 t (with_finished n t) (omega arith) (finished_grows n t));
+  };
+  restated = restated_grows s;
+  left = λ p t grow. whole_grows s t (record t { whole = filter p t.whole }) (some_still p t.whole) grow refl refl;
+  rerouted = λ p node t named grow. let change = changed_file p (with_new_destination node) in
+      whole_grows s t (record t { whole = map change t.whole })
+      (all_still change (changed_still p (with_new_destination node) (rerouted_still node named))
+      t.whole) grow refl refl;
+}
 
-  pub record_grows : (l : ℕ) (i : Item) (c : Customer) → FilesGrow (data_in i) c.spool (after_record l i c).spool
-  record_grows l i c =
-      record_so (FilesGrow 0 c.spool) (λ j. FilesGrow (data_in j) c.spool) (grow_files c.spool) names commands l i c
-      (unchanged c.spool)
+pub record_grows : (l : ℕ) (i : Item) (c : Customer) → FilesGrow (data_in i) c.spool (after_record l i c).spool
+record_grows l i c =
+    record_so (FilesGrow 0 c.spool) (λ j. FilesGrow (data_in j) c.spool) (grow_files c.spool) l i c
+    (unchanged c.spool)
 
-  pub all_grow : (l : ℕ) (items : List Item) (c : Customer)
-      → FilesGrow (data_count items) c.spool (all_acted l items c).customer.spool
-  all_grow l [] c = unchanged c.spool
-  all_grow l (i ∷ is) c =
-      let later = all_acted l is (after_record l i c) in
-      let grow = all_grow l is (after_record l i c) in
-      elim (ends_session i) as (λ b. FilesGrow (data_count (i ∷ is)) c.spool (ended_or b c later).customer.spool) [
-        | true ↦ grow_within 0 (data_count (i ∷ is)) c.spool c.spool (omega arith) (unchanged c.spool)
-        | false ↦ grow_then (data_in i) (data_count is) c.spool (after_record l i c).spool later.customer.spool
-            (record_grows l i c) grow
-      ]
+pub all_grow : (l : ℕ) (items : List Item) (c : Customer)
+    → FilesGrow (data_count items) c.spool (all_acted l items c).customer.spool
+all_grow l [] c = unchanged c.spool
+all_grow l (i ∷ is) c =
+    let later = all_acted l is (after_record l i c) in
+    let grow = all_grow l is (after_record l i c) in
+    elim (ends_session i) as (λ b. FilesGrow (data_count (i ∷ is)) c.spool (ended_or b c later).customer.spool) [
+      | true ↦ grow_within 0 (data_count (i ∷ is)) c.spool c.spool (omega arith) (unchanged c.spool)
+      | false ↦ grow_then (data_in i) (data_count is) c.spool (after_record l i c).spool later.customer.spool
+          (record_grows l i c) grow
+    ]
 
 -- ---- which partial file it was
 

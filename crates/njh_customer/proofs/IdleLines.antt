@@ -3,18 +3,17 @@ use Rattle.njh_customer.proofs.Words
 use Words.{cases_eq, cases_Bool, cases_lt, inl, inr, is_next, ℕ, Bool, true, false, List, length, set, get_or, None}
 use Words.{refl, sym, ap, subst, arith, get_or-map, map-set_same, get_or-set_at, get_or-set_same, get_or-set_other}
 use Words.{length-map, length-set, get_or_past, All-map, Item, CustomerSpool, CustomerEntry, file_in, Receiver}
-use Words.{without_file, is_up, Input, after_end, after_input, with_answer, with_message, InputsKeepUp, KeepsUp, Phase}
-use Words.{Down, Config, LineReply, without_sending, with_senders_by, all_acted, acted_where, with_idle_streams}
-use Words.{replied_to, session_over, session_over_where, session_ended, carried_out, verdict_on, accepted_on}
-use Words.{after_line_input, block_input, behind_records, after_frame, after_signal, Customer, CustomerLine}
-use Words.{no_customer_line, line_at, on_line, in_state, with_notice, with_receiver, with_sender, config_of}
-use Words.{fresh_customer, idle_line, receiver_at, IsIdle, IdleUnlessUp, phase_of, sending_of_reply, with_waiting}
-use Words.{Signal}
-use Rattle.{std.proofs.Common.{◌≡◌, ◌<◌, ◌∙◌}, njh_bisync.specs.Frames.Received, njh_line.specs.LineTable.none}
-use Rattle.{njh_line.specs.declared.verdict.Verdict.Verdict, njh_customer.specs.Customer.sender_at}
-use Rattle.njh_customer.proofs.{FileListLaws.copies, LineWalks.{StaysOnLines, record_on_lines}}
-use Rattle.njh_customer.proofs.{RecordsDo.acted_where_so, ReplyLaws.reply_lasting, StepWalks.frame_holds}
-use Rattle.njh_customer.proofs.StepWalks.{signal_holds}
+use Words.{without_file, is_up, Input, after_end, after_input, with_answer, with_message, KeepsUp, Phase, Down, Config}
+use Words.{LineReply, without_sending, with_senders_by, all_acted, acted_where, with_idle_streams, replied_to}
+use Words.{session_over, session_over_where, session_ended, carried_out, verdict_on, accepted_on, after_line_input}
+use Words.{block_input, after_records, after_frame, after_signal, Customer, CustomerLine, no_customer_line, line_at}
+use Words.{on_line, in_state, with_notice, with_receiver, with_sender, config_of, fresh_customer, idle_line}
+use Words.{receiver_at, IsIdle, IdleUnlessUp, phase_of, sending_of_reply, with_waiting, Signal}
+use Rattle.{std.proofs.Common.{◌≡◌, ◌<◌, ◌∙◌}, njh_bisync.specs.Frames.Received, njh_line.proofs.UpLaws.inputs_keep_up}
+use Rattle.{njh_line.specs.{LineTable.none, declared.verdict.Verdict.Verdict}, njh_customer.proofs.FileListLaws.copies}
+use Rattle.njh_customer.proofs.{LineWalks.{StaysOnLines, record_on_lines}, RecordsDo.acted_where_so}
+use Rattle.njh_customer.proofs.{ReplyLaws.reply_lasting, StepWalks.{frame_holds, signal_holds}}
+use Rattle.njh_customer.specs.Customer.{sender_at}
 use Rattle.njh_bisync.specs.declared.frame.Control.TheVariants as control
 use Rattle.njh_stream.specs.declared.receiver.Receiver.TheVariants as receiver
 use Rattle.njh_stream.specs.declared.sender.Sender.TheVariants as sender
@@ -181,7 +180,7 @@ carried_rests l v c rest going_on up =
 
 -- ---- what comes on a line
 
-module _ (keep : InputsKeepUp) (l : ℕ) (came : Input) (c : Customer) (there : l < length c.lines)
+module _ (l : ℕ) (came : Input) (c : Customer) (there : l < length c.lines)
     (rest : IdleUnlessUp c.lines) where
   abbrev before : CustomerLine
   before = line_at l c.lines
@@ -193,7 +192,7 @@ module _ (keep : InputsKeepUp) (l : ℕ) (came : Input) (c : Customer) (there : 
   accepted = accepted_on l came c
 
   keeps : KeepsUp before.state.config came before.state.session
-  keeps = keep before.state.config before.state.session came
+  keeps = inputs_keep_up before.state.config before.state.session came
 
   accepted_phase : is_up (phase_of (line_at l accepted.lines)) ≡ is_up after
   accepted_phase = ap (λ x. is_up (phase_of x)) (get_or-set_same c.lines l
@@ -221,36 +220,35 @@ module _ (keep : InputsKeepUp) (l : ℕ) (came : Input) (c : Customer) (there : 
   input_rests = carried_rests l (verdict_on l came c) accepted accepted_others accepted_rests
       (λ next. accepted_phase ∙ keeps.next next)
 
-  -- records act on a line that is up, so it is up behind them
+  -- records act on a line that is up, so it is up after them
   acting_rests : (acts : Bool) (items : List Item) → (verdict_on l came c).acts ≡ acts
       → (let a = acted_where acts l items accepted in IdleUnlessUp
-      (behind_records a.ended l (verdict_on l came c) a.customer).after.lines)
+      (after_records a.ended l (verdict_on l came c) a.customer).after.lines)
   acting_rests false items e = input_rests
   acting_rests true items e =
       let a = all_acted l items accepted in
       let acted = acted_where_so l (λ d. UpAndRest l d.lines) true items
       (λ i at. record_on_lines l (UpAndRest l) (acting l) i) accepted (accepted_up (keeps.acts e)) in
       let rest = others l a.customer.lines acted.rest in
-      elim (a.ended) as (λ ended. IdleUnlessUp (behind_records ended l (verdict_on l came c) a.customer).after.lines) [
+      elim (a.ended) as (λ ended. IdleUnlessUp (after_records ended l (verdict_on l came c) a.customer).after.lines) [
         | true ↦ ended_rests l a.customer rest
         | false ↦ carried_rests l (verdict_on l came c) a.customer rest (λ _. acted.rest) (λ _. acted.up)
       ]
 
 -- ---- a frame, and a signal
 
-pub idle_by_frame : InputsKeepUp → (l : ℕ) (x : Received) (c : Customer) → IdleUnlessUp c.lines
+pub idle_by_frame : (l : ℕ) (x : Received) (c : Customer) → IdleUnlessUp c.lines
     → IdleUnlessUp (after_frame l x c).after.lines
-idle_by_frame keep l x c rest = frame_holds l c (λ items s. IdleUnlessUp s.after.lines) (record {
+idle_by_frame l x c rest = frame_holds l c (λ items s. IdleUnlessUp s.after.lines) (record {
   none = λ items. rest;
-  input = λ came there. input_rests keep l came c there rest;
-  block = λ b there. acting_rests keep l (block_input b) c there rest
-      (verdict_on l (block_input b) c).acts b.items refl;
+  input = λ came there. input_rests l came c there rest;
+  block = λ b there. acting_rests l (block_input b) c there rest (verdict_on l (block_input b) c).acts b.items refl;
 }) x
 
-pub idle_by_signal : InputsKeepUp → (l : ℕ) (x : Signal) (c : Customer) → IdleUnlessUp c.lines
+pub idle_by_signal : (l : ℕ) (x : Signal) (c : Customer) → IdleUnlessUp c.lines
     → IdleUnlessUp (after_signal l x c).after.lines
-idle_by_signal keep l x c rest =
-    signal_holds l c (λ s. IdleUnlessUp s.after.lines) rest (λ came there. input_rests keep l came c there rest) x
+idle_by_signal l x c rest =
+    signal_holds l c (λ s. IdleUnlessUp s.after.lines) rest (λ came there. input_rests l came c there rest) x
 
 -- ---- a customer that was just opened
 

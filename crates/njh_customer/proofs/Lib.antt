@@ -15,7 +15,6 @@ pub mod OutgoingLaws
 pub mod ActingMoves
 pub mod SendingMoves
 pub mod DoingLaws
-pub mod BlocksCarry
 pub mod EventMoves
 pub mod StreamMoveLaws
 pub mod SurvivingLaws

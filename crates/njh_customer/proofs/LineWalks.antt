@@ -7,8 +7,8 @@ use Words.{message_outcome, without_file, with_answer, with_message, Phase, Conf
 use Words.{without_sending, with_senders_by, Customer, CustomerLine, no_customer_line, line_at, on_line, in_state}
 use Words.{with_notice, receiver_at, with_receiver, with_sender, all_said, goes, with_answer_on, with_message_to}
 use Words.{with_notice_to, with_waiting}
-use Rattle.{std.proofs.Common.{◌≡◌, ◌∷◌, ◌∙◌}, njh_customer.{specs.Customer.sender_at, proofs.FileListLaws.as_many}}
-use Rattle.njh_customer.proofs.{FileListLaws.each_same, RecordsDo.{RecordDoes, record_does}}
+use Rattle.{std.proofs.Common.{◌≡◌, ◌∷◌, ◌∙◌}, njh_customer.proofs.FileListLaws.{as_many, each_same}}
+use Rattle.njh_customer.{proofs.RecordsDo.{RecordDoes, record_does}, specs.Customer.sender_at}
 use Rattle.njh_customer.proofs.RecordsDo as does
 
 -- ---- what waits

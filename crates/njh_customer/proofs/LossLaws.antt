@@ -7,13 +7,14 @@ use Words.{partial_numbered, State, Ready, Refused, CustomerEntry, all_ended, fi
 use Words.{may_go_again, ready, spool_after_session, tried_again, coming_file, Sender, is_up, cell, end, hang_up}
 use Words.{after_input, Phase, Down, Up, Config, Session, silent, with_idle_streams, session_over, session_over_where}
 use Words.{replied_to, carried_out, verdict_on, accepted_on, after_line_input, Customer, CustomerLine, no_customer_line}
-use Words.{line_at, in_state, IsInOrder, IsIdle, StaysInOrder, LossesLeaveFiles, phase_of, at_rest, state_at_rest}
-use Words.{losses, after_losses, with_file_state, Part, rest_at, rest_on, OwnSignal, alone_run, event_run, Lost}
+use Words.{line_at, in_state, IsInOrder, IsIdle, LossesLeaveFiles, phase_of, at_rest, state_at_rest, losses}
+use Words.{after_losses, with_file_state, Part, rest_at, rest_on, OwnSignal, alone_run, event_run, Lost}
 use Rattle.{std.proofs.Common.{◌≡◌, ◌<◌, ◌≤◌, ◌==◌, ◌&&◌, ◌∷◌, ◌∙◌}, njh_spool.specs.declared.State.TheVariants.Sending}
 use Rattle.njh_line.specs.{LineTable.{table_outcome, none}, declared.verdict.Verdict.Verdict}
-use Rattle.njh_customer.{specs.Alone.after_signal, proofs.{StepsGrow.set_down, FileListLaws.{each_same, from_where}}}
-use Rattle.njh_customer.proofs.{FileListLaws.set_one, IdleLines.{receivers_idle, senders_idle}}
-use Rattle.njh_customer.proofs.{OutgoingLaws.{on_line_senders, stream_is}, Restated.{ended_where, without_open_same}}
+use Rattle.njh_customer.proofs.{FileListLaws.{each_same, from_where, set_one}, IdleLines.{receivers_idle, senders_idle}}
+use Rattle.njh_customer.proofs.{OrderLaws.stays_in_order, OutgoingLaws.{on_line_senders, stream_is}}
+use Rattle.njh_customer.proofs.{Restated.{ended_where, without_open_same}, StepsGrow.set_down}
+use Rattle.njh_customer.specs.Alone.{after_signal}
 use Rattle.njh_stream.specs.declared.sender.Sender.TheVariants as sender
 use Rattle.njh_line.specs.LineTable as input
 use Rattle.njh_line.specs.declared.verdict.LineReply.TheVariants as reply
@@ -210,9 +211,9 @@ below P n m few here earlier = elim (cases_lt m n) [
   | inr past ↦ let same : n ≡ m = omega arith in subst P same here
 ]
 
-all_lost : StaysInOrder → (n : ℕ) (p : Part) → n ≤ length p.customer.lines → IsInOrder p.customer
+all_lost : (n : ℕ) (p : Part) → n ≤ length p.customer.lines → IsInOrder p.customer
     → LinesLost n p (alone_run p (losses n)).after
-all_lost stays zero p few order = record {
+all_lost zero p few order = record {
   order = order;
   files = refl;
   lines = refl;
@@ -221,11 +222,11 @@ all_lost stays zero p few order = record {
   rests = λ m none. absurd (omega (arith, none));
   still_none = λ m there. there;
 }
-all_lost stays (suc l) p few order =
+all_lost (suc l) p few order =
     let x = (event_run p (OwnSignal Lost l)).after in
     let y = (alone_run x (losses l)).after in
     let one = signal_lost l p.customer order (omega arith) in
-    let later = all_lost stays l x (omega arith) (stays.events p (OwnSignal Lost l) order) in
+    let later = all_lost l x (omega arith) (stays_in_order.events p (OwnSignal Lost l) order) in
     record {
       order = later.order;
       files = later.files ∙ one.files;
@@ -263,10 +264,10 @@ module _ (c : Customer) (order : IsInOrder c) (idle : (l : ℕ) → l < length c
 
 -- ---- the loss of all lines
 
-pub losses_leave : StaysInOrder → LossesLeaveFiles
-losses_leave stays p order =
+pub losses_leave : LossesLeaveFiles
+losses_leave p order =
     let c = (after_losses p).customer in
-    let lost = all_lost stays (length p.customer.lines) p (omega arith) order in
+    let lost = all_lost (length p.customer.lines) p (omega arith) order in
     let down : (l : ℕ) → l < length c.lines → phase_of (line_at l c.lines) ≡ Down = λ l there. lost.down l
     (omega arith) in
     let idle : (l : ℕ) → l < length c.lines → IsIdle (line_at l c.lines) = λ l there. lost.order.idle l there

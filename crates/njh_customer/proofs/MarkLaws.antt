@@ -1,12 +1,12 @@
 -- The lines that are marked as up are those that are up.
 use Rattle.njh_customer.proofs.Words
 use Words.{ℕ, Bool, true, false, not, List, map, set, get_or, refl, sym, ap, set-set, get_or-map, map-set_same, map-set}
-use Words.{set-get_or, map-map, CustomerEntry, Receiver, CommandsMoveFilesSo, is_up, Input, after_end, after_input}
-use Words.{InputsKeepUp, KeepsUp, Phase, Config, acted_where, with_idle_streams, with_raised_line, goes_up, replied_to}
-use Words.{session_over_where, session_ended, carried_out, verdict_on, accepted_on, after_line_input, block_input}
-use Words.{behind_records, after_block, Customer, CustomerLine, IsMarked, no_customer_line, line_at, on_line, in_state}
-use Words.{config_of, fresh_customer, idle_line, MarksAreRight, rest_on, sending_of_reply}
-use Rattle.{std.proofs.Common.{◌≡◌, ◌&&◌, ◌∙◌}, njh_block.specs.Blocks.Block}
+use Words.{set-get_or, map-map, CustomerEntry, Receiver, is_up, Input, after_end, after_input, KeepsUp, Phase, Config}
+use Words.{acted_where, with_idle_streams, with_raised_line, goes_up, replied_to, session_over_where, session_ended}
+use Words.{carried_out, verdict_on, accepted_on, after_line_input, block_input, after_records, after_block, Customer}
+use Words.{CustomerLine, IsMarked, no_customer_line, line_at, on_line, in_state, config_of, fresh_customer, idle_line}
+use Words.{MarksAreRight, rest_on, sending_of_reply}
+use Rattle.{std.proofs.Common.{◌≡◌, ◌&&◌, ◌∙◌}, njh_block.specs.Blocks.Block, njh_line.proofs.UpLaws.inputs_keep_up}
 use Rattle.{njh_line.specs.declared.verdict.Verdict.Verdict, njh_customer.proofs.ActingMoves.acting_where}
 use Rattle.njh_customer.proofs.{LineWalks.{kept, kepts}, ReplyLaws.reply_lasting, StepWalks.{StaysInFrames, event_so}}
 use Rattle.njh_customer.proofs.StepWalks.{frame_holds, signal_holds, take_so}
@@ -47,7 +47,7 @@ marks_on p q l entry us marked has = at (is_up p) (is_up q) has
     at false true e on = ap (λ xs. set xs l true) marked
     at false false e on = stays false e
 
-module _ (keep : InputsKeepUp) (l : ℕ) (came : Input) (c : Customer) (marked : IsMarked c) where
+module _ (l : ℕ) (came : Input) (c : Customer) (marked : IsMarked c) where
   abbrev before : Phase
   before = (line_at l c.lines).state.session.phase
 
@@ -55,7 +55,7 @@ module _ (keep : InputsKeepUp) (l : ℕ) (came : Input) (c : Customer) (marked :
   after = (after_input came (line_at l c.lines).state).session.phase
 
   keeps : KeepsUp (line_at l c.lines).state.config came (line_at l c.lines).state.session
-  keeps = keep (line_at l c.lines).state.config (line_at l c.lines).state.session came
+  keeps = inputs_keep_up (line_at l c.lines).state.config (line_at l c.lines).state.session came
 
   has_mark : get_or (ups c.lines) l false ≡ is_up before
   has_mark = get_or-map is_line_up c.lines l no_customer_line
@@ -69,7 +69,7 @@ module _ (keep : InputsKeepUp) (l : ℕ) (came : Input) (c : Customer) (marked :
       ap (λ (e : CustomerEntry). set e.up l false) entry ∙ marks_over (goes_up before after) l c.entry ∙ ap
       (λ us. set us l false) marked
 
-  -- behind the records
+  -- after the records
   carried_marked : (v : Verdict) (d : Customer) → d.entry ≡ (accepted_on l came c).entry
       → kepts d.lines ≡ kepts (accepted_on l came c).lines
       → v.ended ≡ (verdict_on l came c).ended → IsMarked (carried_out l v d).after
@@ -102,36 +102,35 @@ module _ (keep : InputsKeepUp) (l : ℕ) (came : Input) (c : Customer) (marked :
 
 -- ---- a frame, and a signal
 
-module _ (keep : InputsKeepUp) (commands : CommandsMoveFilesSo) where
-  block_marked : (l : ℕ) (b : Block) (c : Customer) → IsMarked c → IsMarked (after_block l b c).after
-  block_marked l b c marked =
-      let v = verdict_on l (block_input b) c in
-      let a = acted_where v.acts l b.items (accepted_on l (block_input b) c) in
-      let acting = acting_where commands v.acts l b.items (accepted_on l (block_input b) c) in
-      elim (a.ended) as (λ ended. IsMarked (behind_records ended l v a.customer).after) [
-        | true ↦ ended_marked keep l (block_input b) c marked a.customer acting.entry acting.kept
-        | false ↦ carried_marked keep l (block_input b) c marked v a.customer acting.entry acting.kept refl
-      ]
+block_marked : (l : ℕ) (b : Block) (c : Customer) → IsMarked c → IsMarked (after_block l b c).after
+block_marked l b c marked =
+    let v = verdict_on l (block_input b) c in
+    let a = acted_where v.acts l b.items (accepted_on l (block_input b) c) in
+    let acting = acting_where v.acts l b.items (accepted_on l (block_input b) c) in
+    elim (a.ended) as (λ ended. IsMarked (after_records ended l v a.customer).after) [
+      | true ↦ ended_marked l (block_input b) c marked a.customer acting.entry acting.kept
+      | false ↦ carried_marked l (block_input b) c marked v a.customer acting.entry acting.kept refl
+    ]
 
-  frames_marked : StaysInFrames IsMarked
-  frames_marked = record {
-    by_frame = λ l x c marked. frame_holds l c (λ items s. IsMarked s.after) (record {
-      none = λ items. marked;
-      input = λ came there. input_marked keep l came c marked;
-      block = λ b there. block_marked l b c marked;
-    }) x;
-    by_signal = λ l x c marked. signal_holds l c (λ s. IsMarked s.after) marked
-        (λ came there. input_marked keep l came c marked) x;
-    by_routes = λ routes c marked. marked;
-  }
+frames_marked : StaysInFrames IsMarked
+frames_marked = record {
+  by_frame = λ l x c marked. frame_holds l c (λ items s. IsMarked s.after) (record {
+    none = λ items. marked;
+    input = λ came there. input_marked l came c marked;
+    block = λ b there. block_marked l b c marked;
+  }) x;
+  by_signal = λ l x c marked. signal_holds l c (λ s. IsMarked s.after) marked
+      (λ came there. input_marked l came c marked) x;
+  by_routes = λ routes c marked. marked;
+}
 
 fresh_marked : (entry : CustomerEntry) → IsMarked (fresh_customer entry)
 fresh_marked entry = sym (map-map is_line_up (λ line. idle_line (config_of entry line) line.streams) entry.lines)
 
-pub marks_right : InputsKeepUp → CommandsMoveFilesSo → MarksAreRight
-marks_right keep commands = record {
+pub marks_right : MarksAreRight
+marks_right = record {
   fresh = fresh_marked;
-  events = event_so IsMarked (frames_marked keep commands);
-  takes = λ p l piece marked. take_so IsMarked (frames_marked keep commands).by_frame
+  events = event_so IsMarked frames_marked;
+  takes = λ p l piece marked. take_so IsMarked frames_marked.by_frame
       (rest_on l p) p.customer l piece marked;
 }

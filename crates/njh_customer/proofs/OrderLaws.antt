@@ -1,26 +1,22 @@
 -- A customer is in order when it is opened, and stays so whatever comes: the walk over the steps of which that is made.
 use Rattle.njh_customer.proofs.Words
-use Words.{ℕ, Bool, true, false, List, [], map, refl, sym, ap, subst, map-set_same, All-push, map-map, HasHeaders}
-use Words.{CustomerSpool, WholeFile, is_number, with_arrived, CustomerEntry, RouteEntry, stream_at, AreTied, Receiver}
-use Words.{CommandsMoveFilesSo, ReroutesNameNodes, LineState, after_end, after_input, InputsKeepUp, Phase, Config}
-use Words.{after_record, with_idle_streams, with_raised_line, goes_up_by, replied_to, session_over, accepted_on}
+use Words.{ℕ, Bool, true, false, List, map, refl, sym, ap, subst, map-set_same, All-push, map-map, HasHeaders}
+use Words.{WholeFile, is_number, with_arrived, CustomerEntry, Receiver, LineState, after_end, after_input, Phase}
+use Words.{Config, after_record, with_idle_streams, with_raised_line, goes_up_by, replied_to, session_over, accepted_on}
 use Words.{after_frame, after_signal, Customer, CustomerLine, no_customer_line, line_at, on_line, in_state, config_of}
 use Words.{fresh_customer, idle_line, AreApart, AreBeingSent, AreSetUp, IdleUnlessUp, IsInOrder, IsWithinQuota}
-use Words.{StaysInOrder, customer_with_last_file, customer_with_routes, outgoing, with_arrival, Part, OwnEvent}
-use Words.{event_run, sending_of_reply, IsCoherent, streams_to_hub, Signal}
-use Rattle.{std.proofs.Common.{◌≡◌, ◌∙◌}, njh_bisync.specs.Frames.Received}
-use Rattle.{njh_spool.specs.declared.State.TheVariants.Sending, njh_customer.proofs.ActingMoves.acts_so}
-use Rattle.njh_customer.proofs.CoherenceLaws.{EndsTie, NothingUnties, RecordsKeep, fresh_coherent}
-use Rattle.njh_customer.proofs.FileLimits.{FreeNumbers, apart_arrived, apart_files, apart_fresh, apart_routes}
-use Rattle.njh_customer.proofs.FileLimits.{whole_distinct, within_fresh, within_routes, within_files}
+use Words.{StaysInOrder, customer_with_last_file, outgoing, with_arrival, sending_of_reply, IsCoherent, streams_to_hub}
+use Rattle.{std.proofs.Common.{◌≡◌, ◌∙◌}, njh_spool.specs.declared.State.TheVariants.Sending}
+use Rattle.{njh_stream.proofs.TiedLaws.untouched, njh_customer.proofs.ActingMoves.acts_so}
+use Rattle.njh_customer.proofs.{CoherenceLaws.fresh_coherent, FileLimits.{apart_arrived, apart_files, apart_fresh}}
+use Rattle.njh_customer.proofs.FileLimits.{apart_routes, whole_distinct, within_fresh, within_routes, within_files}
 use Rattle.njh_customer.proofs.{IdleLines.{idle_by_frame, idle_when_opened, idle_by_signal}, LineWalks.acted_keeps}
 use Rattle.njh_customer.proofs.{LineWalks.{kept, kepts, on_line_seen}, OutgoingLaws.{of_parts, on_line_senders}}
 use Rattle.njh_customer.proofs.{ReplyLaws.reply_lasting, RoutesMoves.coherent_given, SentByLines.sent_fresh}
 use Rattle.njh_customer.proofs.{SentByLines.{sent_over, sent_replied, sent_routes}, SentByRecords.arrival_carries}
-use Rattle.njh_customer.proofs.{SentByRecords.{carried, sent_record}, SessionLaws.coherent_by_frame}
-use Rattle.njh_customer.proofs.{SessionLaws.coherent_by_signal, SpoolWalks.files_in_steps, StepWalks.event_so}
-use Rattle.njh_customer.proofs.StepWalks.{StaysInSteps, frame_so, signal_so}
-use Rattle.njh_stream.specs.declared.receiver.Receiver.TheVariants as receiver
+use Rattle.njh_customer.proofs.{SentByRecords.{carried, sent_record}, SessionLaws.coherent_steps}
+use Rattle.njh_customer.proofs.{SpoolWalks.files_in_steps, StepWalks.{event_so, StaysInSteps, StaysInFrames, frame_so}}
+use Rattle.njh_customer.proofs.StepWalks.{signal_so}
 
 -- ---- how the lines are set up
 
@@ -51,26 +47,25 @@ set_still d c lines entry so = lines ∙ so ∙ sym entry
 fresh_set_up : (entry : CustomerEntry) → AreSetUp (fresh_customer entry)
 fresh_set_up entry = map-map set_up (λ line. idle_line (config_of entry line) line.streams) entry.lines
 
-module _ (commands : CommandsMoveFilesSo) where
-  set_up_steps : StaysInSteps AreSetUp
-  set_up_steps = record {
-    session = record {
-      judged = λ l came c there.
-          set_still (accepted_on l came c) c (on_line_seen set_up l (in_state (after_input came)) c.lines (λ x. refl))
-          (raised_set_up (goes_up_by l came c) l c.entry);
-      answered = λ l r c there. let sent = (sending_of_reply c.entry l r c.spool (line_at l c.lines)).line in
-          set_still (replied_to l r c).after c (map-set_same set_up c.lines l sent no_customer_line
-          (ap (λ (p : Config × Phase × ℕ × List Receiver). (p.0, p.2))
-          (reply_lasting c.entry l r c.spool (line_at l c.lines)))) refl;
-      ended = λ l c there. let lines = on_line l (in_state after_end) c.lines in
-          set_still (record c { lines = lines }) c (on_line_seen set_up l (in_state after_end) c.lines (λ x. refl))
-          refl;
-      over = λ l c there. set_still (session_over l c) c (on_line_seen set_up l with_idle_streams c.lines (λ x. refl))
-          refl;
-    };
-    acted = λ l i c there. let d = after_record l i c in
-        set_still d c (kept_set_ups d.lines c.lines (acted_keeps l i c)) (ap set_up_by (acts_so commands l i c).entry);
-  }
+set_up_steps : StaysInSteps AreSetUp
+set_up_steps = record {
+  session = record {
+    judged = λ l came c there.
+        set_still (accepted_on l came c) c (on_line_seen set_up l (in_state (after_input came)) c.lines (λ x. refl))
+        (raised_set_up (goes_up_by l came c) l c.entry);
+    answered = λ l r c there. let sent = (sending_of_reply c.entry l r c.spool (line_at l c.lines)).line in
+        set_still (replied_to l r c).after c (map-set_same set_up c.lines l sent no_customer_line
+        (ap (λ (p : Config × Phase × ℕ × List Receiver). (p.0, p.2))
+        (reply_lasting c.entry l r c.spool (line_at l c.lines)))) refl;
+    ended = λ l c there. let lines = on_line l (in_state after_end) c.lines in
+        set_still (record c { lines = lines }) c (on_line_seen set_up l (in_state after_end) c.lines (λ x. refl))
+        refl;
+    over = λ l c there. set_still (session_over l c) c (on_line_seen set_up l with_idle_streams c.lines (λ x. refl))
+        refl;
+  };
+  acted = λ l i c there. let d = after_record l i c in
+      set_still d c (kept_set_ups d.lines c.lines (acted_keeps l i c)) (ap set_up_by (acts_so l i c).entry);
+}
 
 -- ---- files
 
@@ -84,9 +79,9 @@ session_outgoing l f c = ap (of_parts c.spool.whole c.spool.arrived)
 abbrev AreSent : Customer → Type 0
 AreSent c = AreApart c.spool × AreBeingSent (outgoing c)
 
-sent_steps : FreeNumbers → ReroutesNameNodes → CommandsMoveFilesSo → StaysInSteps AreSent
-sent_steps free names commands =
-    let apart = files_in_steps AreApart (apart_files free) names commands in
+sent_steps : StaysInSteps AreSent
+sent_steps =
+    let apart = files_in_steps AreApart apart_files in
     record {
       session = record {
         judged = λ l came c there so. (so.0, subst AreBeingSent (sym (session_outgoing l (after_input came) c)) so.1);
@@ -94,70 +89,55 @@ sent_steps free names commands =
         ended = λ l c there so. (so.0, subst AreBeingSent (sym (session_outgoing l after_end c)) so.1);
         over = λ l c there so. (apart.session.over l c there so.0, sent_over l c there so.1);
       };
-      acted = λ l i c there so. let behind = apart.acted l i c there so.0 in (
-        behind,
-        sent_record commands l i c (whole_distinct c.spool so.0)
-            (whole_distinct (after_record l i c).spool behind) so.1,
+      acted = λ l i c there so. let after = apart.acted l i c there so.0 in (
+        after,
+        sent_record l i c (whole_distinct c.spool so.0) (whole_distinct (after_record l i c).spool after) so.1,
       );
     }
 
 -- ---- all of it
 
--- what is so of the lines that aren't up holds between frames alone, and so has no part in the walk over a frame's
--- steps
-in_order : (c : Customer) → IsCoherent c → AreSent c → IsWithinQuota c.spool → AreSetUp c → IdleUnlessUp c.lines
-    → IsInOrder c
-in_order c coherent sent within lines idle =
-    record { coherent = coherent; apart = sent.0; within = within; sent = sent.1; idle = idle; set_up = lines }
+-- Each part is carried by the walk over the steps, but for what is so of the lines that aren't up: that holds between
+-- frames alone, and so has no part in it.
+in_order : (c d : Customer) → ((I : Customer → Type 0) → StaysInSteps I → I c → I d) → IdleUnlessUp d.lines
+    → IsInOrder c → IsInOrder d
+in_order c d walk idle order =
+    let sent = walk AreSent sent_steps (order.apart, order.sent) in
+    record {
+      coherent = walk IsCoherent coherent_steps order.coherent;
+      apart = sent.0;
+      within = walk (λ x. IsWithinQuota x.spool) (files_in_steps IsWithinQuota within_files) order.within;
+      sent = sent.1;
+      idle = idle;
+      set_up = walk AreSetUp set_up_steps order.set_up;
+    }
 
-module _ (keep_up : InputsKeepUp) (free : FreeNumbers) (untied : NothingUnties) (ends : EndsTie) (records : RecordsKeep)
-    (names : ReroutesNameNodes) (commands : CommandsMoveFilesSo) where
-  within : StaysInSteps (λ c. IsWithinQuota c.spool)
-  within = files_in_steps IsWithinQuota within_files names commands
-
-  order_by_frame : (l : ℕ) (x : Received) (c : Customer) → IsInOrder c → IsInOrder (after_frame l x c).after
-  order_by_frame l x c order =
-      in_order (after_frame l x c).after (coherent_by_frame untied ends records l x c order.coherent)
-      (frame_so AreSent (sent_steps free names commands) l x c (order.apart, order.sent))
-      (frame_so (λ d. IsWithinQuota d.spool) within l x c order.within)
-      (frame_so AreSetUp (set_up_steps commands) l x c order.set_up) (idle_by_frame keep_up l x c order.idle)
-
-  order_by_signal : (l : ℕ) (x : Signal) (c : Customer) → IsInOrder c → IsInOrder (after_signal l x c).after
-  order_by_signal l x c order =
-      in_order (after_signal l x c).after (coherent_by_signal untied ends records l x c order.coherent)
-      (signal_so AreSent (sent_steps free names commands) l x c (order.apart, order.sent))
-      (signal_so (λ d. IsWithinQuota d.spool) within l x c order.within)
-      (signal_so AreSetUp (set_up_steps commands) l x c order.set_up) (idle_by_signal keep_up l x c order.idle)
-
+order_in_frames : StaysInFrames IsInOrder
+order_in_frames = record {
+  by_frame = λ l x c order. in_order c (after_frame l x c).after (λ I keep. frame_so I keep l x c)
+      (idle_by_frame l x c order.idle) order;
+  by_signal = λ l x c order. in_order c (after_signal l x c).after (λ I keep. signal_so I keep l x c)
+      (idle_by_signal l x c order.idle) order;
   -- new routes leave the lines, and how these are set up
-  order_by_routes : (routes : List RouteEntry) (c : Customer) → IsInOrder c → IsInOrder (customer_with_routes routes c)
-  order_by_routes routes c order = record {
-    coherent = coherent_given untied routes c order.coherent;
+  by_routes = λ routes c order. record {
+    coherent = coherent_given routes c order.coherent;
     apart = apart_routes routes c order.apart;
     within = within_routes routes c order.within;
     sent = sent_routes routes c order.sent;
     idle = order.idle;
     set_up = order.set_up;
-  }
-
-  order_stays : (p : Part) (event : OwnEvent) → IsInOrder p.customer → IsInOrder (event_run p event).after.customer
-  order_stays = event_so IsInOrder
-      (record { by_frame = order_by_frame; by_signal = order_by_signal; by_routes = order_by_routes })
-
--- where no stream is about a file and none is partial, nothing need agree, as the crate of streams says it
-abbrev pub NothingIsTied : Type 0
-NothingIsTied = (lines : List (List Receiver)) (s : CustomerSpool) → ((l k : ℕ) → stream_at l k lines ≡ receiver.Idle)
-    → s.partial ≡ [] → AreTied lines s
+  };
+}
 
 -- a whole file that is put back
-put_back : NothingUnties → (f : WholeFile) (c : Customer) → is_number f.number c.spool ≡ false
+put_back : (f : WholeFile) (c : Customer) → is_number f.number c.spool ≡ false
     → HasHeaders f.kind f.records → (f.state ≡ Sending → ⊥) → IsWithinQuota (with_arrived f c.spool) → IsInOrder c
     → IsInOrder (customer_with_last_file f c)
-put_back untied f c free has waits within order =
+put_back f c free has waits within order =
     let apart = apart_arrived f c.spool free order.apart in
     record {
       coherent = record {
-        tied = untied (streams_to_hub c.lines) c.spool (with_arrived f c.spool) refl order.coherent.tied;
+        tied = untouched (streams_to_hub c.lines) c.spool (with_arrived f c.spool) refl order.coherent.tied;
         streamed = order.coherent.streamed;
         headers = All-push (λ (g : WholeFile). HasHeaders g.kind g.records) c.spool.whole f order.coherent.headers has;
         quota = order.coherent.quota;
@@ -172,18 +152,17 @@ put_back untied f c free has waits within order =
       set_up = order.set_up;
     }
 
-pub stays_in_order : InputsKeepUp → FreeNumbers → NothingIsTied → NothingUnties → EndsTie → RecordsKeep
-    → ReroutesNameNodes → CommandsMoveFilesSo → StaysInOrder
-stays_in_order keep_up free at_rest untied ends records names commands = record {
+pub stays_in_order : StaysInOrder
+stays_in_order = record {
   opened = λ entry few. record {
-    coherent = fresh_coherent entry few at_rest;
+    coherent = fresh_coherent entry few;
     apart = apart_fresh entry;
     within = within_fresh entry;
     sent = sent_fresh entry;
     idle = idle_when_opened entry;
     set_up = fresh_set_up entry;
   };
-  events = order_stays keep_up free untied ends records names commands;
-  routes = order_by_routes keep_up free untied ends records names commands;
-  put_back = put_back untied;
+  events = event_so IsInOrder order_in_frames;
+  routes = order_in_frames.by_routes;
+  put_back = put_back;
 }

@@ -6,8 +6,8 @@ use Words.{LineReply, without_sending, replied_to, with_idle_streams, session_ov
 use Words.{no_customer_line, line_at, on_line, with_sender, nowhere, onward, without_files, Over, LeadsByMoves}
 use Words.{Outgoing, outgoing, streams_from_hub, sender_on, with_sender_on, with_files, sending_of_reply, is_next}
 use Rattle.{std.proofs.Common.{◌≡◌, ◌∷◌, ◌∙◌}, njh_stream.specs.declared.sender.Sender.TheVariants.Idle}
-use Rattle.njh_customer.{specs.Customer.sender_at, proofs.LineWalks.{StaysReceiving, on_line_seen, seen_receiving}}
-use Rattle.njh_customer.proofs.Restated.{ended_restated, without_open_same}
+use Rattle.njh_customer.proofs.{LineWalks.{StaysReceiving, on_line_seen, seen_receiving}, Restated.ended_restated}
+use Rattle.njh_customer.{proofs.Restated.without_open_same, specs.Customer.sender_at}
 use Rattle.njh_stream.specs.declared.sender.Sender.TheVariants as sender
 use Rattle.njh_line.specs.declared.verdict.LineReply.TheVariants as reply
 

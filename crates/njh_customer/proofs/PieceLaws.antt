@@ -3,9 +3,8 @@ use Rattle.njh_customer.proofs.Words
 use Words.{ℕ, suc, List, [], length, take, set, refl, ap, sym, arith, append_assoc, set-set, get_or-set_same}
 use Words.{length-set, set-get_or, Rest, Nothing, Customer, byte_step, Taking, or_later, take_step, LineRun, bytes_run}
 use Words.{sent_on, sent_first, CutsAreLike, FirstBytesSendFirst, NoBytesDoNothing, StepsFollowBytes, Part, rest_on}
-use Words.{OwnEvent, Run, alone_run, ℕ, suc, List, [], length, drop, Option, Some, None, refl, ap, sym, arith}
-use Words.{add_assoc, rest_step, stop_or, Fed, feed_outcome, Rest, Customer, acted_on, Taking, later_by, or_later}
-use Words.{take_step}
+use Words.{OwnEvent, Run, alone_run, drop, Option, Some, None, add_assoc, rest_step, stop_or, Fed, feed_outcome}
+use Words.{acted_on, later_by}
 use Rattle.{std.proofs.Common.{◌≡◌, ◌+◌, ◌<◌, ◌∷◌, ◌++◌, ◌∙◌, ◌≤◌}, njh_bisync.specs.Frames.Received}
 
 sent_first-assoc : (a b : List (ℕ × List ℕ)) (r : LineRun) → sent_first a (sent_first b r) ≡ sent_first (a ++ b) r

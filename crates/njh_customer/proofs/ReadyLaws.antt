@@ -4,12 +4,13 @@ use Words.{ℕ, Bool, false, not, List, [], length, drop, slice_get, slice_set, 
 use Words.{length-map, length-set, set-get_or, get_or-set_same, Item, CustomerSpool, spool_at, no_spool, CustomerEntry}
 use Words.{customer_marked, entry_marked, with_mark, NamedCustomer, TableFile, HasLine, customer_at, entry_of}
 use Words.{no_customer, LineId, is_up, Input, after_input, after_record, acted_where, all_acted, ended_or, ends_session}
-use Words.{CustomerStep, accepted_on, behind_records, after_block, block_input, carried_out, goes_up_by}
+use Words.{CustomerStep, accepted_on, after_records, after_block, block_input, carried_out, goes_up_by}
 use Words.{after_line_input, with_raised_line, verdict_on, Customer, CustomerLine, customer_with, in_state, line_at}
 use Words.{no_customer_line, on_line, ChangesMarks, ChangesFiles, StepSends, LeavesReady, IsReady, IsThere}
-use Words.{KeepsOtherEntries, customer_of, with_customer, IsCoherent, Shared}
+use Words.{KeepsOtherEntries, customer_of, with_customer, IsCoherent, Shared, replied_to, session_over_where, refl}
 use Rattle.{std.proofs.Common.{◌≡◌, ◌<◌, ◌&&◌, ◌∷◌, ◌∙◌}, njh_block.specs.Blocks.Block}
-use Rattle.{njh_line.specs.declared.verdict.Verdict.Verdict, njh_customer.proofs.CoherenceLaws.Stays}
+use Rattle.{njh_line.specs.declared.verdict.Verdict.Verdict, njh_customer.proofs.SessionLaws.{Stays, input_stays}}
+use Rattle.njh_customer.proofs.SessionLaws.{block_stays, accepted_stays}
 
 -- what leaves a spool to others leaves it so twice
 pub others_twice : (old now new : List CustomerSpool) (c : ℕ) → now ≡ slice_set old c (spool_at c now)
@@ -112,7 +113,7 @@ is_there id shared lines ready = record {
   there = ready.there;
 }
 
--- it is still there behind a step that leaves the tables
+-- it is still there after a step that leaves the tables
 pub still_there : (id : LineId) (old new : Shared) (lines_old lines_new : List CustomerLine) (after : Customer)
     → IsThere id old lines_old → ChangesFiles id.customer old new lines_new after
     → length after.lines ≡ length lines_old → IsThere id new lines_new
@@ -135,17 +136,17 @@ changed_on c old now new lines_now lines_new between then first second = record 
 }
 
 -- what sends a frame from where it was brought
-pub sent_behind : (c : ℕ) (old now new : Shared) (lines_now lines_new : List CustomerLine) (frame : List ℕ)
+sent_after : (c : ℕ) (old now new : Shared) (lines_now lines_new : List CustomerLine) (frame : List ℕ)
     (between : Customer) (then : Customer → CustomerStep) → ChangesMarks c old now lines_now between
     → StepSends c now new lines_new frame (then (customer_of c now lines_now))
     → StepSends c old new lines_new frame (then between)
-sent_behind c old now new lines_now lines_new frame between then first second = record {
+sent_after c old now new lines_now lines_new frame between then first second = record {
   after = changed_on c old now new lines_now lines_new between (λ x. (then x).after) first second.after;
   frame = second.frame ∙ ap (λ x. (then x).frame) first.customer;
 }
 
 -- a step that leaves the customer coherent, with as many lines
-pub made_by : (id : LineId) (old : Shared) (before : List CustomerLine) (new : Shared) (lines : List CustomerLine)
+made_by : (id : LineId) (old : Shared) (before : List CustomerLine) (new : Shared) (lines : List CustomerLine)
     (frame : List ℕ) (step : CustomerStep) → IsReady id old before → StepSends id.customer old new lines frame step
     → Stays step.after (customer_of id.customer old before) → LeavesReady id old before new lines frame step
 made_by id old before new lines frame step ready sends stays = record {
@@ -155,14 +156,14 @@ made_by id old before new lines frame step ready sends stays = record {
   count = ap (λ c. length c.lines) sends.after.customer ∙ stays.lines;
 }
 
--- a mark behind what a step led to
-pub marked_behind : (id : LineId) (up : Bool) (old now new : Shared) (lines : List CustomerLine) (after : Customer)
+-- a mark after what a step led to
+pub marked_after : (id : LineId) (up : Bool) (old now new : Shared) (lines : List CustomerLine) (after : Customer)
     → ChangesFiles id.customer old now lines after
     → id.customer < length old.tables.customers → new.tables ≡ with_mark id up now.tables → new.spool ≡ now.spool
     → entry_of (customer_at (with_mark id up old.tables) id.customer) ≡ entry_marked id.number up
     (entry_of (customer_at old.tables id.customer))
     → ChangesMarks id.customer old new lines (record after { entry = entry_marked id.number up after.entry })
-marked_behind id up old now new lines after leads there is files own =
+marked_after id up old now new lines after leads there is files own =
     let marked : new.tables ≡ with_mark id up old.tables = is ∙ ap (with_mark id up) leads.tables in
     let mark : Customer → Customer = λ d. record d { entry = entry_marked id.number up d.entry } in
     let here : CustomerEntry = entry_of (customer_at old.tables id.customer) in
@@ -176,68 +177,113 @@ marked_behind id up old now new lines after leads there is files own =
       entries = retold_marked old.tables new.tables id up there marked;
     }
 
--- The line table judged what came: the line's state, and its mark where it goes up.
-pub accepted_so :
-    (id : LineId) (old now : Shared) (lines new : List CustomerLine) (came : Input) (was_up now_up up : Bool)
-    → id.number < length lines → new ≡ on_line id.number (in_state (after_input came)) lines
-    → was_up ≡ is_up (line_at id.number lines).state.session.phase
-    → now_up ≡ is_up (line_at id.number new).state.session.phase → up ≡ (now_up && not was_up) → now.spool ≡ old.spool
-    → entry_of (customer_at now.tables id.customer) ≡ with_raised_line up id.number
-    (entry_of (customer_at old.tables id.customer))
-    → customer_of id.customer now new ≡ accepted_on id.number came (customer_of id.customer old lines)
-accepted_so id old now lines new came was_up now_up up there is was went goes files entry =
-    let x = line_at id.number lines in
-    let phase : is_up (line_at id.number new).state.session.phase ≡ is_up (after_input came x.state).session.phase =
-    ap (λ ls. is_up (line_at id.number ls).state.session.phase) is ∙ ap (λ y. is_up y.state.session.phase)
-    (get_or-set_same lines id.number (in_state (after_input came) x) no_customer_line there) in
-    ap₂ (λ e s. customer_with e (spool_at id.customer s) new)
-    (entry ∙ ap (λ b. with_raised_line b id.number (entry_of (customer_at old.tables id.customer)))
-    (goes ∙ ap₂ (λ n w. n && not w) (went ∙ phase) was)) files
-    ∙ ap (customer_with (with_raised_line (goes_up_by id.number came (customer_of id.customer old lines)) id.number
-    (entry_of (customer_at old.tables id.customer))) (spool_at id.customer old.spool)) is
+-- The line table judged what came: the line's state, and its mark if it goes up.
+module _ (id : LineId) (old now : Shared) (lines new : List CustomerLine) (came : Input) (was_up now_up up : Bool)
+    (ready : IsReady id old lines) (is : new ≡ on_line id.number (in_state (after_input came)) lines)
+    (was : was_up ≡ is_up (line_at id.number lines).state.session.phase)
+    (went : now_up ≡ is_up (line_at id.number new).state.session.phase) (goes : up ≡ (now_up && not was_up))
+    (files : now.spool ≡ old.spool) (entry : entry_of (customer_at now.tables id.customer)
+    ≡ with_raised_line up id.number (entry_of (customer_at old.tables id.customer)))
+    (entries : KeepsOtherEntries id.customer old.tables now.tables) where
+  abbrev before : Customer
+  before = customer_of id.customer old lines
+
+  accepted_so : customer_of id.customer now new ≡ accepted_on id.number came before
+  accepted_so =
+      let x = line_at id.number lines in
+      let phase : is_up (line_at id.number new).state.session.phase ≡ is_up (after_input came x.state).session.phase =
+      ap (λ ls. is_up (line_at id.number ls).state.session.phase) is ∙ ap (λ y. is_up y.state.session.phase)
+      (get_or-set_same lines id.number (in_state (after_input came) x) no_customer_line ready.there) in
+      ap₂ (λ e s. customer_with e (spool_at id.customer s) new)
+      (entry ∙ ap (λ b. with_raised_line b id.number (entry_of (customer_at old.tables id.customer)))
+      (goes ∙ ap₂ (λ n w. n && not w) (went ∙ phase) was)) files
+      ∙ ap (customer_with (with_raised_line (goes_up_by id.number came before) id.number
+      (entry_of (customer_at old.tables id.customer))) (spool_at id.customer old.spool)) is
+
+  pub accepted_marks : ChangesMarks id.customer old now new (accepted_on id.number came before)
+  accepted_marks = marks_alone id.customer old now new (accepted_on id.number came before) accepted_so files entries
+
+  pub accepted_ready : IsReady id now new
+  accepted_ready = next_marked id old now lines new (accepted_on id.number came before) ready accepted_marks
+      (accepted_stays id.number before ready.there ready.coherent came)
 
 -- What comes but a good block: its verdict, and what that asks for.
-pub sent_by_verdict :
+pub left_by_input :
     (id : LineId) (old accepted new : Shared) (lines lines_accepted lines_new : List CustomerLine) (frame : List ℕ)
-    (came : Input) (v : Verdict) → v ≡ verdict_on id.number came (customer_of id.customer old lines)
+    (came : Input) (v : Verdict) → IsReady id old lines
+    → v ≡ verdict_on id.number came (customer_of id.customer old lines)
     → ChangesMarks id.customer old accepted lines_accepted
     (accepted_on id.number came (customer_of id.customer old lines))
     → StepSends id.customer accepted new lines_new frame (carried_out id.number v
     (customer_of id.customer accepted lines_accepted))
-    → StepSends id.customer old new lines_new frame
+    → LeavesReady id old lines new lines_new frame
     (after_line_input id.number came (customer_of id.customer old lines))
-sent_by_verdict id old accepted new lines lines_accepted lines_new frame came v verdict first behind =
+left_by_input id old accepted new lines lines_accepted lines_new frame came v ready verdict first second =
     let l = id.number in
-    let d = accepted_on l came (customer_of id.customer old lines) in
-    subst (λ w. StepSends id.customer old new lines_new frame (carried_out l w d)) verdict
-    (sent_behind id.customer old accepted new lines_accepted lines_new frame d (carried_out l v) first behind)
+    let before = customer_of id.customer old lines in
+    let d = accepted_on l came before in
+    made_by id old lines new lines_new frame (after_line_input l came before) ready
+    (subst (λ w. StepSends id.customer old new lines_new frame (carried_out l w d)) verdict
+    (sent_after id.customer old accepted new lines_accepted lines_new frame d (carried_out l v) first second))
+    (input_stays l before ready.there ready.coherent came)
 
--- behind a block's records, by what the customer was when these came
-abbrev behind_block : ℕ → List Item → Verdict → Customer → CustomerStep
-behind_block l items v d = let a = acted_where v.acts l items d in behind_records a.ended l v a.customer
+-- after a block's records, by what the customer was when these came
+abbrev block_then : ℕ → List Item → Verdict → Customer → CustomerStep
+block_then l items v d = let a = acted_where v.acts l items d in after_records a.ended l v a.customer
 
--- A good block: its verdict, its records, and what is behind them, where these ended the session or didn't.
-pub sent_by_block : (ended : Bool) (id : LineId) (old accepted now new : Shared)
-    (lines lines_accepted lines_now lines_new : List CustomerLine) (frame : List ℕ)
-    (b : Block) (v : Verdict) → v ≡ verdict_on id.number (block_input b) (customer_of id.customer old lines)
-    → ChangesMarks id.customer old accepted lines_accepted (accepted_on id.number (block_input b)
-    (customer_of id.customer old lines))
+-- A good block: its verdict, its records, and what is after them, if these ended the session or didn't.
+pub left_by_block : (ended : Bool) (id : LineId) (old accepted now new : Shared)
+    (lines lines_accepted lines_now lines_new : List CustomerLine) (frame : List ℕ) (b : Block) (came : Input)
+    (v : Verdict) → IsReady id old lines → came ≡ block_input b
+    → v ≡ verdict_on id.number came (customer_of id.customer old lines)
+    → ChangesMarks id.customer old accepted lines_accepted
+    (accepted_on id.number came (customer_of id.customer old lines))
     → ended ≡ (acted_where v.acts id.number b.items (customer_of id.customer accepted lines_accepted)).ended
     → ChangesFiles id.customer accepted now lines_now (acted_where v.acts id.number b.items
     (customer_of id.customer accepted lines_accepted)).customer
-    → StepSends id.customer now new lines_new frame (behind_records ended id.number v
+    → StepSends id.customer now new lines_new frame (after_records ended id.number v
     (customer_of id.customer now lines_now))
-    → StepSends id.customer old new lines_new frame (after_block id.number b (customer_of id.customer old lines))
-sent_by_block ended id old accepted now new lines lines_accepted lines_now lines_new frame b v verdict first is_ended
-    acted behind =
+    → LeavesReady id old lines new lines_new frame (after_block id.number b (customer_of id.customer old lines))
+left_by_block ended id old accepted now new lines lines_accepted lines_now lines_new frame b came v ready is verdict
+    first is_ended acted second =
     let l = id.number in
     let n = id.customer in
-    let d = accepted_on l (block_input b) (customer_of n old lines) in
+    let before = customer_of n old lines in
+    let d = accepted_on l (block_input b) before in
     let a = acted_where v.acts l b.items (customer_of n accepted lines_accepted) in
-    let later = sent_behind n accepted now new lines_now lines_new frame a.customer (behind_records ended l v)
-    (also_marks n accepted now lines_now a.customer acted) behind in
-    let ends : StepSends n accepted new lines_new frame (behind_block l b.items v
+    let later = sent_after n accepted now new lines_now lines_new frame a.customer (after_records ended l v)
+    (also_marks n accepted now lines_now a.customer acted) second in
+    let ends : StepSends n accepted new lines_new frame (block_then l b.items v
     (customer_of n accepted lines_accepted)) =
-    subst (λ e. StepSends n accepted new lines_new frame (behind_records e l v a.customer)) is_ended later in
-    subst (λ w. StepSends n old new lines_new frame (behind_block l b.items w d)) verdict
-    (sent_behind n old accepted new lines_accepted lines_new frame d (behind_block l b.items v) first ends)
+    subst (λ e. StepSends n accepted new lines_new frame (after_records e l v a.customer)) is_ended later in
+    made_by id old lines new lines_new frame (after_block l b before) ready
+    (subst (λ w. StepSends n old new lines_new frame (block_then l b.items w d))
+    (verdict ∙ ap (λ i. verdict_on l i before) is)
+    (sent_after n old accepted new lines_accepted lines_new frame d (block_then l b.items v)
+    (subst (λ i. ChangesMarks n old accepted lines_accepted (accepted_on l i before)) is first) ends))
+    (block_stays l before ready.there ready.coherent b)
+
+-- nothing is changed
+pub unmarked : (c : ℕ) (shared : Shared) (lines : List CustomerLine)
+    → ChangesMarks c shared shared lines (customer_of c shared lines)
+unmarked c shared lines = marks_alone c shared shared lines (customer_of c shared lines) refl refl
+    (retold_same shared.tables c)
+
+-- What a verdict asks for is sent, and then the session ends if it says so.
+pub carried_by : (ended : Bool) (id : LineId) (old now new : Shared) (lines lines_now lines_new : List CustomerLine)
+    (frame : List ℕ) (v : Verdict) → ended ≡ v.ended
+    → ChangesFiles id.customer old now lines_now
+    (replied_to id.number v.reply (customer_of id.customer old lines)).after
+    → frame ≡ (replied_to id.number v.reply (customer_of id.customer old lines)).frame
+    → ChangesMarks id.customer now new lines_new (session_over_where ended id.number
+    (customer_of id.customer now lines_now))
+    → StepSends id.customer old new lines_new frame (carried_out id.number v (customer_of id.customer old lines))
+carried_by ended id old now new lines lines_now lines_new frame v is sends frame_is over =
+    let n = id.customer in
+    let replied = (replied_to id.number v.reply (customer_of n old lines)).after in
+    record {
+      after = subst (λ b. ChangesMarks n old new lines_new (session_over_where b id.number replied)) is
+          (changed_on n old now new lines_now lines_new replied (session_over_where ended id.number)
+          (also_marks n old now lines_now replied sends) over);
+      frame = frame_is;
+    }

@@ -1,17 +1,18 @@
 -- What becomes of the records of whole files.
 use Rattle.njh_customer.proofs.Words
-use Words.{ℕ, Bool, true, false, cond, not, inl, inr, List, [], map, filter, None, refl, sym, ap, subst, eqb-true}
-use Words.{Contains-push_cases, list_any-append, Contains, User, Stored, Kind, Item, with_destination, FileName}
-use Words.{records_to_node, WholeFile, Held, Ready, Refused, CustomerEntry, entry_marked, entries_of_routes, ready}
-use Words.{is_whole, EofSent, ReroutesNameNodes, changed_file, is_of_name, may_change, is_sending, with_new_destination}
-use Words.{file_in_state, without_file, no_file, Acts, Commands, Records, Routes, Moves, by_record, by_sending, by_end}
-use Words.{Sends, LeadsByMoves, nowhere, onward, MovesBy, without_files, FileMoves, RecordsChangeSo, Leaves, LeavesBy}
-use Words.{FilesLeaveSo, FilesLeaveSoBetween, entry_with, Outgoing, with_file_state, with_files, each_stream, has_file}
+use Words.{ℕ, Bool, true, false, cond, not, inl, inr, List, [], map, filter, refl, sym, ap, subst, eqb-true}
+use Words.{Contains-push_cases, list_any-append, Contains, User, Item, FileName, WholeFile, Held, Ready, Refused}
+use Words.{CustomerEntry, entry_marked, entries_of_routes, ready, is_whole, EofSent, changed_file, is_of_name}
+use Words.{may_change, is_sending, with_new_destination, without_file, no_file, Acts, Commands, Records, Routes, Moves}
+use Words.{by_record, by_sending, by_end, Sends, LeadsByMoves, nowhere, onward, MovesBy, without_files, FileMoves}
+use Words.{RecordsChangeSo, Leaves, LeavesBy, FilesLeaveSo, FilesLeaveSoBetween, entry_with, Outgoing, with_files}
+use Words.{each_stream, has_file, State, with_arrival}
 use Rattle.{std.proofs.Common.{◌≡◌, ◌&&◌, ◌==◌, ◌⊎◌, ◌∷◌, ◌++◌, ◌∙◌, ◌||◌}, njh_block.specs.Blocks.Data}
-use Rattle.{njh_spool.specs.declared.State.TheVariants.Sending, njh_customer.proofs.FileListLaws.from_filter}
-use Rattle.njh_customer.proofs.FileListLaws.{from_map, into_map, from_where, any_numbered, changed_numbers}
-use Rattle.njh_customer.proofs.FileListLaws.{marked_numbers, numbers, one_gone, same_numbered, but_states}
-use Rattle.njh_customer.proofs.RoutesMoves.{held_so, held_numbers}
+use Rattle.{njh_header.proofs.Redirected.redirected_is, njh_spool.specs.declared.State.TheVariants.Sending}
+use Rattle.{njh_command.proofs.RerouteNodes.nodes_are_names, njh_customer.proofs.FileListLaws.{from_filter, from_map}}
+use Rattle.njh_customer.proofs.FileListLaws.{into_map, from_where, any_numbered, changed_numbers, numbers, one_gone}
+use Rattle.njh_customer.proofs.{FileListLaws.{same_numbered, but_states, changed_where}, RoutesMoves.held_so}
+use Rattle.njh_customer.proofs.RoutesMoves.{held_numbers}
 use Rattle.njh_spool.specs.declared.State.TheVariants as state
 use Rattle.njh_command.specs.declared.command.Command.TheVariants as commands
 use Rattle.njh_customer.specs.Moves as moves
@@ -22,21 +23,70 @@ pub without_files_files : (ns : List ℕ) (x : Outgoing) → (without_files ns x
 without_files_files [] x = refl
 without_files_files (n ∷ ns) x = without_files_files ns (each_stream (without_file n) x)
 
+-- What a move does to the whole files: it changes no more than their states, a file comes, some go to another node, or
+-- some leave.
+pub data FilesDo (entry : CustomerEntry) (l : ℕ) (items : List Item) (x y : Outgoing) : Type 0 where
+  states : map ready y.files ≡ map ready x.files → y.arrived ≡ x.arrived → FilesDo entry l items x y
+  comes : (i : Item) (rcb srcb : ℕ) (f : WholeFile) → Contains items i → i ≡ Data rcb srcb [] → f.state ≡ Ready
+      → is_whole f.records ≡ true → y ≡ with_arrival f x → FilesDo entry l items x y
+  rerouted : (i : Item) (who : User) (name : FileName) (node : List ℕ) → Contains items i
+      → Commands entry who (commands.Reroute name node) i
+      → y ≡ moves.with_changed (is_of_name who name) (with_new_destination node) x → FilesDo entry l items x y
+  leave : (p : WholeFile → Bool) → y.files ≡ filter (λ f. not (p f)) x.files → y.arrived ≡ x.arrived
+      → ((f : WholeFile) → Contains x.files f → p f ≡ true → Leaves entry l items f.number x)
+      → FilesDo entry l items x y
+
+without_files_arrived : (ns : List ℕ) (x : Outgoing) → (without_files ns x).arrived ≡ x.arrived
+without_files_arrived [] x = refl
+without_files_arrived (n ∷ ns) x = without_files_arrived ns (each_stream (without_file n) x)
+
+module _ (entry : CustomerEntry) (l : ℕ) (items : List Item) (x y : Outgoing) where
+  -- by what it is after the move
+  same_but_states : {z : Outgoing} → y ≡ z → map ready z.files ≡ map ready x.files → z.arrived ≡ x.arrived
+      → FilesDo entry l items x y
+  same_but_states e files arrived =
+      states (ap (λ w. map ready w.files) e ∙ files) (ap (λ w. w.arrived) e ∙ arrived)
+
+  -- files that pass a test change in their states
+  in_states : {z : Outgoing} (p : WholeFile → Bool) (state : State) → y ≡ z
+      → z.files ≡ map (λ f. cond (p f) (record f { state = state }) f) x.files → z.arrived ≡ x.arrived
+      → FilesDo entry l items x y
+  in_states p state e files = same_but_states e (ap (map ready) files
+      ∙ changed_where ready p (λ f. record f { state = state }) x.files (λ f. refl))
+
+  record_files : (i : Item) → Contains items i → Acts entry l i x y → FilesDo entry l items x y
+  record_files i at (moves.comes rcb srcb f is waits whole e) = comes i rcb srcb f at is waits whole e
+  record_files i at (moves.permitted streams k m told before e) = same_but_states e refl refl
+  record_files i at (moves.refused streams k m after told before none e) =
+      in_states (λ f. f.number == m) Refused e refl refl
+  record_files i at (moves.completed streams k m told before e) =
+      leave (λ f. f.number == m) (ap (λ z. z.files) e) (ap (λ z. z.arrived) e)
+      (λ f there passes. laws.completed i streams k at told (before ∙ ap EofSent (sym (eqb-true f.number m passes))))
+  record_files i at (moves.holds who name given e) = in_states (may_change (is_of_name who name)) Held e refl refl
+  record_files i at (moves.releases who name given e) = in_states (may_change (is_of_name who name)) Ready e refl refl
+  record_files i at (moves.reroutes who name node line given route e) = rerouted i who name node at given e
+  record_files i at (moves.cancels who name given e) =
+      let p = is_of_name who name in
+      let cut = with_files (filter (λ f. not (p f)) x.files) x in
+      leave p (ap (λ z. z.files) e ∙ without_files_files (moves.busy_numbers p x.files) cut)
+      (ap (λ z. z.arrived) e ∙ without_files_arrived (moves.busy_numbers p x.files) cut)
+      (λ f there passes. laws.cancelled i who name f at given there refl passes)
+
+  sent_files : Sends entry l x y → FilesDo entry l items x y
+  sent_files (moves.gives_up k before e) = same_but_states e refl refl
+  sent_files (moves.asks k f few before found e) = in_states (λ g. g.number == f.number) Sending e refl refl
+  sent_files (moves.goes_on k m place r before found e) = same_but_states e refl refl
+  sent_files (moves.ends k m place before found e) = same_but_states e refl refl
+
+  pub files_do : Moves entry l items x y → FilesDo entry l items x y
+  files_do (by_record (i, at, acts)) = record_files i at acts
+  files_do (by_sending sends) = sent_files sends
+  files_do (by_end over) = states over.files over.arrived
+
 module _ (n : ℕ) (x y : Outgoing) where
   -- no file has left
-  stayed : {A : Type 0} → any_numbered n y.files ≡ any_numbered n x.files → has_file n x ≡ true → has_file n y ≡ false
-      → A
-  stayed same there gone = absurd (cc (sym there ∙ sym same ∙ gone))
-
-  stayed_all : {A : Type 0} → numbers y.files ≡ numbers x.files → has_file n x ≡ true → has_file n y ≡ false → A
-  stayed_all same = stayed (same_numbered n y.files x.files same)
-
-  -- nor by a command that keeps the numbers
-  by_command : {A : Type 0} (who : User) (name : FileName) (change : WholeFile → WholeFile)
-      → ((f : WholeFile) → (change f).number ≡ f.number) → y ≡ moves.with_changed (is_of_name who name) change x
-      → has_file n x ≡ true → has_file n y ≡ false → A
-  by_command who name change same e =
-      stayed_all (ap (λ z. numbers z.files) e ∙ changed_numbers (is_of_name who name) change x.files same)
+  stayed : {A : Type 0} → numbers y.files ≡ numbers x.files → has_file n x ≡ true → has_file n y ≡ false → A
+  stayed same there gone = absurd (cc (sym there ∙ sym (same_numbered n y.files x.files same) ∙ gone))
 
   one_comes : {A : Type 0} (f : WholeFile) → y.files ≡ x.files ++ f ∷ [] → has_file n x ≡ true → has_file n y ≡ false
       → A
@@ -44,42 +94,23 @@ module _ (n : ℕ) (x y : Outgoing) where
       absurd (cc (sym (ap (any_numbered n) e ∙ list_any-append (λ g. g.number == n) x.files (f ∷ []) ∙ ap
       (λ b. b || any_numbered n (f ∷ [])) there) ∙ gone))
 
-module _ (entry : CustomerEntry) (l : ℕ) (items : List Item) (x y : Outgoing) (n : ℕ) where
-  record_leaves : (i : Item) → Contains items i → Acts entry l i x y → has_file n x ≡ true → has_file n y ≡ false
-      → Leaves entry l items n x
-  record_leaves i at (moves.comes rcb srcb f is ready whole e) = one_comes n x y f (ap (λ z. z.files) e)
-  record_leaves i at (moves.permitted streams k m told before e) = stayed n x y (ap (has_file n) e)
-  record_leaves i at (moves.refused streams k m after told before none e) =
-      stayed_all n x y (ap (λ z. numbers z.files) e ∙ marked_numbers m Refused x.files)
-  record_leaves i at (moves.completed streams k m told before e) = λ there gone.
-      let left = one_gone (λ f. f.number == m) n x.files there (sym (ap (has_file n) e) ∙ gone) in
-      let same : m ≡ n = sym (eqb-true left.0.number m left.3) ∙ left.2 in
-      laws.completed i streams k at told (before ∙ ap EofSent same)
-  record_leaves i at (moves.holds who name given e) = by_command n x y who name (file_in_state Held) (λ f. refl) e
-  record_leaves i at (moves.releases who name given e) = by_command n x y who name (file_in_state Ready) (λ f. refl) e
-  record_leaves i at (moves.reroutes who name node line given route e) =
-      by_command n x y who name (with_new_destination node) (λ f. refl) e
-  record_leaves i at (moves.cancels who name given e) = λ there gone.
-      let kept = filter (λ f. not (is_of_name who name f)) x.files in
-      let files = ap (λ z. z.files) e ∙ without_files_files (moves.busy_numbers (is_of_name who name) x.files)
-      (with_files kept x) in
-      let left = one_gone (is_of_name who name) n x.files there (sym (ap (any_numbered n) files) ∙ gone) in
-      laws.cancelled i who name left.0 at given left.1 left.2 left.3
-
-  leaves_on_line : Moves entry l items x y → has_file n x ≡ true → has_file n y ≡ false → Leaves entry l items n x
-  leaves_on_line (by_record (i, at, acts)) = record_leaves i at acts
-  leaves_on_line (by_sending (moves.gives_up k before e)) = stayed n x y (ap (has_file n) e)
-  leaves_on_line (by_sending (moves.asks k f few before found e)) =
-      stayed_all n x y (ap (λ z. numbers z.files) e ∙ marked_numbers f.number Sending x.files)
-  leaves_on_line (by_sending (moves.goes_on k m place r before found e)) = stayed n x y (ap (has_file n) e)
-  leaves_on_line (by_sending (moves.ends k m place before found e)) = stayed n x y (ap (has_file n) e)
-  leaves_on_line (by_end over) = stayed_all n x y (but_states y.files x.files over.files)
+  leaves_on_line : (entry : CustomerEntry) (l : ℕ) (items : List Item) → FilesDo entry l items x y
+      → has_file n x ≡ true → has_file n y ≡ false → Leaves entry l items n x
+  leaves_on_line entry l items (states same arrived) there gone = stayed (but_states y.files x.files same) there gone
+  leaves_on_line entry l items (comes i rcb srcb f at is waits whole e) there gone =
+      one_comes f (ap (λ z. z.files) e) there gone
+  leaves_on_line entry l items (rerouted i who name node at given e) there gone = stayed (ap (λ z. numbers z.files) e
+      ∙ changed_numbers (is_of_name who name) (with_new_destination node) x.files (λ f. refl)) there gone
+  leaves_on_line entry l items (leave p e arrived each) there gone =
+      let left = one_gone p n x.files there (sym (ap (any_numbered n) e) ∙ gone) in
+      subst (λ m. Leaves entry l items m x) left.2 (each left.0 left.1 left.3)
 
 pub leaves_so : FilesLeaveSo
 leaves_so entry (Records l items) x y n (up, move) there gone =
-    (up, leaves_on_line (entry_marked l up entry) l items x y n move there gone)
+    let marked = entry_marked l up entry in
+    (up, leaves_on_line n x y marked l items (files_do marked l items x y move) there gone)
 leaves_so entry (Routes routes) x y n given there gone =
-    stayed_all n x y (ap (λ z. numbers z.files) given.holds ∙ held_numbers
+    stayed n x y (ap (λ z. numbers z.files) given.holds ∙ held_numbers
     (entry_with (entries_of_routes routes) entry) x.files) there gone
 
 pub leaves_so_between : FilesLeaveSoBetween
@@ -92,8 +123,8 @@ leaves_so_between entry came _ _ n (onward x y z move later) there gone = at_nex
         (MovesBy entry came) u z
 
     at_next : (b : Bool) → has_file n y ≡ b → (has_file n y ≡ true → has_file n z ≡ false → Between y) → Between x
-    at_next true e behind = let found = behind e gone in (found.0, onward x y found.0 move found.1, found.2, found.3)
-    at_next false e behind = (x, nowhere x, leaves_so entry came x y n move there e, onward x y z move later)
+    at_next true e further = let found = further e gone in (found.0, onward x y found.0 move found.1, found.2, found.3)
+    at_next false e further = (x, nowhere x, leaves_so entry came x y n move there e, onward x y z move later)
 
 -- ---- each file
 
@@ -104,15 +135,6 @@ IsOneOf files g = (f : WholeFile) × Contains files f × (g.number ≡ f.number)
 
 itself : (files : List WholeFile) (g : WholeFile) → Contains files g → IsOneOf files g
 itself files g at = (g, at, refl, refl, refl)
-
-one_restated : (p : WholeFile → Bool) (change : WholeFile → WholeFile) (files : List WholeFile) (g : WholeFile)
-    → ((f : WholeFile) → ready (change f) ≡ ready f) → Contains (map (λ f. cond (p f) (change f) f) files) g
-    → IsOneOf files g
-one_restated p change files g same at = elim (from_where p change files g at) [
-  | inl (f, there, e, is) ↦ let e : ready g ≡ ready f = ap ready is ∙ same f in
-      (f, there, ap (λ h. h.number) e, ap (λ h. h.kind) e, ap (λ h. h.records) e)
-  | inr (there, e) ↦ itself files g there
-]
 
 but_state : (files now : List WholeFile) (g : WholeFile) → map ready now ≡ map ready files → Contains now g
     → IsOneOf files g
@@ -126,83 +148,48 @@ both_are true true e = absurd (cc e)
 both_are true false e = (refl, refl)
 both_are false b e = absurd (cc e)
 
-module _ (by_records : (kind : Kind) (node : List ℕ) (records : List Stored)
-    → records_to_node kind node None records ≡ with_destination kind node records) (names : ReroutesNameNodes) where
-  module _ (entry : CustomerEntry) (l : ℕ) (items : List Item) (x y : Outgoing) (g : WholeFile) where
-    was_there : IsOneOf x.files g → FileMoves entry items x g
-    was_there one = laws.stays one.0 one.1 one.2 one.3 one.4
+module _ (entry : CustomerEntry) (l : ℕ) (items : List Item) (x y : Outgoing) (g : WholeFile) where
+  was_there : IsOneOf x.files g → FileMoves entry items x g
+  was_there one = laws.stays one.0 one.1 one.2 one.3 one.4
 
-    -- by the files after the move
-    among : (files : List WholeFile) → y.files ≡ files → Contains y.files g → Contains files g
-    among files e at = subst (λ fs. Contains fs g) e at
+  -- by the files after the move
+  among : (files : List WholeFile) → y.files ≡ files → Contains y.files g → Contains files g
+  among files e at = subst (λ fs. Contains fs g) e at
 
-    rerouted_one : (i : Item) (who : User) (name : FileName) (node : List ℕ) → Contains items i
-        → Commands entry who (commands.Reroute name node) i
-        → Contains (map (changed_file (is_of_name who name) (with_new_destination node)) x.files) g
-        → FileMoves entry items x g
-    rerouted_one i who name node at given there =
-        elim (from_where (may_change (is_of_name who name)) (with_new_destination node) x.files g there) [
-          | inl (f, found, e, is) ↦ let idle = both_are (is_of_name who name f) (is_sending f.state) e in
-              laws.rerouted i who name node f at given found idle.0 idle.1 (ap (λ h. h.number) is)
-              (ap (λ h. h.kind) is) (names given.nodal.message name node given.says)
-              (ap (λ h. h.records) is ∙ sym (by_records f.kind node f.records))
-          | inr (found, e) ↦ was_there (itself x.files g found)
-        ]
+  rerouted_one : (i : Item) (who : User) (name : FileName) (node : List ℕ) → Contains items i
+      → Commands entry who (commands.Reroute name node) i
+      → Contains (map (changed_file (is_of_name who name) (with_new_destination node)) x.files) g
+      → FileMoves entry items x g
+  rerouted_one i who name node at given there =
+      elim (from_where (may_change (is_of_name who name)) (with_new_destination node) x.files g there) [
+        | inl (f, found, e, is) ↦ let idle = both_are (is_of_name who name f) (is_sending f.state) e in
+            laws.rerouted i who name node f at given found idle.0 idle.1 (ap (λ h. h.number) is)
+            (ap (λ h. h.kind) is) (nodes_are_names given.nodal.message name node given.says)
+            (ap (λ h. h.records) is ∙ sym (redirected_is f.kind node f.records))
+        | inr (found, e) ↦ was_there (itself x.files g found)
+      ]
 
-    one_came : (i : Item) (rcb srcb : ℕ) (f : WholeFile) → Contains items i → i ≡ Data rcb srcb []
-        → f.state ≡ state.Ready → is_whole f.records ≡ true → Contains x.files g ⊎ (f ≡ g) → FileMoves entry items x g
-    one_came i rcb srcb f at is ready whole (inl old) = was_there (itself x.files g old)
-    one_came i rcb srcb f at is ready whole (inr new) =
-        laws.comes i rcb srcb at is (ap (λ h. is_whole h.records) (sym new) ∙ whole)
-        (ap (λ h. h.state) (sym new) ∙ ready)
+  one_came : (i : Item) (rcb srcb : ℕ) (f : WholeFile) → Contains items i → i ≡ Data rcb srcb []
+      → f.state ≡ state.Ready → is_whole f.records ≡ true → Contains x.files g ⊎ (f ≡ g) → FileMoves entry items x g
+  one_came i rcb srcb f at is waits whole (inl old) = was_there (itself x.files g old)
+  one_came i rcb srcb f at is waits whole (inr new) =
+      laws.comes i rcb srcb at is (ap (λ h. is_whole h.records) (sym new) ∙ whole)
+      (ap (λ h. h.state) (sym new) ∙ waits)
 
-    record_changes : (i : Item) → Contains items i → Acts entry l i x y → Contains y.files g → FileMoves entry items x g
-    record_changes i at (moves.comes rcb srcb f is ready whole e) there =
-        one_came i rcb srcb f at is ready whole (Contains-push_cases x.files f g
-        (among (x.files ++ f ∷ []) (ap (λ z. z.files) e) there))
-    record_changes i at (moves.permitted streams m n told before e) there = was_there
-        (itself x.files g (among x.files (ap (λ z. z.files) e) there))
-    record_changes i at (moves.refused streams m n after told before none e) there =
-        was_there (one_restated (λ f. f.number == n) (λ f. record f { state = state.Refused }) x.files g (λ f. refl)
-        (among (with_file_state n state.Refused x.files) (ap (λ z. z.files) e) there))
-    record_changes i at (moves.completed streams m n told before e) there =
-        was_there (itself x.files g (from_filter (λ f. not (f.number == n)) x.files g
-        (among (filter (λ f. not (f.number == n)) x.files) (ap (λ z. z.files) e) there)))
-    record_changes i at (moves.holds who name given e) there =
-        was_there (one_restated (may_change (is_of_name who name)) (file_in_state state.Held) x.files g (λ f. refl)
-        (among (map (changed_file (is_of_name who name) (file_in_state state.Held)) x.files)
-        (ap (λ z. z.files) e) there))
-    record_changes i at (moves.releases who name given e) there =
-        was_there (one_restated (may_change (is_of_name who name)) (file_in_state state.Ready) x.files g (λ f. refl)
-        (among (map (changed_file (is_of_name who name) (file_in_state state.Ready)) x.files)
-        (ap (λ z. z.files) e) there))
-    record_changes i at (moves.reroutes who name node line given route e) there =
-        rerouted_one i who name node at given (among (map (changed_file (is_of_name who name)
-        (with_new_destination node)) x.files) (ap (λ z. z.files) e) there)
-    record_changes i at (moves.cancels who name given e) there =
-        let kept = filter (λ f. not (is_of_name who name f)) x.files in
-        let files = ap (λ z. z.files) e ∙ without_files_files (moves.busy_numbers (is_of_name who name) x.files)
-        (with_files kept x) in
-        was_there (itself x.files g (from_filter (λ f. not (is_of_name who name f)) x.files g (among kept files there)))
+  changes : FilesDo entry l items x y → Contains y.files g → FileMoves entry items x g
+  changes (states same arrived) there = was_there (but_state x.files y.files g same there)
+  changes (comes i rcb srcb f at is waits whole e) there = one_came i rcb srcb f at is waits whole
+      (Contains-push_cases x.files f g (among (x.files ++ f ∷ []) (ap (λ z. z.files) e) there))
+  changes (rerouted i who name node at given e) there =
+      rerouted_one i who name node at given (among (map (changed_file (is_of_name who name)
+      (with_new_destination node)) x.files) (ap (λ z. z.files) e) there)
+  changes (leave p e arrived each) there =
+      let stays : WholeFile → Bool = λ f. not (p f) in
+      was_there (itself x.files g (from_filter stays x.files g (among (filter stays x.files) e there)))
 
-    sending_changes : Sends entry l x y → Contains y.files g → FileMoves entry items x g
-    sending_changes (moves.gives_up k before e) there = was_there
-        (itself x.files g (among x.files (ap (λ z. z.files) e) there))
-    sending_changes (moves.asks k f few before found e) there =
-        was_there (one_restated (λ h. h.number == f.number) (λ h. record h { state = state.Sending }) x.files g
-        (λ h. refl) (among (with_file_state f.number state.Sending x.files) (ap (λ z. z.files) e) there))
-    sending_changes (moves.goes_on k n place r before found e) there = was_there
-        (itself x.files g (among x.files (ap (λ z. z.files) e) there))
-    sending_changes (moves.ends k n place before found e) there = was_there
-        (itself x.files g (among x.files (ap (λ z. z.files) e) there))
-
-    changes : Moves entry l items x y → Contains y.files g → FileMoves entry items x g
-    changes (by_record (i, at, acts)) there = record_changes i at acts there
-    changes (by_sending sends) there = sending_changes sends there
-    changes (by_end over) there = was_there (but_state x.files y.files g over.files there)
-
-  pub records_change : RecordsChangeSo
-  records_change entry (Records l items) x y g (up, move) there =
-      (up, changes (entry_marked l up entry) l items x y g move there)
-  records_change entry (Routes routes) x y g given there =
-      held_so (entry_with (entries_of_routes routes) entry) x g (subst (λ z. Contains z.files g) given.holds there)
+pub records_change : RecordsChangeSo
+records_change entry (Records l items) x y g (up, move) there =
+    let marked = entry_marked l up entry in
+    (up, changes marked l items x y g (files_do marked l items x y move) there)
+records_change entry (Routes routes) x y g given there =
+    held_so (entry_with (entries_of_routes routes) entry) x g (subst (λ z. Contains z.files g) given.holds there)

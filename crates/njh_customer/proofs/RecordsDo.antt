@@ -117,9 +117,9 @@ module _ (l : ℕ) (I : Customer → Type 0) where
   all_so [] acted c so = so
   all_so (i ∷ is) acted c so =
       let later = all_acted l is (after_record l i c) in
-      let behind = all_so is (λ j at. acted j (Contains-append_right (i ∷ []) is j at)) (after_record l i c)
+      let acted_later = all_so is (λ j at. acted j (Contains-append_right (i ∷ []) is j at)) (after_record l i c)
       (acted i (0, omega arith, refl) c so) in
-      elim (ends_session i) as (λ b. I (ended_or b c later).customer) [ true ↦ so | false ↦ behind ]
+      elim (ends_session i) as (λ b. I (ended_or b c later).customer) [ true ↦ so | false ↦ acted_later ]
 
   pub acted_where_so : (b : Bool) (items : List Item) → ((i : Item) → Contains items i → (c : Customer) → I c
       → I (after_record l i c)) → (c : Customer) → I c → I (acted_where b l items c).customer

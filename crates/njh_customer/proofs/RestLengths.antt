@@ -6,7 +6,7 @@ use Words.{text_or_spoiled, longest_text, Rest, Nothing, AfterSoh, AfterDle, InT
 use Words.{Customer, byte_step, bytes_run, Taking, or_later, take_step, IsShortText, IsShortRest, OpenedHasShortRests}
 use Words.{EventsKeepShortRests, TakesKeepShortRests, taken_where, rest_at, rest_on, OwnBytes, OwnSignal, OwnRoutes}
 use Rattle.{std.proofs.Common.{◌≡◌, ◌==◌, if◌then◌else◌, ◌∷◌, ◌++◌}, njh_bisync.specs.ByteSteps.rest_step}
-use Rattle.{njh_bisync.specs.Frames.Received, njh_customer.proofs.FileListLaws.set_one}
+use Rattle.{njh_bisync.specs.Frames.Received, njh_customer.proofs.FileListLaws.{set_one}}
 use Rattle.njh_bisync.specs.Frames as frame
 
 -- ---- a byte

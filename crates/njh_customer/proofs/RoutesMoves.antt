@@ -6,7 +6,7 @@ use Words.{Here, Line, has_lost_route, held_file, destination_unrouted, is_unkno
 use Words.{with_marks, LeadsByMoves, nowhere, onward, RoutesMove, RoutesDo, RoutesDoSo, RoutesMoveFile, is_as_before}
 use Words.{is_held, entry_with, taken_where, routes_given, UnroutedFilesStay, customer_with_routes, Outgoing, outgoing}
 use Words.{Part, streams_to_hub, RoutesKeepCoherent}
-use Rattle.{std.proofs.Common.{◌≡◌, ◌∙◌, ◌&&◌, ◌||◌}, njh_customer.proofs.CoherenceLaws.NothingUnties}
+use Rattle.{std.proofs.Common.{◌≡◌, ◌∙◌, ◌&&◌, ◌||◌}, njh_stream.proofs.TiedLaws.untouched}
 use Rattle.njh_customer.proofs.{FileListLaws.{numbers, changed_where, from_where}, Restated.held_restated}
 use Rattle.njh_customer.proofs.Restated.{restated_harmless}
 
@@ -67,9 +67,9 @@ held_so entry x g at = elim (from_where (has_lost_route entry) held_file x.files
 
 -- ---- what stays so
 
-pub coherent_given : NothingUnties → RoutesKeepCoherent
-coherent_given untied routes c coherent = record {
-  tied = untied (streams_to_hub c.lines) c.spool (customer_with_routes routes c).spool refl coherent.tied;
+pub coherent_given : RoutesKeepCoherent
+coherent_given routes c coherent = record {
+  tied = untouched (streams_to_hub c.lines) c.spool (customer_with_routes routes c).spool refl coherent.tied;
   streamed = coherent.streamed;
   headers = (restated_harmless c.spool (customer_with_routes routes c).spool
       (held_restated (entry_with routes c.entry) c.spool)).headers coherent.headers;

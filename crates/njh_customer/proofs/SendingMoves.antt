@@ -9,13 +9,17 @@ use Words.{StreamTurn, abort_where, answering, asking, candidate, is_idle, may_a
 use Words.{telling, added_where, after_candidate, after_source_where, Outlet, aborts, filled_where, messages_where}
 use Words.{requests, sources, turns, waiting_answers, waiting_messages, filling, own_fcs, replied_to, Customer, line_at}
 use Words.{LeadsByMoves, nowhere, onward, Sends, Outgoing, record_numbered, sender_on, with_sender_on, outgoing}
-use Words.{streams_from_hub, next_block, outlet_of, own_block, sending_of_reply}
+use Words.{streams_from_hub, next_block, outlet_of, own_block, sending_of_reply, map, take, drop, length-drop}
+use Words.{length-take-le, rcb_of, end_of_file, file_records, record_item, records_under, sends_file, Carries}
 use Rattle.std.proofs.Common.{◌≡◌, ◌<◌, ◌+◌, ◌∷◌, ◌++◌, ◌%◌, ◌∙◌}
-use Rattle.{njh_stream.specs.declared.sender.Sender.TheVariants.{Idle, Sending}, njh_sched.specs.NextBlock.sender_at}
-use Rattle.njh_sched.specs.NextBlock.{after_source, after_sources, filled_block, streams}
-use Rattle.njh_customer.proofs.OutgoingLaws.{of_parts, own_again}
+use Rattle.njh_stream.specs.declared.sender.Sender.TheVariants.{Idle, Sending}
+use Rattle.njh_sched.{proofs.CarryingLaws.{filled_carries, filled_quiet}, specs.NextBlock.{sender_at, after_source}}
+use Rattle.{njh_sched.specs.NextBlock.{after_sources, filled_block, streams}, njh_customer.proofs.OutgoingLaws.of_parts}
+use Rattle.njh_customer.proofs.OutgoingLaws.{own_again}
 use Rattle.njh_line.specs.declared.verdict.LineReply.TheVariants as reply
 use Rattle.njh_customer.specs.Moves as moves
+use Rattle.njh_customer.specs.FrameEffects as effects
+use Rattle.njh_sched.specs.Carrying as carrying
 
 -- ---- where the block's records come from
 
@@ -267,3 +271,40 @@ next_is l or_ack0 c =
     let full = next_block c.entry l c.spool (line_at l c.lines) in
     ap (of_parts full.spool.whole full.spool.arrived) (map-set (λ y. y.senders) c.lines l
     (sending_of_reply c.entry l (reply.Next or_ack0) c.spool (line_at l c.lines)).line)
+
+-- ---- what a block carries
+
+-- what a block carries of each stream's file
+pub blocks_carry : (entry : CustomerEntry) (l k : ℕ) (base : List (List Sender)) (x : Filling) → l < length base → k < 8
+    → k < length x.outlet.senders → x.block.items ≡ [] → Carries l k (filled_block (goes_by entry l) x).block.items
+    (out_of l base x) (out_of l base (filled_block (goes_by entry l) x))
+blocks_carry entry l k base x inside few in_line none = at_sender (sender_at k x.outlet) refl
+  where
+    y : Filling
+    y = filled_block (goes_by entry l) x
+
+    before_is : records_under (rcb_of k) x.block.items ≡ []
+    before_is = ap (records_under (rcb_of k)) none
+
+    still : (s : Sender) → sender_at k x.outlet ≡ s → sends_file s ≡ false
+        → Carries l k y.block.items (out_of l base x) (out_of l base y)
+    still s at isnt = effects.nothing (ap sends_file (stream_now entry l base inside k x ∙ at) ∙ isnt)
+        (filled_quiet (goes_by entry l) k x few in_line (ap sends_file at ∙ isnt) ∙ before_is)
+
+    sent : (n p : ℕ) → sender_at k x.outlet ≡ Sending n p
+        → carrying.Carries k n p (file_records n x.spool) (records_under (rcb_of k) x.block.items) y
+        → Carries l k y.block.items (out_of l base x) (out_of l base y)
+    sent n p at (carrying.on_its_way m some now items) =
+        let records = drop p (file_records n x.spool) in
+        effects.on_its_way n p m (stream_now entry l base inside k x ∙ at)
+        (length-take-le m records (omega (arith, length-drop p (file_records n x.spool))))
+        (stream_now entry l base inside k y ∙ now)
+        (items ∙ ap (λ front. front ++ map (record_item k) (take m records)) before_is)
+    sent n p at (carrying.at_its_end now items) =
+        effects.to_its_end n p (stream_now entry l base inside k x ∙ at) (stream_now entry l base inside k y ∙ now)
+        (items ∙ ap (λ front. front ++ (map (record_item k) (drop p (file_records n x.spool)) ++ end_of_file k ∷ []))
+        before_is)
+
+    at_sender : (s : Sender) → sender_at k x.outlet ≡ s → Carries l k y.block.items (out_of l base x) (out_of l base y)
+    at_sender (Sending n p) at = sent n p at (filled_carries (goes_by entry l) k x few in_line n p at)
+    at_sender s at = still s at refl

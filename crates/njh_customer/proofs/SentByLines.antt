@@ -11,14 +11,14 @@ use Words.{Customer, CustomerLine, config_of, fresh_customer, idle_line, line_at
 use Words.{IsOnStream, IsAbout, LeadsByMoves, nowhere, onward, Sends, customer_with_routes, entry_with, Outgoing}
 use Words.{has_file, outgoing, sender_on, streams_from_hub, streams_of, with_file_state, with_files, with_sender_on}
 use Words.{next_block}
-use Rattle.njh_customer.proofs.SentByRecords.{number_of, carried, changed_carries, onward_carries, Carries}
+use Rattle.std.proofs.Common.{◌≡◌, ◌+◌, ◌<◌, ◌==◌, ◌&&◌, ◌⊎◌, ◌∷◌, ◌∙◌}
+use Rattle.njh_stream.specs.declared.sender.Sender.TheVariants.{Idle, Sending}
 use Rattle.njh_customer.proofs.FileListLaws.{any_numbered, copies, marked_numbers, same_numbered, but_states, found_one}
 use Rattle.njh_customer.proofs.{FileListLaws.{WasOrIs, any_there, from_where}, IdleLines.fresh_lines_idle}
 use Rattle.njh_customer.proofs.{IdleLines.senders_idle, OutgoingLaws.{over_so, reply_unmoved, stream_is}}
 use Rattle.njh_customer.proofs.{Restated.{ended_where, without_open_same}, SendingMoves.{out_of, next_is, next_leads}}
-use Rattle.{njh_customer.proofs.StreamMoveLaws.{set_lines, set_streams, set_there, moved_one}, std.proofs.Common.◌≡◌}
-use Rattle.std.proofs.Common.{◌+◌, ◌<◌, ◌==◌, ◌&&◌, ◌⊎◌, ◌∷◌, ◌∙◌}
-use Rattle.njh_stream.specs.declared.sender.Sender.TheVariants.{Idle, Sending}
+use Rattle.njh_customer.proofs.SentByRecords.{number_of, carried, changed_carries, onward_carries, Carries}
+use Rattle.njh_customer.proofs.StreamMoveLaws.{set_lines, set_streams, set_there, moved_one}
 use Rattle.njh_spool.specs.declared.State.TheVariants as state
 use Rattle.njh_line.specs.declared.verdict.LineReply.TheVariants as reply
 use Rattle.njh_customer.specs.Moves as moves
@@ -179,7 +179,7 @@ none_more : (n : ℕ) (s : Sender) (more : List Sender) → (file_in s ≡ Some 
 none_more n s more first rest zero about = first about
 none_more n s more first rest (suc k) about = rest k about
 
--- behind the end of one stream's session a file was there, or it was what the stream was about
+-- after the end of one stream's session a file was there, or it was what the stream was about
 one_ended : (s : Sender) (spool : CustomerSpool) (g : WholeFile) → Contains (spool_after_session s spool).whole g
     → (Contains spool.whole g × (file_in s ≡ Some g.number → ⊥))
     ⊎ ((file_in s ≡ Some g.number) × (g.state ≡ state.Ready))
@@ -219,67 +219,67 @@ unended_ones (s ∷ more) spool g at none =
     ]
 
 module _ (l : ℕ) (c : Customer) (line : l < length c.lines) (sent : AreBeingSent (outgoing c)) where
-  abbrev before_end : Outgoing
-  before_end = outgoing c
+  abbrev before_it : Outgoing
+  before_it = outgoing c
 
-  abbrev behind_end : Outgoing
-  behind_end = outgoing (session_over l c)
+  abbrev after_it : Outgoing
+  after_it = outgoing (session_over l c)
 
   abbrev own : List Sender
   own = (line_at l c.lines).senders
 
   abbrev idles : List Sender
-  idles = replicate (length (streams_of l before_end)) Idle
+  idles = replicate (length (streams_of l before_it)) Idle
 
-  own_streams : streams_of l before_end ≡ own
+  own_streams : streams_of l before_it ≡ own
   own_streams = get_or-map (λ y. y.senders) c.lines l no_customer_line
 
-  inside : l < length before_end.streams
+  inside : l < length before_it.streams
   inside = omega (arith, length-map c.lines (λ x. x.senders))
 
-  streams_now : behind_end.streams ≡ set before_end.streams l idles
+  streams_now : after_it.streams ≡ set before_it.streams l idles
   streams_now = (over_so l c).streams
 
-  files_now : behind_end.files ≡ (tried_again c.entry l (all_ended own c.spool)).whole
+  files_now : after_it.files ≡ (tried_again c.entry l (all_ended own c.spool)).whole
   files_now = (without_open_same (line_at l c.lines).receivers (tried_again c.entry l (all_ended own c.spool))).whole
 
-  line_now : streams_of l behind_end ≡ idles
-  line_now = ap (λ lines. get_or lines l []) streams_now ∙ get_or-set_same before_end.streams l idles [] inside
+  line_now : streams_of l after_it ≡ idles
+  line_now = ap (λ lines. get_or lines l []) streams_now ∙ get_or-set_same before_it.streams l idles [] inside
 
-  other_line : (m : ℕ) → (m ≡ l → ⊥) → streams_of m behind_end ≡ streams_of m before_end
+  other_line : (m : ℕ) → (m ≡ l → ⊥) → streams_of m after_it ≡ streams_of m before_it
   other_line m apart = ap (λ lines. get_or lines m []) streams_now
-      ∙ get_or-set_other before_end.streams l m idles [] apart
+      ∙ get_or-set_other before_it.streams l m idles [] apart
 
   -- a stream that is about a file is of another line, and was about it
-  about_before : (m k n : ℕ) → IsAbout m k n behind_end → (m ≡ l → ⊥) × IsAbout m k n before_end
+  about_before : (m k n : ℕ) → IsAbout m k n after_it → (m ≡ l → ⊥) × IsAbout m k n before_it
   about_before m k n about = (apart, sym (ap (λ senders. file_in (get_or senders k Idle)) (other_line m apart)) ∙ about)
     where
       apart : m ≡ l → ⊥
-      apart same = cc (sym about ∙ ap (λ i. file_in (sender_on i k behind_end)) same
+      apart same = cc (sym about ∙ ap (λ i. file_in (sender_on i k after_it)) same
           ∙ ap (λ senders. file_in (get_or senders k Idle)) line_now
-          ∙ ap (λ s. file_in s) (copies (length (streams_of l before_end)) k Idle))
+          ∙ ap (λ s. file_in s) (copies (length (streams_of l before_it)) k Idle))
 
   -- so none of the line's was
-  none_own : (m k n : ℕ) → IsAbout m k n behind_end → NoneAbout n own
+  none_own : (m k n : ℕ) → IsAbout m k n after_it → NoneAbout n own
   none_own m k n about j of_own =
       let was = about_before m k n about in
       was.0 (sent.apart m k l j n was.1 (ap (λ senders. file_in (get_or senders j Idle)) own_streams ∙ of_own)).0
 
-  from_tried : (g : WholeFile) → Contains behind_end.files g
+  from_tried : (g : WholeFile) → Contains after_it.files g
       → WasOrIs (may_go_again c.entry l) ready (all_ended own c.spool).whole g
   from_tried g at = from_where (may_go_again c.entry l) ready (all_ended own c.spool).whole g
       (subst (λ fs. Contains fs g) files_now at)
 
-  over_streams : (m : ℕ) → length (streams_of m behind_end) ≡ length (streams_of m before_end)
+  over_streams : (m : ℕ) → length (streams_of m after_it) ≡ length (streams_of m before_it)
   over_streams m = elim (cases_eq m l) [
     | inl same ↦
-        ap (λ i. length (streams_of i behind_end)) same ∙ ap length line_now ∙ length-replicate {A = Sender}
-        (length (streams_of l before_end)) Idle ∙ ap (λ i. length (streams_of i before_end)) (sym same)
+        ap (λ i. length (streams_of i after_it)) same ∙ ap length line_now ∙ length-replicate {A = Sender}
+        (length (streams_of l before_it)) Idle ∙ ap (λ i. length (streams_of i before_it)) (sym same)
     | inr apart ↦ ap length (other_line m apart)
   ]
 
   -- a file that a stream is about was there as it is
-  over_same : (m k n : ℕ) (g : WholeFile) → IsAbout m k n behind_end → g.number ≡ n
+  over_same : (m k n : ℕ) (g : WholeFile) → IsAbout m k n after_it → g.number ≡ n
       → WasOrIs (may_go_again c.entry l) ready (all_ended own c.spool).whole g → Contains c.spool.whole g
   over_same m k n g about same = at_tried
     where
@@ -301,21 +301,21 @@ module _ (l : ℕ) (c : Customer) (line : l < length c.lines) (sent : AreBeingSe
   over_sent g is (inl (f, at, e, same)) = absurd (cc (sym is ∙ ap (λ i. i.state) same))
   over_sent g is (inr (at, e)) = all_ended_ones own c.spool g at is
 
-  over_on : (g : WholeFile) → NoneAbout g.number own → (m k : ℕ) → IsAbout m k g.number before_end
-      → IsAbout m k g.number behind_end
+  over_on : (g : WholeFile) → NoneAbout g.number own → (m k : ℕ) → IsAbout m k g.number before_it
+      → IsAbout m k g.number after_it
   over_on g none m k about = ap (λ senders. file_in (get_or senders k Idle)) (other_line m apart) ∙ about
     where
       apart : m ≡ l → ⊥
       apart same = none k (sym (ap (λ senders. file_in (get_or senders k Idle)) own_streams)
-          ∙ sym (ap (λ i. file_in (sender_on i k before_end)) same) ∙ about)
+          ∙ sym (ap (λ i. file_in (sender_on i k before_it)) same) ∙ about)
 
-  over_carries : Carries before_end behind_end
+  over_carries : Carries before_it after_it
   over_carries = record {
-    lines = ap length streams_now ∙ length-set before_end.streams l idles;
+    lines = ap length streams_now ∙ length-set before_it.streams l idles;
     streams = over_streams;
     back = λ m k n about. (about_before m k n about).1;
-    there = λ m k n about there. same_numbered n behind_end.files before_end.files
-        (but_states behind_end.files before_end.files (over_so l c).files) ∙ there;
+    there = λ m k n about there. same_numbered n after_it.files before_it.files
+        (but_states after_it.files before_it.files (over_so l c).files) ∙ there;
     same = λ m k n g about at is. over_same m k n g about is (from_tried g at);
     sent = λ g at is. (over_sent g is (from_tried g at)).0;
     on = λ g at is. over_on g (over_sent g is (from_tried g at)).1;

@@ -3,18 +3,18 @@ use Rattle.njh_customer.proofs.Words
 use Words.{cond_both, ne_eqb, ℕ, Bool, true, false, cond, not, inl, inr, List, [], length, map, filter, get_or}
 use Words.{count_by, Option, Some, None, refl, sym, ap, subst, not-suc-le-zero, arith, eqb-true, eq-eqb, not-true}
 use Words.{not_from_false, eqb-false, Contains-append_left, Contains-push_cases, sum_by_push, Contains, Item, WholeFile}
-use Words.{State, CustomerEntry, counted_at, file_in, Sender, CommandsMoveFilesSo, aborted_where, file_in_state}
-use Words.{is_about, is_busy, is_of_name, is_sending, may_change, state_after_reroute, with_new_destination}
-use Words.{without_file, after_record, Customer, AreBeingSent, IsAbout, Acts, busy_numbers, with_changed}
-use Words.{without_cancelled, without_files, Outgoing, each_stream, has_file, outgoing, sender_on, streams_of}
-use Words.{with_arrival, with_file_state, with_files, with_sender_on, without_numbered}
+use Words.{State, CustomerEntry, counted_at, file_in, Sender, aborted_where, file_in_state, is_about, is_busy}
+use Words.{is_of_name, is_sending, may_change, state_after_reroute, with_new_destination, without_file, after_record}
+use Words.{Customer, AreBeingSent, IsAbout, Acts, busy_numbers, with_changed, without_cancelled, without_files}
+use Words.{Outgoing, each_stream, has_file, outgoing, sender_on, streams_of, with_arrival, with_file_state, with_files}
+use Words.{with_sender_on, without_numbered}
 use Rattle.std.proofs.Common.{◌≡◌, ◌≤◌, ◌&&◌, ◌==◌, ◌∷◌, ◌++◌, ◌∙◌}
 use Rattle.njh_stream.specs.declared.sender.Sender.TheVariants.{Idle, Sending}
-use Rattle.njh_customer.proofs.{ActingMoves.acts_so, FileListLaws.{any_numbered, from_filter, same_numbered, into_map}}
-use Rattle.njh_customer.proofs.FileListLaws.{Has, WasOrIs, first_or_later, found_numbered, from_where, has_one}
-use Rattle.njh_customer.proofs.FileListLaws.{into_filter, passes_filter, any_there, changed_where}
-use Rattle.njh_customer.proofs.{FileLimits.AreDistinct, RecordsChange.{without_files_files, both_are}}
-use Rattle.njh_customer.proofs.StreamMoveLaws.{each_lines, each_streams, set_lines, set_streams, set_where_about, IsOne}
+use Rattle.njh_customer.proofs.{ActingMoves.acts_so, FileLimits.AreDistinct, FileListLaws.{any_numbered, from_filter}}
+use Rattle.njh_customer.proofs.FileListLaws.{same_numbered, into_map, Has, WasOrIs, first_or_later, found_numbered}
+use Rattle.njh_customer.proofs.FileListLaws.{from_where, has_one, into_filter, passes_filter, any_there, changed_where}
+use Rattle.njh_customer.proofs.{RecordsChange.{without_files_files, both_are}, StreamMoveLaws.each_lines}
+use Rattle.njh_customer.proofs.StreamMoveLaws.{each_streams, set_lines, set_streams, set_where_about, IsOne}
 use Rattle.njh_customer.proofs.StreamMoveLaws.{aborted_none, all_give_up, busy_one, each_at, moved_one, was}
 use Rattle.njh_spool.specs.declared.State.TheVariants as state
 use Rattle.njh_customer.specs.Moves as moves
@@ -333,7 +333,7 @@ cancelled_carries p x apart are = record {
 
 sent_by_acts : (entry : CustomerEntry) (l : ℕ) (i : Item) (x y : Outgoing) → Acts entry l i x y → AreDistinct x.files
     → AreDistinct y.files → AreBeingSent x → AreBeingSent y
-sent_by_acts entry l i x y acts before behind are = at_move acts
+sent_by_acts entry l i x y acts before afterwards are = at_move acts
   where
     now : (z : Outgoing) → y ≡ z → Carries x z → AreBeingSent y
     now z e carries = carried x y (subst (Carries x) (sym e) carries) are
@@ -346,7 +346,7 @@ sent_by_acts entry l i x y acts before behind are = at_move acts
     at_move : Acts entry l i x y → AreBeingSent y
     at_move (moves.comes rcb srcb f is ready whole e) =
         now _ e (arrival_carries f x (λ sending. cc (sym ready ∙ sending))
-        (subst (λ z. AreDistinct z.files) e behind) are)
+        (subst (λ z. AreDistinct z.files) e afterwards) are)
     at_move (moves.permitted streams k n told asked e) =
         now _ e (onward_carries l k (Sending n 0) x (sym (ap (λ s. file_in s) asked)))
     at_move (moves.refused streams k n after told about none e) = now _ e (refused_carries l k n after x about none are)
@@ -360,10 +360,10 @@ sent_by_acts entry l i x y acts before behind are = at_move acts
         by_command (is_of_name who name) (with_new_destination node) e (λ f. refl) (λ f. reroute_idle f.state)
     at_move (moves.cancels who name given e) = now _ e (cancelled_carries (is_of_name who name) x before are)
 
-pub sent_record : CommandsMoveFilesSo → (l : ℕ) (i : Item) (c : Customer) → AreDistinct c.spool.whole
+pub sent_record : (l : ℕ) (i : Item) (c : Customer) → AreDistinct c.spool.whole
     → AreDistinct (after_record l i c).spool.whole
     → AreBeingSent (outgoing c) → AreBeingSent (outgoing (after_record l i c))
-sent_record commands l i c before behind are = elim ((acts_so commands l i c).moves) [
+sent_record l i c before afterwards are = elim ((acts_so l i c).moves) [
   | inl same ↦ subst AreBeingSent (sym same) are
-  | inr acts ↦ sent_by_acts c.entry l i (outgoing c) (outgoing (after_record l i c)) acts before behind are
+  | inr acts ↦ sent_by_acts c.entry l i (outgoing c) (outgoing (after_record l i c)) acts before afterwards are
 ]

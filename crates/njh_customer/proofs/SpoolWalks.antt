@@ -5,23 +5,23 @@ use Words.{kind_of, sender_of, CustomerSpool, WholeFile, has_block, has_file_roo
 use Words.{with_appended, with_finished, with_new_partial, without_partial, Held, Ready, CustomerEntry, RouteEntry}
 use Words.{Arrival, closed_by, received_arrival, received_request, requested_where, stored_by, after_completion}
 use Words.{after_refusal, all_ended, goes_by, ready, tried_again, Taken, Cancelled, Fitting, is_whole, judged_coming}
-use Words.{verdict_of, with_room, Receiver, Sender, filling, own_fcs, CommandsMoveFilesSo, FilesMove, ReroutesNameNodes}
-use Words.{stay, held, released, rerouted, cancelled, CommandOutcome, changed_file, file_in_state, is_of_name}
-use Words.{may_change, message_outcome, spool_after, with_new_destination, LineReply, after_record, replied_to}
-use Words.{session_over, Customer, line_at, receiver_at, customer_with_routes, entry_with, outlet_of, own_block}
+use Words.{verdict_of, with_room, Receiver, Sender, filling, own_fcs, FilesMove, stay, held, released, rerouted}
+use Words.{cancelled, CommandOutcome, changed_file, file_in_state, is_of_name, may_change, message_outcome, spool_after}
+use Words.{with_new_destination, LineReply, after_record, replied_to, session_over, Customer, line_at, receiver_at}
+use Words.{customer_with_routes, entry_with, outlet_of, own_block}
 use Rattle.{std.proofs.Common.{◌≡◌, ◌&&◌, ◌==◌, ◌∷◌, ◌++◌, ◌∙◌}, njh_block.specs.Blocks.{Control, Data}}
-use Rattle.{njh_stream.specs.Transmissions.RecordVerdict, njh_customer.specs.Customer.sender_at}
-use Rattle.njh_customer.proofs.{FileListLaws.changed_where, RecordsDo.{Brings, a_request, an_abort, some_data}}
-use Rattle.njh_customer.proofs.{RecordsDo.{too_long, RecordDoes, record_does}, Restated.{filled_kept, IsRestated}}
-use Rattle.njh_customer.proofs.Restated.{ended_restated, held_restated, open_so, completed_so, refused_restated}
-use Rattle.njh_customer.proofs.StepWalks.{StaysInSteps}
+use Rattle.{njh_stream.specs.Transmissions.RecordVerdict, njh_command.proofs.CommandMoves.files_move}
+use Rattle.{njh_command.proofs.RerouteNodes.nodes_are_names, njh_customer.proofs.FileListLaws.changed_where}
+use Rattle.njh_customer.proofs.RecordsDo.{Brings, a_request, an_abort, some_data, too_long, RecordDoes, record_does}
+use Rattle.njh_customer.proofs.Restated.{filled_kept, IsRestated, ended_restated, held_restated, open_so, completed_so}
+use Rattle.njh_customer.{proofs.{Restated.refused_restated, StepWalks.StaysInSteps}, specs.Customer.sender_at}
 use Rattle.njh_stream.specs.declared.receiver.Receiver.TheVariants as receiver
 use Rattle.njh_line.specs.declared.verdict.LineReply.TheVariants as reply
 use Rattle.njh_customer.proofs.RecordsDo as does
 
 -- ---- an arrival on a stream to the hub
 
--- What was so of a customer's files, I, is so without a partial file, and J behind an item that brings an arrival.
+-- What was so of a customer's files, I, is so without a partial file, and J after an item that brings an arrival.
 pub record StaysInArrivals (I : CustomerSpool → Type 0) (J : Item → CustomerSpool → Type 0) : Type 0 where
   pub still : (i : Item) (s : CustomerSpool) → I s → J i s
   pub without : (n : ℕ) (s : CustomerSpool) → I s → I (without_partial n s)
@@ -91,8 +91,7 @@ pub record StaysInFiles (I : CustomerSpool → Type 0) (J : Item → CustomerSpo
   pub rerouted : (p : WholeFile → Bool) (node : List ℕ) (s : CustomerSpool) → is_name node ≡ true → I s
       → I (record s { whole = map (changed_file p (with_new_destination node)) s.whole })
 
-module _ (I : CustomerSpool → Type 0) (J : Item → CustomerSpool → Type 0) (keep : StaysInFiles I J)
-    (names : ReroutesNameNodes) (commands : CommandsMoveFilesSo) where
+module _ (I : CustomerSpool → Type 0) (J : Item → CustomerSpool → Type 0) (keep : StaysInFiles I J) where
   command_so : (entry : CustomerEntry) (who : User) (message : List ℕ) (s : CustomerSpool) (done : CommandOutcome)
       → FilesMove entry who message s.whole done → I s → I (spool_after done s)
   command_so entry who message s done move so = at_move move
@@ -113,7 +112,7 @@ module _ (I : CustomerSpool → Type 0) (J : Item → CustomerSpool → Type 0) 
           ∙ changed_where ready (may_change (is_of_name who name)) (file_in_state Ready) s.whole (λ f. refl))
       at_move (rerouted name node line says route is none_gone) =
           files (map (changed_file (is_of_name who name) (with_new_destination node)) s.whole) is
-          (keep.rerouted (is_of_name who name) node s (names message name node says) so)
+          (keep.rerouted (is_of_name who name) node s (nodes_are_names message name node says) so)
       at_move (cancelled name says is gone) = files (filter (λ f. not (is_of_name who name f)) s.whole) is
           (keep.left (λ f. not (is_of_name who name f)) s so)
 
@@ -138,7 +137,7 @@ module _ (I : CustomerSpool → Type 0) (J : Item → CustomerSpool → Type 0) 
           let done = message_outcome c.entry (sender_of n) n.message c.spool in
           keep.arrivals.still (Data 0x9a srcb bytes) (spool_after done c.spool)
           (command_so c.entry (sender_of n) n.message c.spool done
-          (commands c.entry (sender_of n) n.message c.spool) so)
+          (files_move c.entry (sender_of n) n.message c.spool) so)
       at _ _ (does.knows_no_node i n) = keep.arrivals.still i c.spool so
       at _ _ (does.passes_on i k m) = keep.arrivals.still i c.spool so
 
@@ -165,14 +164,13 @@ module _ (I : CustomerSpool → Type 0) (restated : (s t : CustomerSpool) → Is
       restated c.spool (customer_with_routes routes c).spool (held_restated (entry_with routes c.entry) c.spool) so
 
 -- all steps of a session
-pub files_in_steps : (I : CustomerSpool → Type 0) → StaysInFiles I (λ i. I) → ReroutesNameNodes → CommandsMoveFilesSo
-    → StaysInSteps (λ c. I c.spool)
-files_in_steps I keep names commands = record {
+pub files_in_steps : (I : CustomerSpool → Type 0) → StaysInFiles I (λ i. I) → StaysInSteps (λ c. I c.spool)
+files_in_steps I keep = record {
   session = record {
     judged = λ l came c there so. so;
     answered = λ l r c there so. replied_so I keep.restated l r c so;
     ended = λ l c there so. so;
     over = λ l c there so. session_over_so I keep.restated keep.arrivals.without l c so;
   };
-  acted = λ l i c there so. record_so I (λ j. I) keep names commands l i c so;
+  acted = λ l i c there so. record_so I (λ j. I) keep l i c so;
 }

@@ -3,14 +3,14 @@ use Rattle.njh_customer.proofs.Words
 use Words.{cond_both, Bool, Err, List, None, Ok, Option, Result, Some, [], arith, cond, length, nat_lt, ℕ, false, true}
 use Words.{ltb-true, length-set, rest_step, Rest, Item, read_block, BlockFault, RouteEntry, NewRoute, entries_of_routes}
 use Words.{routes_checked, Input, after_end, after_input, LineReply, acted_where, after_record, CustomerStep}
-use Words.{accepted_on, after_block, after_line_input, after_received, behind_records, block_input, carried_out}
+use Words.{accepted_on, after_block, after_line_input, after_received, after_records, block_input, carried_out}
 use Words.{replied_to, session_over, session_over_where, signal_input, silent, text_read, verdict_on, Customer}
 use Words.{in_state, line_at, on_line, or_later, Taking, acted_on, byte_step, bytes_run, take_step, block_records}
 use Words.{records_of_frame, customer_with_routes, routes_given, taken_where, Part, rest_on, OwnBytes, OwnEvent}
 use Words.{OwnRoutes, OwnSignal, event_run, sending_of_reply, Signal}
 use Rattle.{std.proofs.Common.{◌<◌, ◌∷◌}, njh_bisync.specs.Frames.Received, njh_block.specs.Blocks.Block}
-use Rattle.{njh_line.specs.declared.verdict.Verdict.Verdict, njh_customer.specs.Alone.{after_frame, after_signal}}
-use Rattle.njh_customer.proofs.{LineWalks.{acted_keeps, lines_of}, RecordsDo.acted_where_so}
+use Rattle.{njh_line.specs.declared.verdict.Verdict.Verdict, njh_customer.proofs.LineWalks.{acted_keeps, lines_of}}
+use Rattle.njh_customer.{proofs.RecordsDo.acted_where_so, specs.Alone.{after_frame, after_signal}}
 use Rattle.njh_bisync.specs.Frames as frame
 use Rattle.njh_line.specs.LineTable as input
 
@@ -92,19 +92,19 @@ module _ (I : Customer → Type 0) (keep : StaysInSteps I) where
   acted_so : (l : ℕ) (i : Item) (c : Customer) → So l c → So l (after_record l i c)
   acted_so l i c so = (omega (arith, lines_of c (after_record l i c) (acted_keeps l i c)), keep.acted l i c so.0 so.1)
 
-  behind_so : (b : Bool) (l : ℕ) (v : Verdict) (c : Customer) → So l c → I (behind_records b l v c).after
-  behind_so true l v c so =
+  after_so : (b : Bool) (l : ℕ) (v : Verdict) (c : Customer) → So l c → I (after_records b l v c).after
+  after_so true l v c so =
       let d : Customer = record c { lines = on_line l (in_state after_end) c.lines } in
       keep.session.over l d (omega (arith, length-set c.lines l (in_state after_end (line_at l c.lines))))
       (keep.session.ended l c so.0 so.1)
-  behind_so false l v c so = carried_so I keep.session l v c so.0 so.1
+  after_so false l v c so = carried_so I keep.session l v c so.0 so.1
 
   pub block_so : (l : ℕ) (b : Block) (c : Customer) → l < length c.lines → I c → I (after_block l b c).after
   block_so l b c there so =
       let v = verdict_on l (block_input b) c in
       let d = accepted_on l (block_input b) c in
       let a = acted_where v.acts l b.items d in
-      behind_so a.ended l v a.customer (acted_where_so l (So l) v.acts b.items (λ i at. acted_so l i) d
+      after_so a.ended l v a.customer (acted_where_so l (So l) v.acts b.items (λ i at. acted_so l i) d
       (accepted_there I keep.session l (block_input b) c there, keep.session.judged l (block_input b) c there so))
 
   pub frame_so : (l : ℕ) (x : Received) (c : Customer) → I c → I (after_frame l x c).after

@@ -8,9 +8,9 @@ use Words.{may_go, aborted_where, is_of_name, is_about, is_busy, is_sending, wit
 use Words.{Records, Routes, Moves, by_record, by_sending, by_end, Sends, Tells, Commands, Over, busy_numbers}
 use Words.{without_files, StreamMoves, StreamsMoveSo, IdleStreamsTakeFiles, IsMovedAlone, Outgoing, each_stream}
 use Words.{with_file_state, sender_on, streams_of, with_files, with_sender_on, without_numbered}
-use Rattle.njh_customer.proofs.FileListLaws.{from_map, from_filter, passes_filter, copies, set_one}
 use Rattle.std.proofs.Common.{◌≡◌, ◌+◌, ◌⊎◌, ◌∷◌, ◌==◌, ◌∙◌, ◌<◌}
 use Rattle.njh_stream.specs.declared.sender.Sender.TheVariants.{Idle, Sending}
+use Rattle.njh_customer.proofs.FileListLaws.{from_map, from_filter, passes_filter, copies, set_one}
 use Rattle.njh_spool.specs.declared.State.TheVariants as state
 use Rattle.njh_customer.specs.Moves as moves
 use Rattle.njh_customer.specs.MovingLaws as laws

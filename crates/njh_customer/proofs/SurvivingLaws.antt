@@ -3,17 +3,17 @@ use Rattle.njh_customer.proofs.Words
 use Words.{cond_both, ℕ, zero, suc, Bool, true, cond, not, inl, inr, List, [], length, map, filter, take, None}
 use Words.{IsSomeAnd, refl, sym, ap, subst, arith, length-append, append_assoc, append-nil, take-append-le}
 use Words.{Contains-append_right, Contains, is_name, Stored, Kind, with_destination, records_to_node, WholeFile}
-use Words.{max_arrived, State, CustomerEntry, entry_marked, entries_of_routes, has_lost_route, held_file, ready}
-use Words.{ReroutesNameNodes, changed_file, file_in_state, is_of_name, may_change, without_file, with_new_destination}
-use Words.{Acts, Coming, Records, Routes, nowhere, onward, Moves, MovesBy, by_record, by_sending, by_end, Sends}
-use Words.{without_files, busy_numbers, with_changed, EventsMoveSo, TakesMoveSo, coming, entry_with, Outgoing}
-use Words.{each_stream, with_arrival, with_file_state, with_files, outgoing, part_after_bytes, OwnBytes, alone_run}
+use Words.{max_arrived, CustomerEntry, entry_marked, entries_of_routes, has_lost_route, held_file, ready, changed_file}
+use Words.{is_of_name, may_change, with_new_destination, Coming, Records, Routes, nowhere, onward, MovesBy}
+use Words.{with_changed, coming, entry_with, Outgoing, with_arrival, outgoing, part_after_bytes, OwnBytes, alone_run}
 use Words.{event_run, IsRerouted, as_before, to_node, IsStill, Survive, stays, leaves, FilesGoOn, FilesSurvive}
 use Words.{EventsKeepFiles, TakesKeepFiles, FirstFilesSurvive, FilesGoOnFurther, RunsKeepFiles, SurvivorsAreNumbered}
-use Rattle.{std.proofs.Common.{◌≡◌, ◌<◌, ◌≤◌, ◌-◌, ◌==◌, ◌∷◌, ◌++◌, ◌∙◌}, njh_customer.specs.Surviving.none}
-use Rattle.njh_customer.proofs.{FileListLaws.{first_or_later, found_numbered}, RecordsChange.without_files_files}
-use Rattle.njh_spool.specs.declared.State.TheVariants as state
-use Rattle.njh_customer.specs.Moves as moves
+use Words.{Item}
+use Rattle.{std.proofs.Common.{◌≡◌, ◌<◌, ◌≤◌, ◌-◌, ◌∷◌, ◌++◌, ◌∙◌}, njh_header.proofs.Redirected.redirected_is}
+use Rattle.{njh_command.proofs.RerouteNodes.nodes_are_names, njh_customer.proofs.EventMoves.{events_move, takes_move}}
+use Rattle.njh_customer.proofs.{FileListLaws.{first_or_later, found_numbered}, RecordsChange.{FilesDo, files_do}}
+use Rattle.njh_customer.specs.Surviving.{none}
+use Rattle.njh_customer.proofs.RecordsChange as does
 
 -- ---- a file that is still there
 
@@ -86,7 +86,7 @@ no_more _ _ none = omega arith
 no_more _ _ (stays f g fs gs one more) = omega (arith, no_more fs gs more)
 no_more _ _ (leaves f fs gs more) = omega (arith, no_more fs gs more)
 
--- those of two lists, one behind the other
+-- those of two lists, one after the other
 pub record SurviveBoth (fs gs still : List WholeFile) : Type 0 where
   pub first : List WholeFile
   pub second : List WholeFile
@@ -162,9 +162,6 @@ goes_on_then x y z first second = let parts = survive_both first.still first.new
           omega (arith, no_more first.new parts.second parts.of_second);
     }
 
-pub in_state_still : (s : State) (f : WholeFile) → IsStill f (record f { state = s })
-in_state_still s f = is_same f (record f { state = s }) refl refl refl
-
 -- those that pass a test change
 still_where : (p : WholeFile → Bool) (change : WholeFile → WholeFile) → ((f : WholeFile) → IsStill f (change f))
     → (f : WholeFile) → IsStill f (cond (p f) (change f) f)
@@ -174,105 +171,68 @@ pub changed_still : (p : WholeFile → Bool) (change : WholeFile → WholeFile) 
     → (f : WholeFile) → IsStill f (changed_file p change f)
 changed_still p change = still_where (may_change p) change
 
-pub marked_still : (n : ℕ) (s : State) (fs : List WholeFile) → Survive fs (with_file_state n s fs)
-marked_still n s fs =
-    let change = λ (f : WholeFile). record f { state = s } in
-    all_still (λ f. cond (f.number == n) (change f) f) (still_where (λ f. f.number == n) change (in_state_still s)) fs
-
 pub held_still : (entry : CustomerEntry) (fs : List WholeFile)
     → Survive fs (map (λ f. cond (has_lost_route entry f) (held_file f) f) fs)
 held_still entry fs = all_still (λ f. cond (has_lost_route entry f) (held_file f) f)
-    (still_where (has_lost_route entry) held_file (in_state_still state.Held)) fs
+    (still_where (has_lost_route entry) held_file (λ f. is_same f (held_file f) refl refl refl)) fs
 
-without_files_arrived : (ns : List ℕ) (x : Outgoing) → (without_files ns x).arrived ≡ x.arrived
-without_files_arrived [] x = refl
-without_files_arrived (n ∷ ns) x = without_files_arrived ns (each_stream (without_file n) x)
+pub rerouted_still : (node : List ℕ) → is_name node ≡ true → (f : WholeFile) → IsStill f (with_new_destination node f)
+rerouted_still node is f = record {
+  number = refl;
+  kind = refl;
+  records = to_node node f.records (with_destination f.kind node f.records) is
+      (subst (IsRerouted f.kind (records_to_node f.kind node None f.records)) (redirected_is f.kind node f.records)
+      (as_before (records_to_node f.kind node None f.records)));
+}
 
-module _ (by_records : (kind : Kind) (node : List ℕ) (records : List Stored)
-    → records_to_node kind node None records ≡ with_destination kind node records) (names : ReroutesNameNodes) where
-  pub rerouted_still : (node : List ℕ) → is_name node ≡ true → (f : WholeFile) → IsStill f (with_new_destination node f)
-  rerouted_still node is f = record {
-    number = refl;
-    kind = refl;
-    records = to_node node f.records (with_destination f.kind node f.records) is
-        (subst (IsRerouted f.kind (records_to_node f.kind node None f.records)) (by_records f.kind node f.records)
-        (as_before (records_to_node f.kind node None f.records)));
-  }
+by_files : (entry : CustomerEntry) (l : ℕ) (items : List Item) (x y : Outgoing) → FilesDo entry l items x y
+    → y.arrived < max_arrived → FilesGoOn x y
+by_files entry l items x y (does.states same arrived) below =
+    none_came x y y.files refl (but_states x.files y.files same) arrived
+by_files entry l items x y (does.comes i rcb srcb f at is waits whole e) below = one_came x y f e below
+by_files entry l items x y (does.rerouted i who name node at given e) below =
+    let p = is_of_name who name in
+    let named = nodes_are_names given.nodal.message name node given.says in
+    let change = with_new_destination node in
+    none_came x y (with_changed p change x).files (ap (λ z. z.files) e)
+    (all_still (changed_file p change) (changed_still p change (rerouted_still node named)) x.files)
+    (ap (λ z. z.arrived) e)
+by_files entry l items x y (does.leave p e arrived each) below =
+    none_came x y (filter (λ f. not (p f)) x.files) e (some_still (λ f. not (p f)) x.files) arrived
 
-  module _ (entry : CustomerEntry) (l : ℕ) (x y : Outgoing) where
-    -- by what it is after the move
-    left : {z : Outgoing} → y ≡ z → Survive x.files z.files → z.arrived ≡ x.arrived → FilesGoOn x y
-    left {z} e survive same = none_came x y z.files (ap (λ w. w.files) e) survive (ap (λ w. w.arrived) e ∙ same)
+one_move : (entry : CustomerEntry) (came : Coming) (x y : Outgoing) → MovesBy entry came x y → y.arrived < max_arrived
+    → FilesGoOn x y
+one_move entry (Records l items) x y (up, move) below =
+    let marked = entry_marked l up entry in by_files marked l items x y (files_do marked l items x y move) below
+one_move entry (Routes routes) x y given below =
+    let new = entry_with (entries_of_routes routes) entry in
+    none_came x y (map (λ f. cond (has_lost_route new f) (held_file f) f) x.files) (ap (λ z. z.files) given.holds)
+    (held_still new x.files) (ap (λ z. z.arrived) given.holds)
 
-    changes : (p : WholeFile → Bool) (change : WholeFile → WholeFile) → ((f : WholeFile) → IsStill f (change f))
-        → y ≡ with_changed p change x → FilesGoOn x y
-    changes p change each e =
-        left e (all_still (changed_file p change) (changed_still p change each) x.files) refl
+pub files_survive : FilesSurvive
+files_survive entry came _ _ (nowhere x) below = none_came x x x.files refl (same_files x.files) refl
+files_survive entry came _ _ (onward x y z move later) below =
+    let further = files_survive entry came y z later below in
+    goes_on_then x y z (one_move entry came x y move (omega arith)) further
 
-    by_acts : (i : _) → Acts entry l i x y → y.arrived < max_arrived → FilesGoOn x y
-    by_acts i (moves.comes rcb srcb f is ready whole e) below = one_came x y f e below
-    by_acts i (moves.permitted streams k n told before e) below = left e (same_files x.files) refl
-    by_acts i (moves.refused streams k n after told before about e) below =
-        left e (marked_still n state.Refused x.files) refl
-    by_acts i (moves.completed streams k n told before e) below =
-        left e (some_still (λ f. not (f.number == n)) x.files) refl
-    by_acts i (moves.holds who name given e) below = changes (is_of_name who name) (file_in_state state.Held)
-        (in_state_still state.Held) e
-    by_acts i (moves.releases who name given e) below = changes (is_of_name who name) (file_in_state state.Ready)
-        (in_state_still state.Ready) e
-    by_acts i (moves.reroutes who name node line given route e) below =
-        changes (is_of_name who name) (with_new_destination node)
-        (rerouted_still node (names given.nodal.message name node given.says)) e
-    by_acts i (moves.cancels who name given e) below =
-        let p = is_of_name who name in
-        let left = filter (λ f. not (p f)) x.files in
-        let ns = busy_numbers p x.files in
-        none_came x y left (ap (λ z. z.files) e ∙ without_files_files ns (with_files left x))
-        (some_still (λ f. not (p f)) x.files) (ap (λ z. z.arrived) e ∙ without_files_arrived ns (with_files left x))
+pub events_keep_files : EventsKeepFiles
+events_keep_files p event below = files_survive p.customer.entry (coming p event) (outgoing p.customer)
+    (outgoing (event_run p event).after.customer) (events_move p event) below
 
-    by_sends : Sends entry l x y → FilesGoOn x y
-    by_sends (moves.gives_up k before e) = left e (same_files x.files) refl
-    by_sends (moves.asks k f few before found e) = left e (marked_still f.number state.Sending x.files) refl
-    by_sends (moves.goes_on k n place r before found e) = left e (same_files x.files) refl
-    by_sends (moves.ends k n place before found e) = left e (same_files x.files) refl
+pub takes_keep_files : TakesKeepFiles
+takes_keep_files p l piece there below =
+    let t = part_after_bytes p l piece in
+    files_survive p.customer.entry (coming p (OwnBytes l (take t.taken piece))) (outgoing p.customer)
+    (outgoing t.after.customer) (takes_move p l piece there) below
 
-    by_moves : (items : _) → Moves entry l items x y → y.arrived < max_arrived → FilesGoOn x y
-    by_moves items (by_record (i, at, acts)) below = by_acts i acts below
-    by_moves items (by_sending sends) below = by_sends sends
-    by_moves items (by_end over) below = none_came x y y.files refl (but_states x.files y.files over.files) over.arrived
-
-  one_move : (entry : CustomerEntry) (came : Coming) (x y : Outgoing) → MovesBy entry came x y → y.arrived < max_arrived
-      → FilesGoOn x y
-  one_move entry (Records l items) x y (up, move) below = by_moves (entry_marked l up entry) l x y items move below
-  one_move entry (Routes routes) x y given below =
-      let new = entry_with (entries_of_routes routes) entry in
-      none_came x y (map (λ f. cond (has_lost_route new f) (held_file f) f) x.files) (ap (λ z. z.files) given.holds)
-      (held_still new x.files) (ap (λ z. z.arrived) given.holds)
-
-  pub files_survive : FilesSurvive
-  files_survive entry came _ _ (nowhere x) below = none_came x x x.files refl (same_files x.files) refl
-  files_survive entry came _ _ (onward x y z move later) below =
-      let behind = files_survive entry came y z later below in
-      goes_on_then x y z (one_move entry came x y move (omega arith)) behind
-
-  pub events_keep_files : EventsMoveSo → EventsKeepFiles
-  events_keep_files move p event below = files_survive p.customer.entry (coming p event) (outgoing p.customer)
-      (outgoing (event_run p event).after.customer) (move p event) below
-
-  pub takes_keep_files : TakesMoveSo → TakesKeepFiles
-  takes_keep_files move p l piece there below =
-      let t = part_after_bytes p l piece in
-      files_survive p.customer.entry (coming p (OwnBytes l (take t.taken piece))) (outgoing p.customer)
-      (outgoing t.after.customer) (move p l piece there) below
-
-  pub runs_keep_files : EventsMoveSo → RunsKeepFiles
-  runs_keep_files move p [] below = none_came (outgoing p.customer) (outgoing p.customer) p.customer.spool.whole refl
-      (same_files p.customer.spool.whole) refl
-  runs_keep_files move p (event ∷ events) below =
-      let q = (event_run p event).after in
-      let behind = runs_keep_files move q events below in
-      goes_on_then (outgoing p.customer) (outgoing q.customer) (outgoing (alone_run q events).after.customer)
-      (events_keep_files move p event (omega arith)) behind
+pub runs_keep_files : RunsKeepFiles
+runs_keep_files p [] below = none_came (outgoing p.customer) (outgoing p.customer) p.customer.spool.whole refl
+    (same_files p.customer.spool.whole) refl
+runs_keep_files p (event ∷ events) below =
+    let q = (event_run p event).after in
+    let further = runs_keep_files q events below in
+    goes_on_then (outgoing p.customer) (outgoing q.customer) (outgoing (alone_run q events).after.customer)
+    (events_keep_files p event (omega arith)) further
 
 -- ---- what is read from it
 

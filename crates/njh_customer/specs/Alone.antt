@@ -25,7 +25,7 @@ use Rattle.njh_customer.specs.Customer.{Customer, CustomerLine, line_at, on_line
 use Rattle.njh_customer.specs.Acting.{acted_where}
 use Rattle.njh_customer.specs.Sending.{LineSent, sending_of_reply}
 
--- The customer after a step, and the frame that it sent; [] where it sent none.
+-- The customer after a step, and the frame that it sent; [] if it sent none.
 pub record CustomerStep : Type 0 where
   pub after : Customer
   pub frame : List ℕ
@@ -76,7 +76,7 @@ session_ended l c = session_over l (record c { lines = on_line l (in_state after
 
 -- ---- what comes on a line
 
--- what a verdict asks for is sent, and then the session ends where it says so
+-- what a verdict asks for is sent, and then the session ends if it says so
 abbrev pub carried_out : ℕ → Verdict → Customer → CustomerStep
 carried_out l v c =
     let s = replied_to l v.reply c in record { after = session_over_where v.ended l s.after; frame = s.frame }
@@ -112,17 +112,17 @@ after_line_input l came c = carried_out l (verdict_on l came c) (accepted_on l c
 abbrev pub block_input : Block → Input
 block_input b = input.Block b.bcb b.fcs (general_first b.items)
 
--- behind the records of a block, one of which ended the session or didn't
-abbrev pub behind_records : Bool → ℕ → Verdict → Customer → CustomerStep
-behind_records true l v c = silent (session_ended l c)
-behind_records false l v c = carried_out l v c
+-- after the records of a block, one of which ended the session or didn't
+abbrev pub after_records : Bool → ℕ → Verdict → Customer → CustomerStep
+after_records true l v c = silent (session_ended l c)
+after_records false l v c = carried_out l v c
 
--- a good block: its records act where the line table says so, and then it is answered
+-- a good block: its records act if the line table says so, and then it is answered
 abbrev pub after_block : ℕ → Block → Customer → CustomerStep
 after_block l b c =
     let v = verdict_on l (block_input b) c in
     let a = acted_where v.acts l b.items (accepted_on l (block_input b) c) in
-    behind_records a.ended l v a.customer
+    after_records a.ended l v a.customer
 
 abbrev pub text_read : ℕ → Result Block BlockFault → Customer → CustomerStep
 text_read l (Ok b) c = after_block l b c

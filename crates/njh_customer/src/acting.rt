@@ -13,11 +13,11 @@ ghost use Rattle.njh_customer.specs.Waiting.{with_message_to, with_waiting};
 use crate::customer_lines::CustomerLines;
 use crate::shared::Shared;
 use njh_block::{Answer, Block, ControlRcb, Item, Rcb, Stream};
-use njh_command::{Originator, commands_keep_headers, obey};
+use njh_command::{Originator, obey};
 use njh_header::User;
 use njh_nmr::Nmr;
 use njh_record::Record;
-use njh_stream::{Arrival, streams_stay_tied, whole_files_have_headers};
+use njh_stream::Arrival;
 use njh_table::{LineId, NamedCustomer, Route};
 use njh_texts::node_unknown;
 
@@ -36,9 +36,6 @@ impl Shared {
         ensures { RecordsActBy id self.old lines.old self.new lines.new result
             (acting.all_acted id.number block.entry.items) }
     {
-        streams_stay_tied();
-        whole_files_have_headers();
-        commands_keep_headers();
         let mut block = block;
         let mut record = Record::new();
         while let Some(item) = block.next(&mut record) {
@@ -81,7 +78,7 @@ impl Shared {
         }
     }
 
-    /// An arrival on a stream of a line, where the RCB names one.
+    /// An arrival on a stream of a line, if the RCB names one.
     fn arrive(
         &mut self,
         id: LineId,
@@ -239,7 +236,7 @@ impl Shared {
     }
 }
 
-/// The refusal of a request for a stream that the line doesn't have: none where the RCB is no
+/// The refusal of a request for a stream that the line doesn't have: none if the RCB is no
 /// stream's.
 fn refusal_of(named: Rcb) -> Option<Answer>
     ensures { result ≡ acting.refusal_of named.byte (stream_number named.byte) }

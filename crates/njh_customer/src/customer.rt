@@ -1,5 +1,5 @@
 //! What a frame or a signal on one of a customer's lines does. The frame that answers it is put
-//! into `out`, which is empty then where none does.
+//! into `out`, which is empty then if none does.
 
 ghost use Rattle.std.specs.Prelude.{◌≡◌, ◌<◌, ◌&&◌, length, not};
 ghost use Rattle.std.specs.Option.{option_map};
@@ -16,17 +16,15 @@ use crate::shared::Shared;
 use crate::signal::Signal;
 use njh_bisync::Frame;
 use njh_block::Block;
-use njh_command::commands_keep_headers;
 use njh_line::{Input, Verdict};
-use njh_stream::{streams_stay_tied, whole_files_have_headers};
-use njh_table::{LineId, Tables, marks_change_one_entry};
+use njh_table::{LineId, Tables};
 
 impl Shared {
     ghost use Rattle.njh_customer.specs.Acting.{acted_where};
     ghost use Rattle.njh_customer.specs.CustomerSteps.{ChangesMarksBy, IsReady, IsThere, LeavesReadyBy};
     ghost use Rattle.njh_customer.specs.CustomerSteps.{RecordsActBy, StepSendsBy, customer_of};
 
-    /// A frame comes on a line, where one is whole. The line is ready for more.
+    /// A frame comes on a line, if one is whole. The line is ready for more.
     #[tactic(auto, unfolding(crate::specs::Alone::after_frame))]
     pub(crate) fn take_frame(
         &mut self,
@@ -86,12 +84,11 @@ impl Shared {
         ensures { LeavesReadyBy id self.old lines.old self.new lines.new out.new
             (alone.after_line_input id.number (input_value input.now)) }
     {
-        streams_stay_tied();
         let verdict = self.accept(id, input, lines);
         self.carry_out(id, verdict, lines, out);
     }
 
-    /// A good block comes on a line: its records act where the line table says so, and then it is
+    /// A good block comes on a line: its records act if the line table says so, and then it is
     /// answered.
     fn take_block(
         &mut self,
@@ -104,9 +101,6 @@ impl Shared {
         ensures { LeavesReadyBy id self.old lines.old self.new lines.new out.new
             (alone.after_block id.number read.entry) }
     {
-        streams_stay_tied();
-        whole_files_have_headers();
-        commands_keep_headers();
         let input = Input::Block {
             bcb: read.bcb(),
             fcs: read.fcs(),
@@ -131,7 +125,6 @@ impl Shared {
             (alone.accepted_on id.number (input_value input.now)) }
         ensures ready { IsReady id self.new lines.new }
     {
-        streams_stay_tied();
         let was_up = lines.is_up(id.number);
         let verdict = lines.accept(id.number, input);
         let is_up = lines.is_up(id.number);
@@ -139,7 +132,7 @@ impl Shared {
         verdict
     }
 
-    /// The records of a block act where they may. Says whether one ended the session.
+    /// The records of a block act if they may. Says whether one ended the session.
     fn act_where(
         &mut self,
         acts: bool,
@@ -158,7 +151,7 @@ impl Shared {
         }
     }
 
-    /// Sends what a verdict asks for, and then ends the session where it says so.
+    /// Sends what a verdict asks for, and then ends the session if it says so.
     fn carry_out(
         &mut self,
         id: LineId,
@@ -186,13 +179,12 @@ impl Shared {
         self.close_session(id, lines);
     }
 
-    /// The end of a line's session, and behind it the line counts as not up.
+    /// The end of a line's session, and after it the line counts as not up.
     fn close_session(&mut self, id: LineId, lines: &mut CustomerLines)
         requires there { IsThere id self.old lines.old }
         ensures { ChangesMarksBy id self.old lines.old self.new lines.new
             (alone.session_over id.number) }
     {
-        marks_change_one_entry();
         lines.end_session(id, self);
         self.tables.set_up(id, false);
     }
@@ -224,7 +216,6 @@ fn raise(id: LineId, goes_up: bool, tables: &mut Tables)
         ≡ alone.with_raised_line goes_up id.number (entry_of (customer_at tables.old id.customer)) }
     ensures entries { KeepsOtherEntries id.customer tables.old tables.new }
 {
-    marks_change_one_entry();
     if goes_up {
         tables.set_up(id, true);
     }

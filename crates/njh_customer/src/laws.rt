@@ -18,16 +18,6 @@ ghost use Rattle.njh_customer.specs.InOrder.{LossesLeaveFiles, StaysInOrder};
 ghost use Rattle.njh_customer.specs.Surviving.{EventsKeepFiles, FilesGoOnFurther, FilesSurvive, FirstFilesSurvive};
 ghost use Rattle.njh_customer.specs.Surviving.{RunsKeepFiles, SurvivorsAreNumbered, TakesKeepFiles};
 
-use njh_command::{commands_keep_headers, commands_move_files_so, reroutes_name_nodes};
-use njh_header::redirected_by_records;
-use njh_line::{inputs_are_answered, inputs_keep_up};
-use njh_sched::{
-    blocks_carry_files_in_order, nothing_where_all_is_suspended, sources_fill_the_block,
-    sources_move_streams_so,
-};
-use njh_spool::next_number_is_least;
-use njh_stream::{streams_stay_tied, whole_files_have_headers};
-
 /// It doesn't matter how the bytes of a line are cut into pieces.
 pub fn cuts_are_like()
     ensures { CutsAreLike }
@@ -49,78 +39,55 @@ pub fn first_bytes_send_first()
 {}
 
 /// An event changes a customer's routes and the marks of its lines alone in what the tables say of
-/// it, so the same routes may be given to it before the event and behind it; and it has as many
+/// it, so the same routes may be given to it before the event and after it; and it has as many
 /// lines. A step by bytes changes the marks alone.
 pub fn events_keep_entries()
     ensures entry { EventsKeepEntries }
     ensures takes { TakesKeepEntries }
     ensures faults { EventsKeepFaults }
     ensures lines { EventsKeepLines }
-{
-    frames_do_so();
-}
+{}
 
 /// The lines that are marked as up are those that are up, when a customer is opened and whatever
 /// comes to it.
 pub fn marks_are_right()
     ensures { MarksAreRight }
-{
-    inputs_keep_up();
-    commands_move_files_so();
-}
+{}
 
 /// A customer that was just opened is coherent.
 pub fn opened_is_coherent()
     ensures { (entry : CustomerEntry) → All (λ line. line.streams ≤ 4) entry.lines → IsCoherent (fresh_customer entry) }
-{
-    streams_stay_tied();
-}
+{}
 
 /// A customer's streams, files and lines agree with each other, when it is opened, whatever comes
-/// to it, by routes that it is given, and where a whole file is put back: no two files have one
+/// to it, by routes that it is given, and if a whole file is put back: no two files have one
 /// number, and they stay within the customer's quota and limit; those that are being sent are those
 /// that a stream from the hub is about, each on one stream; a line that isn't up has no stream
 /// about a file and no answer that waits; a partial file comes on a stream; each line is set up as
 /// the entry says.
 pub fn customers_stay_in_order()
     ensures { StaysInOrder }
-{
-    inputs_keep_up();
-    commands_move_files_so();
-    commands_keep_headers();
-    reroutes_name_nodes();
-    next_number_is_least();
-    streams_stay_tied();
-    whole_files_have_headers();
-}
+{}
 
 /// A customer that loses the sessions of all its lines has all its whole files, in their order and
-/// with their records, Held where they were Held, and none that is being sent. It has no other
+/// with their records, Held if they were Held, and none that is being sent. It has no other
 /// file, no line is up, no stream is about a file, no answer waits, and nothing has come of a
 /// frame.
 pub fn lost_lines_leave_files()
     ensures { LossesLeaveFiles }
-{
-    customers_stay_in_order();
-}
+{}
 
 /// What each frame and each signal does to the customer's whole files and to its streams from the
 /// hub: its records act, a frame goes out, and the session goes on or ends. A new block carries,
-/// under each stream's RCB, the stream's file from its place before the block to its place behind
-/// it, each record once and in order, and the end of file only behind the last. Any other frame
+/// under each stream's RCB, the stream's file from its place before the block to its place after
+/// it, each record once and in order, and the end of file only after the last. Any other frame
 /// moves nothing, the last transmission that goes out again among them. New routes move no line and
 /// send nothing.
 pub fn frames_do_so()
     ensures frames { FramesDoSo }
     ensures signals { SignalsDoSo }
     ensures routes { RoutesDoSo }
-{
-    blocks_carry_files_in_order();
-    sources_move_streams_so();
-    sources_fill_the_block();
-    nothing_where_all_is_suspended();
-    commands_move_files_so();
-}
+{}
 
 /// An event, and a step by bytes, move the customer's whole files and its streams from the hub by a
 /// few kinds of moves and no others. New routes move no stream, and of the files those alone that
@@ -128,9 +95,7 @@ pub fn frames_do_so()
 pub fn events_move_so()
     ensures events { EventsMoveSo }
     ensures takes { TakesMoveSo }
-{
-    frames_do_so();
-}
+{}
 
 /// A whole file leaves the spool only by the command CANCEL of its owner by its name, or by C0 to
 /// the stream that has sent its end of file; by new routes none does.
@@ -141,7 +106,7 @@ pub fn files_leave_so()
 
 /// Which whole files are new: after all that comes, the files are some of those that were there, in
 /// their order and each of its number, of its kind and with its records but for what REROUTE wrote,
-/// and behind them others, at most as many as were counted (`arrived`). So all but the last, as
+/// and after them others, at most as many as were counted (`arrived`). So all but the last, as
 /// many as the count went on by, were there, and the number of each says which it was. The count
 /// mustn't be at its greatest.
 pub fn files_survive()
@@ -152,17 +117,13 @@ pub fn files_survive()
     ensures further { FilesGoOnFurther }
     ensures first { FirstFilesSurvive }
     ensures numbers { SurvivorsAreNumbered }
-{
-    redirected_by_records();
-    reroutes_name_nodes();
-    events_move_so();
-}
+{}
 
 /// What becomes of a customer's files whose end hasn't come, in a step by bytes of a line, by a
 /// signal and by new routes. A file that becomes whole, and a file that is partial afterwards, goes
-/// on from a partial file of its number and its kind: it has that one's records, and behind them at
+/// on from a partial file of its number and its kind: it has that one's records, and after them at
 /// most as many as the step brought; or it has no more than these. So a file with more has that
-/// partial file's records, but for what REROUTE wrote once it was whole. The records of one block
+/// partial file's records, but for what REROUTE wrote after it was whole. The records of one block
 /// at most act in a step, of which fewer than 1,366 have data; by a signal and by new routes none
 /// comes. What has come of a line's next frame must be of no more than the 4,096 bytes of a text,
 /// and it is, whatever came since the customer was opened. Which partial file it was says its
@@ -178,16 +139,11 @@ pub fn files_grow()
     ensures rerouted { ReroutesKeepCounts }
     ensures many { ManyRecordsGoOn }
     ensures numbers { PartialsAreNumbered }
-{
-    redirected_by_records();
-    reroutes_name_nodes();
-    commands_move_files_so();
-    inputs_are_answered();
-}
+{}
 
-/// How a stream from the hub moves. It takes a file only where it is idle. A0 makes it send the
+/// How a stream from the hub moves. It takes a file only if it is idle. A0 makes it send the
 /// file it asked for, from place 0 on. From then on its place moves only by the file's record at it
-/// going out in a new block, by one; and where there is no record at it the end of file goes out,
+/// going out in a new block, by one; and if there is no record at it the end of file goes out,
 /// and that alone makes it wait for C0. By new routes none moves.
 pub fn streams_move_so()
     ensures each { StreamsMoveSo }
@@ -199,13 +155,10 @@ pub fn streams_move_so()
 /// at most its state, from Ready or Refused to Held.
 pub fn records_change_so()
     ensures { RecordsChangeSo }
-{
-    redirected_by_records();
-    reroutes_name_nodes();
-}
+{}
 
 /// A text that is spoiled or is no block, and a block whose check failed, change no file, no stream
-/// and nothing that waits, on no line; but where five tries were made before, the line's session
+/// and nothing that waits, on no line; but if five tries were made before, the line's session
 /// ends.
 pub fn bad_texts_change_nothing()
     ensures spoiled { SpoiledIsDisregarded }

@@ -9,7 +9,7 @@ ghost use Rattle.njh_customer.specs.code.Coherence.{RoutesKeepCoherent};
 
 use crate::lines::Lines;
 use njh_spool::Spool;
-use njh_stream::{hold_unrouted, streams_stay_tied};
+use njh_stream::hold_unrouted;
 use njh_table::Tables;
 
 impl Lines {
@@ -30,11 +30,9 @@ impl Lines {
 /// A customer that is given new routes stays coherent.
 pub fn routes_keep_coherent()
     ensures { RoutesKeepCoherent }
-{
-    streams_stay_tied();
-}
+{}
 
-/// A file whose node has no route goes by no line: none asks for it, also where its session ends
+/// A file whose node has no route goes by no line: none asks for it, also after its session ends
 /// and it is Ready again.
 pub fn unrouted_files_stay()
     ensures { UnroutedFilesStay }

@@ -50,7 +50,6 @@ use Rattle.njh_customer.specs.NewRoutes.{entry_with, part_after_routes, routes_g
 use Rattle.njh_customer.specs.OutgoingFiles.{outgoing, sender_on}
 use Rattle.njh_customer.specs.Part.{Part, part_at_open, rest_at, rest_on}
 use Rattle.njh_customer.specs.Runs.{OwnEvent, OwnBytes, OwnSignal, OwnRoutes, alone_run, event_run}
-use Rattle.njh_customer.proofs.FileLimits.{FreeNumbers}
 use Rattle.njh_customer.proofs.OutgoingLaws.{stream_is}
 use Rattle.njh_hub.specs.Restored.{part_with_file}
 use Rattle.njh_hub.proofs.RestoredLaws.{headers_by}
@@ -62,6 +61,7 @@ use Rattle.njh_keeper.specs.Opened.{AreBack, file_in, part_opened, with_whole}
 use Rattle.njh_keeper.specs.OpenedFiles.{HasOpened, as_opened, opened_of}
 use Rattle.njh_keeper.specs.declared.fault.FileFault.{FileFault}
 use Rattle.njh_keeper.specs.declared.fault.FileFault.TheVariants.{BadFile, Refused as RefusedFile}
+use Rattle.njh_keeper.proofs.OpeningFound.{NextIsFree}
 use Rattle.njh_keeper.proofs.FileLaws.{bad_file, by_restore}
 use Rattle.njh_keeper.proofs.LeftLaws.{found_all}
 use Rattle.njh_keeper.proofs.OneStepLaws.{some_of}
@@ -101,7 +101,7 @@ not_sending : (held : Bool) → state_back held ≡ Sending → ⊥
 not_sending true e = cc e
 not_sending false e = cc e
 
-module _ (stays : StaysInOrder) (free : FreeNumbers) where
+module _ (stays : StaysInOrder) (free : NextIsFree) where
   one_back : (f : KeptFile) (p : Part) → restore_fault f p.customer.spool ≡ None → IsInOrder p.customer
       → IsInOrder (part_with_file f p).customer
   one_back f p none order =
@@ -480,7 +480,7 @@ kept_costs (f ∷ fs) =
 
 -- ---- the law
 
-module _ (stays : StaysInOrder) (free : FreeNumbers) (leave : LossesLeaveFiles) (marks : MarksAreRight)
+module _ (stays : StaysInOrder) (free : NextIsFree) (leave : LossesLeaveFiles) (marks : MarksAreRight)
     (entries : EventsKeepEntries) (lines : EventsKeepLines) where
   -- a customer that was opened
   module _ (entry : CustomerEntry) (ws : List Whole) (few : All (λ line. line.streams ≤ 4) entry.lines)

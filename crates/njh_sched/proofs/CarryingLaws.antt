@@ -130,11 +130,10 @@ module _ (goes : WholeFile → Bool) (k n p : ℕ) (records : List Stored) (befo
   sent_on : (m : ℕ) (x y : Filling) (o : Option Stored) → slice_get records (p + m) ≡ o
       → ((r : Stored) × (p + m < length records) × (o ≡ Some r) × (get_or records (p + m) r ≡ r))
       ⊎ ((length records ≤ p + m) × (o ≡ None))
-      → p + m ≤ length records
       → records_under (rcb_of k) x.block.items ≡ before ++ map (record_item k) (take m (drop p records))
       → y.block.items ≡ x.block.items ++ data_item k (next_at n (p + m) o).stored ∷ []
       → sender_at k y.outlet ≡ (next_at n (p + m) o).sender → Carries k n p records before y
-  sent_on m x y (Some r) at (inl found) within items item sender =
+  sent_on m x y (Some r) at (inl found) items item sender =
       let same : found.0 ≡ r = cc (sym found.2) in
       on_its_way (m + 1) (omega (arith, found.1)) (sender ∙ ap (Sending n) (omega arith))
       (ap (records_under (rcb_of k)) item
@@ -144,9 +143,9 @@ module _ (goes : WholeFile → Bool) (k n p : ℕ) (records : List Stored) (befo
       ∙ ap (λ is. before ++ is) (sym (map-append (record_item k) (take m (drop p records)) (r ∷ [])))
       ∙ ap (λ rs. before ++ map (record_item k) rs)
       (sym (more_of m r found.1 (subst (λ z. get_or records (p + m) z ≡ z) same found.3))))
-  sent_on m x y (Some r) at (inr past) within items item sender = absurd (cc past.1)
-  sent_on m x y None at (inl found) within items item sender = absurd (cc found.2)
-  sent_on m x y None at (inr past) within items item sender =
+  sent_on m x y (Some r) at (inr past) items item sender = absurd (cc past.1)
+  sent_on m x y None at (inl found) items item sender = absurd (cc found.2)
+  sent_on m x y None at (inr past) items item sender =
       at_its_end sender
       (ap (records_under (rcb_of k)) item
       ∙ one_under k x.block.items (end_of_file k) (eq-eqb (rcb_of k) (rcb_of k) refl)
@@ -164,7 +163,7 @@ module _ (goes : WholeFile → Bool) (k n p : ℕ) (records : List Stored) (befo
       let next : next_of (sender_at k x.outlet) x.spool ≡ next_at n (p + m) o =
       ap (λ z. next_of z x.spool) sender ∙ ap (next_at n (p + m))
       (at_place n (p + m) x.spool ∙ ap (λ rs. slice_get rs (p + m)) same) in
-      sent_on m x y o refl (slice_get_cases records (p + m)).1 within items
+      sent_on m x y o refl (slice_get_cases records (p + m)).1 items
       (s.item ∙ ap (λ z. x.block.items ++ data_item k z.stored ∷ []) next) (s.after ∙ ap (λ z. z.sender) next)
   one_more x y same (at_its_end sender items) (left l) = at_its_end (l.sender ∙ sender) (l.items ∙ items)
   one_more x y same (at_its_end sender items) (gives_up g) = absurd (cc (sym g.before ∙ sender))
@@ -203,14 +202,14 @@ all_quiet goes k (source ∷ more) x quiet each =
 -- ---- the whole block
 
 module _ (goes : WholeFile → Bool) (k : ℕ) (x : Filling) (few : k < 8) (inside : k < length x.outlet.senders) where
-  pub filled_carries : (n p : ℕ) → sender_at k x.outlet ≡ Sending n p → p ≤ length (file_records n x.spool)
+  pub filled_carries : (n p : ℕ) → sender_at k x.outlet ≡ Sending n p
       → Carries k n p (file_records n x.spool) (records_under (rcb_of k) x.block.items) (filled_block goes x)
   unfolding filled_block
-  filled_carries n p sender within = at_suspended (all_suspended x.outlet.peer_fcs)
+  filled_carries n p sender = at_suspended (all_suspended x.outlet.peer_fcs)
     where
       begins : Carries k n p (file_records n x.spool) (records_under (rcb_of k) x.block.items) x
       begins =
-          on_its_way 0 (omega (arith, within)) (sender ∙ ap (Sending n) (omega arith))
+          on_its_way 0 (omega arith) (sender ∙ ap (Sending n) (omega arith))
           (sym (append-nil (records_under (rcb_of k) x.block.items)))
 
       at_suspended : (b : Bool) → Carries k n p (file_records n x.spool) (records_under (rcb_of k) x.block.items)

@@ -1,6 +1,6 @@
 -- What a block carries of a file that goes out on a stream: the file's records from the stream's place on, each once
 -- and in order, and behind the last one the end of file.
-use Rattle.std.specs.Prelude.{◌≡◌, ℕ, ◌+◌, ◌≤◌, List, [], ◌∷◌, ◌++◌, length, take, drop, map, Option, Some, None}
+use Rattle.std.specs.Prelude.{◌≡◌, ℕ, ◌+◌, ◌-◌, ◌≤◌, List, [], ◌∷◌, ◌++◌, length, take, drop, map, Option, Some, None}
 use Rattle.njh_block.specs.Blocks.{Item, Data, rcb_of}
 use Rattle.njh_record.specs.Stored.{Stored}
 use Rattle.njh_spool.specs.CustomerSpool.{CustomerSpool, WholeFile, whole_numbered}
@@ -28,7 +28,7 @@ end_of_file k = Data (rcb_of k) 0x80 []
 -- last, and it waits for the peer.
 pub data Carries (k n p : ℕ) (records : List Stored) (before : List Item) (y : Filling) : Type 0 where
   on_its_way :
-      (m : ℕ) → p + m ≤ length records → sender_at k y.outlet ≡ Sending n (p + m)
+      (m : ℕ) → m ≤ length records - p → sender_at k y.outlet ≡ Sending n (p + m)
       → records_under (rcb_of k) y.block.items ≡ before ++ map (record_item k) (take m (drop p records))
       → Carries k n p records before y
   at_its_end :

@@ -50,7 +50,7 @@ pub fn longest_fronts_fill()
 /// file only behind the last one. Of any other stream nothing.
 pub fn blocks_carry_files_in_order()
     ensures carried { (goes : WholeFile → Bool) (k n p : ℕ) (x : Filling) → k < 8 → k < length x.outlet.senders
-        → sender_at k x.outlet ≡ Sender.Sending n p → p ≤ length (file_records n x.spool)
+        → sender_at k x.outlet ≡ Sender.Sending n p
         → Carries k n p (file_records n x.spool) (records_under (rcb_of k) x.block.items) (filled_block goes x) }
     ensures quiet { (goes : WholeFile → Bool) (k : ℕ) (x : Filling) → k < 8 → k < length x.outlet.senders
         → sends_file (sender_at k x.outlet) ≡ false

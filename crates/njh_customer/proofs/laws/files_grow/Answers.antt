@@ -1,12 +1,10 @@
-use Rattle.njh_customer.proofs.{StepsGrow.{signals_grow, takes_grow}, GrowingLaws.{grow_then, many_go_on}}
-use Rattle.njh_customer.proofs.{GrowingLaws.{rerouted_count, partials_numbered, routes_grow}, RestLengths.events_short}
-use Rattle.njh_customer.proofs.RestLengths.{opened_short, takes_short}
+use Rattle.njh_customer.proofs.GrowingLaws.{grow_then, many_go_on, rerouted_count, partials_numbered, routes_grow}
+use Rattle.njh_customer.proofs.{RestLengths.{events_short, opened_short, takes_short}, StepsGrow.signals_grow}
+use Rattle.njh_customer.proofs.StepsGrow.{takes_grow}
 use Rattle.njh_customer.proofs.laws.files_grow.Goals as goal
 
 pub returns-clause-takes : goal.returns-clause-takes
-returns-clause-takes c =
-    takes_grow c.redirected_by_records.ensures c.reroutes_name_nodes.ensures c.commands_move_files_so.ensures
-    c.inputs_are_answered.ensures.acting c.inputs_are_answered.ensures.down
+returns-clause-takes c = takes_grow
 
 pub returns-clause-signals : goal.returns-clause-signals
 returns-clause-signals c = signals_grow

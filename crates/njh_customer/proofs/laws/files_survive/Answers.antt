@@ -3,19 +3,16 @@ use Rattle.njh_customer.proofs.SurvivingLaws.{goes_on_then, numbered_survivors, 
 use Rattle.njh_customer.proofs.laws.files_survive.Goals as goal
 
 pub returns-clause-moves : goal.returns-clause-moves
-returns-clause-moves c = files_survive c.redirected_by_records.ensures c.reroutes_name_nodes.ensures
+returns-clause-moves c = files_survive
 
 pub returns-clause-events : goal.returns-clause-events
-returns-clause-events c =
-    events_keep_files c.redirected_by_records.ensures c.reroutes_name_nodes.ensures c.events_move_so.ensures.events
+returns-clause-events c = events_keep_files
 
 pub returns-clause-takes : goal.returns-clause-takes
-returns-clause-takes c =
-    takes_keep_files c.redirected_by_records.ensures c.reroutes_name_nodes.ensures c.events_move_so.ensures.takes
+returns-clause-takes c = takes_keep_files
 
 pub returns-clause-runs : goal.returns-clause-runs
-returns-clause-runs c =
-    runs_keep_files c.redirected_by_records.ensures c.reroutes_name_nodes.ensures c.events_move_so.ensures.events
+returns-clause-runs c = runs_keep_files
 
 pub returns-clause-further : goal.returns-clause-further
 returns-clause-further c = goes_on_then

@@ -2,4 +2,4 @@ use Rattle.njh_customer.proofs.MarkLaws.{marks_right}
 use Rattle.njh_customer.proofs.laws.marks_are_right.Goals as goal
 
 pub returns : goal.returns
-returns c = marks_right c.inputs_keep_up.ensures c.commands_move_files_so.ensures
+returns c = marks_right

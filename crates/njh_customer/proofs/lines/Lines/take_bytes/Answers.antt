@@ -1,8 +1,8 @@
 -- One frame more was taken.
 use Rattle.njh_customer.proofs.Words
 use Words.{[], sym, rules, List, ℕ, length, set, ap, arith, set-set, Rest, customer_of, or_later, take_step, rest_at}
-use Rattle.{std.proofs.Common.{◌≡◌, ◌∙◌, ◌+◌, ◌<◌}, njh_customer.proofs.ReadyLaws.{others_twice, retold_twice}}
-use Rattle.njh_customer.proofs.PieceLaws.{takes_on}
+use Rattle.{std.proofs.Common.{◌≡◌, ◌∙◌, ◌+◌, ◌<◌}, njh_customer.proofs.{PieceLaws.takes_on, ReadyLaws.others_twice}}
+use Rattle.njh_customer.proofs.ReadyLaws.{retold_twice}
 use Rattle.njh_customer.proofs.lines.Lines.take_bytes.Goals as goal
 
 pub loop-out-preserved : goal.loop-out-preserved

@@ -1,16 +1,13 @@
 -- One record more acted.
 use Rattle.{std.proofs.Common.{◌≡◌, Some, slice_get, drop, ap, ◌∙◌, rules}, njh_block.specs.ItemViews.given_item}
+use Rattle.njh_customer.proofs.{ReadyLaws.{next_ready, others_twice, one_acted}, SessionLaws.acted_stays}
 use Rattle.njh_customer.specs.{Acting.{after_record, all_acted}, CustomerSteps.customer_of}
-use Rattle.njh_customer.proofs.{CoherenceLaws.{records_keep, acted_stays}, ReadyLaws.{next_ready, others_twice}}
-use Rattle.njh_customer.proofs.ReadyLaws.{one_acted}
 use Rattle.njh_customer.proofs.shared.Shared.all_act.Goals as goal
 
 pub loop-item-preserved : goal.loop-item-preserved
 loop-item-preserved c =
     let id = c.args.id in
     let r = c.loop-item in
-    let law = c.streams_stay_tied.ensures in
-    let records = records_keep law.arrival c.whole_files_have_headers.ensures c.commands_keep_headers.ensures in
     let before = customer_of id.customer r.self r.lines in
     let item = given_item c.deref.result.now c.in-Some.item in
     let first : Some item ≡ slice_get r.block.items 0 = search rules in
@@ -24,5 +21,5 @@ loop-item-preserved c =
       tables = c.act.ensures.tables ∙ r.invariant.tables;
       ready = next_ready id r.self c.act.new.self r.lines c.act.new.lines
           (after_record id.number item before) r.invariant.ready c.act.ensures
-          (acted_stays law.untouched records id.number item before r.invariant.ready.there r.invariant.ready.coherent);
+          (acted_stays id.number before r.invariant.ready.there r.invariant.ready.coherent item);
     }

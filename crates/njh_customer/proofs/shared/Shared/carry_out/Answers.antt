@@ -1,7 +1,7 @@
--- Where the session ends, it does so behind what was sent.
+-- If the session ends, it does so after what was sent.
 use Rattle.njh_customer.proofs.Words
-use Words.{sym, subst, length-set, replied_to, session_over, session_over_where, ChangesMarks, customer_of}
-use Rattle.njh_customer.proofs.ReadyLaws.{also_marks, changed_on, is_there, still_there}
+use Words.{sym, length-set, replied_to, customer_of, true, false}
+use Rattle.njh_customer.proofs.ReadyLaws.{is_there, still_there, carried_by, unmarked}
 use Rattle.njh_customer.proofs.shared.Shared.carry_out.Goals as goal
 
 pub close_session-requires : goal.close_session-requires
@@ -17,28 +17,13 @@ close_session-requires c =
 
 pub returns-then-verdict : goal.returns-then-verdict
 returns-then-verdict c =
-    let id = c.args.id in
-    let old = customer_of id.customer c.args.self.now c.args.lines.now in
-    let replied = (replied_to id.number c.args.verdict.reply old).after in
-    record {
-      after = subst (λ b. ChangesMarks id.customer c.args.self.now c.close_session.new.self c.close_session.new.lines
-          (session_over_where b id.number replied)) (sym c.if-verdict.true)
-          (changed_on id.customer c.args.self.now c.send_reply.new.shared c.close_session.new.self c.send_reply.new.self
-          c.close_session.new.lines replied (session_over id.number)
-          (also_marks id.customer c.args.self.now c.send_reply.new.shared c.send_reply.new.self replied
-          c.send_reply.ensures.after) c.close_session.ensures);
-      frame = c.send_reply.ensures.frame;
-    }
+    let sent = c.send_reply in
+    carried_by true c.args.id c.args.self.now sent.new.shared _ c.args.lines.now sent.new.self _ _ c.args.verdict
+    (sym c.if-verdict.true) sent.ensures.after sent.ensures.frame c.close_session.ensures
 
 pub returns-else-verdict : goal.returns-else-verdict
 returns-else-verdict c =
-    let id = c.args.id in
-    let old = customer_of id.customer c.args.self.now c.args.lines.now in
-    let replied = (replied_to id.number c.args.verdict.reply old).after in
-    record {
-      after = subst (λ b. ChangesMarks id.customer c.args.self.now c.send_reply.new.shared c.send_reply.new.self
-          (session_over_where b id.number replied)) (sym c.if-verdict.false)
-          (also_marks id.customer c.args.self.now c.send_reply.new.shared c.send_reply.new.self replied
-          c.send_reply.ensures.after);
-      frame = c.send_reply.ensures.frame;
-    }
+    let sent = c.send_reply in
+    carried_by false c.args.id c.args.self.now sent.new.shared _ c.args.lines.now sent.new.self _ _ c.args.verdict
+    (sym c.if-verdict.false) sent.ensures.after sent.ensures.frame (unmarked c.args.id.customer sent.new.shared
+    sent.new.self)
