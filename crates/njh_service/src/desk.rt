@@ -87,7 +87,7 @@ impl<N: Network + Drop, L: Write + Drop> Desk<N, L> {
     /// Ends the connection of a line whose session gave up, and tells what changed, where something
     /// came or the line was quiet. Sets how long the line's next quiet lasts. Answers when the line
     /// wants to be looked at.
-    pub(crate) fn settle(
+    pub(crate) fn apply_session(
         &mut self,
         post: &mut Post<N::Listener, N::Connection>,
         hub: &Hub,

@@ -277,8 +277,8 @@ impl<N: Network + Drop, L: Write + Drop, S: TableSource + Drop> Exchange<N, L, S
         }
     }
 
-    /// Lets out what waits on a line that was looked at, and settles it. Answers when the line
-    /// wants to be looked at.
+    /// Lets out what waits on a line that was looked at, and does what its session asks for.
+    /// Answers when the line wants to be looked at.
     fn end(&mut self, place: usize, hub: &Hub, wire: &mut LineWire<N::Connection>) -> u64
         ensures counts { wire.old.failures ≤ wire.new.failures }
         ensures place { wire.new.place ≡ wire.old.place }
@@ -291,7 +291,7 @@ impl<N: Network + Drop, L: Write + Drop, S: TableSource + Drop> Exchange<N, L, S
         if wire.waits_to_send() {
             wire.flush();
         }
-        let moment = self.settle(place, hub, wire);
+        let moment = self.apply_session(place, hub, wire);
         if let Some(watch) = self.watches.get_mut(place) {
             *watch = Watch {
                 moment,
@@ -301,9 +301,10 @@ impl<N: Network + Drop, L: Write + Drop, S: TableSource + Drop> Exchange<N, L, S
         moment
     }
 
-    /// Settles a line: its connection stays, unless its own session gave up, and its next quiet
-    /// lasts as long as its own session asks for. Answers when it wants to be looked at.
-    fn settle(&mut self, place: usize, hub: &Hub, wire: &mut LineWire<N::Connection>) -> u64
+    /// Does what a line's session asks for: its connection stays, unless its own session gave up,
+    /// and its next quiet lasts as long as its own session says. Answers when it wants to be looked
+    /// at.
+    fn apply_session(&mut self, place: usize, hub: &Hub, wire: &mut LineWire<N::Connection>) -> u64
         ensures counts { wire.old.failures ≤ wire.new.failures }
         ensures place { wire.new.place ≡ wire.old.place }
         ensures lines { self.new ≡ self.old }
@@ -315,6 +316,6 @@ impl<N: Network + Drop, L: Write + Drop, S: TableSource + Drop> Exchange<N, L, S
         let Some(post) = self.posts.get_mut(place) else {
             return u64::MAX;
         };
-        self.desk.settle(post, hub, wire)
+        self.desk.apply_session(post, hub, wire)
     }
 }

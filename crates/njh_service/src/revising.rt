@@ -30,7 +30,7 @@ impl<N: Network + Drop, L: Write + Drop, S: TableSource + Drop> Exchange<N, L, S
 
     /// Tells what came of a customer's new routes.
     pub(crate) fn tell_routes(&mut self, customer: u16, answer: Result<(), HubFault>) {
-        let Some(name) = self.revision.settle(customer, answer.is_ok()) else {
+        let Some(name) = self.revision.note_routes(customer, answer.is_ok()) else {
             return;
         };
         let event = match answer {

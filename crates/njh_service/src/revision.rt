@@ -169,8 +169,8 @@ impl<S: TableSource + Drop> Revision<S> {
         u16::try_from(place).ok()
     }
 
-    /// What came of a customer's routes: whether it has them now. Answers its name.
-    pub fn settle(&mut self, customer: u16, given: bool) -> Option<Name>
+    /// Notes whether a customer has its routes now. Answers its name.
+    pub fn note_routes(&mut self, customer: u16, given: bool) -> Option<Name>
         ensures { self.new ≡ self.old }
     {
         match self.standings.get_mut(usize::from(customer)) {

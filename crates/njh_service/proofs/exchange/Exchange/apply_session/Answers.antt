@@ -5,13 +5,13 @@ use Rattle.njh_hub.specs.Views.{HasGivenUp}
 use Rattle.njh_hub.specs.WholeHub.{HasLine}
 use Rattle.njh_service.specs.declared.post.Post.{Post}
 use Rattle.njh_service.proofs.PostLaws.{lines_stay, line_there}
-use Rattle.njh_service.proofs.exchange.Exchange.settle.Goals as goal
+use Rattle.njh_service.proofs.exchange.Exchange.apply_session.Goals as goal
 
 pub returns-clause-lines : goal.returns-clause-lines
 returns-clause-lines g c =
     lines_stay (λ (post : Post g.row.N-Listener.Denot g.row.N-Connection.Denot). post.line) c.self.inside.posts.items
-    c.args.self.now c.args.place c.in-Some.post.now c.settle.new.post c.self.view_is c.in-Some.ensures.value
-    c.settle.ensures.line
+    c.args.self.now c.args.place c.in-Some.post.now c.apply_session.new.post c.self.view_is c.in-Some.ensures.value
+    c.apply_session.ensures.line
 
 pub returns-clause-kept : goal.returns-clause-kept
 returns-clause-kept g c = λ line found alive.
@@ -20,7 +20,7 @@ returns-clause-kept g c = λ line found alive.
     let own = line_there (λ (post : Post g.row.N-Listener.Denot g.row.N-Connection.Denot). post.line)
     c.self.inside.posts.items c.args.self.now c.args.place c.in-Some.post.now line c.self.view_is
     (subst Within c.self.inside.posts.ok.0 (c.in-Some.ensures.variant.0 refl)) c.in-Some.ensures.value found in
-    c.settle.ensures.kept (subst IsAlive own alive)
+    c.apply_session.ensures.kept (subst IsAlive own alive)
 
 pub returns-clause-quiet : goal.returns-clause-quiet
 returns-clause-quiet g c = λ line found there.
@@ -30,4 +30,4 @@ returns-clause-quiet g c = λ line found there.
     let own = line_there (λ (post : Post g.row.N-Listener.Denot g.row.N-Connection.Denot). post.line)
     c.self.inside.posts.items c.args.self.now c.args.place c.in-Some.post.now line c.self.view_is
     (subst Within c.self.inside.posts.ok.0 (c.in-Some.ensures.variant.0 refl)) c.in-Some.ensures.value found in
-    c.settle.ensures.quiet (subst IsThere own there) ∙ ap quiet (sym own)
+    c.apply_session.ensures.quiet (subst IsThere own there) ∙ ap quiet (sym own)
