@@ -15,9 +15,9 @@ use Rattle.njh_hub.specs.WholeHub.{Part, SameLines, part_at_open}
 use Rattle.njh_hub.specs.declared.fault.HubFault.TheVariants.{Memory}
 use Rattle.njh_replay.specs.Replayed.{HasTooLong, HasBadLine}
 use Rattle.njh_replay.specs.declared.fault.ReplayFault.TheVariants.{TooLong, Script, Device, Hub}
-use Rattle.njh_serve.specs.Serving.{AreServed, IsOpenedEmpty}
-use Rattle.njh_serve.specs.declared.fault.ServeFault.{ServeFault}
-use Rattle.njh_serve.specs.declared.fault.ServeFault.TheVariants as serve
+use Rattle.njh_service.specs.Serving.{AreServed, IsOpenedEmpty}
+use Rattle.njh_service.specs.declared.fault.ServeFault.{ServeFault}
+use Rattle.njh_service.specs.declared.fault.ServeFault.TheVariants as serve
 use Rattle.njh_subcommands.specs.TableBytes.{AreGiven, AreRefused}
 use Rattle.njh_subcommands.specs.Tasks.{ChecksScript, IsEncoded, ReplaysBy, TellsLong}
 use Rattle.njh_subcommands.specs.Tasks as tasks

@@ -2,17 +2,19 @@
 
 ghost use Rattle.std.specs.Prelude.{◌≡◌, ⊤, None, Some, OnOk, IfErr, IfOk};
 ghost use Rattle.njh_program.specs.ProgramOutcome.{AreServedOf, IsOfDevices, failure_of};
-ghost use Rattle.njh_serve.specs.Serving.{AreServedFrom};
+ghost use Rattle.njh_service.specs.Serving.{AreServedFrom};
 ghost use Rattle.njh_subcommands.specs.TableBytes.{AreGiven, AreRefused};
 ghost use Rattle.njh_table.specs.TableFile.{TableFile};
 
 use crate::start_log::log_failure;
 use crate::table_source::TableFileSource;
-use njh_serve::{ServeFault, Setup, serve};
-use njh_service::{Log, Revision, TableSource};
+use njh_service::{Exchange, Log, Revision, ServeFault, TableSource, serve};
+use njh_sockets::{MioNetwork, utc_seconds};
 use njh_subcommands::{Failure, tables_twice};
 use njh_table::Tables;
 use njh_turns::{Depot, KeepsNothing};
+use njh_wire::Network;
+use std::alloc::Global;
 use std::io::Write;
 use std::net::{IpAddr, Net};
 use std::rt::{Clock, Files};
@@ -53,14 +55,13 @@ pub(crate) fn serve_over<F: Files + Net + Clock + AllocGlobal, L: Write + Drop, 
     ensures refused { IfErr result (AreRefused (Some path.now)) }
 {
     match tables_and_revision(rt, path) {
-        Ok((tables, revision)) => {
-            let setup = Setup {
-                address: options.listen,
-                log,
-                revision,
-            };
-            serve_tables(rt, depot, tables, setup, options.turns)
-        }
+        Ok((tables, revision)) => match exchange_of(rt, log, revision) {
+            Ok(exchange) => serve_tables(rt.alloc(), depot, tables, exchange, options),
+            Err(failure) => {
+                drop(tables);
+                Err(failure)
+            }
+        },
         Err(failure) => {
             log_failure(rt, path, &mut log, &failure);
             drop(log);
@@ -94,18 +95,56 @@ fn tables_and_revision<'a, F: Files + AllocGlobal>(
     }
 }
 
+/// An attendant of no line yet, on the sockets of this machine.
+fn exchange_of<'a, R: Net + Clock + AllocGlobal, L: Write + Drop, S: TableSource + Drop>(
+    rt: &'a R,
+    mut log: Log<L>,
+    revision: Revision<S>,
+) -> Result<Exchange<MioNetwork<'a, R>, L, S>, Failure>
+    ensures { IfErr result IsOfDevices }
+{
+    match network_on(rt, &mut log) {
+        Ok(network) => Ok(Exchange::new(rt.alloc(), network, log, revision)),
+        Err(failure) => {
+            drop(log);
+            drop(revision);
+            Err(failure)
+        }
+    }
+}
+
+/// The sockets of this machine. If they can't be waited for the log says so.
+fn network_on<'a, R: Net + Clock + AllocGlobal, L: Write + Drop>(
+    rt: &'a R,
+    log: &mut Log<L>,
+) -> Result<MioNetwork<'a, R>, Failure>
+    ensures { IfErr result IsOfDevices }
+{
+    match MioNetwork::new(rt) {
+        Ok(network) => Ok(network),
+        Err(error) => {
+            log.write(
+                utc_seconds(rt),
+                &"the sockets of this machine can't be waited for",
+            );
+            Err(Failure::from(error))
+        }
+    }
+}
+
 /// Serves the lines of tables, over a depot.
-fn serve_tables<R: Net + Clock + AllocGlobal, L: Write + Drop, S: TableSource + Drop, D: Depot>(
-    rt: &R,
+fn serve_tables<N: Network + Drop, L: Write + Drop, S: TableSource + Drop, D: Depot>(
+    alloc: Global,
     depot: &mut D,
     tables: Tables,
-    setup: Setup<L, S>,
-    turns: Option<u32>,
+    exchange: Exchange<N, L, S>,
+    options: Options,
 ) -> Result<(), Failure>
-    ensures served { OnOk result (AreServedFrom D.opens D.may_leave D.knows depot.old tables turns) }
+    ensures served { OnOk result (AreServedFrom D.opens D.may_leave D.knows depot.old tables options.turns) }
     ensures refused { IfErr result IsOfDevices }
 {
-    match serve(rt, depot, tables, setup, turns) {
+    let Options { turns, listen } = options;
+    match serve(alloc, depot, tables, exchange, listen, turns) {
         Ok(()) => Ok(()),
         Err(fault) => Err(failure_of(fault)),
     }

@@ -34,8 +34,8 @@ pub trait Spooling {
         ensures silent { IfErr result (λ fault. Keeps (W.contents out.old) (W.contents out.new) ⊎ IsOfSpool fault) };
 
     /// Serves the lines of a table file, and keeps whole files in the spool file at a path, which
-    /// is made where it isn't there. Where the table file can't be read, or its lines can't be
-    /// served, the log says why.
+    /// is made if it isn't there. If the table file can't be read, or its lines can't be served,
+    /// the log says why.
     fn serve_spool<L: Write + Drop>(
         &self,
         path: &str,

@@ -1,8 +1,8 @@
 //! What the log says of a table file from which no lines are served.
 
 use njh_check::fault_text;
-use njh_serve::utc_seconds;
 use njh_service::Log;
+use njh_sockets::utc_seconds;
 use njh_subcommands::{Failure, table_bytes};
 use std::fmt;
 use std::fs::File;

@@ -1,3 +1,5 @@
 mod PostLaws
 mod AlikeLaws
+mod EndpointLaws
+mod OpenedLaws
 mod StillLaws

@@ -1,2 +1,5 @@
+pub mod Endpoints
+pub mod Opened
 pub mod Revisions
+pub mod Serving
 pub mod code

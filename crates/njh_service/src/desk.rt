@@ -9,13 +9,14 @@ use crate::dial::Dial;
 use crate::entry::{Ending, Failure, LogEntry, LogEvent, Place};
 use crate::last_frame::LastFrame;
 use crate::log::Log;
-use crate::post::{Door, Label, Post};
+use crate::post::{Label, Post};
+use crate::site::Site;
 use njh_hub::{Hub, SessionView};
 use njh_line::Phase;
 use njh_table::{LineId, Role};
 use njh_wire::{Connection, End, LineWire, Network, Readiness};
+use std::fmt;
 use std::io::Write;
-use std::net::SocketAddr;
 
 /// For how long a connection is silent when another may take its place, in milliseconds.
 const SILENCE: u64 = 10_000;
@@ -51,7 +52,7 @@ pub(crate) struct Desk<N: Network + Drop, L: Write + Drop> {
 }
 
 impl<N: Network + Drop, L: Write + Drop> Desk<N, L> {
-    /// Looks at a line of which something is ready, or whose door's moment came.
+    /// Looks at a line of which something is ready, or whose site's moment came.
     pub(crate) fn attend(
         &mut self,
         place: usize,
@@ -69,14 +70,14 @@ impl<N: Network + Drop, L: Write + Drop> Desk<N, L> {
         if mark.writes {
             wire.flush();
         }
-        match &mut post.door {
-            Door::Listens(listener) => {
+        match &mut post.site {
+            Site::Listens(listener) => {
                 if mark.listener || post.moment <= self.now {
                     post.moment = self.admit(listener, &mut post.label, wire);
                 }
             }
-            Door::Dials(address, dial) => {
-                self.drive(place, *address, dial, &mut post.label, wire);
+            Site::Dials(dial) => {
+                self.drive(place, dial, &mut post.label, wire);
                 post.moment = dial.moment();
             }
         }
@@ -84,7 +85,7 @@ impl<N: Network + Drop, L: Write + Drop> Desk<N, L> {
         post.linked = post.linked || wire.is_connected();
     }
 
-    /// Ends the connection of a line whose session gave up, and tells what changed, where something
+    /// Ends the connection of a line whose session gave up, and tells what changed, if something
     /// came or the line was quiet. Sets how long the line's next quiet lasts. Answers when the line
     /// wants to be looked at.
     pub(crate) fn apply_session(
@@ -242,7 +243,6 @@ impl<N: Network + Drop, L: Write + Drop> Desk<N, L> {
     fn drive(
         &mut self,
         place: usize,
-        address: SocketAddr,
         dial: &mut Dial<N::Connection>,
         label: &mut Label,
         wire: &mut LineWire<N::Connection>,
@@ -251,9 +251,9 @@ impl<N: Network + Drop, L: Write + Drop> Desk<N, L> {
         ensures place { wire.new.place ≡ wire.old.place }
     {
         if dial.is_to_come(self.now) {
-            match self.network.dial(address, place) {
+            match self.network.dial(dial.address(), place) {
                 Ok(connection) => dial.begin(connection, self.now),
-                Err(_) => self.give_up(address, dial, label),
+                Err(_) => self.give_up(dial, label),
             }
             return;
         }
@@ -263,22 +263,27 @@ impl<N: Network + Drop, L: Write + Drop> Desk<N, L> {
         match self.network.is_connected(connection) {
             Ok(true) => {
                 if let Some(connection) = dial.take() {
-                    self.connect(label, wire, connection, LogEvent::ConnectedTo(address));
+                    self.connect(
+                        label,
+                        wire,
+                        connection,
+                        LogEvent::ConnectedTo(dial.address()),
+                    );
                 }
             }
             Ok(false) => {
                 if dial.moment() <= self.now {
-                    self.give_up(address, dial, label);
+                    self.give_up(dial, label);
                 }
             }
-            Err(_) => self.give_up(address, dial, label),
+            Err(_) => self.give_up(dial, label),
         }
     }
 
     /// A dial failed.
-    fn give_up(&mut self, address: SocketAddr, dial: &mut Dial<N::Connection>, label: &Label) {
+    fn give_up(&mut self, dial: &mut Dial<N::Connection>, label: &Label) {
         dial.fail(self.now);
-        self.tell(label, LogEvent::DialFailed(address));
+        self.tell(label, LogEvent::DialFailed(dial.address()));
     }
 
     /// Tells of a new connection, unless one was told in the second before.
@@ -309,11 +314,16 @@ impl<N: Network + Drop, L: Write + Drop> Desk<N, L> {
         );
     }
 
-    /// Writes a line of the log.
+    /// Tells of a line.
     pub(crate) fn tell(&mut self, label: &Label, event: LogEvent) {
-        let second = self.network.utc();
         let place = Place::Line(label.customer, label.line.as_str());
-        self.log.write(second, &LogEntry { place, event });
+        self.write(&LogEntry { place, event });
+    }
+
+    /// Writes a line of the log, with the time.
+    pub(crate) fn write<T: fmt::Display>(&mut self, text: &T) {
+        let second = self.network.utc();
+        self.log.write(second, text);
     }
 }
 

@@ -1,8 +1,8 @@
 //! When a line is dialled.
 
-ghost use Rattle.std.specs.Prelude.{◌≡◌};
+use std::net::SocketAddr;
 
-/// How long after a connection that stood, or after a first failure, the next dial comes, in
+/// How long after a connection that was made, or after a first failure, the next dial comes, in
 /// milliseconds.
 const SOON: u64 = 1_000;
 
@@ -15,12 +15,14 @@ const PATIENCE: u64 = 10_000;
 /// The dials of a line: each is a connection that isn't made yet.
 #[derive(Drop)]
 pub(crate) struct Dial<C: Drop> {
+    /// Where to.
+    address: SocketAddr,
     state: State<C>,
     /// How long after the next failure or end the next dial comes.
     pause: u64,
 }
 
-/// Where a dial stands.
+/// What becomes of a dial.
 #[derive(Drop)]
 enum State<C: Drop> {
     /// The next comes at this moment.
@@ -32,12 +34,18 @@ enum State<C: Drop> {
 }
 
 impl<C: Drop> Dial<C> {
-    /// One that comes at once.
-    pub(crate) fn new() -> Dial<C> {
+    /// Dials to an address, of which the first comes at once.
+    pub(crate) fn new(address: SocketAddr) -> Dial<C> {
         Dial {
+            address,
             state: State::Resting(0),
             pause: SOON,
         }
+    }
+
+    /// Where to.
+    pub(crate) fn address(&self) -> SocketAddr {
+        self.address
     }
 
     /// When it wants to be looked at.

@@ -11,14 +11,15 @@ use crate::desk::{CUSTOMERS, Desk};
 use crate::log::Log;
 use crate::post::{Label, LineNames, Post};
 use crate::revision::Revision;
+use crate::site::Site;
 use crate::table_source::TableSource;
-use crate::way::Way;
 use njh_hub::Hub;
 use njh_table::LineId;
 use njh_wire::{LineWire, Network, Readiness};
 use std::alloc::{AllocError, Global};
 use std::io::Write;
 use std::marker::Model;
+use std::net::SocketAddr;
 
 /// How long all lines wait at most, in milliseconds.
 const LONGEST: u64 = 100;
@@ -37,7 +38,7 @@ const NOTHING: Readiness = Readiness {
     writes: false,
 };
 
-/// What stands beside the turns of a service's lines: it waits for the network, accepts, dials,
+/// What is done between the turns of a service's lines: it waits for the network, accepts, dials,
 /// ends connections, lets out what waits, brings new routes, and writes the log.
 #[derive(Drop)]
 pub struct Exchange<N: Network + Drop, L: Write + Drop, S: TableSource + Drop> {
@@ -99,17 +100,12 @@ impl<N: Network + Drop, L: Write + Drop, S: TableSource + Drop> Exchange<N, L, S
         }
     }
 
-    /// The log.
-    pub fn log(&self) -> &Log<L> {
-        &self.desk.log
-    }
-
     /// Serves a further line. Out of memory is the only refusal.
     pub fn add(
         &mut self,
         id: LineId,
         names: &LineNames<'_>,
-        way: Way<N::Listener>,
+        site: Site<N::Listener, SocketAddr>,
     ) -> Result<(), AllocError>
         ensures added { OnOk result (self.new ≡ self.old ++ id ∷ []) }
         ensures err { OnErr result (self.new ≡ self.old) }
@@ -120,7 +116,7 @@ impl<N: Network + Drop, L: Write + Drop, S: TableSource + Drop> Exchange<N, L, S
         }
         self.ready.push(NOTHING)?;
         self.watches.push(AT_ONCE)?;
-        self.posts.push(Post::new(id, label, way))?;
+        self.posts.push(Post::new(id, label, site))?;
         Ok(())
     }
 
@@ -172,7 +168,7 @@ impl<N: Network + Drop, L: Write + Drop, S: TableSource + Drop> Exchange<N, L, S
         is_ready
     }
 
-    /// Looks at the lines of a group, where something of one is ready or the moment of one came.
+    /// Looks at the lines of a group, if something of one is ready or the moment of one came.
     fn begin_group(&mut self, group: usize, wires: &mut [LineWire<N::Connection>])
         ensures still { AreStill (λ a b acts. a.place ≡ b.place) (λ wire. wire.failures) wires.old wires.new }
         ensures lines { self.new ≡ self.old }
@@ -187,7 +183,7 @@ impl<N: Network + Drop, L: Write + Drop, S: TableSource + Drop> Exchange<N, L, S
         }
     }
 
-    /// Looks at a line where something of it is ready or its moment came, and sets its wire's clock
+    /// Looks at a line if something of it is ready or its moment came, and sets its wire's clock
     /// then.
     fn begin(&mut self, place: usize, wire: &mut LineWire<N::Connection>)
         ensures counts { wire.old.failures ≤ wire.new.failures }
@@ -236,7 +232,7 @@ impl<N: Network + Drop, L: Write + Drop, S: TableSource + Drop> Exchange<N, L, S
         self.next = next;
     }
 
-    /// Ends the round of a group's lines, where one was looked at. Answers when one wants to be
+    /// Ends the round of a group's lines, if one was looked at. Answers when one wants to be
     /// looked at next.
     fn end_group(&mut self, group: usize, hub: &Hub, wires: &mut [LineWire<N::Connection>]) -> u64
         ensures still { AreStill (λ a b acts. a.place ≡ b.place) (λ wire. wire.failures) wires.old wires.new }

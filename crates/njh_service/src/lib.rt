@@ -1,5 +1,5 @@
-//! The attendant of a service: it accepts and dials, keeps the clocks of all lines, and writes the
-//! log.
+//! Serves the lines of tables on a network. A service is a hub, the wires of its lines, and their
+//! attendant: who accepts and dials, keeps the clocks of all lines, and writes the log.
 #![tactic(auto)]
 
 mod attending;
@@ -7,29 +7,41 @@ mod customer_routes;
 mod desk;
 mod dial;
 mod difference;
+mod endpoints;
 mod entry;
 mod exchange;
+mod fault;
 mod last_frame;
 mod line_text;
 mod log;
 mod moment;
 mod notice_line;
+mod open_lines;
+mod opening;
 mod post;
+mod refusal;
 mod revising;
 mod revision;
+mod service;
+mod serving;
+mod site;
 mod streams;
 mod table_source;
 mod telling;
-mod way;
 
 pub use customer_routes::routes_of;
 pub use difference::{CustomerKey, Difference, LineKey, difference_of};
+pub use endpoints::{Endpoint, endpoints_of};
 pub use entry::{Ending, Failure, FileLine, LogEntry, LogEvent, Place};
 pub use exchange::Exchange;
+pub use fault::ServeFault;
 pub use last_frame::LastFrame;
 pub use log::Log;
 pub use notice_line::NoticeLine;
+pub use opening::{OpenCause, OpenFault, open};
 pub use post::LineNames;
 pub use revision::{Revision, SourceOutcome};
+pub use service::Service;
+pub use serving::{serve, service_on};
+pub use site::Site;
 pub use table_source::{NoSource, TableSource};
-pub use way::Way;

@@ -3,8 +3,8 @@
 ghost use Rattle.std.specs.Prelude.{◌≡◌};
 
 use crate::dial::Dial;
+use crate::site::Site;
 use crate::streams::Streams;
-use crate::way::Way;
 use arrayvec::ArrayString;
 use njh_ebcdic::Name;
 use njh_table::LineId;
@@ -40,7 +40,7 @@ pub(crate) struct Label {
     /// Whether it was in a session, up or on the way there.
     pub(crate) in_session: bool,
     /// When it was seen that the session tried again, the first time of the tries in a row that it
-    /// has made, on the service's clock; none where it has made none.
+    /// has made, on the service's clock; none if it has made none.
     pub(crate) tries_since: Option<u64>,
     /// Whether its last connection's end was told.
     pub(crate) lost: bool,
@@ -65,27 +65,18 @@ impl Label {
     }
 }
 
-/// How a line gets its connections, and how that stands.
-#[derive(Drop)]
-pub(crate) enum Door<Li: Drop, C: Drop> {
-    /// Peers connect to this listener.
-    Listens(Li),
-    /// The hub connects to this address.
-    Dials(SocketAddr, Dial<C>),
-}
-
 /// A line that is served.
 #[derive(Drop)]
 pub(crate) struct Post<Li: Drop, C: Drop> {
-    /// When its door is to be looked at, on the service's clock; `u64::MAX` where nobody waits
-    /// there.
+    /// When its site is to be looked at, on the service's clock; `u64::MAX` if nobody waits there.
     pub(crate) moment: u64,
     /// When its wire's silence had begun as it was last looked at; `u64::MAX` before that.
     pub(crate) seen: u64,
     /// Whether its wire had a connection, or an end to tell, when it was last looked at.
     pub(crate) linked: bool,
     pub(crate) line: LineId,
-    pub(crate) door: Door<Li, C>,
+    /// Its listener, or its dials.
+    pub(crate) site: Site<Li, Dial<C>>,
     pub(crate) label: Label,
     /// What its streams were about when it was last looked at.
     pub(crate) streams: Streams,
@@ -93,7 +84,7 @@ pub(crate) struct Post<Li: Drop, C: Drop> {
 
 impl<Li: Drop, C: Drop> Post<Li, C> {
     /// A line on which nothing happened yet.
-    pub(crate) fn new(id: LineId, label: Label, way: Way<Li>) -> Post<Li, C>
+    pub(crate) fn new(id: LineId, label: Label, site: Site<Li, SocketAddr>) -> Post<Li, C>
         ensures { result.line ≡ id }
     {
         Post {
@@ -101,9 +92,9 @@ impl<Li: Drop, C: Drop> Post<Li, C> {
             seen: u64::MAX,
             linked: false,
             line: id,
-            door: match way {
-                Way::Listens(listener) => Door::Listens(listener),
-                Way::Dials(address) => Door::Dials(address, Dial::new()),
+            site: match site {
+                Site::Listens(listener) => Site::Listens(listener),
+                Site::Dials(address) => Site::Dials(Dial::new(address)),
             },
             label,
             streams: Streams::idle(),
@@ -114,9 +105,9 @@ impl<Li: Drop, C: Drop> Post<Li, C> {
     pub(crate) fn lose(&mut self, now: u64)
         ensures { self.new.line ≡ self.old.line }
     {
-        match &mut self.door {
-            Door::Listens(_) => self.moment = self.moment.min(now),
-            Door::Dials(_, dial) => {
+        match &mut self.site {
+            Site::Listens(_) => self.moment = self.moment.min(now),
+            Site::Dials(dial) => {
                 dial.lose(now);
                 self.moment = dial.moment();
             }

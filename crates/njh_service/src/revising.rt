@@ -13,10 +13,7 @@ impl<N: Network + Drop, L: Write + Drop, S: TableSource + Drop> Exchange<N, L, S
     /// of the next customer that is to be given some.
     pub(crate) fn revise(&mut self) -> Option<NewRoutes> {
         match self.revision.look(self.desk.now) {
-            Some(notice) => {
-                let second = self.desk.network.utc();
-                self.desk.log.write(second, &notice);
-            }
+            Some(notice) => self.desk.write(&notice),
             None => {}
         }
         match self.revision.next_routes()? {
@@ -38,7 +35,6 @@ impl<N: Network + Drop, L: Write + Drop, S: TableSource + Drop> Exchange<N, L, S
             Err(fault) => LogEvent::RoutesRefused(fault),
         };
         let place = Place::Customer(name);
-        let second = self.desk.network.utc();
-        self.desk.log.write(second, &LogEntry { place, event });
+        self.desk.write(&LogEntry { place, event });
     }
 }

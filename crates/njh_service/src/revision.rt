@@ -37,7 +37,7 @@ pub struct Revision<S: TableSource + Drop> {
     source: S,
     tables: Option<Tables>,
     /// How each customer stands.
-    standings: Vec<RouteState>,
+    route_states: Vec<RouteState>,
     /// The customers before this one don't wait.
     next: usize,
     /// When the source is looked at next.
@@ -73,7 +73,7 @@ impl Revision<NoSource> {
             alloc,
             source: NoSource,
             tables: None,
-            standings: Vec::new(alloc),
+            route_states: Vec::new(alloc),
             next: 0,
             moment: 0,
         }
@@ -86,15 +86,15 @@ impl<S: TableSource + Drop> Revision<S> {
     pub fn new(alloc: Global, tables: Tables, source: S) -> Result<Revision<S>, AllocError>
         ensures { IfOk result (λ revision. revision ≡ Some tables) }
     {
-        let mut standings = Vec::new(alloc);
+        let mut route_states = Vec::new(alloc);
         for _customer in tables.customers() {
-            standings.push(RouteState::Has)?;
+            route_states.push(RouteState::Has)?;
         }
         Ok(Revision {
             alloc,
             source,
             tables: Some(tables),
-            standings,
+            route_states,
             next: 0,
             moment: 0,
         })
@@ -133,7 +133,7 @@ impl<S: TableSource + Drop> Revision<S> {
             Some(difference) => return Some(SourceOutcome::Differs(difference)),
             None => {}
         }
-        let differ = mark(&mut self.standings, known, &tables);
+        let differ = mark(&mut self.route_states, known, &tables);
         self.next = 0;
         self.tables = Some(tables);
         if differ {
@@ -161,8 +161,8 @@ impl<S: TableSource + Drop> Revision<S> {
     fn next_customer(&mut self) -> Option<u16>
         ensures { self.new ≡ self.old }
     {
-        let Some(place) = first_waiting(&self.standings, self.next) else {
-            self.next = self.standings.len();
+        let Some(place) = first_waiting(&self.route_states, self.next) else {
+            self.next = self.route_states.len();
             return None;
         };
         self.next = place;
@@ -173,8 +173,8 @@ impl<S: TableSource + Drop> Revision<S> {
     pub fn note_routes(&mut self, customer: u16, given: bool) -> Option<Name>
         ensures { self.new ≡ self.old }
     {
-        match self.standings.get_mut(usize::from(customer)) {
-            Some(standing) => *standing = if given {
+        match self.route_states.get_mut(usize::from(customer)) {
+            Some(state) => *state = if given {
                 RouteState::Has
             } else {
                 RouteState::Lacks
@@ -207,9 +207,9 @@ fn routes_in(
 }
 
 /// The first customer from a place on that waits for routes.
-fn first_waiting(standings: &[RouteState], from: usize) -> Option<usize> {
-    for place in from..standings.len() {
-        if standings[place] == RouteState::Waits {
+fn first_waiting(route_states: &[RouteState], from: usize) -> Option<usize> {
+    for place in from..route_states.len() {
+        if route_states[place] == RouteState::Waits {
             return Some(place);
         }
     }
@@ -218,11 +218,11 @@ fn first_waiting(standings: &[RouteState], from: usize) -> Option<usize> {
 
 /// Marks each customer that has to be given its routes of new tables: those differ from the ones
 /// that it has, or it lacks them. Says whether there is any.
-fn mark(standings: &mut [RouteState], known: &Tables, tables: &Tables) -> bool {
+fn mark(route_states: &mut [RouteState], known: &Tables, tables: &Tables) -> bool {
     let mut any = false;
-    for place in 0..standings.len() {
-        if standings[place] != RouteState::Has || differ_at(place, known, tables) {
-            standings[place] = RouteState::Waits;
+    for place in 0..route_states.len() {
+        if route_states[place] != RouteState::Has || differ_at(place, known, tables) {
+            route_states[place] = RouteState::Waits;
             any = true;
         }
     }

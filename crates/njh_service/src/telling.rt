@@ -111,10 +111,9 @@ impl<N: Network + Drop, L: Write + Drop> Desk<N, L> {
         let was = *near;
         *near = near_after(was, used, quota);
         if *near && !was {
-            let second = self.network.utc();
             let place = Place::Customer(label.customer);
             let event = LogEvent::NearQuota(used, quota);
-            self.log.write(second, &LogEntry { place, event });
+            self.write(&LogEntry { place, event });
         }
     }
 }

@@ -1,6 +1,6 @@
 //! Which lines of tables are served.
 
-use njh_serve::{Endpoint, Site, endpoints_of};
+use njh_service::{Endpoint, Site, endpoints_of};
 use njh_table::{LineId, Tables};
 use std::alloc::Global;
 use std::process::Abort;
@@ -56,7 +56,7 @@ fn compare_one<R: Abort>(rt: &R, endpoint: Endpoint, number: u16, port: u16) {
     };
     assert_eq!(rt; endpoint.line, wanted);
     match endpoint.site {
-        Site::Port(found) => assert_eq!(rt; found, port),
-        Site::Peer(_) => assert!(rt; false, "a peer in place of port {port}"),
+        Site::Listens(found) => assert_eq!(rt; found, port),
+        Site::Dials(_) => assert!(rt; false, "a peer in place of port {port}"),
     }
 }

@@ -4,8 +4,7 @@
 use crate::joint::Joint;
 use crate::joint_network::{JointLog, JointNetwork};
 use crate::serving::{Player, Rounds, serve};
-use njh_serve::Station;
-use njh_service::{Log, Revision};
+use njh_service::{Exchange, Log, Revision};
 use njh_table::Tables;
 use std::alloc::{AllocError, Global};
 use std::net::{IpAddr, Ipv4Addr};
@@ -77,7 +76,7 @@ fn tables_of(alloc: Global, number: usize, case: Case) -> Result<Tables, Fail> {
 fn text_of(alloc: Global, number: usize, case: Case) -> Result<String, AllocError> {
     let [hub, other, lyons, further] = own_of(number);
     let role = role_of(case.calls == number);
-    let way = way_of(case.dials == number);
+    let site = site_of(case.dials == number);
     format!(in alloc;
         r#"
 capacity = 100
@@ -86,7 +85,7 @@ name = "ACME"
 hub = "{hub}"
 quota = 100
 files = 8
-line = [{{ name = "j1", node = "{other}", role = "{role}", block = 1024, streams = 4, {way} }}{further}]
+line = [{{ name = "j1", node = "{other}", role = "{role}", block = 1024, streams = 4, {site} }}{further}]
 route = [{{ node = "{other}", line = "j1" }}, {{ node = "LYON", line = "{lyons}" }}]
 "#
     )
@@ -101,7 +100,7 @@ fn role_of(calls: bool) -> &'static str {
     if calls { "call" } else { "answer" }
 }
 
-fn way_of(dials: bool) -> &'static str {
+fn site_of(dials: bool) -> &'static str {
     if dials {
         "connect = \"10.0.0.1:9000\""
     } else {
@@ -154,13 +153,11 @@ fn serve_one<P: Player>(
     player: &mut P,
 ) -> Result<(), Fail> {
     let tables = tables_of(alloc, number, case)?;
-    let station = Station {
-        network: JointNetwork { joint, end: number },
-        address: IpAddr::V4(Ipv4Addr::new(10, 0, 0, 1)),
-        log: Log::new(Some(JointLog { joint, end: number })),
-        revision: Revision::none(alloc),
-    };
-    serve(alloc, tables, station, player)
+    let network = JointNetwork { joint, end: number };
+    let log = Log::new(Some(JointLog { joint, end: number }));
+    let exchange = Exchange::new(alloc, network, log, Revision::none(alloc));
+    let address = IpAddr::V4(Ipv4Addr::new(10, 0, 0, 1));
+    serve(alloc, tables, exchange, address, player)
 }
 
 /// Plays on the first hub: serves the second one beside it.

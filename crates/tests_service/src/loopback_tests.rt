@@ -2,8 +2,8 @@
 
 use crate::serving::{Player, Rounds, serve};
 use mio::net::TcpStream;
-use njh_serve::{MioNetwork, Station};
-use njh_service::{Log, Revision};
+use njh_service::{Exchange, Log, Revision};
+use njh_sockets::MioNetwork;
 use njh_table::Tables;
 use std::io;
 use std::io::{ErrorKind, Read, Write};
@@ -46,13 +46,17 @@ const MANY: u32 = 1_000_000;
 #[test]
 fn closes_stalls_and_connects_again(rt: HostRuntime) -> Result<(), Fail> {
     let tables = Tables::read(rt.alloc(), TABLES)?;
-    let station = Station {
-        network: MioNetwork::new(&rt)?,
-        address: IpAddr::V4(Ipv4Addr::LOCALHOST),
-        log: Log::new(Some(io::sink())),
-        revision: Revision::none(rt.alloc()),
-    };
-    serve(rt.alloc(), tables, station, &mut Peers { rt: &rt })
+    let log = Log::new(Some(io::sink()));
+    let network = MioNetwork::new(&rt)?;
+    let exchange = Exchange::new(rt.alloc(), network, log, Revision::none(rt.alloc()));
+    let address = IpAddr::V4(Ipv4Addr::LOCALHOST);
+    serve(
+        rt.alloc(),
+        tables,
+        exchange,
+        address,
+        &mut Peers { rt: &rt },
+    )
 }
 
 /// Plays the peers, on sockets of this machine.

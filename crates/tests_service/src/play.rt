@@ -4,8 +4,7 @@ use crate::memory_log::MemoryLog;
 use crate::memory_network::MemoryNetwork;
 use crate::serving::{Player, Rounds, serve};
 use crate::world::{Happens, World};
-use njh_serve::Station;
-use njh_service::{Log, Revision};
+use njh_service::{Exchange, Log, Revision};
 use njh_table::Tables;
 use std::alloc::Global;
 use std::io::Write;
@@ -37,13 +36,10 @@ pub fn play<R: Abort>(
 /// Serves the lines of tables in a world up to a moment.
 fn play_in<'a>(alloc: Global, world: &'a World<'a>, tables: &str, end: u64) -> Result<(), Fail> {
     let tables = Tables::read(alloc, tables)?;
-    let station = Station {
-        network: MemoryNetwork { world },
-        address: IpAddr::V4(Ipv4Addr::new(10, 0, 0, 100)),
-        log: Log::new(Some(MemoryLog { world })),
-        revision: Revision::none(alloc),
-    };
-    serve(alloc, tables, station, &mut Until { world, end })
+    let log = Log::new(Some(MemoryLog { world }));
+    let exchange = Exchange::new(alloc, MemoryNetwork { world }, log, Revision::none(alloc));
+    let address = IpAddr::V4(Ipv4Addr::new(10, 0, 0, 100));
+    serve(alloc, tables, exchange, address, &mut Until { world, end })
 }
 
 /// Plays what happens in a world up to a moment.

@@ -1,13 +1,13 @@
 //! A service that is made, lent and dropped in one place, over whatever network: nothing else names
 //! its type.
 
-use njh_serve::{Service, Station, service_on};
-use njh_service::NoSource;
+use njh_service::{Exchange, NoSource, Service, service_on};
 use njh_table::Tables;
 use njh_turns::{Attendant, KeepsNothing, Wire};
 use njh_wire::Network;
 use std::alloc::Global;
 use std::io::Write;
+use std::net::IpAddr;
 use std::test::Fail;
 
 /// What runs in rounds.
@@ -28,14 +28,15 @@ pub trait Player {
     fn play<H: Rounds>(&mut self, hub: &mut H) -> Result<(), Fail>;
 }
 
-/// Serves the lines of tables while somebody plays.
+/// Serves the lines of tables, which listen on this address, while somebody plays.
 pub fn serve<N: Network + Drop, L: Write + Drop, P: Player>(
     alloc: Global,
     tables: Tables,
-    station: Station<N, L, NoSource>,
+    exchange: Exchange<N, L, NoSource>,
+    address: IpAddr,
     player: &mut P,
 ) -> Result<(), Fail> {
-    match service_on(alloc, &mut KeepsNothing, tables, station, true) {
+    match service_on(alloc, &mut KeepsNothing, tables, exchange, address, true) {
         Ok(mut service) => player.play(&mut service),
         Err(fault) => Err(Fail::from(fault)),
     }

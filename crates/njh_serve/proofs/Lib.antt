@@ -1,2 +1,0 @@
-mod EndpointLaws
-mod OpenedLaws

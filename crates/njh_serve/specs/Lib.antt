@@ -1,3 +1,0 @@
-pub mod Endpoints
-pub mod Opened
-pub mod Serving

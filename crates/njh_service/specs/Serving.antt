@@ -1,0 +1,81 @@
+-- A service, and what it leaves.
+use Rattle.std.specs.Prelude.{◌≡◌, ℕ, List, length, map, All, Option, Some, None}
+use Rattle.njh_table.specs.declared.LineId.{LineId}
+use Rattle.njh_table.specs.TableFile.{TableFile}
+use Rattle.njh_hub.specs.Parts.{entries_of}
+use Rattle.njh_hub.specs.WholeHub.{Part, part_at_open}
+use Rattle.njh_turns.specs.Breaks.{ServiceBreaks}
+use Rattle.njh_turns.specs.Keeping.{KeptFile, IsSettled}
+use Rattle.njh_turns.specs.Service.{Happening, ArePossible, IsAttended, service_rounds}
+use Rattle.njh_turns.specs.Turns.{no_quiets}
+use Rattle.njh_turns.specs.Wires.{WireAct}
+use Rattle.njh_service.specs.declared.endpoints.Endpoint.{Endpoint}
+use Rattle.njh_service.specs.Endpoints.{endpoints_of, lines_of}
+use Rattle.njh_service.specs.Opened.{IsApart}
+
+-- A hub with the lines of it that are served, the quiets in a row on each, and their wires.
+pub record Served (W : Type 0) : Type 0 where
+  pub hub : List Part
+  pub lines : List LineId
+  pub quiets : List ℕ
+  pub wires : List W
+
+-- if the number isn't given, as many as can be counted
+abbrev pub turn_count : Option ℕ → ℕ
+turn_count None = 18446744073709551615
+turn_count (Some turns) = turns
+
+-- So many turns of the lines were taken, each line on its own wire, and the hub was told of these, of new routes and of
+-- nothing else.
+pub record HasServed {W : Type 0} (passed : W → W → List WireAct → Type 0) (count : W → ℕ) (brings : Type 0)
+    (turns : ℕ) (old new : Served W) : Type 0 where
+  pub attended : IsAttended passed count brings old.lines turns old.hub old.quiets old.wires new.hub new.quiets
+      new.wires
+  pub lines : new.lines ≡ old.lines
+
+-- Such a service that the keeper's fault broke off.
+pub record IsBrokenOff {W K : Type 0} (passed : W → W → List WireAct → Type 0) (count : W → ℕ)
+    (withheld : W → W → Type 0) (may_leave : K → List (List KeptFile) → Type 0) (brings : Type 0) (turns : ℕ)
+    (old new : Served W) (new_keeper : K) : Type 0 where
+  pub breaks : ServiceBreaks passed count withheld may_leave brings old.lines turns old.hub old.quiets old.wires
+      new.hub new.wires new_keeper
+  pub lines : new.lines ≡ old.lines
+
+-- A service that was just opened: a hub that was opened so, and these lines of it, no two on one port.
+pub record IsOpenedOn {W : Type 0} (opened : List Part → Type 0) (endpoints : List Endpoint)
+    (service : Served W) : Type 0 where
+  pub apart : IsApart endpoints
+  pub hub : opened service.hub
+  pub lines : service.lines ≡ lines_of endpoints
+  pub calm : service.quiets ≡ no_quiets (lines_of endpoints)
+
+-- One that was just opened on tables: its lines are those that have a port or a peer.
+abbrev pub IsOpened : {W : Type 0} → (List Part → Type 0) → TableFile → Served W → Type 0
+IsOpened opened tables service = IsOpenedOn opened (endpoints_of tables) service
+
+-- a hub of these tables that has no files
+abbrev pub IsOpenedEmpty : TableFile → List Part → Type 0
+IsOpenedEmpty tables parts = parts ≡ map part_at_open (entries_of tables)
+
+-- The lines of tables that have a port or a peer had so many turns each, and a hub that was opened so was told of
+-- these, of new routes and of nothing else. Of what a socket gave and took nothing is known.
+pub record AreServed (opened : List Part → Type 0) (tables : TableFile) (turns : Option ℕ) : Type 0 where
+  pub apart : IsApart (endpoints_of tables)
+  pub hub : List Part
+  pub lines : List LineId
+  pub quiets : List ℕ
+  pub story : List Happening
+  pub hub_of : opened hub
+  pub lines_of_tables : lines ≡ lines_of (endpoints_of tables)
+  pub calm : quiets ≡ no_quiets (lines_of (endpoints_of tables))
+  pub many : length (service_rounds story) ≡ turn_count turns
+  pub each : All (λ round. length round ≡ length lines) (service_rounds story)
+  pub possible : ArePossible hub lines quiets story
+
+-- The hub was opened by this depot: with what was kept there, and nothing else could have been left of it then by a
+-- crash.
+abbrev pub AreServedFrom : {D : Type 0} → (D → D → TableFile → List Part → Type 0)
+    → (D → List (List KeptFile) → Type 0) → (D → List Part → Type 0) → D → TableFile → Option ℕ → Type 0
+AreServedFrom {D} opens may_leave knows depot tables turns =
+    (opened : D)
+    × AreServed (λ parts. opens depot opened tables parts × IsSettled may_leave knows opened parts) tables turns

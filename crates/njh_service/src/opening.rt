@@ -1,0 +1,186 @@
+//! Opens the sockets of lines: each listens on its port, or has the address that it dials.
+
+ghost use Rattle.std.specs.Prelude.{◌≡◌, ◌≢◌, ◌∷◌, ◌++◌, [], None, map, IfOk, IfErr, IfSome, OnOk};
+ghost use Rattle.std.specs.List.{list_any, Contains};
+ghost use Rattle.njh_service.specs.declared.opening.OpenCause.TheVariants as cause;
+ghost use Rattle.njh_service.specs.Opened.{IsApart, IsRepeated, is_same_port, site_on, site_opened};
+
+use crate::endpoints::Endpoint;
+use crate::site::Site;
+use njh_wire::Network;
+use std::alloc::Global;
+use std::io;
+use std::io::ErrorKind;
+use std::net::{IpAddr, SocketAddr};
+
+/// A line whose socket could not be opened.
+#[derive(Clone, Copy, Drop)]
+pub struct OpenFault {
+    /// The line, and its port.
+    pub endpoint: Endpoint,
+    /// Why.
+    pub cause: OpenCause,
+}
+
+/// Why a line's socket could not be opened.
+#[derive(Clone, Copy, Debug, PartialEq, Eq)]
+pub enum OpenCause {
+    /// Another line before it has the same port.
+    SamePort,
+    /// Another program listens on the port.
+    PortInUse,
+    /// The port may not be listened on.
+    NotPermitted,
+    /// The address where lines listen is none of this machine's.
+    NotHere,
+    /// There may be no more files open.
+    TooManyFiles,
+    /// The system refused for another reason.
+    Device,
+    /// There was no memory.
+    Memory,
+}
+
+/// Opens the sockets of lines, in their order. Those that have a port listen there, on this
+/// address.
+///
+/// Two lines on one port are refused before any is listened on. What was opened before a fault is
+/// closed.
+pub fn open<N: Network>(
+    alloc: Global,
+    network: &mut N,
+    address: IpAddr,
+    endpoints: &[Endpoint],
+) -> Result<Vec<Site<N::Listener, SocketAddr>>, OpenFault>
+    ensures opened { IfOk result (λ sites. map (site_opened N.address_of) sites.items
+        ≡ map (λ endpoint. site_on address endpoint.site) endpoints.now) }
+    ensures apart { IfOk result (λ sites. IsApart endpoints.now) }
+    ensures same { IfErr result (λ fault. fault.cause ≡ cause.SamePort → IsRepeated endpoints.now fault.endpoint) }
+    ensures other { IfErr result (λ fault. fault.cause ≢ cause.SamePort → IsApart endpoints.now) }
+    ensures known { IfErr result (λ fault. Contains endpoints.now fault.endpoint) }
+{
+    match repeated(endpoints) {
+        Some(endpoint) => Err(OpenFault {
+            endpoint,
+            cause: OpenCause::SamePort,
+        }),
+        None => open_all(alloc, network, address, endpoints),
+    }
+}
+
+/// The first whose port is that of one before it.
+fn repeated(endpoints: &[Endpoint]) -> Option<Endpoint>
+    ensures apart { result ≡ None → IsApart endpoints.now }
+    ensures same { IfSome result (IsRepeated endpoints.now) }
+{
+    for place in 0..endpoints.len() {
+        let endpoint = endpoints[place];
+        if has_port(&endpoints[..place], endpoint) {
+            return Some(endpoint);
+        }
+    }
+    None
+}
+
+/// Whether one of these has the same port.
+fn has_port(before: &[Endpoint], endpoint: Endpoint) -> bool
+    ensures { result ≡ list_any (is_same_port endpoint) before.now }
+{
+    before.iter().any(|other| is_same_port(&endpoint, other))
+}
+
+fn is_same_port(endpoint: &Endpoint, other: &Endpoint) -> bool
+    ensures { result ≡ is_same_port endpoint.now other.now }
+{
+    match (endpoint.site, other.site) {
+        (Site::Listens(port), Site::Listens(taken)) => port == taken,
+        _ => false,
+    }
+}
+
+/// Opens the sockets of lines whose ports differ.
+fn open_all<N: Network>(
+    alloc: Global,
+    network: &mut N,
+    address: IpAddr,
+    endpoints: &[Endpoint],
+) -> Result<Vec<Site<N::Listener, SocketAddr>>, OpenFault>
+    ensures opened { IfOk result (λ sites. map (site_opened N.address_of) sites.items
+        ≡ map (λ endpoint. site_on address endpoint.site) endpoints.now) }
+    ensures cause { IfErr result (λ fault. fault.cause ≢ cause.SamePort) }
+    ensures known { IfErr result (λ fault. Contains endpoints.now fault.endpoint) }
+{
+    let mut sites = Vec::new(alloc);
+    for place in 0..endpoints.len() {
+        let endpoint = endpoints[place];
+        match add_site(network, address, endpoint.site, &mut sites) {
+            Ok(()) => {}
+            Err(cause) => return Err(OpenFault { endpoint, cause }),
+        }
+    }
+    Ok(sites)
+}
+
+/// Adds a line's site with its socket, if it listens.
+fn add_site<N: Network>(
+    network: &mut N,
+    address: IpAddr,
+    site: Site<u16, SocketAddr>,
+    sites: &mut Vec<Site<N::Listener, SocketAddr>>,
+) -> Result<(), OpenCause>
+    ensures opened { OnOk result (map (site_opened N.address_of) sites.new.items
+        ≡ map (site_opened N.address_of) sites.old.items ++ site_on address site ∷ []) }
+    ensures cause { IfErr result (λ why. why ≢ cause.SamePort) }
+{
+    let opened = open_site(network, address, site, sites.len())?;
+    match sites.push(opened) {
+        Ok(()) => Ok(()),
+        Err(_) => Err(OpenCause::Memory),
+    }
+}
+
+/// Listens on a line's port, if it has one.
+fn open_site<N: Network>(
+    network: &mut N,
+    address: IpAddr,
+    site: Site<u16, SocketAddr>,
+    place: usize,
+) -> Result<Site<N::Listener, SocketAddr>, OpenCause>
+    ensures opened { IfOk result (λ opened. site_opened N.address_of opened ≡ site_on address site) }
+    ensures cause { IfErr result (λ why. why ≢ cause.SamePort) }
+{
+    match site {
+        Site::Listens(port) => match network.listen(SocketAddr::new(address, port), place) {
+            Ok(listener) => Ok(Site::Listens(listener)),
+            Err(error) => Err(cause_of(&error)),
+        },
+        Site::Dials(peer) => Ok(Site::Dials(peer)),
+    }
+}
+
+/// Why a port could not be listened on.
+fn cause_of(error: &io::Error) -> OpenCause
+    ensures { result ≢ cause.SamePort }
+{
+    match error.raw_os_error() {
+        Some(number) if is_out_of_files(number) => OpenCause::TooManyFiles,
+        _ => cause_by_kind(error.kind()),
+    }
+}
+
+/// Whether the system says that the process (24), or the machine (23), may have no more files open.
+fn is_out_of_files(number: i32) -> bool {
+    number == 24 || number == 23
+}
+
+fn cause_by_kind(kind: ErrorKind) -> OpenCause
+    ensures { result ≢ cause.SamePort }
+{
+    match kind {
+        ErrorKind::AddrInUse => OpenCause::PortInUse,
+        ErrorKind::PermissionDenied => OpenCause::NotPermitted,
+        ErrorKind::AddrNotAvailable => OpenCause::NotHere,
+        ErrorKind::OutOfMemory => OpenCause::Memory,
+        _ => OpenCause::Device,
+    }
+}

@@ -1,0 +1,141 @@
+//! Serves the lines of tables.
+
+ghost use Rattle.std.specs.Prelude.{◌≡◌, length, All, IfOk, OnOk};
+ghost use Rattle.njh_hub.specs.WholeHub.{HasLine as HubHasLine};
+ghost use Rattle.njh_turns.specs.Keeping.{IsSettled};
+ghost use Rattle.njh_turns.specs.Turns.{no_quiets};
+ghost use Rattle.njh_table.specs.TableFile.{HasLine};
+ghost use Rattle.njh_service.specs.Endpoints.{lines_of};
+ghost use Rattle.njh_service.specs.Opened.{IsApart};
+ghost use Rattle.njh_service.specs.Serving.{AreServedFrom, IsOpened, IsOpenedOn};
+
+use crate::endpoints::Endpoint;
+use crate::exchange::Exchange;
+use crate::fault::ServeFault;
+use crate::service::Service;
+use crate::table_source::TableSource;
+use njh_hub::Hub;
+use njh_table::Tables;
+use njh_turns::Depot;
+use njh_wire::{Connection, LineWire, Network};
+use std::alloc::{AllocError, Global};
+use std::io::Write;
+use std::net::IpAddr;
+
+/// Serves the lines of tables that have a port or a peer, by an attendant that serves no line yet,
+/// for so many turns; if no number is given, until the program is ended. Lines with a port listen
+/// on this address. Each customer has the whole files that the depot kept of it, and what becomes
+/// of them is kept there before it shows on a line.
+///
+/// `Device` if a port can't be listened on, if what is kept can't be read, or if no line has a port
+/// or a peer and no number of turns is given: of ports and lines the log says why. `Refused` if a
+/// kept file can't be put back. `Memory` if there is no room for the hub or its wires. Nothing was
+/// read then. `Device` too if files couldn't be kept: nothing was read or written after that.
+pub fn serve<N: Network + Drop, L: Write + Drop, S: TableSource + Drop, D: Depot>(
+    alloc: Global,
+    depot: &mut D,
+    tables: Tables,
+    exchange: Exchange<N, L, S>,
+    address: IpAddr,
+    turns: Option<u32>,
+) -> Result<(), ServeFault>
+    ensures { OnOk result (AreServedFrom D.opens D.may_leave D.knows depot.old tables turns) }
+{
+    let mut service = service_on(alloc, depot, tables, exchange, address, turns.is_none())?;
+    match service.run(depot, turns) {
+        Ok(()) => {}
+        Err(_) => {
+            drop(service);
+            return Err(ServeFault::Device);
+        }
+    }
+    drop(service);
+    Ok(())
+}
+
+/// A service of the lines of tables that have a port or a peer, of a hub that the depot opens. If
+/// such a line is `needed`, tables without one are refused.
+///
+/// Refusals are those of `serve`.
+pub fn service_on<N: Network + Drop, L: Write + Drop, S: TableSource + Drop, D: Depot>(
+    alloc: Global,
+    depot: &mut D,
+    tables: Tables,
+    mut exchange: Exchange<N, L, S>,
+    address: IpAddr,
+    needed: bool,
+) -> Result<Service<LineWire<N::Connection>, Exchange<N, L, S>>, ServeFault>
+    ensures opened { IfOk result (IsOpened (D.opens depot.old depot.new tables) tables) }
+    ensures settled { IfOk result (λ service. IsSettled D.may_leave D.knows depot.new service.hub) }
+{
+    match exchange.open_lines(alloc, &tables, address, needed) {
+        Ok(endpoints) => service_of(alloc, depot, tables, &endpoints, exchange),
+        Err(fault) => {
+            drop(exchange);
+            drop(tables);
+            Err(fault)
+        }
+    }
+}
+
+/// A service of lines of tables, by an attendant that serves these.
+fn service_of<N: Network + Drop, L: Write + Drop, S: TableSource + Drop, D: Depot>(
+    alloc: Global,
+    depot: &mut D,
+    tables: Tables,
+    endpoints: &[Endpoint],
+    exchange: Exchange<N, L, S>,
+) -> Result<Service<LineWire<N::Connection>, Exchange<N, L, S>>, ServeFault>
+    requires known { All (λ endpoint. HasLine tables endpoint.line) endpoints.now }
+    requires apart { IsApart endpoints.now }
+    ensures opened { IfOk result (IsOpenedOn (D.opens depot.old depot.new tables) endpoints.now) }
+    ensures settled { IfOk result (λ service. IsSettled D.may_leave D.knows depot.new service.hub) }
+{
+    match depot.open(alloc, tables) {
+        Ok(hub) => service_over(alloc, hub, endpoints, exchange),
+        Err(fault) => {
+            drop(exchange);
+            Err(ServeFault::from(fault))
+        }
+    }
+}
+
+/// A service of lines of a hub.
+fn service_over<N: Network + Drop, L: Write + Drop, S: TableSource + Drop>(
+    alloc: Global,
+    hub: Hub,
+    endpoints: &[Endpoint],
+    exchange: Exchange<N, L, S>,
+) -> Result<Service<LineWire<N::Connection>, Exchange<N, L, S>>, ServeFault>
+    requires { All (λ endpoint. HubHasLine hub endpoint.line) endpoints.now }
+    ensures hub { IfOk result (λ service. service.hub ≡ hub) }
+    ensures lines { IfOk result (λ service. service.lines ≡ lines_of endpoints.now) }
+    ensures calm { IfOk result (λ service. service.quiets ≡ no_quiets (lines_of endpoints.now)) }
+{
+    let wires = match wires_for(alloc, endpoints) {
+        Ok(wires) => wires,
+        Err(_) => {
+            drop(exchange);
+            drop(hub);
+            return Err(ServeFault::Memory);
+        }
+    };
+    match Service::new(alloc, hub, endpoints, wires, exchange) {
+        Ok(service) => Ok(service),
+        Err(_) => Err(ServeFault::Memory),
+    }
+}
+
+/// A wire for each, with the place of its line, on which nobody is connected.
+fn wires_for<C: Connection + Drop>(
+    alloc: Global,
+    endpoints: &[Endpoint],
+) -> Result<Vec<LineWire<C>>, AllocError>
+    ensures { IfOk result (λ wires. length wires.items ≡ length endpoints.now) }
+{
+    let mut wires = Vec::new(alloc);
+    for place in 0..endpoints.len() {
+        wires.push(LineWire::new(alloc, place)?)?;
+    }
+    Ok(wires)
+}

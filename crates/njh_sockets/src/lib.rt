@@ -1,0 +1,8 @@
+//! The sockets of this machine, and its clock, as a network for a service.
+#![tactic(auto)]
+
+mod connection;
+mod network;
+
+pub use connection::MioConnection;
+pub use network::{MioListener, MioNetwork, utc_seconds};

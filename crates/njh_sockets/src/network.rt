@@ -1,0 +1,190 @@
+//! The sockets of this machine, by readiness, and its clocks.
+
+ghost use Rattle.std.specs.Prelude.{◌≡◌, IfOk, length};
+
+use crate::connection::{MioConnection, is_wait};
+use mio::event::Event;
+use mio::net::{TcpListener, TcpStream};
+use mio::{Events, Interest, Poll, Token};
+use njh_wire::{Network, Readiness};
+use std::alloc::Global;
+use std::io;
+use std::io::ErrorKind;
+use std::net::{Net, SocketAddr};
+use std::time::{Clock, Duration, Instant, SystemTime, UNIX_EPOCH};
+
+/// How many events one wait gives at most; what is left is given by the next.
+const EVENTS: usize = 512;
+
+/// A socket that listens.
+#[derive(Drop)]
+pub struct MioListener {
+    inner: TcpListener,
+    address: SocketAddr,
+    /// The place of its line among those that are served.
+    place: usize,
+}
+
+/// The sockets of this machine and its clocks.
+#[derive(Drop)]
+pub struct MioNetwork<'a, R: Net + Clock> {
+    rt: &'a R,
+    poll: Poll,
+    events: Events<Global>,
+    start: Instant,
+    now: u64,
+}
+
+impl<'a, R: Net + Clock + AllocGlobal> MioNetwork<'a, R> {
+    /// No sockets yet. Its clock begins now.
+    pub fn new(rt: &'a R) -> io::Result<MioNetwork<'a, R>> {
+        Ok(MioNetwork {
+            rt,
+            poll: Poll::new(rt)?,
+            events: Events::with_capacity(rt.alloc(), EVENTS)?,
+            start: Instant::now(rt)?,
+            now: 0,
+        })
+    }
+}
+
+impl<'a, R: Net + Clock> Network for MioNetwork<'a, R> {
+    type Listener = MioListener;
+
+    type Connection = MioConnection;
+
+    ghost address_of = { λ listener. listener.address };
+
+    ghost listener_place = { λ listener. listener.place };
+
+    fn listen(&mut self, address: SocketAddr, place: usize) -> io::Result<MioListener> {
+        let mut inner = TcpListener::bind(self.rt, address)?;
+        self.poll
+            .registry()
+            .register(&mut inner, listener_token(place), Interest::READABLE)?;
+        Ok(MioListener {
+            inner,
+            address,
+            place,
+        })
+    }
+
+    fn accept(
+        &mut self,
+        listener: &mut MioListener,
+    ) -> io::Result<Option<(MioConnection, SocketAddr)>> {
+        match listener.inner.accept() {
+            Ok((stream, from)) => {
+                stream.set_nodelay(true)?;
+                Ok(Some((watched(&self.poll, stream, listener.place)?, from)))
+            }
+            Err(error) if is_wait(error.kind()) => Ok(None),
+            Err(error) => Err(error),
+        }
+    }
+
+    fn dial(&mut self, address: SocketAddr, place: usize) -> io::Result<MioConnection> {
+        watched(&self.poll, TcpStream::connect(self.rt, address)?, place)
+    }
+
+    fn is_connected(&mut self, connection: &mut MioConnection) -> io::Result<bool> {
+        match connection.stream.take_error()? {
+            Some(error) => Err(error),
+            None => has_peer(&connection.stream),
+        }
+    }
+
+    fn wait(&mut self, milliseconds: u64, ready: &mut [Readiness]) -> io::Result<()> {
+        self.poll.poll(&mut self.events, Some(Duration::from_millis(milliseconds)))?;
+        for event in &self.events {
+            note(ready, event);
+        }
+        Ok(())
+    }
+
+    fn now(&mut self) -> u64 {
+        match self.start.elapsed(self.rt) {
+            Ok(time) => self.now = self.now.max(milliseconds_of(time)),
+            Err(_) => {}
+        }
+        self.now
+    }
+
+    fn utc(&mut self) -> i64 {
+        utc_seconds(self.rt)
+    }
+}
+
+/// Seconds since the beginning of 1970, 0 if the clock fails or shows an earlier time.
+pub fn utc_seconds<R: Clock>(rt: &R) -> i64 {
+    match SystemTime::now(rt) {
+        Ok(time) => seconds_since_1970(time),
+        Err(_) => 0,
+    }
+}
+
+/// Has a connection of a line reported.
+fn watched(poll: &Poll, mut stream: TcpStream, place: usize) -> io::Result<MioConnection>
+    ensures { IfOk result (λ connection. connection.place ≡ place) }
+{
+    let interest = Interest::READABLE | Interest::WRITABLE;
+    poll.registry()
+        .register(&mut stream, connection_token(place), interest)?;
+    Ok(MioConnection { stream, place })
+}
+
+/// Whether a connection that was dialled has a peer by now.
+fn has_peer(stream: &TcpStream) -> io::Result<bool> {
+    match stream.peer_addr() {
+        Ok(_) => {
+            stream.set_nodelay(true)?;
+            Ok(true)
+        }
+        Err(error) if error.kind() == ErrorKind::NotConnected => Ok(false),
+        Err(error) => Err(error),
+    }
+}
+
+/// A line's listener has an even number, its connection the odd one above.
+fn listener_token(place: usize) -> Token {
+    Token(place.saturating_mul(2))
+}
+
+fn connection_token(place: usize) -> Token {
+    Token(place.saturating_mul(2) | 1)
+}
+
+/// Notes what an event says to be ready of its line, if there is such a line.
+fn note(ready: &mut [Readiness], event: &Event)
+    ensures { length ready.new ≡ length ready.old }
+{
+    let Token(token) = event.token();
+    match ready.get_mut(token / 2) {
+        Some(line) if token % 2 == 0 => line.listener = true,
+        Some(line) => note_connection(line, event),
+        None => {}
+    }
+}
+
+/// Notes what is ready of a connection. One that failed is ready for both: the call that follows
+/// says so.
+fn note_connection(line: &mut Readiness, event: &Event) {
+    if event.is_readable() || event.is_read_closed() || event.is_error() {
+        line.reads = true;
+    }
+    if event.is_writable() || event.is_write_closed() || event.is_error() {
+        line.writes = true;
+    }
+}
+
+fn milliseconds_of(time: Duration) -> u64 {
+    u64::try_from(time.as_millis()).unwrap_or(u64::MAX)
+}
+
+/// No seconds if the clock shows a time before 1970.
+fn seconds_since_1970(time: SystemTime) -> i64 {
+    match time.duration_since(UNIX_EPOCH) {
+        Ok(since) => i64::try_from(since.as_secs()).unwrap_or(i64::MAX),
+        Err(_) => 0,
+    }
+}
