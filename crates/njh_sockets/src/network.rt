@@ -1,6 +1,6 @@
 //! The sockets of this machine, by readiness, and its clocks.
 
-ghost use Rattle.std.specs.Prelude.{◌≡◌, IfOk, length};
+ghost use Rattle.std.specs.Prelude.{◌≡◌, ◌≤◌, ◌≤ℤ◌, pos, IfOk, length};
 
 use crate::connection::{MioConnection, is_wait};
 use mio::event::Event;
@@ -10,6 +10,7 @@ use njh_wire::{Network, Readiness};
 use std::alloc::Global;
 use std::io;
 use std::io::ErrorKind;
+use std::marker::Model;
 use std::net::{Net, SocketAddr};
 use std::time::{Clock, Duration, Instant, SystemTime, UNIX_EPOCH};
 
@@ -35,9 +36,20 @@ pub struct MioNetwork<'a, R: Net + Clock> {
     now: u64,
 }
 
+impl<'a, R: Net + Clock> Model for MioNetwork<'a, R> {
+    ghost use Rattle.std.specs.Prelude.{ℕ};
+
+    // what its clock showed last, in milliseconds
+    ghost Value = { ℕ };
+
+    ghost view = { λ network. network.now };
+}
+
 impl<'a, R: Net + Clock + AllocGlobal> MioNetwork<'a, R> {
     /// No sockets yet. Its clock begins now.
-    pub fn new(rt: &'a R) -> io::Result<MioNetwork<'a, R>> {
+    pub fn new(rt: &'a R) -> io::Result<MioNetwork<'a, R>>
+        ensures { IfOk result (λ network. network ≡ 0) }
+    {
         Ok(MioNetwork {
             rt,
             poll: Poll::new(rt)?,
@@ -102,7 +114,10 @@ impl<'a, R: Net + Clock> Network for MioNetwork<'a, R> {
         Ok(())
     }
 
-    fn now(&mut self) -> u64 {
+    fn now(&mut self) -> u64
+        ensures shown { result ≡ self.new }
+        ensures rises { self.old ≤ self.new }
+    {
         match self.start.elapsed(self.rt) {
             Ok(time) => self.now = self.now.max(milliseconds_of(time)),
             Err(_) => {}
@@ -116,7 +131,9 @@ impl<'a, R: Net + Clock> Network for MioNetwork<'a, R> {
 }
 
 /// Seconds since the beginning of 1970, 0 if the clock fails or shows an earlier time.
-pub fn utc_seconds<R: Clock>(rt: &R) -> i64 {
+pub fn utc_seconds<R: Clock>(rt: &R) -> i64
+    ensures { pos 0 ≤ℤ result }
+{
     match SystemTime::now(rt) {
         Ok(time) => seconds_since_1970(time),
         Err(_) => 0,
@@ -182,7 +199,9 @@ fn milliseconds_of(time: Duration) -> u64 {
 }
 
 /// No seconds if the clock shows a time before 1970.
-fn seconds_since_1970(time: SystemTime) -> i64 {
+fn seconds_since_1970(time: SystemTime) -> i64
+    ensures { pos 0 ≤ℤ result }
+{
     match time.duration_since(UNIX_EPOCH) {
         Ok(since) => i64::try_from(since.as_secs()).unwrap_or(i64::MAX),
         Err(_) => 0,
