@@ -93,7 +93,7 @@ fn print_files<F: Spooling, W: Write>(
     }
 }
 
-/// Serves the lines of a table file, and keeps whole files in a spool file where one is named.
+/// Serves the lines of a table file, and keeps whole files in a spool file if one is named.
 fn serve_lines<F: Files + Spooling + Net + Clock + AllocGlobal, L: Write + Drop>(
     rt: &F,
     path: &str,

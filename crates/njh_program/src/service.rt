@@ -28,8 +28,8 @@ pub struct Options {
     pub listen: IpAddr,
 }
 
-/// Serves the lines of a table file. No file is kept. Where the table file can't be read, or its
-/// lines can't be served, the log says why.
+/// Serves the lines of a table file. No file is kept. If the table file can't be read, or its lines
+/// can't be served, the log says why.
 pub(crate) fn serve_file<F: Files + Net + Clock + AllocGlobal, L: Write + Drop>(
     rt: &F,
     path: &str,

@@ -19,8 +19,8 @@ use std::io::Write;
 use std::net::Net;
 use std::rt::{Clock, Files};
 
-/// Serves the lines of a table file, and keeps whole files in a spool file. Where the table file
-/// can't be read, or its lines can't be served, the log says why. The table file's fault comes
+/// Serves the lines of a table file, and keeps whole files in a spool file. If the table file can't
+/// be read, or its lines can't be served, the log says why. The table file's fault comes
 /// before that of the spool file.
 pub(crate) fn serve_spool_file<F: Files + SpoolFiles + Net + Clock + AllocGlobal, L: Write + Drop>(
     rt: &F,
@@ -77,7 +77,7 @@ fn serve_kept<F: Files + Net + Clock + AllocGlobal, L: Write + Drop, S: Origin +
 }
 
 /// Logs how many whole files of a spool file are of customers that the table file doesn't have,
-/// where there are any.
+/// if there are any.
 fn log_strangers<F: Files + Clock + AllocGlobal, R: Clock, S: Origin + Drop, L: Write + Drop>(
     rt: &F,
     path: &str,
@@ -102,7 +102,7 @@ fn log_strangers<F: Files + Clock + AllocGlobal, R: Clock, S: Origin + Drop, L: 
     }
 }
 
-/// The table file's failure, where it has one, and else that of the spool file.
+/// The table file's failure, if it has one, and else that of the spool file.
 fn first_failure<F: Files + AllocGlobal>(rt: &F, path: &str, fault: FilesFault) -> Failure
     ensures { AreRefused (Some path.now) result ⊎ IsFilesEnd result }
 {
@@ -118,7 +118,7 @@ fn first_failure<F: Files + AllocGlobal>(rt: &F, path: &str, fault: FilesFault) 
     }
 }
 
-/// What is told of a whole file that couldn't be put back; none where there is no such file, or no
+/// What is told of a whole file that couldn't be put back; none if there is no such file, or no
 /// memory.
 fn refusal_of<R: Clock, S: Origin + Drop>(
     alloc: Global,
@@ -134,7 +134,7 @@ fn refusal_of<R: Clock, S: Origin + Drop>(
     }
 }
 
-/// Why lines weren't served: a whole file that couldn't be put back, where there is one.
+/// Why lines weren't served: a whole file that couldn't be put back, if there is one.
 fn or_refusal(failure: Failure, refusal: Option<String>) -> Failure
     ensures { (result ≡ failure) ⊎ IsFilesEnd result }
 {

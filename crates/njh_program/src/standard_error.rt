@@ -9,8 +9,8 @@ use std::io::{ErrorKind, Write};
 /// The most bytes of a write: a pipe that has room at all takes so many at once.
 const MOST: usize = 4096;
 
-/// Standard error, of which no write waits. Where one would, it takes nothing and answers
-/// `WouldBlock`; where nobody reads any more, it answers `BrokenPipe`, and no signal comes of it.
+/// Standard error, of which no write waits. If one would, it takes nothing and answers
+/// `WouldBlock`; if nobody reads any more, it answers `BrokenPipe`, and no signal comes of it.
 #[derive(Drop)]
 pub struct StandardError<'a, E: Print> {
     errors: &'a E,

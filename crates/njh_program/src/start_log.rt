@@ -9,7 +9,7 @@ use std::fs::File;
 use std::io::{ErrorKind, Write};
 use std::rt::{Clock, Files};
 
-/// Logs why a table file gives no tables, where it gives none.
+/// Logs why a table file gives no tables, if it gives none.
 pub(crate) fn log_failure<F: Files + Clock + AllocGlobal, L: Write + Drop>(
     rt: &F,
     path: &str,
@@ -28,7 +28,7 @@ pub(crate) fn log_failure<F: Files + Clock + AllocGlobal, L: Write + Drop>(
     }
 }
 
-/// Logs the first fault of a table file and where it is, where it has one.
+/// Logs the first fault of a table file and its place, if it has one.
 fn log_fault<F: Files + Clock + AllocGlobal, L: Write + Drop>(
     rt: &F,
     path: &str,

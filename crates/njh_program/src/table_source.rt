@@ -1,4 +1,4 @@
-//! The table file of a hub that runs: it is read again where it changed.
+//! The table file of a hub that runs: it is read again if it changed.
 
 ghost use Rattle.std.specs.Prelude.{◌≡◌, ◌≤◌, vec_len, IfOk, IfSome};
 ghost use Rattle.njh_subcommands.specs.TableBytes.{AreGivenWithin, max_changed_bytes};
@@ -64,7 +64,7 @@ impl<'a, R: Files + AllocGlobal> TableFileSource<'a, R> {
 impl<R: Files + AllocGlobal> TableSource for TableFileSource<'_, R> {
     type Fault = ChangeFault;
 
-    /// The tables of the file, or why it gives none, where it isn't as it was at the last look. One
+    /// The tables of the file, or why it gives none, if it isn't as it was at the last look. One
     /// that is gone is as it was.
     ///
     /// Its time and its length are looked at, and no more than 2 MB of it are read.

@@ -35,7 +35,7 @@ same_more {X} xs ys n d within same before =
     ∙ (ap (λ (front : List X). front ++ x ∷ []) before
     ∙ sym (take_one xs n x at))
 
--- what a function gives of it is put behind
+-- what a function gives of it is added at the end
 pub push_map : {X Y : Type 0} (f : X → Y) (xs : List X) (n : ℕ) (y : Y) (before after : List Y)
     → slice_get (map f xs) n ≡ Some y → after ≡ before ++ y ∷ [] → before ≡ map f (take n xs)
     → after ≡ map f (take (n + 1) xs)

@@ -151,7 +151,7 @@ impl<N: Network + Drop, L: Write + Drop> Desk<N, L> {
         }
     }
 
-    /// How a session ended that made five tries in a row: without an answer where nothing came
+    /// How a session ended that made five tries in a row: without an answer if nothing came
     /// since the first of them.
     fn tries_end(&self, label: &Label, wire: &LineWire<N::Connection>) -> Ending {
         let since = label.tries_since.unwrap_or(self.now);
@@ -183,7 +183,7 @@ impl<N: Network + Drop, L: Write + Drop> Desk<N, L> {
         self.tell(label, event);
     }
 
-    /// Takes a connection that waits, where the line has none or one that is silent. Answers when
+    /// Takes a connection that waits, if the line has none or one that is silent. Answers when
     /// the listener is to be looked at again.
     fn admit(
         &mut self,

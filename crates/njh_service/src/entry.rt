@@ -238,7 +238,7 @@ impl FileLine {
     }
 }
 
-/// Writes a user behind the node, where there is one.
+/// Writes a user after the node, if there is one.
 pub(crate) fn write_user<W: fmt::Write>(f: &mut fmt::Formatter<W>, user: &[u8]) -> fmt::Result {
     match user.first() {
         Some(&BLANK) => Ok(()),

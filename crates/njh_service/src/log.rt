@@ -8,7 +8,7 @@ use std::io::Write;
 
 /// Writes lines, each with its time. It never waits for its writer and never fails.
 ///
-/// A line of which the writer takes nothing is dropped and counted. Where it takes a part, the rest
+/// A line of which the writer takes nothing is dropped and counted. If it takes a part, the rest
 /// goes out before the next line. The first line that it takes after that says how many were
 /// dropped.
 #[derive(Drop)]
@@ -77,7 +77,7 @@ impl<L: Write + Drop> Log<L> {
         self.line.end();
     }
 
-    /// Hands the writer a new line. Where it takes nothing of it, the line is gone.
+    /// Hands the writer a new line. If it takes nothing of it, the line is gone.
     fn begin(&mut self) -> bool {
         self.go_on();
         if self.out == 0 {

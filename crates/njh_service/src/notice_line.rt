@@ -15,7 +15,7 @@ pub struct NoticeLine {
     node: Name,
     /// The owner there.
     user: [u8; FIELD],
-    /// The text, and 0 behind it.
+    /// The text, and 0 after it.
     text: [u8; LONGEST_MESSAGE],
     /// How many bytes the text has.
     length: u8,

@@ -9,8 +9,8 @@ use njh_wire::Network;
 use std::io::Write;
 
 impl<N: Network + Drop, L: Write + Drop, S: TableSource + Drop> Exchange<N, L, S> {
-    /// Looks at the tables, where a second is over, and tells what came of that. Answers the routes
-    /// of the next customer that is to be given some.
+    /// Looks at the tables, if a second is over, and tells what came of that. Answers the routes of
+    /// the next customer that is to be given some.
     pub(crate) fn revise(&mut self) -> Option<NewRoutes> {
         match self.revision.look(self.desk.now) {
             Some(notice) => self.desk.write(&notice),

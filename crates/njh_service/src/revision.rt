@@ -36,7 +36,7 @@ pub struct Revision<S: TableSource + Drop> {
     alloc: Global,
     source: S,
     tables: Option<Tables>,
-    /// How each customer stands.
+    /// Of each customer, whether it has its routes.
     route_states: Vec<RouteState>,
     /// The customers before this one don't wait.
     next: usize,
@@ -107,7 +107,7 @@ impl<S: TableSource + Drop> Revision<S> {
         self.tables.as_ref()
     }
 
-    /// Looks at the source, once a second on this clock, and takes its tables where they changed in
+    /// Looks at the source, once a second on this clock, and takes its tables if they changed in
     /// routes alone.
     pub fn look(&mut self, now: u64) -> Option<SourceOutcome<S::Fault>>
         ensures { AreKept self.old self.new }
@@ -122,7 +122,7 @@ impl<S: TableSource + Drop> Revision<S> {
         }
     }
 
-    /// Takes new tables, where these differ in routes alone.
+    /// Takes new tables, if these differ in routes alone.
     fn take(&mut self, tables: Tables) -> Option<SourceOutcome<S::Fault>>
         ensures { AreKept self.old self.new }
     {
@@ -143,7 +143,7 @@ impl<S: TableSource + Drop> Revision<S> {
         }
     }
 
-    /// The routes of the next customer that waits for some. Where there is no memory for them, the
+    /// The routes of the next customer that waits for some. If there is no memory for them, the
     /// customer's number.
     pub fn next_routes(&mut self) -> Option<Result<NewRoutes, u16>>
         ensures routes { IfSome result (λ given. IfOk given (λ new. IfSome self.new (λ tables.
@@ -190,7 +190,7 @@ impl<S: TableSource + Drop> Revision<S> {
     }
 }
 
-/// The routes of a customer of tables, where there is such a customer.
+/// The routes of a customer of tables, if there is such a customer.
 fn routes_in(
     alloc: Global,
     tables: &Option<Tables>,

@@ -8,7 +8,7 @@ pub trait TableSource {
     /// Why it gives no tables.
     type Fault: fmt::Display + Drop;
 
-    /// Its tables, or why it gives none, where it isn't as it was at the last look. It never waits.
+    /// Its tables, or why it gives none, if it isn't as it was at the last look. It never waits.
     fn changed(&mut self) -> Option<Result<Tables, Self::Fault>>;
 }
 

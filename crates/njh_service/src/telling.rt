@@ -128,8 +128,8 @@ fn arrival(file: &FileSummaryView) -> LogEvent {
     }
 }
 
-/// What is told of a file that came in on a stream and isn't kept. `drains` where its rest is
-/// ignored, `notice` where its owner was told something: then the hub refused it. Else its peer
+/// What is told of a file that came in on a stream and isn't kept. `drains` if its rest is
+/// ignored, `notice` if its owner was told something: then the hub refused it. Else its peer
 /// gave it up, or its session ended.
 fn loss(stream: Stream, drains: bool, notice: Option<&Notice>) -> LogEvent {
     if drains || notice.is_some() {
@@ -139,7 +139,7 @@ fn loss(stream: Stream, drains: bool, notice: Option<&Notice>) -> LogEvent {
     }
 }
 
-/// What became of a file that a stream from the hub is about no more, where it went out or was
+/// What became of a file that a stream from the hub is about no more, if it went out or was
 /// refused.
 fn departure(hub: &Hub, customer: u16, streams: &Streams, place: usize) -> Option<LogEvent>
     requires { place < 8 }

@@ -40,7 +40,7 @@ const MESSAGE: &[u8] =
     \xd7\xc1\xe4\xd3\x84\xc4\xd3\xe8\xd6\xd5\x84\xc3\x00\xc8\xc9\x00\x00\x10\x26";
 
 /// What the tables of the first hub have of their own: its name, the other one's, its line to LYON,
-/// and that line where it isn't the one to the other hub.
+/// and that line if it isn't the one to the other hub.
 const FIRST: [&str; 4] = [
     "HUBA",
     "HUBB",

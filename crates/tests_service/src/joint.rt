@@ -133,7 +133,7 @@ impl Joint {
         }
     }
 
-    /// Where nothing moved since this was last called, lets the time pass until a hub waits no
+    /// If nothing moved since this was last called, lets the time pass until a hub waits no
     /// longer.
     pub fn pass(&self) {
         if self.moves.replace(false) {

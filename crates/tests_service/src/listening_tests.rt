@@ -241,7 +241,7 @@ fn reset_in_a_frame(rt: HostRuntime) -> Result<(), Fail> {
     play(&rt, rt.alloc(), TABLES, &acts, 2700, wanted)
 }
 
-/// Where an answer fails to go out the hub hears of it first: the session goes down, and then the
+/// If an answer fails to go out the hub hears of it first: the session goes down, and then the
 /// end is told.
 #[test]
 fn answer_that_fails(rt: HostRuntime) -> Result<(), Fail> {

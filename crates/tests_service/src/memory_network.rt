@@ -94,7 +94,7 @@ impl<'a> Network for MemoryNetwork<'a> {
     }
 }
 
-/// Marks what is ready of a line, where there is one.
+/// Marks what is ready of a line, if there is one.
 fn set(ready: &mut [Readiness], mark: Mark) {
     if let Some(found) = ready.get_mut(mark.place) {
         found.listener = found.listener || mark.listener;

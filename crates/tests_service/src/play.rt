@@ -12,7 +12,7 @@ use std::net::{IpAddr, Ipv4Addr};
 use std::process::Abort;
 use std::test::Fail;
 
-/// How many rounds a second of a service may take, where each of its lines is due ten times and
+/// How many rounds a second of a service may take, if each of its lines is due ten times and
 /// something happens fifty times.
 const ROUNDS: u64 = 100;
 

@@ -10,7 +10,7 @@ pub const PEERS: usize = 6;
 /// How many lines may be served.
 const LINES: usize = 40;
 
-/// A peer whose answer to dials has this port; the peers behind it have the ports behind it.
+/// The port at which the first peer answers dials; the next peers have the next ports.
 const FIRST_PORT: u16 = 9000;
 
 /// Something that a peer does.
@@ -79,7 +79,7 @@ pub struct Mark {
 /// The other end of a connection.
 #[derive(Drop)]
 pub struct Peer {
-    /// The port at which it waits to be accepted, 0 where it doesn't.
+    /// The port at which it waits to be accepted, 0 if it doesn't.
     waits_at: Cell<u16>,
     /// The line that it is connected to, if any.
     place: Cell<Option<usize>>,
@@ -167,7 +167,7 @@ impl Peer {
         }
     }
 
-    /// Begins a connection afresh, at this port of the hub, or by a dial where that is 0.
+    /// Begins a connection afresh, at this port of the hub, or by a dial if that is 0.
     fn begin(&self, port: u16) {
         self.waits_at.set(port);
         self.place.set(None);
@@ -242,7 +242,7 @@ impl<'a> World<'a> {
         None
     }
 
-    /// A line dials the peer of this port. None where that is refused at once.
+    /// A line dials the peer of this port. None if that is refused at once.
     pub fn dial(&self, place: usize, port: u16) -> Option<usize> {
         let number = usize::from(port.saturating_sub(FIRST_PORT));
         let peer = self.peers.get(number)?;
@@ -260,7 +260,7 @@ impl<'a> World<'a> {
         self.log_takes.get()
     }
 
-    /// Waits for the next act, until a moment at most. Not at all where a dial was answered.
+    /// Waits for the next act, until a moment at most. Not at all if a dial was answered.
     pub fn wait_until(&self, moment: u64) {
         if self.peers.iter().any(|peer| peer.reports.get()) {
             return;
@@ -297,7 +297,7 @@ impl<'a> World<'a> {
         Some(self.mark_of(next.act, peer))
     }
 
-    /// What is ready by an act of a peer. Where it is at no line, nothing of any line.
+    /// What is ready by an act of a peer. If it is at no line, nothing of any line.
     fn mark_of(&self, act: Act, peer: &Peer) -> Mark {
         let mut mark = Mark {
             place: peer.place.get().unwrap_or(LINES),
