@@ -1,4 +1,4 @@
--- What is kept of files that aren't whole is a front of what they are behind a step, and of what they became.
+-- What is kept of files that aren't whole is a front of what they are after a step, and of what they became.
 use Rattle.std.proofs.Common.{◌≡◌, ℕ, ◌+◌, ◌<◌, ◌≤◌, ◌==◌, ◌⊎◌, inl, inr, cond, List, [], length, get_or, count_by}
 use Rattle.std.proofs.Common.{take, Contains, Option, Some, None, refl, sym, ap, subst, ◌∙◌, arith, length-append}
 use Rattle.std.specs.List.{AllByRecursion}
@@ -77,15 +77,12 @@ module _ (k : ℕ) (x y : CustomerSpool) (few : k < 1366) (grow : FilesGrow k x 
       either : Contains grow.still f ⊎ Contains grow.new f → Contains grow.new f
       either (inl still) =
           absurd (
-          let apart = sound.apart f.number in
-          let least = has_partial f.number x some in
           omega (
             arith,
-            apart,
-            least,
+            sound.apart f.number,
+            has_partial f.number x some,
             there_is_one grow.still f still,
-            no_more_numbered f.number x.whole grow.still
-                grow.survive,
+            no_more_numbered f.number x.whole grow.still grow.survive,
           ))
       either (inr new) = new
 
@@ -102,7 +99,7 @@ module _ (k : ℕ) (x y : CustomerSpool) (few : k < 1366) (grow : FilesGrow k x 
       let long : length whole.came ≡ length was + length from.0 =
       ap (λ (rs : List Stored). length rs) from.1 ∙ length-append was from.0 in
       let all : AreAlike whole.came f.records =
-      alike_where_it_reads f.kind whole.came f.records headers.destination headers.goes whole.records in
+      alike_where_it_reads f.kind whole.came f.records headers.destination whole.records headers.goes in
       let front : take (length was) whole.came ≡ was = ap (take (length was)) from.1 ∙ take-append_seam was from.0 in (
         omega (arith, counts, long),
         subst (λ rs. AreAlike rs (take (length was) f.records)) front
@@ -115,7 +112,7 @@ module _ (k : ℕ) (x y : CustomerSpool) (few : k < 1366) (grow : FilesGrow k x 
   front_of s p up go_on f at headers number seen =
       let some : 0 < length (partial_records f.number x) =
       subst (λ n. 0 < length (partial_records n x)) (sym number)
-      (let seen_all = up.seen in let many = up.many in omega (arith, seen_all, many)) in
+      (omega (arith, up.seen, up.many)) in
       let whole = grow.became_whole f (is_new f some at) in
       let front =
       front_of_whole x s p f.records
@@ -144,7 +141,7 @@ module _ (k : ℕ) (x y : CustomerSpool) (few : k < 1366) (grow : FilesGrow k x 
         let g = get_or y.whole i f in
         front_of s p up go_on g (Contains-get_or y.whole i f there) (headers i f there))) own.partial up go_on
 
--- ---- behind a step
+-- ---- after a step
 
 -- Of a customer, where its files were seen before the step: its whole files went on, and what is kept of others is a
 -- front of what they are now, whole or not. No more has come of a line's next frame than a text may have.

@@ -21,7 +21,6 @@ pub mod MirrorLaws
 pub mod UsesLaws
 pub mod LeftLaws
 pub mod WalkLaws
-pub mod HeaderBytes
 pub mod RerouteLaws
 pub mod AlikeLaws
 pub mod NodeLaws

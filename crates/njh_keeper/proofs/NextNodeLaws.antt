@@ -1,23 +1,11 @@
 -- The data set headers of a file are gone through, and the nodes that they name compared.
-use Rattle.std.proofs.Common.{◌≡◌, ℕ, ◌+◌, ◌≤◌, ◌&&◌, Bool, true, false, cond, not, List, [], ◌∷◌, length, drop}
-use Rattle.std.proofs.Common.{slice_get, Option, Some, None, Result, Ok, Err, is_some, refl, sym, ap, subst, ◌∙◌, arith}
-use Rattle.std.specs.List.{AllByRecursion}
-use Rattle.std.specs.Option.{option_map}
-use Rattle.std.specs.Result.{result_ok}
-use Rattle.njh_record.specs.Stored.{Stored, has_srcb}
-use Rattle.njh_header.specs.declared.fault.HeaderFault.{HeaderFault}
-use Rattle.njh_header.specs.Headers.{DataSetHeader, data_set_header}
-use Rattle.njh_header.specs.Redirecting.{is_after_header}
+use Rattle.std.proofs.Common.{◌≡◌, ℕ, ◌+◌, ◌≤◌, false, List, [], ◌∷◌, length, drop, slice_get, Option, Some, None}
+use Rattle.std.proofs.Common.{is_some, refl, sym, ap, subst, ◌∙◌, arith}
+use Rattle.njh_record.specs.Stored.{Stored}
 use Rattle.njh_keeper.specs.code.Nodes.{AreOne, named_node, named_nodes, with_first}
+use Rattle.njh_keeper.proofs.NodeLaws.{AllAre}
 
 -- ---- the next node
-
-by_first : (b : Bool) (x : Result DataSetHeader HeaderFault) (rest : List (List ℕ))
-    → cond b (elim x [ Ok h ↦ h.destination.node ∷ rest | Err e ↦ rest ]) rest
-    ≡ with_first (cond b (option_map (λ h. h.destination.node) (result_ok x)) None) rest
-by_first true (Ok h) rest = refl
-by_first true (Err e) rest = refl
-by_first false x rest = refl
 
 at_first : (before : ℕ) (records : List Stored) (r : Stored) → Some r ≡ slice_get records 0
     → named_nodes (Some before) records ≡ with_first (named_node (Some before) r)
@@ -25,9 +13,7 @@ at_first : (before : ℕ) (records : List Stored) (r : Stored) → Some r ≡ sl
 at_first before [] r e = absurd (cc e)
 at_first before (x ∷ rs) r e =
     let same : x ≡ r = cc e in
-    by_first (has_srcb 0xe0 x && not (is_after_header (Some before))) (data_set_header x.bytes)
-    (named_nodes (Some x.srcb) rs)
-    ∙ ap (λ (y : Stored). with_first (named_node (Some before) y) (named_nodes (Some y.srcb) rs)) same
+    ap (λ (y : Stored). with_first (named_node (Some before) y) (named_nodes (Some y.srcb) rs)) same
 
 pub fewer : (records : List Stored) (r : Stored) → Some r ≡ slice_get records 0
     → length (drop 1 records) + 1 ≡ length records
@@ -61,9 +47,6 @@ is_none None e = refl
 is_none (Some x) e = absurd (cc e)
 
 -- ---- one node
-
-abbrev AllAre : List ℕ → List (List ℕ) → Type 0
-AllAre node nodes = AllByRecursion (λ n. n ≡ node) nodes
 
 -- with these left, of all: they are one where these are the first
 abbrev pub Known : List (List ℕ) → List ℕ → List (List ℕ) → Type 0

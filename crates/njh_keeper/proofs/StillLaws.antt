@@ -23,7 +23,7 @@ use Rattle.njh_keeper.specs.code.Following.{GoesTo, HasFiles, IsRowFor, IsStillA
 use Rattle.njh_keeper.specs.code.Mirrored.{FitsHub, HasRecords, WritesUnder, own_rows}
 use Rattle.njh_keeper.specs.code.Nodes.{AreOne, named_nodes}
 use Rattle.njh_keeper.specs.code.Remembered.{IsKept, IsRowOf, KeptPartial, KeptWhole, NameOneNode, Remembers, AreApart}
-use Rattle.njh_keeper.proofs.AlikeLaws.{alike_fit, alike_long, begun_all, job_names_one}
+use Rattle.njh_keeper.proofs.AlikeLaws.{alike_fit, alike_long, begun_all}
 use Rattle.njh_keeper.proofs.BesideLaws.{BesideAt}
 use Rattle.njh_keeper.proofs.CallLaws.{change_follows}
 use Rattle.njh_keeper.proofs.FollowLaws.{destination_still, records_alike, records_are_same}
@@ -31,7 +31,7 @@ use Rattle.njh_keeper.proofs.FollowingLaws.{all-set, goes, remain_same}
 use Rattle.njh_keeper.proofs.KeyLaws.{keyed_at, keyed_none}
 use Rattle.njh_keeper.proofs.MirrorLaws.{all_of, state_changes}
 use Rattle.njh_keeper.proofs.MovesLaws.{moves_memory}
-use Rattle.njh_keeper.proofs.NodeLaws.{names_one_node, one_node_is_named}
+use Rattle.njh_keeper.proofs.NodeLaws.{job_names_one, names_one_node, one_node_is_named}
 use Rattle.njh_keeper.proofs.NumberedLaws.{all_weaker}
 use Rattle.njh_keeper.proofs.RerouteLaws.{same_by_destination, same_or_one_node}
 use Rattle.njh_keeper.proofs.UsesLaws.{uses_as_one_changes}
@@ -42,7 +42,7 @@ use Rattle.njh_keeper.proofs.WalkedLaws.{kept_at}
 pub one_is_named : (kind : Kind) (rs : List Stored) (d : User) → destination_of kind rs ≡ Some d
     → AreOne (named_nodes None rs) → NameOneNode kind rs
 one_is_named In rs d reads one = job_names_one rs d reads
-one_is_named Out rs d reads one = names_one_node rs d reads one
+one_is_named Out rs d reads one = names_one_node Out rs d reads one
 
 pub job_is_named : (kind : Kind) (rs : List Stored) (d : User) → destination_of kind rs ≡ Some d → kind ≡ In
     → NameOneNode kind rs
@@ -64,7 +64,7 @@ module _ (k : KeptWhole) (f g : WholeFile) (remembers : Remembers k f) (still : 
       by_mixed out true mixed =
           let kind : g.kind ≡ Out = still.kind ∙ out in
           records_are_same k f g was.destination remembers still was.goes same
-          (inr (λ one. several mixed (one_node_is_named g.records is.destination
+          (inr (λ one. several mixed (one_node_is_named Out g.records is.destination
           (subst (λ x. destination_of x g.records ≡ Some is.destination) kind is.goes)
           (subst (λ x. NameOneNode x g.records) kind one))))
 
@@ -140,7 +140,7 @@ module _ (m : Memory) (i : ℕ) (k : KeptWhole) (there : i < length m.own.whole)
           refl all_headers (remain_same m.own.partial)
           (all_of (λ (p : KeptPartial). records_of p.key s ≡ records_of p.key s) (λ p. refl) m.own.partial)
 
-      -- its row is written anew, and what stands under its key
+      -- its row is written anew, and the records under its key
       row_goes : (t : SpoolContents) (row : File) → WritesUnder k.key s t → is_own m.own.name row ≡ true
           → IsRowOf k.key g row → HasRecords k.key g.records t → AllByRecursion FitsHub g.records
           → GoesTo m (memory_changed now) s (with_changed k.id row t) (set files i g)

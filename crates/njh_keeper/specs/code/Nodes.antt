@@ -1,29 +1,27 @@
--- Which nodes the data set headers of a file name.
-use Rattle.std.specs.Prelude.{◌≡◌, ℕ, List, [], ◌∷◌, Option, Some, None, Ok, Err, cond, not, ◌&&◌, ⊤}
+-- Which nodes the headers of a file name.
+use Rattle.std.specs.Prelude.{◌≡◌, ℕ, List, [], ◌∷◌, Option, Some, None, ⊤}
 use Rattle.std.specs.List.{AllByRecursion}
-use Rattle.std.specs.Option.{option_map}
-use Rattle.std.specs.Result.{result_ok}
-use Rattle.njh_record.specs.Stored.{Stored, has_srcb}
-use Rattle.njh_header.specs.Headers.{data_set_header}
-use Rattle.njh_header.specs.Redirecting.{is_after_header}
-
--- by each data set header that reads and is no continuation, among the records behind one with this SRCB
-abbrev pub named_nodes : Option ℕ → List Stored → List (List ℕ)
-named_nodes before [] = []
-named_nodes before (r ∷ rs) =
-    let rest = named_nodes (Some r.srcb) rs in
-    cond (has_srcb 0xe0 r && not (is_after_header before))
-    (elim (data_set_header r.bytes) [ Ok h ↦ h.destination.node ∷ rest | Err e ↦ rest ]) rest
-
--- by a record behind one with this SRCB
-abbrev pub named_node : Option ℕ → Stored → Option (List ℕ)
-named_node before r =
-    cond (has_srcb 0xe0 r && not (is_after_header before))
-    (option_map (λ h. h.destination.node) (result_ok (data_set_header r.bytes))) None
+use Rattle.njh_record.specs.Stored.{Stored}
+use Rattle.njh_record.specs.declared.Kind.{Kind}
+use Rattle.njh_record.specs.declared.Kind.TheVariants.{Out}
+use Rattle.njh_header.specs.Redirecting.{destination_node}
 
 abbrev pub with_first : Option (List ℕ) → List (List ℕ) → List (List ℕ)
 with_first (Some node) nodes = node ∷ nodes
 with_first None nodes = nodes
+
+-- by the records of a file of this kind that name its destination, among those after one with this SRCB
+abbrev pub nodes_in : Kind → Option ℕ → List Stored → List (List ℕ)
+nodes_in kind before [] = []
+nodes_in kind before (r ∷ rs) = with_first (destination_node kind before r) (nodes_in kind (Some r.srcb) rs)
+
+-- by the data set headers that read and are no continuations
+abbrev pub named_nodes : Option ℕ → List Stored → List (List ℕ)
+named_nodes before records = nodes_in Out before records
+
+-- by a record after one with this SRCB
+abbrev pub named_node : Option ℕ → Stored → Option (List ℕ)
+named_node before r = destination_node Out before r
 
 -- no two of them differ
 abbrev pub AreOne : List (List ℕ) → Type 0
