@@ -90,10 +90,10 @@ opened_spool : (names : List (List ℕ)) (hub : List Part) (t : SpoolContents) (
 opened_spool names hub t c own opened =
     let now = (get_or hub c no_part).customer.spool in
     record {
-      arrived = opened.arrived;
+      arrived = opened.owned.arrived;
       mirrored = opened.mirrored;
-      up_to_date = subst (AllByRecursion (IsUpToDate now)) (sym opened.partial) tt;
-      go_on = subst (AllByRecursion (GoesOn now t)) (sym opened.partial) tt;
+      up_to_date = subst (AllByRecursion (IsUpToDate now)) (sym opened.owned.partial) tt;
+      go_on = subst (AllByRecursion (GoesOn now t)) (sym opened.owned.partial) tt;
     }
 
 -- all of a hub that was just opened, and which customer is which
@@ -115,5 +115,5 @@ begun_is_known names hub owns w t begun distinct long = (
       (λ i o low at other same.
       other
       (apart names distinct i c (omega (arith, begun.count, low)) (omega (arith, begun.count, there))
-      (sym (begun.each i o low at).name ∙ same ∙ (begun.each c own there is).name))),
+      (sym (begun.each i o low at).owned.name_is ∙ same ∙ (begun.each c own there is).owned.name_is))),
 )

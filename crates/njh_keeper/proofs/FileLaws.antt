@@ -54,24 +54,7 @@ is_file file records kind all word =
     ap (λ b. cond b (option_map (as_kept file records) (kind_of_word file.kind)) None) all
     ∙ ap (option_map (as_kept file records)) word
 
-pub no_kind : (file : File) (records : List Contents) → kind_of_word file.kind ≡ None → file_in file records ≡ None
-no_kind file records word = ap (λ o. cond (are_records_of file records) (option_map (as_kept file records) o) None) word
-    ∙ either (are_records_of file records)
-  where
-    either : (b : Bool) → ◌≡◌ {A = Option KeptFile} (cond b None None) None
-    either true = refl
-    either false = refl
-
-pub not_all : (file : File) (records : List Contents) → are_records_of file records ≡ false
-    → file_in file records ≡ None
-not_all file records all = ap (λ b. cond b (option_map (as_kept file records) (kind_of_word file.kind)) None) all
-
 -- ---- why it isn't put back
-
-pub bad_file : (p : Part) (file : File) (records : List Contents) → file_in file records ≡ None
-    → file_fault p file records ≡ Some BadFile
-bad_file p file records none = ap (λ (o : Option KeptFile). elim o
-    [ None ↦ Some BadFile | Some f ↦ option_map Refused (restore_fault f p.customer.spool) ]) none
 
 pub by_restore : (p : Part) (file : File) (records : List Contents) (f : KeptFile) (fault : Option RestoreFault)
     → file_in file records ≡ Some f

@@ -1,14 +1,12 @@
 -- What stays of the records under other keys, and of the rows of other customers.
-use Rattle.std.proofs.Common.{◌≡◌, ◌≢◌, ℕ, ◌+◌, ◌^◌, ◌<◌, ◌≤◌, List, length, get_or, map, true, false, refl, sym, ap}
+use Rattle.std.proofs.Common.{◌≡◌, ◌≢◌, ℕ, ◌+◌, ◌^◌, ◌<◌, ◌≤◌, List, length, get_or, map, true, false, refl, sym}
 use Rattle.std.proofs.Common.{◌∙◌, arith}
 use Rattle.std.specs.List.{AllByRecursion}
 use Rattle.njh_record.specs.Stored.{Stored}
 use Rattle.njh_spoolfile.specs.Kept.{File, Record, SpoolContents, contents, records_of, with_changed, with_file}
 use Rattle.njh_spoolfile.specs.Kept.{with_record, without_file, without_records}
-use Rattle.njh_keeper.specs.Opened.{is_own, own_files}
+use Rattle.njh_keeper.specs.Opened.{is_own}
 use Rattle.njh_keeper.specs.code.Mirrored.{HasRecords, IsOrdered, WritesRowsOf, WritesUnder, own_rows}
-use Rattle.njh_keeper.proofs.NumberedLaws.{all_weaker}
-use Rattle.njh_keeper.proofs.OwnFileLaws.{own_files_by_rows, own_files_same}
 use Rattle.njh_keeper.proofs.RecordLaws.{records_of_another_come, records_of_another_leave, with_record_ordered}
 use Rattle.njh_keeper.proofs.RecordLaws.{without_records_ordered}
 use Rattle.njh_keeper.proofs.RowLaws.{owned_once, row_is_own, row_of_another_changes, row_of_another_comes}
@@ -52,30 +50,12 @@ module _ (key : ℕ) where
       (writes_record r (without_records key r.place (r.place + 1) s) dropped.ordered low mine)
 
   module _ (s t : SpoolContents) (w : WritesUnder key s t) where
-    pub other_records_stay : (other : ℕ) (rs : List Stored) → other ≢ key → HasRecords other rs s
-        → HasRecords other rs t
-    other_records_stay other rs apart has = ap (map contents) (w.others other apart) ∙ has
-
     pub rows_stay : (name : List ℕ) → own_rows name t ≡ own_rows name s
     rows_stay name = λ i. own_rows name (record { files = w.files i; records = t.records })
-
-    pub own_files_stay : (name : List ℕ) → AllByRecursion (λ e. e.1.key ≢ key) (own_rows name s)
-        → own_files name t ≡ own_files name s
-    own_files_stay name foreign =
-        own_files_same name s t (rows_stay name)
-        (all_weaker (λ e. e.1.key ≢ key) (λ e. records_of e.1.key t ≡ records_of e.1.key s)
-        (λ e apart. w.others e.1.key apart) (own_rows name s) foreign)
 
 -- ---- rows of one customer
 
 module _ (name : List ℕ) where
-  pub rows_then : (s t u : SpoolContents) → WritesRowsOf name s t → WritesRowsOf name t u → WritesRowsOf name s u
-  rows_then s t u one more = record {
-    records = more.records ∙ one.records;
-    ordered = more.ordered;
-    others = λ other apart. more.others other apart ∙ one.others other apart;
-  }
-
   pub adds_row : (id : ℕ) (file : File) (s : SpoolContents) → IsOrdered s → AllByRecursion (λ e. e.0 < id) s.files
       → is_own name file ≡ true → WritesRowsOf name s (with_file id file s)
   adds_row id file s h all owned = record {
@@ -109,6 +89,3 @@ module _ (name : List ℕ) where
     pub records_stay : (key : ℕ) (rs : List Stored) → HasRecords key rs s → HasRecords key rs t
     records_stay key rs has = (λ i. map contents (records_of key (record { files = t.files; records = w.records i })))
         ∙ has
-
-    pub other_files_stay : (other : List ℕ) → other ≢ name → own_files other t ≡ own_files other s
-    other_files_stay other apart = own_files_by_rows other s t (w.others other apart) w.records

@@ -28,7 +28,7 @@ use Rattle.njh_keeper.proofs.WalkLaws.{are_numbered}
 
 -- ---- a step
 
--- what holds behind bytes of a line, behind a signal and behind new routes holds wherever the part is led
+-- what holds after bytes of a line, after a signal and after new routes holds wherever the part is led
 led : (p : Part) (P : Part → Type 0) → ((l : ℕ) (piece : List ℕ) → l < length p.rests
     → P (part_after_bytes p l piece).after)
     → ((l : ℕ) (signal : Signal) → P (part_after_signal p l signal).after)
@@ -58,7 +58,7 @@ routes_grow_none routes p =
     let entry = entry_with routes p.customer.entry in
     quiet p.customer.spool (unrouted_held entry p.customer.spool) (held_still entry p.customer.spool.whole) refl refl
 
--- the whole files are those that there were, but for such as left, and behind them others, at most as many as were
+-- the whole files are those that there were, but for such as left, and after them others, at most as many as were
 -- counted
 pub led_files_go_on : EventsKeepFiles → TakesKeepFiles → (p after : Part) → IsLed p after
     → after.customer.spool.arrived < max_arrived
@@ -120,7 +120,7 @@ found_there {X} p (y ∷ ys) x is = at_test (p y) refl (found_there p ys x) is
         let later = rest is in
         (Contains-append_right (y ∷ []) ys x later.0, later.1)
 
--- these are the records of the file of that number, and behind them others
+-- these are the records of the file of that number, and after them others
 abbrev pub GoesOnFromPartial : CustomerSpool → ℕ → List Stored → Type 0
 GoesOnFromPartial x n records = (rest : List Stored) × (records ≡ partial_records n x ++ rest)
 

@@ -25,7 +25,7 @@ use Rattle.njh_keeper.proofs.KeyLaws.{keyed_none, one_itself}
 use Rattle.njh_keeper.proofs.LeadingLaws.{leads_by, leads_nothing, leads_then, leads_weaker}
 use Rattle.njh_keeper.proofs.MirrorLaws.{all_of}
 use Rattle.njh_keeper.proofs.MovesLaws.{moves_memory, moves_then, still_apart}
-use Rattle.njh_keeper.proofs.NumberedLaws.{all_weaker}
+use Rattle.njh_keeper.proofs.NumberedLaws.{all-push, all_weaker}
 use Rattle.njh_keeper.proofs.UsesLaws.{uses_as_key_is_taken, uses_as_partial_goes}
 
 -- files that aren't whole have no number that is in hand
@@ -35,11 +35,6 @@ no_partial key m apart =
     let once = apart key in
     let one = one_itself key in
     keyed_none (λ (p : KeptPartial). p.key) key m.own.partial (omega (arith, once, one))
-
-pub all-push : {X : Type 0} (P : X → Type 0) (xs : List X) (x : X) → AllByRecursion P xs → P x
-    → AllByRecursion P (xs ++ x ∷ [])
-all-push P [] x all one = (one, tt)
-all-push P (y ∷ xs) x all one = (all.0, all-push P xs x all.1 one)
 
 module _ (m : Memory) (g : WholeFile) (s : SpoolContents) (files : List WholeFile) (has : HasFiles m s files) where
   abbrev pub memory_left : ℕ → Memory
@@ -59,7 +54,7 @@ module _ (m : Memory) (g : WholeFile) (s : SpoolContents) (files : List WholeFil
       record {
         moves =
             moves_memory (claim_of m) (with_key p.key (claim_of (memory_left i))) s refl
-            (λ n. let as_was = uses_as_partial_goes m.numbers m.own i p there is n in omega (arith, as_was)) has.ordered
+            (λ n. omega (arith, uses_as_partial_goes m.numbers m.own i p there is n)) has.ordered
             (omega arith);
         text = refl;
         mirrored = has.mirrored;
@@ -88,8 +83,7 @@ module _ (m : Memory) (g : WholeFile) (s : SpoolContents) (files : List WholeFil
     pub key_in_hand : IsInHand key 0 m memory_taken s (without_records key 0 (2 ^ 23) s) files g.records
     key_in_hand =
         let by = take_follows m.numbers m.own s files has.ordered has.mirrored numbers_left key as_was refl has.apart in
-        let apart : AreApart (with_key key (claim_of memory_taken)) = λ n. let same = as_was n in let once =
-        has.apart n in omega (arith, same, once) in
+        let apart : AreApart (with_key key (claim_of memory_taken)) = λ n. omega (arith, as_was n, has.apart n) in
         record {
           moves = by.moves;
           text = refl;

@@ -1,11 +1,14 @@
 -- Whole files put back into a hub one after the other: each customer has its own.
-use Rattle.std.proofs.Common.{◌≡◌, ◌≢◌, ℕ, zero, suc, ◌+◌, ◌<◌, ◌≤◌, Bool, true, false, cond, List, [], ◌∷◌, ◌++◌}
+use Rattle.std.proofs.Common.{◌≡◌, ◌≢◌, ℕ, ◌+◌, ◌<◌, ◌≤◌, Bool, true, false, cond, List, [], ◌∷◌, ◌++◌}
 use Rattle.std.proofs.Common.{length, map, get_or, slice_set, bytes_eq, Option, Some, None, Result, Ok, Err, refl, sym}
-use Rattle.std.proofs.Common.{ap, subst, ◌∙◌, ⊎_elim, eqb, arith}
+use Rattle.std.proofs.Common.{ap, subst, ◌∙◌, ⊎_elim, eqb, nat_lt, arith}
 use Rattle.std.specs.Prelude.{fold}
 use Rattle.std.proofs.lemmas.List.{ext_get_or, get_or-map, get_or-set_same, get_or-set_other, length-map, length-set}
-use Rattle.std.proofs.lemmas.List.Sums.{fold-append}
-use Rattle.std.proofs.lemmas.Bool.{cases_lt}
+use Rattle.std.proofs.lemmas.List.Sums.{fails_before_first, fold-append}
+use Rattle.std.specs.List.{position_or_len}
+use Rattle.std.proofs.lemmas.Bool.{cases_lt, lt-ltb}
+use Rattle.std.proofs.lemmas.Iterator.Adapters.{position_from-zero}
+use Rattle.std.proofs.lemmas.List.Quantifiers.{position-Some}
 use Rattle.std.proofs.lemmas.Bool.Decides.{eqb_tells}
 use Rattle.std.proofs.lemmas.Slice.Eq.{bytes_eq-Decides}
 use Rattle.njh_ebcdic.specs.Reading.{name_of_text}
@@ -34,45 +37,23 @@ one_name text a b first second =
 
 -- ---- the number of the customer that it names
 
-pub record Numbered (n : ℕ) (names : List (List ℕ)) (text : List ℕ) (c : ℕ) : Type 0 where
-  pub place : ℕ
-  pub is : c ≡ n + place
-  pub there : place < length names
-  pub named : is_name_of text (get_or names place []) ≡ true
+pub found : (names : List (List ℕ)) (text : List ℕ) (c : ℕ) → number_of names text ≡ Some c
+    → (c < length names) × (is_name_of text (get_or names c []) ≡ true)
+found names text c e =
+    let test : List ℕ → Bool = λ name. is_name_of text name in
+    let h = position-Some test names c [] (position_from-zero test names ∙ e) in
+    (h.0, h.1)
 
-number_found : (n : ℕ) (names : List (List ℕ)) (text : List ℕ) (c : ℕ) → number_from n names text ≡ Some c
-    → Numbered n names text c
-number_found n [] text c e = absurd (cc e)
-number_found n (name ∷ names) text c e = split (is_name_of text name) refl e (λ h. number_found (n + 1) names text c h)
-  where
-    split : (b : Bool) → is_name_of text name ≡ b → cond b (Some n) (number_from (n + 1) names text) ≡ Some c
-        → (number_from (n + 1) names text ≡ Some c → Numbered (n + 1) names text c) → Numbered n (name ∷ names) text c
-    split true is e later = let same : n ≡ c =
-        cc in record { place = 0; is = omega (arith, same); there = omega arith; named = is }
-    split false is e later =
-        let rest = later e in
-        record {
-          place = suc rest.place;
-          is = omega (arith, rest.is);
-          there = omega (arith, rest.there);
-          named = rest.named;
-        }
-
-number_missing : (n : ℕ) (names : List (List ℕ)) (text : List ℕ) → number_from n names text ≡ None → (k : ℕ)
-    → k < length names
+number_missing : (names : List (List ℕ)) (text : List ℕ) → number_of names text ≡ None → (k : ℕ) → k < length names
     → is_name_of text (get_or names k []) ≡ false
-number_missing n [] text e k there = absurd (omega (arith, there))
-number_missing n (name ∷ names) text e k there =
-    split (is_name_of text name) refl e k there (λ h j below. number_missing (n + 1) names text h j below)
-  where
-    split : (b : Bool) → is_name_of text name ≡ b → cond b (Some n) (number_from (n + 1) names text) ≡ None → (k : ℕ)
-        → k < length (name ∷ names)
-        → (number_from (n + 1) names text ≡ None → (j : ℕ) → j < length names
-        → is_name_of text (get_or names j []) ≡ false)
-        → is_name_of text (get_or (name ∷ names) k []) ≡ false
-    split true is e k there later = absurd (cc e)
-    split false is e zero there later = is
-    split false is e (suc k) there later = later e k (omega (arith, there))
+number_missing names text e k there =
+    let test : List ℕ → Bool = λ name. is_name_of text name in
+    let at = position_or_len test names in
+    let none : cond (nat_lt at (length names)) (Some at) None ≡ None = position_from-zero test names ∙ e in
+    fails_before_first test names k []
+    (⊎_elim (λ (less : at < length names).
+    absurd (let never = sym (ap (λ b. cond b (Some at) None) (lt-ltb at (length names) less)) ∙ none in cc never))
+    (λ (high : length names ≤ at). omega (arith, there, high)) (cases_lt at (length names)))
 
 -- a text that is no name is no customer's
 pub no_number : (n : ℕ) (names : List (List ℕ)) (text : List ℕ) (fault : NameFault) → name_of_text text ≡ Err fault
@@ -83,13 +64,6 @@ no_number n (name ∷ names) text fault is =
     ap (λ (r : Result (List ℕ) NameFault). elim r as (λ _. Bool) [ Ok read ↦ bytes_eq read name | Err f ↦ false ])
     is in
     ap (λ (b : Bool). cond b (Some n) (number_from (n + 1) names text)) other ∙ no_number (n + 1) names text fault is
-
-pub found : (names : List (List ℕ)) (text : List ℕ) (c : ℕ) → number_of names text ≡ Some c
-    → (c < length names) × (is_name_of text (get_or names c []) ≡ true)
-found names text c e =
-    let h = number_found 0 names text c e in
-    let same : c ≡ h.place = omega (arith, h.is) in
-    (omega (arith, same, h.there), subst (λ (k : ℕ). is_name_of text (get_or names k []) ≡ true) (sym same) h.named)
 
 -- ---- the customers are apart
 
@@ -110,7 +84,7 @@ pub own_number : (names : List (List ℕ)) (text : List ℕ) (c : ℕ) → Apart
 own_number names text c distinct there is = split (number_of names text) refl
   where
     split : (o : Option ℕ) → number_of names text ≡ o → number_of names text ≡ Some c
-    split None e = absurd (let missing = number_missing 0 names text e c there in cc)
+    split None e = absurd (let missing = number_missing names text e c there in cc)
     split (Some d) e =
         let h = found names text d e in
         let same : d ≡ c = distinct d c h.0 there (one_name text (get_or names d []) (get_or names c []) h.1 is) in
@@ -147,7 +121,7 @@ module _ (names : List (List ℕ)) (distinct : Apart names) (c : ℕ) (there : c
           [ None ↦ parts | Some d ↦ slice_set parts d (with_whole (part d parts) w) ])
           ≡ cond (is_own name w.file) (with_whole (part c parts) w) (part c parts)
       split None e = ap (λ (b : Bool). cond b (with_whole (part c parts) w) (part c parts))
-          (sym (number_missing 0 names w.file.customer e c there))
+          (sym (number_missing names w.file.customer e c there))
       split (Some d) e = ⊎_elim
           (λ (v : (eqb c d ≡ true) × (c ≡ d)).
           let is : is_own name w.file ≡ true =

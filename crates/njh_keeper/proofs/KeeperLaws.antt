@@ -1,16 +1,13 @@
 -- What a crash may leave of the customers' whole files.
-use Rattle.std.proofs.Common.{◌≡◌, ◌⊎◌, inl, inr, Bool, true, false, ℕ, List, refl, sym, ap, subst, ◌∙◌, arith}
+use Rattle.std.proofs.Common.{◌≡◌, ◌⊎◌, inl, inr, List, ap, subst, ◌∙◌, arith}
 use Rattle.sqlite.specs.State.{Survives}
-use Rattle.sqlite.specs.Effect.{Database}
 use Rattle.sqlite.specs.Store.{Ghosts}
 use Rattle.sqlite.specs.Tree.{Trees}
 use Rattle.njh_spool.specs.Restoring.{KeptFile}
 use Rattle.njh_spoolfile.specs.Kept.{Holds, SpoolContents}
 use Rattle.njh_spoolfile.specs.Shelf.{shown}
 use Rattle.njh_spoolfile.specs.CommitState.{CommitState, Stands}
-use Rattle.njh_spoolfile.specs.Steps.{Commits}
-use Rattle.njh_keeper.specs.Keeper.{IsKeptNow, Keeping, MayLeave, left_in}
-use Rattle.njh_keeper.specs.code.Writing.{is_due}
+use Rattle.njh_keeper.specs.Keeper.{Keeping, MayLeave, left_in}
 use Rattle.njh_keeper.proofs.OneSpool.{one_spool}
 
 module _ {S : Type 0} (g : Ghosts S) where
@@ -62,36 +59,3 @@ module _ {S : Type 0} (g : Ghosts S) where
     commit_leaves survives left m =
         either_left left (shown g old.store).now.trees
         (crash_leaves (λ trees. trees ≡ (shown g old.store).now.trees) survives left m)
-
-    -- where nothing is committed
-    pub nothing_more_is_left : Survives (shown g old.store) (shown g new.store) (λ _. ⊥) → (left : List (List KeptFile))
-        → MayLeave g new left → MayLeave g old left
-    nothing_more_is_left survives left m =
-        elim (crash_leaves (λ _. ⊥) survives left m) [ inl before ↦ before | inr made ↦ absurd made.1 ]
-
-    -- ---- the whole files are committed as they are now
-
-    pub kept_by_commit : (s : CommitState) → Stands s (shown g old.store)
-        → Commits (shown g old.store) (shown g new.store) → IsKeptNow g new s.now
-    kept_by_commit s stands made = record {
-      kept = s.now;
-      stands = record {
-        is_open = made.is_open;
-        now = subst (λ (d : Database). Holds s.now d.trees) (sym made.now) stands.now;
-        kept = subst (λ (d : Database). Holds s.now d.trees) (sym made.committed) stands.now;
-      };
-      same = refl;
-    }
-
-    pub kept_as_it_is : (s : CommitState) → Stands s (shown g old.store) → new.store ≡ old.store
-        → left_in old.names s.kept ≡ left_in old.names s.now → IsKeptNow g new s.now
-    kept_as_it_is s stands here same = record {
-      kept = s.kept;
-      stands = subst (λ store. Stands s (shown g store)) (sym here) stands;
-      same = ap (λ ns. left_in ns s.kept) names ∙ same ∙ ap (λ ns. left_in ns s.now) (sym names);
-    }
-
--- where nothing is due no whole file changed
-pub waits_unchanged : (is_changed : Bool) (waiting : ℕ) → is_due is_changed waiting ≡ false → is_changed ≡ false
-waits_unchanged false waiting waits = refl
-waits_unchanged true waiting waits = waits

@@ -46,13 +46,13 @@ module _ (w w' : Numbers) (owns : List OwnFiles) (c : ℕ) (own own' : OwnFiles)
     arrived = has.arrived;
     mirrored =
         mirrored_of_another s t o sp.whole has.mirrored (claim w own) (claim w' own') moves away.0
-        (λ n. let once = away.1 n in omega (arith, once));
+        (λ n. omega (arith, away.1 n));
     up_to_date = has.up_to_date;
     go_on =
         still_all sp s t o.partial
         (all_weaker (λ (p : KeptPartial). 1 ≤ keyed (λ (x : KeptPartial). x.key) p.key o.partial)
         (λ p. records_of p.key t ≡ records_of p.key s)
-        (λ p least. moves.records p.key (let once = away.1 p.key in omega (arith, once, least))) o.partial
+        (λ p least. moves.records p.key (omega (arith, away.1 p.key, least))) o.partial
         (each_counts (λ (p : KeptPartial). p.key) (λ n. keyed (λ (x : KeptPartial). x.key) n o.partial) o.partial
         (λ n. omega arith))) has.go_on;
   }
@@ -71,7 +71,7 @@ module _ (w w' : Numbers) (owns : List OwnFiles) (c : ℕ) (own own' : OwnFiles)
 
 -- ---- files that aren't whole
 
--- behind a step's last call
+-- after a step's last call
 pub has_spool : (w w' : Numbers) (own own' : OwnFiles) (now : CustomerSpool) (s t : SpoolContents)
     → Goes (claim w own) (claim w' own') own' now now.whole s t → AllUpToDate now own' → own'.arrived ≡ now.arrived
     → HasSpool t own' now

@@ -1,7 +1,8 @@
 -- The keeper of a spool file goes on to know a hub's files: by a customer's step, and by a commit.
-use Rattle.std.proofs.Common.{◌≡◌, ◌≢◌, ◌⊎◌, inl, inr, ℕ, zero, suc, ◌<◌, false, true, List, [], ◌∷◌, length, get_or}
+use Rattle.std.proofs.Common.{◌≡◌, ◌≢◌, ◌⊎◌, inl, inr, ℕ, zero, suc, ◌<◌, true, List, [], ◌∷◌, length, get_or}
 use Rattle.std.proofs.Common.{set, map, Result, Ok, Err, OnOk, refl, sym, ap, subst, ◌∙◌, arith}
-use Rattle.std.proofs.lemmas.List.{get_or-set_same, length-map, map-set}
+use Rattle.std.proofs.lemmas.List.{get_or-map, get_or-set_same, get_or_default, length-map, map-set, set-get_or}
+use Rattle.std.proofs.lemmas.Simd.{map-map}
 use Rattle.std.specs.List.{AllByRecursion, AllZip}
 use Rattle.std.specs.Prelude.{string_bytes}
 use Rattle.sqlite.specs.Effect.{Database}
@@ -9,7 +10,7 @@ use Rattle.sqlite.specs.State.{HasCleanDisk, State}
 use Rattle.sqlite.specs.Store.{Ghosts}
 use Rattle.njh_customer.specs.Growing.{HasShortRests}
 use Rattle.njh_spool.specs.Restoring.{KeptFile}
-use Rattle.njh_spool.specs.CustomerSpool.{CustomerSpool, has_file_room, is_number, next_number}
+use Rattle.njh_spool.specs.CustomerSpool.{CustomerSpool}
 use Rattle.njh_spool.specs.Spools.{IsSound}
 use Rattle.njh_stream.specs.WholeFiles.{HaveHeaders}
 use Rattle.njh_table.specs.Accepted.{AreDistinct}
@@ -45,8 +46,7 @@ spools_of parts = map (λ (p : Part). p.customer.spool) parts
 
 kept_of_spools : (parts : List Part) → map (λ (s : CustomerSpool). map kept_file s.whole) (spools_of parts)
     ≡ kept_of parts
-kept_of_spools [] = refl
-kept_of_spools (p ∷ parts) = ap (λ files. map kept_file p.customer.spool.whole ∷ files) (kept_of_spools parts)
+kept_of_spools parts = map-map (λ (s : CustomerSpool). map kept_file s.whole) (λ (p : Part). p.customer.spool) parts
 
 -- what is left of the customers is what the hub has
 pub known_leaves : {S : Type 0} (g : Ghosts S) (keeper : Keeping S) (parts : List Part) (k : KnowsNow g keeper parts)
@@ -105,21 +105,15 @@ may_leave_same g old new left store names m = record {
 
 -- ---- the opening
 
-whatever_else : {X : Type 0} (xs : List X) (i : ℕ) (x y : X) → i < length xs → get_or xs i x ≡ get_or xs i y
-whatever_else [] i x y there = absurd (omega (arith, there))
-whatever_else (a ∷ xs) zero x y there = refl
-whatever_else (a ∷ xs) (suc i) x y there = whatever_else xs i x y (omega (arith, there))
+owns_are : (owns : List own_files_type.OwnFiles)
+    → map (λ (m : OwnMemory). m.own) (map own_memory_of owns) ≡ map own_of owns
+owns_are owns = map-map (λ (m : OwnMemory). m.own) own_memory_of owns
 
 names_in : (owns : List own_files_type.OwnFiles)
     → map (λ (own : OwnFiles). own.name) (map (λ (m : OwnMemory). m.own) (map own_memory_of owns))
     ≡ map (λ own. own.name) owns
-names_in [] = refl
-names_in (own ∷ owns) = ap (λ names. own.name ∷ names) (names_in owns)
-
-owns_are : (owns : List own_files_type.OwnFiles)
-    → map (λ (m : OwnMemory). m.own) (map own_memory_of owns) ≡ map own_of owns
-owns_are [] = refl
-owns_are (own ∷ owns) = ap (λ os. own_of own ∷ os) (owns_are owns)
+names_in owns =
+    ap (map (λ (own : OwnFiles). own.name)) (owns_are owns) ∙ map-map (λ (own : OwnFiles). own.name) own_of owns
 
 pub begun_known : {S : Type 0} (g : Ghosts S) (new : Keeping S) (names : List (List ℕ)) (hub : List Part)
     (owns : List own_files_type.OwnFiles) (t : SpoolContents) → new.customers ≡ map own_memory_of owns
@@ -145,7 +139,7 @@ begun_known g new names hub owns t customers names_is each begun stands distinct
   sound =
       all_by_place IsSoundPart hub
       (λ c p low is.
-      let here : part c hub ≡ p = whatever_else hub c no_part p low ∙ sym is in
+      let here : part c hub ≡ p = get_or_default hub c no_part p low ∙ sym is in
       let one = sound c (omega (arith, low, long)) in
       record {
         sound = subst (λ (x : Part). IsSound x.customer.spool) here one.0;
@@ -155,18 +149,20 @@ begun_known g new names hub owns t customers names_is each begun stands distinct
 }
 
 -- what is read of the customers' files when a hub is opened
-pub opened_so : ((s : CustomerSpool) → has_file_room s ≡ true → is_number (next_number s) s ≡ false)
-    → (table : TableFile) (spool : SpoolContents) (names : List (List ℕ)) (hub : List Part)
+pub opened_so : (table : TableFile) (spool : SpoolContents) (names : List (List ℕ)) (hub : List Part)
     → names ≡ map (λ c. c.name) table.customers → hub ≡ hub_opened table spool → AllAreBack table (kept spool)
     → AllAreFound names hub × AllAreRead names hub spool × (length names ≡ length hub)
     × AllByRecursion HasShortRests hub
-opened_so free table spool names hub each hub_is back = (
-  subst (λ (ps : List Part). AllAreFound names ps) (sym hub_is) (all_found free table spool back names each),
+opened_so table spool names hub each hub_is back = (
+  subst (λ (ps : List Part). AllAreFound names ps) (sym hub_is) (all_found table spool back names each),
   subst (λ (ps : List Part). AllAreRead names ps spool) (sym hub_is) (all_read_from table spool back names each),
-  (let a = ap length each in let b = ap length hub_is in let d = length-map table.customers
-      (λ (x : NamedCustomer). x.name) in
-      let e = length-map table.customers (λ (x : NamedCustomer). part_opened (entry_of x) (own_files x.name spool))
-      in omega (arith, a, b, d, e)),
+  (omega (
+    arith,
+    ap length each,
+    ap length hub_is,
+    length-map table.customers (λ (x : NamedCustomer). x.name),
+    length-map table.customers (λ (x : NamedCustomer). part_opened (entry_of x) (own_files x.name spool)),
+  )),
   subst (AllByRecursion HasShortRests) (sym hub_is) (opened_rests table spool),
 )
 
@@ -199,9 +195,7 @@ all_zip_long R (x ∷ xs) (y ∷ ys) all = ap suc (all_zip_long R xs ys all.1)
 
 pub at_place : {X Y : Type 0} (f : X → Y) (xs : List X) (i : ℕ) (x : X) → i < length xs → x ≡ get_or xs i x
     → f x ≡ get_or (map f xs) i (f x)
-at_place f [] i x there is = absurd (omega (arith, there))
-at_place f (a ∷ xs) zero x there is = ap f is
-at_place f (a ∷ xs) (suc i) x there is = at_place f xs i x (omega (arith, there)) is
+at_place f xs i x there is = ap f is ∙ sym (get_or-map f xs i x (f x) there)
 
 named_apart : (owns : List OwnFiles) → AreDistinct (map (λ (own : OwnFiles). own.name) owns) → AreNamedApart owns
 named_apart owns distinct c own there is =
@@ -209,16 +203,14 @@ named_apart owns distinct c own there is =
     let long = length-map owns (λ (o : OwnFiles). o.name) in
     let name_is : (i : ℕ) (o : OwnFiles) → i < length owns → o ≡ get_or owns i o → o.name ≡ name_at names i =
     (λ i o low at. at_place (λ (x : OwnFiles). x.name) owns i o low at
-    ∙ whatever_else names i o.name [] (omega (arith, low, long))) in
+    ∙ get_or_default names i o.name [] (omega (arith, low, long))) in
     others_by_place (λ o. o.name ≢ own.name) owns c
     (λ i o low at other same.
     other (apart names distinct i c (omega (arith, low, long)) (omega (arith, there, long))
     (sym (name_is i o low at) ∙ same ∙ name_is c own there is)))
 
-set_same : {X : Type 0} (xs : List X) (i : ℕ) (x : X) → i < length xs → x ≡ get_or xs i x → set xs i x ≡ xs
-set_same [] i x there is = absurd (omega (arith, there))
-set_same (a ∷ xs) zero x there is = ap (λ z. z ∷ xs) is
-set_same (a ∷ xs) (suc i) x there is = ap (λ ys. a ∷ ys) (set_same xs i x (omega (arith, there)) is)
+set_same : {X : Type 0} (xs : List X) (i : ℕ) (x : X) → x ≡ get_or xs i x → set xs i x ≡ xs
+set_same xs i x is = ap (set xs i) is ∙ set-get_or xs i x
 
 module _ {S : Type 0} (g : Ghosts S) (old new : Keeping S) (before : List Part) (c : ℕ) (now : Part)
     (k : KnowsNow g old before) (led : IsLed (part c before) now) (sound : IsSoundPart now)
@@ -230,19 +222,22 @@ module _ {S : Type 0} (g : Ghosts S) (old new : Keeping S) (before : List Part) 
   owns = owns_in old
 
   within : c < length owns
-  within = let long = length-map old.customers (λ (x : OwnMemory). x.own) in omega (arith, there, long)
+  within = omega (arith, there, length-map old.customers (λ (x : OwnMemory). x.own))
 
   here : m.own ≡ get_or owns c m.own
   here = at_place (λ (x : OwnMemory). x.own) old.customers c m there is
 
   in_hub : c < length before
   in_hub =
-      let zip = all_zip_long (HasSpool k.standing.now) owns (spools_of before) k.knows.each in
-      let long = length-map before (λ (p : Part). p.customer.spool) in
-      omega (arith, within, zip, long)
+      omega (
+        arith,
+        within,
+        all_zip_long (HasSpool k.standing.now) owns (spools_of before) k.knows.each,
+        length-map before (λ (p : Part). p.customer.spool),
+      )
 
   part_is : part c before ≡ get_or before c (part c before)
-  part_is = whatever_else before c no_part (part c before) in_hub
+  part_is = get_or_default before c no_part (part c before) in_hub
 
   sound_before : IsSoundPart (part c before)
   sound_before = all_at IsSoundPart before c (part c before) k.sound in_hub part_is
@@ -251,8 +246,7 @@ module _ {S : Type 0} (g : Ghosts S) (old new : Keeping S) (before : List Part) 
   has = record {
     ordered = k.knows.ordered;
     below = k.knows.below;
-    apart = λ n. (let one = uses_of_one n owns c m.own within here in let once = k.knows.apart n in omega
-        (arith, one, once));
+    apart = λ n. (omega (arith, uses_of_one n owns c m.own within here, k.knows.apart n));
     named = all_at (λ (x : OwnMemory). is_name_of x.text x.own.name ≡ true) old.customers c m k.texts there is;
     has =
         all_zip_at (HasSpool k.standing.now) owns (spools_of before) c m.own (part c before).customer.spool k.knows.each
@@ -284,24 +278,20 @@ module _ {S : Type 0} (g : Ghosts S) (old new : Keeping S) (before : List Part) 
     names_new =
         ap (map (λ (own : OwnFiles). own.name)) owns_new ∙ map-set (λ (own : OwnFiles). own.name) owns c m2.own
         ∙ set_same (map (λ (own : OwnFiles). own.name) owns) c m2.own.name
-        (let long = length-map owns (λ (own : OwnFiles). own.name) in omega (arith, within, long))
         (goes.moves.name ∙ at_place (λ (own : OwnFiles). own.name) owns c m.own within here
-        ∙ whatever_else (map (λ (own : OwnFiles). own.name) owns) c m.own.name m2.own.name
-        (let long = length-map owns (λ (own : OwnFiles). own.name) in omega (arith, within, long)))
+        ∙ get_or_default (map (λ (own : OwnFiles). own.name) owns) c m.own.name m2.own.name
+        (omega (arith, within, length-map owns (λ (own : OwnFiles). own.name))))
 
     -- where nothing changed, what is kept of all customers is what it was
     kept_same : map kept_file (part c before).customer.spool.whole ≡ map kept_file now.customer.spool.whole
         → kept_of before ≡ kept_of (set before c now)
     kept_same same =
         sym (set_same (kept_of before) c (map kept_file now.customer.spool.whole)
-        (let long = length-map before (λ (p : Part). map kept_file p.customer.spool.whole) in omega
-        (arith, in_hub, long))
         (sym same ∙ at_place (λ (p : Part). map kept_file p.customer.spool.whole) before c (part c before) in_hub
         part_is
-        ∙ whatever_else (kept_of before) c (map kept_file (part c before).customer.spool.whole)
+        ∙ get_or_default (kept_of before) c (map kept_file (part c before).customer.spool.whole)
         (map kept_file now.customer.spool.whole)
-        (let long = length-map before (λ (p : Part). map kept_file p.customer.spool.whole) in omega
-        (arith, in_hub, long))))
+        (omega (arith, in_hub, length-map before (λ (p : Part). map kept_file p.customer.spool.whole)))))
         ∙ sym (map-set (λ (p : Part). map kept_file p.customer.spool.whole) before c now)
 
     left_new : left_in new.names t ≡ kept_of (set before c now)
@@ -347,7 +337,7 @@ known_after g old new before hub c k leads sound headers m m2 there is customers
     let now : part c hub ≡ after = ap (part c) leads.2 ∙ get_or-set_same before c after no_part in_hub in
     let was : IsSoundPart (part c before) =
     all_at IsSoundPart before c (part c before) k.sound in_hub
-    (whatever_else before c no_part (part c before) in_hub) in
+    (get_or_default before c no_part (part c before) in_hub) in
     let by : IsSoundPart after = record {
       sound = subst (λ (p : Part). IsSound p.customer.spool) now sound;
       headers = subst (λ (p : Part). HaveHeaders p.customer.spool.whole) now headers;

@@ -11,7 +11,7 @@ use Rattle.njh_keeper.specs.Opened.{file_in, kind_of_word, kind_word, own_files}
 use Rattle.njh_keeper.specs.code.Mirrored.{FitsHub, ReadsAs, own_rows}
 use Rattle.njh_turns.specs.Keeping.{kept_file}
 use Rattle.njh_keeper.specs.Keeper.{left_in}
-use Rattle.njh_keeper.specs.code.Remembered.{AllBeside, IsKept, KeptWhole, Mirrored, OwnFiles}
+use Rattle.njh_keeper.specs.code.Remembered.{AllBeside, none_beside, one_beside, IsKept, KeptWhole, Mirrored, OwnFiles}
 use Rattle.njh_keeper.proofs.OwnFileLaws.{own_files_read_back}
 use Rattle.njh_keeper.proofs.RecordLaws.{file_reads_back}
 
@@ -30,12 +30,8 @@ reads_as s k e f one =
 
 read_back : (s : SpoolContents) (ks : List KeptWhole) (es : List (ℕ × File)) (fs : List WholeFile)
     → AllBeside (IsKept s) ks es fs → AllZip (ReadsAs s) es (map kept_file fs)
-read_back s [] [] [] h = tt
-read_back s [] [] (f ∷ fs) h = absurd h
-read_back s [] (e ∷ es) fs h = absurd h
-read_back s (k ∷ ks) [] fs h = absurd h
-read_back s (k ∷ ks) (e ∷ es) [] h = absurd h
-read_back s (k ∷ ks) (e ∷ es) (f ∷ fs) h = (reads_as s k e f h.0, read_back s ks es fs h.1)
+read_back s _ _ _ none_beside = tt
+read_back s _ _ _ (one_beside k e f ks es fs one more) = (reads_as s k e f one, read_back s ks es fs more)
 
 pub mirrored_is_read_back : (s : SpoolContents) (own : OwnFiles) (files : List WholeFile) → Mirrored s own files
     → map (λ w. file_in w.file w.records) (own_files own.name s) ≡ map Some (map kept_file files)
@@ -52,16 +48,6 @@ found_all f (x ∷ xs) [] all = absurd (let long = ap length all in omega (arith
 found_all {X} {Y} f (x ∷ xs) (y ∷ ys) all =
     let first : f x ≡ Some y = ap (λ (os : List (Option Y)). get_or os 0 (f x)) all in
     rw first (ap (λ zs. y ∷ zs) (found_all f xs ys (ap (λ (os : List (Option Y)). drop 1 os) all)))
-
-pub left_are : (s : SpoolContents) (owns : List OwnFiles) (all : List (List WholeFile)) → AllZip (Mirrored s) owns all
-    → left_in (map (λ own. own.name) owns) s ≡ map (map kept_file) all
-left_are s [] [] each = refl
-left_are s [] (files ∷ all) each = absurd each
-left_are s (own ∷ owns) [] each = absurd each
-left_are s (own ∷ owns) (files ∷ all) each =
-    let first = found_all (λ (w : Whole). file_in w.file w.records) (own_files own.name s) (map kept_file files)
-    (mirrored_is_read_back s own files each.0) in
-    λ i. first i ∷ left_are s owns all each.1 i
 
 -- where each customer has the files of a part of a hub
 pub left_of_parts : {P : Type 0} (whole : P → List WholeFile) (s : SpoolContents) (owns : List OwnFiles)

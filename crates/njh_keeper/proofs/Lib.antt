@@ -1,6 +1,9 @@
 pub mod HubLaws
 pub mod FileLaws
+pub mod BackLaws
 pub mod OpenedLaws
+pub mod RestingFiles
+pub mod IdleLines
 pub mod LinesLostLaws
 pub mod StepLaws
 pub mod OpeningLaws

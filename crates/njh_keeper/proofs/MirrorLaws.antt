@@ -24,7 +24,7 @@ all_of P each (x ∷ xs) = (each x, all_of P each xs)
 
 -- ---- the files stay
 
-kept_still : (s t : SpoolContents) (k : KeptWhole) (e : ℕ × File) (f : WholeFile)
+pub kept_still : (s t : SpoolContents) (k : KeptWhole) (e : ℕ × File) (f : WholeFile)
     → records_of k.key t ≡ records_of k.key s → IsKept s k e f → IsKept t k e f
 kept_still s t k e f same one = record {
   id = one.id;
@@ -36,7 +36,7 @@ kept_still s t k e f same one = record {
 }
 
 module _ (s t : SpoolContents) (own : OwnFiles) (files : List WholeFile) (all : Mirrored s own files) where
-  -- where neither their rows change nor what stands under their keys
+  -- where neither their rows change nor the records under their keys
   pub mirrored_still : own_rows own.name t ≡ own_rows own.name s
       → AllByRecursion (λ k. records_of k.key t ≡ records_of k.key s) own.whole → Mirrored t own files
   mirrored_still rows records =
@@ -60,7 +60,7 @@ module _ (s t : SpoolContents) (own : OwnFiles) (files : List WholeFile) (all : 
       mirrored_still (moves.rows own.name other)
       (all_weaker (λ (k : KeptWhole). 1 ≤ keyed (λ (x : KeptWhole). x.key) k.key own.whole)
       (λ k. records_of k.key t ≡ records_of k.key s)
-      (λ k least. moves.records k.key (let most = once k.key in omega (arith, least, most))) own.whole
+      (λ k least. moves.records k.key (omega (arith, least, once k.key))) own.whole
       (each_counts (λ (k : KeptWhole). k.key) (λ n. keyed (λ (x : KeptWhole). x.key) n own.whole) own.whole
       (λ n. omega arith)))
 
@@ -128,7 +128,7 @@ module _ (s : SpoolContents) (own : OwnFiles) (files : List WholeFile) (h : IsOr
         fits = subst (AllByRecursion FitsHub) (sym records) kept.fits;
       }))
 
-  -- its row changes, and what stands under its key
+  -- its row changes, and the records under its key
 
   module _ (t : SpoolContents) (under : WritesUnder k.key s t) (file : File) (owned : is_own own.name file ≡ true) where
     same_rows : own_rows own.name t ≡ rows
@@ -172,8 +172,11 @@ module _ (s : SpoolContents) (own : OwnFiles) (files : List WholeFile) (h : IsOr
     pub changing_moves : (a : Claim) → a.name ≡ own.name
         → ((n : ℕ) → keyed (λ (x : KeptWhole). x.key) n own.whole ≤ a.uses n) → Moves a a s (with_changed k.id file t)
     changing_moves a mine least =
-        let busy : 1 ≤ a.uses k.key = (let has = keyed_at (λ (x : KeptWhole). x.key) own.whole i k there is
-        in let more = least k.key in omega (arith, has, more)) in
+        let busy : 1 ≤ a.uses k.key = (omega (
+          arith,
+          keyed_at (λ (x : KeptWhole). x.key) own.whole i k there is,
+          least k.key,
+        )) in
         let same : (n : ℕ) → a.uses n ≤ a.uses n = λ n. omega arith in
         let first = moves_under a a s refl same k.key t under busy refl in
         moves_then a a a s t (with_changed k.id file t) first

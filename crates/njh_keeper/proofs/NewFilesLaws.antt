@@ -39,9 +39,6 @@ all_have_gone (f ∷ fs) = leaves f fs [] (all_have_gone fs)
 
 -- ---- the file of a number
 
-by_number : ℕ → WholeFile → Bool
-by_number n f = f.number == n
-
 not_first : (f g : WholeFile) (fs : List WholeFile) (b : Bool) → (f.number == g.number) ≡ b
     → one_if (f.number == g.number) ≡ 0 → find (λ x. x.number == g.number) fs ≡ Some g
     → find (λ x. x.number == g.number) (f ∷ fs) ≡ Some g
@@ -58,7 +55,7 @@ found_at (f ∷ fs) zero g once there is =
 found_at (f ∷ fs) (suc i) g once there is =
     let all = once g.number in
     let has = keyed_at (λ (x : WholeFile). x.number) fs i g (omega (arith, there)) is in
-    let rest = found_at fs i g (λ n. let each = once n in omega (arith, each)) (omega (arith, there)) is in
+    let rest = found_at fs i g (λ n. omega (arith, once n)) (omega (arith, there)) is in
     not_first f g fs (f.number == g.number) refl (omega (arith, all, has)) rest
 
 pub records_at : (s : CustomerSpool) (i : ℕ) (g : WholeFile) → AreNumbered s.whole → i < length s.whole
@@ -135,7 +132,7 @@ is_at files i there = record { there = there; is = get_or_default files i any_fi
 pub is_at_of_first : (files : List WholeFile) (n i : ℕ) (f : WholeFile) → n ≤ length files → i < n → IsAt files i f
     → IsAt (take n files) i f
 is_at_of_first files n i f within low here = record {
-  there = let long = length-take-le n files within in omega (arith, long, low);
+  there = omega (arith, length-take-le n files within, low);
   is = here.is ∙ sym (get_or-take n files i f low);
 }
 
@@ -180,7 +177,7 @@ module _ (m m1 m2 : Memory) (old mid new : State) where
       let b = second a.0 a.2.has a.1 in
       (b.0, b.1, goes_then m m1 m2 s t u a.0 b.0 a.2 b.2))
 
-  -- behind the last one all others have left
+  -- after the last one all others have left
   pub walked_to_end : (Given : SpoolContents → List WholeFile → Type 0) (still : List WholeFile) (index : ℕ)
       → length still ≤ index
       → LeadsFiles m m1 Given (λ files now. IsWalkedTo still now index) old mid

@@ -1,4 +1,4 @@
--- What stands under rising numbers: one put among them, some taken out, and those that pass a test.
+-- What has rising numbers: one put among them, some taken out, and those that pass a test.
 use Rattle.std.proofs.Common.{◌≡◌, ◌≢◌, ℕ, zero, suc, ◌<◌, ◌==◌, Bool, true, false, not, cond, List, [], ◌∷◌, ◌++◌}
 use Rattle.std.proofs.Common.{length, get_or, set, remove, map, filter, Contains, refl, sym, ap, subst, ◌∙◌, arith}
 use Rattle.std.specs.declared.cmp.Ordering.{Ordering}
@@ -27,6 +27,10 @@ module _ {X : Type 0} where
       → AllByRecursion Q xs
   all_weaker P Q f [] h = tt
   all_weaker P Q f (x ∷ xs) h = (f x h.0, all_weaker P Q f xs h.1)
+
+  pub all-push : (P : X → Type 0) (xs : List X) (x : X) → AllByRecursion P xs → P x → AllByRecursion P (xs ++ x ∷ [])
+  all-push P [] x all one = (one, tt)
+  all-push P (y ∷ xs) x all one = (all.0, all-push P xs x all.1 one)
 
   pub all_at : (P : X → Type 0) (xs : List X) (i : ℕ) (x : X) → AllByRecursion P xs → i < length xs → x ≡ get_or xs i x
       → P x

@@ -32,8 +32,7 @@ module _ (names : List (List ℕ)) (hub : List Part) (rows : List (ℕ × File))
     (pure : IsOwnOf (name_at names (length owns)) (part (length owns) hub).customer.spool own)
     (so_far : AreRemembered names hub owns s t) where
   not_yet : (j : ℕ) → j < length owns → name_at names j ≢ name_at names (length owns)
-  not_yet j low same = let one = apart names distinct j (length owns) (omega (arith, low, few)) few same in omega
-      (arith, low, one)
+  not_yet j low same = omega (arith, low, apart names distinct j (length owns) (omega (arith, low, few)) few same)
 
   named : own.name ≡ name_at names (length owns)
   named = pure.name_is
@@ -58,10 +57,7 @@ module _ (names : List (List ℕ)) (hub : List Part) (rows : List (ℕ × File))
 
     this_one : IsCustomer names hub s u (length owns) own
     this_one = record {
-      name = named;
-      arrived = pure.arrived;
-      partial = pure.partial;
-      mirrored = done.mirrored;
+      opened = record { owned = pure; mirrored = done.mirrored };
       keys = λ n. done.keys n ∙ ap (λ who. keyed_rows n (own_rows who t)) named ∙ ap (keyed_rows n) rows_stay;
     }
 
@@ -69,12 +65,13 @@ module _ (names : List (List ℕ)) (hub : List Part) (rows : List (ℕ × File))
         → (j < length owns) ⊎ (j ≡ length owns) → IsCustomer names hub s u j other
     each_now j other is (inl low) =
         let before = so_far.each j other low (is ∙ get_or_append_left owns (own ∷ []) other j low) in
+        let opened = before.opened in
         record {
-          name = before.name;
-          arrived = before.arrived;
-          partial = before.partial;
-          mirrored = still other (files_at j hub) (λ same. not_yet j low (sym before.name ∙ same ∙ named))
-              before.mirrored;
+          opened = record {
+            owned = opened.owned;
+            mirrored = still other (files_at j hub) (λ same. not_yet j low (sym opened.owned.name_is ∙ same ∙ named))
+                opened.mirrored;
+          };
           keys = before.keys;
         }
     each_now j other is (inr last) =
@@ -85,7 +82,7 @@ module _ (names : List (List ℕ)) (hub : List Part) (rows : List (ℕ × File))
     place : (j : ℕ) → j < length (owns ++ own ∷ []) → (j < length owns) ⊎ (j ≡ length owns)
     place j there = elim (cases_lt j (length owns)) [
       | inl low ↦ inl low
-      | inr high ↦ inr (let long = length_push owns own in omega (arith, high, long, there))
+      | inr high ↦ inr (omega (arith, high, length_push owns own, there))
     ]
 
     pub one_more_remembered : AreRemembered names hub (owns ++ own ∷ []) s u

@@ -7,10 +7,11 @@ use Rattle.std.proofs.lemmas.Bool.{cases_Bool, eqb-true}
 use Rattle.std.proofs.lemmas.Bool.Decides.{nat_tests}
 use Rattle.std.proofs.lemmas.List.Elements.{All-from_recursion, recursion_from_All}
 use Rattle.std.proofs.lemmas.List.Sorted.{All-permutation, IsPermutation-sym, sum_by-IsPermutation}
-use Rattle.std.proofs.lemmas.List.Sums.{sum_by-cons}
+use Rattle.std.proofs.lemmas.List.Recursion.{is_sum_by}
 use Rattle.njh_spoolfile.specs.declared.kept.StoredFile.{StoredFile}
 use Rattle.njh_keeper.specs.code.Apart.{AreFilesApart, rises}
 use Rattle.njh_keeper.specs.code.Remembered.{keyed, one_if}
+use Rattle.njh_keeper.proofs.KeyLaws.{keyed-map}
 
 -- ---- numbers that rise
 
@@ -18,9 +19,6 @@ record Risen (least : ℕ) (keys : List ℕ) : Type 0 where
   once : (n : ℕ) → keyed (λ k. k) n keys ≤ 1
   high : (n : ℕ) → n < least → keyed (λ k. k) n keys ≡ 0
   low : AllByRecursion (λ k. k < 2 ^ 32 - 1) keys
-
-one_of : (a b : ℕ) → a ≡ b → one_if (a == b) ≡ 1
-one_of a b same = grind (arith, nat_tests, same)
 
 none_of : (a b : ℕ) → a ≢ b → one_if (a == b) ≡ 0
 none_of a b apart = elim (cases_Bool (a == b)) [
@@ -44,28 +42,22 @@ risen least (key ∷ keys) is = split (nat_lt key least) refl (nat_le (2 ^ 32 - 
         record {
           once = λ n. elim (cases_Bool (key == n)) [
             | inl same ↦
-                let here = ap one_if same in
-                let none = more.high n (let e = eqb-true key n same in omega (arith, e)) in
-                omega (arith, here, none)
-            | inr other ↦ let here = ap one_if other in let rest_once = more.once n in omega (arith, here, rest_once)
+                omega (arith, ap one_if same, more.high n (omega (arith, eqb-true key n same)))
+            | inr other ↦ omega (arith, ap one_if other, more.once n)
           ];
           high = λ n low.
-              let here = none_of key n (λ same. omega (arith, same, low, high)) in
-              let none = more.high n (omega (arith, low, high)) in
-              omega (arith, here, none);
+              omega (
+                arith,
+                none_of key n (λ same. omega (arith, same, low, high)),
+                more.high n (omega (arith, low, high)),
+              );
           low = (grind (arith, nat_tests, greatest), more.low);
         }
 
 -- ---- in another order
 
 keyed_sum : (n : ℕ) (keys : List ℕ) → keyed (λ k. k) n keys ≡ sum_by (λ k. one_if (k == n)) keys
-keyed_sum n [] = refl
-keyed_sum n (k ∷ ks) = ap (λ m. one_if (k == n) + m) (keyed_sum n ks) ∙ sym (sum_by-cons (λ k. one_if (k == n)) k ks)
-
-keyed_map : (n : ℕ) (files : List StoredFile)
-    → keyed (λ f. f.file.key) n files ≡ keyed (λ k. k) n (map (λ f. f.file.key) files)
-keyed_map n [] = refl
-keyed_map n (f ∷ fs) = ap (λ m. one_if (f.file.key == n) + m) (keyed_map n fs)
+keyed_sum n keys = is_sum_by (keyed (λ k. k) n) (λ k. one_if (k == n)) refl (λ _ _. refl) keys
 
 all_map : (files : List StoredFile) → AllByRecursion (λ k. k < 2 ^ 32 - 1) (map (λ f. f.file.key) files)
     → AllByRecursion (λ f. f.file.key < 2 ^ 32 - 1) files
@@ -80,10 +72,10 @@ apart_by_rising files sorted same is =
     record {
       once = λ n.
           let count : keyed (λ f. f.file.key) n files ≡ keyed (λ k. k) n sorted =
-          keyed_map n files ∙ keyed_sum n keys ∙ sym (sum_by-IsPermutation (λ k. one_if (k == n)) keys sorted same)
+          sym (keyed-map (λ k. k) (λ (f : StoredFile). f.file.key) n files) ∙ keyed_sum n keys
+          ∙ sym (sum_by-IsPermutation (λ k. one_if (k == n)) keys sorted same)
           ∙ sym (keyed_sum n sorted) in
-          let once = one.once n in
-          omega (arith, count, once);
+          omega (arith, count, one.once n);
       low =
           all_map files
           (recursion_from_All (λ k. k < 2 ^ 32 - 1) keys

@@ -1,6 +1,6 @@
 -- A hub that is opened from a spool file, by what was found in it.
-use Rattle.std.proofs.Common.{◌≡◌, ℕ, ◌+◌, ◌<◌, List, [], ◌∷◌, ◌++◌, length, map, take, drop, get_or, Result, Ok, Err}
-use Rattle.std.proofs.Common.{IfOk, IfErr, OnOk, sym, ap, subst, append_assoc, ◌∙◌}
+use Rattle.std.proofs.Common.{◌≡◌, ℕ, ◌+◌, ◌<◌, List, [], ◌∷◌, ◌++◌, length, map, take, drop, get_or}
+use Rattle.std.proofs.Common.{sym, ap, subst, append_assoc, ◌∙◌}
 use Rattle.std.proofs.lemmas.List.{take-append-drop, take_more, map-append}
 use Rattle.njh_table.specs.Accepted.{AreDistinct}
 use Rattle.njh_table.specs.TableFile.{NamedCustomer, TableFile, entry_of as entry_in}
@@ -9,13 +9,10 @@ use Rattle.njh_spoolfile.specs.Kept.{SpoolContents, Whole, entry_of, kept, whole
 use Rattle.njh_spoolfile.specs.declared.kept.StoredFile.{StoredFile}
 use Rattle.njh_keeper.specs.Faults.{Tells}
 use Rattle.njh_keeper.specs.Opened.{AllAreBack, hub_opened}
-use Rattle.njh_keeper.specs.code.Refusing.{IsRefusalOf, StopsIn}
-use Rattle.njh_keeper.specs.code.Restoring.{NoneFails, StopsAt, StopsOn, hub_fault, hub_with_all, wholes}
+use Rattle.njh_keeper.specs.code.Refusing.{StopsIn}
+use Rattle.njh_keeper.specs.code.Restoring.{NoneFails, hub_fault, hub_with_all, wholes}
 use Rattle.njh_keeper.specs.declared.fault.OpeningFault.{OpeningFault}
 use Rattle.njh_keeper.specs.declared.fault.OpeningFault.TheVariants.{Memory, Store, File as Refused}
-use Rattle.njh_keeper.specs.declared.restoring.Stop.{Stop}
-use Rattle.njh_keeper.specs.declared.restoring.StopCause.{StopCause}
-use Rattle.njh_keeper.specs.declared.restoring.StopCause.TheVariants as cause
 use Rattle.njh_keeper.proofs.HubLaws.{all_back, opened, refused}
 use Rattle.njh_keeper.proofs.StepLaws.{wholes_are}
 
@@ -74,36 +71,3 @@ module _ {table : TableFile} {spool : SpoolContents} {names : List (List ℕ)} {
       (sym same ∙ h.2)
 
 -- ---- the file at which it stopped
-
-pub told_of : (names : List (List ℕ)) (hub : List Part) (spool : SpoolContents) (files : List StoredFile) (stop : Stop)
-    (fault : OpeningFault) → stop.at < length files
-    → StopsAt names hub spool files stop → IsRefusalOf stop.cause stop.at files fault
-    → StopsIn names hub spool files fault
-told_of names hub spool files stop fault low stops told = by stop.cause (λ d. stops.why d) told
-  where
-    by : (why : StopCause) → ((d : StoredFile)
-        → StopsOn why (hub_fault names (hub_with_all names hub (wholes spool (take stop.at files)))
-        (whole_in spool (entry_of (get_or files stop.at d)))))
-        → IsRefusalOf why stop.at files fault → StopsIn names hub spool files fault
-    by (cause.Store error) h told = subst (StopsIn names hub spool files) (sym told) tt
-    by (cause.File why) h told =
-        subst (StopsIn names hub spool files) (sym told.2) (
-          stop.at,
-          record { there = low; is = told.1; before = stops.before },
-          ap (λ (x : StoredFile). hub_fault names (hub_with_all names hub (wholes spool (take stop.at files)))
-              (whole_in spool (entry_of x))) told.1 ∙ h told.0,
-        )
-
--- ---- what follows of an answer
-
-pub if_ok : {T E : Type 0} (P Q : T → Type 0) → ((x : T) → P x → Q x) → (r : Result T E) → IfOk r P → IfOk r Q
-if_ok P Q f (Ok x) h = f x h
-if_ok P Q f (Err e) h = tt
-
-pub on_ok : {T E : Type 0} (P Q : Type 0) → (P → Q) → (r : Result T E) → OnOk r P → OnOk r Q
-on_ok P Q f (Ok x) h = f h
-on_ok P Q f (Err e) h = tt
-
-pub if_err : {T E : Type 0} (P Q : E → Type 0) → ((e : E) → P e → Q e) → (r : Result T E) → IfErr r P → IfErr r Q
-if_err P Q f (Ok x) h = tt
-if_err P Q f (Err e) h = f e h

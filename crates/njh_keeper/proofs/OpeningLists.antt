@@ -9,10 +9,12 @@ use Rattle.njh_spoolfile.specs.Kept.{File, SpoolContents, contents, records_of, 
 use Rattle.njh_keeper.specs.Opened.{file_in, is_own}
 use Rattle.njh_keeper.specs.code.Mirrored.{HasRecords, IsOrdered, WritesRowsOf, own_rows}
 use Rattle.njh_keeper.specs.code.Opening.{IsRead, IsReadFor, Remembering, keyed_rows, owned_of}
-use Rattle.njh_keeper.specs.code.Remembered.{AllBeside, IsKept, IsRowOf, KeptWhole, OwnFiles, Remembers, keyed, one_if}
+use Rattle.njh_keeper.specs.code.Remembered.{AllBeside, none_beside, IsKept, IsRowOf, KeptWhole, OwnFiles, Remembers}
+use Rattle.njh_keeper.specs.code.Remembered.{keyed, one_if}
 use Rattle.njh_keeper.proofs.BesideLaws.{beside_lengths, beside_push, beside_weaker}
 use Rattle.njh_keeper.proofs.FrameLaws.{changes_row}
-use Rattle.njh_keeper.proofs.MirrorLaws.{all_of}
+use Rattle.njh_keeper.proofs.KeyLaws.{keyed-append}
+use Rattle.njh_keeper.proofs.MirrorLaws.{all_of, kept_still}
 use Rattle.njh_keeper.proofs.ReadBackLaws.{IsReadAs, is_kept_as_read, is_read_as}
 use Rattle.njh_keeper.proofs.RowLaws.{below_with_changed, row_below, row_changes}
 
@@ -24,7 +26,7 @@ first_left (d ∷ done) x left = first_left done x left
 
 first_there : {X : Type 0} (done : List X) (x : X) (left : List X) → length done < length (done ++ x ∷ left)
 first_there [] x left = omega arith
-first_there (d ∷ done) x left = let rest = first_there done x left in omega (arith, rest)
+first_there (d ∷ done) x left = omega (arith, first_there done x left)
 
 first_set : {X : Type 0} (done : List X) (x y : X) (left : List X)
     → set (done ++ x ∷ left) (length done) y ≡ done ++ y ∷ left
@@ -34,32 +36,17 @@ first_set {X} (d ∷ done) x y left = ap (λ (xs : List X). d ∷ xs) (first_set
 one_more : {X : Type 0} (done : List X) (x : X) (left : List X) → done ++ x ∷ left ≡ (done ++ x ∷ []) ++ left
 one_more done x left = sym (append_assoc done (x ∷ []) left)
 
-keyed_push : {X : Type 0} (key : X → ℕ) (n : ℕ) (xs : List X) (x : X)
-    → keyed key n (xs ++ x ∷ []) ≡ keyed key n xs + one_if (key x == n)
-keyed_push key n [] x = omega arith
-keyed_push key n (y ∷ xs) x = let rest = keyed_push key n xs x in omega (arith, rest)
-
 -- ---- rows change, and records stay
 
 module _ (s t : SpoolContents) (same : t.records ≡ s.records) where
   records_same : (key : ℕ) → records_of key t ≡ records_of key s
   records_same key = λ i. records_of key (record { files = t.files; records = same i })
 
-  kept_same : (k : KeptWhole) (e : ℕ × File) (f : WholeFile) → IsKept s k e f → IsKept t k e f
-  kept_same k e f one = record {
-    id = one.id;
-    row = one.row;
-    remembers = one.remembers;
-    stored = ap (map contents)
-        (records_same k.key) ∙ one.stored;
-    fits = one.fits;
-  }
-
   pub all_kept_same : (ks : List KeptWhole) (es : List (ℕ × File)) (fs : List WholeFile) → AllBeside (IsKept s) ks es fs
       → AllBeside (IsKept t) ks es fs
   all_kept_same ks es fs all =
-      beside_weaker (λ k. k.key ≡ k.key) (IsKept s) (IsKept t) (λ k e f is one. kept_same k e f one) ks es fs
-      (all_of (λ (k : KeptWhole). k.key ≡ k.key) (λ k. refl) ks) all
+      beside_weaker (λ k. records_of k.key t ≡ records_of k.key s) (IsKept s) (IsKept t) (kept_still s t) ks es fs
+      (all_of (λ (k : KeptWhole). records_of k.key t ≡ records_of k.key s) (λ k. records_same k.key) ks) all
 
   read_same : (e : ℕ × File) (g : WholeFile) → IsReadFor s e g → IsReadFor t e g
   read_same e g is = ap (λ rs. file_in e.1 (map contents rs)) (records_same e.1.key) ∙ is
@@ -127,7 +114,7 @@ module _ (name : List ℕ) (whole : List KeptWhole) (e : ℕ × File) (left : Li
     keys_now : (n : ℕ) → keyed (λ (x : KeptWhole). x.key) n (whole ++ k ∷ []) + keyed_rows n left ≡ keyed_rows n
         (own_rows name from)
     keys_now n =
-        let push = keyed_push (λ (x : KeptWhole). x.key) n whole k in
+        let push = keyed-append (λ (x : KeptWhole). x.key) n whole (k ∷ []) in
         let same : one_if (k.key == n) ≡ one_if (e.1.key == n) = ap (λ m. one_if (m == n)) key in
         let before : keyed (λ (x : KeptWhole). x.key) n whole + (one_if (e.1.key == n) + keyed_rows n left)
         ≡ keyed_rows n (own_rows name from) = is.keys n in
@@ -209,7 +196,7 @@ nothing_read name files s ordered all = record {
   behind = files;
   rows_are = refl;
   files_are = refl;
-  beside = tt;
+  beside = none_beside;
   reads = all;
   writes = record { records = refl; ordered = ordered; others = λ other apart. refl };
   below = λ end low. low;
@@ -244,7 +231,5 @@ remembered own name rows files s t named step ordered are all =
       writes = subst (λ who. WritesRowsOf who s t) (sym named) is.writes;
       below = is.below;
       keys = λ n.
-          let count = is.keys n in
-          let same = ap (λ who. keyed_rows n (own_rows who s)) named in
-          omega (arith, count, same);
+          omega (arith, is.keys n, ap (λ who. keyed_rows n (own_rows who s)) named);
     }

@@ -8,7 +8,8 @@ use Rattle.std.proofs.lemmas.List.{get_or-replicate, get_or-set_other, get_or-se
 use Rattle.std.proofs.Math.ListN.{get_or-eq_default}
 use Rattle.njh_spoolfile.specs.declared.kept.StoredFile.{StoredFile}
 use Rattle.njh_keeper.specs.code.Writing.{AreBelow, emptied_at, free_at, is_marked, is_used, key_behind, marked_by}
-use Rattle.njh_keeper.specs.code.Writing.{numbers_but, unmarked}
+use Rattle.njh_keeper.specs.code.Writing.{number_after, numbers_but, unmarked}
+use Rattle.njh_keeper.proofs.NumberedLaws.{all_weaker}
 
 or_false : (b : Bool) → b ≡ (b || false)
 or_false true = refl
@@ -48,12 +49,12 @@ numbers_same p q zero same = refl
 numbers_same p q (suc n) same = rw (same n (omega arith), numbers_same p q n (λ k less. same k (omega (arith, less))))
     refl
 
--- no file's records stand under a number that isn't below
+-- no file's records have a number that isn't below
 pub unused_high : (files : List StoredFile) (next k : ℕ) → AllByRecursion (λ f. f.file.key < next) files → next ≤ k
     → is_used files k ≡ false
 unused_high [] next k all high = refl
 unused_high (f ∷ fs) next k all high = elim (cases_Bool (f.file.key == k)) [
-  | inl same ↦ absurd (let e = eqb-true f.file.key k same in omega (arith, e, all.0, high))
+  | inl same ↦ absurd (omega (arith, eqb-true f.file.key k same, all.0, high))
   | inr other ↦ rw (other) (unused_high fs next k all.1 high)
 ]
 
@@ -69,17 +70,20 @@ marks_of_files files next n all few =
           ∙ sym (unused_high files next k all (omega (arith, few, high)))
     ])
 
--- the next number is behind those of the files
-behind : (next : ℕ) (files : List StoredFile) → next ≤ key_behind next files
-behind next [] = omega arith
-behind next (f ∷ fs) = let more = behind (max next (min (f.file.key + 1) (2 ^ 32 - 1))) fs in omega (arith, more)
+-- the next number comes after those of the files
+pub after_all : (number : StoredFile → ℕ) (next : ℕ) (files : List StoredFile) (end : ℕ)
+    → number_after number next files ≤ end
+    → (next ≤ end) × AllByRecursion (λ f. min (number f + 1) (2 ^ 32 - 1) ≤ end) files
+after_all number next [] end most = (most, tt)
+after_all number next (f ∷ fs) end most =
+    let rest = after_all number (max next (min (number f + 1) (2 ^ 32 - 1))) fs end most in
+    (omega (arith, rest.0), (omega (arith, rest.0), rest.1))
 
 pub are_below : (next : ℕ) (files : List StoredFile) (end : ℕ) → key_behind next files ≤ end → end ≤ 200000
     → AllByRecursion (λ f. f.file.key < end) files
-are_below next [] end most few = tt
-are_below next (f ∷ fs) end most few =
-    let here = behind (max next (min (f.file.key + 1) (2 ^ 32 - 1))) fs in
-    (omega (arith, here, most, few), are_below (max next (min (f.file.key + 1) (2 ^ 32 - 1))) fs end most few)
+are_below next files end most few =
+    all_weaker (λ (f : StoredFile). min (f.file.key + 1) (2 ^ 32 - 1) ≤ end) (λ f. f.file.key < end)
+    (λ f here. omega (arith, here, few)) files (after_all (λ f. f.file.key) next files end most).1
 
 -- what is emptied, and what is free then
 looked_for : (next : ℕ) → next ≤ 200000 → (nat_lt 200000 next ≡ false) × (min (next + 64) (2 ^ 32 - 1) ≡ next + 64)

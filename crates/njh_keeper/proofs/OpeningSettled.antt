@@ -1,6 +1,7 @@
 -- What a crash may leave after the opening.
 use Rattle.std.proofs.Common.{◌≡◌, ℕ, suc, ◌<◌, List, [], ◌∷◌, length, get_or, map, refl, sym, ap, ◌∙◌, arith}
 use Rattle.std.specs.List.{AllZip}
+use Rattle.std.proofs.lemmas.Simd.{map-map}
 use Rattle.njh_hub.specs.WholeHub.{Part, no_part}
 use Rattle.njh_turns.specs.Keeping.{kept_of}
 use Rattle.njh_spoolfile.specs.Kept.{SpoolContents}
@@ -8,7 +9,7 @@ use Rattle.njh_keeper.specs.Keeper.{left_in}
 use Rattle.njh_keeper.specs.declared.own_files.OwnFiles as own_files
 use Rattle.njh_keeper.specs.code.Memory.{own_of}
 use Rattle.njh_keeper.specs.code.Opening.{HasBegun}
-use Rattle.njh_keeper.specs.code.Remembered.{Mirrored, Numbers}
+use Rattle.njh_keeper.specs.code.Remembered.{Mirrored, Numbers, OwnFiles}
 use Rattle.njh_keeper.proofs.LeftLaws.{left_of_parts}
 
 pub zip_by_place : {X Y : Type 0} (R : X → Y → Type 0) (xs : List X) (ys : List Y) (d : Y) → length xs ≡ length ys
@@ -22,15 +23,11 @@ zip_by_place R (x ∷ xs) (y ∷ ys) d long each = (
       (λ c z low is. each (suc c) z (omega (arith, low)) is),
 )
 
-names_same : (owns : List own_files.OwnFiles) → map (λ own. own.name) (map own_of owns) ≡ map (λ own. own.name) owns
-names_same [] = refl
-names_same (own ∷ owns) = ap (λ names. own.name ∷ names) (names_same owns)
-
 pub left_after : (names : List (List ℕ)) (hub : List Part) (owns : List own_files.OwnFiles) (w : Numbers)
     (t : SpoolContents) → HasBegun names hub (map own_of owns) w t → length names ≡ length hub
     → left_in (map (λ own. own.name) owns) t ≡ kept_of hub
 left_after names hub owns w t begun long =
-    ap (λ ns. left_in ns t) (sym (names_same owns))
+    ap (λ ns. left_in ns t) (sym (map-map (λ (own : OwnFiles). own.name) own_of owns))
     ∙ left_of_parts (λ p. p.customer.spool.whole) t (map own_of owns) hub
     (zip_by_place (λ own p. Mirrored t own p.customer.spool.whole) (map own_of owns) hub no_part (begun.count ∙ long)
     (λ c own low is. (begun.each c own low is).mirrored))

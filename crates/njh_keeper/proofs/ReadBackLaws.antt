@@ -1,4 +1,4 @@
--- A row that is read as a file of a hub says what stands on the spool file.
+-- A row that is read as a file of a hub says what the spool file has of it.
 use Rattle.std.proofs.Common.{◌≡◌, ℕ, ◌+◌, ◌==◌, nat_lt, nat_le, ◌&&◌, Bool, true, false, cond, List, [], ◌∷◌, length}
 use Rattle.std.proofs.Common.{map, Option, Some, None, option_map, bytes_eq, codes, refl, sym, ap, subst, ◌∙◌, arith}
 use Rattle.std.specs.List.{AllByRecursion}

@@ -155,13 +155,6 @@ module _ (key : ℕ) where
 
 -- ---- records come and leave
 
-pub has_none : (key : ℕ) (spool : SpoolContents) → AllByRecursion (λ e. e.1.key ≢ key) spool.records
-    → HasRecords key [] spool
-has_none key spool none =
-    ap (map contents) (filter_none (λ e. e.1.key == key) spool.records
-    (all_weaker (λ e. e.1.key ≢ key) (λ e. (e.1.key == key) ≡ false) (λ e other. unequal e.1.key key other)
-    spool.records none))
-
 within_key : (key : ℕ) (e : ℕ × Record) → IsUnder key e
     → not (nat_le (record_number key 0) e.0 && nat_lt e.0 (record_number key (2 ^ 23))) ≡ false
 within_key key e h = grind (arith, nat_tests, h)
@@ -257,9 +250,3 @@ module _ (key : ℕ) (rs : List Stored) (spool : SpoolContents) (has : HasRecord
     file_reads_back kind word =
         is_file file (map contents (records_of key spool)) kind are_all_there word
         ∙ (λ i. Some (record { kind = kind; held = file.held; records = records_read_back i }))
-
--- a key has one list of records
-pub records_once : (key : ℕ) (rs others : List Stored) (spool : SpoolContents) → HasRecords key rs spool
-    → HasRecords key others spool → rs ≡ others
-records_once key rs others spool has also =
-    sym (records_read_back key rs spool has) ∙ records_read_back key others spool also

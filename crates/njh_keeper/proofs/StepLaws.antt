@@ -6,7 +6,7 @@ use Rattle.std.proofs.lemmas.Simd.{map-map}
 use Rattle.sqlite.specs.State.{State}
 use Rattle.sqlite.specs.Tree.{Trees}
 use Rattle.njh_hub.specs.WholeHub.{Part, part}
-use Rattle.njh_spoolfile.specs.Kept.{Record, SpoolContents, Whole, Holds, contents, contents_of, kept, records_between}
+use Rattle.njh_spoolfile.specs.Kept.{SpoolContents, Whole, Holds, contents, contents_of, kept, records_between}
 use Rattle.njh_spoolfile.specs.Kept.{records_of, whole_in, entry_of}
 use Rattle.njh_spoolfile.specs.Steps.{Stays}
 use Rattle.njh_spoolfile.proofs.ReadingLaws.{of_file}

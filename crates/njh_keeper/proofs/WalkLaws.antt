@@ -1,10 +1,10 @@
 -- The keeper goes through a customer's files: those that left are taken out, and each other one is found by its number.
-use Rattle.std.proofs.Common.{◌≡◌, ◌≢◌, ℕ, suc, ◌+◌, ◌<◌, ◌≤◌, ◌==◌, cond, List, [], ◌∷◌, ◌++◌, length, get_or, set}
+use Rattle.std.proofs.Common.{◌≡◌, ◌≢◌, ℕ, suc, ◌+◌, ◌<◌, ◌≤◌, ◌==◌, List, [], ◌∷◌, ◌++◌, length, get_or, set}
 use Rattle.std.proofs.Common.{remove, take, drop, count_by, refl, sym, ap, subst, ◌∙◌, arith, length-drop}
 use Rattle.std.proofs.lemmas.List.{drop-set-lt, drop_all, drop_at, drop_more, length-set, length-take-le}
 use Rattle.std.proofs.lemmas.List.{take-append-le, take-take, take_all, take_more, take_more_set}
 use Rattle.std.proofs.lemmas.List.Edits.{length-remove}
-use Rattle.std.proofs.lemmas.List.Sums.{sum_by-cons}
+use Rattle.std.proofs.lemmas.List.Recursion.{is_sum_by}
 use Rattle.njh_spool.specs.CustomerSpool.{WholeFile}
 use Rattle.njh_customer.specs.Surviving.{IsStill, Survive, leaves, stays}
 use Rattle.njh_keeper.specs.code.Remembered.{keyed, one_if}
@@ -23,7 +23,7 @@ was_there _ g still (stays f _ fs _ one more) =
     let same : one_if (f.number == g.number) ≡ 1 =
     ap (λ n. one_if (n == g.number)) (sym one.number) ∙ one_itself g.number in
     omega (arith, same)
-was_there _ g still (leaves f fs _ more) = let rest = was_there fs g still more in omega (arith, rest)
+was_there _ g still (leaves f fs _ more) = omega (arith, was_there fs g still more)
 
 record IsFound (f g : WholeFile) (fs still : List WholeFile) : Type 0 where
   one : IsStill f g
@@ -51,15 +51,13 @@ all_have_left : (f : WholeFile) (fs : List WholeFile) → Survive (f ∷ fs) [] 
 all_have_left f fs (leaves _ _ _ more) = more
 
 numbered_behind : (f : WholeFile) (fs : List WholeFile) → AreNumbered (f ∷ fs) → AreNumbered fs
-numbered_behind f fs once n = let all = once n in omega (arith, all)
+numbered_behind f fs once n = omega (arith, once n)
 
 as_counted : (n : ℕ) (files : List WholeFile) → keyed number n files ≡ count_by (λ f. f.number == n) files
-as_counted n [] = refl
-as_counted n (f ∷ files) = ap (λ m. one_if (f.number == n) + m) (as_counted n files)
-    ∙ sym (sum_by-cons (λ (g : WholeFile). cond (g.number == n) 1 0) f files)
+as_counted n files = is_sum_by (keyed number n) (λ f. one_if (f.number == n)) refl (λ _ _. refl) files
 
 pub are_numbered : (files : List WholeFile) → ((n : ℕ) → count_by (λ f. f.number == n) files ≤ 1) → AreNumbered files
-are_numbered files once n = let counted = as_counted n files in let least = once n in omega (arith, counted, least)
+are_numbered files once n = omega (arith, as_counted n files, once n)
 
 some_are : (fs : List WholeFile) (n : ℕ) → 1 ≤ keyed number n fs → 0 < length fs
 some_are [] n there = absurd (omega (arith, there))
@@ -80,11 +78,9 @@ module _ (still files : List WholeFile) (i : ℕ) (walk : IsWalkedTo still files
   walk_has_more g more is =
       let there = was_there (drop i files) g (drop (i + 1) still)
       (subst (Survive (drop i files)) (next_is still i g more is) walk.survive) in
-      let some = some_are (drop i files) g.number there in
-      let left = length-drop i files in
-      omega (arith, some, left, walk.reaches)
+      omega (arith, some_are (drop i files) g.number there, length-drop i files, walk.reaches)
 
-  -- behind the last there is none
+  -- after the last there is none
   pub walk_ends : length still ≤ i → length files ≤ i → files ≡ still
   walk_ends last none_left = sym (take_all i files none_left) ∙ walk.front ∙ take_all i still last
 
@@ -104,7 +100,7 @@ module _ (still files : List WholeFile) (i : ℕ) (walk : IsWalkedTo still files
         (let next : suc i ≡ i + 1 = omega arith in drop_at (take i files) (drop (suc i) files) i long
         ∙ ap (λ n. drop n files) next) in
         record {
-          reaches = let less = length-remove files i there in omega (arith, less, there);
+          reaches = omega (arith, length-remove files i there, there);
           front = take-append-le i (take i files) (drop (suc i) files) (omega (arith, long))
               ∙ take-take i i files (omega arith) ∙ walk.front;
           survive = subst (λ fs. Survive fs (drop i still)) (sym behind) left;
@@ -143,7 +139,7 @@ module _ (still files : List WholeFile) (i : ℕ) (walk : IsWalkedTo still files
           let behind : drop (i + 1) (set files i g) ≡ drop (i + 1) files =
           drop-set-lt (i + 1) files i g (omega arith) in
           record {
-            reaches = let as_long = length-set files i g in omega (arith, as_long, there);
+            reaches = omega (arith, length-set files i g, there);
             front = take_more_set files i g there ∙ (λ j. walk.front j ++ here j ∷ []) ∙ sym (take_more still i g more);
             survive = subst (λ fs. Survive fs (drop (i + 1) still)) (sym behind) found.rest;
             once = subst AreNumbered (sym behind) (numbered_behind f (drop (i + 1) files) numbered);

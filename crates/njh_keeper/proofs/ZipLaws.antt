@@ -1,5 +1,5 @@
 -- Two lists side by side.
-use Rattle.std.proofs.Common.{ℕ, zero, suc, List, [], ◌∷◌, set, remove}
+use Rattle.std.proofs.Common.{ℕ, zero, suc, List, [], ◌∷◌, remove}
 use Rattle.std.specs.List.{AllByRecursion, AllZip}
 
 module _ {X Y : Type 0} where
@@ -9,14 +9,6 @@ module _ {X Y : Type 0} where
   all_zip_weaker P R S f [] (y ∷ ys) each h = h
   all_zip_weaker P R S f (x ∷ xs) [] each h = h
   all_zip_weaker P R S f (x ∷ xs) (y ∷ ys) each h = (f x y each.0 h.0, all_zip_weaker P R S f xs ys each.1 h.1)
-
-  pub all_zip_set : (R : X → Y → Type 0) (xs : List X) (ys : List Y) (i : ℕ) (x : X) (y : Y) → AllZip R xs ys → R x y
-      → AllZip R (set xs i x) (set ys i y)
-  all_zip_set R [] [] i x y h one = tt
-  all_zip_set R [] (b ∷ ys) i x y h one = absurd h
-  all_zip_set R (a ∷ xs) [] i x y h one = absurd h
-  all_zip_set R (a ∷ xs) (b ∷ ys) zero x y h one = (one, h.1)
-  all_zip_set R (a ∷ xs) (b ∷ ys) (suc i) x y h one = (h.0, all_zip_set R xs ys i x y h.1 one)
 
   pub all_zip_remove : (R : X → Y → Type 0) (xs : List X) (ys : List Y) (i : ℕ) → AllZip R xs ys
       → AllZip R (remove xs i) (remove ys i)

@@ -83,7 +83,7 @@ pub record MayLeave {S : Type 0} (g : Ghosts S) (keeper : Keeping S) (left : Lis
 abbrev pub IsAsKept : {S : Type 0} → Keeping S → CommitState → Type 0
 IsAsKept keeper s = keeper.is_changed ≡ false → left_in keeper.names s.kept ≡ left_in keeper.names s.now
 
--- This spool stands there, and the customers' whole files are committed as they are now.
+-- The spool file has this spool now, and the customers' whole files are committed as they are in it.
 pub record IsKeptNow {S : Type 0} (g : Ghosts S) (keeper : Keeping S) (now : SpoolContents) : Type 0 where
   pub kept : SpoolContents
   pub stands : Stands (record { now = now; kept = kept }) (shown g keeper.store)
@@ -95,7 +95,7 @@ pub record IsCommitted {S : Type 0} (g : Ghosts S) (keeper : Keeping S) (parts :
   pub stands : Stands (record { now = spool; kept = spool }) (shown g keeper.store)
   pub left : left_in keeper.names spool ≡ kept_of parts
 
--- After the opening it has the customers of the tables, and as far as the spool file stood before and the disk told the
+-- After the opening it has the customers of the tables. If the spool file held a spool before, and the disk told the
 -- truth, their whole files are committed as the hub has them.
 pub record IsSettledFrom {S : Type 0} (g : Ghosts S) (before behind : Keeping S) (table : TableFile)
     (parts : List Part) : Type 0 where

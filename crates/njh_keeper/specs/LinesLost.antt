@@ -33,14 +33,14 @@ bare x = record x {
 
 -- Nothing goes on: no file is being sent and none is partial, no line is up, no stream is about a file, no answer
 -- waits, and nothing has come of a frame.
-pub record IsQuiet (p : Part) : Type 0 where
+pub record IsAtRest (p : Part) : Type 0 where
   pub none_sent : (f : WholeFile) → Contains p.customer.spool.whole f → f.state ≡ Sending → ⊥
   pub partial : p.customer.spool.partial ≡ []
   pub down : (l : ℕ) → l < length p.customer.lines → phase_of (line_at l p.customer.lines) ≡ Down
   pub idle : (l : ℕ) → l < length p.customer.lines → IsIdle (line_at l p.customer.lines)
   pub rests : (l : ℕ) → rest_on l p ≡ Nothing
 
--- A customer that was opened stands as one whose lines were lost. These are the same: the entry; the whole files in
+-- A customer that was opened has what one has whose lines were lost. These are the same: the entry; the whole files in
 -- their order, each with its kind and its records, Held where the other is Held and Ready where it isn't; and the
 -- lines, but for what `bare` leaves out. Both are in order, with the same quota and limit, and on both nothing goes on.
 pub record StandsAs (opened lost : Part) : Type 0 where
@@ -50,8 +50,8 @@ pub record StandsAs (opened lost : Part) : Type 0 where
   pub rests : opened.rests ≡ lost.rests
   pub opened_order : IsInOrder opened.customer
   pub lost_order : IsInOrder lost.customer
-  pub opened_quiet : IsQuiet opened
-  pub lost_quiet : IsQuiet lost
+  pub opened_at_rest : IsAtRest opened
+  pub lost_at_rest : IsAtRest lost
 
 -- ---- the law
 
@@ -65,7 +65,7 @@ AreLeftOf ws p = filter_map (λ w. file_in w.file w.records) ws ≡ kept_files p
 
 -- A customer was opened from some files of its own, or from none, and whatever events came, it had these files then. If
 -- it is opened again from them, by an entry with other routes or with the same, each of them can be put back, and it
--- stands as it would alone if the sessions of all its lines were lost and it were then given these routes.
+-- has what it would have alone if the sessions of all its lines were lost and it were then given these routes.
 abbrev pub OpenedAsLinesLost : Type 0
 OpenedAsLinesLost =
     (entry : CustomerEntry) (before ws : List Whole) (events : List OwnEvent) (routes : List RouteEntry)
@@ -75,7 +75,7 @@ OpenedAsLinesLost =
     → AreBack (part_at_open (entry_with routes entry)) ws
     × StandsAs (part_opened (entry_with routes entry) ws) (part_after_routes routes (after_losses p))
 
--- The same of files that a crash left: if each of them could be put back, it stands so.
+-- The same of files that a crash left, if each of them could be put back.
 abbrev pub LeftAsLinesLost : Type 0
 LeftAsLinesLost =
     (entry : CustomerEntry) (before ws : List Whole) (events : List OwnEvent) (routes : List RouteEntry)

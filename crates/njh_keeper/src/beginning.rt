@@ -17,11 +17,11 @@ use njh_hub::Hub;
 use sqlite::{Alter, Error};
 
 /// Remembers the whole files of the customers of a hub that was opened from a spool file, and
-/// commits them as the hub has them. What stands under numbers of no file is dropped, as far as it
-/// is looked for.
+/// commits them as the hub has them. Records under numbers of no file are dropped, as far as they
+/// are looked for.
 ///
-/// Two files whose records stand under one number are damage, and so is a file whose row or whose
-/// records have the greatest number.
+/// Two files whose records have one number are damage, and so is a file whose row or whose records
+/// have the greatest number.
 pub(crate) fn begin<S: Alter + Drop>(
     writer: &mut SpoolWriter<S>,
     hub: &Hub,

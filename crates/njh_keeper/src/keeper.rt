@@ -33,7 +33,6 @@ use crate::step::keep_step;
 use crate::writer::SpoolWriter;
 use njh_ebcdic::Name;
 use njh_hub::Hub;
-use njh_spool::next_number_is_least;
 use njh_spoolfile::{Origin, Store, StoredFile};
 use njh_table::Tables;
 use njh_turns::{Depot, DepotFault, KeepFault, Keeper};
@@ -246,7 +245,6 @@ impl<'a, R: Clock, S: Origin + Drop> SpoolKeeper<'a, R, S> {
             return Err(DepotFault::Device);
         }
         self.is_fresh = false;
-        next_number_is_least();
         let names = match names_of(alloc, &tables) {
             Ok(names) => names,
             Err(_) => {

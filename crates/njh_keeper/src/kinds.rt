@@ -15,7 +15,7 @@ pub(crate) fn kind_word(kind: Kind) -> &'static str
     }
 }
 
-/// The kind of file that a word stands for.
+/// The kind of file that a word means.
 pub(crate) fn kind_of_word(word: &str) -> Option<Kind>
     ensures { result ≡ kind_of_word word.now }
 {

@@ -19,8 +19,7 @@ ghost use Rattle.njh_table.specs.TableFile.{TableFile, customer_at, entry_of};
 use njh_customer::{
     customers_stay_in_order, events_keep_entries, lost_lines_leave_files, marks_are_right,
 };
-use njh_spool::next_number_is_least;
-use njh_spoolfile::{only_the_last_commit, others_do_not_show};
+use njh_spoolfile::only_the_last_commit;
 use sqlite::Alter;
 
 /// A customer of a hub that was opened from files of its own has these, in their order and with all
@@ -44,7 +43,6 @@ pub fn opened_again_as_after_the_loss_of_all_lines()
     lost_lines_leave_files();
     marks_are_right();
     events_keep_entries();
-    next_number_is_least();
 }
 
 /// What a customer has after the opening is decided by its own entry and its own files: on two
@@ -63,12 +61,9 @@ pub fn a_file_of_another_does_not_show()
     ensures { (entry : CustomerEntry) (name : List ℕ) (id : ℕ) (file : File) (spool : SpoolContents)
         → AllByRecursion (λ e. e.0 < id) spool.files → is_own name file ≡ false
         → part_opened entry (own_files name (with_file id file spool)) ≡ part_opened entry (own_files name spool) }
-{
-    others_do_not_show();
-}
+{}
 
-/// While a spool file stands, a crash leaves of the customers' whole files those that were
-/// committed last.
+/// A crash leaves of the customers' whole files those that the spool file has as its last commit.
 pub fn a_crash_leaves_what_was_committed<S: Alter>()
     ensures { (keeper : Keeping S) (s : CommitState) (left : List (List KeptFile))
         → Stands s (shown S.Store keeper.store)
@@ -77,7 +72,7 @@ pub fn a_crash_leaves_what_was_committed<S: Alter>()
     only_the_last_commit::<S>();
 }
 
-/// Behind the opening of a hub, from a spool file that stood before, a crash leaves of the
+/// After the opening of a hub, from a spool file that held a spool before, a crash leaves of the
 /// customers' whole files those that the hub has, until something else is committed.
 pub fn a_crash_leaves_what_was_opened<S: Alter>()
     ensures { (before behind : Keeping S) (table : TableFile) (parts : List Part) (s : CommitState)

@@ -1,4 +1,4 @@
-//! The numbers that a spool file's records stand under.
+//! The numbers under which a spool file has its files' records.
 
 ghost use Rattle.std.specs.Prelude.{◌≡◌, true, map, IfOk, OnOk};
 ghost use Rattle.njh_keeper.specs.code.Apart.{AreFilesApart, have_low_ids, rises};
@@ -8,8 +8,8 @@ use njh_spoolfile::StoredFile;
 use sqlite::Error;
 use std::alloc::{AllocError, Global};
 
-/// Whether the numbers of these files can be gone on with: two files whose records stand under one
-/// number are damage, and so is a file whose row or whose records have the greatest number.
+/// Whether the numbers of these files can be gone on with: two files whose records have one number
+/// are damage, and so is a file whose row or whose records have the greatest number.
 pub(crate) fn check_numbers(alloc: Global, files: &[StoredFile]) -> Result<(), Error>
     ensures { OnOk result (AreFilesApart files.now × (have_low_ids files.now ≡ true)) }
 {
@@ -32,7 +32,7 @@ fn are_apart(alloc: Global, files: &[StoredFile]) -> Result<bool, AllocError>
     Ok(apart)
 }
 
-/// The numbers that the records of these files stand under.
+/// The numbers that the records of these files have.
 fn keys_of(alloc: Global, files: &[StoredFile]) -> Result<Vec<u32>, AllocError>
     ensures { IfOk result (λ keys. keys.items ≡ map (λ f. f.file.key) files.now) }
 {

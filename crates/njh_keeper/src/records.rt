@@ -44,7 +44,7 @@ impl FileContents {
     }
 }
 
-/// Whether records stand at the places from 0 on, each as a hub has records.
+/// Whether these are the records of the places from 0 on, each as a hub has records.
 fn are_records(records: &[StoredRecord]) -> bool
     ensures { result ≡ are_records_from 0 (map contents_of records.now) }
 {
@@ -56,7 +56,7 @@ fn are_records(records: &[StoredRecord]) -> bool
     true
 }
 
-/// Whether a record stands at this place, as a hub has records.
+/// Whether this is the record of this place, as a hub has records.
 fn is_record_at(place: usize, stored: &StoredRecord) -> bool
     ensures { result ≡ is_record_at place (contents_of stored.now) }
 {

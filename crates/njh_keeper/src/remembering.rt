@@ -43,7 +43,7 @@ pub(crate) fn remember_all<S: Alter + Drop>(
     ensures crash { Survives (shown S.Store writer.old.store) (shown S.Store writer.new.store) (λ _. ⊥) }
 {
     let mut customers = Vec::with_capacity(writer.alloc, names.len())?;
-    'names: for place in 0..names.len() {
+    for place in 0..names.len() {
         let own = remember_customer(writer, hub, place, names[place], files)?;
         customers.push(own)?;
     }
@@ -114,7 +114,7 @@ fn remember_files<S: Alter + Drop>(
     ensures others { own.new ≡ record own.old { whole = own.new.whole } }
     ensures crash { Survives (shown S.Store writer.old.store) (shown S.Store writer.new.store) (λ _. ⊥) }
 {
-    'files: for at in 0..files.len() {
+    for at in 0..files.len() {
         remember_if_own(writer, own, hub, customer, &files[at])?;
     }
     Ok(())
@@ -144,7 +144,7 @@ fn remember_if_own<S: Alter + Drop>(
     Ok(())
 }
 
-/// Remembers a whole file that was put back behind those that are remembered. Where the hub has it
+/// Remembers a whole file that was put back, after those that are remembered. Where the hub has it
 /// Held and its row doesn't, or the other way, its row is written anew.
 fn remember_one<S: Alter + Drop>(
     writer: &mut SpoolWriter<S>,

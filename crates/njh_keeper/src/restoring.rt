@@ -133,7 +133,7 @@ pub(crate) fn restore_all<S: Alter>(
         → Stays (shown S.Store store.old) (shown S.Store store.new)) }
     ensures crash { Survives (shown S.Store store.old) (shown S.Store store.new) (λ _. ⊥) }
 {
-    'files: for at in 0..files.len() {
+    for at in 0..files.len() {
         match restore_one(alloc, store, hub, names, &files[at]) {
             Ok(()) => {}
             Err(cause) => return Err(Stop { at, cause }),

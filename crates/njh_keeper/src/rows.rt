@@ -11,7 +11,7 @@ ghost use Rattle.njh_keeper.specs.code.Shown.{IsShown, field_text};
 
 use crate::kinds::kind_word;
 use crate::own_files::KeptWhole;
-use njh_ebcdic::{Name, names_read_back, text_of, trim_blanks};
+use njh_ebcdic::{Name, text_of, trim_blanks};
 use njh_hub::FileSummaryView;
 use njh_spool::State;
 use njh_spoolfile::FileRow;
@@ -44,7 +44,6 @@ fn field_text(alloc: Global, field: &[u8]) -> Result<String, AllocError>
 pub(crate) fn name_text(alloc: Global, name: Name) -> Result<String, AllocError>
     ensures { IfOk result (λ text. is_name_of (string_bytes text) name ≡ true) }
 {
-    names_read_back();
     field_text(alloc, &name.bytes())
 }
 

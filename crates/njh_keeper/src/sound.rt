@@ -15,7 +15,7 @@ pub(crate) fn see_sound(hub: &Hub, count: usize) -> Result<(), Error>
     ensures { OnOk result ((c : ℕ) → c < count → IsSound (part c hub.now).customer.spool
         × HaveHeaders (part c hub.now).customer.spool.whole) }
 {
-    'customers: for at in 0..count {
+    for at in 0..count {
         let Ok(customer) = u16::try_from(at) else {
             return Err(astray());
         };

@@ -83,13 +83,16 @@ files_at c hub = (part c hub).customer.spool.whole
 abbrev pub name_at : List (List ℕ) → ℕ → List ℕ
 name_at names c = slice_index_or names c []
 
--- what is remembered of customer c
+-- Of customer c the spool file has the hub's whole files, and so it is remembered.
+pub record IsOpened (names : List (List ℕ)) (hub : List Part) (now : SpoolContents) (c : ℕ) (own : OwnFiles) : Type
+    0 where
+  pub owned : IsOwnOf (name_at names c) (part c hub).customer.spool own
+  pub mirrored : Mirrored now own (files_at c hub)
+
+-- and its files have the keys of the rows that were read of it
 pub record IsCustomer (names : List (List ℕ)) (hub : List Part) (s t : SpoolContents) (c : ℕ) (own : OwnFiles) : Type
     0 where
-  pub name : own.name ≡ name_at names c
-  pub arrived : own.arrived ≡ (part c hub).customer.spool.arrived
-  pub partial : own.partial ≡ []
-  pub mirrored : Mirrored t own (files_at c hub)
+  pub opened : IsOpened names hub t c own
   pub keys : (n : ℕ) → keyed (λ k. k.key) n own.whole ≡ keyed_rows n (own_rows (name_at names c) s)
 
 -- so it is of the first so many customers, and nothing is written of any other
@@ -119,15 +122,7 @@ AllAreFound names hub = (c : ℕ) → c < length names → AreFound (part c hub)
 
 -- ---- the opening
 
--- Of customer c the spool file has the hub's whole files, and so it is remembered.
-pub record IsOpened (names : List (List ℕ)) (hub : List Part) (now : SpoolContents) (c : ℕ) (own : OwnFiles) : Type
-    0 where
-  pub name : own.name ≡ name_at names c
-  pub arrived : own.arrived ≡ (part c hub).customer.spool.arrived
-  pub partial : own.partial ≡ []
-  pub mirrored : Mirrored now own (files_at c hub)
-
--- So it is of all customers, and what is written next stands apart from it.
+-- So it is of all customers, and what is written next has other numbers.
 pub record HasBegun (names : List (List ℕ)) (hub : List Part) (owns : List OwnFiles) (w : Numbers) (now : SpoolContents)
     : Type 0 where
   pub count : length owns ≡ length names

@@ -1,7 +1,7 @@
 -- What the keeper of a spool file remembers of a customer's files, and what its calls make of a spool file.
 use Rattle.std.specs.Prelude.{◌≡◌, ◌≢◌, ℕ, ◌+◌, ◌<◌, ◌≤◌, ◌==◌, ◌-◌, ◌^◌, ◌&&◌, nat_le, nat_lt}
 use Rattle.std.specs.Prelude.{Bool, false, cond, None}
-use Rattle.std.specs.Prelude.{List, [], ◌∷◌, length, take, ⊤}
+use Rattle.std.specs.Prelude.{List, [], ◌∷◌, length, take}
 use Rattle.std.specs.List.{AllByRecursion, AllZip}
 use Rattle.njh_ebcdic.specs.Users.{User}
 use Rattle.njh_header.specs.Redirecting.{records_to_node}
@@ -60,15 +60,11 @@ pub record Numbers : Type 0 where
   pub free_keys : List ℕ
   pub sweeps : List Sweep
 
--- ---- three lists side by side
-
-abbrev pub AllBeside : {X Y Z : Type 0} → (X → Y → Z → Type 0) → List X → List Y → List Z → Type 0
-AllBeside R [] [] [] = ⊤
-AllBeside R [] [] (z ∷ zs) = ⊥
-AllBeside R [] (y ∷ ys) zs = ⊥
-AllBeside R (x ∷ xs) [] zs = ⊥
-AllBeside R (x ∷ xs) (y ∷ ys) [] = ⊥
-AllBeside R (x ∷ xs) (y ∷ ys) (z ∷ zs) = R x y z × AllBeside R xs ys zs
+-- three lists of one length side by side
+pub data AllBeside {X Y Z : Type 0} (R : X → Y → Z → Type 0) : List X → List Y → List Z → Type 0 where
+  none_beside : AllBeside R [] [] []
+  one_beside : (x : X) (y : Y) (z : Z) (xs : List X) (ys : List Y) (zs : List Z) → R x y z → AllBeside R xs ys zs
+      → AllBeside R (x ∷ xs) (y ∷ ys) (z ∷ zs)
 
 -- ---- a hub's whole file on a spool file
 

@@ -1,6 +1,7 @@
 -- The whole files of a spool one after the other, each put back to its customer.
-use Rattle.std.specs.Prelude.{◌≡◌, ℕ, ◌+◌, ◌<◌, ◌≤◌, List, [], ◌∷◌, length, map, fold, slice_set, if◌then◌else◌}
+use Rattle.std.specs.Prelude.{◌≡◌, ℕ, ◌<◌, ◌≤◌, List, [], ◌∷◌, length, map, fold, slice_set}
 use Rattle.std.specs.Prelude.{Option, Some, None, ⊤, All, slice_index_or, take}
+use Rattle.std.specs.List.{position_from}
 use Rattle.njh_hub.specs.WholeHub.{Part, part}
 use Rattle.njh_spoolfile.specs.Kept.{SpoolContents, Whole, whole_in, entry_of}
 use Rattle.njh_spoolfile.specs.declared.kept.StoredFile.{StoredFile}
@@ -17,8 +18,7 @@ HaveRoom records = All (λ r. (r.srcb < 256) × (length r.bytes.items ≤ 256)) 
 
 -- the first of these names, numbered from this one on, that a text is
 abbrev pub number_from : ℕ → List (List ℕ) → List ℕ → Option ℕ
-number_from n [] text = None
-number_from n (name ∷ names) text = if is_name_of text name then Some n else number_from (n + 1) names text
+number_from n names text = position_from (λ name. is_name_of text name) n names
 
 abbrev pub number_of : List (List ℕ) → List ℕ → Option ℕ
 number_of names text = number_from 0 names text

@@ -5,7 +5,7 @@ use Rattle.njh_ebcdic.specs.Names.{without_end_blanks}
 use Rattle.njh_hub.specs.declared.file_summary.FileSummaryView.{FileSummaryView}
 use Rattle.njh_spoolfile.specs.Kept.{File}
 
--- a field's characters, without the blanks behind them
+-- a field's characters, without the blanks at the end
 abbrev pub field_text : List ℕ → List ℕ
 field_text field = shown_text (without_end_blanks field)
 

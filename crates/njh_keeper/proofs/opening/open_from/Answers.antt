@@ -1,9 +1,10 @@
 use Rattle.std.proofs.Common.{subst, sym, arith}
+use Rattle.std.proofs.lemmas.Result.{IfErr-weaker, IfOk-weaker, on_ok_weaker}
 use Rattle.sqlite.specs.Effect.{Database}
 use Rattle.sqlite.specs.State.{HasCleanDisk}
 use Rattle.njh_spoolfile.specs.Kept.{Holds}
 use Rattle.njh_spoolfile.specs.Shelf.{shown}
-use Rattle.njh_keeper.proofs.OpeningLaws.{Finds, come_back, if_err, if_ok, on_ok, opens, tells}
+use Rattle.njh_keeper.proofs.OpeningLaws.{Finds, come_back, opens, tells}
 use Rattle.njh_keeper.proofs.LeadingLaws.{survives_both}
 use Rattle.njh_keeper.proofs.opening.open_from.Goals as goal
 
@@ -11,7 +12,7 @@ pub returns-clause-hub : goal.returns-clause-hub
 returns-clause-hub g c clean =
     let mid = shown g.S.Store c.find.new.store in
     let early : HasCleanDisk mid = omega (arith, c.fill.ensures.crash.clean) in
-    if_ok _ _ (λ opened is spool held.
+    IfOk-weaker c.fill.result _ _ (λ opened is spool held.
     let moved : Holds spool mid.now.trees =
     subst (λ (d : Database). Holds spool d.trees) (sym (c.in-Ok.ensures.same early).now) held in
     let f : Finds c.args.tables spool c.in-Ok.found.names.items c.in-Ok-open.hub c.in-Ok.found.files.items = record {
@@ -20,13 +21,13 @@ returns-clause-hub g c clean =
       hub_is = c.in-Ok-open.ensures.opened;
       files_are = c.in-Ok.ensures.files early spool held;
     } in
-    opens f opened (is spool moved)) c.fill.result (c.fill.ensures.hub clean)
+    opens f opened (is spool moved)) (c.fill.ensures.hub clean)
 
 pub returns-clause-back : goal.returns-clause-back
 returns-clause-back g c clean =
     let mid = shown g.S.Store c.find.new.store in
     let early : HasCleanDisk mid = omega (arith, c.fill.ensures.crash.clean) in
-    on_ok _ _ (λ none spool held.
+    on_ok_weaker c.fill.result (λ none spool held.
     let moved : Holds spool mid.now.trees =
     subst (λ (d : Database). Holds spool d.trees) (sym (c.in-Ok.ensures.same early).now) held in
     let f : Finds c.args.tables spool c.in-Ok.found.names.items c.in-Ok-open.hub c.in-Ok.found.files.items = record {
@@ -35,13 +36,13 @@ returns-clause-back g c clean =
       hub_is = c.in-Ok-open.ensures.opened;
       files_are = c.in-Ok.ensures.files early spool held;
     } in
-    come_back f (none spool moved)) c.fill.result (c.fill.ensures.back clean)
+    come_back f (none spool moved)) (c.fill.ensures.back clean)
 
 pub returns-clause-refused : goal.returns-clause-refused
 returns-clause-refused g c clean =
     let mid = shown g.S.Store c.find.new.store in
     let early : HasCleanDisk mid = omega (arith, c.fill.ensures.crash.clean) in
-    if_err _ _ (λ fault stops spool held.
+    IfErr-weaker c.fill.result _ _ (λ fault stops spool held.
     let moved : Holds spool mid.now.trees =
     subst (λ (d : Database). Holds spool d.trees) (sym (c.in-Ok.ensures.same early).now) held in
     let f : Finds c.args.tables spool c.in-Ok.found.names.items c.in-Ok-open.hub c.in-Ok.found.files.items = record {
@@ -50,7 +51,7 @@ returns-clause-refused g c clean =
       hub_is = c.in-Ok-open.ensures.opened;
       files_are = c.in-Ok.ensures.files early spool held;
     } in
-    tells f fault (stops spool moved)) c.fill.result (c.fill.ensures.refused clean)
+    tells f fault (stops spool moved)) (c.fill.ensures.refused clean)
 
 pub returns-clause-crash : goal.returns-clause-crash
 returns-clause-crash g c = survives_both _ _ _ c.find.ensures.crash c.fill.ensures.crash

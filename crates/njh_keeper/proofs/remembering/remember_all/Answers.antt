@@ -15,8 +15,8 @@ use Rattle.njh_keeper.proofs.PartlyLaws.{all_push}
 use Rattle.njh_keeper.specs.declared.writer.SpoolWriter.{SpoolWriter}
 use Rattle.njh_keeper.proofs.remembering.remember_all.Goals as goal
 
-pub names-init : goal.names-init
-names-init g c =
+pub loop-place-init : goal.loop-place-init
+loop-place-init g c =
     let at = shown g.S.Store c.args.writer.now.store in
     let names = c.args.names.now in
     let hub = c.args.hub.now in
@@ -31,18 +31,18 @@ names-init g c =
           subst (λ xs. AreRemembered names hub (map own_of xs) s s) (sym none) (none_remembered names hub s ordered));
     }
 
-pub names-preserved : goal.names-preserved
-names-preserved g c =
+pub loop-place-preserved : goal.loop-place-preserved
+loop-place-preserved g c =
     let old = shown g.S.Store c.args.writer.now.store in
-    let mid = shown g.S.Store c.names.writer.store in
+    let mid = shown g.S.Store c.loop-place.writer.store in
     let new = shown g.S.Store c.remember_customer.new.writer.store in
     let early : HasCleanDisk new → HasCleanDisk mid = λ clean. omega (arith, c.remember_customer.ensures.crash.clean) in
-    let so_far = c.names.invariant in
+    let so_far = c.loop-place.invariant in
     let names = c.args.names.now in
     let hub = c.args.hub.now in
-    let place = c.names.place in
-    let low : place < length names = c.names-test.true in
-    let items = c.names.customers.items in
+    let place = c.loop-place.place in
+    let low : place < length names = c.loop-place-test.true in
+    let items = c.loop-place.customers.items in
     let own = c.in_ok-own.own in
     let pushed : c.push.new.self.items ≡ items ++ own ∷ [] = c.in_ok-push.ensures.items in
     let name_is : c.index-names-place.result ≡ name_at names place =
@@ -88,21 +88,22 @@ names-preserved g c =
     }
 
 pub returns-in_err-own-clause-crash : goal.returns-in_err-own-clause-crash
-returns-in_err-own-clause-crash g c = survives_both _ _ _ c.names.invariant.crash c.remember_customer.ensures.crash
+returns-in_err-own-clause-crash g c = survives_both _ _ _ c.loop-place.invariant.crash c.remember_customer.ensures.crash
 
 pub returns-in_err-own-clause-others : goal.returns-in_err-own-clause-others
 returns-in_err-own-clause-others g c =
     c.remember_customer.ensures.others
     ∙ ap (λ (x : SpoolWriter g.row.S.Denot). record x
     { store = c.remember_customer.new.writer.store; is_changed = c.remember_customer.new.writer.is_changed })
-    c.names.invariant.writer
+    c.loop-place.invariant.writer
 
 pub returns-in_err-push-clause-crash : goal.returns-in_err-push-clause-crash
-returns-in_err-push-clause-crash g c = survives_both _ _ _ c.names.invariant.crash c.remember_customer.ensures.crash
+returns-in_err-push-clause-crash g c =
+    survives_both _ _ _ c.loop-place.invariant.crash c.remember_customer.ensures.crash
 
 pub returns-in_err-push-clause-others : goal.returns-in_err-push-clause-others
 returns-in_err-push-clause-others g c =
     c.remember_customer.ensures.others
     ∙ ap (λ (x : SpoolWriter g.row.S.Denot). record x
     { store = c.remember_customer.new.writer.store; is_changed = c.remember_customer.new.writer.is_changed })
-    c.names.invariant.writer
+    c.loop-place.invariant.writer

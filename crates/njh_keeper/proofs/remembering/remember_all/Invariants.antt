@@ -9,8 +9,8 @@ use Rattle.njh_keeper.specs.code.Opening.{AllAreFound, RememberingAll, entries}
 use Rattle.njh_keeper.proofs.remembering.remember_all.Given as goal
 
 -- so many customers' files are remembered
-abbrev pub invariant-names : goal.invariant-names
-invariant-names g l =
+abbrev pub invariant-loop-place : goal.invariant-loop-place
+invariant-loop-place g l =
     let old = shown g.S.Store l.fn.writer.store in
     let now = shown g.S.Store l.writer.store in
     record {

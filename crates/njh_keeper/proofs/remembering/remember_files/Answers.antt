@@ -12,8 +12,8 @@ use Rattle.njh_keeper.specs.code.Opening.{Reads, entries, owned_of}
 use Rattle.njh_keeper.proofs.LeadingLaws.{leads_nothing, leads_then, survives_both, survives_here}
 use Rattle.njh_keeper.proofs.remembering.remember_files.Goals as goal
 
-pub files-init : goal.files-init
-files-init g c =
+pub loop-at-init : goal.loop-at-init
+loop-at-init g c =
     let at = shown g.S.Store c.args.writer.now.store in
     record {
       crash = survives_here at (λ _. ⊥);
@@ -22,33 +22,33 @@ files-init g c =
       led = λ text found clean. leads_nothing _ at (λ s from is. is);
     }
 
-pub files-preserved : goal.files-preserved
-files-preserved g c =
+pub loop-at-preserved : goal.loop-at-preserved
+loop-at-preserved g c =
     let old = shown g.S.Store c.args.writer.now.store in
-    let mid = shown g.S.Store c.files.writer.store in
+    let mid = shown g.S.Store c.loop-at.writer.store in
     let new = shown g.S.Store c.remember_if_own.new.writer.store in
     let early : HasCleanDisk new → HasCleanDisk mid = λ clean. omega (arith, c.remember_if_own.ensures.crash.clean) in
-    let so_far = c.files.invariant in
+    let so_far = c.loop-at.invariant in
     let own = c.args.own.now in
     let spool = (part c.args.customer c.args.hub.now).customer.spool in
     let files = c.args.files.now in
-    let rest = entries (drop (c.files.at + 1) files) in
-    let name : c.files.own.name ≡ own.name = ap (λ o. o.name) so_far.others in
+    let rest = entries (drop (c.loop-at.at + 1) files) in
+    let name : c.loop-at.own.name ≡ own.name = ap (λ o. o.name) so_far.others in
     record {
       crash = survives_then old mid new _ _ (λ _. ⊥) (λ _ db none. none) (λ _ db none. none) so_far.crash
           c.remember_if_own.ensures.crash;
       writer = search rules;
       others = search rules;
       led = λ text found clean.
-          let named : is_name_of (string_bytes c.files.own.text) c.files.own.name ≡ true =
+          let named : is_name_of (string_bytes c.loop-at.own.text) c.loop-at.own.name ≡ true =
           ap (λ o. is_name_of (string_bytes o.text) o.name) so_far.others ∙ text in
           let one = c.in_ok-remember_if_own.ensures.led named found clean rest in
-          let was = map whole_of c.files.own.whole.items in
+          let was = map whole_of c.loop-at.own.whole.items in
           let is = map whole_of c.remember_if_own.new.own.whole.items in
-          let next : entries (drop c.files.at files) ≡ entry_of c.index-files-at.result ∷ rest =
-          ap entries (drop_more files c.files.at c.index-files-at.result c.files-test.true)
+          let next : entries (drop c.loop-at.at files) ≡ entry_of c.index-files-at.result ∷ rest =
+          ap entries (drop_more files c.loop-at.at c.index-files-at.result c.loop-at-test.true)
           ∙ ap (λ x. entry_of x ∷ rest) (sym c.index-files-at.is) in
-          let step : Leads (Reads own.name spool was is (owned_of own.name (entries (drop c.files.at files)))
+          let step : Leads (Reads own.name spool was is (owned_of own.name (entries (drop c.loop-at.at files)))
           (owned_of own.name rest)) mid new =
           subst (λ es. Leads (Reads own.name spool was is (owned_of own.name es) (owned_of own.name rest)) mid new)
           (sym next)
@@ -61,16 +61,16 @@ files-preserved g c =
 pub returns-clause-led : goal.returns-clause-led
 returns-clause-led g c text found clean =
     let old = shown g.S.Store c.args.writer.now.store in
-    let new = shown g.S.Store c.files.writer.store in
+    let new = shown g.S.Store c.loop-at.writer.store in
     let own = c.args.own.now in
     let spool = (part c.args.customer c.args.hub.now).customer.spool in
     let files = c.args.files.now in
-    let end : drop c.files.at files ≡ [] = drop_all c.files.at files (omega (arith, c.files-test.false)) in
+    let end : drop c.loop-at.at files ≡ [] = drop_all c.loop-at.at files (omega (arith, c.loop-at-test.false)) in
     subst
-    (λ xs. Leads (Reads own.name spool (map whole_of own.whole.items) (map whole_of c.files.own.whole.items)
+    (λ xs. Leads (Reads own.name spool (map whole_of own.whole.items) (map whole_of c.loop-at.own.whole.items)
     (owned_of own.name (entries files)) (owned_of own.name (entries xs))) old new)
-    end (c.files.invariant.led text found clean)
+    end (c.loop-at.invariant.led text found clean)
 
 pub returns-in_err-remember_if_own-clause-crash : goal.returns-in_err-remember_if_own-clause-crash
 returns-in_err-remember_if_own-clause-crash g c =
-    survives_both _ _ _ c.files.invariant.crash c.remember_if_own.ensures.crash
+    survives_both _ _ _ c.loop-at.invariant.crash c.remember_if_own.ensures.crash

@@ -9,8 +9,8 @@ use Rattle.njh_keeper.specs.code.Opening.{AreFound, Reads, entries, owned_of}
 use Rattle.njh_keeper.proofs.remembering.remember_files.Given as goal
 
 -- the customer's rows among the first so many were read
-abbrev pub invariant-files : goal.invariant-files
-invariant-files g l =
+abbrev pub invariant-loop-at : goal.invariant-loop-at
+invariant-loop-at g l =
     let old = shown g.S.Store l.fn.writer.store in
     let now = shown g.S.Store l.writer.store in
     let name = l.fn.own.name in

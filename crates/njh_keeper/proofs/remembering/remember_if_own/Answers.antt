@@ -1,4 +1,5 @@
 use Rattle.std.proofs.Common.{◌≡◌, ℕ, Bool, true, false, cond, List, ◌∷◌, map, sym, ap, subst, ◌∙◌}
+use Rattle.std.proofs.lemmas.Result.{on_ok_weaker}
 use Rattle.njh_hub.specs.WholeHub.{part}
 use Rattle.njh_spoolfile.specs.Kept.{File, entry_of}
 use Rattle.njh_spoolfile.specs.Shelf.{shown}
@@ -7,7 +8,6 @@ use Rattle.njh_keeper.specs.code.Leading.{Leads}
 use Rattle.njh_keeper.specs.code.Memory.{whole_of}
 use Rattle.njh_keeper.specs.code.Opening.{IsRead, Reads, owned_of}
 use Rattle.njh_keeper.proofs.LeadingLaws.{leads_nothing}
-use Rattle.njh_keeper.proofs.OpeningLaws.{on_ok}
 use Rattle.njh_keeper.proofs.remembering.remember_if_own.Goals as goal
 
 pub returns-then-reads_as-clause-led : goal.returns-then-reads_as-clause-led
@@ -19,14 +19,14 @@ returns-then-reads_as-clause-led g c text found clean =
     let e = entry_of c.args.stored.now in
     let owned : is_own name e.1 ≡ true = ap (λ (t : List ℕ). is_name_of t name) (sym c.as_str.ensures.value)
     ∙ sym c.reads_as.ensures ∙ c.if-reads_as.true in
-    on_ok _ _
+    on_ok_weaker c.remember_one.result
     (λ led left.
     subst
     (λ (es : List (ℕ × File)). Leads (Reads name spool (map whole_of c.args.own.now.whole.items)
     (map whole_of c.remember_one.new.own.whole.items) es (owned_of name left)) old new)
     (sym (ap (λ (b : Bool). cond b (e ∷ owned_of name left) (owned_of name left)) owned))
     (led (owned_of name left)))
-    c.remember_one.result (c.remember_one.ensures.led text found clean)
+    (c.remember_one.ensures.led text found clean)
 
 pub returns-clause-led : goal.returns-clause-led
 returns-clause-led g c text found clean left =

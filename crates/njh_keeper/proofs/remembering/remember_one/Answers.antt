@@ -1,5 +1,6 @@
 use Rattle.std.proofs.Common.{rules, ◌≡◌, ◌<◌, ◌++◌, List, [], ◌∷◌, length, get_or, map, sym, ap, subst, ◌∙◌, arith}
 use Rattle.std.proofs.lemmas.List.{get_or_default, length-map, map-append}
+use Rattle.std.proofs.lemmas.Result.{on_ok_weaker}
 use Rattle.njh_hub.specs.Views.{file_summary}
 use Rattle.njh_hub.specs.WholeHub.{part}
 use Rattle.njh_hub.specs.declared.file_summary.FileSummaryView.{FileSummaryView}
@@ -10,7 +11,6 @@ use Rattle.njh_keeper.specs.code.Memory.{whole_of}
 use Rattle.njh_keeper.specs.code.Opening.{IsRead}
 use Rattle.njh_keeper.specs.code.Remembered.{KeptWhole, Remembers}
 use Rattle.njh_keeper.proofs.LeadingLaws.{leads_by, leads_nothing, leads_weaker}
-use Rattle.njh_keeper.proofs.OpeningLaws.{on_ok}
 use Rattle.njh_keeper.proofs.OpeningLists.{goes_on_anew, goes_on_same, next_read}
 use Rattle.njh_keeper.proofs.remembering.remember_one.Goals as goal
 
@@ -58,7 +58,7 @@ returns-clause-led g c text found clean =
     ap (map whole_of) c.in_ok-push.ensures.items ∙ map-append whole_of items (kept ∷ []) in
     let same : length whole ≡ c.len-index.result =
     (let long = length-map items whole_of in omega (arith, long, c.len-index.ensures)) in
-    on_ok _ _
+    on_ok_weaker c.change_row.result
     (λ changed left.
     leads_weaker (λ s t. t ≡ with_changed kept.id changed.row s) _ old new
     (λ s t by from is.
@@ -77,4 +77,4 @@ returns-clause-led g c text found clean =
     remembers changed.row
     (changed.is_row.owned name text) (changed.is_row.of_file f summary))))
     (leads_by (with_changed kept.id changed.row) old new changed.changes))
-    c.change_row.result (c.change_row.ensures.changed clean)
+    (c.change_row.ensures.changed clean)

@@ -8,8 +8,8 @@ use Rattle.njh_keeper.specs.code.Restoring.{NoneFails, hub_with_all, wholes}
 use Rattle.njh_keeper.proofs.restoring.restore_all.Given as goal
 
 -- so many files were put back
-abbrev pub invariant-files : goal.invariant-files
-invariant-files g l =
+abbrev pub invariant-loop-at : goal.invariant-loop-at
+invariant-loop-at g l =
     let old = shown g.S.Store l.fn.store in
     let now = shown g.S.Store l.store in
     record {

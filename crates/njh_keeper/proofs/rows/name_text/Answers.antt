@@ -1,22 +1,19 @@
 use Rattle.std.proofs.Common.{◌≡◌, ℕ, Bool, true, false, List, bytes_eq, string_bytes, Result, Ok, Err, IfOk, refl, ap}
 use Rattle.std.proofs.Common.{subst, ◌∙◌}
 use Rattle.std.specs.Prelude.{IsTrue}
+use Rattle.std.proofs.lemmas.Result.{IfOk-weaker}
 use Rattle.std.proofs.lemmas.Slice.Eq.{bytes_eq-Decides}
 use Rattle.njh_ebcdic.specs.Names.{is_name}
 use Rattle.njh_ebcdic.specs.declared.name.NameFault.{NameFault}
+use Rattle.njh_ebcdic.proofs.ReadBack.{name_of_text-shown_text}
 use Rattle.njh_keeper.specs.Opened.{is_name_of}
 use Rattle.njh_keeper.specs.code.Shown.{field_text}
 use Rattle.njh_keeper.proofs.rows.name_text.Goals as goal
 
-if_ok : {T E : Type 0} (P Q : T → Type 0) → ((t : T) → P t → Q t) → (r : Result T E) → IfOk r P → IfOk r Q
-if_ok P Q then (Ok t) so = then t so
-if_ok P Q then (Err e) so = tt
-
 pub returns : goal.returns
 returns c =
-    if_ok (λ text. string_bytes text ≡ field_text c.args.name)
-    (λ text. is_name_of (string_bytes text) c.args.name ≡ true)
-    (λ text is. reads (string_bytes text) is) c.field_text.result
+    IfOk-weaker c.field_text.result (λ text. string_bytes text ≡ field_text c.args.name)
+    (λ text. is_name_of (string_bytes text) c.args.name ≡ true) (λ text is. reads (string_bytes text) is)
     (subst (λ (field : List ℕ). IfOk c.field_text.result (λ text. string_bytes text ≡ field_text field))
     c.bytes.ensures.same c.field_text.ensures)
   where
@@ -25,6 +22,6 @@ returns c =
         ap (λ (t : List ℕ). is_name_of t c.args.name) is
         ∙ ap (λ (r : Result (List ℕ) NameFault). elim r as (λ _. Bool)
         [ Ok read ↦ bytes_eq read c.args.name | Err fault ↦ false ])
-        (c.names_read_back.ensures.text c.args.name
+        (name_of_text-shown_text c.args.name
         (subst (λ (field : List ℕ). IsTrue (is_name field)) c.bytes.ensures.same c.bytes.ensures.name))
         ∙ (bytes_eq-Decides c.args.name c.args.name).1 refl

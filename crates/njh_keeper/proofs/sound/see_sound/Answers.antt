@@ -5,10 +5,10 @@ use Rattle.njh_stream.specs.WholeFiles.{HaveHeaders}
 use Rattle.njh_hub.specs.WholeHub.{part}
 use Rattle.njh_keeper.proofs.sound.see_sound.Goals as goal
 
-pub customers-preserved : goal.customers-preserved
-customers-preserved c = record {
-  sound = λ d low. elim (cases_lt d c.customers.at) [
-    | inl before ↦ c.customers.invariant.sound d before
+pub loop-at-preserved : goal.loop-at-preserved
+loop-at-preserved c = record {
+  sound = λ d low. elim (cases_lt d c.loop-at.at) [
+    | inl before ↦ c.loop-at.invariant.sound d before
     | inr not_before ↦
         (let is : c.in-Ok.customer ≡ d = omega (arith, c.in-Ok.ensures, not_before, low) in
         subst (λ n. IsSound (part n c.args.hub.now).customer.spool

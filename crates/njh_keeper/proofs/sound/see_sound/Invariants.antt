@@ -5,7 +5,7 @@ use Rattle.njh_hub.specs.WholeHub.{part}
 use Rattle.njh_keeper.proofs.sound.see_sound.Given as goal
 
 -- so it is of those before this one
-abbrev pub invariant-customers : goal.invariant-customers
-invariant-customers l = record {
+abbrev pub invariant-loop-at : goal.invariant-loop-at
+invariant-loop-at l = record {
   sound : (c : ℕ) → c < l.at → IsSound (part c l.hub).customer.spool × HaveHeaders (part c l.hub).customer.spool.whole;
 }

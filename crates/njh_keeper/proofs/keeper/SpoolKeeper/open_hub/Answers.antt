@@ -1,5 +1,6 @@
 use Rattle.std.proofs.Common.{◌≡◌, List, length, map, Result, Ok, Err, IfOk, OnOk, sym, ap, subst, ◌∙◌, arith}
 use Rattle.std.specs.List.{AllByRecursion}
+use Rattle.std.proofs.lemmas.Result.{IfOk-weaker}
 use Rattle.sqlite.specs.State.{HasCleanDisk, State}
 use Rattle.njh_table.specs.Accepted.{AreDistinct}
 use Rattle.njh_customer.specs.Growing.{HasShortRests}
@@ -13,7 +14,6 @@ use Rattle.njh_spoolfile.specs.Origin.{StandsAsFound}
 use Rattle.njh_keeper.specs.Keeper.{IsCommitted, IsSettledFrom, KnowsHub, KnowsNow}
 use Rattle.njh_keeper.specs.code.Opening.{AllAreFound, AllAreRead}
 use Rattle.njh_keeper.proofs.KnownLaws.{ok_always, opened_so, stood_still}
-use Rattle.njh_keeper.proofs.OpeningLaws.{if_ok}
 use Rattle.njh_keeper.proofs.keeper.SpoolKeeper.open_hub.Goals as goal
 
 pub returns-clause-opened : goal.returns-clause-opened
@@ -23,7 +23,7 @@ returns-clause-opened g c =
     let early : HasCleanDisk new → HasCleanDisk mid =
     λ clean. omega (arith, clean, c.remember_hub.ensures.crash.clean) in
     let before = ap (λ k. shown g.S.Store k.store) (sym c.self.view_is) in
-    if_ok _ _
+    IfOk-weaker c.remember_hub.result _ _
     (λ opened same. record {
       lines = subst (λ (ps : List Part). SameLines (map part_at_open (entries_of c.args.tables)) ps) (sym same)
           c.in-Ok-open_from.ensures.lines;
@@ -31,7 +31,7 @@ returns-clause-opened g c =
           (subst (λ (at : State). Holds spool at.now.trees) before held);
       back = λ clean spool held. c.in-Ok-open_from.ensures.back (early clean) spool
           (subst (λ (at : State). Holds spool at.now.trees) before held);
-    }) c.remember_hub.result c.remember_hub.ensures.hub
+    }) c.remember_hub.ensures.hub
 
 pub returns-clause-settled : goal.returns-clause-settled
 returns-clause-settled g c = by c.remember_hub.result c.remember_hub.ensures.hub c.remember_hub.ensures.names
@@ -55,7 +55,7 @@ returns-clause-settled g c = by c.remember_hub.result c.remember_hub.ensures.hub
           let early : HasCleanDisk (shown g.S.Store c.open_from.new.store) =
           omega (arith, clean, c.remember_hub.ensures.crash.clean) in
           let so =
-          opened_so c.next_number_is_least.ensures.free c.args.tables s.now c.in-Ok.names.items c.in-Ok-open_from.hub
+          opened_so c.args.tables s.now c.in-Ok.names.items c.in-Ok-open_from.hub
           c.in-Ok.ensures.each
           (c.in-Ok-open_from.ensures.hub early s.now stands.now) (c.in-Ok-open_from.ensures.back early s.now stands.now)
           in
@@ -85,7 +85,7 @@ returns-clause-known g c = by c.remember_hub.result c.remember_hub.ensures.hub c
         omega (arith, early, c.open_from.ensures.crash.clean) in
         let stands = c.self.invariant c.if-not-self.false first began found in
         let so =
-        opened_so c.next_number_is_least.ensures.free c.args.tables began c.in-Ok.names.items c.in-Ok-open_from.hub
+        opened_so c.args.tables began c.in-Ok.names.items c.in-Ok-open_from.hub
         c.in-Ok.ensures.each
         (c.in-Ok-open_from.ensures.hub early began stands.now) (c.in-Ok-open_from.ensures.back early began stands.now)
         in

@@ -1,0 +1,164 @@
+-- A customer's files where none is being sent: what is kept of them, and that it can be put back.
+use Rattle.std.proofs.Common.{◌≡◌, ℕ, ◌+◌, ◌≤◌, ◌&&◌, ◌||◌, nat_le, nat_lt, Bool, true, false, cond, List, [], ◌∷◌}
+use Rattle.std.proofs.Common.{◌++◌, length, map, get_or, drop, Option, Some, None, is_some, refl, sym, ap, ◌∙◌, arith}
+use Rattle.std.specs.Prelude.{sum_by}
+use Rattle.std.specs.List.{AllByRecursion, Contains}
+use Rattle.std.proofs.lemmas.Bool.{le-leb, lt-ltb}
+use Rattle.std.proofs.lemmas.List.{length-append, length-map}
+use Rattle.std.proofs.lemmas.List.Elements.{Contains-append_right}
+use Rattle.std.proofs.lemmas.List.Sums.{sum_by-cons, sum_by_push}
+use Rattle.njh_ebcdic.specs.Users.{User}
+use Rattle.njh_header.specs.FileHeaders.{file_owner, destination_of}
+use Rattle.njh_header.specs.FileNames.{FileName}
+use Rattle.njh_header.specs.WholeFiles.{HasHeaders}
+use Rattle.njh_record.specs.Stored.{Stored}
+use Rattle.njh_record.specs.declared.Kind.{Kind}
+use Rattle.njh_spool.specs.CustomerSpool.{CustomerSpool, WholeFile, cost, used_blocks}
+use Rattle.njh_spool.specs.declared.State.{State}
+use Rattle.njh_spool.specs.declared.State.TheVariants.{Ready, Held, Refused, Sending}
+use Rattle.njh_spool.specs.Restoring.{KeptFile, has_blocks_for, has_headers, kept, limits_fault, restore_fault}
+use Rattle.njh_spool.specs.declared.restoring.fault.RestoreFault.TheVariants.{BadHeader, FilesOver, QuotaOver}
+use Rattle.njh_stream.specs.Holding.{destination_unrouted, has_lost_route, held_file, waits_in_state}
+use Rattle.njh_table.specs.Entries.{CustomerEntry}
+use Rattle.njh_customer.specs.InOrder.{at_rest, state_at_rest}
+use Rattle.njh_customer.specs.Part.{Part}
+use Rattle.njh_turns.specs.Keeping.{is_held, kept_file}
+use Rattle.njh_hub.specs.Restored.{part_with_file}
+use Rattle.njh_spoolfile.specs.Kept.{Whole}
+use Rattle.njh_keeper.specs.LinesLost.{file_at_rest}
+use Rattle.njh_keeper.specs.Opened.{AreBack, file_in}
+use Rattle.njh_keeper.specs.OpenedFiles.{as_opened}
+use Rattle.njh_keeper.proofs.BackLaws.{back_with}
+use Rattle.njh_keeper.proofs.OpenedLaws.{held_back, new}
+
+-- ---- none is being sent
+
+-- of a file that isn't being sent: Held where it was or has no route, and else it may go
+state_case : (n : ℕ) (kind : Kind) (records : List Stored) (s : State) (unrouted : Bool) → (s ≡ Sending → ⊥)
+    → (let f : WholeFile = record { number = n; kind = kind; records = records; state = s } in
+    file_at_rest (cond (waits_in_state s && unrouted) (held_file f) f))
+    ≡ record { kind = kind; records = records; state = cond (is_held s || unrouted) Held Ready }
+state_case n kind records Ready true isnt = refl
+state_case n kind records Ready false isnt = refl
+state_case n kind records Held true isnt = refl
+state_case n kind records Held false isnt = refl
+state_case n kind records Refused true isnt = refl
+state_case n kind records Refused false isnt = refl
+state_case n kind records Sending unrouted isnt = absurd (isnt refl)
+
+abbrev pub AreNotSent : List WholeFile → Type 0
+AreNotSent files = (f : WholeFile) → Contains files f → f.state ≡ Sending → ⊥
+
+pub lost_files : (entry : CustomerEntry) (fs : List WholeFile) → AreNotSent fs
+    → map file_at_rest (map (held_back entry) fs) ≡ map (as_opened entry) (map kept_file fs)
+lost_files entry [] none = refl
+lost_files entry (f ∷ fs) none =
+    let here = state_case f.number f.kind f.records f.state
+    (destination_unrouted entry (destination_of f.kind f.records)) (none f (0, omega arith, refl)) in
+    let rest = lost_files entry fs (λ g at. none g (Contains-append_right (f ∷ []) fs g at)) in
+    λ i. here i ∷ rest i
+
+-- what is kept of files at rest is what is kept of them
+kept_rest : (fs : List WholeFile) → map kept_file (map at_rest fs) ≡ map kept_file fs
+kept_rest [] = refl
+kept_rest (f ∷ fs) = λ i. kept f.kind (state_held f.state i) f.records ∷ kept_rest fs i
+  where
+    state_held : (s : State) → is_held (state_at_rest s) ≡ is_held s
+    state_held Ready = refl
+    state_held Held = refl
+    state_held Refused = refl
+    state_held Sending = refl
+
+pub same_kept : (fs gs : List WholeFile) → map at_rest fs ≡ map at_rest gs → map kept_file fs ≡ map kept_file gs
+same_kept fs gs same = sym (kept_rest fs) ∙ ap (map kept_file) same ∙ kept_rest gs
+
+-- ---- what is kept can be put back
+
+-- all of these have headers that read
+abbrev AllRead : List KeptFile → Type 0
+AllRead fs = AllByRecursion (λ (f : KeptFile). has_headers f.kind f.records ≡ true) fs
+
+pub kept_read : (fs : List WholeFile) → AllByRecursion (λ (f : WholeFile). HasHeaders f.kind f.records) fs
+    → AllRead (map kept_file fs)
+kept_read [] have = tt
+kept_read (f ∷ fs) have = (headers_read f.kind f.records have.0, kept_read fs have.1)
+  where
+    headers_read : (kind : Kind) (records : List Stored) → HasHeaders kind records → has_headers kind records ≡ true
+    headers_read kind records has =
+        ap (λ (o : Option FileName). is_some o
+        && (is_some (file_owner records) && is_some (destination_of kind records))) has.named
+        ∙ ap (λ (o : Option User). is_some o && is_some (destination_of kind records)) has.owned
+        ∙ ap (λ (o : Option User). is_some o) has.goes
+
+abbrev pub cost_of : WholeFile → ℕ
+cost_of f = cost f.records
+
+abbrev pub cost_of_kept : KeptFile → ℕ
+cost_of_kept f = cost f.records
+
+pub kept_costs : (fs : List WholeFile) → sum_by cost_of_kept (map kept_file fs) ≡ sum_by cost_of fs
+kept_costs [] = refl
+kept_costs (f ∷ fs) =
+    omega (arith, kept_costs fs, sum_by-cons cost_of_kept (kept_file f) (map kept_file fs), sum_by-cons cost_of f fs)
+
+held_costs : (entry : CustomerEntry) (fs : List WholeFile)
+    → sum_by cost_of (map (held_back entry) fs) ≡ sum_by cost_of fs
+held_costs entry [] = refl
+held_costs entry (f ∷ fs) = omega (
+  arith,
+  held_costs entry fs,
+  sum_by-cons cost_of (held_back entry f) (map (held_back entry) fs),
+  sum_by-cons cost_of f fs,
+  same_cost (has_lost_route entry f),
+)
+  where
+    same_cost : (b : Bool) → cost_of (cond b (held_file f) f) ≡ cost_of f
+    same_cost true = refl
+    same_cost false = refl
+
+-- there is room for these
+pub record HaveRoom (s : CustomerSpool) (fs : List KeptFile) : Type 0 where
+  pub blocks : used_blocks s + sum_by cost_of_kept fs ≤ s.quota
+  pub files : length s.whole + length s.partial + length fs ≤ s.limit
+
+room_left : (f : KeptFile) (fs : List KeptFile) (p : Part) → HaveRoom p.customer.spool (f ∷ fs)
+    → HaveRoom (part_with_file f p).customer.spool fs
+room_left f fs p room =
+    let files : List WholeFile = p.customer.spool.whole ++ new p f ∷ [] in
+    record {
+      blocks = omega (
+        arith,
+        room.blocks,
+        held_costs p.customer.entry files,
+        sum_by_push cost_of p.customer.spool.whole (new p f),
+        sum_by-cons cost_of_kept f fs,
+      );
+      files = omega (
+        arith,
+        room.files,
+        length-map files (held_back p.customer.entry),
+        length-append p.customer.spool.whole (new p f ∷ []),
+      );
+    }
+
+none_refused : (f : KeptFile) (fs : List KeptFile) (s : CustomerSpool) → has_headers f.kind f.records ≡ true
+    → HaveRoom s (f ∷ fs) → restore_fault f s ≡ None
+none_refused f fs s reads room =
+    let files : nat_lt (length s.whole + length s.partial) s.limit ≡ true =
+    lt-ltb (length s.whole + length s.partial) s.limit (omega (arith, room.files)) in
+    let blocks : nat_le (used_blocks s + cost f.records) s.quota ≡ true =
+    le-leb (used_blocks s + cost f.records) s.quota
+    (omega (arith, room.blocks, sum_by-cons cost_of_kept f fs)) in
+    ap (λ b. cond b (limits_fault f.records s) (Some BadHeader)) reads
+    ∙ ap (λ b. cond b (cond (has_blocks_for f.records s) None (Some QuotaOver)) (Some FilesOver)) files
+    ∙ ap (λ b. cond b None (Some QuotaOver)) blocks
+
+pub all_fit : (ws : List Whole) (fs : List KeptFile) (p : Part) → map (λ w. file_in w.file w.records) ws ≡ map Some fs
+    → AllRead fs → HaveRoom p.customer.spool fs → AreBack p ws
+all_fit [] fs p same reads room = tt
+all_fit (w ∷ ws) [] p same reads room = absurd (omega (arith, ap length same))
+all_fit (w ∷ ws) (f ∷ fs) p same reads room =
+    back_with w ws f p (ap (λ (os : List (Option KeptFile)). get_or os 0 (Some f)) same)
+    (none_refused f fs p.customer.spool reads.0 room)
+    (all_fit ws fs (part_with_file f p) (ap (λ (os : List (Option KeptFile)). drop 1 os) same) reads.1
+    (room_left f fs p room))
