@@ -83,8 +83,8 @@ pub either_leaves : {S : Type 0} (g : Ghosts S) (found : SpoolContents → Type 
     → ((left : List (List KeptFile)) → MayLeave g new left
     → MayLeave g old left ⊎ ((now : SpoolContents) → Holds now (shown g old.store).now.trees
     → left ≡ left_in old.names now))
-    → LeavesOnly (MayLeaveOf g found) old before → KnowsHub g found old parts
-    → LeavesEither (MayLeaveOf g found) new before parts
+    → LeavesOnly (MayLeaveOf g found old) before → KnowsHub g found old parts
+    → LeavesEither (MayLeaveOf g found new) before parts
 either_leaves g found old new before parts early crash only knows left m = elim (crash left m.0) [
   | inl may ↦ inl (only left (may, m.1))
   | inr made ↦ inr (let k = knows (early m.0.clean) m.1.0 m.1.1 in made k.standing.now k.stands.now

@@ -289,11 +289,11 @@ impl<'a, R: Clock, S: Origin + Drop> SpoolKeeper<'a, R, S> {
 impl<'a, R: Clock, S: Origin + Drop> Keeper for SpoolKeeper<'a, R, S> {
     ghost use Rattle.njh_keeper.specs.Keeper.{KnowsHub, MayLeaveOf};
 
-    ghost may_leave = { MayLeaveOf S.Store S.found };
-
-    ghost knows = { KnowsHub S.Store S.found };
-
-    ghost count = { λ keeper. keeper.failures };
+    ghost says = { record {
+      may_leave = MayLeaveOf S.Store S.found;
+      knows = KnowsHub S.Store S.found;
+      count = λ keeper. keeper.failures;
+    } };
 
     fn failures(&self) -> u64 {
         self.failures

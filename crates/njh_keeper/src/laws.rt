@@ -77,7 +77,7 @@ pub fn a_crash_leaves_what_was_committed<S: Alter>()
 pub fn a_crash_leaves_what_was_opened<S: Alter>()
     ensures { (before behind : Keeping S) (table : TableFile) (parts : List Part) (s : CommitState)
         → IsSettledFrom S.Store before behind table parts → Stands s (shown S.Store before.store)
-        → LeavesOnly (MayLeave S.Store) behind parts }
+        → LeavesOnly (MayLeave S.Store behind) parts }
 {
     a_crash_leaves_what_was_committed::<S>();
 }

@@ -51,7 +51,7 @@ pub(crate) fn serve_over<F: Files + Net + Clock + AllocGlobal, L: Write + Drop, 
     depot: &mut D,
 ) -> Result<(), Failure>
     ensures served { OnOk result ((tables : TableFile) × AreGiven (Some path.now) tables
-        × AreServedFrom D.opens D.may_leave D.knows depot.old tables options.turns) }
+        × AreServedFrom D.opens D.says depot.old tables options.turns) }
     ensures refused { IfErr result (AreRefused (Some path.now)) }
 {
     match tables_and_revision(rt, path) {
@@ -140,7 +140,7 @@ fn serve_tables<N: Network + Drop, L: Write + Drop, S: TableSource + Drop, D: De
     exchange: Exchange<N, L, S>,
     options: Options,
 ) -> Result<(), Failure>
-    ensures served { OnOk result (AreServedFrom D.opens D.may_leave D.knows depot.old tables options.turns) }
+    ensures served { OnOk result (AreServedFrom D.opens D.says depot.old tables options.turns) }
     ensures refused { IfErr result IsOfDevices }
 {
     let Options { turns, listen } = options;

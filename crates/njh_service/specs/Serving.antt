@@ -5,10 +5,10 @@ use Rattle.njh_table.specs.TableFile.{TableFile}
 use Rattle.njh_hub.specs.Parts.{entries_of}
 use Rattle.njh_hub.specs.WholeHub.{Part, part_at_open}
 use Rattle.njh_turns.specs.Breaks.{ServiceBreaks}
-use Rattle.njh_turns.specs.Keeping.{KeptFile, IsSettled}
+use Rattle.njh_turns.specs.Keeping.{KeeperSays, KeptFile, IsSettled}
 use Rattle.njh_turns.specs.Service.{Happening, ArePossible, IsAttended, service_rounds}
-use Rattle.njh_turns.specs.Turns.{no_quiets}
-use Rattle.njh_turns.specs.Wires.{WireAct}
+use Rattle.njh_turns.specs.Turns.{hub_wires, moment, no_quiets}
+use Rattle.njh_turns.specs.Wires.{WireSays}
 use Rattle.njh_service.specs.declared.endpoints.Endpoint.{Endpoint}
 use Rattle.njh_service.specs.Endpoints.{endpoints_of, lines_of}
 use Rattle.njh_service.specs.Opened.{IsApart}
@@ -27,18 +27,17 @@ turn_count (Some turns) = turns
 
 -- So many turns of the lines were taken, each line on its own wire, and the hub was told of these, of new routes and of
 -- nothing else.
-pub record HasServed {W : Type 0} (passed : W → W → List WireAct → Type 0) (count : W → ℕ) (brings : Type 0)
-    (turns : ℕ) (old new : Served W) : Type 0 where
-  pub attended : IsAttended passed count brings old.lines turns old.hub old.quiets old.wires new.hub new.quiets
-      new.wires
+pub record HasServed {W : Type 0} (says : WireSays W) (brings : Type 0) (turns : ℕ)
+    (old new : Served W) : Type 0 where
+  pub attended : IsAttended says brings old.lines turns (moment old.hub old.quiets old.wires)
+      (moment new.hub new.quiets new.wires)
   pub lines : new.lines ≡ old.lines
 
 -- Such a service that the keeper's fault broke off.
-pub record IsBrokenOff {W K : Type 0} (passed : W → W → List WireAct → Type 0) (count : W → ℕ)
-    (withheld : W → W → Type 0) (may_leave : K → List (List KeptFile) → Type 0) (brings : Type 0) (turns : ℕ)
-    (old new : Served W) (new_keeper : K) : Type 0 where
-  pub breaks : ServiceBreaks passed count withheld may_leave brings old.lines turns old.hub old.quiets old.wires
-      new.hub new.wires new_keeper
+pub record IsBrokenOff {W : Type 0} (says : WireSays W) (may_leave : List (List KeptFile) → Type 0)
+    (brings : Type 0) (turns : ℕ) (old new : Served W) : Type 0 where
+  pub breaks : ServiceBreaks says may_leave brings old.lines turns (moment old.hub old.quiets old.wires)
+      (hub_wires new.hub new.wires)
   pub lines : new.lines ≡ old.lines
 
 -- A service that was just opened: a hub that was opened so, and these lines of it, no two on one port.
@@ -75,7 +74,6 @@ pub record AreServed (opened : List Part → Type 0) (tables : TableFile) (turns
 -- The hub was opened by this depot: with what was kept there, and nothing else could have been left of it then by a
 -- crash.
 abbrev pub AreServedFrom : {D : Type 0} → (D → D → TableFile → List Part → Type 0)
-    → (D → List (List KeptFile) → Type 0) → (D → List Part → Type 0) → D → TableFile → Option ℕ → Type 0
-AreServedFrom {D} opens may_leave knows depot tables turns =
-    (opened : D)
-    × AreServed (λ parts. opens depot opened tables parts × IsSettled may_leave knows opened parts) tables turns
+    → KeeperSays D → D → TableFile → Option ℕ → Type 0
+AreServedFrom {D} opens says depot tables turns =
+    (opened : D) × AreServed (λ parts. opens depot opened tables parts × IsSettled says opened parts) tables turns

@@ -46,11 +46,11 @@ impl<W: Wire + Drop, A: Attendant<W> + Drop> Service<W, A> {
     /// before a byte of that round goes out. `Err` if the keeper fails; nothing is read or
     /// written after that.
     pub fn run<K: Keeper>(&mut self, keeper: &mut K, turns: Option<u32>) -> Result<(), KeepFault>
-        requires settled { IsSettled K.may_leave K.knows keeper.old self.old.hub }
-        ensures served { OnOk result (HasServed W.passed W.count A.brings (turn_count turns) self.old self.new) }
-        ensures breaks { OnErr result (IsBrokenOff W.passed W.count W.withheld K.may_leave A.brings (turn_count turns)
-            self.old self.new keeper.new) }
-        ensures keeps { Keeps K.may_leave K.knows K.count keeper.old result self.new.hub keeper.new }
+        requires settled { IsSettled K.says keeper.old self.old.hub }
+        ensures served { OnOk result (HasServed W.says A.brings (turn_count turns) self.old self.new) }
+        ensures breaks { OnErr result (IsBrokenOff W.says (K.says.may_leave keeper.new) A.brings (turn_count turns)
+            self.old self.new) }
+        ensures keeps { Keeps K.says keeper.old result self.new.hub keeper.new }
     {
         let turns = turn_count(turns);
         attend(

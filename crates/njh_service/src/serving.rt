@@ -39,7 +39,7 @@ pub fn serve<N: Network + Drop, L: Write + Drop, S: TableSource + Drop, D: Depot
     address: IpAddr,
     turns: Option<u32>,
 ) -> Result<(), ServeFault>
-    ensures { OnOk result (AreServedFrom D.opens D.may_leave D.knows depot.old tables turns) }
+    ensures { OnOk result (AreServedFrom D.opens D.says depot.old tables turns) }
 {
     let mut service = service_on(alloc, depot, tables, exchange, address, turns.is_none())?;
     match service.run(depot, turns) {
@@ -66,7 +66,7 @@ pub fn service_on<N: Network + Drop, L: Write + Drop, S: TableSource + Drop, D: 
     needed: bool,
 ) -> Result<Service<LineWire<N::Connection>, Exchange<N, L, S>>, ServeFault>
     ensures opened { IfOk result (IsOpened (D.opens depot.old depot.new tables) tables) }
-    ensures settled { IfOk result (λ service. IsSettled D.may_leave D.knows depot.new service.hub) }
+    ensures settled { IfOk result (λ service. IsSettled D.says depot.new service.hub) }
 {
     match exchange.open_lines(alloc, &tables, address, needed) {
         Ok(endpoints) => service_of(alloc, depot, tables, &endpoints, exchange),
@@ -89,7 +89,7 @@ fn service_of<N: Network + Drop, L: Write + Drop, S: TableSource + Drop, D: Depo
     requires known { All (λ endpoint. HasLine tables endpoint.line) endpoints.now }
     requires apart { IsApart endpoints.now }
     ensures opened { IfOk result (IsOpenedOn (D.opens depot.old depot.new tables) endpoints.now) }
-    ensures settled { IfOk result (λ service. IsSettled D.may_leave D.knows depot.new service.hub) }
+    ensures settled { IfOk result (λ service. IsSettled D.says depot.new service.hub) }
 {
     match depot.open(alloc, tables) {
         Ok(hub) => service_over(alloc, hub, endpoints, exchange),

@@ -9,9 +9,10 @@ use Rattle.njh_hub.specs.WholeHub.{Part, hub_run}
 use Rattle.njh_turns.specs.Breaks.{ServiceBreaks, TurnsBreak}
 use Rattle.njh_turns.specs.Service.{Happening, Round, NewRoutes, IsAttended, IsBrought, service_events, service_quiets}
 use Rattle.njh_turns.specs.Service.{service_rounds, service_turns}
-use Rattle.njh_turns.specs.Turns.{Placed, HadTurns, IsServed, all_events, all_quiets, no_quiets, quiets_after}
-use Rattle.njh_turns.specs.Turns.{round_events, turn_at, turns_of}
-use Rattle.njh_turns.specs.Wires.{WireAct}
+use Rattle.njh_turns.specs.Turns.{Placed, HubMoment, HubWires, HadTurns, IsServed, all_events, all_quiets, hub_wires}
+use Rattle.njh_turns.specs.Turns.{moment}
+use Rattle.njh_turns.specs.Turns.{no_quiets, quiets_after, round_events, turn_at, turns_of}
+use Rattle.njh_turns.specs.Wires.{WireSays}
 
 rounds_events : (lines : List LineId) (quiets : List ℕ) (story : List Happening) → All (IsBrought ⊥) story →
     service_events lines quiets story ≡ all_events lines quiets (service_rounds story)
@@ -42,19 +43,18 @@ rounds_turns parts lines quiets i (NewRoutes c routes ∷ story) none =
     absurd (All-head (IsBrought ⊥) (NewRoutes c routes) story none)
 
 -- So many rounds, the first of which found no quiets.
-pub served_by : {S : Type 0} {passed : S → S → List WireAct → Type 0} {count : S → ℕ} {lines : List LineId} {turns : ℕ}
-    {parts : List Part} {wires : List S} {new : List Part} {new_quiets : List ℕ} {new_wires : List S} →
-    IsAttended passed count ⊥ lines turns parts (no_quiets lines) wires new new_quiets new_wires →
-    IsServed passed count lines turns parts wires new new_wires
-served_by {S} {passed} {count} {lines} {turns} {parts} {wires} {new} {new_quiets} {new_wires} a = record {
+pub served_by : {W : Type 0} {says : WireSays W} {lines : List LineId} {turns : ℕ} {before : HubWires W}
+    {after : HubMoment W} → IsAttended says ⊥ lines turns (moment before.parts (no_quiets lines) before.wires) after →
+    IsServed says lines turns before (hub_wires after.parts after.wires)
+served_by {W} {says} {lines} {turns} {before} {after} a = record {
   rounds = service_rounds a.story;
   many = a.many;
   each = a.each;
-  hub = a.hub ∙ ap (λ (es : List Event). (hub_run parts es).parts)
+  hub = a.hub ∙ ap (λ (es : List Event). (hub_run before.parts es).parts)
       (rounds_events lines (no_quiets lines) a.story a.brought);
   had = λ i d within.
-      let P : List Placed → Type 0 = λ ps. HadTurns passed count ps (get_or wires i d) (get_or new_wires i d) in
-      subst P (rounds_turns parts lines (no_quiets lines) i a.story a.brought) (a.had i d within);
+      let P : List Placed → Type 0 = λ ps. HadTurns says ps (get_or before.wires i d) (get_or after.wires i d) in
+      subst P (rounds_turns before.parts lines (no_quiets lines) i a.story a.brought) (a.had i d within);
 }
 
 -- The first can't be.
@@ -63,51 +63,42 @@ second_of (inl a) never = absurd (never a)
 second_of (inr b) never = b
 
 -- One of them was broken off.
-pub turns_break : {S K : Type 0} {passed : S → S → List WireAct → Type 0} {count : S → ℕ} {withheld : S → S → Type 0}
-    {may_leave : K → List (List KeptFile) → Type 0} {lines : List LineId} {turns : ℕ} {parts : List Part}
-    {wires : List S}
-    {new : List Part} {new_wires : List S} {keeper : K} →
-    ServiceBreaks passed count withheld may_leave ⊥ lines turns parts (no_quiets lines) wires new new_wires keeper →
-    TurnsBreak passed count withheld may_leave lines turns parts wires new new_wires keeper
+pub turns_break : {W : Type 0} {says : WireSays W} {may_leave : List (List KeptFile) → Type 0} {lines : List LineId}
+    {turns : ℕ} {before after : HubWires W} →
+    ServiceBreaks says may_leave ⊥ lines turns (moment before.parts (no_quiets lines) before.wires) after →
+    TurnsBreak says may_leave lines turns before after
 unfolding served_by
-turns_break {S} {K} {passed} {count} {withheld} {may_leave} {lines} {turns} {parts} {wires} {new} {new_wires} {keeper}
-    b = record {
-      rounds = b.rounds;
-      fewer = b.fewer;
-      mid = b.mid;
-      mid_quiets = b.mid_quiets;
-      mid_wires = b.mid_wires;
-      before = served_by b.before;
-      calm = b.before.calm ∙ rounds_quiets (no_quiets lines) b.before.story b.before.brought;
-      breaks = second_of b.breaks (λ brought. brought.0);
-    }
+turns_break {W} {says} {may_leave} {lines} {turns} {before} {after} b = record {
+  rounds = b.rounds;
+  fewer = b.fewer;
+  mid = b.mid;
+  served = served_by {before = before} b.attended;
+  calm = b.attended.calm ∙ rounds_quiets (no_quiets lines) b.attended.story b.attended.brought;
+  breaks = second_of b.breaks (λ brought. brought.0);
+}
 
 -- ---- of a call
 
 -- the lines, the quiets and the number of rounds that the call was given
-pub served_so : {S : Type 0} (passed : S → S → List WireAct → Type 0) (count : S → ℕ) (served lines : List LineId)
-    (quiets : List ℕ) (rounds turns : ℕ) (parts : List Part) (wires : List S) (new : List Part) (new_quiets : List ℕ)
-    (new_wires : List S) → served ≡ lines → quiets ≡ no_quiets lines → rounds ≡ turns →
-    IsAttended passed count ⊥ served rounds parts quiets wires new new_quiets new_wires →
-    IsServed passed count lines turns parts wires new new_wires
-served_so {S} passed count served lines quiets rounds turns parts wires new new_quiets new_wires same calm many a =
-    let P : List LineId → Type 0 = λ ls. IsAttended passed count ⊥ ls rounds parts quiets wires new new_quiets
-    new_wires in
-    let Q : List ℕ → Type 0 = λ qs. IsAttended passed count ⊥ lines rounds parts qs wires new new_quiets new_wires in
-    let R : ℕ → Type 0 = λ n. IsServed passed count lines n parts wires new new_wires in
-    subst R many (served_by (subst Q calm (subst P same a)))
+pub served_so : {W : Type 0} (says : WireSays W) {served lines : List LineId} {quiets : List ℕ} {rounds turns : ℕ}
+    {parts : List Part} {wires : List W} {after : HubMoment W} →
+    IsAttended says ⊥ served rounds (moment parts quiets wires) after →
+    served ≡ lines → quiets ≡ no_quiets lines → rounds ≡ turns →
+    IsServed says lines turns (hub_wires parts wires) (hub_wires after.parts after.wires)
+served_so {W} says {served} {lines} {quiets} {rounds} {turns} {parts} {wires} {after} a same calm many =
+    let P : List LineId → Type 0 = λ ls. IsAttended says ⊥ ls rounds (moment parts quiets wires) after in
+    let Q : List ℕ → Type 0 = λ qs. IsAttended says ⊥ lines rounds (moment parts qs wires) after in
+    let R : ℕ → Type 0 = λ n. IsServed says lines n (hub_wires parts wires) (hub_wires after.parts after.wires) in
+    subst R many (served_by {before = hub_wires parts wires} (subst Q calm (subst P same a)))
 
-pub break_so : {S K : Type 0} (passed : S → S → List WireAct → Type 0) (count : S → ℕ) (withheld : S → S → Type 0)
-    (may_leave : K → List (List KeptFile) → Type 0) (served lines : List LineId) (quiets : List ℕ) (rounds turns : ℕ)
-    (parts : List Part) (wires : List S) (new : List Part) (new_wires : List S) (keeper : K) → served ≡ lines →
-    quiets ≡ no_quiets lines → rounds ≡ turns →
-    ServiceBreaks passed count withheld may_leave ⊥ served rounds parts quiets wires new new_wires keeper →
-    TurnsBreak passed count withheld may_leave lines turns parts wires new new_wires keeper
-break_so {S} {K} passed count withheld may_leave served lines quiets rounds turns parts wires new new_wires keeper same
-    calm many b =
-    let P : List LineId → Type 0 = λ ls. ServiceBreaks passed count withheld may_leave ⊥ ls rounds parts quiets wires
-    new new_wires keeper in
-    let Q : List ℕ → Type 0 = λ qs. ServiceBreaks passed count withheld may_leave ⊥ lines rounds parts qs wires new
-    new_wires keeper in
-    let R : ℕ → Type 0 = λ n. TurnsBreak passed count withheld may_leave lines n parts wires new new_wires keeper in
-    subst R many (turns_break (subst Q calm (subst P same b)))
+pub break_so : {W : Type 0} (says : WireSays W) {may_leave : List (List KeptFile) → Type 0}
+    {served lines : List LineId} {quiets : List ℕ} {rounds turns : ℕ} {parts : List Part} {wires : List W}
+    {after : HubWires W} →
+    ServiceBreaks says may_leave ⊥ served rounds (moment parts quiets wires) after →
+    served ≡ lines → quiets ≡ no_quiets lines → rounds ≡ turns →
+    TurnsBreak says may_leave lines turns (hub_wires parts wires) after
+break_so {W} says {may_leave} {served} {lines} {quiets} {rounds} {turns} {parts} {wires} {after} b same calm many =
+    let P : List LineId → Type 0 = λ ls. ServiceBreaks says may_leave ⊥ ls rounds (moment parts quiets wires) after in
+    let Q : List ℕ → Type 0 = λ qs. ServiceBreaks says may_leave ⊥ lines rounds (moment parts qs wires) after in
+    let R : ℕ → Type 0 = λ n. TurnsBreak says may_leave lines n (hub_wires parts wires) after in
+    subst R many (turns_break {before = hub_wires parts wires} (subst Q calm (subst P same b)))

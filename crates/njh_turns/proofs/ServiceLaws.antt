@@ -16,9 +16,10 @@ use Rattle.njh_turns.specs.Service.{service_rounds, service_turns, AreStill, IsA
 use Rattle.std.specs.List.{flat_map}
 use Rattle.njh_hub.specs.WholeHub.{Part, HubRun, part, hub_run}
 use Rattle.njh_hub.proofs.RunningLaws.{hub_run-append, routes_done}
-use Rattle.njh_turns.specs.Turns.{Turn, Placed, HadTurn, HadTurns, IsRound, turn_at, placed_acts, quiets_after}
+use Rattle.njh_turns.specs.Turns.{Turn, Placed, HubMoment, HadTurn, HadTurns, IsRound, moment, turn_at, placed_acts}
+use Rattle.njh_turns.specs.Turns.{quiets_after}
 use Rattle.njh_turns.specs.Turns.{round_events}
-use Rattle.njh_turns.specs.Wires.{WireAct}
+use Rattle.njh_turns.specs.Wires.{WireAct, WireSays}
 use Rattle.njh_turns.proofs.RoundLaws.{had_more}
 use Rattle.njh_turns.proofs.TurnLaws.{counted_on}
 
@@ -99,28 +100,22 @@ service_rounds-more story more =
 -- ---- a service that came so far
 
 -- What `IsAttended` says, whatever the number of its rounds.
-pub record IsAt {S : Type 0} (passed : S → S → List WireAct → Type 0) (count : S → ℕ) (brings : Type 0)
-    (lines : List LineId)
-    (parts : List Part) (quiets : List ℕ) (wires : List S) (story : List Happening) (now : List Part)
-    (now_quiets : List ℕ)
-    (now_wires : List S) : Type 0 where
+pub record IsAt {W : Type 0} (says : WireSays W) (brings : Type 0) (lines : List LineId) (first : HubMoment W)
+    (story : List Happening) (now : HubMoment W) : Type 0 where
   pub each : All (λ round. length round ≡ length lines) (service_rounds story)
-  pub possible : ArePossible parts lines quiets story
+  pub possible : ArePossible first.parts lines first.quiets story
   pub brought : All (IsBrought brings) story
-  pub hub : now ≡ (hub_run parts (service_events lines quiets story)).parts
-  pub calm : now_quiets ≡ service_quiets quiets story
-  pub had : (i : ℕ) (d : S) → i < length lines →
-      HadTurns passed count (service_turns parts lines quiets i story) (get_or wires i d) (get_or now_wires i d)
+  pub hub : now.parts ≡ (hub_run first.parts (service_events lines first.quiets story)).parts
+  pub calm : now.quiets ≡ service_quiets first.quiets story
+  pub had : (i : ℕ) (d : W) → i < length lines →
+      HadTurns says (service_turns first.parts lines first.quiets i story) (get_or first.wires i d)
+      (get_or now.wires i d)
 
 -- what is said of it where so many of its happenings are rounds
-pub attended_at : {S : Type 0} (passed : S → S → List WireAct → Type 0) (count : S → ℕ) (brings : Type 0)
-    (lines : List LineId) (parts : List Part)
-    (quiets : List ℕ) (wires : List S) (story : List Happening) (now : List Part) (now_quiets : List ℕ)
-    (now_wires : List S)
-    {turns : ℕ} → length (service_rounds story) ≡ turns →
-    IsAt passed count brings lines parts quiets wires story now now_quiets now_wires →
-    IsAttended passed count brings lines turns parts quiets wires now now_quiets now_wires
-attended_at passed count brings lines parts quiets wires story now now_quiets now_wires many h = record {
+pub attended_at : {W : Type 0} {says : WireSays W} {brings : Type 0} {lines : List LineId} {first now : HubMoment W}
+    {story : List Happening} {turns : ℕ} → IsAt says brings lines first story now →
+    length (service_rounds story) ≡ turns → IsAttended says brings lines turns first now
+attended_at {W} {says} {brings} {lines} {first} {now} {story} h many = record {
   story = story;
   many = many;
   each = h.each;
@@ -131,59 +126,51 @@ attended_at passed count brings lines parts quiets wires story now now_quiets no
   had = h.had;
 }
 
-pub at_first : {S : Type 0} (passed : S → S → List WireAct → Type 0) (count : S → ℕ) (brings : Type 0)
-    (lines : List LineId) (parts : List Part)
-    (quiets : List ℕ) (wires : List S) → ((s : S) → passed s s [])
-    → IsAt passed count brings lines parts quiets wires [] parts quiets wires
-at_first passed count brings lines parts quiets wires none = record {
+pub at_first : {W : Type 0} (says : WireSays W) (brings : Type 0) (lines : List LineId) (first : HubMoment W) →
+    ((s : W) → says.passed s s []) → IsAt says brings lines first [] first
+at_first says brings lines first none = record {
   each = λ k d never. absurd (omega (arith, never));
   possible = tt;
   brought = λ k d never. absurd (omega (arith, never));
   hub = refl;
   calm = refl;
   had = λ i d within. record {
-    acts = none (get_or wires i d);
+    acts = none (get_or first.wires i d);
     stops = λ k e never. absurd (omega (arith, never));
     counts = omega arith;
     counted = λ k e never. absurd (omega (arith, never));
   };
 }
 
-had_still : {S : Type 0} (passed : S → S → List WireAct → Type 0) (count : S → ℕ) (turns : List Placed) (a b c : S) →
-    ((a b c : S) (xs ys : List WireAct) → passed a b xs → passed b c ys → passed a c (xs ++ ys)) →
-    HadTurns passed count turns a b → passed b c [] → count b ≤ count c → HadTurns passed count turns a c
-had_still {S} passed count turns a b c more h still counts =
+had_still : {W : Type 0} (says : WireSays W) (turns : List Placed) (a b c : W) →
+    ((a b c : W) (xs ys : List WireAct) → says.passed a b xs → says.passed b c ys → says.passed a c (xs ++ ys)) →
+    HadTurns says turns a b → says.passed b c [] → says.count b ≤ says.count c → HadTurns says turns a c
+had_still {W} says turns a b c more h still counts =
     let acts : List WireAct = flat_map placed_acts turns in
     record {
-      acts = subst (λ (xs : List WireAct). passed a c xs) (append-nil acts) (more a b c acts [] h.acts still);
+      acts = subst (λ (xs : List WireAct). says.passed a c xs) (append-nil acts) (more a b c acts [] h.acts still);
       stops = h.stops;
       counts = omega (arith, h.counts, counts);
-      counted = λ k d within fault. counted_on (count a) (count b) (count c) h.counts counts
+      counted = λ k d within fault. counted_on (says.count a) (says.count b) (says.count c) h.counts counts
           (h.counted k d within fault);
     }
 
 -- wires on which nothing passed
-pub at_still : {S : Type 0} (passed : S → S → List WireAct → Type 0) (count : S → ℕ) (brings : Type 0)
-    (lines : List LineId) (parts : List Part)
-    (quiets : List ℕ) (wires : List S) (story : List Happening) (now : List Part) (now_quiets : List ℕ)
-    (now_wires new_wires : List S) →
-    ((a b c : S) (xs ys : List WireAct) → passed a b xs → passed b c ys → passed a c (xs ++ ys)) →
-    length now_wires ≡ length lines →
-    IsAt passed count brings lines parts quiets wires story now now_quiets now_wires
-    → AreStill passed count now_wires new_wires →
-    IsAt passed count brings lines parts quiets wires story now now_quiets new_wires
-at_still passed count brings lines parts quiets wires story now now_quiets now_wires new_wires more same h still =
-    record {
-      each = h.each;
-      possible = h.possible;
-      brought = h.brought;
-      hub = h.hub;
-      calm = h.calm;
-      had = λ i d within. had_still passed count (service_turns parts lines quiets i story) (get_or wires i d)
-          (get_or now_wires i d)
-          (get_or new_wires i d) more (h.had i d within) (still.passed_none i d (omega (arith, same, within)))
-          (still.counts i d (omega (arith, same, within)));
-    }
+pub at_still : {W : Type 0} {says : WireSays W} {brings : Type 0} {lines : List LineId} {first now : HubMoment W}
+    {story : List Happening} (new_wires : List W) → IsAt says brings lines first story now →
+    ((a b c : W) (xs ys : List WireAct) → says.passed a b xs → says.passed b c ys → says.passed a c (xs ++ ys)) →
+    length now.wires ≡ length lines → AreStill says.passed says.count now.wires new_wires →
+    IsAt says brings lines first story (moment now.parts now.quiets new_wires)
+at_still {W} {says} {brings} {lines} {first} {now} {story} new_wires h more same still = record {
+  each = h.each;
+  possible = h.possible;
+  brought = h.brought;
+  hub = h.hub;
+  calm = h.calm;
+  had = λ i d within. had_still says (service_turns first.parts lines first.quiets i story) (get_or first.wires i d)
+      (get_or now.wires i d) (get_or new_wires i d) more (h.had i d within)
+      (still.passed_none i d (omega (arith, same, within))) (still.counts i d (omega (arith, same, within)));
+}
 
 -- the happening, if any, of new routes
 abbrev pub with_given : List Happening → Option (ℕ × List GivenRoute) → List Happening
@@ -196,15 +183,11 @@ rounds-with_given story None = refl
 rounds-with_given story (Some given) = service_rounds-more story (NewRoutes given.0 given.1)
     ∙ append-nil (service_rounds story)
 
-pub at_given : {S : Type 0} (passed : S → S → List WireAct → Type 0) (count : S → ℕ) (brings : Type 0)
-    (lines : List LineId) (parts : List Part)
-    (quiets : List ℕ) (wires : List S) (story : List Happening) (now : List Part) (now_quiets : List ℕ)
-    (now_wires : List S)
-    (given : Option (ℕ × List GivenRoute)) (new : List Part) →
-    IsAt passed count brings lines parts quiets wires story now now_quiets now_wires → IsGiven now given new
-    → (IsSome given → brings) →
-    IsAt passed count brings lines parts quiets wires (with_given story given) new now_quiets now_wires
-at_given passed count brings lines parts quiets wires story now now_quiets now_wires None new h done from = record {
+pub at_given : {W : Type 0} {says : WireSays W} {brings : Type 0} {lines : List LineId} {first now : HubMoment W}
+    {story : List Happening} (given : Option (ℕ × List GivenRoute)) (new : List Part) →
+    IsAt says brings lines first story now → IsGiven now.parts given new → (IsSome given → brings) →
+    IsAt says brings lines first (with_given story given) (moment new now.quiets now.wires)
+at_given None new h done from = record {
   each = h.each;
   possible = h.possible;
   brought = h.brought;
@@ -212,57 +195,52 @@ at_given passed count brings lines parts quiets wires story now now_quiets now_w
   calm = h.calm;
   had = h.had;
 }
-at_given {S} passed count brings lines parts quiets wires story now now_quiets now_wires (Some given) new h done from =
+at_given {W} {says} {brings} {lines} {first} {now} {story} (Some given) new h done from =
     let more = NewRoutes given.0 given.1 in
     let P : List (List Turn) → Type 0 = λ rounds. All (λ round. length round ≡ length lines) rounds in
     record {
       each = subst P (sym (rounds-with_given story (Some given))) h.each;
-      possible = possible-more parts lines quiets story more h.possible
+      possible = possible-more first.parts lines first.quiets story more h.possible
           (subst (λ (ps : List Part). IsPossible ps more) h.hub done.0);
       brought = All-push (IsBrought brings) story more h.brought (from refl);
       hub = done.1 ∙ ap (λ (ps : List Part). (hub_run ps (Routes given.0 given.1 ∷ [])).parts) h.hub
-          ∙ sym (parts_after-more parts lines quiets story more);
-      calm = h.calm ∙ sym (service_quiets-more quiets story more);
+          ∙ sym (parts_after-more first.parts lines first.quiets story more);
+      calm = h.calm ∙ sym (service_quiets-more first.quiets story more);
       had = λ i d within.
-          let Q : List Placed → Type 0 = λ ps. HadTurns passed count ps (get_or wires i d) (get_or now_wires i d) in
-          subst Q (sym (service_turns-more parts lines quiets i story more
-          ∙ append-nil (service_turns parts lines quiets i story)))
+          let Q : List Placed → Type 0 = λ ps. HadTurns says ps (get_or first.wires i d) (get_or now.wires i d) in
+          subst Q (sym (service_turns-more first.parts lines first.quiets i story more
+          ∙ append-nil (service_turns first.parts lines first.quiets i story)))
           (h.had i d within);
     }
 
-pub at_round : {S : Type 0} (passed : S → S → List WireAct → Type 0) (count : S → ℕ) (brings : Type 0)
-    (lines : List LineId) (parts : List Part)
-    (quiets : List ℕ) (wires : List S) (story : List Happening) (now : List Part) (now_quiets : List ℕ)
-    (now_wires : List S)
-    (round : List Turn) (new : List Part) (new_quiets : List ℕ) (new_wires : List S) →
-    ((a b c : S) (xs ys : List WireAct) → passed a b xs → passed b c ys → passed a c (xs ++ ys)) →
-    IsAt passed count brings lines parts quiets wires story now now_quiets now_wires → length round ≡ length lines →
-    IsRound passed count lines now now_quiets now_wires round new new_quiets new_wires →
-    IsAt passed count brings lines parts quiets wires (story ++ Round round ∷ []) new new_quiets new_wires
-at_round {S} passed count brings lines parts quiets wires story now now_quiets now_wires round new new_quiets new_wires
-    more h whole r =
-    let led = (hub_run parts (service_events lines quiets story)).parts in
-    let quieter = service_quiets quiets story in
+pub at_round : {W : Type 0} {says : WireSays W} {brings : Type 0} {lines : List LineId} {first now new : HubMoment W}
+    {story : List Happening} {round : List Turn} → IsAt says brings lines first story now →
+    ((a b c : W) (xs ys : List WireAct) → says.passed a b xs → says.passed b c ys → says.passed a c (xs ++ ys)) →
+    length round ≡ length lines → IsRound says lines now round new →
+    IsAt says brings lines first (story ++ Round round ∷ []) new
+at_round {W} {says} {brings} {lines} {first} {now} {new} {story} {round} h more whole r =
+    let led = (hub_run first.parts (service_events lines first.quiets story)).parts in
+    let quieter = service_quiets first.quiets story in
     let P : List (List Turn) → Type 0 = λ rounds. All (λ round. length round ≡ length lines) rounds in
     record {
       each = subst P (sym (service_rounds-more story (Round round)))
           (All-push (λ round. length round ≡ length lines) (service_rounds story) round h.each whole);
-      possible = possible-more parts lines quiets story (Round round) h.possible tt;
+      possible = possible-more first.parts lines first.quiets story (Round round) h.possible tt;
       brought = All-push (IsBrought brings) story (Round round) h.brought tt;
-      hub = r.hub ∙ ap (λ (ps : List Part). (hub_run ps (round_events lines now_quiets round)).parts) h.hub
+      hub = r.hub ∙ ap (λ (ps : List Part). (hub_run ps (round_events lines now.quiets round)).parts) h.hub
           ∙ ap (λ (qs : List ℕ). (hub_run led (round_events lines qs round)).parts) h.calm
-          ∙ sym (parts_after-more parts lines quiets story (Round round));
+          ∙ sym (parts_after-more first.parts lines first.quiets story (Round round));
       calm = r.calm ∙ ap (λ (qs : List ℕ). quiets_after qs round) h.calm
-          ∙ sym (service_quiets-more quiets story (Round round));
+          ∙ sym (service_quiets-more first.quiets story (Round round));
       had = λ i d within.
-          let Q : Placed → Type 0 = λ p. HadTurn passed count p (get_or now_wires i d) (get_or new_wires i d) in
-          let place : turn_at now lines now_quiets i round ≡ turn_at led lines quieter i round =
-          ap (λ (ps : List Part). turn_at ps lines now_quiets i round) h.hub
+          let Q : Placed → Type 0 = λ p. HadTurn says p (get_or now.wires i d) (get_or new.wires i d) in
+          let place : turn_at now.parts lines now.quiets i round ≡ turn_at led lines quieter i round =
+          ap (λ (ps : List Part). turn_at ps lines now.quiets i round) h.hub
           ∙ ap (λ (qs : List ℕ). turn_at led lines qs i round) h.calm in
-          let R : List Placed → Type 0 = λ ps. HadTurns passed count ps (get_or wires i d) (get_or new_wires i d) in
-          subst R (sym (service_turns-more parts lines quiets i story (Round round)))
-          (had_more passed count (service_turns parts lines quiets i story) (turn_at led lines quieter i round)
-          (get_or wires i d) (get_or now_wires i d) (get_or new_wires i d) more (h.had i d within)
+          let R : List Placed → Type 0 = λ ps. HadTurns says ps (get_or first.wires i d) (get_or new.wires i d) in
+          subst R (sym (service_turns-more first.parts lines first.quiets i story (Round round)))
+          (had_more says (service_turns first.parts lines first.quiets i story) (turn_at led lines quieter i round)
+          (get_or first.wires i d) (get_or now.wires i d) (get_or new.wires i d) more (h.had i d within)
           (subst Q place (r.had i d (omega (arith, whole, within)))));
     }
 

@@ -10,7 +10,7 @@ use Rattle.njh_turns.specs.declared.wire_reading.Reading.{Reading}
 use Rattle.njh_turns.specs.declared.wire_reading.Reading.TheVariants as reading
 use Rattle.njh_turns.specs.declared.wire_reading.WireFault.{WireFault}
 use Rattle.njh_turns.specs.Turns.{IsTurn, IsHeard, wire_event, written_where}
-use Rattle.njh_turns.specs.Wires.{Failed, heard_of, WireAct, answer_acts}
+use Rattle.njh_turns.specs.Wires.{Failed, heard_of, WireAct, answer_acts, WireSays, hub_wire}
 
 -- an answer that is a failure is a fault
 pub failed-err : {P : Type 0} (answer : Result Reading WireFault) (buffer : List ℕ) → heard_of answer buffer ≡ Failed
@@ -31,23 +31,25 @@ counted_on before now after first then c =
     (cases_lt now after)) c
 
 -- a turn of a read and of what came of its answer
-pub read_turn : {S : Type 0} (passed : S → S → List WireAct → Type 0) (count : S → ℕ) (parts new : List Part)
+pub read_turn : {S : Type 0} (says : WireSays S) (parts new : List Part)
     (id : LineId)
     (quiet : ℕ) (answer : Result Reading WireFault) (buffer : List ℕ) (cut : Option ℕ) (wire read new_wire : S) →
-    ((a b c : S) (xs ys : List WireAct) → passed a b xs → passed b c ys → passed a c (xs ++ ys)) →
-    passed wire read (answer_acts (heard_of answer buffer)) → count wire ≤ count read →
-    OnErr answer (IsCounted (count wire) (count read)) →
-    IsHeard passed count parts (wire_event id quiet (heard_of answer buffer)) cut read new new_wire →
-    IsTurn passed count parts id quiet (record { heard = heard_of answer buffer; cut = cut }) wire new new_wire
-read_turn passed count parts new id quiet answer buffer cut wire read new_wire more answered counts counted h = record {
+    ((a b c : S) (xs ys : List WireAct) → says.passed a b xs → says.passed b c ys → says.passed a c (xs ++ ys)) →
+    says.passed wire read (answer_acts (heard_of answer buffer)) → says.count wire ≤ says.count read →
+    OnErr answer (IsCounted (says.count wire) (says.count read)) →
+    IsHeard says (hub_wire parts read) (wire_event id quiet (heard_of answer buffer)) cut (hub_wire new new_wire) →
+    IsTurn says id quiet (hub_wire parts wire) (record { heard = heard_of answer buffer; cut = cut })
+    (hub_wire new new_wire)
+read_turn says parts new id quiet answer buffer cut wire read new_wire more answered counts counted h = record {
   hub = h.hub;
   acts = more wire read new_wire (answer_acts (heard_of answer buffer))
       (written_where parts cut (wire_event id quiet (heard_of answer buffer)))
       answered h.acts;
   stop = h.stop;
   counts = omega (arith, counts, h.counts);
-  counted = λ fault. ⊎_elim (λ (w : heard_of answer buffer ≡ Failed). counted_on (count wire) (count read)
-      (count new_wire) counts
+  counted = λ fault. ⊎_elim (λ (w : heard_of answer buffer ≡ Failed). counted_on (says.count wire) (says.count read)
+      (says.count new_wire) counts
       h.counts (failed-err answer buffer w counted))
-      (λ (w : IsSome cut). counted_from (count wire) (count read) (count new_wire) counts (h.counted w)) fault;
+      (λ (w : IsSome cut). counted_from (says.count wire) (says.count read) (says.count new_wire) counts
+      (h.counted w)) fault;
 }

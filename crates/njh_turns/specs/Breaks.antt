@@ -12,9 +12,11 @@ use Rattle.njh_hub.specs.WholeHub.{Part, IsNamed, hub_run}
 use Rattle.njh_hub.specs.Cuts.{SendsAt, cut_to, run_until}
 use Rattle.njh_turns.specs.Keeping.{KeptFile, LeavesEither, LeavesOnly}
 use Rattle.njh_turns.specs.Service.{IsAttended}
-use Rattle.njh_turns.specs.Turns.{Turn, IsRound, IsServed, all_quiets, no_line_id, no_quiets, wire_event}
+use Rattle.njh_turns.specs.Turns.{Turn, HubMoment, HubWires, IsRound, IsServed, all_quiets, hub_wires, moment}
+use Rattle.njh_turns.specs.Turns.{no_line_id}
+use Rattle.njh_turns.specs.Turns.{no_quiets, wire_event}
 use Rattle.njh_turns.specs.Wires.{Heard, Failed, WireAct, answer_acts, heard_events, sent_act}
-use Rattle.njh_turns.specs.Wires.{write_acts}
+use Rattle.njh_turns.specs.Wires.{write_acts, WireSays, HubWire, hub_wire}
 
 -- ---- an event of a wire
 
@@ -47,13 +49,13 @@ IsAtLoss (AtStep before behind) = ⊥
 IsAtLoss (AtLoss cut) = ⊤
 
 -- The keeper failed at a step of an event of a wire.
-pub record EventBreaks {S : Type 0} (passed : S → S → List WireAct → Type 0) (count : S → ℕ) (parts : List Part)
-    (event : Event) (break : Break) (wire : S) (new : List Part) (new_wire : S) : Type 0 where
-  pub hub : new ≡ (hub_run parts (events_behind break event)).parts
-  pub acts : passed wire new_wire (acts_before parts break event)
-  pub stop : IsBreak parts break event
-  pub counts : count wire ≤ count new_wire
-  pub counted : IsAtLoss break → IsCounted (count wire) (count new_wire)
+pub record EventBreaks {W : Type 0} (says : WireSays W) (before : HubWire W) (event : Event) (break : Break)
+    (after : HubWire W) : Type 0 where
+  pub hub : after.parts ≡ (hub_run before.parts (events_behind break event)).parts
+  pub acts : says.passed before.wire after.wire (acts_before before.parts break event)
+  pub stop : IsBreak before.parts break event
+  pub counts : says.count before.wire ≤ says.count after.wire
+  pub counted : IsAtLoss break → IsCounted (says.count before.wire) (says.count after.wire)
 
 -- ---- a turn
 
@@ -63,90 +65,80 @@ pub record BrokenTurn : Type 0 where
   pub event : Event
   pub break : Break
 
-pub record TurnBreaks {S : Type 0} (passed : S → S → List WireAct → Type 0) (count : S → ℕ) (parts : List Part)
-    (id : LineId) (quiet : ℕ) (turn : BrokenTurn) (wire : S) (new : List Part) (new_wire : S) : Type 0 where
+pub record TurnBreaks {W : Type 0} (says : WireSays W) (id : LineId) (quiet : ℕ) (before : HubWire W)
+    (turn : BrokenTurn) (after : HubWire W) : Type 0 where
   pub told : wire_event id quiet turn.heard ≡ Some turn.event
-  pub hub : new ≡ (hub_run parts (events_behind turn.break turn.event)).parts
-  pub acts : passed wire new_wire (answer_acts turn.heard ++ acts_before parts turn.break turn.event)
-  pub stop : IsBreak parts turn.break turn.event
-  pub counts : count wire ≤ count new_wire
-  pub counted : (turn.heard ≡ Failed) ⊎ IsAtLoss turn.break → IsCounted (count wire) (count new_wire)
+  pub hub : after.parts ≡ (hub_run before.parts (events_behind turn.break turn.event)).parts
+  pub acts : says.passed before.wire after.wire
+      (answer_acts turn.heard ++ acts_before before.parts turn.break turn.event)
+  pub stop : IsBreak before.parts turn.break turn.event
+  pub counts : says.count before.wire ≤ says.count after.wire
+  pub counted : (turn.heard ≡ Failed) ⊎ IsAtLoss turn.break
+      → IsCounted (says.count before.wire) (says.count after.wire)
 
 -- ---- a round
 
 -- no byte went out of any of these wires
-abbrev pub AreWithheld : {S : Type 0} → (S → S → Type 0) → (wires new_wires : List S) → Type 0
-AreWithheld {S} withheld wires new_wires =
-    (i : ℕ) (d : S) → withheld (slice_index_or wires i d) (slice_index_or new_wires i d)
+abbrev pub AreWithheld : {W : Type 0} → WireSays W → (wires new_wires : List W) → Type 0
+AreWithheld {W} says wires new_wires =
+    (i : ℕ) (d : W) → says.withheld (slice_index_or wires i d) (slice_index_or new_wires i d)
 
 -- The first wires of a round had these turns, the next one's was broken off, and nothing passed on the others.
-pub record RoundStops {S : Type 0} (passed : S → S → List WireAct → Type 0) (count : S → ℕ) (lines : List LineId)
-    (parts : List Part) (quiets : List ℕ) (wires : List S) (new : List Part) (new_wires : List S) : Type 0 where
+pub record RoundStops {W : Type 0} (says : WireSays W) (lines : List LineId) (before : HubMoment W)
+    (after : HubWires W) : Type 0 where
   pub turns : List Turn
-  pub mid : List Part
-  pub mid_quiets : List ℕ
-  pub mid_wires : List S
-  pub before : IsRound passed count lines parts quiets wires turns mid mid_quiets mid_wires
+  pub mid : HubMoment W
+  pub had : IsRound says lines before turns mid
   pub within : length turns < length lines
   pub turn : BrokenTurn
-  pub new_wire : S
-  pub breaks : (d : S) → TurnBreaks passed count mid (slice_index_or lines (length turns) no_line_id)
-      (slice_index_or mid_quiets (length turns) 0) turn (slice_index_or mid_wires (length turns) d) new new_wire
-  pub wires_left : new_wires ≡ slice_set mid_wires (length turns) new_wire
+  pub new_wire : W
+  pub breaks : (d : W) → TurnBreaks says (slice_index_or lines (length turns) no_line_id)
+      (slice_index_or mid.quiets (length turns) 0) (hub_wire mid.parts (slice_index_or mid.wires (length turns) d)) turn
+      (hub_wire after.parts new_wire)
+  pub wires_left : after.wires ≡ slice_set mid.wires (length turns) new_wire
 
 -- All wires of a round had their turns, and what these made of the files could not be kept.
-pub record IsUnkept {S : Type 0} (passed : S → S → List WireAct → Type 0) (count : S → ℕ) (lines : List LineId)
-    (parts : List Part) (quiets : List ℕ) (wires : List S) (new : List Part) (new_wires : List S) : Type 0 where
+pub record IsUnkept {W : Type 0} (says : WireSays W) (lines : List LineId) (before : HubMoment W)
+    (after : HubWires W) : Type 0 where
   pub turns : List Turn
   pub whole : length turns ≡ length lines
   pub new_quiets : List ℕ
-  pub round : IsRound passed count lines parts quiets wires turns new new_quiets new_wires
+  pub round : IsRound says lines before turns (moment after.parts new_quiets after.wires)
 
 -- The keeper failed in a round: in one of its turns, and then a crash leaves what the hub had before the round; or
 -- behind them, and then it leaves that or what the hub has behind the round. No byte of the round went out.
-pub record RoundBreaks {S K : Type 0} (passed : S → S → List WireAct → Type 0) (count : S → ℕ)
-    (withheld : S → S → Type 0) (may_leave : K → List (List KeptFile) → Type 0) (lines : List LineId)
-    (parts : List Part) (quiets : List ℕ) (wires : List S) (new : List Part) (new_wires : List S)
-    (new_keeper : K) : Type 0 where
-  pub breaks : (RoundStops passed count lines parts quiets wires new new_wires × LeavesOnly may_leave new_keeper parts)
-      ⊎ (IsUnkept passed count lines parts quiets wires new new_wires
-      × LeavesEither may_leave new_keeper parts new)
-  pub none_out : AreWithheld withheld wires new_wires
+pub record RoundBreaks {W : Type 0} (says : WireSays W) (may_leave : List (List KeptFile) → Type 0)
+    (lines : List LineId) (before : HubMoment W) (after : HubWires W) : Type 0 where
+  pub breaks : (RoundStops says lines before after × LeavesOnly may_leave before.parts)
+      ⊎ (IsUnkept says lines before after × LeavesEither may_leave before.parts after.parts)
+  pub none_out : AreWithheld says before.wires after.wires
 
 -- So many rounds less than there were to be, and then one that was broken off.
-pub record TurnsBreak {S K : Type 0} (passed : S → S → List WireAct → Type 0) (count : S → ℕ)
-    (withheld : S → S → Type 0) (may_leave : K → List (List KeptFile) → Type 0) (lines : List LineId) (turns : ℕ)
-    (parts : List Part) (wires : List S) (new : List Part) (new_wires : List S) (new_keeper : K) : Type 0 where
+pub record TurnsBreak {W : Type 0} (says : WireSays W) (may_leave : List (List KeptFile) → Type 0)
+    (lines : List LineId) (turns : ℕ) (before after : HubWires W) : Type 0 where
   pub rounds : ℕ
   pub fewer : rounds < turns
-  pub mid : List Part
-  pub mid_quiets : List ℕ
-  pub mid_wires : List S
-  pub before : IsServed passed count lines rounds parts wires mid mid_wires
-  pub calm : mid_quiets ≡ all_quiets (no_quiets lines) before.rounds
-  pub breaks : RoundBreaks passed count withheld may_leave lines mid mid_quiets mid_wires new new_wires new_keeper
+  pub mid : HubMoment W
+  pub served : IsServed says lines rounds before (hub_wires mid.parts mid.wires)
+  pub calm : mid.quiets ≡ all_quiets (no_quiets lines) served.rounds
+  pub breaks : RoundBreaks says may_leave lines mid after
 
 -- ---- a service
 
 -- The keeper failed when a customer was given routes, which it may have.
-pub record RoutesBreak {K : Type 0} (may_leave : K → List (List KeptFile) → Type 0) (parts : List Part)
-    (given : ℕ × List GivenRoute) (new : List Part) (new_keeper : K) : Type 0 where
+pub record RoutesBreak (may_leave : List (List KeptFile) → Type 0) (parts : List Part)
+    (given : ℕ × List GivenRoute) (new : List Part) : Type 0 where
   pub named : IsNamed parts (Routes given.0 given.1)
   pub hub : new ≡ (hub_run parts (Routes given.0 given.1 ∷ [])).parts
-  pub left : LeavesEither may_leave new_keeper parts new
+  pub left : LeavesEither may_leave parts new
 
 -- A service of fewer rounds than there were to be. Then the keeper failed: where a customer was given routes that the
 -- attendant brought, and nothing passed on any wire after that; or in a round.
-pub record ServiceBreaks {S K : Type 0} (passed : S → S → List WireAct → Type 0) (count : S → ℕ)
-    (withheld : S → S → Type 0) (may_leave : K → List (List KeptFile) → Type 0) (brings : Type 0)
-    (lines : List LineId) (turns : ℕ) (parts : List Part) (quiets : List ℕ) (wires : List S) (new : List Part)
-    (new_wires : List S) (new_keeper : K) : Type 0 where
+pub record ServiceBreaks {W : Type 0} (says : WireSays W) (may_leave : List (List KeptFile) → Type 0)
+    (brings : Type 0) (lines : List LineId) (turns : ℕ) (before : HubMoment W) (after : HubWires W) : Type 0 where
   pub rounds : ℕ
   pub fewer : rounds < turns
-  pub mid : List Part
-  pub mid_quiets : List ℕ
-  pub mid_wires : List S
-  pub before : IsAttended passed count brings lines rounds parts quiets wires mid mid_quiets mid_wires
-  pub breaks : (brings × (given : ℕ × List GivenRoute) × RoutesBreak may_leave mid given new new_keeper
-      × (new_wires ≡ mid_wires))
-      ⊎ RoundBreaks passed count withheld may_leave lines mid mid_quiets mid_wires new new_wires new_keeper
+  pub mid : HubMoment W
+  pub attended : IsAttended says brings lines rounds before mid
+  pub breaks : (brings × (given : ℕ × List GivenRoute) × RoutesBreak may_leave mid.parts given after.parts
+      × (after.wires ≡ mid.wires)) ⊎ RoundBreaks says may_leave lines mid after

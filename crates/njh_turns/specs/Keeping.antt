@@ -54,46 +54,53 @@ LeadsHub c before now = (after : Part) × IsLed (part c before) after × (now �
 
 -- ---- what a crash may leave
 
--- It is what a hub of these parts has, and nothing else.
-abbrev pub LeavesOnly : {K : Type 0} → (K → List (List KeptFile) → Type 0) → K → List Part → Type 0
-LeavesOnly may_leave keeper parts = (left : List (List KeptFile)) → may_leave keeper left → left ≡ kept_of parts
+-- What a type of keepers says of them. What a crash at this moment may leave: of each customer, by its number, what is
+-- kept of its whole files, in their order of arrival. That a keeper has taken in all that a hub whose customers have
+-- these parts has of files. And how often it failed.
+pub record KeeperSays (K : Type 0) : Type 1 where
+  pub may_leave : K → List (List KeptFile) → Type 0
+  pub knows : K → List Part → Type 0
+  pub count : K → ℕ
 
--- It is nothing that it wasn't before.
-abbrev pub LeavesNoMore : {K : Type 0} → (K → List (List KeptFile) → Type 0) → K → K → Type 0
-LeavesNoMore may_leave keeper new_keeper =
-    (left : List (List KeptFile)) → may_leave new_keeper left → may_leave keeper left
+-- What may be left is what a hub of these parts has, and nothing else.
+abbrev pub LeavesOnly : (List (List KeptFile) → Type 0) → List Part → Type 0
+LeavesOnly may_leave parts = (left : List (List KeptFile)) → may_leave left → left ≡ kept_of parts
 
 -- It is what the hub had before, or what it has behind.
-abbrev pub LeavesEither : {K : Type 0} → (K → List (List KeptFile) → Type 0) → K → (before behind : List Part) → Type 0
-LeavesEither may_leave keeper before behind =
-    (left : List (List KeptFile)) → may_leave keeper left → (left ≡ kept_of before) ⊎ (left ≡ kept_of behind)
+abbrev pub LeavesEither : (List (List KeptFile) → Type 0) → (before behind : List Part) → Type 0
+LeavesEither may_leave before behind =
+    (left : List (List KeptFile)) → may_leave left → (left ≡ kept_of before) ⊎ (left ≡ kept_of behind)
+
+-- What a crash may leave of a keeper is nothing that it might not have left before.
+abbrev pub LeavesNoMore : {K : Type 0} → KeeperSays K → K → K → Type 0
+LeavesNoMore says keeper new_keeper =
+    (left : List (List KeptFile)) → says.may_leave new_keeper left → says.may_leave keeper left
 
 -- The keeper knows what the hub has, and a crash leaves that.
-pub record IsSettled {K : Type 0} (may_leave : K → List (List KeptFile) → Type 0) (knows : K → List Part → Type 0)
-    (keeper : K) (parts : List Part) : Type 0 where
-  pub known : knows keeper parts
-  pub leaves : LeavesOnly may_leave keeper parts
+pub record IsSettled {K : Type 0} (says : KeeperSays K) (keeper : K) (parts : List Part) : Type 0 where
+  pub known : says.knows keeper parts
+  pub leaves : LeavesOnly (says.may_leave keeper) parts
 
 -- ---- what calls leave of a keeper
 
 -- In turns: where all went well, it knows what the hub has now, and has counted no fault; where a fault is told, it has
 -- counted one. Nothing of it is kept yet.
-pub record Follows {K A E : Type 0} (may_leave : K → List (List KeptFile) → Type 0) (knows : K → List Part → Type 0)
-    (count : K → ℕ) (keeper : K) (result : Result A E) (parts : List Part) (new_keeper : K) : Type 0 where
-  pub known : OnOk result (knows new_keeper parts)
-  pub leaves : LeavesNoMore may_leave keeper new_keeper
-  pub faultless : OnOk result (count new_keeper ≡ count keeper)
-  pub counts : count keeper ≤ count new_keeper
-  pub counted : OnErr result (IsCounted (count keeper) (count new_keeper))
+pub record Follows {K A E : Type 0} (says : KeeperSays K) (keeper : K) (result : Result A E) (parts : List Part)
+    (new_keeper : K) : Type 0 where
+  pub known : OnOk result (says.knows new_keeper parts)
+  pub leaves : LeavesNoMore says keeper new_keeper
+  pub faultless : OnOk result (says.count new_keeper ≡ says.count keeper)
+  pub counts : says.count keeper ≤ says.count new_keeper
+  pub counted : OnErr result (IsCounted (says.count keeper) (says.count new_keeper))
 
 -- Behind rounds: where all went well, what the hub has now is kept, and it has counted no fault; where a fault is told,
 -- it has counted one.
-pub record Keeps {K A E : Type 0} (may_leave : K → List (List KeptFile) → Type 0) (knows : K → List Part → Type 0)
-    (count : K → ℕ) (keeper : K) (result : Result A E) (parts : List Part) (new_keeper : K) : Type 0 where
-  pub settled : OnOk result (IsSettled may_leave knows new_keeper parts)
-  pub faultless : OnOk result (count new_keeper ≡ count keeper)
-  pub counts : count keeper ≤ count new_keeper
-  pub counted : OnErr result (IsCounted (count keeper) (count new_keeper))
+pub record Keeps {K A E : Type 0} (says : KeeperSays K) (keeper : K) (result : Result A E) (parts : List Part)
+    (new_keeper : K) : Type 0 where
+  pub settled : OnOk result (IsSettled says new_keeper parts)
+  pub faultless : OnOk result (says.count new_keeper ≡ says.count keeper)
+  pub counts : says.count keeper ≤ says.count new_keeper
+  pub counted : OnErr result (IsCounted (says.count keeper) (says.count new_keeper))
 
 -- ---- a law
 

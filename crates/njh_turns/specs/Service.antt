@@ -8,9 +8,9 @@ use Rattle.njh_hub.specs.declared.event.Event.{Event}
 use Rattle.njh_hub.specs.declared.event.Event.TheVariants.{Routes}
 use Rattle.njh_hub.specs.OwnEvents.{events_of}
 use Rattle.njh_hub.specs.WholeHub.{Part, IsNamed, hub_run}
-use Rattle.njh_turns.specs.Turns.{Turn, Placed, HadTurns, turn_at, quiets_after, round_events}
+use Rattle.njh_turns.specs.Turns.{Turn, Placed, HubMoment, HadTurns, turn_at, quiets_after, round_events}
 use Rattle.njh_turns.specs.WireLaws.{own_wires}
-use Rattle.njh_turns.specs.Wires.{WireAct}
+use Rattle.njh_turns.specs.Wires.{WireAct, WireSays}
 
 -- ---- what happens
 
@@ -79,19 +79,18 @@ ArePossible parts lines quiets (happening ∷ story) = IsPossible parts happenin
 
 -- A service of so many rounds: each wire had one turn in each, in their order, and nothing else passed on it; the hub
 -- was told of these turns, of new routes that it could give and that the attendant may bring, and of nothing else.
-pub record IsAttended {S : Type 0} (passed : S → S → List WireAct → Type 0) (count : S → ℕ) (brings : Type 0)
-    (lines : List LineId) (turns : ℕ) (parts : List Part) (quiets : List ℕ) (wires : List S) (new : List Part)
-    (new_quiets : List ℕ) (new_wires : List S) : Type 0 where
+pub record IsAttended {W : Type 0} (says : WireSays W) (brings : Type 0) (lines : List LineId) (turns : ℕ)
+    (before after : HubMoment W) : Type 0 where
   pub story : List Happening
   pub many : length (service_rounds story) ≡ turns
   pub each : All (λ round. length round ≡ length lines) (service_rounds story)
-  pub possible : ArePossible parts lines quiets story
+  pub possible : ArePossible before.parts lines before.quiets story
   pub brought : All (IsBrought brings) story
-  pub hub : new ≡ (hub_run parts (service_events lines quiets story)).parts
-  pub calm : new_quiets ≡ service_quiets quiets story
-  pub had : (i : ℕ) (d : S) → i < length lines →
-      HadTurns passed count (service_turns parts lines quiets i story) (slice_index_or wires i d)
-      (slice_index_or new_wires i d)
+  pub hub : after.parts ≡ (hub_run before.parts (service_events lines before.quiets story)).parts
+  pub calm : after.quiets ≡ service_quiets before.quiets story
+  pub had : (i : ℕ) (d : W) → i < length lines →
+      HadTurns says (service_turns before.parts lines before.quiets i story) (slice_index_or before.wires i d)
+      (slice_index_or after.wires i d)
 
 -- ---- between rounds
 

@@ -7,8 +7,8 @@ use Rattle.njh_hub.specs.declared.event.Event.{Event}
 use Rattle.njh_hub.specs.declared.event.Event.TheVariants.{Bytes, Tick, Lost}
 use Rattle.njh_hub.specs.Sent.{IsCounted}
 use Rattle.njh_hub.specs.WholeHub.{Part, hub_run}
-use Rattle.njh_turns.specs.Wires.{Heard, Came, Quiet, Pending, Closed, Absent, Failed, WireAct, answer_acts, heard_events}
-use Rattle.njh_turns.specs.Wires.{write_acts, IsStop}
+use Rattle.njh_turns.specs.Wires.{Heard, Came, Quiet, Pending, Closed, Absent, Failed, WireAct, WireSays, HubWire}
+use Rattle.njh_turns.specs.Wires.{answer_acts, heard_events, write_acts, IsStop}
 
 -- ---- one turn
 
@@ -49,14 +49,13 @@ IsStopWhere parts cut None = cut ≡ None
 IsStopWhere parts cut (Some event) = IsStop parts cut event
 
 -- What came of an answer, as `IsDone` says it of an event.
-pub record IsHeard {S : Type 0} (passed : S → S → List WireAct → Type 0) (count : S → ℕ) (parts : List Part)
-    (event : Option Event)
-    (cut : Option ℕ) (wire : S) (new : List Part) (new_wire : S) : Type 0 where
-  pub hub : new ≡ (hub_run parts (told_where cut event)).parts
-  pub acts : passed wire new_wire (written_where parts cut event)
-  pub stop : IsStopWhere parts cut event
-  pub counts : count wire ≤ count new_wire
-  pub counted : IsSome cut → IsCounted (count wire) (count new_wire)
+pub record IsHeard {W : Type 0} (says : WireSays W) (before : HubWire W) (event : Option Event) (cut : Option ℕ)
+    (after : HubWire W) : Type 0 where
+  pub hub : after.parts ≡ (hub_run before.parts (told_where cut event)).parts
+  pub acts : says.passed before.wire after.wire (written_where before.parts cut event)
+  pub stop : IsStopWhere before.parts cut event
+  pub counts : says.count before.wire ≤ says.count after.wire
+  pub counted : IsSome cut → IsCounted (says.count before.wire) (says.count after.wire)
 
 -- the events of a turn
 abbrev pub turn_events : LineId → ℕ → Turn → List Event
@@ -71,17 +70,25 @@ turn_acts parts id quiet turn = answer_acts turn.heard ++ written_where parts tu
 abbrev pub HasFault : Turn → Type 0
 HasFault turn = (turn.heard ≡ Failed) ⊎ IsSome turn.cut
 
--- A turn of a wire: from a hub and a wire to what it leaves.
-pub record IsTurn {S : Type 0} (passed : S → S → List WireAct → Type 0) (count : S → ℕ) (parts : List Part)
-    (id : LineId)
-    (quiet : ℕ) (turn : Turn) (wire : S) (new : List Part) (new_wire : S) : Type 0 where
-  pub hub : new ≡ (hub_run parts (turn_events id quiet turn)).parts
-  pub acts : passed wire new_wire (turn_acts parts id quiet turn)
-  pub stop : IsStopWhere parts turn.cut (wire_event id quiet turn.heard)
-  pub counts : count wire ≤ count new_wire
-  pub counted : HasFault turn → IsCounted (count wire) (count new_wire)
+-- A turn of the wire of a line: from a hub and the wire to what it leaves of them. So many quiets came before.
+pub record IsTurn {W : Type 0} (says : WireSays W) (id : LineId) (quiet : ℕ) (before : HubWire W) (turn : Turn)
+    (after : HubWire W) : Type 0 where
+  pub hub : after.parts ≡ (hub_run before.parts (turn_events id quiet turn)).parts
+  pub acts : says.passed before.wire after.wire (turn_acts before.parts id quiet turn)
+  pub stop : IsStopWhere before.parts turn.cut (wire_event id quiet turn.heard)
+  pub counts : says.count before.wire ≤ says.count after.wire
+  pub counted : HasFault turn → IsCounted (says.count before.wire) (says.count after.wire)
 
 -- ---- a round: each wire has one turn, in their order
+
+-- A hub, the quiets in a row on each wire of some of its lines, and these wires, at one moment.
+pub record HubMoment (W : Type 0) : Type 0 where
+  pub parts : List Part
+  pub quiets : List ℕ
+  pub wires : List W
+
+abbrev pub moment : {W : Type 0} → List Part → List ℕ → List W → HubMoment W
+moment parts quiets wires = record { parts = parts; quiets = quiets; wires = wires }
 
 -- the events of a round, or of its first turns
 abbrev pub round_events : List LineId → List ℕ → List Turn → List Event
@@ -126,24 +133,22 @@ abbrev pub placed_stop : Placed → Type 0
 placed_stop p = IsStopWhere p.parts p.turn.cut (wire_event p.line p.quiet p.turn.heard)
 
 -- a wire had this turn
-pub record HadTurn {S : Type 0} (passed : S → S → List WireAct → Type 0) (count : S → ℕ) (p : Placed)
-    (wire new_wire : S) : Type 0 where
-  pub acts : passed wire new_wire (placed_acts p)
+pub record HadTurn {W : Type 0} (says : WireSays W) (p : Placed) (wire new_wire : W) : Type 0 where
+  pub acts : says.passed wire new_wire (placed_acts p)
   pub stop : placed_stop p
-  pub counts : count wire ≤ count new_wire
-  pub counted : HasFault p.turn → IsCounted (count wire) (count new_wire)
+  pub counts : says.count wire ≤ says.count new_wire
+  pub counted : HasFault p.turn → IsCounted (says.count wire) (says.count new_wire)
 
 -- The first wires had these turns of a round, and the others none yet.
-pub record IsRound {S : Type 0} (passed : S → S → List WireAct → Type 0) (count : S → ℕ) (lines : List LineId)
-    (parts : List Part)
-    (quiets : List ℕ) (wires : List S) (turns : List Turn) (new : List Part) (new_quiets : List ℕ)
-    (new_wires : List S) : Type 0 where
-  pub hub : new ≡ (hub_run parts (round_events lines quiets turns)).parts
-  pub calm : new_quiets ≡ quiets_after quiets turns
-  pub had : (i : ℕ) (d : S) → i < length turns →
-      HadTurn passed count (turn_at parts lines quiets i turns) (slice_index_or wires i d)
-      (slice_index_or new_wires i d)
-  pub rest : (i : ℕ) (d : S) → length turns ≤ i → slice_index_or new_wires i d ≡ slice_index_or wires i d
+pub record IsRound {W : Type 0} (says : WireSays W) (lines : List LineId) (before : HubMoment W) (turns : List Turn)
+    (after : HubMoment W) : Type 0 where
+  pub hub : after.parts ≡ (hub_run before.parts (round_events lines before.quiets turns)).parts
+  pub calm : after.quiets ≡ quiets_after before.quiets turns
+  pub had : (i : ℕ) (d : W) → i < length turns →
+      HadTurn says (turn_at before.parts lines before.quiets i turns) (slice_index_or before.wires i d)
+      (slice_index_or after.wires i d)
+  pub rest : (i : ℕ) (d : W) → length turns ≤ i
+      → slice_index_or after.wires i d ≡ slice_index_or before.wires i d
 
 -- ---- round after round
 
@@ -169,27 +174,32 @@ turns_of parts lines quiets i (round ∷ rounds) = turn_at parts lines quiets i 
     ∷ turns_of (hub_run parts (round_events lines quiets round)).parts lines (quiets_after quiets round) i rounds
 
 -- A wire had these turns, and nothing else passed on it.
-pub record HadTurns {S : Type 0} (passed : S → S → List WireAct → Type 0) (count : S → ℕ) (turns : List Placed)
-    (wire new_wire : S) :
-    Type 0 where
-  pub acts : passed wire new_wire (flat_map placed_acts turns)
+pub record HadTurns {W : Type 0} (says : WireSays W) (turns : List Placed) (wire new_wire : W) : Type 0 where
+  pub acts : says.passed wire new_wire (flat_map placed_acts turns)
   pub stops : All placed_stop turns
-  pub counts : count wire ≤ count new_wire
-  pub counted : All (λ p. HasFault p.turn → IsCounted (count wire) (count new_wire)) turns
+  pub counts : says.count wire ≤ says.count new_wire
+  pub counted : All (λ p. HasFault p.turn → IsCounted (says.count wire) (says.count new_wire)) turns
 
 -- the quiets in a row before the first round
 abbrev pub no_quiets : List LineId → List ℕ
 no_quiets lines = replicate (length lines) 0
 
--- So many rounds: each wire had one turn in each, in their order, and the hub was told of these turns and of nothing
--- else.
-pub record IsServed {S : Type 0} (passed : S → S → List WireAct → Type 0) (count : S → ℕ) (lines : List LineId)
-    (turns : ℕ)
-    (parts : List Part) (wires : List S) (new : List Part) (new_wires : List S) : Type 0 where
+-- A hub and the wires of some of its lines, at one moment.
+pub record HubWires (W : Type 0) : Type 0 where
+  pub parts : List Part
+  pub wires : List W
+
+abbrev pub hub_wires : {W : Type 0} → List Part → List W → HubWires W
+hub_wires parts wires = record { parts = parts; wires = wires }
+
+-- So many rounds, before which no quiet came: each wire had one turn in each, in their order, and the hub was told of
+-- these turns and of nothing else.
+pub record IsServed {W : Type 0} (says : WireSays W) (lines : List LineId) (turns : ℕ)
+    (before after : HubWires W) : Type 0 where
   pub rounds : List (List Turn)
   pub many : length rounds ≡ turns
   pub each : All (λ round. length round ≡ length lines) rounds
-  pub hub : new ≡ (hub_run parts (all_events lines (no_quiets lines) rounds)).parts
-  pub had : (i : ℕ) (d : S) → i < length lines →
-      HadTurns passed count (turns_of parts lines (no_quiets lines) i rounds) (slice_index_or wires i d)
-      (slice_index_or new_wires i d)
+  pub hub : after.parts ≡ (hub_run before.parts (all_events lines (no_quiets lines) rounds)).parts
+  pub had : (i : ℕ) (d : W) → i < length lines →
+      HadTurns says (turns_of before.parts lines (no_quiets lines) i rounds) (slice_index_or before.wires i d)
+      (slice_index_or after.wires i d)

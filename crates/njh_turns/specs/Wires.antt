@@ -46,6 +46,13 @@ pub data WireAct : Type 0 where
   Sent : (frame : List ℕ) → WireAct
   Unsent : (frame : List ℕ) → WireAct
 
+-- What a type of wires says of them: that this passed between two states of a wire, in this order, and nothing else;
+-- that between two no byte went out, so that what was written waits; and how often it failed.
+pub record WireSays (W : Type 0) : Type 1 where
+  pub passed : W → W → List WireAct → Type 0
+  pub withheld : W → W → Type 0
+  pub count : W → ℕ
+
 -- what passes by an answer: the answer, and nothing where it is pending
 abbrev pub answer_acts : Heard → List WireAct
 answer_acts (Came piece) = Answered (Came piece) ∷ []
@@ -97,12 +104,19 @@ pub record IsTaken {Z : Type 0} (parts : List Part) (id : LineId) (after : Part)
   pub lines : SameLines parts new
   pub room : longest_frame ≤ vec_capacity new_out
 
+-- A hub and a wire of one of its lines, at one moment.
+pub record HubWire (W : Type 0) : Type 0 where
+  pub parts : List Part
+  pub wire : W
+
+abbrev pub hub_wire : {W : Type 0} → List Part → W → HubWire W
+hub_wire parts wire = record { parts = parts; wire = wire }
+
 -- What came of an event of a wire. `cut` says whether a write failed, and how many bytes of the event were used then.
-pub record IsDone {S : Type 0} (passed : S → S → List WireAct → Type 0) (count : S → ℕ) (parts : List Part)
-    (event : Event)
-    (cut : Option ℕ) (wire : S) (new : List Part) (new_wire : S) : Type 0 where
-  pub hub : new ≡ (hub_run parts (heard_events cut event)).parts
-  pub acts : passed wire new_wire (write_acts parts cut event)
-  pub stop : IsStop parts cut event
-  pub counts : count wire ≤ count new_wire
-  pub counted : IsSome cut → IsCounted (count wire) (count new_wire)
+pub record IsDone {W : Type 0} (says : WireSays W) (before : HubWire W) (event : Event) (cut : Option ℕ)
+    (after : HubWire W) : Type 0 where
+  pub hub : after.parts ≡ (hub_run before.parts (heard_events cut event)).parts
+  pub acts : says.passed before.wire after.wire (write_acts before.parts cut event)
+  pub stop : IsStop before.parts cut event
+  pub counts : says.count before.wire ≤ says.count after.wire
+  pub counted : IsSome cut → IsCounted (says.count before.wire) (says.count after.wire)

@@ -26,7 +26,7 @@ pub trait Attendant<W: Wire> {
 
     /// Comes before each round, as the wait for what the wires have.
     fn before(&mut self, wires: &mut [W])
-        ensures { AreStill W.passed W.count wires.old wires.new };
+        ensures { AreStill W.says.passed W.says.count wires.old wires.new };
 
     /// New routes, where a customer is to have some. It is asked once before each round.
     fn new_routes(&mut self) -> Option<NewRoutes>
@@ -41,5 +41,5 @@ pub trait Attendant<W: Wire> {
 
     /// Comes after each round.
     fn after(&mut self, hub: &Hub, wires: &mut [W])
-        ensures { AreStill W.passed W.count wires.old wires.new };
+        ensures { AreStill W.says.passed W.says.count wires.old wires.new };
 }

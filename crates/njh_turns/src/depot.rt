@@ -39,7 +39,7 @@ pub trait Depot: Keeper {
     fn open(&mut self, alloc: Global, tables: Tables) -> Result<Hub, DepotFault>
         ensures opened { IfOk result (λ hub. opens self.old self.new tables hub) }
         ensures lines { IfOk result (λ hub. SameLines (map part_at_open (entries_of tables)) hub) }
-        ensures settled { IfOk result (λ hub. IsSettled Self.may_leave Self.knows self.new hub) };
+        ensures settled { IfOk result (λ hub. IsSettled Self.says self.new hub) };
 }
 
 impl Depot for KeepsNothing {

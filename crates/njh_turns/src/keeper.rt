@@ -1,6 +1,6 @@
 //! Who keeps whole files, so that they outlive the program.
 
-ghost use Rattle.std.specs.Prelude.{◌≡◌, ℕ, ◌≤◌, List, OnOk, OnErr, ⊤};
+ghost use Rattle.std.specs.Prelude.{◌≡◌, ◌≤◌, List, OnOk, OnErr, ⊤};
 ghost use Rattle.njh_hub.specs.Sent.{IsCounted};
 ghost use Rattle.njh_hub.specs.WholeHub.{Part};
 ghost use Rattle.njh_turns.specs.Keeping.{IsSettled, KeptIsOwn, LeadsHub, LeavesEither, LeavesNoMore, LeavesOnly};
@@ -19,44 +19,36 @@ pub struct KeepFault;
 /// A fault is answered only where the count of failures rose, or stands at its greatest value; else
 /// it stays.
 pub trait Keeper {
-    ghost use Rattle.std.specs.Prelude.{ℕ, List};
-    ghost use Rattle.njh_spool.specs.Restoring.{KeptFile};
-    ghost use Rattle.njh_hub.specs.WholeHub.{Part};
+    ghost use Rattle.njh_turns.specs.Keeping.{KeeperSays};
 
-    /// What a crash at this moment may leave: of each customer, by its number, what is kept of its
-    /// whole files, in their order of arrival.
-    ghost may_leave: { Self → List (List KeptFile) → Type 0 };
-
-    /// It has taken in all that a hub whose customers have these parts has of files.
-    ghost knows: { Self → List Part → Type 0 };
-
-    /// How often it failed.
-    ghost count: { Self → ℕ };
+    /// What it says of itself: what a crash at this moment may leave of customers' whole files;
+    /// that it has taken in all that a hub has of files; and how often it failed.
+    ghost says: { KeeperSays Self };
 
     /// How often it failed.
     fn failures(&self) -> u64
-        ensures { result ≡ count self.now };
+        ensures { result ≡ says.count self.now };
 
     /// Takes in what one step of a customer, or new routes of it, made of its files. Nothing more
     /// is kept by that.
     fn follow(&mut self, hub: &Hub, customer: u16) -> Result<(), KeepFault>
-        requires led { (before : List Part) × knows self.old before × LeadsHub customer before hub.now }
-        ensures known { OnOk result (knows self.new hub.now) }
-        ensures leaves { LeavesNoMore may_leave self.old self.new }
-        ensures faultless { OnOk result (count self.new ≡ count self.old) }
-        ensures counts { count self.old ≤ count self.new }
-        ensures counted { OnErr result (IsCounted (count self.old) (count self.new)) };
+        requires led { (before : List Part) × says.knows self.old before × LeadsHub customer before hub.now }
+        ensures known { OnOk result (says.knows self.new hub.now) }
+        ensures leaves { LeavesNoMore says self.old self.new }
+        ensures faultless { OnOk result (says.count self.new ≡ says.count self.old) }
+        ensures counts { says.count self.old ≤ says.count self.new }
+        ensures counted { OnErr result (IsCounted (says.count self.old) (says.count self.new)) };
 
     /// Keeps all that it has taken in. After a fault, or where the call itself is broken off, a
     /// crash leaves what was kept before, or all.
     fn settle(&mut self) -> Result<(), KeepFault>
-        ensures settled { OnOk result ((parts : List Part) → knows self.old parts
-            → IsSettled may_leave knows self.new parts) }
-        ensures crash { (before parts : List Part) → LeavesOnly may_leave self.old before → knows self.old parts
-            → LeavesEither may_leave self.new before parts }
-        ensures faultless { OnOk result (count self.new ≡ count self.old) }
-        ensures counts { count self.old ≤ count self.new }
-        ensures counted { OnErr result (IsCounted (count self.old) (count self.new)) };
+        ensures settled { OnOk result ((parts : List Part) → says.knows self.old parts
+            → IsSettled says self.new parts) }
+        ensures crash { (before parts : List Part) → LeavesOnly (says.may_leave self.old) before
+            → says.knows self.old parts → LeavesEither (says.may_leave self.new) before parts }
+        ensures faultless { OnOk result (says.count self.new ≡ says.count self.old) }
+        ensures counts { says.count self.old ≤ says.count self.new }
+        ensures counted { OnErr result (IsCounted (says.count self.old) (says.count self.new)) };
 }
 
 /// Keeps nothing: a crash leaves no files, of no customer.
@@ -64,11 +56,7 @@ pub trait Keeper {
 pub struct KeepsNothing;
 
 impl Keeper for KeepsNothing {
-    ghost may_leave = { λ keeper left. ⊥ };
-
-    ghost knows = { λ keeper parts. ⊤ };
-
-    ghost count = { λ keeper. 0 };
+    ghost says = { record { may_leave = λ keeper left. ⊥; knows = λ keeper parts. ⊤; count = λ keeper. 0 } };
 
     fn failures(&self) -> u64 {
         0

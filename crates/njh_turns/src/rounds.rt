@@ -4,7 +4,8 @@ ghost use Rattle.std.specs.Prelude.{◌≡◌, ◌<◌, List, length, slice_inde
 ghost use Rattle.njh_hub.specs.WholeHub.{HasLine, SameLines};
 ghost use Rattle.njh_turns.specs.Breaks.{AreWithheld, BrokenTurn, RoundBreaks, RoundStops, TurnBreaks};
 ghost use Rattle.njh_turns.specs.Keeping.{Follows, IsSettled, Keeps};
-ghost use Rattle.njh_turns.specs.Turns.{Turn, IsRound, IsTurn, no_line_id, no_quiets, quiet_after};
+ghost use Rattle.njh_turns.specs.Turns.{Turn, IsRound, IsTurn, no_line_id, no_quiets, quiet_after, moment, hub_wires};
+ghost use Rattle.njh_turns.specs.Wires.{hub_wire};
 
 use crate::attendant::Attendant;
 use crate::keeper::{KeepFault, Keeper};
@@ -69,13 +70,14 @@ impl Rounds {
     ) -> Result<(), KeepFault>
         requires same { length wires.old ≡ length self.old.lines }
         requires known { All (HasLine hub.old) self.old.lines }
-        requires settled { IsSettled K.may_leave K.knows keeper.old hub.old }
-        ensures round { OnOk result ((round : List Turn) × (length round ≡ length self.old.lines) ×
-            IsRound W.passed W.count self.old.lines hub.old self.old.quiets wires.old round
-            hub.new self.new.quiets wires.new) }
-        ensures breaks { OnErr result (RoundBreaks W.passed W.count W.withheld K.may_leave self.old.lines hub.old
-            self.old.quiets wires.old hub.new wires.new keeper.new) }
-        ensures keeps { Keeps K.may_leave K.knows K.count keeper.old result hub.new keeper.new }
+        requires settled { IsSettled K.says keeper.old hub.old }
+        ensures round { let before = moment hub.old self.old.quiets wires.old in
+            let after = moment hub.new self.new.quiets wires.new in
+            OnOk result ((round : List Turn) × (length round ≡ length self.old.lines)
+            × IsRound W.says self.old.lines before round after) }
+        ensures breaks { OnErr result (RoundBreaks W.says (K.says.may_leave keeper.new) self.old.lines
+            (moment hub.old self.old.quiets wires.old) (hub_wires hub.new wires.new)) }
+        ensures keeps { Keeps K.says keeper.old result hub.new keeper.new }
         ensures same { self.new.lines ≡ self.old.lines }
         ensures lines { SameLines hub.old hub.new }
     {
@@ -96,14 +98,15 @@ impl Rounds {
     ) -> Result<(), KeepFault>
         requires same { length wires.old ≡ length self.old.lines }
         requires known { All (HasLine hub.old) self.old.lines }
-        requires follows { K.knows keeper.old hub.old }
-        ensures round { OnOk result ((round : List Turn) × (length round ≡ length self.old.lines) ×
-            IsRound W.passed W.count self.old.lines hub.old self.old.quiets wires.old round
-            hub.new self.new.quiets wires.new) }
-        ensures stops { OnErr result (RoundStops W.passed W.count self.old.lines hub.old self.old.quiets wires.old
-            hub.new wires.new) }
-        ensures follows { Follows K.may_leave K.knows K.count keeper.old result hub.new keeper.new }
-        ensures withheld { AreWithheld W.withheld wires.old wires.new }
+        requires follows { K.says.knows keeper.old hub.old }
+        ensures round { let before = moment hub.old self.old.quiets wires.old in
+            let after = moment hub.new self.new.quiets wires.new in
+            OnOk result ((round : List Turn) × (length round ≡ length self.old.lines)
+            × IsRound W.says self.old.lines before round after) }
+        ensures stops { OnErr result (RoundStops W.says self.old.lines
+            (moment hub.old self.old.quiets wires.old) (hub_wires hub.new wires.new)) }
+        ensures follows { Follows K.says keeper.old result hub.new keeper.new }
+        ensures withheld { AreWithheld W.says wires.old wires.new }
         ensures same { self.new.lines ≡ self.old.lines }
         ensures lines { SameLines hub.old hub.new }
     {
@@ -129,17 +132,18 @@ impl Rounds {
     ) -> Result<(), KeepFault>
         requires within { place < length self.old.lines }
         requires known { HasLine hub.old (slice_index_or self.old.lines place no_line_id) }
-        requires follows { K.knows keeper.old hub.old }
-        ensures turn { OnOk result ((turn : Turn)
-            × IsTurn W.passed W.count hub.old (slice_index_or self.old.lines place no_line_id)
-            (slice_index_or self.old.quiets place 0) turn wire.old hub.new wire.new
-            × (self.new.quiets ≡ slice_set self.old.quiets place
-            (quiet_after (slice_index_or self.old.quiets place 0) turn.heard))) }
-        ensures breaks { OnErr result ((turn : BrokenTurn)
-            × TurnBreaks W.passed W.count hub.old (slice_index_or self.old.lines place no_line_id)
-            (slice_index_or self.old.quiets place 0) turn wire.old hub.new wire.new) }
-        ensures follows { Follows K.may_leave K.knows K.count keeper.old result hub.new keeper.new }
-        ensures withheld { W.withheld wire.old wire.new }
+        requires follows { K.says.knows keeper.old hub.old }
+        ensures turn { let id = slice_index_or self.old.lines place no_line_id in
+            let quiet = slice_index_or self.old.quiets place 0 in
+            OnOk result ((turn : Turn)
+            × IsTurn W.says id quiet (hub_wire hub.old wire.old) turn (hub_wire hub.new wire.new)
+            × (self.new.quiets ≡ slice_set self.old.quiets place (quiet_after quiet turn.heard))) }
+        ensures breaks { let id = slice_index_or self.old.lines place no_line_id in
+            let quiet = slice_index_or self.old.quiets place 0 in
+            OnErr result ((turn : BrokenTurn)
+            × TurnBreaks W.says id quiet (hub_wire hub.old wire.old) turn (hub_wire hub.new wire.new)) }
+        ensures follows { Follows K.says keeper.old result hub.new keeper.new }
+        ensures withheld { W.says.withheld wire.old wire.new }
         ensures same { self.new.lines ≡ self.old.lines }
         ensures lines { SameLines hub.old hub.new }
     {

@@ -5,7 +5,7 @@ ghost use Rattle.njh_hub.specs.Sent.{IsCounted};
 ghost use Rattle.njh_hub.specs.WholeHub.{HasLine, SameLines};
 ghost use Rattle.njh_turns.specs.Breaks.{TurnsBreak};
 ghost use Rattle.njh_turns.specs.Keeping.{IsSettled};
-ghost use Rattle.njh_turns.specs.Turns.{IsServed};
+ghost use Rattle.njh_turns.specs.Turns.{IsServed, hub_wires};
 
 use crate::attendant::{Attendant, NewRoutes};
 use crate::fault::TurnsFault;
@@ -33,16 +33,18 @@ pub fn serve_turns<W: Wire, K: Keeper>(
 ) -> Result<(), TurnsFault>
     requires same { length wires.old ≡ length lines.now }
     requires known { All (HasLine hub.old) lines.now }
-    requires settled { IsSettled K.may_leave K.knows keeper.old hub.old }
-    ensures served { OnOk result (IsServed W.passed W.count lines.now turns hub.old wires.old hub.new wires.new) }
-    ensures settled { OnOk result (IsSettled K.may_leave K.knows keeper.new hub.new) }
-    ensures faultless { OnOk result (K.count keeper.new ≡ K.count keeper.old) }
+    requires settled { IsSettled K.says keeper.old hub.old }
+    ensures served { OnOk result (IsServed W.says lines.now turns
+        (hub_wires hub.old wires.old) (hub_wires hub.new wires.new)) }
+    ensures settled { OnOk result (IsSettled K.says keeper.new hub.new) }
+    ensures faultless { OnOk result (K.says.count keeper.new ≡ K.says.count keeper.old) }
     ensures lines { SameLines hub.old hub.new }
     ensures memory { result ≡ Err TurnsFault.Memory → (hub.new ≡ hub.old) × (wires.new ≡ wires.old)
         × (keeper.new ≡ keeper.old) }
-    ensures breaks { IfErr result (λ fault. fault ≢ TurnsFault.Memory → IsCounted (K.count keeper.old)
-        (K.count keeper.new) × TurnsBreak W.passed W.count W.withheld K.may_leave lines.now turns hub.old wires.old
-        hub.new wires.new keeper.new) }
+    ensures breaks { IfErr result (λ fault. fault ≢ TurnsFault.Memory
+        → IsCounted (K.says.count keeper.old) (K.says.count keeper.new)
+        × TurnsBreak W.says (K.says.may_leave keeper.new) lines.now turns
+        (hub_wires hub.old wires.old) (hub_wires hub.new wires.new)) }
 {
     let mut rounds = match Rounds::new(alloc, lines) {
         Ok(rounds) => rounds,

@@ -6,6 +6,7 @@ ghost use Rattle.njh_hub.specs.WholeHub.{HasLine, SameLines};
 ghost use Rattle.njh_turns.specs.Breaks.{RoutesBreak, ServiceBreaks};
 ghost use Rattle.njh_turns.specs.Keeping.{IsSettled, Keeps};
 ghost use Rattle.njh_turns.specs.Service.{IsAttended, IsGiven};
+ghost use Rattle.njh_turns.specs.Turns.{moment, hub_wires};
 
 use crate::attendant::{Attendant, NewRoutes};
 use crate::keeper::{KeepFault, Keeper};
@@ -30,12 +31,12 @@ pub fn attend<W: Wire, K: Keeper, A: Attendant<W>>(
 ) -> Result<(), KeepFault>
     requires same { length wires.old ≡ length rounds.old.lines }
     requires known { All (HasLine hub.old) rounds.old.lines }
-    requires settled { IsSettled K.may_leave K.knows keeper.old hub.old }
-    ensures attended { OnOk result (IsAttended W.passed W.count A.brings rounds.old.lines turns hub.old
-        rounds.old.quiets wires.old hub.new rounds.new.quiets wires.new) }
-    ensures breaks { OnErr result (ServiceBreaks W.passed W.count W.withheld K.may_leave A.brings rounds.old.lines turns
-        hub.old rounds.old.quiets wires.old hub.new wires.new keeper.new) }
-    ensures keeps { Keeps K.may_leave K.knows K.count keeper.old result hub.new keeper.new }
+    requires settled { IsSettled K.says keeper.old hub.old }
+    ensures attended { OnOk result (IsAttended W.says A.brings rounds.old.lines turns
+        (moment hub.old rounds.old.quiets wires.old) (moment hub.new rounds.new.quiets wires.new)) }
+    ensures breaks { OnErr result (ServiceBreaks W.says (K.says.may_leave keeper.new) A.brings rounds.old.lines turns
+        (moment hub.old rounds.old.quiets wires.old) (hub_wires hub.new wires.new)) }
+    ensures keeps { Keeps K.says keeper.old result hub.new keeper.new }
     ensures same { rounds.new.lines ≡ rounds.old.lines }
     ensures lines { SameLines hub.old hub.new }
 {
@@ -61,12 +62,12 @@ fn give_routes<W: Wire, K: Keeper, A: Attendant<W>>(
     keeper: &mut K,
     attendant: &mut A,
 ) -> Result<(), KeepFault>
-    requires settled { IsSettled K.may_leave K.knows keeper.old hub.old }
+    requires settled { IsSettled K.says keeper.old hub.old }
     ensures given { OnOk result ((given : Option (ℕ × List GivenRoute)) × IsGiven hub.old given hub.new
         × (IsSome given → A.brings)) }
     ensures breaks { OnErr result (A.brings × (given : ℕ × List GivenRoute)
-        × RoutesBreak K.may_leave hub.old given hub.new keeper.new) }
-    ensures keeps { Keeps K.may_leave K.knows K.count keeper.old result hub.new keeper.new }
+        × RoutesBreak (K.says.may_leave keeper.new) hub.old given hub.new) }
+    ensures keeps { Keeps K.says keeper.old result hub.new keeper.new }
     ensures lines { SameLines hub.old hub.new }
 {
     match attendant.new_routes() {
@@ -83,11 +84,11 @@ fn give<W: Wire, K: Keeper, A: Attendant<W>>(
     attendant: &mut A,
     new: &NewRoutes,
 ) -> Result<(), KeepFault>
-    requires settled { IsSettled K.may_leave K.knows keeper.old hub.old }
+    requires settled { IsSettled K.says keeper.old hub.old }
     ensures given { OnOk result ((given : Option (ℕ × List GivenRoute)) × IsGiven hub.old given hub.new) }
     ensures breaks { OnErr result ((given : ℕ × List GivenRoute)
-        × RoutesBreak K.may_leave hub.old given hub.new keeper.new) }
-    ensures keeps { Keeps K.may_leave K.knows K.count keeper.old result hub.new keeper.new }
+        × RoutesBreak (K.says.may_leave keeper.new) hub.old given hub.new) }
+    ensures keeps { Keeps K.says keeper.old result hub.new keeper.new }
     ensures lines { SameLines hub.old hub.new }
 {
     match set_kept(hub, keeper, new) {
@@ -104,11 +105,11 @@ fn set_kept<K: Keeper>(
     keeper: &mut K,
     new: &NewRoutes,
 ) -> Result<Result<(), HubFault>, KeepFault>
-    requires settled { IsSettled K.may_leave K.knows keeper.old hub.old }
+    requires settled { IsSettled K.says keeper.old hub.old }
     ensures given { OnOk result ((given : Option (ℕ × List GivenRoute)) × IsGiven hub.old given hub.new) }
     ensures breaks { OnErr result ((given : ℕ × List GivenRoute)
-        × RoutesBreak K.may_leave hub.old given hub.new keeper.new) }
-    ensures keeps { Keeps K.may_leave K.knows K.count keeper.old result hub.new keeper.new }
+        × RoutesBreak (K.says.may_leave keeper.new) hub.old given hub.new) }
+    ensures keeps { Keeps K.says keeper.old result hub.new keeper.new }
     ensures lines { SameLines hub.old hub.new }
 {
     match hub.set_routes(new.customer, new.routes.routes()) {

@@ -12,7 +12,7 @@ ghost use Rattle.njh_hub.specs.WholeHub.{part, HasLine, SameLines};
 ghost use Rattle.njh_turns.specs.Breaks.{Break, BrokenTurn, EventBreaks, TurnBreaks};
 ghost use Rattle.njh_turns.specs.Keeping.{Follows};
 ghost use Rattle.njh_turns.specs.Turns.{Turn, IsTurn, IsHeard, wire_event, quiet_after};
-ghost use Rattle.njh_turns.specs.Wires.{IsDone, Unsent, IsReading, heard_of, frame_acts, IsTaken};
+ghost use Rattle.njh_turns.specs.Wires.{IsDone, Unsent, IsReading, heard_of, frame_acts, IsTaken, hub_wire};
 
 use crate::keeper::{KeepFault, Keeper};
 use crate::wire::Wire;
@@ -91,15 +91,15 @@ pub fn wire_turn<W: Wire, K: Keeper>(
     room: &mut TurnRoom,
 ) -> Result<u8, KeepFault>
     requires known { HasLine hub.old id }
-    requires follows { K.knows keeper.old hub.old }
+    requires follows { K.says.knows keeper.old hub.old }
     requires few { quiet < 10 }
     ensures turn { IfOk result (λ quiets. (turn : Turn)
-        × IsTurn W.passed W.count hub.old id quiet turn wire.old hub.new wire.new
+        × IsTurn W.says id quiet (hub_wire hub.old wire.old) turn (hub_wire hub.new wire.new)
         × (quiets ≡ quiet_after quiet turn.heard)) }
     ensures breaks { OnErr result ((turn : BrokenTurn)
-        × TurnBreaks W.passed W.count hub.old id quiet turn wire.old hub.new wire.new) }
-    ensures follows { Follows K.may_leave K.knows K.count keeper.old result hub.new keeper.new }
-    ensures withheld { W.withheld wire.old wire.new }
+        × TurnBreaks W.says id quiet (hub_wire hub.old wire.old) turn (hub_wire hub.new wire.new)) }
+    ensures follows { Follows K.says keeper.old result hub.new keeper.new }
+    ensures withheld { W.says.withheld wire.old wire.new }
     ensures few { IfOk result (λ quiets. quiets < 10) }
     ensures lines { SameLines hub.old hub.new }
 {
@@ -152,17 +152,17 @@ fn act_on<W: Wire, K: Keeper>(
 ) -> Result<(), KeepFault>
     requires within { IfOk answer.reading (IsReading (length answer.buffer.now)) }
     requires known { HasLine hub.old id }
-    requires follows { K.knows keeper.old hub.old }
+    requires follows { K.says.knows keeper.old hub.old }
     requires few { answer.quiet < 10 }
     requires room { longest_frame ≤ vec_capacity out.old }
     ensures heard { let heard = heard_of answer.entry.reading answer.entry.buffer.now in
-        OnOk result ((cut : Option ℕ) × IsHeard W.passed W.count hub.old
-        (wire_event id answer.entry.quiet heard) cut wire.old hub.new wire.new) }
+        OnOk result ((cut : Option ℕ) × IsHeard W.says (hub_wire hub.old wire.old)
+        (wire_event id answer.entry.quiet heard) cut (hub_wire hub.new wire.new)) }
     ensures breaks { let heard = heard_of answer.entry.reading answer.entry.buffer.now in
         OnErr result ((event : Event) × (wire_event id answer.entry.quiet heard ≡ Some event) × (break : Break)
-        × EventBreaks W.passed W.count hub.old event break wire.old hub.new wire.new) }
-    ensures follows { Follows K.may_leave K.knows K.count keeper.old result hub.new keeper.new }
-    ensures withheld { W.withheld wire.old wire.new }
+        × EventBreaks W.says (hub_wire hub.old wire.old) event break (hub_wire hub.new wire.new)) }
+    ensures follows { Follows K.says keeper.old result hub.new keeper.new }
+    ensures withheld { W.says.withheld wire.old wire.new }
     ensures lines { SameLines hub.old hub.new }
     ensures room { longest_frame ≤ vec_capacity out.new }
 {
@@ -194,14 +194,14 @@ fn pass_bytes<W: Wire, K: Keeper>(
     out: &mut Vec<u8>,
 ) -> Result<(), KeepFault>
     requires known { HasLine hub.old id }
-    requires follows { K.knows keeper.old hub.old }
+    requires follows { K.says.knows keeper.old hub.old }
     requires room { longest_frame ≤ vec_capacity out.old }
     ensures done { OnOk result ((cut : Option ℕ)
-        × IsDone W.passed W.count hub.old (Bytes id piece.now) cut wire.old hub.new wire.new) }
-    ensures breaks { OnErr result ((break : Break) × EventBreaks W.passed W.count hub.old
-        (Bytes id piece.now) break wire.old hub.new wire.new) }
-    ensures follows { Follows K.may_leave K.knows K.count keeper.old result hub.new keeper.new }
-    ensures withheld { W.withheld wire.old wire.new }
+        × IsDone W.says (hub_wire hub.old wire.old) (Bytes id piece.now) cut (hub_wire hub.new wire.new)) }
+    ensures breaks { OnErr result ((break : Break)
+        × EventBreaks W.says (hub_wire hub.old wire.old) (Bytes id piece.now) break (hub_wire hub.new wire.new)) }
+    ensures follows { Follows K.says keeper.old result hub.new keeper.new }
+    ensures withheld { W.says.withheld wire.old wire.new }
     ensures lines { SameLines hub.old hub.new }
     ensures room { longest_frame ≤ vec_capacity out.new }
 {
@@ -236,14 +236,14 @@ fn pass_signal<W: Wire, K: Keeper>(
     out: &mut Vec<u8>,
 ) -> Result<(), KeepFault>
     requires known { HasLine hub.old id }
-    requires follows { K.knows keeper.old hub.old }
+    requires follows { K.says.knows keeper.old hub.old }
     requires room { longest_frame ≤ vec_capacity out.old }
     ensures done { OnOk result ((cut : Option ℕ)
-        × IsDone W.passed W.count hub.old (event_by signal id) cut wire.old hub.new wire.new) }
-    ensures breaks { OnErr result ((break : Break) × EventBreaks W.passed W.count hub.old
-        (event_by signal id) break wire.old hub.new wire.new) }
-    ensures follows { Follows K.may_leave K.knows K.count keeper.old result hub.new keeper.new }
-    ensures withheld { W.withheld wire.old wire.new }
+        × IsDone W.says (hub_wire hub.old wire.old) (event_by signal id) cut (hub_wire hub.new wire.new)) }
+    ensures breaks { OnErr result ((break : Break)
+        × EventBreaks W.says (hub_wire hub.old wire.old) (event_by signal id) break (hub_wire hub.new wire.new)) }
+    ensures follows { Follows K.says keeper.old result hub.new keeper.new }
+    ensures withheld { W.says.withheld wire.old wire.new }
     ensures lines { SameLines hub.old hub.new }
     ensures room { longest_frame ≤ vec_capacity out.new }
 {
@@ -266,11 +266,11 @@ fn lose<K: Keeper>(
     out: &mut Vec<u8>,
 ) -> Result<(), KeepFault>
     requires known { HasLine hub.old id }
-    requires follows { K.knows keeper.old hub.old }
+    requires follows { K.says.knows keeper.old hub.old }
     requires room { longest_frame ≤ vec_capacity out.old }
     ensures step { let t = part_after_signal (part id.customer hub.old) id.number Signal.Lost in
         IsTaken hub.old id t.after t.frame hub.new out.new }
-    ensures follows { Follows K.may_leave K.knows K.count keeper.old result hub.new keeper.new }
+    ensures follows { Follows K.says keeper.old result hub.new keeper.new }
 {
     take_signal(hub, id, Signal::Lost, out);
     keeper.follow(hub, id.customer)
@@ -310,11 +310,11 @@ fn take_signal(hub: &mut Hub, id: LineId, signal: Signal, out: &mut Vec<u8>)
 
 /// Writes the frame of a step, where one was sent.
 fn send<W: Wire>(wire: &mut W, frame: &[u8]) -> Result<(), WireFault>
-    ensures ok { OnOk result (W.passed wire.old wire.new (frame_acts frame.now)) }
-    ensures err { OnErr result (W.passed wire.old wire.new (Unsent frame.now ∷ []) × (0 < length frame.now)) }
-    ensures withheld { W.withheld wire.old wire.new }
-    ensures counts { W.count wire.old ≤ W.count wire.new }
-    ensures counted { OnErr result (IsCounted (W.count wire.old) (W.count wire.new)) }
+    ensures ok { OnOk result (W.says.passed wire.old wire.new (frame_acts frame.now)) }
+    ensures err { OnErr result (W.says.passed wire.old wire.new (Unsent frame.now ∷ []) × (0 < length frame.now)) }
+    ensures withheld { W.says.withheld wire.old wire.new }
+    ensures counts { W.says.count wire.old ≤ W.says.count wire.new }
+    ensures counted { OnErr result (IsCounted (W.says.count wire.old) (W.says.count wire.new)) }
 {
     if frame.is_empty() {
         return Ok(());

@@ -311,11 +311,11 @@ impl<C: Connection + Drop> Wire for LineWire<C> {
 
     // What passes is in the clauses of `read` and `write`; here, that it stays the wire of its
     // line.
-    ghost passed = { λ before after acts. before.place ≡ after.place };
-
-    ghost withheld = { λ before after. IsWithheld C.moved before after };
-
-    ghost count = { λ wire. wire.failures };
+    ghost says = { record {
+      passed = λ before after acts. before.place ≡ after.place;
+      withheld = λ before after. IsWithheld C.moved before after;
+      count = λ wire. wire.failures;
+    } };
 
     ghost none = { λ s. refl };
 

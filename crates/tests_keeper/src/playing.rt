@@ -104,8 +104,8 @@ fn play_event<K: Keeper>(
     hub: &mut Hub,
     line: &str,
 ) -> Result<(), Fail>
-    requires { K.knows keeper.old hub.old }
-    ensures { OnOk result (K.knows keeper.new hub.new) }
+    requires { K.says.knows keeper.old hub.old }
+    ensures { OnOk result (K.says.knows keeper.new hub.new) }
 {
     let (event, rest) = line.split_once(" ").ok_or("no event")?;
     let (name, digits) = rest.split_once(" ").unwrap_or((rest, ""));
@@ -125,8 +125,8 @@ fn play_tick<K: Keeper>(
     hub: &mut Hub,
     id: LineId,
 ) -> Result<(), Fail>
-    requires { K.knows keeper.old hub.old }
-    ensures { OnOk result (K.knows keeper.new hub.new) }
+    requires { K.says.knows keeper.old hub.old }
+    ensures { OnOk result (K.says.knows keeper.new hub.new) }
 {
     let mut out = Vec::new(alloc);
     hub.tick(id, &mut out)?;
@@ -142,8 +142,8 @@ fn play_loss<K: Keeper>(
     hub: &mut Hub,
     id: LineId,
 ) -> Result<(), Fail>
-    requires { K.knows keeper.old hub.old }
-    ensures { OnOk result (K.knows keeper.new hub.new) }
+    requires { K.says.knows keeper.old hub.old }
+    ensures { OnOk result (K.says.knows keeper.new hub.new) }
 {
     let mut out = Vec::new(alloc);
     hub.lost(id, &mut out)?;
@@ -160,8 +160,8 @@ fn play_bytes<K: Keeper>(
     id: LineId,
     digits: &str,
 ) -> Result<(), Fail>
-    requires { K.knows keeper.old hub.old }
-    ensures { OnOk result (K.knows keeper.new hub.new) }
+    requires { K.says.knows keeper.old hub.old }
+    ensures { OnOk result (K.says.knows keeper.new hub.new) }
 {
     let bytes = hex::decode(files.allocator(), digits)?;
     let mut left = bytes.as_slice();
@@ -183,8 +183,8 @@ fn play_step<K: Keeper>(
     id: LineId,
     piece: &[u8],
 ) -> Result<usize, Fail>
-    requires { K.knows keeper.old hub.old }
-    ensures { OnOk result (K.knows keeper.new hub.new) }
+    requires { K.says.knows keeper.old hub.old }
+    ensures { OnOk result (K.says.knows keeper.new hub.new) }
 {
     let mut out = Vec::new(alloc);
     let taken = hub.take(id, piece, &mut out)?;
@@ -195,8 +195,8 @@ fn play_step<K: Keeper>(
 
 /// Keeps what a step of a customer made of its files, as at the end of a round.
 fn keep<K: Keeper>(keeper: &mut K, hub: &Hub, customer: u16) -> Result<(), KeepFault>
-    requires { (before : List Part) × K.knows keeper.old before × LeadsHub customer before hub.now }
-    ensures { OnOk result (K.knows keeper.new hub.now) }
+    requires { (before : List Part) × K.says.knows keeper.old before × LeadsHub customer before hub.now }
+    ensures { OnOk result (K.says.knows keeper.new hub.now) }
 {
     keeper.follow(hub, customer)?;
     keeper.settle()

@@ -96,14 +96,14 @@ impl<'a> SpoolFiles<'a> {
 
     /// A hub of the tables that a depot opens.
     pub fn hub_of<D: Depot>(&self, keeper: &mut D) -> Result<Hub, Fail>
-        ensures { IfOk result (λ hub. D.knows keeper.new hub) }
+        ensures { IfOk result (λ hub. D.says.knows keeper.new hub) }
     {
         Ok(self.opening(keeper)??)
     }
 
     /// What a depot answers that is to open a hub of the tables.
     pub fn opening<D: Depot>(&self, depot: &mut D) -> Result<Result<Hub, DepotFault>, Fail>
-        ensures { IfOk result (λ opened. IfOk opened (λ hub. D.knows depot.new hub)) }
+        ensures { IfOk result (λ opened. IfOk opened (λ hub. D.says.knows depot.new hub)) }
     {
         let alloc = self.rt.alloc();
         let tables = Tables::read(alloc, self.tables.as_str())?;

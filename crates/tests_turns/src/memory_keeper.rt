@@ -45,11 +45,11 @@ impl MemoryKeeper {
 impl Keeper for MemoryKeeper {
     ghost use Rattle.std.specs.Prelude.{⊤};
 
-    ghost may_leave = { λ keeper left. ⊥ };
-
-    ghost knows = { λ keeper parts. ⊤ };
-
-    ghost count = { λ keeper. keeper.failures };
+    ghost says = { record {
+      may_leave = λ keeper left. ⊥;
+      knows = λ keeper parts. ⊤;
+      count = λ keeper. keeper.failures;
+    } };
 
     fn failures(&self) -> u64 {
         self.failures

@@ -108,11 +108,11 @@ impl Wire for MemoryWire {
     ghost use Rattle.std.specs.Prelude.{⊤};
 
     // What passes is compared when a test runs.
-    ghost passed = { λ before after acts. ⊤ };
-
-    ghost withheld = { λ before after. ⊤ };
-
-    ghost count = { λ wire. wire.failures };
+    ghost says = { record {
+      passed = λ before after acts. ⊤;
+      withheld = λ before after. ⊤;
+      count = λ wire. wire.failures;
+    } };
 
     ghost none = { λ s. tt };
 

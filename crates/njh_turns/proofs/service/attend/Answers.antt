@@ -7,58 +7,43 @@ use Rattle.njh_hub.specs.WholeHub.{HasLine}
 use Rattle.njh_hub.proofs.RunningLaws.{counted_from}
 use Rattle.njh_turns.specs.Breaks.{RoundBreaks}
 use Rattle.njh_turns.specs.Service.{Round, service_rounds}
-use Rattle.njh_turns.specs.Turns.{Turn, IsRound}
+use Rattle.njh_turns.specs.Turns.{Turn, IsRound, hub_wires, moment}
 use Rattle.njh_turns.proofs.ServiceLaws.{at_first, at_still, at_given, at_round, rounds-with_given, rounds-with_round}
 use Rattle.njh_turns.proofs.ServiceLaws.{with_given, attended_at}
 use Rattle.njh_turns.proofs.KeepingLaws.{keeps_ill, keeps_well}
 use Rattle.njh_turns.proofs.service.attend.Goals as goal
 
 pub loop-turn-init : goal.loop-turn-init
-loop-turn-init g c = record {
-  story = (
-    [],
-    refl,
-    at_first g.W.Wire.passed g.W.Wire.count g.A.Attendant.brings c.args.rounds.now.lines c.args.hub.now
-        c.args.rounds.now.quiets c.args.wires.now
-        g.met.W.Wire.none,
-  );
-  lines = refl;
-  same = λ d. refl;
-  settled = c.requires.settled;
-  kept = refl;
-}
+loop-turn-init g c =
+    let rounds = c.args.rounds.now in
+    record {
+      story = (
+        [],
+        refl,
+        at_first g.W.Wire.says g.A.Attendant.brings rounds.lines
+            (moment c.args.hub.now rounds.quiets c.args.wires.now) g.met.W.Wire.none,
+      );
+      lines = refl;
+      same = λ d. refl;
+      settled = c.requires.settled;
+      kept = refl;
+    }
 
 pub loop-turn-preserved : goal.loop-turn-preserved
 loop-turn-preserved g c =
-    let passed = g.W.Wire.passed in
-    let count = g.W.Wire.count in
-    let brings = g.A.Attendant.brings in
     let more = g.met.W.Wire.more in
-    let lines = c.args.rounds.now.lines in
-    let start = c.args.hub.now in
-    let quiets = c.args.rounds.now.quiets in
-    let wires = c.args.wires.now in
-    let now_quiets = c.loop-turn.rounds.quiets in
-    let lines_is : c.loop-turn.rounds.lines ≡ lines = c.loop-turn.invariant.lines in
+    let lines_is : c.loop-turn.rounds.lines ≡ c.args.rounds.now.lines = c.loop-turn.invariant.lines in
     let story = c.loop-turn.invariant.story.0 in
-    let many = c.loop-turn.invariant.story.1 in
     let given = c.in-Ok.ensures.given in
     let round = c.in-Ok-take_due.ensures.round in
     let told = with_given story given.0 in
-    let before = at_still passed count brings lines start quiets wires story c.loop-turn.hub now_quiets
-    c.loop-turn.wires
-    c.before-in-loop-turn.new.wires more (omega (arith, c.requires.same)) c.loop-turn.invariant.story.2
-    c.before-in-loop-turn.ensures in
-    let routed = at_given passed count brings lines start quiets wires story c.loop-turn.hub now_quiets
-    c.before-in-loop-turn.new.wires given.0
-    c.give_routes.new.hub before given.1 given.2 in
-    let P : List LineId → Type 0 = λ ls. IsRound passed count ls c.give_routes.new.hub now_quiets
-    c.before-in-loop-turn.new.wires round.0
-    c.take_due.new.hub c.take_due.new.self.quiets c.take_due.new.wires in
-    let taken = at_round passed count brings lines start quiets wires told c.give_routes.new.hub now_quiets
-    c.before-in-loop-turn.new.wires round.0
-    c.take_due.new.hub c.take_due.new.self.quiets c.take_due.new.wires more routed
-    (round.1 ∙ ap (λ (ls : List LineId). length ls) lines_is)
+    let before = at_still c.before-in-loop-turn.new.wires c.loop-turn.invariant.story.2 more
+    (omega (arith, c.requires.same)) c.before-in-loop-turn.ensures in
+    let routed = at_given given.0 c.give_routes.new.hub before given.1 given.2 in
+    let P : List LineId → Type 0 = λ ls. IsRound g.W.Wire.says ls
+    (moment c.give_routes.new.hub c.loop-turn.rounds.quiets c.before-in-loop-turn.new.wires) round.0
+    (moment c.take_due.new.hub c.take_due.new.self.quiets c.take_due.new.wires) in
+    let taken = at_round routed more (round.1 ∙ ap (λ (ls : List LineId). length ls) lines_is)
     (subst P lines_is round.2) in
     let next = told ++ Round round.0 ∷ [] in
     let one_more : length (service_rounds next) ≡ length (service_rounds story) + 1 =
@@ -68,10 +53,8 @@ loop-turn-preserved g c =
     record {
       story = (
         next,
-        omega (arith, many, one_more),
-        at_still passed count brings lines start quiets wires next c.take_due.new.hub c.take_due.new.self.quiets
-            c.take_due.new.wires c.after.new.wires more
-            (omega (arith, c.requires.same)) taken c.after.ensures,
+        omega (arith, c.loop-turn.invariant.story.1, one_more),
+        at_still c.after.new.wires taken more (omega (arith, c.requires.same)) c.after.ensures,
       );
       lines = c.take_due.ensures.same ∙ lines_is;
       same = λ d. c.take_due.ensures.lines d ∙ c.give_routes.ensures.lines d ∙ c.loop-turn.invariant.same d;
@@ -83,31 +66,20 @@ loop-turn-preserved g c =
 
 pub returns-in-Err-clause-breaks : goal.returns-in-Err-clause-breaks
 returns-in-Err-clause-breaks g c =
-    let passed = g.W.Wire.passed in
-    let count = g.W.Wire.count in
-    let brings = g.A.Attendant.brings in
-    let lines = c.args.rounds.now.lines in
-    let quiets = c.args.rounds.now.quiets in
     let so_far = c.loop-turn.invariant.story in
-    let before = at_still passed count brings lines c.args.hub.now quiets c.args.wires.now so_far.0 c.loop-turn.hub
-    c.loop-turn.rounds.quiets
-    c.loop-turn.wires c.before-in-loop-turn.new.wires g.met.W.Wire.more (omega (arith, c.requires.same)) so_far.2
-    c.before-in-loop-turn.ensures in
     let broke = c.in-Err.ensures.breaks in
     record {
       rounds = c.loop-turn.turn;
       fewer = c.loop-turn-test.true;
-      mid = c.loop-turn.hub;
-      mid_quiets = c.loop-turn.rounds.quiets;
-      mid_wires = c.before-in-loop-turn.new.wires;
-      before = attended_at passed count brings lines c.args.hub.now quiets c.args.wires.now so_far.0 c.loop-turn.hub
-          c.loop-turn.rounds.quiets c.before-in-loop-turn.new.wires so_far.1 before;
+      mid = moment c.loop-turn.hub c.loop-turn.rounds.quiets c.before-in-loop-turn.new.wires;
+      attended = attended_at (at_still c.before-in-loop-turn.new.wires so_far.2 g.met.W.Wire.more
+          (omega (arith, c.requires.same)) c.before-in-loop-turn.ensures) so_far.1;
       breaks = inl (broke.0, broke.1, broke.2, refl);
     }
 
 pub returns-in-Err-clause-keeps : goal.returns-in-Err-clause-keeps
 returns-in-Err-clause-keeps g c =
-    keeps_ill g.K.Keeper.may_leave g.K.Keeper.knows g.K.Keeper.count c.args.keeper.now c.give_routes.new.keeper
+    keeps_ill g.K.Keeper.says c.args.keeper.now c.give_routes.new.keeper
     c.in-Err.fault c.give_routes.new.hub
     (omega (arith, c.loop-turn.invariant.kept, c.in-Err.ensures.keeps.counts))
     (counted_from _ _ _ (omega (arith, c.loop-turn.invariant.kept)) c.in-Err.ensures.keeps.counted)
@@ -119,40 +91,25 @@ returns-in-Err-clause-lines g c = λ d. c.in-Err.ensures.lines d ∙ c.loop-turn
 
 pub returns-in-Err-take_due-clause-breaks : goal.returns-in-Err-take_due-clause-breaks
 returns-in-Err-take_due-clause-breaks g c =
-    let passed = g.W.Wire.passed in
-    let count = g.W.Wire.count in
-    let brings = g.A.Attendant.brings in
-    let lines = c.args.rounds.now.lines in
-    let quiets = c.args.rounds.now.quiets in
     let so_far = c.loop-turn.invariant.story in
     let given = c.in-Ok.ensures.given in
-    let before = at_still passed count brings lines c.args.hub.now quiets c.args.wires.now so_far.0 c.loop-turn.hub
-    c.loop-turn.rounds.quiets
-    c.loop-turn.wires c.before-in-loop-turn.new.wires g.met.W.Wire.more (omega (arith, c.requires.same)) so_far.2
+    let mid = moment c.give_routes.new.hub c.loop-turn.rounds.quiets c.before-in-loop-turn.new.wires in
+    let before = at_still c.before-in-loop-turn.new.wires so_far.2 g.met.W.Wire.more (omega (arith, c.requires.same))
     c.before-in-loop-turn.ensures in
-    let routed = at_given passed count brings lines c.args.hub.now quiets c.args.wires.now so_far.0 c.loop-turn.hub
-    c.loop-turn.rounds.quiets
-    c.before-in-loop-turn.new.wires given.0 c.give_routes.new.hub before given.1 given.2 in
-    let P : List LineId → Type 0 = λ ls. RoundBreaks passed count g.W.Wire.withheld g.K.Keeper.may_leave ls
-    c.give_routes.new.hub
-    c.loop-turn.rounds.quiets c.before-in-loop-turn.new.wires c.take_due.new.hub c.take_due.new.wires
-    c.take_due.new.keeper in
+    let P : List LineId → Type 0 = λ ls. RoundBreaks g.W.Wire.says (g.K.Keeper.says.may_leave c.take_due.new.keeper) ls
+    mid (hub_wires c.take_due.new.hub c.take_due.new.wires) in
     record {
       rounds = c.loop-turn.turn;
       fewer = c.loop-turn-test.true;
-      mid = c.give_routes.new.hub;
-      mid_quiets = c.loop-turn.rounds.quiets;
-      mid_wires = c.before-in-loop-turn.new.wires;
-      before = attended_at passed count brings lines c.args.hub.now quiets c.args.wires.now
-          (with_given so_far.0 given.0)
-          c.give_routes.new.hub c.loop-turn.rounds.quiets c.before-in-loop-turn.new.wires
-          (ap (λ (rs : List (List Turn)). length rs) (rounds-with_given so_far.0 given.0) ∙ so_far.1) routed;
+      mid = mid;
+      attended = attended_at (at_given given.0 c.give_routes.new.hub before given.1 given.2)
+          (ap (λ (rs : List (List Turn)). length rs) (rounds-with_given so_far.0 given.0) ∙ so_far.1);
       breaks = inr (subst P c.loop-turn.invariant.lines c.in-Err-take_due.ensures.breaks);
     }
 
 pub returns-in-Err-take_due-clause-keeps : goal.returns-in-Err-take_due-clause-keeps
 returns-in-Err-take_due-clause-keeps g c =
-    keeps_ill g.K.Keeper.may_leave g.K.Keeper.knows g.K.Keeper.count c.args.keeper.now c.take_due.new.keeper
+    keeps_ill g.K.Keeper.says c.args.keeper.now c.take_due.new.keeper
     c.in-Err-take_due.fault c.take_due.new.hub
     (omega (arith, c.loop-turn.invariant.kept, c.in-Ok.ensures.keeps.counts, c.in-Err-take_due.ensures.keeps.counts))
     (counted_from _ _ _ (omega (arith, c.loop-turn.invariant.kept, c.in-Ok.ensures.keeps.faultless))
@@ -169,7 +126,7 @@ returns-in-Err-take_due-clause-lines g c = λ d.
 
 pub returns-clause-keeps : goal.returns-clause-keeps
 returns-clause-keeps g c =
-    keeps_well g.K.Keeper.may_leave g.K.Keeper.knows g.K.Keeper.count c.args.keeper.now c.loop-turn.keeper tt
+    keeps_well g.K.Keeper.says c.args.keeper.now c.loop-turn.keeper tt
     c.loop-turn.hub
     c.loop-turn.invariant.settled c.loop-turn.invariant.kept
 
@@ -195,9 +152,7 @@ take_due-requires-clause-known g c =
 pub returns-clause-attended : goal.returns-clause-attended
 returns-clause-attended g c =
     let so_far = c.loop-turn.invariant.story in
-    attended_at g.W.Wire.passed g.W.Wire.count g.A.Attendant.brings c.args.rounds.now.lines c.args.hub.now
-    c.args.rounds.now.quiets c.args.wires.now so_far.0
-    c.loop-turn.hub c.loop-turn.rounds.quiets c.loop-turn.wires (omega (arith, so_far.1)) so_far.2
+    attended_at so_far.2 (omega (arith, so_far.1))
 
 pub returns-clause-lines : goal.returns-clause-lines
 returns-clause-lines g c = c.loop-turn.invariant.same

@@ -2,6 +2,7 @@ use Rattle.std.proofs.Common.{◌≡◌, List, length}
 use Rattle.njh_hub.specs.WholeHub.{SameLines}
 use Rattle.njh_turns.specs.Keeping.{IsSettled}
 use Rattle.njh_turns.specs.Service.{Happening, service_rounds}
+use Rattle.njh_turns.specs.Turns.{moment}
 use Rattle.njh_turns.proofs.ServiceLaws.{IsAt}
 use Rattle.njh_turns.proofs.service.attend.Given as goal
 
@@ -9,10 +10,10 @@ use Rattle.njh_turns.proofs.service.attend.Given as goal
 abbrev pub invariant-loop-turn : goal.invariant-loop-turn
 invariant-loop-turn g l = record {
   story : (story : List Happening) × (length (service_rounds story) ≡ l.turn) ×
-      IsAt g.W.Wire.passed g.W.Wire.count g.A.Attendant.brings l.fn.rounds.lines l.fn.hub l.fn.rounds.quiets l.fn.wires
-      story l.hub l.rounds.quiets l.wires;
+      IsAt g.W.Wire.says g.A.Attendant.brings l.fn.rounds.lines (moment l.fn.hub l.fn.rounds.quiets l.fn.wires) story
+      (moment l.hub l.rounds.quiets l.wires);
   lines : l.rounds.lines ≡ l.fn.rounds.lines;
   same : SameLines l.fn.hub l.hub;
-  settled : IsSettled g.K.Keeper.may_leave g.K.Keeper.knows l.keeper l.hub;
-  kept : g.K.Keeper.count l.keeper ≡ g.K.Keeper.count l.fn.keeper;
+  settled : IsSettled g.K.Keeper.says l.keeper l.hub;
+  kept : g.K.Keeper.says.count l.keeper ≡ g.K.Keeper.says.count l.fn.keeper;
 }

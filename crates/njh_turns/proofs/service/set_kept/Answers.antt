@@ -24,7 +24,7 @@ returns-in-Ok-settle-clause-given g c =
 
 pub returns-in-Ok-settle-clause-keeps : goal.returns-in-Ok-settle-clause-keeps
 returns-in-Ok-settle-clause-keeps g c =
-    keeps_well g.K.Keeper.may_leave g.K.Keeper.knows g.K.Keeper.count c.args.keeper.now c.settle.new.self _
+    keeps_well g.K.Keeper.says c.args.keeper.now c.settle.new.self _
     c.set_routes.new.self
     (c.in-Ok-settle.ensures.settled c.set_routes.new.self c.in-Ok-follow.ensures.known)
     (c.in-Ok-settle.ensures.faultless ∙ c.in-Ok-follow.ensures.faultless)
@@ -34,32 +34,32 @@ returns-in-Ok-settle-clause-keeps g c =
 pub returns-in-Err-follow-clause-breaks : goal.returns-in-Err-follow-clause-breaks
 returns-in-Err-follow-clause-breaks g c = (
   (c.args.new.now.customer, c.routes.result.now),
-  routes_break g.K.Keeper.may_leave c.args.hub.now c.set_routes.new.self c.args.new.now.customer c.routes.result.now
-      c.follow.new.self c.in-Ok.ensures.hub c.in-Ok.ensures.known c.in-Ok.ensures.checked
-      (either_of_only g.K.Keeper.may_leave c.follow.new.self c.args.hub.now c.set_routes.new.self
-      (leaves_only g.K.Keeper.may_leave c.args.keeper.now c.follow.new.self c.args.hub.now c.requires.settled.leaves
+  routes_break (g.K.Keeper.says.may_leave c.follow.new.self) c.args.hub.now c.set_routes.new.self
+      c.args.new.now.customer c.routes.result.now c.in-Ok.ensures.hub c.in-Ok.ensures.known c.in-Ok.ensures.checked
+      (either_of_only g.K.Keeper.says c.follow.new.self c.args.hub.now c.set_routes.new.self
+      (leaves_only g.K.Keeper.says c.args.keeper.now c.follow.new.self c.args.hub.now c.requires.settled.leaves
       c.in-Err-follow.ensures.leaves)),
 )
 
 pub returns-in-Err-follow-clause-keeps : goal.returns-in-Err-follow-clause-keeps
 returns-in-Err-follow-clause-keeps g c =
-    keeps_ill g.K.Keeper.may_leave g.K.Keeper.knows g.K.Keeper.count c.args.keeper.now c.follow.new.self
+    keeps_ill g.K.Keeper.says c.args.keeper.now c.follow.new.self
     c.in-Err-follow.fault
     c.set_routes.new.self c.in-Err-follow.ensures.counts c.in-Err-follow.ensures.counted
 
 pub returns-in-Err-settle-clause-breaks : goal.returns-in-Err-settle-clause-breaks
 returns-in-Err-settle-clause-breaks g c = (
   (c.args.new.now.customer, c.routes.result.now),
-  routes_break g.K.Keeper.may_leave c.args.hub.now c.set_routes.new.self c.args.new.now.customer c.routes.result.now
-      c.settle.new.self c.in-Ok.ensures.hub c.in-Ok.ensures.known c.in-Ok.ensures.checked
+  routes_break (g.K.Keeper.says.may_leave c.settle.new.self) c.args.hub.now c.set_routes.new.self
+      c.args.new.now.customer c.routes.result.now c.in-Ok.ensures.hub c.in-Ok.ensures.known c.in-Ok.ensures.checked
       (c.settle.ensures.crash c.args.hub.now c.set_routes.new.self
-      (leaves_only g.K.Keeper.may_leave c.args.keeper.now c.follow.new.self c.args.hub.now c.requires.settled.leaves
+      (leaves_only g.K.Keeper.says c.args.keeper.now c.follow.new.self c.args.hub.now c.requires.settled.leaves
       c.in-Ok-follow.ensures.leaves) c.in-Ok-follow.ensures.known),
 )
 
 pub returns-in-Err-settle-clause-keeps : goal.returns-in-Err-settle-clause-keeps
 returns-in-Err-settle-clause-keeps g c =
-    keeps_ill g.K.Keeper.may_leave g.K.Keeper.knows g.K.Keeper.count c.args.keeper.now c.settle.new.self
+    keeps_ill g.K.Keeper.says c.args.keeper.now c.settle.new.self
     c.in-Err-settle.fault
     c.set_routes.new.self (omega (arith, c.in-Ok-follow.ensures.faultless, c.in-Err-settle.ensures.counts))
     (counted_from _ _ _ (omega (arith, c.in-Ok-follow.ensures.faultless)) c.in-Err-settle.ensures.counted)

@@ -16,7 +16,7 @@ use Rattle.njh_turns.proofs.turn.pass_bytes.Goals as goal
 pub loop-taken-init : goal.loop-taken-init
 loop-taken-init g c =
     let none = after_bytes-none c.no_bytes_do_nothing.ensures c.args.hub.now c.args.id in
-    let P : HubRun → Type 0 = λ h. g.W.Wire.passed c.args.wire.now c.args.wire.now (map sent_act h.sent) in
+    let P : HubRun → Type 0 = λ h. g.W.Wire.says.passed c.args.wire.now c.args.wire.now (map sent_act h.sent) in
     record {
       within = omega arith;
       parts = sym (ap (λ (h : HubRun). h.parts) none);
@@ -63,13 +63,13 @@ loop-taken-preserved g c =
       after_is = did.hub;
       frame_is = did.frame;
     } in
-    let F : List ℕ → Type 0 = λ b. g.W.Wire.passed c.loop-taken.wire c.send.new.wire (frame_acts b) in
+    let F : List ℕ → Type 0 = λ b. g.W.Wire.says.passed c.loop-taken.wire c.send.new.wire (frame_acts b) in
     let sent = subst F c.deref.ensures.value c.in-Ok-send.ensures.ok in
     let before = map sent_act (after_bytes start id (take c.loop-taken.taken c.args.piece.now)).sent in
     let frame = c.take_bytes-used.new.out.items in
     let acts = g.met.W.Wire.more c.args.wire.now c.loop-taken.wire c.send.new.wire before (frame_acts frame)
     c.loop-taken.invariant.acts sent in
-    let P : List WireAct → Type 0 = λ s. g.W.Wire.passed c.args.wire.now c.send.new.wire s in
+    let P : List WireAct → Type 0 = λ s. g.W.Wire.says.passed c.args.wire.now c.send.new.wire s in
     record {
       within = omega (arith, c.take_bytes-used.ensures.within, c.split_at.ensures.back_len);
       parts = sym (ap (λ (h : HubRun). h.parts) (step_done step));
@@ -81,7 +81,7 @@ loop-taken-preserved g c =
           c.loop-taken.invariant.withheld
           c.in-Ok-send.ensures.withheld;
       knows = c.in-Ok.ensures.known;
-      leaves = no_more_then g.K.Keeper.may_leave c.args.keeper.now c.loop-taken.keeper c.follow.new.self
+      leaves = no_more_then g.K.Keeper.says c.args.keeper.now c.loop-taken.keeper c.follow.new.self
           c.loop-taken.invariant.leaves c.in-Ok.ensures.leaves;
       kept = c.in-Ok.ensures.faultless ∙ c.loop-taken.invariant.kept;
     }
@@ -106,16 +106,16 @@ returns-in-Err-clause-breaks g c =
       frame_is = did.frame;
     } in (
       AtStep c.loop-taken.taken (c.loop-taken.taken + c.take_bytes-used.result),
-      bytes_break g.W.Wire.passed g.W.Wire.count c.args.wire.now c.loop-taken.wire c.no_bytes_do_nothing.ensures step
+      bytes_break g.W.Wire.says c.args.wire.now c.loop-taken.wire c.no_bytes_do_nothing.ensures step
           (omega (arith, c.take_bytes-used.ensures.within, c.split_at.ensures.back_len))
           c.loop-taken.invariant.acts c.loop-taken.invariant.counts,
     )
 
 pub returns-in-Err-clause-follows : goal.returns-in-Err-clause-follows
 returns-in-Err-clause-follows g c =
-    follows_ill g.K.Keeper.may_leave g.K.Keeper.knows g.K.Keeper.count c.args.keeper.now c.follow.new.self
+    follows_ill g.K.Keeper.says c.args.keeper.now c.follow.new.self
     c.in-Err.fault
-    c.take_bytes-used.new.hub (no_more_then g.K.Keeper.may_leave c.args.keeper.now c.loop-taken.keeper c.follow.new.self
+    c.take_bytes-used.new.hub (no_more_then g.K.Keeper.says c.args.keeper.now c.loop-taken.keeper c.follow.new.self
     c.loop-taken.invariant.leaves c.in-Err.ensures.leaves)
     (omega (arith, c.loop-taken.invariant.kept, c.in-Err.ensures.counts))
     (counted_from _ _ _ (omega (arith, c.loop-taken.invariant.kept)) c.in-Err.ensures.counted)
@@ -152,7 +152,7 @@ returns-in-Err-send-clause-done g c =
     } in
     let n = c.loop-taken.taken + c.take_bytes-used.result in
     let frame = c.take_bytes-used.new.out.items in
-    let F : List ℕ → Type 0 = λ b. g.W.Wire.passed c.loop-taken.wire c.send.new.wire (Unsent b ∷ []) in
+    let F : List ℕ → Type 0 = λ b. g.W.Wire.says.passed c.loop-taken.wire c.send.new.wire (Unsent b ∷ []) in
     let unsent = subst F c.deref.ensures.value c.in-Err-send.ensures.err.0 in
     let some : 0 < length frame = omega (
       arith,
@@ -166,7 +166,7 @@ returns-in-Err-send-clause-done g c =
     omega (arith, c.take_bytes-used.ensures.within, c.split_at.ensures.back_len) in
     on_ok c.lose.result (
       Some n,
-      bytes_unsent g.W.Wire.passed g.W.Wire.count c.args.wire.now c.loop-taken.wire c.send.new.wire g.met.W.Wire.more
+      bytes_unsent g.W.Wire.says c.args.wire.now c.loop-taken.wire c.send.new.wire g.met.W.Wire.more
           c.cuts_are_like.ensures c.lose.new.hub step some any within c.loop-taken.invariant.acts
           c.loop-taken.invariant.counts
           unsent c.in-Err-send.ensures.counts c.in-Err-send.ensures.counted c.lose.ensures.step.hub,
@@ -191,7 +191,7 @@ returns-in-Err-send-clause-breaks g c =
     } in
     let n = c.loop-taken.taken + c.take_bytes-used.result in
     let frame = c.take_bytes-used.new.out.items in
-    let F : List ℕ → Type 0 = λ b. g.W.Wire.passed c.loop-taken.wire c.send.new.wire (Unsent b ∷ []) in
+    let F : List ℕ → Type 0 = λ b. g.W.Wire.says.passed c.loop-taken.wire c.send.new.wire (Unsent b ∷ []) in
     let unsent = subst F c.deref.ensures.value c.in-Err-send.ensures.err.0 in
     let some : 0 < length frame = omega (
       arith,
@@ -205,9 +205,9 @@ returns-in-Err-send-clause-breaks g c =
     omega (arith, c.take_bytes-used.ensures.within, c.split_at.ensures.back_len) in
     on_err c.lose.result (
       AtLoss n,
-      loss_breaks g.W.Wire.passed g.W.Wire.count start c.lose.new.hub (Bytes id c.args.piece.now) n c.args.wire.now
+      loss_breaks g.W.Wire.says start c.lose.new.hub (Bytes id c.args.piece.now) n c.args.wire.now
           c.send.new.wire
-          (bytes_unsent g.W.Wire.passed g.W.Wire.count c.args.wire.now c.loop-taken.wire c.send.new.wire
+          (bytes_unsent g.W.Wire.says c.args.wire.now c.loop-taken.wire c.send.new.wire
           g.met.W.Wire.more
           c.cuts_are_like.ensures c.lose.new.hub step some any within c.loop-taken.invariant.acts
           c.loop-taken.invariant.counts
@@ -216,9 +216,9 @@ returns-in-Err-send-clause-breaks g c =
 
 pub returns-in-Err-send-clause-follows : goal.returns-in-Err-send-clause-follows
 returns-in-Err-send-clause-follows g c =
-    follows_on g.K.Keeper.may_leave g.K.Keeper.knows g.K.Keeper.count c.args.keeper.now c.follow.new.self
+    follows_on g.K.Keeper.says c.args.keeper.now c.follow.new.self
     c.lose.new.keeper c.lose.result
-    c.lose.new.hub (no_more_then g.K.Keeper.may_leave c.args.keeper.now c.loop-taken.keeper c.follow.new.self
+    c.lose.new.hub (no_more_then g.K.Keeper.says c.args.keeper.now c.loop-taken.keeper c.follow.new.self
     c.loop-taken.invariant.leaves c.in-Ok.ensures.leaves) (c.in-Ok.ensures.faultless ∙ c.loop-taken.invariant.kept)
     c.lose.ensures.follows
 
@@ -240,7 +240,7 @@ returns-clause-done g c =
     ≡ hub_run c.args.hub.now (Bytes c.args.id c.args.piece.now ∷ []) =
     ap (after_bytes c.args.hub.now c.args.id) all ∙ sym (whole_done c.args.hub.now (Bytes c.args.id c.args.piece.now))
     in
-    let P : HubRun → Type 0 = λ h. g.W.Wire.passed c.args.wire.now c.loop-taken.wire (map sent_act h.sent) in (
+    let P : HubRun → Type 0 = λ h. g.W.Wire.says.passed c.args.wire.now c.loop-taken.wire (map sent_act h.sent) in (
       None,
       record {
         hub = c.loop-taken.invariant.parts ∙ ap (λ (h : HubRun). h.parts) on;
@@ -253,7 +253,7 @@ returns-clause-done g c =
 
 pub returns-clause-follows : goal.returns-clause-follows
 returns-clause-follows g c =
-    follows_well g.K.Keeper.may_leave g.K.Keeper.knows g.K.Keeper.count c.args.keeper.now c.loop-taken.keeper tt
+    follows_well g.K.Keeper.says c.args.keeper.now c.loop-taken.keeper tt
     c.loop-taken.hub
     c.loop-taken.invariant.knows c.loop-taken.invariant.leaves c.loop-taken.invariant.kept
 

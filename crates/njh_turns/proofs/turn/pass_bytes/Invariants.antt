@@ -12,14 +12,14 @@ abbrev pub invariant-loop-taken : goal.invariant-loop-taken
 invariant-loop-taken g l = record {
   within : l.taken ≤ length l.piece;
   parts : l.hub ≡ (after_bytes l.fn.hub l.id (take l.taken l.piece)).parts;
-  acts : g.W.Wire.passed l.fn.wire l.wire (map sent_act (after_bytes l.fn.hub l.id (take l.taken l.piece)).sent);
+  acts : g.W.Wire.says.passed l.fn.wire l.wire (map sent_act (after_bytes l.fn.hub l.id (take l.taken l.piece)).sent);
   same : SameLines l.fn.hub l.hub;
   room : longest_frame ≤ vec_capacity l.out;
-  counts : g.W.Wire.count l.fn.wire ≤ g.W.Wire.count l.wire;
-  withheld : g.W.Wire.withheld l.fn.wire l.wire;
-  knows : g.K.Keeper.knows l.keeper l.hub;
-  leaves : LeavesNoMore g.K.Keeper.may_leave l.fn.keeper l.keeper;
-  kept : g.K.Keeper.count l.keeper ≡ g.K.Keeper.count l.fn.keeper;
+  counts : g.W.Wire.says.count l.fn.wire ≤ g.W.Wire.says.count l.wire;
+  withheld : g.W.Wire.says.withheld l.fn.wire l.wire;
+  knows : g.K.Keeper.says.knows l.keeper l.hub;
+  leaves : LeavesNoMore g.K.Keeper.says l.fn.keeper l.keeper;
+  kept : g.K.Keeper.says.count l.keeper ≡ g.K.Keeper.says.count l.fn.keeper;
 }
 
 abbrev pub decreases-loop-taken : goal.decreases-loop-taken

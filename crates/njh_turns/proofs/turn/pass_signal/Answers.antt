@@ -15,13 +15,13 @@ follow-requires g c = record {
 pub returns-in-Err-clause-breaks : goal.returns-in-Err-clause-breaks
 returns-in-Err-clause-breaks g c = (
   AtStep 0 0,
-  signal_breaks g.W.Wire.passed g.W.Wire.count c.args.hub.now c.take_signal.new.hub c.args.signal c.args.id
+  signal_breaks g.W.Wire.says c.args.hub.now c.take_signal.new.hub c.args.signal c.args.id
       c.args.wire.now (g.met.W.Wire.none c.args.wire.now) c.take_signal.ensures.hub,
 )
 
 pub returns-in-Err-clause-follows : goal.returns-in-Err-clause-follows
 returns-in-Err-clause-follows g c =
-    follows_ill g.K.Keeper.may_leave g.K.Keeper.knows g.K.Keeper.count c.args.keeper.now c.follow.new.self
+    follows_ill g.K.Keeper.says c.args.keeper.now c.follow.new.self
     c.in-Err.fault
     c.take_signal.new.hub c.in-Err.ensures.leaves c.in-Err.ensures.counts c.in-Err.ensures.counted
 
@@ -30,7 +30,7 @@ returns-in-Err-clause-withheld g c = g.met.W.Wire.withheld_none c.args.wire.now
 
 pub returns-in-Ok-send-clause-follows : goal.returns-in-Ok-send-clause-follows
 returns-in-Ok-send-clause-follows g c =
-    follows_well g.K.Keeper.may_leave g.K.Keeper.knows g.K.Keeper.count c.args.keeper.now c.follow.new.self tt
+    follows_well g.K.Keeper.says c.args.keeper.now c.follow.new.self tt
     c.take_signal.new.hub
     c.in-Ok.ensures.known c.in-Ok.ensures.leaves c.in-Ok.ensures.faultless
 
@@ -40,7 +40,7 @@ lose-requires-clause-known g c = omega (arith, c.requires.known, c.take_signal.e
 pub returns-in-Err-send-clause-done : goal.returns-in-Err-send-clause-done
 returns-in-Err-send-clause-done g c =
     let frame = c.take_signal.new.out.items in
-    let F : List ℕ → Type 0 = λ b. g.W.Wire.passed c.args.wire.now c.send.new.wire (Unsent b ∷ []) in
+    let F : List ℕ → Type 0 = λ b. g.W.Wire.says.passed c.args.wire.now c.send.new.wire (Unsent b ∷ []) in
     let unsent = subst F c.deref.ensures.value c.in-Err-send.ensures.err.0 in
     let some : 0 < length frame = omega (
       arith,
@@ -50,7 +50,7 @@ returns-in-Err-send-clause-done g c =
     ) in
     on_ok c.lose.result (
       Some 0,
-      signal_lost g.W.Wire.passed g.W.Wire.count c.args.hub.now c.take_signal.new.hub c.lose.new.hub c.args.signal
+      signal_lost g.W.Wire.says c.args.hub.now c.take_signal.new.hub c.lose.new.hub c.args.signal
           c.args.id frame
           c.args.wire.now c.send.new.wire c.take_signal.ensures.hub c.take_signal.ensures.frame some unsent
           c.in-Err-send.ensures.counts c.in-Err-send.ensures.counted c.lose.ensures.step.hub,
@@ -59,7 +59,7 @@ returns-in-Err-send-clause-done g c =
 pub returns-in-Err-send-clause-breaks : goal.returns-in-Err-send-clause-breaks
 returns-in-Err-send-clause-breaks g c =
     let frame = c.take_signal.new.out.items in
-    let F : List ℕ → Type 0 = λ b. g.W.Wire.passed c.args.wire.now c.send.new.wire (Unsent b ∷ []) in
+    let F : List ℕ → Type 0 = λ b. g.W.Wire.says.passed c.args.wire.now c.send.new.wire (Unsent b ∷ []) in
     let unsent = subst F c.deref.ensures.value c.in-Err-send.ensures.err.0 in
     let some : 0 < length frame = omega (
       arith,
@@ -69,9 +69,9 @@ returns-in-Err-send-clause-breaks g c =
     ) in
     on_err c.lose.result (
       AtLoss 0,
-      loss_breaks g.W.Wire.passed g.W.Wire.count c.args.hub.now c.lose.new.hub (event_by c.args.signal c.args.id) 0
+      loss_breaks g.W.Wire.says c.args.hub.now c.lose.new.hub (event_by c.args.signal c.args.id) 0
           c.args.wire.now c.send.new.wire
-          (signal_lost g.W.Wire.passed g.W.Wire.count c.args.hub.now c.take_signal.new.hub c.lose.new.hub c.args.signal
+          (signal_lost g.W.Wire.says c.args.hub.now c.take_signal.new.hub c.lose.new.hub c.args.signal
           c.args.id
           frame c.args.wire.now c.send.new.wire c.take_signal.ensures.hub c.take_signal.ensures.frame some unsent
           c.in-Err-send.ensures.counts c.in-Err-send.ensures.counted c.lose.ensures.step.hub),
@@ -79,7 +79,7 @@ returns-in-Err-send-clause-breaks g c =
 
 pub returns-in-Err-send-clause-follows : goal.returns-in-Err-send-clause-follows
 returns-in-Err-send-clause-follows g c =
-    follows_on g.K.Keeper.may_leave g.K.Keeper.knows g.K.Keeper.count c.args.keeper.now c.follow.new.self
+    follows_on g.K.Keeper.says c.args.keeper.now c.follow.new.self
     c.lose.new.keeper c.lose.result
     c.lose.new.hub c.in-Ok.ensures.leaves c.in-Ok.ensures.faultless c.lose.ensures.follows
 

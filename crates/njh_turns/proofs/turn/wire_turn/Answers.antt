@@ -8,7 +8,7 @@ returns-clause-turn g c =
     let read = c.read-reading in
     let did = c.in-Ok.ensures.heard in (
       _,
-      read_turn g.W.Wire.passed g.W.Wire.count c.args.hub.now c.act_on.new.hub c.args.id c.args.quiet read.result
+      read_turn g.W.Wire.says c.args.hub.now c.act_on.new.hub c.args.id c.args.quiet read.result
           read.new.into did.0 c.args.wire.now read.new.self c.act_on.new.wire g.met.W.Wire.more read.ensures.answered
           read.ensures.counts read.ensures.counted did.1,
       c.quiets_behind-quiets.ensures.quiets,
@@ -16,7 +16,7 @@ returns-clause-turn g c =
 
 pub returns-clause-follows : goal.returns-clause-follows
 returns-clause-follows g c =
-    follows_well g.K.Keeper.may_leave g.K.Keeper.knows g.K.Keeper.count c.args.keeper.now c.act_on.new.keeper
+    follows_well g.K.Keeper.says c.args.keeper.now c.act_on.new.keeper
     c.quiets_behind-quiets.result c.act_on.new.hub c.in-Ok.ensures.follows.known c.in-Ok.ensures.follows.leaves
     c.in-Ok.ensures.follows.faultless
 
@@ -25,13 +25,13 @@ returns-in-Err-clause-breaks g c =
     let read = c.read-reading in
     let did = c.in-Err.ensures.breaks in (
       _,
-      turn_breaks g.W.Wire.passed g.W.Wire.count c.args.hub.now c.act_on.new.hub c.args.id c.args.quiet
+      turn_breaks g.W.Wire.says c.args.hub.now c.act_on.new.hub c.args.id c.args.quiet
           read.result read.new.into did.0 did.2 c.args.wire.now read.new.self c.act_on.new.wire
           g.met.W.Wire.more read.ensures.answered read.ensures.counts read.ensures.counted did.1 did.3,
     )
 
 pub returns-in-Err-clause-follows : goal.returns-in-Err-clause-follows
 returns-in-Err-clause-follows g c =
-    follows_ill g.K.Keeper.may_leave g.K.Keeper.knows g.K.Keeper.count c.args.keeper.now c.act_on.new.keeper
+    follows_ill g.K.Keeper.says c.args.keeper.now c.act_on.new.keeper
     c.in-Err.fault
     c.act_on.new.hub c.in-Err.ensures.follows.leaves c.in-Err.ensures.follows.counts c.in-Err.ensures.follows.counted

@@ -2,4 +2,4 @@ use Rattle.tests_keeper.proofs.playing.play_bytes.Given as goal
 
 -- what the keeper knows is the hub as it is
 abbrev pub invariant-steps : goal.invariant-steps
-invariant-steps g l = record { known : g.K.Keeper.knows l.keeper l.hub }
+invariant-steps g l = record { known : g.K.Keeper.says.knows l.keeper l.hub }

@@ -19,8 +19,11 @@ returns-clause-settled g c =
         → OnOk r (StandsAsFound g.S.Store g.S.Origin.found c.args.self.now.store)
         → (HasCleanDisk (shown g.S.Store c.open_hub.new.self.store)
         → OnOk r (HasCleanDisk (shown g.S.Store c.args.self.now.store)))
-        → IfOk r (λ hub. IsSettled (MayLeaveOf g.S.Store g.S.Origin.found) (KnowsHub g.S.Store g.S.Origin.found)
-        c.open_hub.new.self hub)
+        → IfOk r (λ hub. IsSettled (record {
+          may_leave = MayLeaveOf g.S.Store g.S.Origin.found;
+          knows = KnowsHub g.S.Store g.S.Origin.found;
+          count = λ keeper. keeper.failures;
+        }) c.open_hub.new.self hub)
     by (Err e) settled known stood early = tt
     by (Ok hub) settled known stood early = record {
       known = known;

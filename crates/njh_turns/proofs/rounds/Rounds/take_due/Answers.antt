@@ -14,7 +14,7 @@ returns-clause-breaks g c =
       breaks = inr (
         record { turns = round.0; whole = round.1; new_quiets = _; round = round.2 },
         c.settle.ensures.crash c.args.hub.now c.visit.new.hub
-            (leaves_only g.K.Keeper.may_leave c.args.keeper.now c.visit.new.keeper c.args.hub.now
+            (leaves_only g.K.Keeper.says c.args.keeper.now c.visit.new.keeper c.args.hub.now
             c.requires.settled.leaves
             follows.leaves) follows.known,
       );
@@ -23,7 +23,7 @@ returns-clause-breaks g c =
 
 pub returns-clause-keeps : goal.returns-clause-keeps
 returns-clause-keeps g c =
-    keeps_settled g.K.Keeper.may_leave g.K.Keeper.knows g.K.Keeper.count c.args.keeper.now c.visit.new.keeper
+    keeps_settled g.K.Keeper.says c.args.keeper.now c.visit.new.keeper
     c.settle.new.self
     c.settle.result c.visit.new.hub c.in-Ok.ensures.follows.faultless c.in-Ok.ensures.follows.known
     c.settle.ensures.settled
@@ -34,7 +34,7 @@ pub returns-in-Err-clause-breaks : goal.returns-in-Err-clause-breaks
 returns-in-Err-clause-breaks g c = record {
   breaks = inl (
     c.in-Err.ensures.stops,
-    leaves_only g.K.Keeper.may_leave c.args.keeper.now c.visit.new.keeper c.args.hub.now c.requires.settled.leaves
+    leaves_only g.K.Keeper.says c.args.keeper.now c.visit.new.keeper c.args.hub.now c.requires.settled.leaves
         c.in-Err.ensures.follows.leaves,
   );
   none_out = c.visit.ensures.withheld;
@@ -42,5 +42,5 @@ returns-in-Err-clause-breaks g c = record {
 
 pub returns-in-Err-clause-keeps : goal.returns-in-Err-clause-keeps
 returns-in-Err-clause-keeps g c =
-    keeps_ill g.K.Keeper.may_leave g.K.Keeper.knows g.K.Keeper.count c.args.keeper.now c.visit.new.keeper c.in-Err.fault
+    keeps_ill g.K.Keeper.says c.args.keeper.now c.visit.new.keeper c.in-Err.fault
     c.visit.new.hub c.in-Err.ensures.follows.counts c.in-Err.ensures.follows.counted

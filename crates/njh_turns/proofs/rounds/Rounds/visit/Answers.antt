@@ -4,7 +4,8 @@ use Rattle.njh_table.specs.declared.LineId.{LineId}
 use Rattle.njh_hub.specs.WholeHub.{HasLine}
 use Rattle.njh_hub.proofs.RunningLaws.{counted_from}
 use Rattle.njh_turns.specs.Breaks.{TurnBreaks}
-use Rattle.njh_turns.specs.Turns.{LineQuiets, IsRound, no_line_id}
+use Rattle.njh_turns.specs.Turns.{LineQuiets, IsRound, no_line_id, moment}
+use Rattle.njh_turns.specs.Wires.{hub_wire}
 use Rattle.njh_turns.proofs.BreakLaws.{round_stops, withheld_on}
 use Rattle.njh_turns.proofs.KeepingLaws.{follows_ill, follows_well, no_more_then}
 use Rattle.njh_turns.proofs.RoundLaws.{GoesRound, round_more, round_none, round_over, passed_over}
@@ -17,7 +18,7 @@ loop-i-init g c =
       turns = (
         [],
         refl,
-        round_none g.W.Wire.passed g.W.Wire.count rounds.lines c.args.hub.now rounds.quiets c.args.wires.now,
+        round_none g.W.Wire.says rounds.lines (moment c.args.hub.now rounds.quiets c.args.wires.now),
       );
       lines = refl;
       same = λ d. refl;
@@ -53,8 +54,7 @@ take_turn-requires-clause-known g c =
 
 pub loop-i-preserved : goal.loop-i-preserved
 loop-i-preserved g c =
-    let passed = g.W.Wire.passed in
-    let count = g.W.Wire.count in
+    let says = g.W.Wire.says in
     let i = c.loop-i.i in
     let start = c.args.self.now in
     let rounds = c.loop-i.self in
@@ -76,9 +76,9 @@ loop-i-preserved g c =
       ap (λ (r : LineQuiets). length r.lines) c.self.view_is,
     ) in
     let wire_is = ap (get_or wires i) c.index-wires-i.is in
-    let goes : GoesRound passed count start.lines c.args.hub.now start.quiets c.args.wires.now so_far.0 c.loop-i.hub
-    rounds.quiets wires i (get_or rounds.lines i no_line_id) (get_or rounds.quiets i 0) did.0 wire new.hub new.wire =
-    record {
+    let first = moment c.args.hub.now start.quiets c.args.wires.now in
+    let goes : GoesRound says start.lines first so_far.0 (moment c.loop-i.hub rounds.quiets wires) i
+    (get_or rounds.lines i no_line_id) (get_or rounds.quiets i 0) did.0 wire (hub_wire new.hub new.wire) = record {
       so_far = so_far.2;
       at = so_far.1;
       lines_left = within;
@@ -89,8 +89,8 @@ loop-i-preserved g c =
       wire_is = wire_is;
       did = did.1;
     } in
-    let P : List ℕ → Type 0 = λ qs. IsRound passed count start.lines c.args.hub.now start.quiets c.args.wires.now
-    (so_far.0 ++ did.0 ∷ []) new.hub qs (set wires i new.wire) in
+    let P : List ℕ → Type 0 = λ qs. IsRound says start.lines first (so_far.0 ++ did.0 ∷ [])
+    (moment new.hub qs (set wires i new.wire)) in
     record {
       turns = (
         so_far.0 ++ did.0 ∷ [],
@@ -99,10 +99,10 @@ loop-i-preserved g c =
       );
       lines = c.take_turn.ensures.same ∙ c.loop-i.invariant.lines;
       same = λ d. c.in-Ok.ensures.lines d ∙ c.loop-i.invariant.same d;
-      withheld = withheld_on g.W.Wire.withheld g.met.W.Wire.withheld_more c.args.wires.now wires i wire new.wire
+      withheld = withheld_on g.W.Wire.says g.met.W.Wire.withheld_more c.args.wires.now wires i wire new.wire
           (omega (arith, c.requires.same, within)) wire_is c.loop-i.invariant.withheld c.in-Ok.ensures.withheld;
       knows = c.in-Ok.ensures.follows.known;
-      leaves = no_more_then g.K.Keeper.may_leave c.args.keeper.now c.loop-i.keeper new.keeper c.loop-i.invariant.leaves
+      leaves = no_more_then g.K.Keeper.says c.args.keeper.now c.loop-i.keeper new.keeper c.loop-i.invariant.leaves
           c.in-Ok.ensures.follows.leaves;
       kept = c.in-Ok.ensures.follows.faultless ∙ c.loop-i.invariant.kept;
     }
@@ -146,8 +146,9 @@ returns-in-Err-clause-stops g c =
     let so_far = c.loop-i.invariant.turns in
     let broke = c.in-Err.ensures.breaks in
     let wire = get_or c.loop-i.wires i c.index-wires-i.result in
-    let P : List LineId → Type 0 = λ ls. TurnBreaks g.W.Wire.passed g.W.Wire.count c.loop-i.hub (get_or ls i no_line_id)
-    (get_or c.loop-i.self.quiets i 0) broke.0 wire c.take_turn.new.hub c.take_turn.new.wire in
+    let P : List LineId → Type 0 = λ ls. TurnBreaks g.W.Wire.says (get_or ls i no_line_id)
+    (get_or c.loop-i.self.quiets i 0) (hub_wire c.loop-i.hub wire) broke.0
+    (hub_wire c.take_turn.new.hub c.take_turn.new.wire) in
     let within : c.loop-i.i < length c.args.self.now.lines = omega (
       arith,
       c.loop-i-test.true,
@@ -159,8 +160,8 @@ returns-in-Err-clause-stops g c =
 
 pub returns-in-Err-clause-follows : goal.returns-in-Err-clause-follows
 returns-in-Err-clause-follows g c =
-    follows_ill g.K.Keeper.may_leave g.K.Keeper.knows g.K.Keeper.count c.args.keeper.now c.take_turn.new.keeper
-    c.in-Err.fault c.take_turn.new.hub (no_more_then g.K.Keeper.may_leave c.args.keeper.now c.loop-i.keeper
+    follows_ill g.K.Keeper.says c.args.keeper.now c.take_turn.new.keeper
+    c.in-Err.fault c.take_turn.new.hub (no_more_then g.K.Keeper.says c.args.keeper.now c.loop-i.keeper
     c.take_turn.new.keeper c.loop-i.invariant.leaves c.in-Err.ensures.follows.leaves)
     (omega (arith, c.loop-i.invariant.kept, c.in-Err.ensures.follows.counts))
     (counted_from _ _ _ (omega (arith, c.loop-i.invariant.kept)) c.in-Err.ensures.follows.counted)
@@ -175,7 +176,7 @@ returns-in-Err-clause-withheld g c =
       c.len-i-end.ensures,
       ap (λ (r : LineQuiets). length r.lines) c.self.view_is,
     ) in
-    withheld_on g.W.Wire.withheld g.met.W.Wire.withheld_more c.args.wires.now wires i
+    withheld_on g.W.Wire.says g.met.W.Wire.withheld_more c.args.wires.now wires i
     (get_or wires i c.index-wires-i.result)
     c.take_turn.new.wire (omega (arith, c.requires.same, within)) (ap (get_or wires i) c.index-wires-i.is)
     c.loop-i.invariant.withheld c.in-Err.ensures.withheld
@@ -197,7 +198,7 @@ returns-clause-round g c =
 
 pub returns-clause-follows : goal.returns-clause-follows
 returns-clause-follows g c =
-    follows_well g.K.Keeper.may_leave g.K.Keeper.knows g.K.Keeper.count c.args.keeper.now c.loop-i.keeper tt
+    follows_well g.K.Keeper.says c.args.keeper.now c.loop-i.keeper tt
     c.loop-i.hub
     c.loop-i.invariant.knows c.loop-i.invariant.leaves c.loop-i.invariant.kept
 
