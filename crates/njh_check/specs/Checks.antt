@@ -11,7 +11,7 @@ Tells text None written = MatchResult (walk_of text) (λ t. written ≡ report_o
 Tells text (Some placed) written =
     (walk_of text ≡ Err placed) × (told : List ℕ) × IsFaultText text placed told × (written ≡ told ++ 10 ∷ [])
 
--- the text of the first fault, where there is one
+-- the text of the first fault, if there is one
 abbrev pub TellsFault : List ℕ → Option (List ℕ) → Type 0
 TellsFault text None = IfErr (walk_of text) (λ _. ⊥)
 TellsFault text (Some told) = MatchResult (walk_of text) (λ _. ⊥) (λ placed. IsFaultText text placed told)

@@ -1,4 +1,4 @@
--- What stands at a place of a table file.
+-- What is at a place of a table file.
 use Rattle.std.specs.Prelude.{ℕ, List, Option, Some, None, option_and_then}
 use Rattle.toml.specs.Data.{Data, Members, get_member, get_item, as_array, as_table}
 use Rattle.njh_table.specs.declared.places.Key.{Key}
@@ -7,7 +7,7 @@ use Rattle.njh_table.specs.declared.places.Part.{Part}
 use Rattle.njh_table.specs.declared.places.Part.TheVariants as parts
 use Rattle.njh_table.specs.Places.{key_name}
 
--- the element of a number in the list at a key, where there is one
+-- the element of a number in the list at a key, if there is one
 unfoldable pub element : ℕ → Key → Members → Option Data
 element number key keys = option_and_then (get_item number) (option_and_then as_array (get_member (key_name key) keys))
 

@@ -27,14 +27,14 @@ fault_name faults.QuotaOver = codes "K7 QuotaOver"
 fault_name faults.TooMany = codes "K8 TooMany"
 fault_name faults.Memory = codes "K9 Memory"
 
--- the text at a key of a part, where there is one
+-- the text at a key of a part, if there is one
 unfoldable pub text_at : Part → Key → Members → Option (List ℕ)
 text_at part key document = option_and_then as_str (value_at part (Some key) document)
 
 unfoldable pub customer_words : ℕ → Members → List ℕ
 customer_words c document = numbered (codes "customer") c (text_at (parts.Customer c) named.Name document)
 
--- a part of the file: numbers count from 1 on, and a name stands beside each where it is known
+-- a part of the file: numbers count from 1 on, and a name is beside each if it is known
 unfoldable pub part_words : Part → Members → List ℕ
 part_words parts.File document = codes "the file"
 part_words (parts.Customer c) document = customer_words c document

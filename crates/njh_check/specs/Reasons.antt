@@ -33,7 +33,7 @@ line_words (parts.Customer c) = codes "a list of lines"
 line_words (parts.Line c n) = codes "a list"
 line_words (parts.Route c n) = codes "a line's name"
 
--- what may stand at a key
+-- what may be at a key
 unfoldable pub wanted_words : Part → Key → List ℕ
 wanted_words part named.Capacity = between_words 1 max_capacity
 wanted_words part named.Customer = codes "a list of customers"
@@ -98,7 +98,7 @@ unfoldable pub quotas_in : Members → ℕ
 quotas_in document =
     option_map_or quotas_of (option_and_then as_array (get_member (key_name named.Customer) document)) 0
 
--- what is wrong, by the fault, its place and what stands there
+-- what is wrong, by the fault, its place and what is there
 unfoldable pub reason_words : TableFault → Members → Part → Option Key → Option Data → List ℕ
 reason_words faults.BadToml document part key value = codes "no TOML"
 reason_words faults.MissingKey document part key value = missing_words key value

@@ -6,7 +6,7 @@ use Rattle.std.specs.List.{list_all}
 use Rattle.toml.specs.Data.{Data, as_str, as_integer, as_array, as_table}
 use Rattle.njh_ebcdic.specs.Names.{within}
 
--- one text behind another, as the pieces of a line stand
+-- one text after another, as the pieces of a line come
 infixr 20 ◌+++◌
 abbrev pub ◌+++◌ : List ℕ → List ℕ → List ℕ
 front +++ back = front ++ back
@@ -32,12 +32,12 @@ number_or_kind_words value = elim (as_integer value) [ None ↦ kind_words value
 unfoldable pub value_words : Data → List ℕ
 value_words value = elim (as_str value) [ None ↦ number_or_kind_words value | Some text ↦ text_words text ]
 
--- a value, where there is one
+-- a value, if there is one
 unfoldable pub found_words : Option Data → List ℕ
 found_words None = codes "nothing"
 found_words (Some value) = value_words value
 
--- a name in brackets, where there is one that is shown
+-- a name in brackets, if there is one that is shown
 unfoldable pub label_words : Option (List ℕ) → List ℕ
 label_words None = []
 label_words (Some name) = cond (is_shown name) (codes " (" +++ name +++ codes ")") []

@@ -64,7 +64,7 @@ fn fault_of_file(placed: PlacedFault) -> Result<PlacedFault, CheckFault>
     }
 }
 
-/// The first fault of a table file; none where the tables are right.
+/// The first fault of a table file; none if the tables are right.
 fn first_fault(alloc: Global, text: &str) -> Result<Option<PlacedFault>, CheckFault>
     ensures first { IfOk result (λ found. MatchOption found (IfErr (walk_of text.now) (λ _. ⊥))
         (λ placed. walk_of text.now ≡ Err placed)) }
@@ -76,7 +76,7 @@ fn first_fault(alloc: Global, text: &str) -> Result<Option<PlacedFault>, CheckFa
     }
 }
 
-/// The text of the first fault of a table file, in one line of ASCII without its end; none where
+/// The text of the first fault of a table file, in one line of ASCII without its end; none if
 /// the tables are right. Want of memory is the only refusal. It reads a file with a fault twice.
 pub fn fault_text(alloc: Global, text: &str) -> Result<Option<String>, CheckFault>
     ensures told { IfOk result (λ found. TellsFault text.now (option_map string_bytes found)) }
@@ -137,11 +137,11 @@ fn fault_outcome(
 }
 
 /// Checks a table file, and writes the report of its tables, or the line of its first fault.
-/// Answers that fault, or none where the tables are right.
+/// Answers that fault, or none if the tables are right.
 ///
-/// The report has a line for each customer, behind it one for each of its lines and one for each of
+/// The report has a line for each customer, after it one for each of its lines and one for each of
 /// its routes, and at the end one for the spool. The line of a fault is `fault_text`, ended by 0A.
-/// Where memory is refused nothing was written.
+/// If memory is refused nothing was written.
 pub fn check<W: Write>(
     alloc: Global,
     text: &str,

@@ -1,4 +1,4 @@
-//! What stands at a place of a table file.
+//! What is at a place of a table file.
 
 ghost use Rattle.std.specs.Prelude.{◌≡◌, option_map};
 ghost use Rattle.toml.specs.Data.{get_member, get_item};
@@ -26,7 +26,7 @@ fn value_of_number(values: &[Value], number: usize) -> Option<&Value>
     None
 }
 
-/// The element of a number in the list at a key, where there is one.
+/// The element of a number in the list at a key, if there is one.
 #[tactic(auto, unfolding(crate::specs::Elements::element))]
 fn element(keys: &Table, key: Key, number: usize) -> Option<&Value>
     ensures { option_map (λ v. view v.now) result ≡ element number key (table_view keys.now) }

@@ -15,7 +15,7 @@ use toml::Table;
 
 /// The number and the name of a fault.
 #[tactic(auto, unfolding(crate::specs::FaultTexts::fault_name))]
-fn fault_name(fault: TableFault) -> &'static str
+pub(crate) fn fault_name(fault: TableFault) -> &'static str
     ensures { result.now ≡ fault_name fault }
 {
     match fault {
@@ -31,7 +31,7 @@ fn fault_name(fault: TableFault) -> &'static str
     }
 }
 
-/// The text at a key of a part, where there is one.
+/// The text at a key of a part, if there is one.
 #[tactic(auto, unfolding(crate::specs::FaultTexts::text_at))]
 fn text_at(document: &Table, part: Part, key: Key) -> Option<&str>
     ensures { option_map (λ t. t.now) result ≡ text_at part key (table_view document.now) }
@@ -66,7 +66,7 @@ fn part_words(alloc: Global, document: &Table, part: Part) -> Result<String, All
     }
 }
 
-/// A part of a customer, behind the customer.
+/// A part of a customer, after the customer.
 fn with_customer(
     alloc: Global,
     document: &Table,

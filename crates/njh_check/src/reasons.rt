@@ -42,7 +42,7 @@ fn line_words(part: Part) -> &'static str
     }
 }
 
-/// What may stand at a key.
+/// What may be at a key.
 #[tactic(auto, unfolding(crate::specs::Reasons::wanted_words))]
 fn wanted_words(part: Part, key: Key) -> &'static str
     ensures { result.now ≡ wanted_words part key }
@@ -225,7 +225,7 @@ fn quota_over_words(
     told_of(alloc, value, over.as_str())
 }
 
-/// What is wrong, by the fault, its place and what stands there.
+/// What is wrong, by the fault, its place and what is there.
 #[tactic(auto, unfolding(crate::specs::Reasons::reason_words))]
 pub(crate) fn reason_words(
     alloc: Global,

@@ -80,7 +80,7 @@ fn value_words(alloc: Global, value: &Value) -> Result<String, AllocError>
     }
 }
 
-/// A value in words, where there is one.
+/// A value in words, if there is one.
 #[tactic(auto, unfolding(crate::specs::Words::found_words))]
 pub(crate) fn found_words(alloc: Global, value: Option<&Value>) -> Result<String, AllocError>
     ensures { IfOk result (λ words. string_bytes words ≡ found_words (option_map (λ v. view v.now) value.entry)) }
@@ -91,7 +91,7 @@ pub(crate) fn found_words(alloc: Global, value: Option<&Value>) -> Result<String
     }
 }
 
-/// A name in brackets, where there is one that is shown.
+/// A name in brackets, if there is one that is shown.
 #[tactic(auto, unfolding(crate::specs::Words::label_words))]
 fn label_words(alloc: Global, name: Option<&str>) -> Result<String, AllocError>
     ensures { IfOk result (λ words. string_bytes words ≡ label_words (option_map (λ n. n.now) name.entry)) }

@@ -32,7 +32,7 @@ pub shown-ascii : (byte : ℕ) → printed_character byte < 128
 unfolding character_of
 shown-ascii byte = found-ascii byte table refl
 
--- the items before one, that one, and those behind it
+-- the items before one, that one, and those after it
 pub flat_map-split : {X : Type 0} (f : X → List ℕ) (xs : List X) (i : ℕ) (none : X) → i < length xs
     → flat_map f (take i xs) ++ (f (get_or xs i none) ++ flat_map f (drop (suc i) xs)) ≡ flat_map f xs
 flat_map-split f [] i none within = absurd (omega (arith, within))

@@ -1,12 +1,10 @@
 mod FileLaws
-mod FoundLines
 mod LineForms
 mod Lines
-mod Parting
+pub mod Parting
 mod PlainLines
 mod PrintSteps
 mod PrintedParts
 mod Printing
-mod ReasonLaws
 mod ReplayLaws
 mod StartLaws

@@ -1,21 +1,29 @@
 -- A script read line by line.
-use Rattle.std.proofs.Common.{◌≡◌, ℕ, ◌+◌, ◌<◌, ◌≤◌, true, false, not, eqb, List, [], ◌∷◌, ◌++◌, length, get_or, take}
-use Rattle.std.proofs.Common.{Ok, Err, refl, sym, ap, ◌∙◌, arith, inl, inr}
+use Rattle.std.proofs.Common.{◌≡◌, ℕ, ◌+◌, ◌<◌, ◌≤◌, true, false, not, List, [], ◌∷◌, ◌++◌, length, get_or, take}
+use Rattle.std.proofs.Common.{drop, Ok, Err, refl, sym, ap, ◌∙◌, arith, inl, inr}
 use Rattle.std.specs.List.{position_or_len, filter_map, cons_option}
 use Rattle.std.proofs.lemmas.Bool.{cases_eq, lt-ltb, le-ltb}
-use Rattle.std.proofs.lemmas.List.{take_more, take_all, get_or_read}
+use Rattle.std.proofs.lemmas.List.{drop_more, get_or_read, length-drop, take_more, take_all}
 use Rattle.std.proofs.lemmas.List.Elements.{filter_map-append}
-use Rattle.std.proofs.lemmas.List.Splits.{length-slice_split}
-use Rattle.std.proofs.lemmas.List.Sums.{position_or_len_is, count_by-le-length}
+use Rattle.std.proofs.lemmas.List.Sums.{position_or_len_is}
 use Rattle.njh_table.specs.TableFile.{TableFile}
 use Rattle.njh_hub.specs.declared.event.Event.{Event}
-use Rattle.njh_replay.specs.Script.{lines_of, can_stand, event_in, script_events, script_of_lines}
+use Rattle.njh_replay.specs.Script.{can_stand, event_in, script_events, script_of_lines}
 
--- there is at most one line more than the text has bytes
-pub length-lines_of : (text : List ℕ) → length (lines_of text) ≤ length text + 1
-length-lines_of text = omega (arith, length-slice_split (λ b. eqb b 10) text, count_by-le-length (λ b. eqb b 10) text)
+-- the next of some lines
+pub record IsNext (lines : List (List ℕ)) (n : ℕ) (line : List ℕ) (more : List (List ℕ)) : Type 0 where
+  pub within : n < length lines
+  pub at : line ≡ get_or lines n line
+  pub left : drop (n + 1) lines ≡ more
 
--- the first n lines may all stand in a script, and have these events
+pub IsNext-from : (lines : List (List ℕ)) (n : ℕ) (line : List ℕ) (more : List (List ℕ)) → drop n lines ≡ line ∷ more
+    → IsNext lines n line more
+IsNext-from lines n line more is =
+    let below : n < length lines = omega (arith, length-drop n lines, ap (length {A = List ℕ}) is) in
+    let head = drop_more lines n line below in
+    record { within = below; at = cc; left = cc }
+
+-- the first n lines may all be in a script, and have these events
 pub record Reads (tables : TableFile) (lines : List (List ℕ)) (n : ℕ) (events : List Event) : Type 0 where
   pub tell : events ≡ script_events tables (take n lines)
   pub good : (k : ℕ) (d : List ℕ) → k < n → can_stand tables (get_or lines k d) ≡ true

@@ -1,4 +1,4 @@
--- A text that a mark parts: what stands before the first one, and the parts behind that.
+-- A text that a mark parts: what comes before the first one, and the parts after that.
 use Rattle.std.proofs.Common.{◌≡◌, ℕ, ◌<◌, ◌≤◌, ◌+◌, eqb, Bool, true, false, cond, List, [], ◌∷◌, length, Some, None}
 use Rattle.std.proofs.Common.{refl, arith, length-drop, Bor}
 use Rattle.std.proofs.lemmas.List.Splits.{slice_split_none, slice_split_first}
@@ -21,7 +21,7 @@ parts-whole c text ascii whole =
     let past = split_once_first c text None whole ascii in
     parts-none c text (omega arith)
 
--- a text with the mark is what stands before the first, and the parts of what stands behind it
+-- a text with the mark is what comes before the first, and the parts of what comes after it
 pub parts-first : (c : ℕ) (text : List ℕ) (part rest : Bor (List ℕ)) → c < 128
     → IsSplitOnceResult c text (Some (part, rest))
     → (slice_split (λ b. eqb b c) text ≡ part.now ∷ slice_split (λ b. eqb b c) rest.now)

@@ -1,4 +1,4 @@
--- A line of `BYTES` by its bytes: where it begins as it should and the digits are such, it is text, and has this event.
+-- A line of `BYTES` by its bytes: if it begins as it should and the digits are such, it is text, and has this event.
 use Rattle.std.proofs.Common.{◌≡◌, ℕ, ◌<◌, true, codes, List, [], ◌∷◌, ◌++◌, get_or, Some, None, option_and_then}
 use Rattle.std.proofs.Common.{Result, Ok, Err, refl, sym, ap, subst, ◌∙◌, append_assoc, arith, lit<}
 use Rattle.std.specs.Option.{option_map}

@@ -176,7 +176,7 @@ printed_begins names later a b front more whole printed all = (
   printed.1,
 )
 
--- where memory ran out, the frames of all that had happened were printed
+-- if memory ran out, the frames of all that had happened were printed
 pub stopped_whole : {S : Type 0} (took : S → S → List (LineId × List ℕ) → Type 0)
     (refused : S → S → LineId × List ℕ → Type 0) (why : Cause)
     (before after : S) (sent : List (LineId × List ℕ)) → HandedUntil took refused why before after sent
@@ -192,7 +192,7 @@ Keeps-none None b written = tt
 Keeps-none (Some x) None written = absurd written
 Keeps-none (Some x) (Some y) written = written ∙ append-nil x
 
--- A run that ran out of memory did so at an event that gives routes, or behind such events alone, which send nothing.
+-- A run that ran out of memory did so at an event that gives routes, or after such events alone, which send nothing.
 pub stopped_at_routes : (names : List (List (List ℕ))) (parts : List Part) (events : List Event) (k n : ℕ)
     (a b : Option (List ℕ)) → n ≡ 0
     → (IsSomeAnd (slice_get events k) IsRoutes ⊎ All IsRoutes (take k events))

@@ -13,7 +13,7 @@ use Rattle.njh_table.specs.TableFile.{TableFile, line_named, HasLine}
 use Rattle.njh_replay.specs.code.LineStarts.{IsStart}
 use Rattle.njh_replay.proofs.LineForms.{is_blank}
 
--- the first word of what stands behind a blank, and that it is there
+-- the first word of what comes after a blank, and that it is there
 pub record IsFirstWord (rest name : List ℕ) : Type 0 where
   pub word : All (λ b. eqb b 32 ≡ false) name
   pub behind : List ℕ
@@ -41,7 +41,7 @@ first_word rest name len first named =
           ∙ ap (λ (b : ℕ). name ++ (b ∷ after_first is_blank rest)) blank);
     }
 
--- so the bytes up to the blank behind it are a start
+-- so the bytes up to the blank after it are a start
 pub found_start : (tables : TableFile) (line rest name : List ℕ) (len : ℕ) (found : LineId)
     → line ≡ 66 ∷ 89 ∷ 84 ∷ 69 ∷ 83 ∷ 32 ∷ rest → IsFirstByte (is_byte 32) rest (Some len) → name ≡ take len rest
     → IsUtf8 name

@@ -1,7 +1,6 @@
-pub mod Checked
+pub mod FirstParts
 pub mod LineNames
 pub mod Printed
-pub mod Reasons
 pub mod Replayed
 pub mod Script
 pub mod ScriptRoutes

@@ -26,7 +26,7 @@ abbrev pub frames_text : List (List (List ℕ)) → List (LineId × List ℕ) �
 frames_text names [] = []
 frames_text names (pair ∷ pairs) = pair_text names pair ++ frames_text names pairs
 
--- a file: the name of its customer, a blank, what NJH001 says of it behind its number, and the end of the line
+-- a file: the name of its customer, a blank, what NJH001 says of it after its number, and the end of the line
 unfoldable pub file_text : List ℕ → FileView → List ℕ
 file_text name file = shown_text (without_end_blanks name) ++ 32 ∷ [] ++ shown_text (printed_file_line file) ++ 10 ∷ []
 

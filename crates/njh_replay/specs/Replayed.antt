@@ -19,7 +19,7 @@ use Rattle.njh_io.specs.Written.{AppendsBeginning}
 use Rattle.njh_replay.specs.Printed.{files_from, frames_text}
 use Rattle.njh_replay.specs.Script.{max_script_bytes, script_of}
 
--- what a reader has left, where that is known, is a good script of these events
+-- what a reader has left, if that is known, is a good script of these events
 abbrev pub HasScript : TableFile → Option (List ℕ) → List Event → Type 0
 HasScript tables left events =
     IfSome left (λ text. (length text ≤ max_script_bytes) × (script_of tables text ≡ Ok events))
@@ -44,18 +44,18 @@ abbrev pub text_of_run : TableFile → List Event → List ℕ
 text_of_run tables events =
     text_by (names_of tables) (map part_at_open (entries_of tables)) events (customers_of tables)
 
--- the customers of numbers below a count stand alike
+-- the customers of numbers below a count are alike
 abbrev pub SameParts : (parts others : List Part) → ℕ → Type 0
 SameParts parts others count = (c : ℕ) → c < count → part c others ≡ part c parts
 
 -- A script was replayed: what a reader had left is a good script, and the text of the run over its events came after
--- what had been written; each where that is known.
+-- what had been written; each if that is known.
 abbrev pub IsReplayed : (tables : TableFile) (left old new : Option (List ℕ)) → Type 0
 IsReplayed tables left old new = (events : List Event) × HasScript tables left events
     × Appends old new (text_of_run tables events)
 
 -- A script was replayed in part: it is a good script, and a beginning of the text of the run over its events came after
--- what had been written; each where that is known.
+-- what had been written; each if that is known.
 abbrev pub IsBegun : (tables : TableFile) (left old new : Option (List ℕ)) → Type 0
 IsBegun tables left old new = (events : List Event) × HasScript tables left events
     × AppendsBeginning old new (text_of_run tables events)
@@ -67,7 +67,7 @@ IsSentUpTo names parts events old new = (count : ℕ) × IsSomeAnd (slice_get ev
     × Appends old new (frames_text names (hub_run parts (take count events)).sent)
 
 -- A script was replayed up to an event that gives routes: it is a good script, and the frames of the events before that
--- one came after what had been written; each where that is known.
+-- one came after what had been written; each if that is known.
 abbrev pub IsReplayedToRoutes : (tables : TableFile) (left old new : Option (List ℕ)) → Type 0
 IsReplayedToRoutes tables left old new = (events : List Event) × HasScript tables left events
     × IsSentUpTo (names_of tables) (map part_at_open (entries_of tables)) events old new
@@ -95,15 +95,15 @@ fault_after cause.Sink = Device
 abbrev pub MayStop : ReplayFault → Type 0
 MayStop fault = MayEnd fault × (IsRefusal fault → ⊥)
 
--- What a step that prints a text has done by its result: after what had been written came the whole text; or, where a
--- fault stopped the step, a beginning of it, and where memory ran out as much as `short` says.
+-- What a step that prints a text has done by its result: after what had been written came the whole text; or, if a
+-- fault stopped the step, a beginning of it, and if memory ran out as much as `short` says.
 abbrev pub Prints : {A : Type 0} → Result A ReplayFault → (old new : Option (List ℕ)) (text : List ℕ)
     (short : Option (List ℕ) → Option (List ℕ) → Type 0) → Type 0
 Prints (Ok x) old new text short = Appends old new text
 Prints (Err fault) old new text short =
     AppendsBeginning old new text × MayStop fault × (fault ≡ Hub Memory → short old new)
 
--- What is written where memory ran out in a run: nothing, or the frames of the events before one that gives routes.
+-- What is written if memory ran out in a run: nothing, or the frames of the events before one that gives routes.
 abbrev pub IsRunShort : (names : List (List (List ℕ))) (parts : List Part) (events : List Event)
     (old new : Option (List ℕ)) → Type 0
 IsRunShort names parts events old new = Keeps old new ⊎ IsSentUpTo names parts events old new

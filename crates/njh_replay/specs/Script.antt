@@ -10,15 +10,12 @@ use Rattle.njh_table.specs.declared.LineId.{LineId}
 use Rattle.njh_table.specs.TableFile.{TableFile, line_named}
 use Rattle.njh_hub.specs.declared.event.Event.{Event}
 use Rattle.njh_hub.specs.declared.event.Event.TheVariants.{Bytes, Tick, Garbled, Lost}
+use Rattle.njh_io.specs.Lines.{lines_of}
 use Rattle.njh_replay.specs.ScriptRoutes.{event_of_routes}
 
 -- how many bytes a script has at most: the product's own limit
 abbrev pub max_script_bytes : ℕ
 max_script_bytes = 1048576
-
--- the lines of a text, each ended by the byte 0A, the last by that or by the text's end
-abbrev pub lines_of : List ℕ → List (List ℕ)
-lines_of text = slice_split (λ b. b == 10) text
 
 -- the words of a line, which one blank parts
 abbrev pub words_of : List ℕ → List (List ℕ)
@@ -52,7 +49,7 @@ abbrev pub bytes_on : List ℕ → List ℕ → LineId → Option Event
 bytes_on word digits id =
     if bytes_eq word (codes "BYTES") then option_map (λ piece. Bytes id piece) (piece_of digits) else None
 
--- the event of words on a line of the hub, where names gives the line of a name
+-- the event of words on a line of the hub; names gives the line of a name
 abbrev pub event_on_line : (List ℕ → Option LineId) → List (List ℕ) → Option Event
 event_on_line names (word ∷ name ∷ []) = option_and_then (signal_of word) (names name)
 event_on_line names (word ∷ name ∷ digits ∷ []) = option_and_then (bytes_on word digits) (names name)
@@ -69,7 +66,7 @@ event_of_words tables (word ∷ words) =
 unfoldable pub script_event : TableFile → List ℕ → Option Event
 script_event tables line = if is_utf8 line then event_of_words tables (words_of line) else None
 
--- whether a line may stand in a script: it is skipped or has an event
+-- whether a line may be in a script: it is skipped or has an event
 unfoldable pub can_stand : TableFile → List ℕ → Bool
 can_stand tables line = is_skipped line || is_some (script_event tables line)
 
@@ -81,7 +78,7 @@ event_in tables line = if is_skipped line then None else script_event tables lin
 abbrev pub script_events : TableFile → List (List ℕ) → List Event
 script_events tables lines = filter_map (event_in tables) lines
 
--- the number of the first line that may not stand there, where the first line is 1
+-- the number of the first line that may not be in a script; the first line is 1
 abbrev pub first_bad : TableFile → List (List ℕ) → Option ℕ
 first_bad tables lines = option_map (λ place. place + 1) (position (λ line. not (can_stand tables line)) lines)
 

@@ -21,12 +21,12 @@ customer_named tables word =
 abbrev pub parts_of_pair : List ℕ → List (List ℕ)
 parts_of_pair word = slice_split (λ b. b == 58) word
 
--- the second line of a route by its name, whoever's it is; none where no name is given
+-- the second line of a route by its name, whoever's it is; none if no name is given
 abbrev pub second_by : TableFile → Option (List ℕ) → Option (Option LineId)
 second_by tables None = Some None
 second_by tables (Some name) = option_map (λ l. Some l) (line_named tables name)
 
--- the route of a node, the name of a line, and that of a second one where it has one, whoever's lines these are
+-- the route of a node, the name of a line, and that of a second one if it has one, whoever's lines these are
 abbrev pub route_by : TableFile → List ℕ → List ℕ → Option (List ℕ) → Option GivenRoute
 route_by tables node line second =
     option_and_then
@@ -40,7 +40,7 @@ route_by_lines tables node (line ∷ []) = route_by tables node line None
 route_by_lines tables node (line ∷ second ∷ []) = route_by tables node line (Some second)
 route_by_lines tables node lines = None
 
--- the route of a pair: a node, a colon and the name of a line, and another colon and the name of a second line where it
+-- the route of a pair: a node, a colon and the name of a line, and another colon and the name of a second line if it
 -- has one
 abbrev pub route_of_parts : TableFile → List (List ℕ) → Option GivenRoute
 route_of_parts tables [] = None
@@ -49,7 +49,7 @@ route_of_parts tables (node ∷ lines) = route_by_lines tables node lines
 abbrev pub route_of_pair : TableFile → List ℕ → Option GivenRoute
 route_of_pair tables pair = route_of_parts tables (parts_of_pair pair)
 
--- the routes of pairs, where each is one
+-- the routes of pairs, if each is one
 abbrev pub routes_of_pairs : TableFile → List (List ℕ) → Option (List GivenRoute)
 routes_of_pairs tables [] = Some []
 routes_of_pairs tables (pair ∷ pairs) = option_and_then
@@ -59,11 +59,11 @@ routes_of_pairs tables (pair ∷ pairs) = option_and_then
 abbrev pub may_have : TableFile → ℕ → List GivenRoute → Bool
 may_have tables c routes = is_ok (routes_checked (entry_of (customer_at tables c)) (new_routes_of c routes))
 
--- the event that a customer is given routes, where it may have them
+-- the event that a customer is given routes, if it may have them
 abbrev pub routes_for : TableFile → ℕ → List GivenRoute → Option Event
 routes_for tables c routes = if may_have tables c routes then Some (Routes c routes) else None
 
--- the event of the words behind `ROUTES`: a customer's name, and pairs
+-- the event of the words after `ROUTES`: a customer's name, and pairs
 abbrev pub event_of_routes : TableFile → List (List ℕ) → Option Event
 event_of_routes tables [] = None
 event_of_routes tables (name ∷ pairs) = option_and_then

@@ -13,7 +13,7 @@ use thiserror::Error;
 /// Why a script wasn't replayed to its end.
 ///
 /// `TooLong` comes before `Script`, and nothing was written then. After `Device` a beginning of the
-/// whole output was written, or nothing. Where memory ran out, nothing was written, or the frames
+/// whole output was written, or nothing. If memory ran out, nothing was written, or the frames
 /// of all events before one that gives routes.
 #[derive(Clone, Copy, Debug, PartialEq, Eq, Error)]
 pub enum ReplayFault {

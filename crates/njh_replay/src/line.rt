@@ -38,8 +38,8 @@ pub fn event_of(
     }
 }
 
-/// The event of a line of `BYTES` that stands as it should and begins so.
-/// Where there is none the line is looked at again, whole.
+/// The event of a line of `BYTES` that is as it should be and begins so.
+/// If there is none the line is looked at again, whole.
 fn plain_event(
     alloc: Global,
     tables: &Tables,
@@ -84,7 +84,7 @@ fn event_of_text(alloc: Global, tables: &Tables, line: &str) -> Result<Option<Ev
     event_on_line(alloc, tables, word, rest)
 }
 
-/// The event of a word and what stands behind it: the name of a line, and digits where it is
+/// The event of a word and what comes after it: the name of a line, and digits if it is
 /// `BYTES`.
 #[tactic(auto, using(crate::proofs::LineForms::named_on))]
 fn event_on_line(

@@ -16,7 +16,7 @@ pub struct Start<'a> {
     pub line: LineId,
 }
 
-/// What a line of a script begins with. It is looked up only where that isn't what the line before
+/// What a line of a script begins with. It is looked up only if that isn't what the line before
 /// began with.
 pub fn start_of<'a>(tables: &Tables, line: &'a [u8], before: Option<Start<'a>>) -> Option<Start<'a>>
     requires { IfSome before (λ start. IsStart tables.now start.front.now start.line) }
@@ -46,7 +46,7 @@ fn found_start<'a>(tables: &Tables, line: &'a [u8]) -> Option<Start<'a>>
     Some(Start { front, line: owner })
 }
 
-/// What stands behind the word `BYTES` and a blank.
+/// What comes after the word `BYTES` and a blank.
 fn behind_word(line: &[u8]) -> Option<&[u8]>
     ensures { IfSome result (λ rest. line.now ≡ 66 ∷ 89 ∷ 84 ∷ 69 ∷ 83 ∷ 32 ∷ rest.now) }
 {

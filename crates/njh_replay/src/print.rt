@@ -33,7 +33,7 @@ impl FrameRoom {
     }
 }
 
-/// Prints a frame that goes out on a line of this name, by one write where it has the room. It
+/// Prints a frame that goes out on a line of this name, by one write if it has the room. It
 /// takes no memory. After a fault a beginning of it was printed.
 pub fn print_frame<W: Write>(
     out: &mut W,

@@ -19,7 +19,7 @@ use crate::print::FrameRoom;
 use crate::printer::Printer;
 use crate::script::{MAX_SCRIPT_BYTES, events_of};
 use njh_ebcdic::Name;
-use njh_hub::{Cause, Event, Hub, HubFault, each_is_alone, sent_in_order};
+use njh_hub::{Cause, Event, Hub, HubFault, sent_in_order};
 use njh_io::read_text;
 use njh_table::Tables;
 use std::alloc::Global;
@@ -39,7 +39,7 @@ pub fn replay<R: Read, W: Write>(
     ensures replayed { OnOk result (IsReplayed tables (R.remaining script.old) (W.contents out.old)
         (W.contents out.new)) }
 
-    // It is refused where it is too long, or else at its first bad line, and then nothing is
+    // It is refused if it is too long, or else at its first bad line, and then nothing is
     // written.
     ensures long { result ≡ Err ReplayFault.TooLong → HasTooLong (R.remaining script.old) }
     ensures bad { (number : ℕ) → result ≡ Err (ReplayFault.Script number) →
@@ -122,10 +122,7 @@ fn print_run<W: Write>(
     ensures customers { length hub.new ≡ length hub.old }
 {
     match hub.run(events, printer) {
-        Ok(()) => {
-            each_is_alone();
-            Ok(())
-        }
+        Ok(()) => Ok(()),
         Err(fault) => {
             sent_in_order();
             Err(fault_after(fault.cause))

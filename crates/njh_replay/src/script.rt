@@ -9,8 +9,8 @@ ghost use Rattle.njh_replay.specs.code.LineStarts.{Begins, IsStart};
 use crate::fault::ReplayFault;
 use crate::line::event_of;
 use crate::line_starts::{Start, start_of};
-use crate::script_lines::first_line;
 use njh_hub::{Event, HubFault};
+use njh_io::next_line;
 use njh_table::Tables;
 use std::alloc::{AllocError, Global};
 
@@ -31,21 +31,18 @@ pub fn events_of(alloc: Global, tables: &Tables, text: &[u8]) -> Result<Vec<Even
     let mut number = 0;
     let mut rest = text;
     let mut start = None;
-    'lines: loop {
-        let (line, behind) = first_line(rest);
+    while let Some((line, after)) = next_line(rest) {
         number += 1;
         start = start_of(tables, line, start);
         if !add_event(alloc, tables, line, start, &mut events)? {
             return Err(ReplayFault::Script { line: number });
         }
-        match behind {
-            Some(behind) => rest = behind,
-            None => return Ok(events),
-        }
+        rest = after;
     }
+    Ok(events)
 }
 
-/// Adds the event of a line that isn't skipped. Says whether the line may stand in a script; if
+/// Adds the event of a line that isn't skipped. Says whether the line may be in a script; if
 /// not, nothing was added.
 #[tactic(auto, unfolding(crate::specs::Script::can_stand, crate::specs::Script::event_in))]
 fn add_event(

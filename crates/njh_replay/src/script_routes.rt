@@ -2,7 +2,7 @@
 
 ghost use Rattle.std.specs.Prelude.{◌≡◌, ◌<◌, ◌==◌, ◌∷◌, length, option_map, position, bytes_eq, IfOk, IfSome};
 ghost use Rattle.std.specs.List.{slice_split};
-ghost use Rattle.njh_replay.specs.code.FirstLines.{parts_behind};
+ghost use Rattle.njh_replay.specs.FirstParts.{parts_behind};
 ghost use Rattle.njh_replay.specs.Script.{words_of};
 ghost use Rattle.njh_replay.specs.ScriptRoutes.{customer_named, parts_of_pair, routes_for, route_of_pair, route_by};
 ghost use Rattle.njh_replay.specs.ScriptRoutes.{route_by_lines, event_of_routes, routes_of_pairs, second_by};
@@ -13,7 +13,7 @@ use njh_hub::{Event, GivenRoutes};
 use njh_table::{GivenRoute, LineId, NamedCustomer, Tables};
 use std::alloc::{AllocError, Global};
 
-/// The event of the words behind `ROUTES`, if they have one: a customer's name and then a pair for
+/// The event of the words after `ROUTES`, if they have one: a customer's name and then a pair for
 /// each route, which the customer may have all together. Out of memory is the only refusal.
 pub fn event_of_routes(
     alloc: Global,
@@ -33,7 +33,7 @@ pub fn event_of_routes(
     }
 }
 
-/// The event that a customer is given routes, where it may have them.
+/// The event that a customer is given routes, if it may have them.
 fn routes_for(
     alloc: Global,
     tables: &Tables,
@@ -51,7 +51,7 @@ fn routes_for(
 }
 
 /// The number of the customer that a word names.
-pub(crate) fn customer_named(tables: &Tables, word: &str) -> Option<u16>
+pub fn customer_named(tables: &Tables, word: &str) -> Option<u16>
     ensures number { result ≡ customer_named tables.now word.now }
     ensures known { IfSome result (λ customer. customer < length tables.now.customers) }
 {
@@ -76,8 +76,8 @@ fn is_named(customer: &NamedCustomer, name: Name) -> bool
     name == customer.name()
 }
 
-/// The routes of pairs, where each is one.
-pub(crate) fn routes_of_pairs(
+/// The routes of pairs, if each is one.
+pub fn routes_of_pairs(
     alloc: Global,
     tables: &Tables,
     pairs: Option<&str>,
@@ -87,7 +87,7 @@ pub(crate) fn routes_of_pairs(
 {
     let mut routes = Vec::new(alloc);
     let mut left = pairs;
-    'pairs: while let Some(text) = left {
+    while let Some(text) = left {
         let (pair, behind) = first_part(text, ' ');
         match route_of_pair(tables, pair) {
             Some(route) => routes.push(route)?,
@@ -99,7 +99,7 @@ pub(crate) fn routes_of_pairs(
 }
 
 /// The route of a pair: a node, a colon and the name of a line, and another colon and the name of a
-/// second line where it has one.
+/// second line if it has one.
 fn route_of_pair(tables: &Tables, pair: &str) -> Option<GivenRoute>
     ensures { result ≡ route_of_pair tables.now pair.now }
 {
@@ -135,7 +135,7 @@ fn route_by(tables: &Tables, node: &str, line: &str, second: Option<&str>) -> Op
     })
 }
 
-/// The second line of a route by its name, whoever's it is; none where no name is given.
+/// The second line of a route by its name, whoever's it is; none if no name is given.
 fn second_by(tables: &Tables, second: Option<&str>) -> Option<Option<LineId>>
     ensures { result ≡ second_by tables.now (option_map (λ name. name.now) second.entry) }
 {
@@ -148,8 +148,8 @@ fn second_by(tables: &Tables, second: Option<&str>) -> Option<Option<LineId>>
     }
 }
 
-/// What stands before the first separator in a text, or all; and what stands behind that separator.
-pub(crate) fn first_part(text: &str, separator: char) -> (&str, Option<&str>)
+/// What comes before the first separator in a text, or all; and what comes after that separator.
+pub fn first_part(text: &str, separator: char) -> (&str, Option<&str>)
     requires { separator < 128 }
     ensures parts { slice_split (λ b. b == separator) text.now ≡ result.0.now ∷ parts_behind separator result.1 }
     ensures shorter { IfSome result.1 (λ behind. length behind.now < length text.now) }

@@ -27,7 +27,7 @@ pub beginning_whole : (old new : Option (List ℕ)) (whole : List ℕ) → Appen
     → AppendsBeginning old new whole
 beginning_whole old new whole written = (whole, [], append-nil whole, written)
 
--- the tables are given where a file is named, however it is named
+-- the tables are given if a file is named, however it is named
 pub given_by : {P Q : Type 0} (path : Option P) (f : P → Q) (tables : TableFile) → AreGiven (option_map f path) tables
     → AreGiven path tables
 given_by None f tables given = given
@@ -99,8 +99,8 @@ script_end (Err (Tables fault)) path ended = absurd ended
 script_end (Err Found) path ended = tt
 script_end (Err (failure.Files fault)) path ended = absurd ended
 script_end (Err (Replay TooLong)) path ended = tt
-script_end (Err (Replay Device)) path ended = tt
-script_end (Err (Replay (Hub fault))) path ended = ended
+script_end (Err (Replay Device)) path ended = absurd ended
+script_end (Err (Replay (Hub fault))) path ended = absurd ended
 script_end (Err (Replay (Script number))) path ended = absurd ended
 script_end (Err (Arguments error)) path ended = absurd ended
 script_end (Err (Encode end)) path ended = absurd ended

@@ -1,9 +1,8 @@
 -- What the check of a script says, and why there is none.
 use Rattle.std.specs.Prelude.{◌≡◌, ◌⊎◌, ℕ, Bool, false, List, Option, ⊤}
 use Rattle.std.specs.Io.KnownBytes.{Appends}
-use Rattle.njh_hub.specs.declared.fault.HubFault.TheVariants.{Memory}
 use Rattle.njh_io.specs.Written.{AppendsBeginning}
-use Rattle.njh_replay.specs.Checked.{check_words, is_right}
+use Rattle.njh_check.specs.ScriptChecks.{check_words, is_right}
 use Rattle.njh_replay.specs.declared.fault.ReplayFault.TheVariants.{TooLong, Script, Device, Hub}
 use Rattle.njh_table.specs.TableFile.{TableFile}
 use Rattle.njh_subcommands.specs.TableBytes.{AreGiven, AreRefused}
@@ -21,7 +20,7 @@ IsSaidBy tables right old new =
 abbrev pub IsBegunBy : TableFile → (old new : Option (List ℕ)) → Type 0
 IsBegunBy tables old new = (text : List ℕ) × AppendsBeginning old new (check_words tables text)
 
--- by the tables where a file is named or none is
+-- by the tables if a file is named or none is
 abbrev pub IsScriptChecked : {Path : Type 0} → Option Path → (right : Bool) → (old new : Option (List ℕ)) → Type 0
 IsScriptChecked path right old new = (tables : TableFile) × AreGiven path tables × IsSaidBy tables right old new
 
@@ -42,8 +41,8 @@ IsScriptEnd Found = ⊤
 IsScriptEnd (failure.Files fault) = ⊥
 IsScriptEnd (Tables fault) = ⊥
 IsScriptEnd (Replay TooLong) = ⊤
-IsScriptEnd (Replay Device) = ⊤
-IsScriptEnd (Replay (Hub fault)) = fault ≡ Memory
+IsScriptEnd (Replay Device) = ⊥
+IsScriptEnd (Replay (Hub fault)) = ⊥
 IsScriptEnd (Replay (Script number)) = ⊥
 IsScriptEnd (Arguments error) = ⊥
 IsScriptEnd (Encode end) = ⊥

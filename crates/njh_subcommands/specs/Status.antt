@@ -10,13 +10,13 @@ use Rattle.njh_table.specs.declared.fault.TableFault.{TableFault}
 use Rattle.njh_trace.specs.declared.fault.TraceFault.TheVariants as trace
 use Rattle.njh_table.specs.declared.fault.TableFault.TheVariants.{Memory}
 
--- 1 where the tables are refused, 2 where there was no memory for them
+-- 1 if the tables are refused, 2 if there was no memory for them
 abbrev pub table_status : TableFault → ℕ
 table_status Memory = 2
 table_status fault = 1
 
--- 1 where arguments, tables, the script, the trace or a line in words are refused, a check found a fault, or
--- a spool file has no such file, several, or one that can't be put back; 2 where another thing fails
+-- 1 if arguments, tables, the script, the trace or a line in words are refused, a check found a fault, or
+-- a spool file has no such file, several, or one that can't be put back; 2 if another thing fails
 abbrev pub status_of : Failure → ℕ
 status_of (Arguments error) = 1
 status_of (Tables fault) = table_status fault
@@ -39,18 +39,18 @@ status_of failure.Device = 2
 status_of failure.Memory = 2
 
 -- What is refused before anything is written: all that has status 1 but a trace, of which the lines before a line that
--- is too long were told, a line in words, where what the lines before it become was written, and what a check found.
+-- is too long were told, a line in words, of which what the lines before it become was written, and what a check found.
 abbrev pub ComesFirst : Failure → Type 0
 ComesFirst (Trace fault) = ⊥
 ComesFirst (Encode end) = ⊥
 ComesFirst Found = ⊥
 ComesFirst failure = status_of failure ≡ 1
 
--- the status to end with: 0 where nothing failed
+-- the status to end with: 0 if nothing failed
 abbrev pub status_after : {A : Type 0} → Result A Failure → ℕ
 status_after (Ok x) = 0
 status_after (Err failure) = status_of failure
 
--- an error becomes this failure, but out of memory where its kind says that
+-- an error becomes this failure, but out of memory if its kind says that
 abbrev pub Becomes : {Kind : Type 0} → (kind memory : Kind) → Failure → Failure → Type 0
 Becomes kind memory other why = ((kind ≡ memory) × (why ≡ failure.Memory)) ⊎ ((kind ≢ memory) × (why ≡ other))

@@ -10,11 +10,11 @@ use Rattle.njh_subcommands.specs.declared.failure.Failure.{Failure}
 use Rattle.njh_subcommands.specs.declared.failure.Failure.TheVariants.{Tables}
 use Rattle.njh_subcommands.specs.declared.failure.Failure.TheVariants as failure
 
--- what the text gives, where the bytes are one; a file that is no UTF-8 is no TOML
+-- what the text gives, if the bytes are one; a file that is no UTF-8 is no TOML
 unfoldable pub tables_in : List ℕ → Result TableFile TableFault
 tables_in bytes = if is_utf8 bytes then tables_of bytes else Err BadToml
 
--- the tables where a file is named or none is: those that the bytes of some file give, or the base tables
+-- the tables if a file is named or none is: those that the bytes of some file give, or the base tables
 abbrev pub AreGiven : {Path : Type 0} → Option Path → TableFile → Type 0
 AreGiven None tables = tables ≡ base_tables
 AreGiven (Some path) tables = (bytes : List ℕ) × (tables_in bytes ≡ Ok tables)

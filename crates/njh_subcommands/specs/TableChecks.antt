@@ -14,7 +14,7 @@ use Rattle.njh_subcommands.specs.declared.failure.Failure.TheVariants as failure
 abbrev pub no_text_words : List ℕ
 no_text_words = codes "K1 BadToml: not UTF-8\n"
 
--- what is said of bytes: the report of their tables, where they are right; or the first fault, where they aren't
+-- what is said of bytes: the report of their tables, if they are right; or the first fault, if they aren't
 abbrev pub IsSaidOf : (right : Bool) (bytes words : List ℕ) → Type 0
 IsSaidOf true bytes words = (is_utf8 bytes ≡ true) × Tells bytes None words
 IsSaidOf false bytes words = ((is_utf8 bytes ≡ true) × ((placed : PlacedFault) × Tells bytes (Some placed) words))

@@ -41,7 +41,7 @@ IsBegunAs false tables left old new = IsBegun tables left old new
 IsBegunAs true tables left old new = IsBegunInWords tables left old new
 
 -- The lines in words that a reader had left became lines of a script, none of them bad, and these came after what had
--- been written; or those before the first bad line did; or a beginning of them. What a file gave whose name stands in
+-- been written; or those before the first bad line did; or a beginning of them. What a file gave whose name is in
 -- them is some text: no clause says which bytes a file holds.
 abbrev pub IsEncoded : (bad : Option EncodeFault) (left old new : Option (List ℕ)) → Type 0
 IsEncoded bad left old new = IfSome left (IsEncodedTo None bad old new)

@@ -11,8 +11,9 @@ ghost use Rattle.njh_subcommands.specs.Status.{ComesFirst};
 use crate::failure::Failure;
 use crate::table_check::tell_tables;
 use crate::table_file::{table_bytes, tables_in};
+use njh_check::{CheckFault, check_script};
 use njh_io::{ReadFault, read_text};
-use njh_replay::{ReplayFault, check_script};
+use njh_replay::ReplayFault;
 use njh_table::{TableFault, Tables};
 use std::alloc::Global;
 use std::fs::File;
@@ -22,7 +23,7 @@ use std::rt::Files;
 /// The most bytes of a script that is read to be checked, 16 MiB: more than a script may have.
 const MAX_CHECKED_BYTES: usize = 16_777_216;
 
-/// Checks the script of a file by the tables of another, or the base tables where none is named,
+/// Checks the script of a file by the tables of another, or the base tables if none is named,
 /// and says what is wrong with it. One with a bad line is `Found`; so are tables with a fault, of
 /// which that is said, and nothing of the script.
 ///
@@ -74,9 +75,11 @@ fn say_script<R: Files + AllocGlobal, W: Write>(
     ensures silent { IfErr result (λ failure. ComesFirst failure → Keeps (W.contents out.old) (W.contents out.new)) }
 {
     let text = script_bytes(rt, path)?;
-    match check_script(rt.alloc(), tables, &text, out)? {
-        true => Ok(()),
-        false => Err(Failure::Found),
+    match check_script(rt.alloc(), tables, &text, out) {
+        Ok(true) => Ok(()),
+        Ok(false) => Err(Failure::Found),
+        Err(CheckFault::Memory) => Err(Failure::Memory),
+        Err(CheckFault::Device) => Err(Failure::Device),
     }
 }
 

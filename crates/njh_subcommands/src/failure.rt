@@ -39,9 +39,9 @@ pub enum Failure {
 }
 
 impl Failure {
-    /// The status to end with: 1 where the arguments, the tables, the script, the trace or a line
+    /// The status to end with: 1 if the arguments, the tables, the script, the trace or a line
     /// in words are refused, a check found a fault, or a spool file has no such file, several, or
-    /// one that can't be put back; 2 where a file, a stream or memory fails.
+    /// one that can't be put back; 2 if a file, a stream or memory fails.
     pub fn status(&self) -> u8
         ensures { result ≡ status_of self.now }
     {

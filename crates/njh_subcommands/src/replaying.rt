@@ -18,7 +18,7 @@ use std::alloc::Global;
 use std::io::{Read, Write};
 use std::rt::Files;
 
-/// Replays a script by the tables of a file, or by the base tables where none is named, with its
+/// Replays a script by the tables of a file, or by the base tables if none is named, with its
 /// output in words or not.
 pub(crate) fn replay_by<F: Files + AllocGlobal, R: Read, W: Write>(
     rt: &F,

@@ -13,7 +13,7 @@ use std::rt::Files;
 /// The most bytes of a table file, 16 MiB: ten times what the largest tables need.
 const MAX_TABLE_BYTES: usize = 16_777_216;
 
-/// The tables of a file, or the base tables where none is named.
+/// The tables of a file, or the base tables if none is named.
 ///
 /// No clause says which bytes a file holds, so of a file no more is known than that its tables are
 /// those of some bytes. It is read to a bound; one that is longer is `TooMany`.

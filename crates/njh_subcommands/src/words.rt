@@ -15,7 +15,7 @@ use std::io::{Read, Write};
 /// Room for the first of what a replay prints, which has more than any of its lines: 64 kB.
 const FIRST_ROOM: usize = 65_536;
 
-/// Replays a script, and prints what `decode` says of that, once the run is over.
+/// Replays a script, and prints what `decode` says of that, after the run is over.
 pub(crate) fn replay_in_words<R: Read, W: Write>(
     alloc: Global,
     tables: Tables,

@@ -1,7 +1,8 @@
 //! Lines of scripts, each a script of its own, and scripts of the greatest length.
 
 use crate::trial::tables_of;
-use njh_replay::{ReplayFault, check_script, replay};
+use njh_check::check_script;
+use njh_replay::{ReplayFault, replay};
 use njh_table::Tables;
 use std::alloc::Global;
 use std::io;

@@ -1,4 +1,4 @@
--- The laws that a sink that prints owes. An `impl` takes its proofs from specs/ alone, so they stand here.
+-- The laws that a sink that prints owes. An `impl` takes its proofs from specs/ alone, so they are here.
 use Rattle.std.proofs.Common.{◌≡◌, ℕ, List, [], ◌∷◌, ◌++◌, Option, refl, sym, ap, ◌∙◌, append_assoc}
 use Rattle.std.specs.Io.KnownBytes.{Appends}
 use Rattle.std.proofs.KnownBytes.{Appends-nil, Appends-trans}

@@ -1,7 +1,8 @@
-use Rattle.std.proofs.Common.{◌≡◌, ◌∙◌}
+use Rattle.std.proofs.Common.{◌≡◌, sym, ◌∙◌}
 use Rattle.njh_hub.specs.declared.fault.HubFault.TheVariants.{Memory}
 use Rattle.njh_hub.specs.OwnEvents.{first_events}
 use Rattle.njh_hub.specs.WholeHub.{hub_run}
+use Rattle.njh_hub.proofs.RunLaws.{each_is_alone}
 use Rattle.njh_replay.specs.declared.fault.ReplayFault.TheVariants.{Hub}
 use Rattle.njh_replay.specs.Replayed.{fault_after}
 use Rattle.njh_io.specs.Written.{AppendsBeginning}
@@ -10,6 +11,12 @@ use Rattle.njh_replay.proofs.PrintedParts.{beginning-part}
 use Rattle.njh_replay.proofs.ReplayLaws.{MayStop-stopped, printed_begins, stopped_begun, stopped_whole}
 use Rattle.njh_replay.proofs.ReplayLaws.{stopped_at_routes}
 use Rattle.njh_replay.proofs.replaying.print_run.Goals as goal
+
+-- the hub is what the run over all events leaves
+pub returns-in-Ok-clause-after : goal.returns-in-Ok-clause-after
+returns-in-Ok-clause-after g c = λ customer there.
+    c.in-Ok.ensures.parts customer there
+    ∙ sym (each_is_alone customer c.args.hub.now c.args.events.now there).after
 
 pub returns-in-Err-clause-printed : goal.returns-in-Err-clause-printed
 returns-in-Err-clause-printed g c =

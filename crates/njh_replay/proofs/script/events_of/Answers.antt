@@ -1,51 +1,44 @@
-use Rattle.std.proofs.Common.{◌≡◌, ◌+◌, ◌<◌, [], refl, length-drop, true, false, length, drop, ap, ◌∙◌, arith, rules}
-use Rattle.njh_replay.specs.Script.{lines_of, can_stand}
-use Rattle.njh_replay.specs.code.FirstLines.{lines_behind}
-use Rattle.njh_replay.proofs.FoundLines.{IsNext-from}
-use Rattle.njh_replay.proofs.Lines.{Reads-more, Reads-bad, Reads-all}
+use Rattle.std.proofs.Common.{◌≡◌, ◌+◌, [], refl, length-drop, true, false, length, drop, ap, ◌∙◌, arith, rules}
+use Rattle.njh_io.specs.Lines.{lines_of}
+use Rattle.njh_replay.specs.Script.{can_stand}
+use Rattle.njh_replay.proofs.Lines.{IsNext-from, Reads-more, Reads-bad, Reads-all}
 use Rattle.njh_replay.proofs.script.events_of.Goals as goal
 
 pub returns-then-not-branch-clause-bad : goal.returns-then-not-branch-clause-bad
 returns-then-not-branch-clause-bad c = λ number same.
     let tables = c.args.tables.now in
-    let line = c.first_line.result.0.now in
-    let next = IsNext-from (lines_of c.args.text.now) c.lines.number line (lines_behind c.first_line.result.1)
-    (c.lines.invariant.left ∙ c.first_line.ensures.lines) in
+    let line = c.in-Some.line.now in
+    let loop = c.loop-line in
+    let next = IsNext-from (lines_of c.args.text.now) loop.number line (lines_of c.in-Some.after.now)
+    (loop.invariant.left ∙ c.in-Some.ensures.lines) in
     let bad : can_stand tables line ≡ false = search rules in
-    let first = Reads-bad tables (lines_of c.args.text.now) c.lines.number _ line c.lines.invariant.reads next.within
-    next.at bad in
-    let counted : c.lines.number + 1 ≡ number = cc same in
+    let first = Reads-bad tables (lines_of c.args.text.now) loop.number _ line loop.invariant.reads next.within next.at
+    bad in
+    let counted : loop.number + 1 ≡ number = cc same in
     rw counted at first
 
-pub lines-preserved : goal.lines-preserved
-lines-preserved c =
+pub loop-line-preserved : goal.loop-line-preserved
+loop-line-preserved c =
     let tables = c.args.tables.now in
-    let line = c.first_line.result.0.now in
-    let next = IsNext-from (lines_of c.args.text.now) c.lines.number line (lines_behind c.first_line.result.1)
-    (c.lines.invariant.left ∙ c.first_line.ensures.lines) in
+    let line = c.in-Some.line.now in
+    let loop = c.loop-line in
+    let next = IsNext-from (lines_of c.args.text.now) loop.number line (lines_of c.in-Some.after.now)
+    (loop.invariant.left ∙ c.in-Some.ensures.lines) in
     let good : can_stand tables line ≡ true = search rules in
-    let shorter : length c.in-Some.behind.now < length c.lines.rest.now =
-    rw c.in-Some.is at c.first_line.ensures.shorter in
     record {
       reads = rw c.in_ok-add_event.ensures.added
-          (Reads-more tables (lines_of c.args.text.now) c.lines.number _ _ line c.lines.invariant.reads next.within
-          next.at good refl);
+          (Reads-more tables (lines_of c.args.text.now) loop.number _ _ line loop.invariant.reads next.within next.at
+          good refl);
       named = search rules;
-      left = next.left ∙ ap lines_behind c.in-Some.is;
+      within = omega (arith, next.within);
+      left = next.left;
       start = c.start_of-start.ensures.start;
-      few = omega arith;
+      few = omega (arith, c.in-Some.ensures.shorter);
     }
 
-pub returns-in-None-clause-events : goal.returns-in-None-clause-events
-returns-in-None-clause-events c =
-    let tables = c.args.tables.now in
+pub returns-clause-events : goal.returns-clause-events
+returns-clause-events c =
     let lines = lines_of c.args.text.now in
-    let line = c.first_line.result.0.now in
-    let next = IsNext-from lines c.lines.number line (lines_behind c.first_line.result.1)
-    (c.lines.invariant.left ∙ c.first_line.ensures.lines) in
-    let good : can_stand tables line ≡ true = search rules in
-    let none : drop (c.lines.number + 1) lines ≡ [] = next.left ∙ ap lines_behind c.in-None.is in
-    let reads = Reads-more tables lines c.lines.number _ _ line c.lines.invariant.reads next.within next.at good refl in
-    rw c.in_ok-add_event.ensures.added
-    (Reads-all tables lines (c.lines.number + 1) _ reads
-    (omega (arith, ap length none, length-drop (c.lines.number + 1) lines)))
+    let none : drop c.loop-line.number lines ≡ [] = c.loop-line.invariant.left ∙ c.in_default.ensures.lines in
+    Reads-all c.args.tables.now lines c.loop-line.number _ c.loop-line.invariant.reads
+    (omega (arith, c.loop-line.invariant.within, ap length none, length-drop c.loop-line.number lines))

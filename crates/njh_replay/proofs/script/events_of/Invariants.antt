@@ -1,19 +1,20 @@
 use Rattle.std.proofs.Common.{◌≡◌, ◌+◌, ◌≤◌, length, drop}
 use Rattle.std.specs.Prelude.{All, IfSome}
-use Rattle.njh_replay.specs.Script.{lines_of}
+use Rattle.njh_io.specs.Lines.{lines_of}
 use Rattle.njh_replay.specs.ScriptRoutes.{IsNamedIn}
 use Rattle.njh_replay.specs.code.LineStarts.{IsStart}
 use Rattle.njh_replay.proofs.Lines.{Reads}
 use Rattle.njh_replay.proofs.script.events_of.Given as goal
 
-abbrev pub invariant-lines : goal.invariant-lines
-invariant-lines l = record {
+abbrev pub invariant-loop-line : goal.invariant-loop-line
+invariant-loop-line l = record {
   reads : Reads l.tables (lines_of l.text) l.number l.events.items;
   named : All (IsNamedIn l.tables) l.events.items;
+  within : l.number ≤ length (lines_of l.text);
   left : drop l.number (lines_of l.text) ≡ lines_of l.rest;
   start : IfSome l.start (λ start. IsStart l.tables start.front.now start.line);
   few : l.number + length l.rest ≤ length l.text;
 }
 
-abbrev pub decreases-lines : goal.decreases-lines
-decreases-lines l = length l.rest
+abbrev pub decreases-loop-line : goal.decreases-loop-line
+decreases-loop-line l = length l.rest

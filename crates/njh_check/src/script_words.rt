@@ -2,16 +2,16 @@
 
 ghost use Rattle.std.specs.Prelude.{◌≡◌, ◌++◌, ◌∷◌, [], length, option_map, IfOk, OnOk};
 ghost use Rattle.std.specs.Fmt.{decimal};
-ghost use Rattle.njh_replay.specs.Checked.{bad_words, fault_words, label, right_words, shown_byte, shown_word};
-ghost use Rattle.njh_replay.specs.Checked.{told_words, why_words};
-ghost use Rattle.njh_replay.specs.Reasons.{told};
+ghost use Rattle.njh_check.specs.ScriptChecks.{bad_words, label, right_words, shown_byte, shown_word};
+ghost use Rattle.njh_check.specs.ScriptChecks.{told_words, why_words};
+ghost use Rattle.njh_check.specs.ScriptReasons.{told};
 
-use crate::reason::{BadLine, Reason};
-use njh_table::TableFault;
+use crate::line::fault_name;
+use crate::script_reason::{BadLine, Reason};
 use std::alloc::{AllocError, Global};
 
 /// What is said of a script without a bad line, by the number of its events.
-#[tactic(auto, unfolding(crate::specs::Checked::right_words))]
+#[tactic(auto, unfolding(crate::specs::ScriptChecks::right_words))]
 pub(crate) fn right_words(alloc: Global, events: usize) -> Result<Vec<u8>, AllocError>
     ensures { IfOk result (λ words. words.items ≡ right_words events) }
 {
@@ -27,7 +27,7 @@ pub(crate) fn right_words(alloc: Global, events: usize) -> Result<Vec<u8>, Alloc
 }
 
 /// What is said of a bad line, by its number, counted from 1.
-#[tactic(auto, unfolding(crate::specs::Checked::bad_words))]
+#[tactic(auto, unfolding(crate::specs::ScriptChecks::bad_words))]
 pub(crate) fn bad_words(
     alloc: Global,
     number: u32,
@@ -80,25 +80,8 @@ fn put_why(words: &mut Vec<u8>, why: Reason) -> Result<(), AllocError>
         Reason::MoreLines => put_words(words, "more than two lines in "),
         Reason::Routes { fault } => {
             put_words(words, "routes: ")?;
-            put_words(words, fault_words(fault))
+            put_words(words, fault_name(fault))
         }
-    }
-}
-
-/// A fault of routes by its number and name.
-fn fault_words(fault: TableFault) -> &'static str
-    ensures { result.now ≡ fault_words fault }
-{
-    match fault {
-        TableFault::BadToml => "K1 BadToml",
-        TableFault::MissingKey => "K2 MissingKey",
-        TableFault::BadValue => "K3 BadValue",
-        TableFault::DoubleLine => "K4 DoubleLine",
-        TableFault::DoubleNode => "K5 DoubleNode",
-        TableFault::UnknownLine => "K6 UnknownLine",
-        TableFault::QuotaOver => "K7 QuotaOver",
-        TableFault::TooMany => "K8 TooMany",
-        TableFault::Memory => "K9 Memory",
     }
 }
 
@@ -127,7 +110,7 @@ fn put_number(words: &mut Vec<u8>, number: usize) -> Result<(), AllocError>
 }
 
 /// Appends words.
-#[tactic(auto, unfolding(crate::specs::Checked::label))]
+#[tactic(auto, unfolding(crate::specs::ScriptChecks::label))]
 fn put_words(words: &mut Vec<u8>, more: &str) -> Result<(), AllocError>
     ensures { OnOk result (words.new.items ≡ words.old.items ++ label more.now) }
 {

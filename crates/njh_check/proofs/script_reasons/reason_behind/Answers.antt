@@ -1,6 +1,6 @@
 use Rattle.std.proofs.Common.{refl}
 use Rattle.njh_replay.proofs.Parting.{parts-some}
-use Rattle.njh_replay.proofs.reasons.reason_behind.Goals as goal
+use Rattle.njh_check.proofs.script_reasons.reason_behind.Goals as goal
 
 pub returns-in_default-Some : goal.returns-in_default-Some
 returns-in_default-Some c =

@@ -16,11 +16,11 @@ use Rattle.njh_table.specs.declared.new_routes.GivenRoute.{GivenRoute}
 use Rattle.njh_table.specs.declared.fault.TableFault.{TableFault}
 use Rattle.njh_table.specs.NewRoutes.{new_routes_of, routes_checked}
 use Rattle.njh_table.specs.TableFile.{TableFile, customer_at, entry_of, line_named}
-use Rattle.njh_replay.specs.Reasons.{Told, first_told, is_bytes, is_event, reason_behind, reason_of_bytes}
-use Rattle.njh_replay.specs.Reasons.{reason_of, reason_of_check, reason_of_given, reason_of_lines, reason_of_pair}
-use Rattle.njh_replay.specs.Reasons.{reason_of_pairs}
-use Rattle.njh_replay.specs.Reasons.{reason_of_parts, reason_of_routes, reason_of_second, reason_of_words}
-use Rattle.njh_replay.specs.Reasons.{reason_on_line}
+use Rattle.njh_check.specs.ScriptReasons.{Told, first_told, is_bytes, is_event, reason_behind, reason_of_bytes}
+use Rattle.njh_check.specs.ScriptReasons.{reason_of, reason_of_check, reason_of_given, reason_of_lines, reason_of_pair}
+use Rattle.njh_check.specs.ScriptReasons.{reason_of_pairs}
+use Rattle.njh_check.specs.ScriptReasons.{reason_of_parts, reason_of_routes, reason_of_second, reason_of_words}
+use Rattle.njh_check.specs.ScriptReasons.{reason_on_line}
 use Rattle.njh_replay.specs.Script.{bytes_on, event_of_words, event_on_line, piece_of, script_event, signal_of}
 use Rattle.njh_replay.specs.Script.{some_bytes, words_of}
 use Rattle.njh_replay.specs.ScriptRoutes.{customer_named, event_of_routes, parts_of_pair, route_of_pair, route_of_parts}
@@ -57,7 +57,7 @@ some_where : (test : Bool) (t : Told) → test ≡ true → IsSome (cond test (S
 some_where true t same = refl
 some_where false t same = absurd (cc same)
 
--- the words behind the name of a line that there is
+-- the words after the name of a line that there is
 behind : (names : List ℕ → Option LineId) (word name : List ℕ) (words : List (List ℕ)) (id : LineId)
     → is_event word ≡ true
     → names name ≡ Some id → event_on_line names (word ∷ name ∷ words) ≡ None → IsSome (reason_behind word words)

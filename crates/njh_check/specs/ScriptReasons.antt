@@ -12,13 +12,13 @@ use Rattle.njh_table.specs.NewRoutes.{new_routes_of, routes_checked}
 use Rattle.njh_table.specs.TableFile.{TableFile, customer_at, entry_of, line_named}
 use Rattle.njh_replay.specs.Script.{words_of}
 use Rattle.njh_replay.specs.ScriptRoutes.{customer_named, parts_of_pair, routes_of_pairs}
-use Rattle.njh_replay.specs.declared.reason.BadLine.{BadLine}
-use Rattle.njh_replay.specs.declared.reason.Reason.{Reason}
-use Rattle.njh_replay.specs.declared.reason.Reason.TheVariants.{BadDigit, BadNode, MoreLines, MoreWords, NoBytes}
-use Rattle.njh_replay.specs.declared.reason.Reason.TheVariants.{NoColon, NoCustomer, NoCustomerName, NoEvent, NoLine}
-use Rattle.njh_replay.specs.declared.reason.Reason.TheVariants.{NoName, NotText, OddDigits, Routes}
+use Rattle.njh_check.specs.declared.script_reason.BadLine.{BadLine}
+use Rattle.njh_check.specs.declared.script_reason.Reason.{Reason}
+use Rattle.njh_check.specs.declared.script_reason.Reason.TheVariants.{BadDigit, BadNode, MoreLines, MoreWords, NoBytes}
+use Rattle.njh_check.specs.declared.script_reason.Reason.TheVariants.{NoColon, NoCustomer, NoCustomerName, NoEvent}
+use Rattle.njh_check.specs.declared.script_reason.Reason.TheVariants.{NoLine, NoName, NotText, OddDigits, Routes}
 
--- a reason, and the word that it is about, which is empty where it is about none alone
+-- a reason, and the word that it is about, which is empty if it is about none alone
 abbrev pub Told : Type 0
 Told = Reason × List ℕ
 
@@ -32,7 +32,7 @@ reason_of_bytes (Ok (b ∷ bs)) = None
 reason_of_bytes (Err (InvalidHexCharacter c index)) = Some (BadDigit index, [])
 reason_of_bytes (Err fault) = Some (OddDigits, [])
 
--- the words of an event on a line: three that stand with a line's name alone, and `BYTES` with digits behind it
+-- the words of an event on a line: three that have a line's name alone after them, and `BYTES` with digits after it
 abbrev pub is_bytes : List ℕ → Bool
 is_bytes word = bytes_eq word (codes "BYTES")
 
@@ -40,14 +40,14 @@ abbrev pub is_event : List ℕ → Bool
 is_event word = bytes_eq word (codes "TICK") || bytes_eq word (codes "GARBLED") || bytes_eq word (codes "LOST")
     || is_bytes word
 
--- what is wrong with the words behind a line's name
+-- what is wrong with the words after a line's name
 abbrev pub reason_behind : (word : List ℕ) → List (List ℕ) → Option Told
 reason_behind word [] = if is_bytes word then Some (NoBytes, []) else None
 reason_behind word (digits ∷ []) =
     if is_bytes word then reason_of_bytes (decode_of digits) else Some (MoreWords, [])
 reason_behind word words = Some (MoreWords, [])
 
--- what is wrong with the words behind an event's word
+-- what is wrong with the words after an event's word
 abbrev pub reason_on_line : TableFile → (word : List ℕ) → List (List ℕ) → Option Told
 reason_on_line tables word [] = Some (NoName, [])
 reason_on_line tables word (name ∷ words) =
@@ -98,7 +98,7 @@ reason_of_given tables pairs customer None = reason_of_pairs tables pairs
 reason_of_given tables pairs customer (Some routes) =
     reason_of_check (routes_checked (entry_of (customer_at tables customer)) (new_routes_of customer routes))
 
--- what is wrong with the words behind `ROUTES`
+-- what is wrong with the words after `ROUTES`
 abbrev pub reason_of_routes : TableFile → List (List ℕ) → Option Told
 reason_of_routes tables [] = Some (NoCustomerName, [])
 reason_of_routes tables (name ∷ pairs) = elim (customer_named tables name) [

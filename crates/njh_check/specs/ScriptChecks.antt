@@ -4,31 +4,18 @@ use Rattle.std.specs.Prelude.{Option, Some, None, Result, Ok, Err, get_or, is_ok
 use Rattle.std.specs.Fmt.{decimal}
 use Rattle.njh_hub.specs.declared.event.Event.{Event}
 use Rattle.njh_table.specs.TableFile.{TableFile}
-use Rattle.njh_table.specs.declared.fault.TableFault.{TableFault}
-use Rattle.njh_table.specs.declared.fault.TableFault.TheVariants.{BadToml, MissingKey, BadValue, DoubleLine, DoubleNode}
-use Rattle.njh_table.specs.declared.fault.TableFault.TheVariants.{UnknownLine, QuotaOver, TooMany, Memory}
-use Rattle.njh_replay.specs.Reasons.{Told, reason_of}
-use Rattle.njh_replay.specs.Script.{lines_of, max_script_bytes, script_of}
-use Rattle.njh_replay.specs.declared.reason.Reason.{Reason}
-use Rattle.njh_replay.specs.declared.reason.Reason.TheVariants.{BadDigit, BadNode, MoreLines, MoreWords, NoBytes}
-use Rattle.njh_replay.specs.declared.reason.Reason.TheVariants.{NoColon, NoCustomer, NoCustomerName, NoEvent, NoLine}
-use Rattle.njh_replay.specs.declared.reason.Reason.TheVariants.{NoName, NotText, OddDigits, Routes}
+use Rattle.njh_check.specs.FaultTexts.{fault_name}
+use Rattle.njh_check.specs.ScriptReasons.{Told, reason_of}
+use Rattle.njh_io.specs.Lines.{lines_of}
+use Rattle.njh_replay.specs.Script.{max_script_bytes, script_of}
+use Rattle.njh_check.specs.declared.script_reason.Reason.{Reason}
+use Rattle.njh_check.specs.declared.script_reason.Reason.TheVariants.{BadDigit, BadNode, MoreLines, MoreWords, NoBytes}
+use Rattle.njh_check.specs.declared.script_reason.Reason.TheVariants.{NoColon, NoCustomer, NoCustomerName, NoEvent}
+use Rattle.njh_check.specs.declared.script_reason.Reason.TheVariants.{NoLine, NoName, NotText, OddDigits, Routes}
 
 -- words as they are, kept whole
 unfoldable pub label : List ℕ → List ℕ
 label words = words
-
--- a fault of routes by its number and name
-abbrev pub fault_words : TableFault → List ℕ
-fault_words BadToml = codes "K1 BadToml"
-fault_words MissingKey = codes "K2 MissingKey"
-fault_words BadValue = codes "K3 BadValue"
-fault_words DoubleLine = codes "K4 DoubleLine"
-fault_words DoubleNode = codes "K5 DoubleNode"
-fault_words UnknownLine = codes "K6 UnknownLine"
-fault_words QuotaOver = codes "K7 QuotaOver"
-fault_words TooMany = codes "K8 TooMany"
-fault_words Memory = codes "K9 Memory"
 
 -- why a line is bad, but for the word that is
 abbrev pub why_words : Reason → List ℕ
@@ -45,7 +32,7 @@ why_words NoCustomer = label (codes "no customer ")
 why_words NoColon = label (codes "no colon in ")
 why_words BadNode = label (codes "no node's name is ")
 why_words MoreLines = label (codes "more than two lines in ")
-why_words (Routes fault) = label (codes "routes: ") ++ label (fault_words fault)
+why_words (Routes fault) = label (codes "routes: ") ++ label (fault_name fault)
 
 -- a word, with `?` for each byte that would move a terminal
 abbrev pub shown_byte : ℕ → ℕ

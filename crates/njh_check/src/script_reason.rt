@@ -9,22 +9,22 @@ pub enum Reason {
     NotText,
     /// There is no event of this word.
     NoEvent,
-    /// No line's name stands behind the word.
+    /// No line's name comes after the word.
     NoName,
     /// No line has this name.
     NoLine,
-    /// More words stand there than the event has.
+    /// More words are there than the event has.
     MoreWords,
-    /// No bytes stand behind the line's name.
+    /// No bytes come after the line's name.
     NoBytes,
     /// The number of hexadecimal digits is odd.
     OddDigits,
     /// A character is no hexadecimal digit.
     BadDigit {
-        /// How many digits stand before it.
+        /// How many digits come before it.
         index: usize,
     },
-    /// No customer's name stands behind `ROUTES`.
+    /// No customer's name comes after `ROUTES`.
     NoCustomerName,
     /// No customer has this name.
     NoCustomer,
@@ -46,6 +46,6 @@ pub enum Reason {
 pub struct BadLine<'a> {
     /// Why.
     pub why: Reason,
-    /// The word, or nothing where it is none alone.
+    /// The word, or nothing if it is none alone.
     pub word: &'a str,
 }

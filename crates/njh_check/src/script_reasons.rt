@@ -1,22 +1,23 @@
 //! Why a line of a script has no event.
 
-ghost use Rattle.std.specs.Prelude.{◌≡◌, [], Some, None, option_map, if◌then◌else◌, IfOk, IsSome};
+ghost use Rattle.std.specs.Prelude.{◌≡◌, ℕ, List, [], Some, None, option_map, if◌then◌else◌, IfOk, IsSome};
+ghost use Rattle.njh_table.specs.TableFile.{TableFile};
 ghost use Rattle.hex.specs.Hex.{decode_of};
-ghost use Rattle.njh_replay.specs.Reasons.{is_event, reason_behind, reason_of, reason_of_bytes};
-ghost use Rattle.njh_replay.specs.Reasons.{reason_of_words, reason_on_line, told};
+ghost use Rattle.njh_check.specs.ScriptReasons.{is_event, reason_behind, reason_of, reason_of_bytes};
+ghost use Rattle.njh_check.specs.ScriptReasons.{reason_of_words, reason_on_line, told};
 ghost use Rattle.njh_replay.specs.Script.{script_event, words_of};
-ghost use Rattle.njh_replay.specs.declared.reason.Reason.TheVariants.{MoreWords};
-ghost use Rattle.njh_replay.specs.code.FirstLines.{parts_behind};
+ghost use Rattle.njh_check.specs.declared.script_reason.Reason.TheVariants.{MoreWords};
+ghost use Rattle.njh_replay.specs.FirstParts.{parts_behind};
 
-use crate::reason::{BadLine, Reason};
 use crate::route_reasons::reason_of_routes;
-use crate::script_routes::first_part;
+use crate::script_reason::{BadLine, Reason};
 use hex::FromHexError;
+use njh_replay::first_part;
 use njh_table::Tables;
 use std::alloc::{AllocError, Global};
 
 /// What is wrong with a line that isn't skipped, if anything is. Out of memory is the only refusal.
-#[tactic(auto, unfolding(crate::specs::Reasons::reason_of))]
+#[tactic(auto, unfolding(crate::specs::ScriptReasons::reason_of))]
 pub(crate) fn reason_of<'a>(
     alloc: Global,
     tables: &Tables,
@@ -58,7 +59,7 @@ fn is_event(word: &str) -> bool
     word == "TICK" || word == "GARBLED" || word == "LOST" || word == "BYTES"
 }
 
-/// What is wrong with what stands behind an event's word.
+/// What is wrong with what comes after an event's word.
 fn reason_on_line<'a>(
     alloc: Global,
     tables: &Tables,
@@ -81,7 +82,7 @@ fn reason_on_line<'a>(
     }
 }
 
-/// What is wrong with what stands behind a line's name.
+/// What is wrong with what comes after a line's name.
 fn reason_behind<'a>(
     alloc: Global,
     word: &str,
@@ -99,7 +100,7 @@ fn reason_behind<'a>(
     }
 }
 
-/// What is wrong with the one word behind a line's name, by whether the event takes bytes.
+/// What is wrong with the one word after a line's name, by whether the event takes bytes.
 fn reason_of_last<'a>(
     alloc: Global,
     takes_bytes: bool,
@@ -129,7 +130,7 @@ fn reason_of_digits<'a>(alloc: Global, digits: &str) -> Result<Option<BadLine<'a
     }
 }
 
-/// A reason where something is so.
+/// A reason if something is so.
 fn reason_where<'a>(is_so: bool, why: Reason) -> Option<BadLine<'a>>
     ensures { option_map told result ≡ (if is_so then Some (why, []) else None) }
 {
@@ -147,10 +148,7 @@ pub(crate) fn alone<'a>(why: Reason) -> BadLine<'a>
 }
 
 /// A line that isn't skipped and has no event has a reason.
-#[tactic(auto, unfolding(crate::specs::Script::script_event, crate::specs::Reasons::reason_of))]
-pub fn bad_lines_have_reasons(tables: &Tables, line: &[u8])
-    ensures { script_event tables.now line.now ≡ None → IsSome (reason_of tables.now line.now) }
-{
-    let _tables = tables;
-    let _line = line;
-}
+#[tactic(auto, unfolding(crate::specs::Script::script_event, crate::specs::ScriptReasons::reason_of))]
+pub fn bad_lines_have_reasons()
+    ensures { (tables : TableFile) (line : List ℕ) → script_event tables line ≡ None → IsSome (reason_of tables line) }
+{}

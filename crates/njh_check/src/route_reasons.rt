@@ -1,19 +1,19 @@
 //! Why a line of a script that is to give a customer routes gives none.
 
 ghost use Rattle.std.specs.Prelude.{◌≡◌, ◌<◌, Some, length, option_map, IfOk};
-ghost use Rattle.njh_replay.specs.Reasons.{reason_by, reason_of_given, reason_of_lines, reason_of_pair};
-ghost use Rattle.njh_replay.specs.Reasons.{reason_of_pairs, reason_of_routes, reason_of_second, told};
+ghost use Rattle.njh_check.specs.ScriptReasons.{reason_by, reason_of_given, reason_of_lines, reason_of_pair};
+ghost use Rattle.njh_check.specs.ScriptReasons.{reason_of_pairs, reason_of_routes, reason_of_second, told};
 ghost use Rattle.njh_replay.specs.ScriptRoutes.{routes_of_pairs};
-ghost use Rattle.njh_replay.specs.code.FirstLines.{parts_behind};
+ghost use Rattle.njh_replay.specs.FirstParts.{parts_behind};
 
-use crate::reason::{BadLine, Reason};
-use crate::reasons::alone;
-use crate::script_routes::{customer_named, first_part, routes_of_pairs};
+use crate::script_reason::{BadLine, Reason};
+use crate::script_reasons::alone;
 use njh_ebcdic::Name;
+use njh_replay::{customer_named, first_part, routes_of_pairs};
 use njh_table::Tables;
 use std::alloc::{AllocError, Global};
 
-/// What is wrong with what stands behind `ROUTES`, if anything is. Out of memory is the only
+/// What is wrong with what comes after `ROUTES`, if anything is. Out of memory is the only
 /// refusal.
 pub(crate) fn reason_of_routes<'a>(
     alloc: Global,
@@ -62,7 +62,7 @@ fn reason_of_pairs<'a>(tables: &Tables, pairs: Option<&'a str>) -> Option<BadLin
     ensures { option_map told result ≡ reason_of_pairs tables.now (parts_behind 32 pairs.entry) }
 {
     let mut left = pairs;
-    'pairs: while let Some(text) = left {
+    while let Some(text) = left {
         let (pair, behind) = first_part(text, ' ');
         let reason = reason_of_pair(tables, pair);
         if reason.is_some() {

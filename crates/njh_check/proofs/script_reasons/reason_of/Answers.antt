@@ -1,8 +1,8 @@
 use Rattle.std.proofs.Common.{refl}
 use Rattle.std.proofs.lemmas.Str.{is_utf8-from_IsUtf8, IsUtf8-from_is_utf8}
 use Rattle.std.proofs.lemmas.Bool.{false_from_ne_true}
-use Rattle.njh_replay.specs.Reasons.{reason_of}
-use Rattle.njh_replay.proofs.reasons.reason_of.Goals as goal
+use Rattle.njh_check.specs.ScriptReasons.{reason_of}
+use Rattle.njh_check.proofs.script_reasons.reason_of.Goals as goal
 
 pub returns-in-Ok : goal.returns-in-Ok
 unfolding reason_of
