@@ -1,9 +1,9 @@
 -- How far a text was read and encoded.
 use Rattle.std.proofs.Common.{◌≡◌, ℕ, List, [], ◌++◌, Option, refl, sym, ap, ◌∙◌, append_assoc, append-nil}
-use Rattle.std.proofs.Common.{subst, Result, Ok, Err, OnOk, OnErr, None, Some, ◌<◌, ◌≤◌, length, take}
-use Rattle.std.specs.Prelude.{IfSome, MatchOption}
-use Rattle.std.specs.Io.KnownBytes.{Appends, Consumes, IsAtEnd, ReadConsumes}
-use Rattle.std.proofs.KnownBytes.{Appends-nil, Appends-trans, Consumes-nil, Consumes-trans, Consumes-whole}
+use Rattle.std.proofs.Common.{subst, Result, Ok, Err, OnOk, OnErr, None, Some}
+use Rattle.std.specs.Prelude.{IfSome}
+use Rattle.std.specs.Io.KnownBytes.{Appends, Consumes, IsAtEnd}
+use Rattle.std.proofs.KnownBytes.{Appends-trans, Consumes-trans, Consumes-whole}
 use Rattle.njh_io.specs.Written.{AppendsBeginning}
 use Rattle.njh_encode.specs.declared.fault.EncodeFault.{EncodeFault}
 use Rattle.njh_io.specs.Lines.{lines_from}
@@ -11,8 +11,8 @@ use Rattle.njh_encode.specs.Scripts.{Becomes, Encoding, IsEncodedInPart, IsEncod
 use Rattle.njh_encode.specs.Scripts.{encoding_of_lines}
 use Rattle.njh_encode.specs.code.Reading.{BecomesBehind, EndsBad, IsWritten, IsWrittenInPart, Progress, Takes}
 use Rattle.njh_encode.proofs.LineLaws.{becomes, some_texts}
-use Rattle.njh_encode.proofs.ReadingLaws.{known_then, Takes-bad, Takes-none, Takes-then, text-as}
-use Rattle.njh_encode.proofs.Writing.{beginning-after, beginning-none}
+use Rattle.njh_encode.proofs.ReadingLaws.{known_then, Takes-bad, Takes-then, text-as}
+use Rattle.njh_io.proofs.Beginnings.{beginning-after, beginning-none}
 
 abbrev pub start : Progress
 start = record { states = []; number = 1; front = [] }
@@ -24,15 +24,6 @@ pub record IsEncoded (known : Option Texts) (first now old new : Option (List �
   pub read : Consumes first now seen
   pub written : Appends old new lines
   pub takes : Takes known start seen lines at
-
-pub IsEncoded-none : (known : Option Texts) (left held : Option (List ℕ)) → IsEncoded known left left held held start
-IsEncoded-none known left held = record {
-  seen = [];
-  lines = [];
-  read = Consumes-nil left;
-  written = Appends-nil held;
-  takes = Takes-none known start;
-}
 
 -- a piece more
 pub IsEncoded-more : (known : Option Texts) (first now later old then new : Option (List ℕ)) (a b : Progress)
@@ -154,16 +145,6 @@ pub written_whole : (known : Option Texts) (old new : Option (List ℕ)) (a b : 
 written_whole known old new a b piece before after written empty same t wrote =
     (t.0, subst (Appends old new) (same ∙ t.1 ∙ ap (λ (xs : List ℕ). xs ++ t.0) empty) wrote, t.2)
 
-pub written_bad : (known : Option Texts) (old new : Option (List ℕ)) (a : Progress)
-    (piece before after written : List ℕ) (fault : EncodeFault)
-    → before ≡ [] → written ≡ after
-    → ((lines : List ℕ) × (after ≡ before ++ lines)
-    × EndsBad known a piece (record { script = lines; bad = Some fault }))
-    → Appends old new written
-    → (lines : List ℕ) × Appends old new lines × EndsBad known a piece (record { script = lines; bad = Some fault })
-written_bad known old new a piece before after written fault empty same t wrote =
-    (t.0, subst (Appends old new) (same ∙ t.1 ∙ ap (λ (xs : List ℕ). xs ++ t.0) empty) wrote, t.2)
-
 -- or was written in part
 pub written_part : (known : Option Texts) (old new : Option (List ℕ)) (a b : Progress)
     (piece before after written : List ℕ)
@@ -192,43 +173,6 @@ pub bad_part : (known : Option Texts) (old new : Option (List ℕ)) (a : Progres
 bad_part known old new a piece before after written fault empty same t begun more =
     let is : written ≡ t.0 = same ∙ t.1 ∙ ap (λ (xs : List ℕ). xs ++ t.0) empty in
     (record { script = t.0; bad = Some fault }, t.2 more, subst (AppendsBeginning old new) is begun)
-
-pub on_err_of : {T E : Type 0} (r : Result T E) (P : Type 0) → P → OnErr r P
-on_err_of (Ok x) P so = tt
-on_err_of (Err e) P so = so
-
--- a read that gave nothing came to the end
-pub at_end : (now later : Option (List ℕ)) (bytes : List ℕ) → Consumes now later bytes → bytes ≡ [] → IsAtEnd later
-    → IsAtEnd now
-at_end None later bytes read none end = tt
-at_end (Some xs) None bytes read none end = absurd read
-at_end (Some xs) (Some ys) bytes read none end = read ∙ ap (λ (zs : List ℕ). zs ++ ys) none ∙ end
-
-pub read_nothing : {E : Type 0} (r : Result ℕ E) (first now later : Option (List ℕ)) (n : ℕ) (buf : List ℕ)
-    → Consumes first now []
-    → ReadConsumes now later r buf → r ≡ Ok n → n ≡ 0 → 0 < length buf → IsAtEnd first
-read_nothing {E} r first now later n buf none read is zero room =
-    let P : Result ℕ E → Type 0 = λ x. ReadConsumes {E = E} now later x buf in
-    let taken : P (Ok n) = subst P is read in
-    at_end first later (take n buf) (Consumes-trans first now later [] (take n buf) none taken.0)
-    (ap (λ (k : ℕ). take k buf) zero) (taken.1 zero room)
-
--- what a read answered
-pub end_read : (read : Option ℕ) (now later : Option (List ℕ)) (piece : List ℕ)
-    → MatchOption read (IsAtEnd now) (λ count. (count ≤ length piece) × Consumes now later (take count piece))
-    → read ≡ None
-    → IsAtEnd now
-end_read None now later piece said is = said
-end_read (Some n) now later piece said is = absurd (cc is)
-
-pub piece_read : (read : Option ℕ) (n : ℕ) (now later : Option (List ℕ)) (piece front : List ℕ)
-    → MatchOption read (IsAtEnd now) (λ count. (count ≤ length piece) × Consumes now later (take count piece))
-    → read ≡ Some n
-    → front ≡ take n piece → Consumes now later front
-piece_read None n now later piece front said is at = absurd (cc is)
-piece_read (Some m) n now later piece front said is at =
-    let same : m ≡ n = cc is in
-    subst (Consumes now later) (ap (λ (k : ℕ). take k piece) same ∙ sym at) said.1
 
 -- on Ok, and on Err, of the last line
 pub whole-on_ok : {T E : Type 0} (known : Option Texts) (r : Result T E) (first now old then new : Option (List ℕ))

@@ -7,4 +7,3 @@ mod PackingLaws
 mod PostedLaws
 mod ReadBackLaws
 mod ReadingLaws
-mod Writing

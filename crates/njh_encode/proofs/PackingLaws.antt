@@ -35,20 +35,6 @@ Puts-then name a b c xs ys s t u x y = record {
       ∙ ap (λ (text : List ℕ). s ++ text) (sym (flat_map-append _ x.full y.full));
 }
 
--- a record that has room
-pub Puts-fits : (name : List ℕ) (a : OpenBlock) (item : Item) (script : List ℕ)
-    → has_room (writing_on a.state a.items) item ≡ true
-    → Puts name a (item ∷ []) (record a { items = a.items ++ item ∷ [] }) script script
-Puts-fits name a item script room = record {
-  full = [];
-  blocks = λ next. ap (λ (t : Bool). elim t [
-    | true ↦ packed a.state (a.items ++ item ∷ []) next
-    | false ↦ block_of a.state a.items ∷ packed (counted a.state) (item ∷ []) next
-  ]) room;
-  counts = refl;
-  lines = sym (append-nil script);
-}
-
 -- a record that has none
 pub Puts-next : (name : List ℕ) (a : OpenBlock) (item : Item) (script grown : List ℕ)
     → has_room (writing_on a.state a.items) item ≡ false

@@ -1,7 +1,7 @@
 -- The records of a text's lines, and the blocks of a file.
 use Rattle.std.proofs.Common.{◌≡◌, ℕ, ◌<◌, Bool, false, eqb, List, [], ◌∷◌, ◌++◌, length, map, refl, sym, ap, ◌∙◌}
 use Rattle.std.proofs.Common.{append_assoc, append-nil, arith, cond, subst, Result, Ok, Err}
-use Rattle.std.specs.Prelude.{IfErr, MatchResult}
+use Rattle.std.specs.Prelude.{IfErr}
 use Rattle.std.specs.Str.{IsUtf8, is_utf8}
 use Rattle.std.proofs.lemmas.Bool.{eqb-true, false_from_ne_true}
 use Rattle.std.proofs.lemmas.Grind.{flat_map-append}
@@ -160,19 +160,6 @@ posted-of name state p lines last a b c script begun put end =
           ap counted put.counts ∙ sym (counted_by-append put.full final (counted state))
           ∙ ap (λ (bs : List Block). counted_by bs state) (sym all);
     }
-
--- on Err, from another refusal
-pub if_err_from : {T : Type 0} (r : Result T Reason) (P Q : Reason → Type 0) → ((e : Reason) → P e → Q e) → IfErr r P
-    → IfErr r Q
-if_err_from (Ok x) P Q step holds = tt
-if_err_from (Err e) P Q step holds = step e holds
-
--- the answer of a line's record, by its text's bytes
-pub record-answer : (r : Result (List ℕ) Reason) (line : List ℕ) (v : Result (List ℕ) Reason) → record_of_line line ≡ v
-    → MatchResult r (λ bytes. v ≡ Ok bytes) (λ reason. v ≡ Err reason)
-    → MatchResult r (λ bytes. record_of_line line ≡ Ok bytes) (λ reason. record_of_line line ≡ Err reason)
-record-answer (Ok x) line v same holds = same ∙ holds
-record-answer (Err e) line v same holds = same ∙ holds
 
 -- a file, record by record
 pub posted-all : (name : List ℕ) (state : LineState) (p : Posting) (lines : List (List ℕ)) (job data_set : List ℕ)

@@ -1,6 +1,6 @@
 //! Why a line can't be encoded.
 
-use njh_io::WriteFault;
+use njh_io::{PieceFault, WriteFault};
 use std::alloc::AllocError;
 use thiserror::Error;
 
@@ -109,6 +109,17 @@ impl From<WriteFault> for EncodeEnd {
     ghost from_gives = { λ _ end. end ≡ Device };
 
     fn from(_fault: WriteFault) -> Self {
+        EncodeEnd::Device
+    }
+}
+
+impl From<PieceFault> for EncodeEnd {
+    ghost use Rattle.std.specs.Prelude.{◌≡◌};
+    ghost use Rattle.njh_encode.specs.declared.fault.EncodeEnd.TheVariants.{Device};
+
+    ghost from_gives = { λ _ end. end ≡ Device };
+
+    fn from(_fault: PieceFault) -> Self {
         EncodeEnd::Device
     }
 }

@@ -1,8 +1,8 @@
 //! Encodes a text in words from wherever it comes to wherever it goes.
 
-ghost use Rattle.std.specs.Prelude.{◌≡◌, ◌<◌, ◌≤◌, ℕ, [], ◌++◌, List, length, take, OnOk, OnErr, IfErr, IfOk, IfSome};
-ghost use Rattle.std.specs.Prelude.{Err, Some, None, MatchOption};
-ghost use Rattle.std.specs.Io.KnownBytes.{Appends, Consumes, IsAtEnd};
+ghost use Rattle.std.specs.Prelude.{◌≡◌, ℕ, [], ◌++◌, List, OnOk, OnErr, IfErr, IfSome};
+ghost use Rattle.std.specs.Prelude.{Err, Some, None};
+ghost use Rattle.std.specs.Io.KnownBytes.{Appends};
 ghost use Rattle.njh_io.specs.Written.{AppendsBeginning};
 ghost use Rattle.njh_encode.specs.Scripts.{IsEncodedInPart, IsEncodedTo};
 ghost use Rattle.njh_encode.specs.code.Reading.{EndsBad, IsWritten, IsWrittenInPart, Takes};
@@ -10,9 +10,9 @@ ghost use Rattle.njh_encode.specs.code.Reading.{EndsBad, IsWritten, IsWrittenInP
 use crate::fault::{EncodeEnd, EncodeFault};
 use crate::letters::Letters;
 use crate::reading::Reading;
-use njh_io::write_bytes;
+use njh_io::{read_piece, write_bytes};
 use std::alloc::Global;
-use std::io::{ErrorKind, Read, Write};
+use std::io::{Read, Write};
 
 /// How many bytes are asked for at once: 64 kB.
 const PIECE: usize = 65_536;
@@ -70,25 +70,6 @@ fn encode_all<R: Read, L: Letters, W: Write>(
                 let (front, _) = piece.split_at(count);
                 encode_piece(reading, front, letters, script, out)?;
             }
-        }
-    }
-    Err(EncodeEnd::Device)
-}
-
-/// Reads a piece, and answers how many bytes it has; nothing at the end.
-fn read_piece<R: Read>(input: &mut R, piece: &mut [u8]) -> Result<Option<usize>, EncodeEnd>
-    requires { 0 < length piece.old }
-    ensures taken { IfOk result (λ read. MatchOption read (IsAtEnd (R.remaining input.old)) (λ count.
-        (count ≤ length piece.new)
-        × Consumes (R.remaining input.old) (R.remaining input.new) (take count piece.new))) }
-    ensures device { IfErr result (λ end. end ≡ EncodeEnd.Device) }
-{
-    for _ in 0..u64::MAX {
-        match input.read(piece) {
-            Ok(0) => return Ok(None),
-            Ok(count) => return Ok(Some(count)),
-            Err(error) if error.kind() == ErrorKind::Interrupted => {}
-            Err(_) => return Err(EncodeEnd::Device),
         }
     }
     Err(EncodeEnd::Device)

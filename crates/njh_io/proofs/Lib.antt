@@ -1,2 +1,4 @@
+pub mod Beginnings
 pub mod LineLaws
+pub mod PieceLaws
 mod WrittenUpTo

@@ -35,3 +35,7 @@ impl<T: Drop> From<AllocFailed<T>> for ReadFault {
 /// A device didn't take all that was written.
 #[derive(Clone, Copy, Debug)]
 pub struct WriteFault;
+
+/// A device didn't give what was asked for.
+#[derive(Clone, Copy, Debug)]
+pub struct PieceFault;

@@ -4,10 +4,12 @@
 
 mod fault;
 mod lines;
+mod pieces;
 mod reading;
 mod writing;
 
-pub use fault::{ReadFault, WriteFault};
+pub use fault::{PieceFault, ReadFault, WriteFault};
 pub use lines::{LineReader, MAX_LINE_BYTES, next_line};
+pub use pieces::read_piece;
 pub use reading::read_text;
 pub use writing::write_bytes;

@@ -1,5 +1,6 @@
 use Rattle.std.proofs.Common.{rules, Some}
-use Rattle.njh_encode.proofs.EncodedSoFar.{end_read, on_err_of, part-on_err, piece_read, whole-on_ok}
+use Rattle.njh_io.proofs.{Beginnings.on_err_of, PieceLaws.{end_read, piece_read}}
+use Rattle.njh_encode.proofs.EncodedSoFar.{part-on_err, whole-on_ok}
 use Rattle.njh_encode.proofs.EncodedSoFar.{IsEncoded-bad, IsEncoded-begun, IsEncoded-more, IsEncoded-part}
 use Rattle.njh_encode.proofs.EncodedSoFar.{IsEncoded-whole}
 use Rattle.njh_encode.proofs.scripts.encode_all.Goals as goal

@@ -1,5 +1,6 @@
 use Rattle.std.proofs.Common.{[], append-nil, rules}
-use Rattle.njh_encode.proofs.EncodedSoFar.{last_bad_part, last_bad_whole, none_written, on_err_of}
+use Rattle.njh_io.proofs.Beginnings.{on_err_of}
+use Rattle.njh_encode.proofs.EncodedSoFar.{last_bad_part, last_bad_whole, none_written}
 use Rattle.njh_encode.proofs.scripts.encode_end.Goals as goal
 
 pub returns-in_err-write_last-in-Err-BadLine-clause-begun :

@@ -1,5 +1,6 @@
 use Rattle.std.proofs.Common.{◌++◌, [], append-nil, rules}
-use Rattle.njh_encode.proofs.EncodedSoFar.{bad_part, none_written, on_err_of, written_part}
+use Rattle.njh_io.proofs.Beginnings.{on_err_of}
+use Rattle.njh_encode.proofs.EncodedSoFar.{bad_part, none_written, written_part}
 use Rattle.njh_encode.proofs.scripts.encode_piece.Goals as goal
 
 pub returns-in_err-write_bytes-in-Ok-clause-begun :

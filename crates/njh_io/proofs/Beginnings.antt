@@ -1,19 +1,13 @@
--- Beginnings of texts.
-use Rattle.std.proofs.Common.{◌≡◌, ℕ, List, [], ◌++◌, Option, refl, sym, ap, ◌∙◌, append_assoc}
-use Rattle.std.specs.Io.KnownBytes.{Appends, Keeps}
-use Rattle.std.proofs.KnownBytes.{Appends-nil, Appends-trans, Appends-kept}
+-- Texts and beginnings of texts, one after another.
+use Rattle.std.proofs.Common.{◌≡◌, List, [], ◌++◌, ℕ, Option, Result, Ok, Err, OnErr, refl, sym, ap, ◌∙◌}
+use Rattle.std.proofs.Common.{append_assoc}
+use Rattle.std.specs.Io.KnownBytes.{Appends}
+use Rattle.std.proofs.KnownBytes.{Appends-nil, Appends-trans}
 use Rattle.njh_io.specs.Written.{AppendsBeginning}
 
--- nothing, or all, is a beginning
+-- nothing is a beginning
 pub beginning-none : (known : Option (List ℕ)) (whole : List ℕ) → AppendsBeginning known known whole
 beginning-none known whole = ([], whole, refl, Appends-nil known)
-
-pub beginning-kept : (a b : Option (List ℕ)) (whole : List ℕ) → Keeps a b → AppendsBeginning a b whole
-beginning-kept a b whole kept = ([], whole, refl, Appends-kept a a b [] (Appends-nil a) kept)
-
-pub beginning-all : (old new : Option (List ℕ)) (text more whole : List ℕ) → Appends old new text → text ++ more ≡ whole
-    → AppendsBeginning old new whole
-beginning-all old new text more whole written all = (text, more, all, written)
 
 -- a text, and then a beginning of the next
 pub beginning-after : (a b c : Option (List ℕ)) (front text more whole : List ℕ) → Appends a b front
@@ -28,3 +22,8 @@ beginning-after a b c front text more whole written begun all =
           (sym (append_assoc begin rest more) ∙ ap (λ (s : List ℕ). s ++ more) begun.2) ∙ all,
       Appends-trans a b c front begin written begun.3,
     )
+
+-- on Err alone
+pub on_err_of : {T E : Type 0} (r : Result T E) (P : Type 0) → P → OnErr r P
+on_err_of (Ok x) P so = tt
+on_err_of (Err e) P so = so
