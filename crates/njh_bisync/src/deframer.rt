@@ -3,7 +3,7 @@ ghost use Rattle.std.specs.Prelude.{◌≡◌, ℕ, ◌<◌, ◌≤◌, List, le
 ghost use Rattle.std.specs.Borrow.{sem};
 ghost use Rattle.std.specs.Io.BufRead.{Rests};
 ghost use Rattle.njh_bisync.specs.Frames.{Received, IsShort};
-ghost use Rattle.njh_bisync.specs.Reading.{Nothing, Reads, TakesFirst};
+ghost use Rattle.njh_bisync.specs.Reading.{Nothing, Reads, TakesFirst, has_begun};
 ghost use Rattle.njh_bisync.specs.ByteSteps.{feed_outcome, frames_after, rest_after, GoesOn};
 
 use crate::frame::Frame;
@@ -69,6 +69,14 @@ impl Deframer {
             Some(ended) => (taken, Some(self.scanner.frame(ended))),
             None => (taken, None),
         }
+    }
+
+    /// Whether a frame has begun to come that isn't whole yet: bytes were taken that belong to no
+    /// whole unit.
+    pub fn has_begun(&self) -> bool
+        ensures { result ≡ has_begun self.now }
+    {
+        self.scanner.has_begun()
     }
 
     /// Drops a frame that isn't whole.

@@ -5,7 +5,7 @@ ghost use Rattle.njh_bisync.specs.ByteSteps.{rest_step, feed_outcome, kept_with}
 ghost use Rattle.njh_bisync.specs.code.PlainBytes.{fed_on, kept_all, plain_len};
 ghost use Rattle.njh_bisync.specs.Frames.{text_or_spoiled, IsShort};
 ghost use Rattle.njh_bisync.specs.Limits.{longest_text};
-ghost use Rattle.njh_bisync.specs.Reading.{Nothing, InText};
+ghost use Rattle.njh_bisync.specs.Reading.{Nothing, InText, has_begun};
 
 use crate::frame::{Frame, LONGEST_TEXT};
 use crate::line_byte::{ACK_0, DLE, ENQ, EOT, ETB, ETX, NAK, SOH, STX, SYN};
@@ -103,6 +103,16 @@ impl Scanner {
             Ended::Eot => Frame::Eot,
             Ended::Text => Frame::Text(self.held.as_slice()),
             Ended::Spoiled => Frame::Spoiled,
+        }
+    }
+
+    /// Whether a frame has begun to come.
+    pub fn has_begun(&self) -> bool
+        ensures { result ≡ has_begun (rest_in self.now) }
+    {
+        match self.place {
+            Place::Between => false,
+            Place::Soh | Place::Dle | Place::Inside | Place::InsideDle => true,
         }
     }
 
