@@ -2,6 +2,7 @@
 
 ghost use Rattle.std.specs.Prelude.{◌≡◌, ◌<◌, ◌≤◌, length, map, slice_set, IfOk};
 ghost use Rattle.njh_bisync.specs.ByteSteps.{feed_outcome};
+ghost use Rattle.njh_bisync.specs.Reading.{has_begun};
 ghost use Rattle.njh_spool.specs.CustomerSpool.{empty_spool};
 ghost use Rattle.njh_table.specs.Marks.{entry_unmarked};
 ghost use Rattle.njh_table.specs.TableFile.{entry_of, password_bytes};
@@ -89,6 +90,14 @@ impl Lines {
         ensures { result ≡ (line_at line self.now.lines).state.config.role }
     {
         self.lines.line(line).config().role
+    }
+
+    /// Whether a frame has begun to come on a line that isn't whole yet.
+    pub fn has_begun(&self, line: u16) -> bool
+        requires { line < length self.now.lines }
+        ensures { result ≡ has_begun (rest_at line self.now.rests) }
+    {
+        self.deframers[usize::from(line)].has_begun()
     }
 
     /// What each of a line's streams to the hub is about: SYSIN 1 to 4, SYSOUT 1 to 4.
