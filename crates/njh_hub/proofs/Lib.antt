@@ -1,5 +1,6 @@
 pub mod OpenLaws
 pub mod ShownLaws
+pub mod RestingLaws
 pub mod RestoredLaws
 pub mod PartsLaws
 pub mod PieceLaws

@@ -23,7 +23,14 @@ hub_line id parts = line_at id.number (part id.customer parts).customer.lines
 
 -- what is shown of a session on a line of this role
 abbrev pub session_view : Role → Session → SessionView
-session_view role s = record { phase = s.phase; tries = s.tries; has_turn = s.has_turn; role = role }
+session_view role s = record {
+  phase = s.phase;
+  tries = s.tries;
+  has_turn = s.has_turn;
+  role = role;
+  next_count = s.next_count;
+  last_bcb = s.last_bcb;
+}
 
 -- what is shown of a line
 abbrev pub line_view : LineState → SessionView

@@ -28,6 +28,12 @@ pub struct SessionView {
     pub has_turn: bool,
     /// Whether the hub calls or answers.
     pub role: Role,
+    /// The count of the hub's own next block, modulo 16: that of the last one that was sent, plus
+    /// 1.
+    pub next_count: u8,
+    /// The BCB of the last block of the peer that was acted on in this session, those whose count
+    /// isn't checked aside.
+    pub last_bcb: Option<u8>,
 }
 
 impl SessionView {
@@ -40,6 +46,8 @@ impl SessionView {
             tries: session.tries,
             has_turn: session.has_turn,
             role,
+            next_count: session.next_count,
+            last_bcb: session.last_bcb.map(|bcb| bcb.byte()),
         }
     }
 

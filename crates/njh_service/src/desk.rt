@@ -39,6 +39,8 @@ const NO_SESSION: SessionView = SessionView {
     tries: 0,
     has_turn: false,
     role: Role::Answer,
+    next_count: 0,
+    last_bcb: None,
 };
 
 /// The network, the time on its clock, and the log.

@@ -6,6 +6,7 @@ ghost use Rattle.std.specs.Option.{option_map};
 ghost use Rattle.njh_command.specs.Files.{file_at};
 ghost use Rattle.njh_customer.specs.Customer.{IsMarked};
 ghost use Rattle.njh_stream.specs.WholeFiles.{HaveHeaders};
+ghost use Rattle.njh_hub.specs.Resting.{IsResting};
 ghost use Rattle.njh_hub.specs.Views.{HasGivenUp, IsPartialOn, whole_file_on, file_summary, hub_line, line_view};
 ghost use Rattle.njh_hub.specs.WholeHub.{part, HasLine};
 
@@ -26,6 +27,7 @@ impl Hub {
     /// The lines of a line's customer. `UnknownLine` comes where the hub has no such line.
     fn lines_of(&self, id: LineId) -> Result<&Lines, HubFault>
         ensures lines { IfOk result (λ lines. lines.now.lines ≡ (part id.customer self.now).customer.lines) }
+        ensures rests { IfOk result (λ lines. lines.now.rests ≡ (part id.customer self.now).rests) }
         ensures known { IsOk result ↔ HasLine self.now id }
         ensures unknown { OnErr result (result ≡ Err HubFault.UnknownLine) }
     {
@@ -59,6 +61,21 @@ impl Hub {
     {
         match self.session(id) {
             Ok(session) => session.phase == Phase::Down && session.tries == TRIES,
+            Err(_) => false,
+        }
+    }
+
+    /// Whether a line rests: its session is up, the turn is the hub's, and no frame has begun to
+    /// come. It is false where the hub has no such line.
+    #[tactic(auto, using(crate::proofs::RestingLaws::nothing_begun))]
+    pub fn is_resting(&self, id: LineId) -> bool
+        ensures { IsTrue result ↔ IsResting self.now id }
+    {
+        match self.lines_of(id) {
+            Ok(lines) => {
+                let session = lines.session(id.number);
+                session.phase == Phase::Up && session.has_turn && !lines.has_begun(id.number)
+            }
             Err(_) => false,
         }
     }

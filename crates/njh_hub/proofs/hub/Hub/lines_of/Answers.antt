@@ -31,3 +31,17 @@ returns-clause-lines c =
     ap (λ (x : Lines). x.lines) is
     ∙ sym (ap (λ (p : Part). p.customer.lines) (part-there s.shared.tables s.shared.spool s.lines.items n there))
     ∙ ap (λ (ps : List Part). (part n ps).customer.lines) c.self.view_is
+
+pub returns-clause-rests : goal.returns-clause-rests
+returns-clause-rests c =
+    let s = c.self.inside in
+    let n = c.args.id.customer in
+    let here : HasLine c.args.self.now c.args.id = search rules in
+    let known = subst (λ ps. HasLine ps c.args.id) (sym c.self.view_is) here in
+    let there = line-there s.shared.tables s.shared.spool s.lines.items c.args.id known in
+    let within : n < length s.lines.items = omega (arith, there, c.self.invariant.lined) in
+    let is : c.index.result.now ≡ lines_at n s.lines.items =
+    get_or_read s.lines.items n c.index.result.now within (search rules) no_lines in
+    ap (λ (x : Lines). x.rests) is
+    ∙ sym (ap (λ (p : Part). p.rests) (part-there s.shared.tables s.shared.spool s.lines.items n there))
+    ∙ ap (λ (ps : List Part). (part n ps).rests) c.self.view_is
