@@ -1,5 +1,6 @@
 -- What is read of a customer's file.
-use Rattle.std.proofs.Common.{◌≡◌, ℕ, true, false, Option, Some, None, List, refl, ap, ◌∙◌}
+use Rattle.std.proofs.Common.{◌≡◌, ℕ, true, false, Option, Some, None, List, [], ◌∷◌, map, All, refl, ap, ◌∙◌}
+use Rattle.std.proofs.lemmas.List.Elements.{All-nil, All-cons}
 use Rattle.std.specs.Option.{option_map, option_or}
 use Rattle.njh_record.specs.Stored.{Stored}
 use Rattle.njh_record.specs.declared.Kind.{Kind}
@@ -7,8 +8,9 @@ use Rattle.njh_spool.specs.declared.file_slot.Stage.{Stage}
 use Rattle.njh_spool.specs.declared.file_slot.Stage.TheVariants.{Free, Partial, Whole}
 use Rattle.njh_spool.specs.declared.customer_files.CustomerFiles.{CustomerFiles}
 use Rattle.njh_spool.specs.CustomerSpool.{WholeFile, PartialFile, partial_numbered}
-use Rattle.njh_spool.specs.Spools.{kind_numbered, records_numbered}
-use Rattle.njh_spool.specs.code.Slots.{Content, is_free, is_partial, is_whole_stage, spool_of, IsOwn}
+use Rattle.njh_spool.specs.Spools.{HasShortRecords, kind_numbered, records_numbered}
+use Rattle.njh_spool.specs.code.Packing.{IsShort}
+use Rattle.njh_spool.specs.code.Slots.{Content, is_free, is_partial, is_whole_stage, whole_file, spool_of, IsOwn}
 use Rattle.njh_spool.proofs.PartialLaws as partial
 use Rattle.njh_spool.proofs.WholeLaws as whole
 
@@ -86,3 +88,11 @@ has_no_file own files n is free =
       kind = ap (λ w. kind_of w (partial_numbered n s)) no_whole ∙ ap (kind_of None) no_partial;
       records = ap (λ w. records_of w (partial_numbered n s)) no_whole ∙ ap (records_of None) no_partial;
     }
+
+-- each of a customer's whole files has short records, where each file has
+pub whole_short : (files : ℕ → Content) (numbers : List ℕ) → ((n : ℕ) → All IsShort (files n).records)
+    → All HasShortRecords (map (whole_file files) numbers)
+whole_short files [] short = All-nil HasShortRecords
+whole_short files (n ∷ numbers) short =
+    All-cons HasShortRecords (whole_file files n) (map (whole_file files) numbers) (short n)
+    (whole_short files numbers short)

@@ -1,13 +1,13 @@
 -- The spool as the list of its customers' spools: what its calls answer, and what holds of each after every call.
 use Rattle.std.specs.Prelude.{◌≡◌, ℕ, ◌+◌, ◌≤◌, Bool, true, false, List, length, count_by, slice_get, slice_index_or}
-use Rattle.std.specs.Prelude.{Option, Some, None, Result, ◌==◌}
+use Rattle.std.specs.Prelude.{Option, Some, None, Result, ◌==◌, All}
 use Rattle.std.specs.Option.{option_map, option_or, option_and_then, ok_or, is_some}
 use Rattle.njh_record.specs.Stored.{Stored}
 use Rattle.njh_record.specs.declared.Kind.{Kind}
 use Rattle.njh_spool.specs.declared.SpoolFault.{SpoolFault}
 use Rattle.njh_spool.specs.declared.SpoolFault.TheVariants.{QuotaFull, TooManyFiles, NoSuchFile}
 use Rattle.njh_table.specs.Limits.{max_quota, max_files}
-use Rattle.njh_spool.specs.CustomerSpool.{CustomerSpool, empty_spool, used_blocks, has_file_room, has_block}
+use Rattle.njh_spool.specs.CustomerSpool.{CustomerSpool, WholeFile, empty_spool, used_blocks, has_file_room, has_block}
 use Rattle.njh_spool.specs.CustomerSpool.{partial_numbered, whole_numbered, has_room_for}
 
 -- a customer that the spool does not have
@@ -30,6 +30,10 @@ pub record IsSound (s : CustomerSpool) : Type 0 where
   pub numbered : (n : ℕ) → s.limit ≤ n → files_numbered n s ≡ 0
   pub quota_limit : s.quota ≤ max_quota
   pub files_limit : s.limit ≤ max_files
+
+-- each record of a whole file is of 256 bytes at most
+abbrev pub HasShortRecords : WholeFile → Type 0
+HasShortRecords f = All (λ r. length r.bytes ≤ 256) f.records
 
 -- a fault where a test fails
 abbrev pub fault_unless : Bool → SpoolFault → Option SpoolFault

@@ -10,7 +10,7 @@ ghost use Rattle.std.specs.Prelude.{option_map, slice_get, sum_by};
 ghost use Rattle.njh_spool.specs.CustomerSpool.{empty_spool, used_blocks};
 ghost use Rattle.njh_spool.specs.Headers.{summary};
 ghost use Rattle.njh_spool.specs.Quotas.{IsWithinLimits};
-ghost use Rattle.njh_spool.specs.Spools.{spool_at, files_numbered, IsSound};
+ghost use Rattle.njh_spool.specs.Spools.{spool_at, files_numbered, HasShortRecords, IsSound};
 ghost use Rattle.njh_table.specs.Limits.{max_capacity, max_customers};
 
 use crate::SpoolFault;
@@ -145,6 +145,15 @@ impl Spool {
             ≤ (spool_at customer self.now).limit }
         ensures numbers { (n : ℕ) → files_numbered n (spool_at customer self.now) ≤ 1 }
         ensures sound { IsSound (spool_at customer self.now) }
+    {
+        let _store = &self.store;
+    }
+
+    /// What holds of the records of a customer's whole files after every call: each is of 256 bytes
+    /// at most.
+    pub fn records_are_short(&self, customer: u16)
+        requires { customer < length self.now }
+        ensures { All HasShortRecords (spool_at customer self.now).whole }
     {
         let _store = &self.store;
     }
