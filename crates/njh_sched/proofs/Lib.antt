@@ -6,6 +6,8 @@ pub mod RequestLaws
 pub mod SourceLists
 pub mod SpoolLaws
 pub mod FrontLaws
+pub mod HavingLaws
+pub mod FirstLaws
 pub mod StreamLaws
 pub mod TurnLaws
 pub mod CarryingLaws

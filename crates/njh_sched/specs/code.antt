@@ -1,3 +1,4 @@
 -- What only bodies and proofs speak of.
 pub mod FileCursor
 pub mod Filling
+pub mod Having

@@ -7,8 +7,10 @@ ghost use Rattle.njh_sched.specs.NextBlock.{Filling, Source, after_source, after
 ghost use Rattle.njh_sched.specs.NextBlock.{sender_at, sources};
 ghost use Rattle.njh_sched.specs.Laws.{Does, EachDoes, records_under};
 ghost use Rattle.njh_sched.specs.Fronts.{LongestFrontsFill};
+ghost use Rattle.njh_sched.specs.Having.{FirstHasRoom};
 ghost use Rattle.njh_sched.specs.Carrying.{Carries, file_records};
 
+use njh_record::spelling_bounds;
 use njh_stream::Sender;
 
 /// Where the peer suspends all, nothing is added and nothing moves.
@@ -44,6 +46,14 @@ pub fn sources_fill_the_block()
 pub fn longest_fronts_fill()
     ensures { LongestFrontsFill }
 {}
+
+/// A block that had no record has one once it is filled exactly where there is one to come: it has
+/// room for whatever comes first.
+pub fn first_has_room()
+    ensures { FirstHasRoom }
+{
+    spelling_bounds();
+}
 
 /// What a block carries under a stream's RCB. Of a stream that sends a file: the file's records
 /// from the place before the block to the place after it, each once and in order, and the end of

@@ -6,6 +6,7 @@ mod aborts;
 mod cursor;
 mod files;
 mod filling;
+mod having;
 mod laws;
 mod outgoing;
 mod queues;
@@ -15,9 +16,10 @@ mod requests;
 mod waiting_peers;
 
 pub use filling::fill;
+pub use having::has_next;
 pub use laws::{
-    blocks_carry_files_in_order, longest_fronts_fill, nothing_where_all_is_suspended,
-    sources_fill_the_block, sources_move_streams_so,
+    blocks_carry_files_in_order, first_has_room, longest_fronts_fill,
+    nothing_where_all_is_suspended, sources_fill_the_block, sources_move_streams_so,
 };
 pub use outgoing::Outgoing;
 pub use waiting_peers::own_fcs;

@@ -23,7 +23,7 @@ fn may_send<L: Outgoing>(stream: Stream, line: &L) -> bool
 }
 
 /// The stream whose turn it is.
-fn next_served<L: Outgoing>(line: &L) -> Option<Stream>
+pub fn next_served<L: Outgoing>(line: &L) -> Option<Stream>
     ensures { result ≡ next_served (L.outlet line.now) }
 {
     let served = line.served().place();

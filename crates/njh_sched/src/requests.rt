@@ -19,7 +19,7 @@ use njh_stream::Sender;
 use njh_table::{LineId, NamedCustomer};
 
 /// Whether the line has a stream, and it is idle.
-fn may_ask<L: Outgoing>(stream: Stream, line: &L) -> bool
+pub fn may_ask<L: Outgoing>(stream: Stream, line: &L) -> bool
     ensures { result ≡ may_ask (L.outlet line.now) stream }
 {
     stream.number() < line.streams() && matches!(line.sender(stream), Sender::Idle)
