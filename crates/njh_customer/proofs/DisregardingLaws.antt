@@ -13,25 +13,25 @@ use Rattle.njh_line.specs.LineTable as input
 use Rattle.njh_line.specs.declared.verdict.LineReply.TheVariants as reply
 
 -- by what the line table says, where the line goes up or doesn't
-abbrev by_mark : Bool → ℕ → Session → Verdict → Customer → CustomerStep
+abbrev pub by_mark : Bool → ℕ → Session → Verdict → Customer → CustomerStep
 by_mark up l s v c = carried_out l v
     (record c { entry = with_raised_line up l c.entry; lines = on_line l (in_state (with_session s)) c.lines })
 
-abbrev by_parts : ℕ → Session → Verdict → Customer → CustomerStep
+abbrev pub by_parts : ℕ → Session → Verdict → Customer → CustomerStep
 by_parts l s v c = by_mark (goes_up (session_on l c).phase s.phase) l s v c
 
 -- a line that is as far as it was doesn't go up
-same_phase : (p : Phase) → goes_up p p ≡ false
+pub same_phase : (p : Phase) → goes_up p p ≡ false
 same_phase Down = refl
 same_phase _ = refl
 
-unraised : (l : ℕ) (s : Session) (v : Verdict) (c : Customer) → s.phase ≡ (session_on l c).phase
+pub unraised : (l : ℕ) (s : Session) (v : Verdict) (c : Customer) → s.phase ≡ (session_on l c).phase
     → by_parts l s v c ≡ by_mark false l s v c
 unraised l s v c same =
     let p = (session_on l c).phase in
     ap (λ up. by_mark up l s v c) (ap (goes_up p) same ∙ same_phase p)
 
-abbrev lines_as : Customer → List CustomerLine → Customer
+abbrev pub lines_as : Customer → List CustomerLine → Customer
 lines_as c lines = record c { lines = lines }
 
 -- nothing is disregarded but in a session, where it is a try
@@ -45,7 +45,7 @@ table_is config _ s e = absurd (cc e)
 
 module _ (l : ℕ) (c : Customer) where
   -- the line with the session that it has
-  again : (xs : List CustomerLine) → set xs l (get_or xs l no_customer_line) ≡ xs
+  pub again : (xs : List CustomerLine) → set xs l (get_or xs l no_customer_line) ≡ xs
   again xs = set-get_or xs l no_customer_line
 
   nothing : by_parts l (none (session_on l c)).session (none (session_on l c)).verdict c ≡ silent c

@@ -23,6 +23,8 @@ pub mod DisregardingLaws
 pub mod RoutesMoves
 pub mod MarkLaws
 pub mod GrowingLaws
+pub mod HavingLaws
+pub mod TickLaws
 pub mod BlockSizes
 pub mod RestLengths
 pub mod StepsGrow

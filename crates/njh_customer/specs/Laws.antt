@@ -1,11 +1,17 @@
 -- What is said of all runs of a customer by itself, over the definitions alone.
-use Rattle.std.specs.Prelude.{◌≡◌, ℕ, ◌<◌, List, [], ◌∷◌, ◌++◌, length, take}
+use Rattle.std.specs.Prelude.{◌≡◌, ℕ, ◌<◌, true, List, [], ◌∷◌, ◌++◌, length, take, cond}
+use Rattle.njh_bisync.specs.Written.{control_bytes}
+use Rattle.njh_bisync.specs.declared.frame.Control.TheVariants.{Ack0}
+use Rattle.njh_line.specs.declared.Phase.TheVariants.{Up}
 use Rattle.njh_table.specs.NewRoutes.{NewRoute, routes_checked}
 use Rattle.njh_customer.specs.Feeding.{sent_on}
 use Rattle.njh_table.specs.Entries.{CustomerEntry}
-use Rattle.njh_customer.specs.Customer.{IsMarked, fresh_customer, with_marks}
+use Rattle.njh_customer.specs.declared.signal.Signal.TheVariants.{Tick}
+use Rattle.njh_customer.specs.Customer.{IsMarked, fresh_customer, line_at, with_marks}
 use Rattle.njh_customer.specs.NewRoutes.{entry_with}
-use Rattle.njh_customer.specs.Part.{Part, part_after_bytes}
+use Rattle.njh_customer.specs.Part.{Part, part_after_bytes, part_after_signal}
+use Rattle.njh_customer.specs.Having.{has_next}
+use Rattle.njh_customer.specs.Sending.{block_frame, next_block}
 use Rattle.njh_customer.specs.Runs.{OwnEvent, OwnBytes, Run, event_run, alone_run}
 
 -- A piece that comes in two gives the same frames and the same part.
@@ -70,3 +76,16 @@ pub record MarksAreRight : Type 0 where
   pub events : (p : Part) (event : OwnEvent) → IsMarked p.customer → IsMarked (event_run p event).after.customer
   pub takes : (p : Part) (l : ℕ) (piece : List ℕ) → IsMarked p.customer
       → IsMarked (part_after_bytes p l piece).after.customer
+
+-- ---- a line that has the turn
+
+-- A tick on a line whose session is up and has the turn sends its next block, where that would be sent, else ACK0.
+abbrev pub TicksSendNext : Type 0
+TicksSendNext =
+    (p : Part) (l : ℕ) → l < length p.customer.lines →
+    (line_at l p.customer.lines).state.session.phase ≡ Up →
+    (line_at l p.customer.lines).state.session.has_turn ≡ true →
+    (part_after_signal p l Tick).frame
+    ≡ cond (has_next p.customer.entry l p.customer.spool (line_at l p.customer.lines))
+    (block_frame (next_block p.customer.entry l p.customer.spool (line_at l p.customer.lines)).block)
+    (control_bytes Ack0)

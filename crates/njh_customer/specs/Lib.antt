@@ -2,6 +2,7 @@ pub mod Customer
 pub mod Waiting
 pub mod Acting
 pub mod Sending
+pub mod Having
 pub mod Alone
 pub mod Feeding
 pub mod Part

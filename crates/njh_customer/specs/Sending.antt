@@ -49,8 +49,12 @@ sending_of_opening kind x = sending_of_frame (text_bytes (opening kind x.config)
 abbrev pub own_block : ℕ × ℕ → LineState → Writing
 own_block fcs x = record { limit = x.session.size; bcb = 0x80 + x.session.next_count; fcs = fcs; items = [] }
 
+-- a block as a frame
+abbrev pub block_frame : Writing → List ℕ
+block_frame w = text_bytes (text_of w.bcb w.fcs w.items)
+
 abbrev pub sending_of_block : Writing → LineState → Sending
-sending_of_block w x = let frame = text_bytes (text_of w.bcb w.fcs w.items) in sent_as (line.Block frame w.fcs) frame x
+sending_of_block w x = sent_as (line.Block (block_frame w) w.fcs) (block_frame w) x
 
 -- which count the hub expected
 abbrev pub sending_of_sequence : ℕ × ℕ → ℕ → LineState → Sending

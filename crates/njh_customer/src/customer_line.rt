@@ -11,6 +11,7 @@ ghost use Rattle.njh_customer.specs.Alone.{with_idle_streams, spool_over};
 ghost use Rattle.njh_spool.specs.Spools.{spool_at};
 ghost use Rattle.njh_sched.specs.Tight.{own_fcs};
 ghost use Rattle.njh_table.specs.TableFile.{customer_at, entry_of};
+ghost use Rattle.njh_customer.specs.Having.{has_next};
 ghost use Rattle.njh_customer.specs.Sending.{sending_of_next, sending_of_reply};
 ghost use Rattle.njh_customer.specs.Customer.{idle_line, in_state, with_notice, receiver_at, with_receiver, sender_at};
 ghost use Rattle.njh_customer.specs.Customer.{with_sender};
@@ -18,14 +19,14 @@ ghost use Rattle.njh_customer.specs.CustomerSteps.{LineSends};
 
 use crate::frame_buffer::FrameBuffer;
 use crate::sending::{
-    begin_block, send_again, send_control, send_opening, send_sequence, send_written,
+    begin_block, send_again, send_control, send_opening, send_sequence, send_written, tells_nothing,
 };
 use crate::shared::Shared;
 use njh_block::{Answer, Fcs, Stream};
 use njh_command::give_up;
 use njh_line::{Config, Input, Line, LineReply, Phase, Session, Verdict};
 use njh_record::Record;
-use njh_sched::{Outgoing, fill, own_fcs};
+use njh_sched::{Outgoing, fill, has_next, own_fcs};
 use njh_spool::{FileId, Spool};
 use njh_stream::{Notice, Receiver, Sender, end_receivers, end_senders, retry_refused};
 use njh_table::{LineId, Tables};
@@ -276,6 +277,23 @@ impl CustomerLine {
             &mut shared.block,
         );
         send_written(&mut self.line, or_ack0, &shared.block, fcs, out);
+    }
+
+    /// Whether its next block would be sent, were it asked for now: it has a record, or it tells a
+    /// new function control sequence. Nothing is changed.
+    pub(crate) fn has_next(&self, id: LineId, shared: &Shared) -> bool
+        requires known { id.customer < length shared.now.tables.customers }
+        requires spooled { id.customer < length shared.now.spool }
+        requires quota { (customer_at shared.now.tables id.customer).quota
+            ≡ (spool_at id.customer shared.now.spool).quota }
+        ensures { result ≡ has_next (entry_of (customer_at shared.now.tables id.customer)) id.number
+            (spool_at id.customer shared.now.spool) self.now }
+    {
+        let fcs = own_fcs(id.customer, &shared.spool, &shared.tables);
+        if !tells_nothing(&self.line, fcs) {
+            return true;
+        }
+        has_next(self, id, &shared.spool, &shared.tables)
     }
 
     /// The end of a session: the files that were being sent may go again, and so may those that

@@ -10,7 +10,7 @@ ghost use Rattle.njh_customer.specs.Growing.{OpenedHasShortRests, PartialsAreNum
 ghost use Rattle.njh_customer.specs.Growing.{RoutesGrowFiles, SignalsGrowFiles, TakesGrowFiles, TakesKeepShortRests};
 ghost use Rattle.njh_customer.specs.Laws.{CutsAreLike, FirstBytesSendFirst, NoBytesDoNothing, StepsFollowBytes};
 ghost use Rattle.njh_customer.specs.Laws.{EventsKeepEntries, EventsKeepFaults, EventsKeepLines, MarksAreRight};
-ghost use Rattle.njh_customer.specs.Laws.{TakesKeepEntries};
+ghost use Rattle.njh_customer.specs.Laws.{TakesKeepEntries, TicksSendNext};
 ghost use Rattle.njh_customer.specs.MovingLaws.{EventsMoveSo, FilesLeaveSo, FilesLeaveSoBetween, FramesDoSo};
 ghost use Rattle.njh_customer.specs.MovingLaws.{IdleStreamsTakeFiles, RecordsChangeSo, RoutesDoSo, SignalsDoSo};
 ghost use Rattle.njh_customer.specs.MovingLaws.{StreamsMoveSo, TakesMoveSo};
@@ -52,6 +52,12 @@ pub fn events_keep_entries()
 /// comes to it.
 pub fn marks_are_right()
     ensures { MarksAreRight }
+{}
+
+/// A tick on a line whose session is up and has the turn sends its next block, where that would be
+/// sent, else ACK0. `Lines::has_next` tells which.
+pub fn ticks_send_next()
+    ensures { TicksSendNext }
 {}
 
 /// A customer that was just opened is coherent.

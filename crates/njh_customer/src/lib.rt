@@ -21,7 +21,7 @@ pub use laws::{
     bad_texts_change_nothing, customers_stay_in_order, cuts_are_like, events_keep_entries,
     events_move_so, files_grow, files_leave_so, files_survive, first_bytes_send_first,
     frames_do_so, lost_lines_leave_files, marks_are_right, no_bytes_do_nothing, opened_is_coherent,
-    records_change_so, steps_follow_bytes, streams_move_so,
+    records_change_so, steps_follow_bytes, streams_move_so, ticks_send_next,
 };
 pub use lines::Lines;
 pub use new_routes::{routes_keep_coherent, unrouted_files_stay};

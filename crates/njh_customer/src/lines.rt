@@ -5,12 +5,14 @@ ghost use Rattle.njh_bisync.specs.ByteSteps.{feed_outcome};
 ghost use Rattle.njh_bisync.specs.Reading.{has_begun};
 ghost use Rattle.njh_spool.specs.CustomerSpool.{empty_spool};
 ghost use Rattle.njh_table.specs.Marks.{entry_unmarked};
-ghost use Rattle.njh_table.specs.TableFile.{entry_of, password_bytes};
+ghost use Rattle.njh_spool.specs.Spools.{spool_at};
+ghost use Rattle.njh_table.specs.TableFile.{customer_at, entry_of, password_bytes};
 ghost use Rattle.njh_customer.specs.Customer.{config_of, line_at, password_in};
 ghost use Rattle.njh_customer.specs.Feeding.{acted_on};
 ghost use Rattle.njh_customer.specs.CustomerSteps.{IsReady, LeavesReadyBy, PartLeavesReady};
 ghost use Rattle.njh_customer.specs.CustomerSteps.{part_of};
 ghost use Rattle.njh_customer.specs.Part.{rest_at};
+ghost use Rattle.njh_customer.specs.Having.{has_next};
 
 use crate::customer_line::CustomerLine;
 use crate::customer_lines::CustomerLines;
@@ -98,6 +100,15 @@ impl Lines {
         ensures { result ≡ has_begun (rest_at line self.now.rests) }
     {
         self.deframers[usize::from(line)].has_begun()
+    }
+
+    /// Whether a line's next block would be sent, were it asked for now. Nothing is changed.
+    pub fn has_next(&self, id: LineId, shared: &Shared) -> bool
+        requires ready { IsReady id shared.now self.now.lines }
+        ensures { result ≡ has_next (entry_of (customer_at shared.now.tables id.customer)) id.number
+            (spool_at id.customer shared.now.spool) (line_at id.number self.now.lines) }
+    {
+        self.lines.line(id.number).has_next(id, shared)
     }
 
     /// What each of a line's streams to the hub is about: SYSIN 1 to 4, SYSOUT 1 to 4.

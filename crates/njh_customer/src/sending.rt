@@ -106,8 +106,9 @@ fn send_no_block(line: &mut Line, or_ack0: bool, out: &mut FrameBuffer)
 
 /// Whether a block without records isn't sent: the peer suspends all, or it tells no new function
 /// control sequence.
-fn tells_nothing(line: &Line, fcs: Fcs) -> bool
-    ensures { result ≡ (all_suspended line.now.session.peer_fcs || same_fcs fcs line.now.session.own_fcs) }
+pub(crate) fn tells_nothing(line: &Line, fcs: Fcs) -> bool
+    ensures tells { result ≡ (all_suspended line.now.session.peer_fcs || same_fcs fcs line.now.session.own_fcs) }
+    ensures room { 300 ≤ line.now.session.size }
 {
     let session = line.session();
     session.peer_fcs.all_suspended() || fcs == session.own_fcs
