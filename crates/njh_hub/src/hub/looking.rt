@@ -6,7 +6,7 @@ ghost use Rattle.std.specs.Option.{option_map};
 ghost use Rattle.njh_command.specs.Files.{file_at};
 ghost use Rattle.njh_customer.specs.Customer.{IsMarked};
 ghost use Rattle.njh_stream.specs.WholeFiles.{HaveHeaders};
-ghost use Rattle.njh_hub.specs.Resting.{IsResting};
+ghost use Rattle.njh_hub.specs.Resting.{HasNext, IsResting};
 ghost use Rattle.njh_hub.specs.Views.{HasGivenUp, IsPartialOn, whole_file_on, file_summary, hub_line, line_view};
 ghost use Rattle.njh_hub.specs.WholeHub.{part, HasLine};
 
@@ -78,6 +78,18 @@ impl Hub {
             }
             Err(_) => false,
         }
+    }
+
+    /// Whether a line's next block would be sent, were it asked for now: it has a record, or it
+    /// tells a new function control sequence. Where streams of the line are idle that may walk over
+    /// the customer's whole files. It is false where the hub has no such line.
+    pub fn has_next(&self, id: LineId) -> bool
+        ensures { IsTrue result ↔ HasNext self.now id }
+    {
+        if !self.is_line(id) {
+            return false;
+        }
+        self.lines[usize::from(id.customer)].has_next(id, &self.shared)
     }
 
     /// What each of a line's streams to the hub is about: SYSIN 1 to 4, SYSOUT 1 to 4; a file that
