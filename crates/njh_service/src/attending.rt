@@ -25,6 +25,10 @@ impl<N: Network + Drop, L: Write + Drop, S: TableSource + Drop> Attendant<LineWi
         self.is_due(place)
     }
 
+    fn prompts(&self, _place: usize, _hub: &Hub) -> bool {
+        false
+    }
+
     fn after(&mut self, hub: &Hub, wires: &mut [LineWire<N::Connection>]) {
         self.end_round(hub, wires);
     }

@@ -17,6 +17,7 @@ use Rattle.njh_customer.specs.declared.signal.Signal.TheVariants as signal
 use Rattle.njh_hub.specs.declared.event.Event.{Event}
 use Rattle.njh_hub.specs.declared.event.Event.TheVariants.{Bytes}
 use Rattle.njh_hub.specs.OwnEvents.{event_by, first_bytes}
+use Rattle.njh_hub.specs.Resting.{IsResting}
 use Rattle.njh_hub.specs.Sent.{IsCounted}
 use Rattle.njh_hub.specs.WholeHub.{Part, HubRun, part, hub_run, sent_by}
 use Rattle.njh_hub.specs.Cuts.{cut_to}
@@ -24,6 +25,7 @@ use Rattle.njh_hub.proofs.PieceLaws.{after_bytes}
 use Rattle.njh_hub.proofs.RunningLaws.{GoesOn, counted_from, part_done, routes_done, signal_done, step_done, whole_done}
 use Rattle.njh_hub.proofs.CutLaws.{cut_to-event_by, signal_stops, step_stops}
 use Rattle.njh_turns.specs.declared.wire_reading.Reading.{Reading}
+use Rattle.njh_turns.specs.declared.wire_reading.Reading.TheVariants as reading
 use Rattle.njh_turns.specs.declared.wire_reading.WireFault.{WireFault}
 use Rattle.njh_turns.specs.Breaks.{Break, AtStep, AtLoss, AreWithheld, BrokenTurn, EventBreaks, IsAtLoss, RoundStops}
 use Rattle.njh_turns.specs.Breaks.{RoutesBreak}
@@ -31,7 +33,7 @@ use Rattle.njh_turns.specs.Breaks.{TurnBreaks, acts_before}
 use Rattle.njh_turns.specs.Keeping.{LeavesEither}
 use Rattle.njh_turns.specs.Turns.{Turn, IsRound, no_line_id, wire_event, HubMoment, hub_wires}
 use Rattle.njh_turns.specs.Wires.{Failed, IsDone, WireAct, Unsent, answer_acts, heard_of, sent_act, WireSays, hub_wire}
-use Rattle.njh_turns.proofs.TurnLaws.{counted_on, failed-err}
+use Rattle.njh_turns.proofs.TurnLaws.{counted_on, failed-err, prompted-ok}
 use Rattle.njh_turns.proofs.WireLaws.{lost_after, lost_next, signal_unsent}
 use Rattle.njh_turns.proofs.WireLaws.{step_unsent}
 
@@ -191,17 +193,19 @@ pub turn_breaks : {S : Type 0} (says : WireSays S) (parts new : List Part)
     ((a b c : S) (xs ys : List WireAct) → says.passed a b xs → says.passed b c ys → says.passed a c (xs ++ ys)) →
     says.passed wire read (answer_acts (heard_of answer buffer)) → says.count wire ≤ says.count read →
     OnErr answer (IsCounted (says.count wire) (says.count read)) →
+    (answer ≡ Ok reading.Prompted → IsResting parts id) →
     wire_event id quiet (heard_of answer buffer) ≡ Some event →
     EventBreaks says (hub_wire parts read) event break (hub_wire new new_wire) →
     TurnBreaks says id quiet (hub_wire parts wire)
     (record { heard = heard_of answer buffer; event = event; break = break }) (hub_wire new new_wire)
 turn_breaks says parts new id quiet answer buffer event break wire read new_wire more answered counts counted
-    told b = record {
+    rests told b = record {
       told = told;
       hub = b.hub;
       acts = more wire read new_wire (answer_acts (heard_of answer buffer)) (acts_before parts break event) answered
           b.acts;
       stop = b.stop;
+      prompted = λ w. prompted-ok answer buffer w rests;
       counts = omega (arith, counts, b.counts);
       counted = λ fault. ⊎_elim (λ (w : heard_of answer buffer ≡ Failed). counted_on (says.count wire) (says.count read)
           (says.count new_wire) counts

@@ -7,7 +7,7 @@ use Rattle.njh_hub.specs.declared.event.Event.{Event}
 use Rattle.njh_hub.specs.declared.event.Event.TheVariants.{Bytes, Tick, Garbled, Lost, Routes}
 use Rattle.njh_hub.specs.OwnEvents.{customer_of_event, line_of_event, own, events_of}
 use Rattle.njh_hub.specs.Cuts.{cut_to}
-use Rattle.njh_turns.specs.Wires.{Heard, Came, Quiet, Pending, Closed, Absent, Failed, loss_of, heard_events}
+use Rattle.njh_turns.specs.Wires.{Heard, Came, Quiet, Pending, Prompted, Closed, Absent, Failed, loss_of, heard_events}
 use Rattle.njh_turns.specs.Turns.{Turn, wire_event, told_where, turn_events, quiet_after, round_events, quiets_after}
 use Rattle.njh_turns.specs.Turns.{all_events, no_quiets}
 use Rattle.njh_turns.specs.WireLaws.{own_wires, OwnWiresDecide}
@@ -38,6 +38,7 @@ event_on : (id : LineId) (quiet : ℕ) (heard : Heard) → OnLine id (wire_event
 event_on id quiet (Came piece) = refl
 event_on id quiet Quiet = tick_on id (eqb quiet 9)
 event_on id quiet Pending = tt
+event_on id quiet Prompted = refl
 event_on id quiet Closed = refl
 event_on id quiet Absent = tt
 event_on id quiet Failed = refl

@@ -14,10 +14,10 @@ use Rattle.njh_hub.specs.declared.event.Event.{Event}
 use Rattle.njh_hub.specs.Sent.{IsCounted}
 use Rattle.njh_hub.specs.WholeHub.{Part, HubRun, hub_run}
 use Rattle.njh_hub.proofs.RunningLaws.{counted_from, hub_run-append}
-use Rattle.njh_turns.specs.Wires.{Pending, Failed, WireAct, WireSays, HubWire, hub_wire}
+use Rattle.njh_turns.specs.Wires.{Pending, Prompted, Failed, WireAct, WireSays, HubWire, hub_wire}
 use Rattle.njh_turns.specs.Turns.{Turn, IsTurn, Placed, HubMoment, HadTurn, HadTurns, HasFault, IsRound, moment}
 use Rattle.njh_turns.specs.Turns.{no_line_id, no_turn, quiet_after, turn_events, round_events, quiets_after, turn_at}
-use Rattle.njh_turns.specs.Turns.{placed_acts, placed_stop}
+use Rattle.njh_turns.specs.Turns.{placed_acts, placed_prompt, placed_stop}
 use Rattle.njh_turns.proofs.TurnLaws.{counted_on}
 
 -- ---- one turn more
@@ -168,7 +168,13 @@ round_more {S} {says} {lines} {first} {now} {turns} {i} {id} {quiet} {turn} {wir
       turn = turn;
     }) quiet_is ∙ sym (placed-here first.parts lines quiets turns turn) in
     let this : HadTurn says (turn_at first.parts lines quiets (length turns) (turns ++ turn ∷ [])) wire after.wire =
-    subst P place (record { acts = g.did.acts; stop = g.did.stop; counts = g.did.counts; counted = g.did.counted }) in
+    subst P place (record {
+      acts = g.did.acts;
+      stop = g.did.stop;
+      prompted = g.did.prompted;
+      counts = g.did.counts;
+      counted = g.did.counted;
+    }) in
     record {
       hub = g.did.hub ∙ ap (λ (ps : List Part). (hub_run ps (turn_events id quiet turn)).parts) g.so_far.hub
           ∙ sym (ap (λ (h : HubRun). h.parts) (hub_run-append first.parts so_far (turn_events id quiet turn)))
@@ -211,6 +217,7 @@ round_over {S} {says} {lines} {first} {turns} {now} {now_quiets} (w ∷ ws) {i} 
         hub = refl;
         acts = none wire;
         stop = refl;
+        prompted = λ (never : Pending ≡ Prompted). cc;
         counts = omega arith;
         counted = λ fault. ⊎_elim (λ (never : Pending ≡ Failed). cc) (λ (never : IsSome passed_over.cut). cc) fault;
       };
@@ -243,6 +250,7 @@ had_more {S} says turns p a b c more h t =
     record {
       acts = subst P (sym acts) (more a b c (flat_map placed_acts turns) (placed_acts p) h.acts t.acts);
       stops = All-push placed_stop turns p h.stops t.stop;
+      prompts = All-push placed_prompt turns p h.prompts t.prompted;
       counts = omega (arith, h.counts, t.counts);
       counted = All-push (λ q. HasFault q.turn → IsCounted (says.count a) (says.count c)) turns p
           (λ k d within fault. counted_on (says.count a) (says.count b) (says.count c) h.counts t.counts

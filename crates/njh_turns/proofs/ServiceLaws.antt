@@ -137,6 +137,7 @@ at_first says brings lines first none = record {
   had = λ i d within. record {
     acts = none (get_or first.wires i d);
     stops = λ k e never. absurd (omega (arith, never));
+    prompts = λ k e never. absurd (omega (arith, never));
     counts = omega arith;
     counted = λ k e never. absurd (omega (arith, never));
   };
@@ -150,6 +151,7 @@ had_still {W} says turns a b c more h still counts =
     record {
       acts = subst (λ (xs : List WireAct). says.passed a c xs) (append-nil acts) (more a b c acts [] h.acts still);
       stops = h.stops;
+      prompts = h.prompts;
       counts = omega (arith, h.counts, counts);
       counted = λ k d within fault. counted_on (says.count a) (says.count b) (says.count c) h.counts counts
           (h.counted k d within fault);

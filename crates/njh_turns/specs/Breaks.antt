@@ -7,6 +7,7 @@ use Rattle.njh_table.specs.declared.new_routes.GivenRoute.{GivenRoute}
 use Rattle.njh_hub.specs.declared.event.Event.{Event}
 use Rattle.njh_hub.specs.declared.event.Event.TheVariants.{Routes}
 use Rattle.njh_hub.specs.OwnEvents.{bytes_in_event, first_bytes}
+use Rattle.njh_hub.specs.Resting.{IsResting}
 use Rattle.njh_hub.specs.Sent.{IsCounted}
 use Rattle.njh_hub.specs.WholeHub.{Part, IsNamed, hub_run}
 use Rattle.njh_hub.specs.Cuts.{SendsAt, cut_to, run_until}
@@ -15,7 +16,7 @@ use Rattle.njh_turns.specs.Service.{IsAttended}
 use Rattle.njh_turns.specs.Turns.{Turn, HubMoment, HubWires, IsRound, IsServed, all_quiets, hub_wires, moment}
 use Rattle.njh_turns.specs.Turns.{no_line_id}
 use Rattle.njh_turns.specs.Turns.{no_quiets, wire_event}
-use Rattle.njh_turns.specs.Wires.{Heard, Failed, WireAct, answer_acts, heard_events, sent_act}
+use Rattle.njh_turns.specs.Wires.{Heard, Prompted, Failed, WireAct, answer_acts, heard_events, sent_act}
 use Rattle.njh_turns.specs.Wires.{write_acts, WireSays, HubWire, hub_wire}
 
 -- ---- an event of a wire
@@ -72,6 +73,7 @@ pub record TurnBreaks {W : Type 0} (says : WireSays W) (id : LineId) (quiet : �
   pub acts : says.passed before.wire after.wire
       (answer_acts turn.heard ++ acts_before before.parts turn.break turn.event)
   pub stop : IsBreak before.parts turn.break turn.event
+  pub prompted : turn.heard ≡ Prompted → IsResting before.parts id
   pub counts : says.count before.wire ≤ says.count after.wire
   pub counted : (turn.heard ≡ Failed) ⊎ IsAtLoss turn.break
       → IsCounted (says.count before.wire) (says.count after.wire)

@@ -5,10 +5,11 @@ use Rattle.std.specs.List.{flat_map}
 use Rattle.njh_table.specs.declared.LineId.{LineId}
 use Rattle.njh_hub.specs.declared.event.Event.{Event}
 use Rattle.njh_hub.specs.declared.event.Event.TheVariants.{Bytes, Tick, Lost}
+use Rattle.njh_hub.specs.Resting.{IsResting}
 use Rattle.njh_hub.specs.Sent.{IsCounted}
 use Rattle.njh_hub.specs.WholeHub.{Part, hub_run}
-use Rattle.njh_turns.specs.Wires.{Heard, Came, Quiet, Pending, Closed, Absent, Failed, WireAct, WireSays, HubWire}
-use Rattle.njh_turns.specs.Wires.{answer_acts, heard_events, write_acts, IsStop}
+use Rattle.njh_turns.specs.Wires.{Heard, Came, Quiet, Pending, Prompted, Closed, Absent, Failed, WireAct, WireSays}
+use Rattle.njh_turns.specs.Wires.{HubWire, answer_acts, heard_events, write_acts, IsStop}
 
 -- ---- one turn
 
@@ -17,12 +18,13 @@ pub record Turn : Type 0 where
   pub heard : Heard
   pub cut : Option ℕ
 
--- What the hub is told of an answer: bytes that came; a tick, at the tenth quiet in a row; the loss of a line that was
--- closed or could not be read.
+-- What the hub is told of an answer: bytes that came; a tick, at the tenth quiet in a row or where the wire was
+-- prompted; the loss of a line that was closed or could not be read.
 abbrev pub wire_event : LineId → ℕ → Heard → Option Event
 wire_event id quiet (Came piece) = Some (Bytes id piece)
 wire_event id quiet Quiet = cond (quiet == 9) (Some (Tick id)) None
 wire_event id quiet Pending = None
+wire_event id quiet Prompted = Some (Tick id)
 wire_event id quiet Closed = Some (Lost id)
 wire_event id quiet Absent = None
 wire_event id quiet Failed = Some (Lost id)
@@ -32,6 +34,7 @@ abbrev pub quiet_after : ℕ → Heard → ℕ
 quiet_after quiet (Came piece) = 0
 quiet_after quiet Quiet = cond (quiet == 9) 0 (quiet + 1)
 quiet_after quiet Pending = quiet
+quiet_after quiet Prompted = 0
 quiet_after quiet Closed = 0
 quiet_after quiet Absent = 0
 quiet_after quiet Failed = 0
@@ -70,12 +73,14 @@ turn_acts parts id quiet turn = answer_acts turn.heard ++ written_where parts tu
 abbrev pub HasFault : Turn → Type 0
 HasFault turn = (turn.heard ≡ Failed) ⊎ IsSome turn.cut
 
--- A turn of the wire of a line: from a hub and the wire to what it leaves of them. So many quiets came before.
+-- A turn of the wire of a line: from a hub and the wire to what it leaves of them. So many quiets came before. It is
+-- prompted only where its line rests, of the part of its own customer alone.
 pub record IsTurn {W : Type 0} (says : WireSays W) (id : LineId) (quiet : ℕ) (before : HubWire W) (turn : Turn)
     (after : HubWire W) : Type 0 where
   pub hub : after.parts ≡ (hub_run before.parts (turn_events id quiet turn)).parts
   pub acts : says.passed before.wire after.wire (turn_acts before.parts id quiet turn)
   pub stop : IsStopWhere before.parts turn.cut (wire_event id quiet turn.heard)
+  pub prompted : turn.heard ≡ Prompted → IsResting before.parts id
   pub counts : says.count before.wire ≤ says.count after.wire
   pub counted : HasFault turn → IsCounted (says.count before.wire) (says.count after.wire)
 
@@ -132,10 +137,15 @@ placed_acts p = turn_acts p.parts p.line p.quiet p.turn
 abbrev pub placed_stop : Placed → Type 0
 placed_stop p = IsStopWhere p.parts p.turn.cut (wire_event p.line p.quiet p.turn.heard)
 
+-- the line rests where its wire was prompted
+abbrev pub placed_prompt : Placed → Type 0
+placed_prompt p = p.turn.heard ≡ Prompted → IsResting p.parts p.line
+
 -- a wire had this turn
 pub record HadTurn {W : Type 0} (says : WireSays W) (p : Placed) (wire new_wire : W) : Type 0 where
   pub acts : says.passed wire new_wire (placed_acts p)
   pub stop : placed_stop p
+  pub prompted : placed_prompt p
   pub counts : says.count wire ≤ says.count new_wire
   pub counted : HasFault p.turn → IsCounted (says.count wire) (says.count new_wire)
 
@@ -177,6 +187,7 @@ turns_of parts lines quiets i (round ∷ rounds) = turn_at parts lines quiets i 
 pub record HadTurns {W : Type 0} (says : WireSays W) (turns : List Placed) (wire new_wire : W) : Type 0 where
   pub acts : says.passed wire new_wire (flat_map placed_acts turns)
   pub stops : All placed_stop turns
+  pub prompts : All placed_prompt turns
   pub counts : says.count wire ≤ says.count new_wire
   pub counted : All (λ p. HasFault p.turn → IsCounted (says.count wire) (says.count new_wire)) turns
 

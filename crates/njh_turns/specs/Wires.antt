@@ -20,6 +20,7 @@ pub data Heard : Type 0 where
   Came : (piece : List ℕ) → Heard
   Quiet : Heard
   Pending : Heard
+  Prompted : Heard
   Closed : Heard
   Absent : Heard
   Failed : Heard
@@ -28,6 +29,7 @@ abbrev pub heard_of : Result Reading WireFault → List ℕ → Heard
 heard_of (Ok (reading.Bytes n)) buffer = Came (take n buffer)
 heard_of (Ok reading.Quiet) buffer = Quiet
 heard_of (Ok reading.Pending) buffer = Pending
+heard_of (Ok reading.Prompted) buffer = Prompted
 heard_of (Ok reading.Closed) buffer = Closed
 heard_of (Ok reading.Absent) buffer = Absent
 heard_of (Err fault) buffer = Failed
@@ -37,6 +39,7 @@ abbrev pub IsReading : ℕ → Reading → Type 0
 IsReading room (reading.Bytes n) = (0 < n) × (n ≤ room)
 IsReading room reading.Quiet = ⊤
 IsReading room reading.Pending = ⊤
+IsReading room reading.Prompted = ⊤
 IsReading room reading.Closed = ⊤
 IsReading room reading.Absent = ⊤
 
@@ -58,6 +61,7 @@ abbrev pub answer_acts : Heard → List WireAct
 answer_acts (Came piece) = Answered (Came piece) ∷ []
 answer_acts Quiet = Answered Quiet ∷ []
 answer_acts Pending = []
+answer_acts Prompted = Answered Prompted ∷ []
 answer_acts Closed = Answered Closed ∷ []
 answer_acts Absent = Answered Absent ∷ []
 answer_acts Failed = Answered Failed ∷ []

@@ -39,6 +39,10 @@ pub trait Attendant<W: Wire> {
     /// answer `Pending`: no event, and its count of quiets stays.
     fn is_due(&self, place: usize) -> bool;
 
+    /// Whether the line at this place, which rests, is asked for what it has to send. Asked just
+    /// before its wire is read.
+    fn prompts(&self, place: usize, hub: &Hub) -> bool;
+
     /// Comes after each round.
     fn after(&mut self, hub: &Hub, wires: &mut [W])
         ensures { AreStill W.says.passed W.says.count wires.old wires.new };

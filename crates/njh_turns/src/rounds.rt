@@ -1,6 +1,8 @@
 //! Rounds of turns: each wire of some lines has one in each.
 
-ghost use Rattle.std.specs.Prelude.{◌≡◌, ◌<◌, List, length, slice_index_or, slice_set, All, IfOk, OnOk, OnErr, Err};
+ghost use Rattle.std.specs.Prelude.{◌≡◌, ◌<◌, List, length, slice_index_or, slice_set, All, IsTrue};
+ghost use Rattle.std.specs.Prelude.{IfOk, OnOk, OnErr, Err};
+ghost use Rattle.njh_hub.specs.Resting.{IsResting};
 ghost use Rattle.njh_hub.specs.WholeHub.{HasLine, SameLines};
 ghost use Rattle.njh_turns.specs.Breaks.{AreWithheld, BrokenTurn, RoundBreaks, RoundStops, TurnBreaks};
 ghost use Rattle.njh_turns.specs.Keeping.{Follows, IsSettled, Keeps};
@@ -9,7 +11,7 @@ ghost use Rattle.njh_turns.specs.Wires.{hub_wire};
 
 use crate::attendant::Attendant;
 use crate::keeper::{KeepFault, Keeper};
-use crate::turn::{TurnRoom, wire_turn};
+use crate::turn::{TurnRoom, Visit, wire_turn};
 use crate::wire::Wire;
 use njh_hub::{Hub, HubFault};
 use njh_table::LineId;
@@ -114,7 +116,7 @@ impl Rounds {
             if !attendant.is_due(i) {
                 continue;
             }
-            match self.take_turn(i, hub, keeper, &mut wires[i]) {
+            match self.take_turn(i, hub, keeper, &mut wires[i], attendant) {
                 Ok(()) => {}
                 Err(fault) => return Err(fault),
             }
@@ -122,13 +124,15 @@ impl Rounds {
         Ok(())
     }
 
-    /// The turn of the wire of the line at this place.
-    fn take_turn<W: Wire, K: Keeper>(
+    /// The turn of the wire of the line at this place, which is prompted where the line rests and
+    /// the attendant wants it.
+    fn take_turn<W: Wire, K: Keeper, A: Attendant<W>>(
         &mut self,
         place: usize,
         hub: &mut Hub,
         keeper: &mut K,
         wire: &mut W,
+        attendant: &A,
     ) -> Result<(), KeepFault>
         requires within { place < length self.old.lines }
         requires known { HasLine hub.old (slice_index_or self.old.lines place no_line_id) }
@@ -147,11 +151,24 @@ impl Rounds {
         ensures same { self.new.lines ≡ self.old.lines }
         ensures lines { SameLines hub.old hub.new }
     {
-        let (line, quiet) = (self.lines[place], self.quiets[place]);
-        match wire_turn(hub, keeper, line, wire, quiet, &mut self.room) {
+        let line = self.lines[place];
+        let visit = Visit {
+            line,
+            quiet: self.quiets[place],
+            is_prompted: prompts(attendant, place, hub, line),
+        };
+        match wire_turn(hub, keeper, visit, wire, &mut self.room) {
             Ok(quiets) => self.quiets[place] = quiets,
             Err(fault) => return Err(fault),
         }
         Ok(())
     }
+}
+
+/// Whether the wire of the line at this place is prompted: the line rests, and the attendant wants
+/// it.
+fn prompts<W: Wire, A: Attendant<W>>(attendant: &A, place: usize, hub: &Hub, line: LineId) -> bool
+    ensures resting { IsTrue result → IsResting hub.now line }
+{
+    hub.is_resting(line) && attendant.prompts(place, hub)
 }

@@ -57,7 +57,7 @@ pub fn serve_turns<W: Wire, K: Keeper>(
     }
 }
 
-/// Calls every wire due, brings no routes and does nothing else.
+/// Calls every wire due, prompts none, brings no routes and does nothing else.
 #[derive(Drop)]
 struct EveryWire;
 
@@ -74,6 +74,10 @@ impl<W: Wire> Attendant<W> for EveryWire {
 
     fn is_due(&self, _place: usize) -> bool {
         true
+    }
+
+    fn prompts(&self, _place: usize, _hub: &Hub) -> bool {
+        false
     }
 
     fn after(&mut self, _hub: &Hub, _wires: &mut [W]) {}

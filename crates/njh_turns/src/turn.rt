@@ -1,11 +1,12 @@
 //! One turn of a wire.
 
-ghost use Rattle.std.specs.Prelude.{◌≡◌, ℕ, ◌<◌, ◌≤◌, [], ◌∷◌, length, Option, Some, OnOk, OnErr, IfOk};
+ghost use Rattle.std.specs.Prelude.{◌≡◌, ℕ, ◌<◌, ◌≤◌, [], ◌∷◌, length, Option, Some, OnOk, OnErr, IfOk, IsTrue};
 ghost use Rattle.std.specs.Vec.{vec_capacity};
 ghost use Rattle.njh_bisync.specs.Limits.{longest_frame};
 ghost use Rattle.njh_customer.specs.Part.{part_after_bytes, part_after_signal};
 ghost use Rattle.njh_hub.specs.declared.event.Event.TheVariants.{Bytes, Lost};
 ghost use Rattle.njh_hub.specs.OwnEvents.{event_by};
+ghost use Rattle.njh_hub.specs.Resting.{IsResting};
 ghost use Rattle.njh_hub.specs.Sent.{IsCounted};
 ghost use Rattle.njh_hub.specs.declared.event.Event.{Event};
 ghost use Rattle.njh_hub.specs.WholeHub.{part, HasLine, SameLines};
@@ -50,6 +51,17 @@ impl Model for TurnRoom {
     ghost invariant = { λ room. (0 < length room.buffer.items) × (longest_frame ≤ vec_capacity room.out) };
 }
 
+/// A visit of a line's wire, which is read once.
+#[derive(Clone, Copy)]
+pub struct Visit {
+    /// The line.
+    pub line: LineId,
+    /// How many quiets in a row came before.
+    pub quiet: u8,
+    /// Whether the line, which rests then, is asked for what it has to send.
+    pub is_prompted: bool,
+}
+
 /// What a read answered, and the buffer that it was given: bytes that came stand at its front. So
 /// many quiets in a row came before.
 #[derive(Clone, Copy)]
@@ -75,43 +87,43 @@ impl TurnRoom {
 /// frame that the hub sends, once the keeper has taken in what the step made of the customer's
 /// files. No byte goes out: what is written waits until it is kept.
 ///
-/// Bytes that came are handed over until they are used. Each tenth quiet in a row is a tick;
-/// `quiet` is how many came before, and the answer how many there are now: as many as before where
-/// the wire's answer is pending. A wire that is closed or can't be read loses its line. So does one
-/// that can't be written, and what was left of the bytes is dropped. Takes no memory, and clears
-/// none.
+/// Bytes that came are handed over until they are used. Each tenth quiet in a row is a tick, and so
+/// is what a wire that was prompted answers for want of bytes. The answer is how many quiets in a
+/// row there are now: as many as before where the wire's answer is pending. A wire that is closed
+/// or can't be read loses its line. So does one that can't be written, and what was left of the
+/// bytes is dropped. Takes no memory, and clears none.
 ///
 /// Where the keeper fails the frame of that step isn't written, and nothing is done after it.
 pub fn wire_turn<W: Wire, K: Keeper>(
     hub: &mut Hub,
     keeper: &mut K,
-    id: LineId,
+    visit: Visit,
     wire: &mut W,
-    quiet: u8,
     room: &mut TurnRoom,
 ) -> Result<u8, KeepFault>
-    requires known { HasLine hub.old id }
+    requires known { HasLine hub.old visit.line }
     requires follows { K.says.knows keeper.old hub.old }
-    requires few { quiet < 10 }
+    requires few { visit.quiet < 10 }
+    requires resting { IsTrue visit.is_prompted → IsResting hub.old visit.line }
     ensures turn { IfOk result (λ quiets. (turn : Turn)
-        × IsTurn W.says id quiet (hub_wire hub.old wire.old) turn (hub_wire hub.new wire.new)
-        × (quiets ≡ quiet_after quiet turn.heard)) }
+        × IsTurn W.says visit.line visit.quiet (hub_wire hub.old wire.old) turn (hub_wire hub.new wire.new)
+        × (quiets ≡ quiet_after visit.quiet turn.heard)) }
     ensures breaks { OnErr result ((turn : BrokenTurn)
-        × TurnBreaks W.says id quiet (hub_wire hub.old wire.old) turn (hub_wire hub.new wire.new)) }
+        × TurnBreaks W.says visit.line visit.quiet (hub_wire hub.old wire.old) turn (hub_wire hub.new wire.new)) }
     ensures follows { Follows K.says keeper.old result hub.new keeper.new }
     ensures withheld { W.says.withheld wire.old wire.new }
     ensures few { IfOk result (λ quiets. quiets < 10) }
     ensures lines { SameLines hub.old hub.new }
 {
     let buffer = room.buffer.as_mut_slice();
-    let reading = wire.read(buffer);
+    let reading = wire.read(buffer, visit.is_prompted);
     let answer = Answer {
         reading,
         buffer,
-        quiet,
+        quiet: visit.quiet,
     };
     let quiets = quiets_behind(answer);
-    match act_on(answer, hub, keeper, id, wire, &mut room.out) {
+    match act_on(answer, hub, keeper, visit.line, wire, &mut room.out) {
         Ok(()) => {}
         Err(fault) => return Err(fault),
     }
@@ -134,6 +146,7 @@ fn quiets_behind(answer: Answer<'_>) -> u8
             }
         }
         Ok(Reading::Pending) => answer.quiet,
+        Ok(Reading::Prompted) => 0,
         Ok(Reading::Bytes(_)) => 0,
         Ok(Reading::Closed) => 0,
         Ok(Reading::Absent) => 0,
@@ -177,6 +190,7 @@ fn act_on<W: Wire, K: Keeper>(
             pass_signal(hub, keeper, id, Signal::Tick, wire, out)
         }
         Ok(Reading::Pending) => Ok(()),
+        Ok(Reading::Prompted) => pass_signal(hub, keeper, id, Signal::Tick, wire, out),
         Ok(Reading::Closed) => pass_signal(hub, keeper, id, Signal::Lost, wire, out),
         Ok(Reading::Absent) => Ok(()),
         Err(_) => pass_signal(hub, keeper, id, Signal::Lost, wire, out),

@@ -1,6 +1,6 @@
 //! Wires: the way of a line's bytes and frames.
 
-ghost use Rattle.std.specs.Prelude.{◌≡◌, ◌<◌, ◌≤◌, List, [], ◌∷◌, ◌++◌, length, OnOk, OnErr, IfOk};
+ghost use Rattle.std.specs.Prelude.{◌≡◌, ◌<◌, ◌≤◌, List, [], ◌∷◌, ◌++◌, length, OnOk, OnErr, IfOk, IsTrue, Ok};
 ghost use Rattle.njh_hub.specs.Sent.{IsCounted};
 ghost use Rattle.njh_turns.specs.Wires.{Sent, Unsent, answer_acts, heard_of, IsReading};
 
@@ -24,9 +24,11 @@ pub trait Wire {
         ensures { result ≡ says.count self.now };
 
     /// Reads once: puts bytes that came at the front of the buffer, or says that there are none.
-    fn read(&mut self, into: &mut [u8]) -> Result<Reading, WireFault>
+    /// Where it is prompted, which is for this read alone, bytes that came go first.
+    fn read(&mut self, into: &mut [u8], is_prompted: bool) -> Result<Reading, WireFault>
         requires { 0 < length into.old }
         ensures answered { says.passed self.old self.new (answer_acts (heard_of result into.new)) }
+        ensures prompted { result ≡ Ok Reading.Prompted → IsTrue is_prompted }
         ensures withheld { says.withheld self.old self.new }
         ensures within { IfOk result (IsReading (length into.new)) }
         ensures counts { says.count self.old ≤ says.count self.new }

@@ -16,6 +16,8 @@ pub enum Reading {
     Quiet,
     /// Nothing came, and it isn't yet time to call that a quiet.
     Pending,
+    /// Nothing came, and the line was asked for what it has to send: a tick now.
+    Prompted,
     /// The other end is gone.
     Closed,
     /// Nobody is connected.

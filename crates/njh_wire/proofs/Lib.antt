@@ -1,2 +1,3 @@
 pub mod MovedLaws
 pub mod WithheldLaws
+pub mod PromptLaws

@@ -48,22 +48,25 @@ wait_withholds moved s (Ok reading.Pending) new waits = still moved s new waits.
 wait_withholds moved s (Err fault) new waits = given_up_withholds moved ends.Stalled s new waits.1
 wait_withholds moved s (Ok (reading.Bytes n)) new waits = absurd waits
 wait_withholds moved s (Ok reading.Quiet) new waits = absurd waits
+wait_withholds moved s (Ok reading.Prompted) new waits = absurd waits
 wait_withholds moved s (Ok reading.Closed) new waits = absurd waits
 wait_withholds moved s (Ok reading.Absent) new waits = absurd waits
 
 -- no bytes came at a read
-pub answer_withholds : {C : Type 0} (moved : C → C → List ℕ → List ℕ → Type 0) (s : Standing C)
-    (result : Result Reading WireFault) (new : Standing C) → IsAnswer s result new → IsWithheld moved s new
-answer_withholds moved s (Ok reading.Closed) new answer =
+pub answer_withholds : {C : Type 0} (moved : C → C → List ℕ → List ℕ → Type 0) (s : Standing C) (prompted : Bool)
+    (result : Result Reading WireFault) (new : Standing C) → IsAnswer s prompted result new → IsWithheld moved s new
+answer_withholds moved s prompted (Ok reading.Closed) new answer =
     subst (IsWithheld moved s) (sym answer.1) (follows s _ (nothing _))
-answer_withholds moved s (Err fault) new answer =
+answer_withholds moved s prompted (Err fault) new answer =
     subst (IsWithheld moved s) (sym answer.1)
     (withheld_then moved (altered moved s (with_failure s) refl refl refl) (follows (with_failure s) _ (nothing _)))
-answer_withholds moved s (Ok (reading.Bytes n)) new answer = absurd answer
-answer_withholds moved s (Ok reading.Quiet) new (told, (here, due, same)) =
+answer_withholds moved s prompted (Ok (reading.Bytes n)) new answer = absurd answer
+answer_withholds moved s prompted (Ok reading.Quiet) new (told, (here, unasked, due, same)) =
     subst (IsWithheld moved s) (sym same) (altered moved s _ refl refl refl)
-answer_withholds moved s (Ok reading.Pending) new (told, (here, due, same)) = still moved s new same
-answer_withholds moved s (Ok reading.Absent) new (told, (nobody, same)) = still moved s new same
+answer_withholds moved s prompted (Ok reading.Pending) new (told, (here, unasked, due, same)) = still moved s new same
+answer_withholds moved s prompted (Ok reading.Prompted) new (told, (here, asked, same)) =
+    subst (IsWithheld moved s) (sym same) (altered moved s _ refl refl refl)
+answer_withholds moved s prompted (Ok reading.Absent) new (told, (nobody, same)) = still moved s new same
 
 -- why no more bytes came is kept
 stop_withholds : {C : Type 0} (moved : C → C → List ℕ → List ℕ → Type 0) (stop : Stop) (s : Standing C) →
@@ -102,25 +105,28 @@ none_withholds moved stops s new none =
 
 -- no bytes came at a read, and it answers so
 silence_withholds : {C : Type 0} (moved : C → C → List ℕ → List ℕ → Type 0) (stops : C → Stop → Type 0)
-    (s middle : Standing C) (result : Result Reading WireFault) (new : Standing C) → GivesNone moved stops s middle →
-    IsAnswer middle result new → IsWithheld moved s new
-silence_withholds moved stops s middle result new none answer =
-    withheld_then moved (none_withholds moved stops s middle none) (answer_withholds moved middle result new answer)
+    (s middle : Standing C) (prompted : Bool) (result : Result Reading WireFault) (new : Standing C) →
+    GivesNone moved stops s middle → IsAnswer middle prompted result new → IsWithheld moved s new
+silence_withholds moved stops s middle prompted result new none answer =
+    withheld_then moved (none_withholds moved stops s middle none)
+    (answer_withholds moved middle prompted result new answer)
 
 -- a read while nothing waits
 pub read_withholds : {C : Type 0} (moved : C → C → List ℕ → List ℕ → Type 0) (stops : C → Stop → Type 0)
-    (s : Standing C) (result : Result Reading WireFault) (buffer : List ℕ) (new : Standing C) →
-    IsRead moved stops s result buffer new → IsWithheld moved s new
-read_withholds moved stops s (Ok (reading.Bytes n)) buffer new (opens, (middle, received, same)) =
+    (s : Standing C) (prompted : Bool) (result : Result Reading WireFault) (buffer : List ℕ) (new : Standing C) →
+    IsRead moved stops s prompted result buffer new → IsWithheld moved s new
+read_withholds moved stops s prompted (Ok (reading.Bytes n)) buffer new (opens, (middle, received, same)) =
     withheld_then moved (received_withholds moved stops s (take n buffer) middle received)
     (subst (IsWithheld moved middle) (sym same) (altered moved middle _ refl refl refl))
-read_withholds moved stops s (Ok reading.Quiet) buffer new (middle, none, answer) =
-    silence_withholds moved stops s middle (Ok reading.Quiet) new none answer
-read_withholds moved stops s (Ok reading.Pending) buffer new (middle, none, answer) =
-    silence_withholds moved stops s middle (Ok reading.Pending) new none answer
-read_withholds moved stops s (Ok reading.Closed) buffer new (middle, none, answer) =
-    silence_withholds moved stops s middle (Ok reading.Closed) new none answer
-read_withholds moved stops s (Ok reading.Absent) buffer new (middle, none, answer) =
-    silence_withholds moved stops s middle (Ok reading.Absent) new none answer
-read_withholds moved stops s (Err fault) buffer new (middle, none, answer) =
-    silence_withholds moved stops s middle (Err fault) new none answer
+read_withholds moved stops s prompted (Ok reading.Quiet) buffer new (middle, none, answer) =
+    silence_withholds moved stops s middle prompted (Ok reading.Quiet) new none answer
+read_withholds moved stops s prompted (Ok reading.Pending) buffer new (middle, none, answer) =
+    silence_withholds moved stops s middle prompted (Ok reading.Pending) new none answer
+read_withholds moved stops s prompted (Ok reading.Prompted) buffer new (middle, none, answer) =
+    silence_withholds moved stops s middle prompted (Ok reading.Prompted) new none answer
+read_withholds moved stops s prompted (Ok reading.Closed) buffer new (middle, none, answer) =
+    silence_withholds moved stops s middle prompted (Ok reading.Closed) new none answer
+read_withholds moved stops s prompted (Ok reading.Absent) buffer new (middle, none, answer) =
+    silence_withholds moved stops s middle prompted (Ok reading.Absent) new none answer
+read_withholds moved stops s prompted (Err fault) buffer new (middle, none, answer) =
+    silence_withholds moved stops s middle prompted (Err fault) new none answer

@@ -1,5 +1,5 @@
 -- What a wire of a line answers, and how it stands then.
-use Rattle.std.specs.Prelude.{◌≡◌, ◌≢◌, ℕ, ◌-◌, ◌<◌, ◌≤◌, ◌⊎◌, IsTrue, List, [], ◌++◌, length, take}
+use Rattle.std.specs.Prelude.{◌≡◌, ◌≢◌, ℕ, ◌-◌, ◌<◌, ◌≤◌, ◌⊎◌, Bool, IsTrue, List, [], ◌++◌, length, take}
 use Rattle.std.specs.Prelude.{Option, Some, None, IsSome, Result, Ok, Err}
 use Rattle.njh_turns.specs.declared.wire_reading.Reading.{Reading}
 use Rattle.njh_turns.specs.declared.wire_reading.Reading.TheVariants as reading
@@ -11,23 +11,27 @@ use Rattle.njh_wire.specs.declared.end.Stop.TheVariants as why
 use Rattle.njh_wire.specs.Standing.{Standing, due, with_connection, without_connection, with_failure, given_up}
 use Rattle.njh_wire.specs.Standing.{keeping, after_stop, hearing}
 
--- Nothing came. That is a quiet only when it is due, and the next is measured from then on.
-abbrev pub IsSilence : {C : Type 0} → Standing C → Reading → Standing C → Type 0
-IsSilence s (reading.Bytes n) new = ⊥
-IsSilence s reading.Quiet new =
-    IsSome s.connection × (due s ≤ s.clock) × (new ≡ record s { begun = s.clock })
-IsSilence s reading.Pending new = IsSome s.connection × (s.clock < due s) × (new ≡ s)
-IsSilence s reading.Closed new = ⊥
-IsSilence s reading.Absent new = (s.connection ≡ None) × (new ≡ s)
+-- Nothing came. A wire that is prompted says so. On another that is a quiet only when it is due. The next quiet is
+-- measured from a prompt or a quiet on.
+abbrev pub IsSilence : {C : Type 0} → Standing C → Bool → Reading → Standing C → Type 0
+IsSilence s prompted (reading.Bytes n) new = ⊥
+IsSilence s prompted reading.Quiet new =
+    IsSome s.connection × ¬ IsTrue prompted × (due s ≤ s.clock) × (new ≡ record s { begun = s.clock })
+IsSilence s prompted reading.Pending new = IsSome s.connection × ¬ IsTrue prompted × (s.clock < due s) × (new ≡ s)
+IsSilence s prompted reading.Prompted new =
+    IsSome s.connection × IsTrue prompted × (new ≡ record s { begun = s.clock })
+IsSilence s prompted reading.Closed new = ⊥
+IsSilence s prompted reading.Absent new = (s.connection ≡ None) × (new ≡ s)
 
 -- What a wire answers that gives no bytes: the end of a connection once, and silence where there is none to tell.
-abbrev pub IsAnswer : {C : Type 0} → Standing C → Result Reading WireFault → Standing C → Type 0
-IsAnswer s (Ok reading.Closed) new = (s.parting ≡ Some Closed) × (new ≡ with_connection s.next s)
-IsAnswer s (Err fault) new = (s.parting ≡ Some Failed) × (new ≡ with_connection s.next (with_failure s))
-IsAnswer s (Ok (reading.Bytes n)) new = ⊥
-IsAnswer s (Ok reading.Quiet) new = (s.parting ≡ None) × IsSilence s reading.Quiet new
-IsAnswer s (Ok reading.Pending) new = (s.parting ≡ None) × IsSilence s reading.Pending new
-IsAnswer s (Ok reading.Absent) new = (s.parting ≡ None) × IsSilence s reading.Absent new
+abbrev pub IsAnswer : {C : Type 0} → Standing C → Bool → Result Reading WireFault → Standing C → Type 0
+IsAnswer s prompted (Ok reading.Closed) new = (s.parting ≡ Some Closed) × (new ≡ with_connection s.next s)
+IsAnswer s prompted (Err fault) new = (s.parting ≡ Some Failed) × (new ≡ with_connection s.next (with_failure s))
+IsAnswer s prompted (Ok (reading.Bytes n)) new = ⊥
+IsAnswer s prompted (Ok reading.Quiet) new = (s.parting ≡ None) × IsSilence s prompted reading.Quiet new
+IsAnswer s prompted (Ok reading.Pending) new = (s.parting ≡ None) × IsSilence s prompted reading.Pending new
+IsAnswer s prompted (Ok reading.Prompted) new = (s.parting ≡ None) × IsSilence s prompted reading.Prompted new
+IsAnswer s prompted (Ok reading.Absent) new = (s.parting ≡ None) × IsSilence s prompted reading.Absent new
 
 -- something may be there to read, and no end is to be told
 abbrev pub IsOpen : {C : Type 0} → Standing C → Type 0
@@ -52,32 +56,36 @@ pub record GivesNone {C : Type 0} (moved : C → C → List ℕ → List ℕ →
   pub received : IsOpen s → Receives moved stops s [] new
   pub shut : ¬ IsOpen s → new ≡ s
 
--- What a wire answers at a read while bytes wait to go out: it waits for a second, and then gives the connection up.
+-- What a wire answers at a read while bytes wait to go out, prompted or not: it waits for a second, and then gives the
+-- connection up.
 abbrev pub IsWait : {C : Type 0} → Standing C → Result Reading WireFault → Standing C → Type 0
 IsWait s (Ok reading.Pending) new = (s.clock - s.since < 1000) × (new ≡ s)
 IsWait s (Err fault) new = (1000 ≤ s.clock - s.since) × (new ≡ given_up ends.Stalled s)
 IsWait s (Ok (reading.Bytes n)) new = ⊥
 IsWait s (Ok reading.Quiet) new = ⊥
+IsWait s (Ok reading.Prompted) new = ⊥
 IsWait s (Ok reading.Closed) new = ⊥
 IsWait s (Ok reading.Absent) new = ⊥
 
--- What a wire answers at a read while nothing waits: the bytes that the connection gave, or what `IsAnswer` says where
--- it gave none.
-abbrev pub IsRead : {C : Type 0} → (C → C → List ℕ → List ℕ → Type 0) → (C → Stop → Type 0) → Standing C →
+-- What a wire answers at a read while nothing waits: the bytes that the connection gave, also where it was prompted, or
+-- what `IsAnswer` says where it gave none.
+abbrev pub IsRead : {C : Type 0} → (C → C → List ℕ → List ℕ → Type 0) → (C → Stop → Type 0) → Standing C → Bool →
     Result Reading WireFault → List ℕ → Standing C → Type 0
-IsRead {C = C} moved stops s (Ok (reading.Bytes n)) buffer new =
+IsRead {C = C} moved stops s prompted (Ok (reading.Bytes n)) buffer new =
     IsOpen s × ((middle : Standing C) × Receives moved stops s (take n buffer) middle ×
     (new ≡ hearing (take n buffer) middle))
-IsRead {C = C} moved stops s (Ok reading.Quiet) buffer new =
-    (middle : Standing C) × GivesNone moved stops s middle × IsAnswer middle (Ok reading.Quiet) new
-IsRead {C = C} moved stops s (Ok reading.Pending) buffer new =
-    (middle : Standing C) × GivesNone moved stops s middle × IsAnswer middle (Ok reading.Pending) new
-IsRead {C = C} moved stops s (Ok reading.Closed) buffer new =
-    (middle : Standing C) × GivesNone moved stops s middle × IsAnswer middle (Ok reading.Closed) new
-IsRead {C = C} moved stops s (Ok reading.Absent) buffer new =
-    (middle : Standing C) × GivesNone moved stops s middle × IsAnswer middle (Ok reading.Absent) new
-IsRead {C = C} moved stops s (Err fault) buffer new =
-    (middle : Standing C) × GivesNone moved stops s middle × IsAnswer middle (Err fault) new
+IsRead {C = C} moved stops s prompted (Ok reading.Quiet) buffer new =
+    (middle : Standing C) × GivesNone moved stops s middle × IsAnswer middle prompted (Ok reading.Quiet) new
+IsRead {C = C} moved stops s prompted (Ok reading.Pending) buffer new =
+    (middle : Standing C) × GivesNone moved stops s middle × IsAnswer middle prompted (Ok reading.Pending) new
+IsRead {C = C} moved stops s prompted (Ok reading.Prompted) buffer new =
+    (middle : Standing C) × GivesNone moved stops s middle × IsAnswer middle prompted (Ok reading.Prompted) new
+IsRead {C = C} moved stops s prompted (Ok reading.Closed) buffer new =
+    (middle : Standing C) × GivesNone moved stops s middle × IsAnswer middle prompted (Ok reading.Closed) new
+IsRead {C = C} moved stops s prompted (Ok reading.Absent) buffer new =
+    (middle : Standing C) × GivesNone moved stops s middle × IsAnswer middle prompted (Ok reading.Absent) new
+IsRead {C = C} moved stops s prompted (Err fault) buffer new =
+    (middle : Standing C) × GivesNone moved stops s middle × IsAnswer middle prompted (Err fault) new
 
 -- A connection put out these bytes and no others, and gave none.
 pub record Sends {C : Type 0} (moved : C → C → List ℕ → List ℕ → Type 0) (connection : Option C) (bytes : List ℕ)

@@ -25,7 +25,7 @@ pub record Standing (C : Type 0) : Type 0 where
   pub since : ℕ
   -- whether something may be there to read
   pub readable : Bool
-  -- the time now, since when the line is silent or was last quiet, and after how long that is a quiet
+  -- the time now, since when the line is silent or was last quiet or prompted, and after how long that is a quiet
   pub clock : ℕ
   pub begun : ℕ
   pub quiet : ℕ

@@ -1,7 +1,7 @@
 //! The wire of a line, over connections that never wait.
 
 ghost use Rattle.std.specs.Prelude.{◌≡◌, ◌+◌, ◌-◌, ◌<◌, ◌≤◌, [], length, min, IsTrue, ◌↔◌, ◌⊎◌, ⊤, true, None, IsSome};
-ghost use Rattle.std.specs.Prelude.{IsOk, OnOk, OnErr, IfOk};
+ghost use Rattle.std.specs.Prelude.{IsOk, OnOk, OnErr, IfOk, Ok};
 ghost use Rattle.njh_hub.specs.Sent.{IsCounted};
 ghost use Rattle.njh_turns.specs.Wires.{IsReading};
 ghost use Rattle.njh_wire.specs.declared.end.End.TheVariants.{Failed};
@@ -207,7 +207,7 @@ impl<C: Connection + Drop> LineWire<C> {
         }
     }
 
-    /// When its silence began, or its last quiet came, in milliseconds.
+    /// When its silence began, or its last quiet or prompt came, in milliseconds.
     pub fn begun(&self) -> u64
         ensures { result ≡ self.now.begun }
     {
@@ -329,12 +329,14 @@ impl<C: Connection + Drop> Wire for LineWire<C> {
         self.failures
     }
 
-    fn read(&mut self, into: &mut [u8]) -> Result<Reading, WireFault>
+    fn read(&mut self, into: &mut [u8], is_prompted: bool) -> Result<Reading, WireFault>
         requires { 0 < length into.old }
         ensures answered { self.old.place ≡ self.new.place }
+        ensures prompted { result ≡ Ok Reading.Prompted → IsTrue is_prompted }
         ensures withheld { IsWithheld C.moved self.old self.new }
         ensures waits { 0 < length self.old.waiting → IsWait self.old result self.new }
-        ensures reads { self.old.waiting ≡ [] → IsRead C.moved C.stops self.old result into.new self.new }
+        ensures reads { self.old.waiting ≡ [] →
+            IsRead C.moved C.stops self.old is_prompted result into.new self.new }
         ensures within { IfOk result (IsReading (length into.new)) }
         ensures counts { self.old.failures ≤ self.new.failures }
         ensures counted { OnErr result (IsCounted self.old.failures self.new.failures) }
@@ -342,7 +344,7 @@ impl<C: Connection + Drop> Wire for LineWire<C> {
         if !self.waiting.is_empty() {
             return self.wait_to_send();
         }
-        self.read_open(into)
+        self.read_open(into, is_prompted)
     }
 
     fn write(&mut self, frame: &[u8]) -> Result<(), WireFault>

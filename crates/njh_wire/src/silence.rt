@@ -5,7 +5,7 @@ use crate::ending::Ending;
 /// Since when nothing comes on a wire, when that is a quiet, and what came last.
 #[derive(Clone, Copy, Debug, PartialEq, Eq)]
 pub(crate) struct Silence {
-    /// When it began, or the last quiet came, in milliseconds.
+    /// When it began, or the last quiet or prompt came, in milliseconds.
     pub(crate) begun: u64,
     /// How many milliseconds of it are a quiet.
     pub(crate) quiet: u64,

@@ -17,6 +17,8 @@ mod memory_wire;
 #[cfg(test)]
 mod play;
 #[cfg(test)]
+mod prompt_tests;
+#[cfg(test)]
 mod service_tests;
 #[cfg(test)]
 mod serving;

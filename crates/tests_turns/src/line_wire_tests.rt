@@ -15,6 +15,9 @@ const ABSENT: Step = Step::Read(Ok(Reading::Absent));
 
 const FAULT: Step = Step::Read(Err(WireFault));
 
+/// A read that is prompted answers so.
+const PROMPTED: Step = Step::Prompt(Ok(Reading::Prompted));
+
 /// A read gives so many bytes.
 const fn bytes(count: usize) -> Step {
     Step::Read(Ok(Reading::Bytes(count)))
@@ -48,6 +51,41 @@ fn silence(rt: HostRuntime) -> Result<(), Fail> {
         QUIET,
     ];
     play(&rt, rt.alloc(), "silence", &steps)
+}
+
+/// Bytes go first, then an end; where bytes wait to go out nothing is asked for. The next quiet is
+/// measured from a prompt on.
+#[test]
+fn prompts(rt: HostRuntime) -> Result<(), Fail> {
+    let steps = [
+        Step::Prompt(Ok(Reading::Absent)),
+        Step::Connect(0),
+        Step::At(40),
+        PROMPTED,
+        Step::Due(140),
+        PENDING,
+        Step::At(140),
+        PROMPTED,
+        Step::Due(240),
+        PENDING,
+        Step::At(150),
+        Step::Comes(0, 7),
+        Step::Prompt(Ok(Reading::Bytes(7))),
+        Step::Due(250),
+        Step::Takes(0, 0),
+        Step::Write(3, true),
+        Step::Flush,
+        Step::At(1000),
+        Step::Prompt(Ok(Reading::Pending)),
+        Step::At(1150),
+        Step::Prompt(Err(WireFault)),
+        Step::Prompt(Ok(Reading::Absent)),
+        Step::Connect(1),
+        Step::Close,
+        Step::Prompt(Ok(Reading::Closed)),
+        Step::Prompt(Ok(Reading::Absent)),
+    ];
+    play(&rt, rt.alloc(), "prompts", &steps)
 }
 
 #[test]

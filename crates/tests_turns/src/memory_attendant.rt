@@ -20,6 +20,7 @@ pub struct Pause {
 pub struct MemoryAttendant {
     brought: Option<NewRoutes>,
     pause: Option<Pause>,
+    prompts: bool,
     /// How often it came before a round.
     pub before: u32,
     /// How often it came after one.
@@ -31,11 +32,12 @@ pub struct MemoryAttendant {
 }
 
 impl MemoryAttendant {
-    /// One that has these routes to bring, and by which all wires are due.
+    /// One that has these routes to bring, by which all wires are due and none is prompted.
     pub fn new(brought: Option<NewRoutes>) -> MemoryAttendant {
         MemoryAttendant {
             brought,
             pause: None,
+            prompts: false,
             before: 0,
             after: 0,
             given: 0,
@@ -47,6 +49,13 @@ impl MemoryAttendant {
     pub fn with_pause(pause: Pause) -> MemoryAttendant {
         let mut attendant = MemoryAttendant::new(None);
         attendant.pause = Some(pause);
+        attendant
+    }
+
+    /// One that brings no routes, and prompts each line that rests.
+    pub fn prompting() -> MemoryAttendant {
+        let mut attendant = MemoryAttendant::new(None);
+        attendant.prompts = true;
         attendant
     }
 }
@@ -74,6 +83,10 @@ impl Attendant<MemoryWire> for MemoryAttendant {
             }
             None => true,
         }
+    }
+
+    fn prompts(&self, _place: usize, _hub: &Hub) -> bool {
+        self.prompts
     }
 
     fn after(&mut self, _hub: &Hub, _wires: &mut [MemoryWire]) {

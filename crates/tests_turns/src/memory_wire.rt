@@ -1,6 +1,6 @@
 //! A wire in memory.
 
-ghost use Rattle.std.specs.Prelude.{◌≡◌, ◌≤◌, length};
+ghost use Rattle.std.specs.Prelude.{◌≡◌, ◌≢◌, ◌≤◌, length};
 ghost use Rattle.njh_hub.specs.Sent.{IsCounted};
 ghost use Rattle.njh_turns.specs.Wires.{IsReading};
 
@@ -13,6 +13,13 @@ static ASKED: [u8; 93] =
     \x00\x04\x00\x40\x40\x40\x40\x40\x40\x40\x40\x40\x40\x40\x40\x40\x40\x40\x40\x00\x00\x00\x00\x00\
     \x00\x10\x26\x10\x02\x80\x8f\xcf\x9a\x80\xca\xa0\x77\x00\x04\xc2\xe4\xd9\xc5\xc1\xe4\x82\xc5\x00\
     \xc1\xd5\xd5\xc1\x84\xc4\xd3\xe8\xd6\xd5\x84\xc5\x00\xd3\xc9\xe2\xe3\x00\x00\x10\x26";
+
+/// A peer makes contact, OSLO signs on, and ANNA there asks LYON for LIST.
+static ASKED_LYON: [u8; 91] =
+    *b"\x01\x2d\x10\x02\xa0\x8f\xcf\xf0\xc9\x29\xd6\xe2\xd3\xd6\x40\x40\x40\x40\x01\x00\x00\x00\x00\x00\
+    \x00\x04\x00\x40\x40\x40\x40\x40\x40\x40\x40\x40\x40\x40\x40\x40\x40\x40\x40\x00\x00\x00\x00\x00\
+    \x00\x10\x26\x10\x02\x80\x8f\xcf\x9a\x80\xc8\xa0\x77\x00\x04\xd3\xe8\xd6\xd5\x84\xc5\x00\xc1\xd5\
+    \xd5\xc1\x84\xc4\xd6\xe2\xd3\xd6\x84\xc5\x00\xd3\xc9\xe2\xe3\x00\x00\x10\x26";
 
 /// Answers what its steps say, and keeps the frames that it sends, one behind the other.
 #[derive(Drop)]
@@ -27,8 +34,10 @@ pub struct MemoryWire {
 
 impl MemoryWire {
     /// A wire with these steps: `contact`, `sign-on`, `list`, or `all` three in one; `half` of the
-    /// sign-on; `pending`, `closed` and `absent`; `fails`. Any other word is a quiet, and so is
-    /// what comes behind the last. The write of this number fails, from 1 on; 0 is none.
+    /// sign-on; `begun`, the beginning of the list, and its `end`; `ack0`; `oslo`, all that OSLO
+    /// says; `pending`, `closed` and `absent`; `fails`. Any other word is a quiet, or the answer to
+    /// a prompt, and so is what comes behind the last. The write of this number fails, from 1 on; 0
+    /// is none.
     pub fn new(steps: &'static str, broken_write: u32) -> MemoryWire {
         MemoryWire {
             steps,
@@ -76,7 +85,8 @@ impl MemoryWire {
 
 /// Puts bytes at the front of a buffer.
 fn give(bytes: &[u8], into: &mut [u8]) -> Reading
-    ensures { IsReading (length into.new) result }
+    ensures within { IsReading (length into.new) result }
+    ensures unprompted { result ≢ Reading.Prompted }
 {
     let count = bytes.len().min(into.len());
     into[..count].copy_from_slice(&bytes[..count]);
@@ -89,9 +99,14 @@ fn give(bytes: &[u8], into: &mut [u8]) -> Reading
 
 /// What a step that doesn't fail answers.
 fn answer(step: &str, into: &mut [u8]) -> Reading
-    ensures { IsReading (length into.new) result }
+    ensures within { IsReading (length into.new) result }
+    ensures unprompted { result ≢ Reading.Prompted }
 {
     match step {
+        "oslo" => give(&ASKED_LYON, into),
+        "ack0" => give(b"\x10\x70", into),
+        "begun" => give(&ASKED[51..60], into),
+        "end" => give(&ASKED[60..], into),
         "all" => give(&ASKED, into),
         "contact" => give(&ASKED[..2], into),
         "sign-on" => give(&ASKED[2..51], into),
@@ -126,13 +141,16 @@ impl Wire for MemoryWire {
         self.failures
     }
 
-    fn read(&mut self, into: &mut [u8]) -> Result<Reading, WireFault> {
+    fn read(&mut self, into: &mut [u8], is_prompted: bool) -> Result<Reading, WireFault> {
         let step = self.step();
         if step == "fails" {
             self.fail();
             return Err(WireFault);
         }
-        Ok(answer(step, into))
+        match answer(step, into) {
+            Reading::Quiet if is_prompted => Ok(Reading::Prompted),
+            reading => Ok(reading),
+        }
     }
 
     fn write(&mut self, frame: &[u8]) -> Result<(), WireFault> {

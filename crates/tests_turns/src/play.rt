@@ -30,6 +30,8 @@ pub enum Step {
     Close,
     /// A read answers this.
     Read(Result<Reading, WireFault>),
+    /// A read that is prompted answers this.
+    Prompt(Result<Reading, WireFault>),
     /// The wire is due then.
     Due(u64),
     /// The wire is ready or not, and something waits to go out on it or not.
@@ -101,10 +103,8 @@ impl<'a> Player<'a> {
     /// What is found.
     fn find<R: Abort>(&mut self, rt: &R, name: &str, step: Step) {
         match step {
-            Step::Read(want) => {
-                let mut buffer = [0; 100];
-                assert_eq!(rt; self.wire.read(&mut buffer), want, "{name}");
-            }
+            Step::Read(want) => self.read(rt, name, false, want),
+            Step::Prompt(want) => self.read(rt, name, true, want),
             Step::Due(want) => assert_eq!(rt; self.wire.deadline(), want, "{name}"),
             Step::Is(ready, waits) => {
                 assert_eq!(rt; self.wire.is_ready(), ready, "{name}");
@@ -119,6 +119,18 @@ impl<'a> Player<'a> {
             Step::Ended(want) => assert_eq!(rt; self.wire.take_end(), want, "{name}"),
             _ => {}
         }
+    }
+
+    /// What a read answers that is prompted or isn't.
+    fn read<R: Abort>(
+        &mut self,
+        rt: &R,
+        name: &str,
+        is_prompted: bool,
+        want: Result<Reading, WireFault>,
+    ) {
+        let mut buffer = [0; 100];
+        assert_eq!(rt; self.wire.read(&mut buffer, is_prompted), want, "{name}");
     }
 
     /// Writes a frame, and answers whether that was Ok. The bytes of all frames count up.

@@ -12,7 +12,7 @@ use std::alloc::Global;
 use std::process::Abort;
 use std::test::Fail;
 
-/// Two customers, each with a line to LYON.
+/// Two customers, each with a line to LYON; the first has one to OSLO too.
 const TABLES: &str = r#"
 capacity = 200
 [[customer]]
@@ -20,8 +20,11 @@ name = "ACME"
 hub = "BUREAU"
 quota = 100
 files = 8
-line = [{ name = "a1", node = "LYON", role = "answer", block = 1024, streams = 4 }]
-route = [{ node = "LYON", line = "a1" }]
+line = [
+    { name = "a1", node = "LYON", role = "answer", block = 1024, streams = 4 },
+    { name = "a2", node = "OSLO", role = "answer", block = 1024, streams = 4 },
+]
+route = [{ node = "LYON", line = "a1" }, { node = "OSLO", line = "a2" }]
 [[customer]]
 name = "BOLT"
 hub = "BUREAU"
@@ -31,7 +34,7 @@ line = [{ name = "b1", node = "LYON", role = "answer", block = 1024, streams = 4
 route = [{ node = "LYON", line = "b1" }]
 "#;
 
-/// Their lines.
+/// Their lines to LYON.
 pub const LINES: [LineId; 2] = [
     LineId {
         customer: 0,
@@ -52,7 +55,7 @@ pub static TOLD: [u8; 103] =
     \xd3\xc5\xe2\x00\x00\x10\x26";
 
 /// A hub of these tables.
-fn opened(alloc: Global) -> Result<Hub, Fail> {
+pub fn opened(alloc: Global) -> Result<Hub, Fail> {
     let tables = Tables::read(alloc, TABLES)?;
     Ok(Hub::open(alloc, tables)?)
 }

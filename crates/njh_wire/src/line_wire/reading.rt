@@ -29,9 +29,13 @@ impl<C: Connection + Drop> LineWire<C> {
     }
 
     /// What it answers while nothing waits to go out.
-    pub(super) fn read_open(&mut self, into: &mut [u8]) -> Result<Reading, WireFault>
+    pub(super) fn read_open(
+        &mut self,
+        into: &mut [u8],
+        is_prompted: bool,
+    ) -> Result<Reading, WireFault>
         requires { 0 < length into.old }
-        ensures read { IsRead C.moved C.stops self.old result into.new self.new }
+        ensures read { IsRead C.moved C.stops self.old is_prompted result into.new self.new }
         ensures within { IfOk result (IsReading (length into.new)) }
         ensures place { self.new.place ≡ self.old.place }
         ensures counts { self.old.failures ≤ self.new.failures }
@@ -44,12 +48,12 @@ impl<C: Connection + Drop> LineWire<C> {
                 return Ok(Reading::Bytes(count));
             }
         }
-        self.answer()
+        self.answer(is_prompted)
     }
 
     /// What it answers where nothing came of reading.
-    fn answer(&mut self) -> Result<Reading, WireFault>
-        ensures answer { IsAnswer self.old result self.new }
+    fn answer(&mut self, is_prompted: bool) -> Result<Reading, WireFault>
+        ensures answer { IsAnswer self.old is_prompted result self.new }
         ensures place { self.new.place ≡ self.old.place }
         ensures counts { self.old.failures ≤ self.new.failures }
         ensures counted { OnErr result (IsCounted self.old.failures self.new.failures) }
@@ -64,17 +68,21 @@ impl<C: Connection + Drop> LineWire<C> {
                 self.advance();
                 Err(WireFault)
             }
-            None => Ok(self.silence()),
+            None => Ok(self.silence(is_prompted)),
         }
     }
 
     /// What it answers where nothing came.
-    fn silence(&mut self) -> Reading
-        ensures answer { IsSilence self.old result self.new }
+    fn silence(&mut self, is_prompted: bool) -> Reading
+        ensures answer { IsSilence self.old is_prompted result self.new }
         ensures place { self.new.place ≡ self.old.place }
     {
         if self.connection.is_none() {
             return Reading::Absent;
+        }
+        if is_prompted {
+            self.silence.begun = self.clock;
+            return Reading::Prompted;
         }
         if self.clock < self.silence.begun.saturating_add(self.silence.quiet) {
             return Reading::Pending;

@@ -8,9 +8,9 @@ returns-clause-turn g c =
     let read = c.read-reading in
     let did = c.in-Ok.ensures.heard in (
       _,
-      read_turn g.W.Wire.says c.args.hub.now c.act_on.new.hub c.args.id c.args.quiet read.result
+      read_turn g.W.Wire.says c.args.hub.now c.act_on.new.hub c.args.visit.line c.args.visit.quiet read.result
           read.new.into did.0 c.args.wire.now read.new.self c.act_on.new.wire g.met.W.Wire.more read.ensures.answered
-          read.ensures.counts read.ensures.counted did.1,
+          read.ensures.counts read.ensures.counted (λ w. c.requires.resting (read.ensures.prompted w)) did.1,
       c.quiets_behind-quiets.ensures.quiets,
     )
 
@@ -25,9 +25,10 @@ returns-in-Err-clause-breaks g c =
     let read = c.read-reading in
     let did = c.in-Err.ensures.breaks in (
       _,
-      turn_breaks g.W.Wire.says c.args.hub.now c.act_on.new.hub c.args.id c.args.quiet
+      turn_breaks g.W.Wire.says c.args.hub.now c.act_on.new.hub c.args.visit.line c.args.visit.quiet
           read.result read.new.into did.0 did.2 c.args.wire.now read.new.self c.act_on.new.wire
-          g.met.W.Wire.more read.ensures.answered read.ensures.counts read.ensures.counted did.1 did.3,
+          g.met.W.Wire.more read.ensures.answered read.ensures.counts read.ensures.counted
+          (λ w. c.requires.resting (read.ensures.prompted w)) did.1 did.3,
     )
 
 pub returns-in-Err-clause-follows : goal.returns-in-Err-clause-follows
