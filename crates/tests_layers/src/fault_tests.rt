@@ -1,7 +1,6 @@
 //! What is printed of faults and of a name.
 
 use njh_block::BlockFault;
-use njh_check::CheckFault;
 use njh_ebcdic::{Name, NameFault};
 use njh_encode::{EncodeEnd, EncodeFault, Reason};
 use njh_header::HeaderFault;
@@ -84,6 +83,4 @@ fn printed_of_texts_in_words(rt: HostRuntime) {
     check_printed(&rt, alloc, &long_line, "line 7: too long a line");
     let no_text = bad_line(3, Reason::NoText);
     check_printed(&rt, alloc, &no_text, "line 3: no text in UTF-8");
-    check_printed(&rt, alloc, &CheckFault::Device, "device");
-    check_printed(&rt, alloc, &CheckFault::Memory, "U3 Memory");
 }

@@ -1,5 +1,6 @@
-//! Tests of the layers below a hub, over the public items of their crates: names, frames, records,
-//! blocks, headers, nodal messages, tables, the spool, commands, and what is printed of faults.
+//! Tests of the layers below a hub, over the public items of their crates: names, frames, spellings
+//! and blocks that are written, notices, tables, the spool, commands, and what is printed of
+//! faults.
 #![tactic(auto)]
 
 #[cfg(test)]
@@ -13,9 +14,7 @@ mod ebcdic_tests;
 #[cfg(test)]
 mod fault_tests;
 #[cfg(test)]
-mod header_tests;
-#[cfg(test)]
-mod nmr_tests;
+mod notice_tests;
 #[cfg(test)]
 mod record_tests;
 #[cfg(test)]

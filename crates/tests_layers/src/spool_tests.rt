@@ -96,11 +96,9 @@ fn read<R: Abort>(rt: &R, spool: &mut Spool, file: FileId) -> Result<(), SpoolFa
 fn look<R: Abort>(rt: &R, spool: &Spool, file: FileId) -> Result<(), SpoolFault> {
     assert!(rt; 0 < spool.customers());
     assert!(rt; 0 < spool.files(0));
-    assert_eq!(rt; spool.file_at(0, 0), file);
-    assert_eq!(rt; spool.kind(0, file)?, Kind::In);
-    assert_eq!(rt; spool.state(0, file)?, State::Held);
-    assert_eq!(rt; spool.blocks(0, file)?, 4);
-    assert_eq!(rt; spool.arrived(0), 1);
+    assert!(rt; spool.file_at(0, 0) == file && spool.kind(0, file)? == Kind::In);
+    assert!(rt; spool.state(0, file)? == State::Held && spool.blocks(0, file)? == 4);
+    assert!(rt; spool.arrived(0) == 1);
     Ok(())
 }
 
@@ -142,7 +140,7 @@ fn remove<R: Abort>(rt: &R, spool: &mut Spool, file: FileId) -> Result<(), Spool
     assert!(rt; 0 < spool.customers());
     spool.remove(0, file)?;
     assert!(rt; 0 < spool.customers());
-    assert_eq!(rt; (spool.files(0), spool.used(0)), (0, 0));
+    assert!(rt; spool.files(0) == 0 && spool.used(0) == 0);
     Ok(())
 }
 
