@@ -2,7 +2,7 @@
 
     python3 examples/four_connections.py sh -c 'cd crates/njehub && exec rt run -- "$@"' njehub
 
-The arguments are a command that starts the program; those of the program are put behind them. It is started with two customers of two lines each, on
+The arguments are a command that starts the program; those of the program are put after them. It is started with two customers of two lines each, on
 ports of this machine that are free; each line has a connection, and all four play at the same time. It is run by hand: the gate
 knows nothing of it.
 """

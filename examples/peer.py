@@ -172,7 +172,7 @@ class Sending(Session):
         return self.next_lines() if self.state == "sending" and wire.goes_on(self.hub_fcs, SYSOUT_1) else b""
 
     def next_lines(self):
-        """As many records of the file as have room in a block; behind the last one its end, a record without bytes."""
+        """As many records of the file as have room in a block; after the last one its end, a record without bytes."""
         records = b""
         while self.place <= len(self.file):
             srcb, record = self.file[self.place] if self.place < len(self.file) else (wire.DATA, b"")
@@ -185,7 +185,7 @@ class Sending(Session):
         return records
 
     def is_done(self):
-        """The hub's notice for the sender may come behind its refusal."""
+        """The hub's notice for the sender may come after its refusal."""
         return self.state == "transmitted" or (self.state in BAD_ENDS and self.is_quiet(1))
 
     def tell_outcome(self):

@@ -54,7 +54,7 @@ def spelled(rcb, srcb, record):
 
 
 def unspelled(block, at):
-    """The record whose spelling begins at this place, None of one that is given up, and the place behind it."""
+    """The record whose spelling begins at this place, None of one that is given up, and the place after it."""
     record = b""
     while block[at] not in (0x00, 0x40):
         code, at = block[at], at + 1
@@ -91,7 +91,7 @@ def goes_on(fcs, rcb):
 
 
 def follows(bcb, last):
-    """Whether a block with this BCB is the next one behind that with the last, as far as its count says."""
+    """Whether a block with this BCB comes next after the one with the last BCB, as far as its count says."""
     has_set = last & 0x70 == 0x20
     return bcb & 0x70 != 0 or bcb % 16 == (last + 1) % 16 or (has_set and bcb % 16 == last % 16)
 

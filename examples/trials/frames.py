@@ -45,7 +45,7 @@ def spelled(record):
 
 
 def unspelled(text, at):
-    """The record whose spelling begins at this place, None of one that is given up, and the place behind it."""
+    """The record whose spelling begins at this place, None of one that is given up, and the place after it."""
     record = b""
     while text[at] not in (0x00, 0x40):
         code, count = text[at], text[at] & 0x1F

@@ -76,7 +76,7 @@ def is_file(got):
     return got.startswith(TEXT_BEGINS + b"\x81") and records == wanted
 
 
-# What each line writes, and what the read behind it is to get.
+# What each line writes, and what the read after it is to get.
 DIALOGUES = (
     (
         ([CONTACT], is_ack0),

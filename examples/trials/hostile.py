@@ -495,7 +495,7 @@ def main():
     if unknown := set(options.play) - set(names):
         sys.exit(f"no such play: {', '.join(unknown)}")
     if options.apart:
-        # The rule for addresses of this machine comes behind those that cut the peer's address off.
+        # The rule for addresses of this machine comes after those that cut the peer's address off.
         for words in ("link set lo up", "rule add priority 100 lookup local", "rule del priority 0"):
             subprocess.run(["ip", *words.split()], check=True)
         play(options, machine_gone)

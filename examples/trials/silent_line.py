@@ -4,7 +4,7 @@
 
 One line of a customer signs on and then says nothing. Beside it so many lines of other customers send blocks without
 records, each as soon as the last one is answered. The table has a row for each number of busy lines, with the silent
-one before them, among them and behind them in the table file: how many milliseconds lie between the sign-on's answer
+one before them, among them and after them in the table file: how many milliseconds lie between the sign-on's answer
 and the first time that the hub asks again (3D), and between that and each further one; what became of the session
 after the last; and how many exchanges a second the busy lines had together. What is wanted: five ticks 2500 ms apart
 within a tenth, since the hub answers on the line, and the session over after the fifth.

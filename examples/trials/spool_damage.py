@@ -3,7 +3,7 @@
     python3 examples/trials/spool_damage.py PROGRAM [--places 100] [--seed N]
 
 A hub is run, killed and run again, with one peer that sends files, holds, releases, reroutes and cancels them, each act
-behind the answer to the one before; so the listing behind each act is known, and each file's bytes. Then copies of the
+after the answer to the one before; so the listing after each act is known, and each file's bytes. Then copies of the
 spool file and its log are damaged, one each time: the file cut at so many places and with a byte changed at so many
 places, the same for the log, for the file alone after SQLite put the log into it, and the log left out. It is asserted
 of each copy that
@@ -91,7 +91,7 @@ class Anna:
 
 
 class Built:
-    """A spool with a known past: the listings behind each act, first to last, and the bytes of every file."""
+    """A spool with a known past: the listings after each act, first to last, and the bytes of every file."""
 
     def __init__(self, options, seed):
         self.runs, self.chance = Runs(options, seed), random.Random(seed)
@@ -100,7 +100,7 @@ class Built:
             self.grow()
 
     def grow(self):
-        """A run that is killed behind its acts; the listing is as it should be then."""
+        """A run that is killed after its acts; the listing is as it should be then."""
         served = self.runs.served
         served.start()
         try:

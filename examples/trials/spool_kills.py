@@ -13,7 +13,7 @@ spool file, and of its files as `njehub files` lists and exports them:
   was answered (a peer's completion by the hub's next frame, CANCEL by its reply), and none whose end was not yet sent;
 - a file is Held where HOLD was the last that was answered, READY where not, and goes where REROUTE said;
 - what was sent and not answered may have happened or not;
-- the order of arrival is that of the last listing, with new files behind, each behind those whose completion came
+- the order of arrival is that of the last listing, with new files after it, each after those whose completion came
   before its end went out;
 - LIST and what comes at the peers agree with all this while the hub runs.
 

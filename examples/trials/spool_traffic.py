@@ -45,7 +45,7 @@ class Sending:
         self.rcb, self.state, self.entry, self.place = rcb, "idle", None, 0
 
     def pieces(self, room):
-        """Records of the file, as many as have room; behind the last its end."""
+        """Records of the file, as many as have room; after the last its end."""
         found, file = b"", self.entry.records
         while self.place <= len(file):
             srcb, record = file[self.place] if self.place < len(file) else (CARD, b"")
