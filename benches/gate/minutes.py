@@ -3,11 +3,13 @@
 
     python3 benches/gate/minutes.py [--cpus 0,1] [the words of a command: RT_JOBS=4 rt ci where none are given]
 
-Where the toolchain's `rt ci` keeps what passed, it is told to keep nothing (`--anew`); older ones keep nothing anyway.
+Where the toolchain's `rt ci` keeps what passed and no words are given, it is told to keep nothing (`--anew`); older
+ones keep nothing anyway.
 
-Runs the command at the top of the repository (with --cpus, on these processors alone) and looks at its processes four
-times a second: the crate is the one that a check names, the part what the check is for. What a process used since it
-was last looked at is missed, a tenth of a second for each on average; the sum at the end is the system's own. The
+Runs the command at the top of the repository (with --cpus, on these processors alone) and looks at its processes twice
+a second: the crate is the one that a check names, the part what the check is for. What a process used since it was
+last looked at is missed, a quarter of a second for each on average; the sum at the end is the system's own. What the
+command prints is passed on, and its last line, the verdict, comes last, after the table: `gate` runs `rt ci` so. The
 table has a row for each crate: minutes of its proof, of its tests' proof and their building, of its wrong bodies (the
 crate's proof for them among it), of building and running programs; for how many minutes its process was the only one at
 work; the most memory of one process in GB, and which process that was.
@@ -19,12 +21,13 @@ import pathlib
 import resource
 import subprocess
 import sys
+import threading
 import time
 
 TICK = os.sysconf("SC_CLK_TCK")
 PAGE = os.sysconf("SC_PAGE_SIZE")
 PARTS = ("proof", "tests", "edits", "programs")
-WAIT = 0.25
+WAIT = 0.5
 
 
 def words_of(pid):
@@ -39,11 +42,11 @@ def words_of(pid):
 def use_of(pid):
     """A process's parent, the seconds of CPU that it used, its memory in bytes, whether it runs now, and its name."""
     try:
-        text = pathlib.Path(f"/proc/{pid}/stat").read_text()
+        text = pathlib.Path(f"/proc/{pid}/stat").read_text(errors="replace")
     except OSError:
         return None
-    before, behind = text.rsplit(")", 1)
-    name, fields = before.split("(", 1)[1], behind.split()
+    before, after = text.rsplit(")", 1)
+    name, fields = before.split("(", 1)[1], after.split()
     return int(fields[1]), (int(fields[11]) + int(fields[12])) / TICK, int(fields[21]) * PAGE, fields[0] == "R", name
 
 
@@ -122,6 +125,20 @@ def anew():
     return ["--anew"] if "--anew" in told.stdout + told.stderr else []
 
 
+class Passed(threading.Thread):
+    """Passes on the lines that a process prints, but for the last one."""
+
+    def __init__(self, lines):
+        super().__init__(daemon=True)
+        self.lines, self.last = lines, ""
+        self.start()
+
+    def run(self):
+        for line in self.lines:
+            print(self.last, end="", flush=True)
+            self.last = line
+
+
 def main():
     words = sys.argv[1:]
     if words[:1] == ["--cpus"]:
@@ -132,16 +149,21 @@ def main():
         words = ["rt", "ci", *anew()]
     os.chdir(pathlib.Path(__file__).resolve().parents[2])
     begin = time.monotonic()
-    process = subprocess.Popen(words)
-    run = Run(process.pid)
+    process = subprocess.Popen(words, stdout=subprocess.PIPE, text=True, errors="replace")
+    passed, run = Passed(process.stdout), Run(process.pid)
     while process.poll() is None:
-        run.look()
+        try:
+            run.look()
+        except (OSError, ValueError):
+            pass  # a process that ends while it is looked at
         time.sleep(WAIT)
+    passed.join()
     used = resource.getrusage(resource.RUSAGE_CHILDREN)
     run.table()
     minutes = (used.ru_utime + used.ru_stime) / 60
     wall, processors = (time.monotonic() - begin) / 60, len(os.sched_getaffinity(0))
     print(f"{minutes:.0f} minutes of CPU, {wall:.0f} of wall time, on {processors} processors")
+    print(passed.last, end="", flush=True)
     sys.exit(process.returncode)
 
 
