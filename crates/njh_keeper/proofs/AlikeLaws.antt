@@ -1,27 +1,14 @@
 -- Records of a file that was sent elsewhere are those that they were, but for headers.
-use Rattle.std.proofs.Common.{◌≡◌, ℕ, zero, suc, ◌<◌, ◌≤◌, ◌==◌, ◌&&◌, ◌||◌, ◌⊎◌, inl, inr, Bool, true, false, cond}
-use Rattle.std.proofs.Common.{not, List, [], ◌∷◌, length, get_or, take, Option, Some, None}
-use Rattle.std.proofs.Common.{refl, sym, ap, subst, ◌∙◌, arith}
-use Rattle.std.specs.List.{AllByRecursion}
-use Rattle.std.proofs.lemmas.List.{length-take-le, take_all}
-use Rattle.std.specs.Option.{option_map}
-use Rattle.std.specs.Result.{result_ok}
-use Rattle.njh_ebcdic.specs.Names.{is_name}
-use Rattle.njh_ebcdic.specs.Users.{User}
-use Rattle.njh_record.specs.Stored.{Stored}
-use Rattle.njh_record.specs.declared.Kind.{Kind}
-use Rattle.njh_record.specs.declared.Kind.TheVariants.{In, Out}
-use Rattle.njh_header.specs.FileHeaders.{destination_of, job_header_of}
-use Rattle.njh_header.specs.Headers.{JobHeader, data_set_header, job_header}
-use Rattle.njh_header.specs.Redirecting.{destination_node, is_after_header, records_to_node}
-use Rattle.njh_header.proofs.DestinationRecords.{sent, sent_long, sent_srcb, stays}
-use Rattle.njh_header.proofs.Destinations.{read_where, under}
-use Rattle.njh_header.proofs.Redirected.{kept}
-use Rattle.njh_customer.specs.Surviving.{IsRerouted}
+use Rattle.njh_keeper.proofs.Words
+use Words.{◌≡◌, ℕ, zero, suc, ◌<◌, ◌≤◌, ◌==◌, ◌&&◌, ◌||◌, ◌⊎◌, inl, inr, Bool, true, false, cond, not, List, [], ◌∷◌}
+use Words.{length, get_or, take, Option, Some, None, refl, sym, ap, subst, ◌∙◌, arith, length-take-le, take_all}
+use Words.{AllByRecursion, is_name, User, Kind, In, Out, Stored, stays, destination_of, destination_node}
+use Words.{records_to_node, IsRerouted, AreBegun, FitsHub}
+use Rattle.{std.specs.{Option.option_map, Result.result_ok}, njh_header.proofs.DestinationRecords.{sent, sent_long}}
+use Rattle.njh_header.proofs.{DestinationRecords.sent_srcb, Destinations.{read_where, under}, Redirected.kept}
+use Rattle.njh_header.specs.{FileHeaders.job_header_of, Headers.{JobHeader, data_set_header, job_header}}
+use Rattle.{njh_header.specs.Redirecting.is_after_header, njh_keeper.proofs.RerouteLaws.{AreSentTo, last_decides}}
 pub use Rattle.njh_keeper.specs.code.Alike.{AreAlike, IsAlike, is_header}
-use Rattle.njh_keeper.specs.code.Alike.{AreBegun}
-use Rattle.njh_keeper.specs.code.Mirrored.{FitsHub}
-use Rattle.njh_keeper.proofs.RerouteLaws.{AreSentTo, last_decides}
 
 alike_itself : (r : Stored) → IsAlike r r
 alike_itself r = record { srcb = refl; long = refl; same = λ other. refl }
@@ -57,8 +44,7 @@ module _ (node : List ℕ) (named : is_name node ≡ true) where
     srcb = sent_srcb kind before r node;
     long = sent_long kind before r node named;
     same = λ other. stays kind before r node (λ m says.
-        let never : true ≡ false =
-        sym (in_header m says) ∙ sym (ap is_header (sent_srcb kind before r node)) ∙ other in
+        let never : true ≡ false = sym (in_header m says) ∙ sym (ap is_header (sent_srcb kind before r node)) ∙ other in
         absurd (cc never));
   }
 
@@ -66,8 +52,7 @@ module _ (node : List ℕ) (named : is_name node ≡ true) where
       → is_header r.srcb ≡ true
   in_data_set_header before r m says = at_test (r.srcb == 0xe0) refl says
     where
-      at_test : (b : Bool) → (r.srcb == 0xe0) ≡ b
-          → cond (b && not (is_after_header before))
+      at_test : (b : Bool) → (r.srcb == 0xe0) ≡ b → cond (b && not (is_after_header before))
           (option_map (λ h. h.destination.node) (result_ok (data_set_header r.bytes))) None ≡ Some m
           → is_header r.srcb ≡ true
       at_test true test says = either_header (r.srcb == 0xc0) (r.srcb == 0xe0) (inr test)
@@ -78,8 +63,7 @@ module _ (node : List ℕ) (named : is_name node ≡ true) where
   output_alike before (r ∷ rs) =
       (alike_record Out before r (in_data_set_header before r), output_alike (Some r.srcb) rs)
 
-  job_began : (kind : Kind) (rs : List Stored) → JobBegins kind (records_to_node kind node None rs)
-      → JobBegins kind rs
+  job_began : (kind : Kind) (rs : List Stored) → JobBegins kind (records_to_node kind node None rs) → JobBegins kind rs
   job_began Out rs begins = tt
   job_began In [] begins = tt
   job_began In (r ∷ rs) begins = ap (λ n. n == 0xc0) (sym (sent_srcb In None r node)) ∙ begins
@@ -93,26 +77,20 @@ module _ (node : List ℕ) (named : is_name node ≡ true) where
   )
 
 module _ (kind : Kind) (before now : List Stored) (d : User) (rerouted : IsRerouted kind before now) where
+  alike_if : (AreSentTo kind before now → JobBegins kind before) → (now ≡ before) ⊎ AreSentTo kind before now
+      → AreAlike before now
+  alike_if begins (inl same) = subst (AreAlike before) (sym same) (all_alike before)
+  alike_if begins (inr sent) =
+      subst (AreAlike before) (sym sent.are) (sent_alike sent.node sent.named kind before (begins sent))
+
   pub rerouted_alike : destination_of kind before ≡ Some d → AreAlike before now
-  rerouted_alike reads = either (last_decides kind before now rerouted)
-    where
-      either : (now ≡ before) ⊎ AreSentTo kind before now → AreAlike before now
-      either (inl same) = subst (AreAlike before) (sym same) (all_alike before)
-      either (inr sent) =
-          subst (AreAlike before) (sym sent.are)
-          (sent_alike sent.node sent.named kind before (job_begins kind before d reads))
+  rerouted_alike reads = alike_if (λ sent. job_begins kind before d reads) (last_decides kind before now rerouted)
 
   -- so it is where the destination reads after the last command
   pub alike_where_it_reads : destination_of kind now ≡ Some d → AreAlike before now
-  alike_where_it_reads reads = either (last_decides kind before now rerouted)
-    where
-      either : (now ≡ before) ⊎ AreSentTo kind before now → AreAlike before now
-      either (inl same) = subst (AreAlike before) (sym same) (all_alike before)
-      either (inr sent) =
-          subst (AreAlike before) (sym sent.are)
-          (sent_alike sent.node sent.named kind before (job_began sent.node sent.named kind before
-          (job_begins kind (records_to_node kind sent.node None before) d
-          (subst (λ rs. destination_of kind rs ≡ Some d) sent.are reads))))
+  alike_where_it_reads reads = alike_if (λ sent. job_began sent.node sent.named kind before
+      (job_begins kind (records_to_node kind sent.node None before) d
+      (subst (λ rs. destination_of kind rs ≡ Some d) sent.are reads))) (last_decides kind before now rerouted)
 
 -- ---- what is read from it
 

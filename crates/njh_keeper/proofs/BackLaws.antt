@@ -1,19 +1,9 @@
 -- Whole files of a spool file that were put back into a customer's part, one after the other.
-use Rattle.std.proofs.Common.{◌≡◌, Bool, true, false, cond, List, [], ◌∷◌, map, Option, Some, None, option_map, refl}
-use Rattle.std.proofs.Common.{sym}
-use Rattle.std.proofs.Common.{ap, subst}
-use Rattle.std.specs.Prelude.{fold}
-use Rattle.njh_spool.specs.CustomerSpool.{CustomerSpool, has_file_room}
-use Rattle.njh_spool.specs.Restoring.{KeptFile, has_blocks_for, has_headers, restore_fault}
-use Rattle.njh_spool.specs.declared.restoring.fault.RestoreFault.{RestoreFault}
-use Rattle.njh_spool.specs.declared.restoring.fault.RestoreFault.TheVariants.{BadHeader, FilesOver, QuotaOver}
-use Rattle.njh_hub.specs.Restored.{part_with_file}
-use Rattle.njh_hub.specs.WholeHub.{Part}
-use Rattle.njh_spoolfile.specs.Kept.{Whole}
-use Rattle.njh_keeper.specs.Opened.{AreBack, file_in, with_whole}
-use Rattle.njh_keeper.specs.declared.fault.FileFault.{FileFault}
-use Rattle.njh_keeper.specs.declared.fault.FileFault.TheVariants.{BadFile, Refused}
-use Rattle.njh_keeper.proofs.FileLaws.{by_restore}
+use Rattle.njh_keeper.proofs.Words
+use Words.{◌≡◌, Bool, true, false, cond, List, [], ◌∷◌, map, Option, Some, None, option_map, refl, sym, ap, subst, fold}
+use Words.{Whole, CustomerSpool, RestoreFault, BadHeader, FilesOver, QuotaOver, KeptFile, has_blocks_for, has_headers}
+use Words.{restore_fault, part_with_file, Part, FileFault, BadFile, Refused, AreBack, file_in, with_whole}
+use Rattle.{njh_spool.specs.CustomerSpool.has_file_room, njh_keeper.proofs.FileLaws.by_restore}
 
 -- ---- one of them
 
@@ -55,8 +45,7 @@ put_back (w ∷ ws) p back =
     not_refused None none = refl
     not_refused (Some fault) none = absurd (cc none)
 
-    at_file : (o : Option KeptFile) → file_in w.file w.records ≡ o
-        → elim o as (λ _. Option FileFault)
+    at_file : (o : Option KeptFile) → file_in w.file w.records ≡ o → elim o as (λ _. Option FileFault)
         [ None ↦ Some BadFile | Some f ↦ option_map Refused (restore_fault f p.customer.spool) ] ≡ None
         → (fs : List KeptFile) × ArePutBack ws fs (back_by p o) (fold with_whole (back_by p o) ws)
         → (fs : List KeptFile) × ArePutBack (w ∷ ws) fs p (fold with_whole (back_by p o) ws)

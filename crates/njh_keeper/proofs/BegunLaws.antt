@@ -1,24 +1,12 @@
 -- A hub that was just opened from a spool file: what the keeper knows of it, and what has come on its lines.
-use Rattle.std.proofs.Common.{◌≡◌, ◌≢◌, ℕ, zero, suc, ◌<◌, List, [], ◌∷◌, length, get_or, map, remove, Option, Some}
-use Rattle.std.proofs.Common.{None, refl, sym, ap, subst, ◌∙◌, arith}
-use Rattle.std.specs.Prelude.{fold}
-use Rattle.std.specs.List.{AllByRecursion, AllZip}
-use Rattle.njh_customer.specs.Growing.{HasShortRests, IsShortRest}
-use Rattle.njh_customer.specs.Part.{rest_at}
-use Rattle.njh_hub.specs.Restored.{part_with_file}
-use Rattle.njh_hub.specs.WholeHub.{Part, no_entry, no_part, part_at_open}
-use Rattle.njh_spool.specs.Restoring.{KeptFile}
-use Rattle.njh_spoolfile.specs.Kept.{SpoolContents, Whole}
-use Rattle.njh_table.specs.Accepted.{AreDistinct}
-use Rattle.njh_table.specs.Entries.{LineEntry}
-use Rattle.njh_table.specs.TableFile.{NamedCustomer, TableFile, entry_of}
-use Rattle.njh_keeper.specs.Opened.{file_in, hub_opened, own_files, part_opened, with_whole}
-use Rattle.njh_keeper.specs.code.Knowing.{AreNamedApart, HasSpool, Knows}
-use Rattle.njh_keeper.specs.code.Opening.{HasBegun, IsOpened}
-use Rattle.njh_keeper.specs.code.Partly.{GoesOn, IsUpToDate}
-use Rattle.njh_keeper.specs.code.Remembered.{Numbers, OwnFiles}
-use Rattle.njh_keeper.proofs.HubLaws.{apart}
-use Rattle.njh_keeper.proofs.OpeningSettled.{zip_by_place}
+use Rattle.njh_keeper.proofs.Words
+use Words.{◌≡◌, ◌≢◌, ℕ, zero, suc, ◌<◌, List, [], ◌∷◌, length, get_or, map, remove, Option, Some, None, refl, sym, ap}
+use Words.{subst, ◌∙◌, arith, AllByRecursion, AllZip, fold, SpoolContents, Whole, AreDistinct, LineEntry, NamedCustomer}
+use Words.{TableFile, KeptFile, HasShortRests, rest_at, part_with_file, Part, no_part, part_at_open, AreNamedApart}
+use Words.{HasSpool, Knows, HasBegun, IsOpened, GoesOn, IsUpToDate, Numbers, OwnFiles, file_in, hub_opened, own_files}
+use Words.{part_opened, with_whole}
+use Rattle.{njh_table.specs.TableFile.entry_of, njh_customer.specs.Growing.IsShortRest, njh_hub.specs.WholeHub.no_entry}
+use Rattle.njh_keeper.proofs.{HubLaws.apart, OpeningSettled.zip_by_place}
 
 -- ---- what has come of a line's next frame
 
@@ -68,8 +56,7 @@ pub all_by_place : {X : Type 0} (P : X → Type 0) (xs : List X)
 all_by_place P [] each = tt
 all_by_place P (x ∷ xs) each = (
   each 0 x (omega arith) refl,
-  all_by_place P xs
-      (λ i y low is. each (suc i) y (omega (arith, low)) is),
+  all_by_place P xs (λ i y low is. each (suc i) y (omega (arith, low)) is),
 )
 
 pub others_by_place : {X : Type 0} (P : X → Type 0) (xs : List X) (c : ℕ)
@@ -105,15 +92,11 @@ begun_is_known names hub owns w t begun distinct long = (
     ordered = begun.ordered;
     below = begun.below;
     apart = begun.apart;
-    each =
-        zip_of_map (HasSpool t) (λ (p : Part). p.customer.spool) owns hub
+    each = zip_of_map (HasSpool t) (λ (p : Part). p.customer.spool) owns hub
         (zip_by_place (λ own (p : Part). HasSpool t own p.customer.spool) owns hub no_part (begun.count ∙ long)
         (λ c own low is. opened_spool names hub t c own (begun.each c own low is)));
   },
-  λ c own there is.
-      others_by_place (λ o. o.name ≢ own.name) owns c
-      (λ i o low at other same.
-      other
+  λ c own there is. others_by_place (λ o. o.name ≢ own.name) owns c (λ i o low at other same. other
       (apart names distinct i c (omega (arith, begun.count, low)) (omega (arith, begun.count, there))
       (sym (begun.each i o low at).owned.name_is ∙ same ∙ (begun.each c own there is).owned.name_is))),
 )

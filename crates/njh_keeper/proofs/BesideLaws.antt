@@ -1,8 +1,7 @@
 -- Three lists side by side.
 use Rattle.std.proofs.Common.{◌≡◌, ℕ, zero, suc, ◌<◌, ◌++◌, List, [], ◌∷◌, length, get_or, set, remove, refl, sym, ap}
-use Rattle.std.proofs.Common.{subst, arith}
-use Rattle.std.specs.List.{AllByRecursion}
-use Rattle.njh_keeper.specs.code.Remembered.{AllBeside, none_beside, one_beside}
+use Rattle.{std.{proofs.Common.{subst, arith}, specs.List.AllByRecursion}, njh_keeper.specs.code.Remembered.AllBeside}
+use Rattle.njh_keeper.specs.code.Remembered.{none_beside, one_beside}
 
 module _ {X Y Z : Type 0} where
   pub beside_lengths : (R : X → Y → Z → Type 0) (xs : List X) (ys : List Y) (zs : List Z) → AllBeside R xs ys zs
@@ -33,8 +32,7 @@ module _ {X Y Z : Type 0} where
     pub holds : R x second third
 
   pub beside_at : (R : X → Y → Z → Type 0) (xs : List X) (ys : List Y) (zs : List Z) (i : ℕ) (x : X)
-      → AllBeside R xs ys zs → i < length xs → x ≡ get_or xs i x
-      → BesideAt R ys zs i x
+      → AllBeside R xs ys zs → i < length xs → x ≡ get_or xs i x → BesideAt R ys zs i x
   beside_at R _ _ _ i x none_beside there is = absurd (omega (arith, there))
   beside_at R _ _ _ zero x (one_beside a b c xs ys zs one more) there is = record {
     second = b;
@@ -60,8 +58,7 @@ module _ {X Y Z : Type 0} where
   -- ---- they change
 
   pub beside_push : (R : X → Y → Z → Type 0) (xs : List X) (ys : List Y) (zs : List Z) (x : X) (y : Y) (z : Z)
-      → AllBeside R xs ys zs → R x y z
-      → AllBeside R (xs ++ x ∷ []) (ys ++ y ∷ []) (zs ++ z ∷ [])
+      → AllBeside R xs ys zs → R x y z → AllBeside R (xs ++ x ∷ []) (ys ++ y ∷ []) (zs ++ z ∷ [])
   beside_push R _ _ _ x y z none_beside one = one_beside x y z [] [] [] one none_beside
   beside_push R _ _ _ x y z (one_beside a b c xs ys zs first more) one =
       one_beside a b c (xs ++ x ∷ []) (ys ++ y ∷ []) (zs ++ z ∷ []) first (beside_push R xs ys zs x y z more one)
@@ -77,8 +74,7 @@ module _ {X Y Z : Type 0} where
   -- one place changes, and of the others something else holds
   pub beside_set : (P : X → Type 0) (R S : X → Y → Z → Type 0) → ((x : X) (y : Y) (z : Z) → P x → R x y z → S x y z)
       → (xs : List X) (ys : List Y) (zs : List Z) (i : ℕ) (x : X) (y : Y) (z : Z) → AllByRecursion P (remove xs i)
-      → AllBeside R xs ys zs → S x y z
-      → AllBeside S (set xs i x) (set ys i y) (set zs i z)
+      → AllBeside R xs ys zs → S x y z → AllBeside S (set xs i x) (set ys i y) (set zs i z)
   beside_set P R S f _ _ _ i x y z each none_beside one = none_beside
   beside_set P R S f _ _ _ zero x y z each (one_beside a b c xs ys zs first more) one =
       one_beside x y z xs ys zs one (beside_weaker P R S f xs ys zs each more)

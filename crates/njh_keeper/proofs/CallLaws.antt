@@ -1,21 +1,14 @@
 -- What each call of the keeper comes to: what it makes of the spool file, and that this has the hub's files still.
-use Rattle.std.proofs.Common.{◌≡◌, ℕ, ◌+◌, ◌^◌, ◌<◌, ◌≤◌, true, List, [], ◌∷◌, ◌++◌, length, get_or, set, remove, refl}
-use Rattle.std.proofs.Common.{sym, subst, arith}
-use Rattle.std.specs.List.{AllByRecursion}
-use Rattle.njh_spool.specs.CustomerSpool.{WholeFile}
-use Rattle.njh_spoolfile.specs.Kept.{File, SpoolContents, with_changed, with_file, without_file, without_records}
-use Rattle.njh_turns.specs.Keeping.{is_held}
-use Rattle.njh_keeper.specs.Opened.{is_own}
-use Rattle.njh_keeper.specs.code.Mirrored.{FitsHub, HasRecords, IsOrdered, WritesUnder}
-use Rattle.njh_keeper.specs.code.Remembered.{AreApart, AreBelow, Claim, IsRowOf, KeptWhole, Mirrored, Moves, Numbers}
-use Rattle.njh_keeper.specs.code.Remembered.{OwnFiles, Remembers, Sweep, claim, keyed, uses, with_key}
-use Rattle.njh_keeper.proofs.FrameLaws.{drops_records}
-use Rattle.njh_keeper.proofs.MirrorLaws.{changing_moves, coming_moves, file_changes, file_comes, file_leaves}
-use Rattle.njh_keeper.proofs.MirrorLaws.{leaving_moves, mirrored_under, state_changes}
-use Rattle.njh_keeper.proofs.MovesLaws.{moves_memory, moves_then, moves_under}
-use Rattle.njh_keeper.proofs.RecordLaws.{all_leave}
-use Rattle.njh_keeper.proofs.UsesLaws.{in_hand_alone, in_hand_is_used, uses_as_one_changes, uses_as_one_comes}
-use Rattle.njh_keeper.proofs.UsesLaws.{uses_as_one_leaves, whole_are_used, whole_once}
+use Rattle.njh_keeper.proofs.Words
+use Words.{◌≡◌, ℕ, ◌+◌, ◌^◌, ◌<◌, true, List, [], ◌∷◌, ◌++◌, length, get_or, set, remove, refl, sym, subst, arith}
+use Words.{AllByRecursion, File, SpoolContents, with_changed, with_file, without_file, without_records, WholeFile}
+use Words.{FitsHub, HasRecords, IsOrdered, WritesUnder, AreApart, AreBelow, Claim, IsRowOf, KeptWhole, Mirrored, Moves}
+use Words.{Numbers, OwnFiles, Remembers, Sweep, claim, uses, with_key, is_own}
+use Rattle.njh_keeper.proofs.{FrameLaws.drops_records, MirrorLaws.{changing_moves, coming_moves, file_changes}}
+use Rattle.njh_keeper.proofs.MirrorLaws.{file_comes, file_leaves, leaving_moves, mirrored_under}
+use Rattle.njh_keeper.proofs.{MovesLaws.moves_under, RecordLaws.all_leave, UsesLaws.{in_hand_alone, in_hand_is_used}}
+use Rattle.njh_keeper.proofs.UsesLaws.{uses_as_one_changes, uses_as_one_comes, uses_as_one_leaves, whole_are_used}
+use Rattle.njh_keeper.proofs.UsesLaws.{whole_once}
 
 -- A call moves there, and what is kept then are these files.
 pub record MovesTo (a b : Claim) (own : OwnFiles) (s t : SpoolContents) (files : List WholeFile) : Type 0 where
@@ -33,8 +26,7 @@ module _ (w : Numbers) (own : OwnFiles) (s : SpoolContents) (files : List WholeF
       → let own' = record own { whole = remove own.whole i } in MovesTo (claim w own) (claim (swept sweep) own') own' s
       (without_file k.id s) (remove files i)
   drop_follows i k sweep there is same = record {
-    moves =
-        leaving_moves s own files h all i k there is (claim w own)
+    moves = leaving_moves s own files h all i k there is (claim w own)
         (claim (swept sweep) (record own { whole = remove own.whole i })) refl refl refl
         (uses_as_one_leaves w own i k sweep there is same);
     mirrored = file_leaves s own files h all i k there is;
@@ -44,8 +36,7 @@ module _ (w : Numbers) (own : OwnFiles) (s : SpoolContents) (files : List WholeF
   pub change_follows : (i : ℕ) (k now : KeptWhole) (g : WholeFile) (t : SpoolContents) (file : File)
       → i < length own.whole → k ≡ get_or own.whole i k → AreApart (claim w own)
       → WritesUnder k.key s t → is_own own.name file ≡ true → now.id ≡ k.id → now.key ≡ k.key → IsRowOf k.key g file
-      → Remembers now g → HasRecords k.key g.records t
-      → AllByRecursion FitsHub g.records
+      → Remembers now g → HasRecords k.key g.records t → AllByRecursion FitsHub g.records
       → let own' = record own { whole = set own.whole i now } in MovesTo (claim w own) (claim w own') own' s
       (with_changed k.id file t) (set files i g)
   change_follows i k now g t file there is apart under owned id key row remembers stored fits =
@@ -79,12 +70,10 @@ module _ (w : Numbers) (own : OwnFiles) (s : SpoolContents) (files : List WholeF
     pub take_follows : w'.next_id ≡ w.next_id → AreApart (claim w own)
         → MovesTo (claim w own) (with_key key (claim w' own)) own s emptied files
     take_follows next apart = record {
-      moves =
-          moves_under (claim w own) (with_key key (claim w' own)) s refl
+      moves = moves_under (claim w own) (with_key key (claim w' own)) s refl
           (λ n. let same = taken n in omega (arith, same)) key emptied writes
           (let same = taken key in let busy = in_hand_is_used w' own key in omega (arith, same, busy)) next;
-      mirrored =
-          mirrored_under s emptied own files all key writes
+      mirrored = mirrored_under s emptied own files all key writes
           (in_hand_alone w' own key (λ n. let same = taken n in let once = apart n in omega (arith, same, once)));
     }
 
@@ -99,48 +88,10 @@ module _ (w : Numbers) (own : OwnFiles) (s : SpoolContents) (files : List WholeF
   add_follows k g t file id below apart under owned row remembers stored fits =
       let low : AreBelow k.id s = subst (λ end. AreBelow end s) (sym id) below in
       record {
-        moves =
-            coming_moves s t own files all k under file owned low (with_key k.key (claim w own))
+        moves = coming_moves s t own files all k under file owned low (with_key k.key (claim w own))
             (claim (record w { next_id = w.next_id + 1 }) (record own { whole = own.whole ++ k ∷ [] }))
             refl refl (sym id) (let next : w.next_id + 1 ≡ k.id + 1 = omega (arith, id) in next)
-            (in_hand_is_used w own k.key)
-            (λ n. let same = uses_as_one_comes w own k n in omega (arith, same));
+            (in_hand_is_used w own k.key) (λ n. let same = uses_as_one_comes w own k n in omega (arith, same));
         mirrored = file_comes s t own files all k under file owned low g (in_hand_alone w own k.key apart) row remembers
             stored fits;
       }
-
--- one call after another
-pub follows_then : (a b c : Claim) (own own' : OwnFiles) (s t u : SpoolContents) (files files' : List WholeFile)
-    → MovesTo a b own s t files → MovesTo b c own' t u files' → MovesTo a c own' s u files'
-follows_then a b c own own' s t u files files' one more =
-    record { moves = moves_then a b c s t u one.moves more.moves; mirrored = more.mirrored }
-
-module _ (a b : Claim) (own : OwnFiles) (s : SpoolContents) (files : List WholeFile) (all : Mirrored s own files)
-    (name : b.name ≡ a.name) (fewer : (n : ℕ) → b.uses n ≤ a.uses n) where
-  -- nothing is written
-  pub memory_follows : IsOrdered s → a.next_id ≤ b.next_id → MovesTo a b own s s files
-  memory_follows h more = record { moves = moves_memory a b s name fewer h more; mirrored = all }
-
-  -- records come or leave under a number that is no whole file's
-  pub portion_follows : (key : ℕ) (t : SpoolContents) → WritesUnder key s t
-      → keyed (λ (k : KeptWhole). k.key) key own.whole ≡ 0 → 1 ≤ a.uses key → b.next_id ≡ a.next_id
-      → MovesTo a b own s t files
-  portion_follows key t under foreign busy next = record {
-    moves = moves_under a b s name fewer key t under busy next;
-    mirrored = mirrored_under s t own files all key under foreign;
-  }
-
--- a file changed in its state alone, and neither became Held nor was released: nothing is written
-pub state_follows : (w : Numbers) (own : OwnFiles) (s : SpoolContents) (files : List WholeFile) (h : IsOrdered s)
-    (all : Mirrored s own files) (i : ℕ) (k now : KeptWhole) (f g : WholeFile)
-    → i < length own.whole → k ≡ get_or own.whole i k → f ≡ get_or files i f → g.kind ≡ f.kind
-    → is_held g.state ≡ is_held f.state → g.records ≡ f.records
-    → now.id ≡ k.id → now.key ≡ k.key → Remembers now g
-    → let own' = record own { whole = set own.whole i now } in MovesTo (claim w own) (claim w own') own' s s
-    (set files i g)
-state_follows w own s files h all i k now f g there is found kind held records id key remembers = record {
-  moves =
-      moves_memory (claim w own) (claim w (record own { whole = set own.whole i now })) s refl
-      (λ n. let same = uses_as_one_changes w own i k now there is key n in omega (arith, same)) h (omega arith);
-  mirrored = state_changes s own files h all i k there is f g now found kind held records id key remembers;
-}

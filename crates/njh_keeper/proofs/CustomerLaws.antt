@@ -1,9 +1,7 @@
 -- One customer's files change, and those of all others stay.
 use Rattle.std.proofs.Common.{◌≡◌, ◌≢◌, ℕ, zero, suc, ◌+◌, ◌<◌, ◌≤◌, List, [], ◌∷◌, length, get_or, set, remove, ap}
-use Rattle.std.proofs.Common.{arith}
-use Rattle.std.specs.List.{AllByRecursion}
-use Rattle.njh_spoolfile.specs.Kept.{SpoolContents}
-use Rattle.njh_keeper.specs.code.Remembered.{AllAreApart, Moves, Numbers, OwnFiles, claim}
+use Rattle.{std.{proofs.Common.arith, specs.List.AllByRecursion}, njh_spoolfile.specs.Kept.SpoolContents}
+use Rattle.njh_keeper.{proofs.ListLaws.all_both, specs.code.Remembered.{AllAreApart, Moves, Numbers, OwnFiles, claim}}
 use Rattle.njh_keeper.specs.code.Remembered.{uses, uses_of_all, uses_of_files}
 
 -- ---- the numbers
@@ -31,15 +29,7 @@ uses_of_one n (o ∷ owns) (suc c) own there is = omega (arith, uses_of_one n ow
 each_is_apart : (m : ℕ → ℕ) (owns : List OwnFiles) → ((n : ℕ) → m n + uses_of_all n owns ≤ 1)
     → AllByRecursion (λ o. (n : ℕ) → m n + uses_of_files n o ≤ 1) owns
 each_is_apart m [] once = tt
-each_is_apart m (o ∷ owns) once = (
-  λ n. (omega (arith, once n)),
-  each_is_apart m owns (λ n. omega (arith, once n)),
-)
-
-both_all : {X : Type 0} (P Q : X → Type 0) (xs : List X) → AllByRecursion P xs → AllByRecursion Q xs
-    → AllByRecursion (λ x. P x × Q x) xs
-both_all P Q [] p q = tt
-both_all P Q (x ∷ xs) p q = ((p.0, q.0), both_all P Q xs p.1 q.1)
+each_is_apart m (o ∷ owns) once = (λ n. (omega (arith, once n)), each_is_apart m owns (λ n. omega (arith, once n)))
 
 -- ---- a customer's step
 
@@ -62,6 +52,6 @@ module _ (w w' : Numbers) (owns : List OwnFiles) (c : ℕ) (own own' : OwnFiles)
   pub others_apart : AllByRecursion (λ o. o.name ≢ own.name) (remove owns c)
       → AllByRecursion IsApartFrom (remove owns c)
   others_apart named =
-      both_all (λ o. o.name ≢ own.name) (λ o. (n : ℕ) → uses n w own + uses_of_files n o ≤ 1) (remove owns c) named
-      (each_is_apart (λ n. uses n w own) (remove owns c)
+      all_both (λ o. o.name ≢ own.name) (λ o. (n : ℕ) → uses n w own + uses_of_files n o ≤ 1) IsApartFrom
+      (λ o other apart. (other, apart)) (remove owns c) named (each_is_apart (λ n. uses n w own) (remove owns c)
       (λ n. omega (arith, uses_of_one n owns c own there is, apart n)))

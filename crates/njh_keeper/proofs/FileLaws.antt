@@ -1,25 +1,11 @@
 -- A whole file of a spool file, as a hub has it.
-use Rattle.std.proofs.Common.{◌≡◌, ℕ, zero, suc, get_or, ◌+◌, ◌<◌, ◌≤◌, ◌==◌, nat_lt, nat_le, Bool, true, false, cond}
-use Rattle.std.proofs.Common.{◌&&◌, List, [], ◌∷◌, length, map, Option, Some, None, option_map, Result, Ok, Err, IsOk}
-use Rattle.std.proofs.Common.{MatchOption, refl, sym, ap, subst, ◌∙◌, arith}
-use Rattle.std.specs.Prelude.{slice_get}
-use Rattle.std.specs.List.{AllByRecursion}
-use Rattle.std.proofs.lemmas.List.Elements.{All-from_recursion}
-use Rattle.std.proofs.lemmas.Bool.Decides.{nat_tests}
-use Rattle.njh_record.specs.declared.Kind.{Kind}
-use Rattle.njh_spool.specs.Restoring.{KeptFile, restore_fault}
-use Rattle.njh_spool.specs.declared.restoring.fault.RestoreFault.{RestoreFault}
-use Rattle.njh_hub.specs.WholeHub.{Part}
-use Rattle.njh_spoolfile.specs.Kept.{File, contents_of}
-use Rattle.njh_spoolfile.specs.declared.kept.StoredRecord.{StoredRecord}
-use Rattle.njh_keeper.specs.Opened.{Contents, as_stored, are_records_from, are_records_of, file_in, file_fault}
-use Rattle.njh_keeper.specs.Opened.{is_record_at, kind_of_word}
-use Rattle.njh_keeper.specs.code.Restoring.{HaveRoom}
-use Rattle.njh_keeper.specs.declared.fault.FileFault.TheVariants.{BadFile, Refused}
-
-pub both : (a b : Bool) → (a && b) ≡ true → (a ≡ true) × (b ≡ true)
-both true b e = (refl, e)
-both false b e = absurd (cc e)
+use Rattle.njh_keeper.proofs.Words
+use Words.{◌≡◌, ℕ, zero, suc, get_or, ◌+◌, ◌<◌, ◌≤◌, ◌==◌, nat_lt, nat_le, true, cond, ◌&&◌, List, [], ◌∷◌, length, map}
+use Words.{Option, Some, None, option_map, Result, Ok, Err, IsOk, refl, sym, ap, subst, ◌∙◌, arith, and_parts}
+use Words.{nat_tests, All-from_recursion, AllByRecursion, Kind, StoredRecord, File, contents_of, RestoreFault, KeptFile}
+use Words.{restore_fault, Part, BadFile, Refused, Contents, as_stored, are_records_from, are_records_of, file_in}
+use Words.{file_fault, is_record_at, kind_of_word}
+use Rattle.{std.{proofs.Common.MatchOption, specs.Prelude.slice_get}, njh_keeper.specs.code.Restoring.HaveRoom}
 
 -- ---- its records fit
 
@@ -28,15 +14,15 @@ Fits-record r = (r.srcb < 256) × (length r.bytes.items ≤ 256)
 
 fits_one : (place : ℕ) (r : StoredRecord) → is_record_at place (contents_of r) ≡ true → Fits-record r
 fits_one place r is =
-    let rest = (both (r.place == place) (nat_lt r.srcb 256 && nat_le (length r.bytes.items) 256) is).1 in
-    let each = both (nat_lt r.srcb 256) (nat_le (length r.bytes.items) 256) rest in
+    let rest = (and_parts (r.place == place) (nat_lt r.srcb 256 && nat_le (length r.bytes.items) 256) is).1 in
+    let each = and_parts (nat_lt r.srcb 256) (nat_le (length r.bytes.items) 256) rest in
     (grind (arith, nat_tests, each.0), grind (arith, nat_tests, each.1))
 
 fits_each : (place : ℕ) (rs : List StoredRecord) → are_records_from place (map contents_of rs) ≡ true
     → AllByRecursion Fits-record rs
 fits_each place [] is = tt
 fits_each place (r ∷ rs) is =
-    let each = both (is_record_at place (contents_of r)) (are_records_from (place + 1) (map contents_of rs)) is in
+    let each = and_parts (is_record_at place (contents_of r)) (are_records_from (place + 1) (map contents_of rs)) is in
     (fits_one place r each.0, fits_each (place + 1) rs each.1)
 
 pub have_room : (rs : List StoredRecord) → are_records_from 0 (map contents_of rs) ≡ true → HaveRoom rs
@@ -48,8 +34,7 @@ abbrev pub as_kept : File → List Contents → Kind → KeptFile
 as_kept file records kind = record { kind = kind; held = file.held; records = map as_stored records }
 
 pub is_file : (file : File) (records : List Contents) (kind : Kind) → are_records_of file records ≡ true
-    → kind_of_word file.kind ≡ Some kind
-    → file_in file records ≡ Some (as_kept file records kind)
+    → kind_of_word file.kind ≡ Some kind → file_in file records ≡ Some (as_kept file records kind)
 is_file file records kind all word =
     ap (λ b. cond b (option_map (as_kept file records) (kind_of_word file.kind)) None) all
     ∙ ap (option_map (as_kept file records)) word
@@ -63,8 +48,7 @@ by_restore p file records f fault is told =
     ap (λ (o : Option KeptFile). elim o [
       | None ↦ Some BadFile
       | Some g ↦ option_map Refused (restore_fault g p.customer.spool)
-    ]) is
-    ∙ ap (option_map Refused) told
+    ]) is ∙ ap (option_map Refused) told
 
 pub no_fault : {E : Type 0} (o : Option E) (r : Result (Unit {0}) E) (x : Unit {0})
     → MatchOption o (IsOk r) (λ fault. r ≡ Err fault) → r ≡ Ok x → o ≡ None

@@ -1,12 +1,10 @@
 -- A file's records are finished: of those that stand there the headers are written anew, and the others are added.
-use Rattle.std.proofs.Common.{◌≡◌, ℕ, zero, suc, ◌+◌, ◌<◌, ◌≤◌, false, List, [], ◌∷◌, ◌++◌, length, get_or, take, drop}
-use Rattle.std.proofs.Common.{sym, ap, subst, ◌∙◌, append-nil, arith}
-use Rattle.std.proofs.lemmas.List.{drop_all, get_or-take, length-take-le, take-take, take_all}
-use Rattle.njh_record.specs.Stored.{Stored}
-use Rattle.njh_spoolfile.specs.Kept.{Record, SpoolContents, with_record, without_records}
-use Rattle.njh_keeper.specs.code.Mirrored.{HasRecords, IsOrdered, records_midway, stored_of}
-use Rattle.njh_keeper.proofs.AlikeLaws.{AreAlike, alike_at, is_header}
-use Rattle.njh_keeper.proofs.WritingLaws.{next_is_rewritten, next_is_the_same, next_is_written}
+use Rattle.njh_keeper.proofs.Words
+use Words.{◌≡◌, ℕ, zero, suc, ◌+◌, ◌<◌, ◌≤◌, false, List, [], ◌∷◌, ◌++◌, length, get_or, take, drop, sym, ap, subst}
+use Words.{◌∙◌, append-nil, arith, drop_all, get_or-take, length-take-le, take-take, take_all, Stored, Record}
+use Words.{SpoolContents, with_record, without_records, HasRecords, IsOrdered, records_midway, stored_of}
+use Rattle.njh_keeper.proofs.{AlikeLaws.{AreAlike, alike_at, is_header}, WritingLaws.next_is_rewritten}
+use Rattle.njh_keeper.proofs.WritingLaws.{next_is_the_same, next_is_written}
 
 -- fronts of records that are alike are so too
 pub front_alike : (n : ℕ) (before now : List Stored) → AreAlike before now → AreAlike (take n before) (take n now)

@@ -1,13 +1,8 @@
 -- What is known of a whole file that is still there, by what is remembered of it.
-use Rattle.std.proofs.Common.{◌≡◌, ◌⊎◌, inl, inr, false, Some, sym, ap, subst, ◌∙◌}
-use Rattle.njh_ebcdic.specs.Users.{User}
-use Rattle.njh_header.specs.FileHeaders.{destination_of}
-use Rattle.njh_spool.specs.CustomerSpool.{WholeFile}
-use Rattle.njh_customer.specs.Surviving.{IsStill}
-use Rattle.njh_hub.specs.Files.{said_destination}
-use Rattle.njh_keeper.specs.code.Remembered.{KeptWhole, NameOneNode, Remembers}
-use Rattle.njh_keeper.proofs.AlikeLaws.{AreAlike, rerouted_alike}
-use Rattle.njh_keeper.proofs.RerouteLaws.{same_by_destination, same_or_one_node}
+use Rattle.njh_keeper.proofs.Words
+use Words.{◌≡◌, ◌⊎◌, inl, inr, false, Some, sym, ap, subst, ◌∙◌, User, destination_of, WholeFile, IsStill}
+use Words.{said_destination, KeptWhole, NameOneNode, Remembers}
+use Rattle.njh_keeper.proofs.{AlikeLaws.{AreAlike, rerouted_alike}, RerouteLaws.{same_by_destination, same_or_one_node}}
 
 module _ (k : KeptWhole) (f g : WholeFile) (d : User) (remembers : Remembers k f) (still : IsStill f g)
     (reads : destination_of f.kind f.records ≡ Some d) where

@@ -1,16 +1,11 @@
 -- Calls of the keeper one after the other, with what is kept of a customer's files.
-use Rattle.std.proofs.Common.{◌≡◌, ℕ, zero, suc, ◌<◌, List, [], ◌∷◌, ◌++◌, length, get_or, set, remove, map, Result, Ok}
-use Rattle.std.proofs.Common.{Err, OnOk, refl, ap, ◌∙◌}
-use Rattle.std.specs.List.{AllByRecursion}
-use Rattle.njh_header.specs.WholeFiles.{HasHeaders}
-use Rattle.njh_spool.specs.CustomerSpool.{WholeFile}
-use Rattle.njh_spoolfile.specs.Kept.{SpoolContents, records_of, without_file}
-use Rattle.njh_keeper.specs.Opened.{is_name_of}
-use Rattle.njh_keeper.specs.code.Remembered.{KeptPartial, KeptWhole, Mirrored, Moves, Sweep}
-use Rattle.njh_keeper.specs.code.Following.{GoesTo, HasFiles, Memory, Remain, claim_of, leaves, none, stays}
-use Rattle.njh_keeper.proofs.CallLaws.{drop_follows}
-use Rattle.njh_keeper.proofs.MirrorLaws.{all_of}
-use Rattle.njh_keeper.proofs.MovesLaws.{moves_nothing, moves_then, still_apart}
+use Rattle.std.proofs.Common.{◌≡◌, ℕ, zero, suc, ◌<◌, List, [], ◌∷◌, ◌++◌, length, get_or, remove, Result, Ok, Err}
+use Rattle.{std.{proofs.Common.{OnOk, refl, ◌∙◌}, specs.List.AllByRecursion}, njh_header.specs.WholeFiles.HasHeaders}
+use Rattle.{njh_spoolfile.specs.Kept.{SpoolContents, records_of, without_file}, njh_spool.specs.CustomerSpool.WholeFile}
+use Rattle.njh_keeper.proofs.{CallLaws.drop_follows, ListLaws.{all_both, all_remove}, MirrorLaws.all_of}
+use Rattle.njh_keeper.{proofs.MovesLaws.{moves_nothing, moves_then, still_apart}, specs.code.Following.{leaves, none}}
+use Rattle.njh_keeper.specs.code.{Following.{stays, GoesTo, HasFiles, Memory, Remain, claim_of}, Remembered.KeptPartial}
+use Rattle.njh_keeper.specs.{code.Remembered.{KeptWhole, Mirrored, Moves, Sweep}, Opened.is_name_of}
 
 -- ---- files that aren't whole
 
@@ -35,11 +30,6 @@ pub all_remain : (P : KeptPartial → Type 0) (ps qs : List KeptPartial) → Rem
 all_remain P _ _ none all = tt
 all_remain P _ _ (stays p ps qs more) all = (all.0, all_remain P ps qs more all.1)
 all_remain P _ _ (leaves p ps qs more) all = all_remain P ps qs more all.1
-
-pub all_both : {X : Type 0} (P Q R : X → Type 0) → ((x : X) → P x → Q x → R x) → (xs : List X) → AllByRecursion P xs
-    → AllByRecursion Q xs → AllByRecursion R xs
-all_both P Q R f [] one more = tt
-all_both P Q R f (x ∷ xs) one more = (f x one.0 more.0, all_both P Q R f xs one.1 more.1)
 
 -- ---- calls
 
@@ -75,34 +65,12 @@ goes_then a b c s t u files now one more = record {
   moves = moves_then (claim_of a) (claim_of b) (claim_of c) s t u one.moves more.moves;
   has = more.has;
   remain = remain_then a.own.partial b.own.partial c.own.partial one.remain more.remain;
-  records =
-      all_both (λ (p : KeptPartial). records_of p.key t ≡ records_of p.key s)
+  records = all_both (λ (p : KeptPartial). records_of p.key t ≡ records_of p.key s)
       (λ p. records_of p.key u ≡ records_of p.key t) (λ p. records_of p.key u ≡ records_of p.key s)
       (λ p first next. next ∙ first) c.own.partial
       (all_remain (λ (p : KeptPartial). records_of p.key t ≡ records_of p.key s) b.own.partial c.own.partial more.remain
       one.records) more.records;
 }
-
--- ---- lists of what is remembered
-
-pub map-remove : {X Y : Type 0} (f : X → Y) (xs : List X) (i : ℕ) → map f (remove xs i) ≡ remove (map f xs) i
-map-remove f [] zero = refl
-map-remove f [] (suc i) = refl
-map-remove f (x ∷ xs) zero = refl
-map-remove f (x ∷ xs) (suc i) = ap (λ ys. f x ∷ ys) (map-remove f xs i)
-
-pub all-remove : {X : Type 0} (P : X → Type 0) (xs : List X) (i : ℕ) → AllByRecursion P xs
-    → AllByRecursion P (remove xs i)
-all-remove P [] zero all = tt
-all-remove P [] (suc i) all = tt
-all-remove P (x ∷ xs) zero all = all.1
-all-remove P (x ∷ xs) (suc i) all = (all.0, all-remove P xs i all.1)
-
-pub all-set : {X : Type 0} (P : X → Type 0) (xs : List X) (i : ℕ) (x : X) → AllByRecursion P xs → P x
-    → AllByRecursion P (set xs i x)
-all-set P [] i x all one = tt
-all-set P (y ∷ xs) zero x all one = (one, all.1)
-all-set P (y ∷ xs) (suc i) x all one = (all.0, all-set P xs i x all.1 one)
 
 -- ---- a file is taken out
 
@@ -120,7 +88,7 @@ module _ (m : Memory) (i : ℕ) (k : KeptWhole) (sweep : Sweep) (there : i < len
   file_goes s files has =
       let by = drop_follows m.numbers m.own s files has.ordered has.mirrored i k sweep there is same in
       goes m memory_without s (without_file k.id s) files (remove files i) has by.moves by.mirrored refl
-      (all-remove (λ f. HasHeaders f.kind f.records) files i has.headers) (remain_same m.own.partial)
+      (all_remove (λ f. HasHeaders f.kind f.records) files i has.headers) (remain_same m.own.partial)
       (all_of (λ (p : KeptPartial). records_of p.key s ≡ records_of p.key s) (λ p. refl) m.own.partial)
 
 -- ---- what a call answers

@@ -1,17 +1,12 @@
 -- What stays of the records under other keys, and of the rows of other customers.
-use Rattle.std.proofs.Common.{◌≡◌, ◌≢◌, ℕ, ◌+◌, ◌^◌, ◌<◌, ◌≤◌, List, length, get_or, map, true, false, refl, sym}
-use Rattle.std.proofs.Common.{◌∙◌, arith}
-use Rattle.std.specs.List.{AllByRecursion}
-use Rattle.njh_record.specs.Stored.{Stored}
-use Rattle.njh_spoolfile.specs.Kept.{File, Record, SpoolContents, contents, records_of, with_changed, with_file}
-use Rattle.njh_spoolfile.specs.Kept.{with_record, without_file, without_records}
-use Rattle.njh_keeper.specs.Opened.{is_own}
-use Rattle.njh_keeper.specs.code.Mirrored.{HasRecords, IsOrdered, WritesRowsOf, WritesUnder, own_rows}
+use Rattle.std.proofs.Common.{◌≡◌, ◌≢◌, ℕ, ◌+◌, ◌^◌, ◌<◌, ◌≤◌, List, length, get_or, true, false, refl, sym, ◌∙◌, arith}
+use Rattle.{std.specs.List.AllByRecursion, njh_spoolfile.specs.Kept.{File, Record, SpoolContents, with_changed}}
+use Rattle.njh_spoolfile.specs.Kept.{with_file, with_record, without_file, without_records}
 use Rattle.njh_keeper.proofs.RecordLaws.{records_of_another_come, records_of_another_leave, with_record_ordered}
-use Rattle.njh_keeper.proofs.RecordLaws.{without_records_ordered}
-use Rattle.njh_keeper.proofs.RowLaws.{owned_once, row_is_own, row_of_another_changes, row_of_another_comes}
-use Rattle.njh_keeper.proofs.RowLaws.{row_of_another_leaves, with_changed_ordered, with_file_ordered}
-use Rattle.njh_keeper.proofs.RowLaws.{without_file_ordered}
+use Rattle.njh_keeper.proofs.{RecordLaws.without_records_ordered, RowLaws.{owned_once, row_is_own}}
+use Rattle.njh_keeper.proofs.RowLaws.{row_of_another_changes, row_of_another_comes, row_of_another_leaves}
+use Rattle.njh_keeper.proofs.RowLaws.{with_changed_ordered, with_file_ordered, without_file_ordered}
+use Rattle.njh_keeper.specs.{code.Mirrored.{IsOrdered, WritesRowsOf, WritesUnder, own_rows}, Opened.is_own}
 
 -- ---- records under one key
 
@@ -84,8 +79,3 @@ module _ (name : List ℕ) where
       others = λ other apart. row_of_another_changes name s h i e there is other (foreign other apart) file
           (owned_once name other file owned (λ here. apart (sym here)));
     }
-
-  module _ (s t : SpoolContents) (w : WritesRowsOf name s t) where
-    pub records_stay : (key : ℕ) (rs : List Stored) → HasRecords key rs s → HasRecords key rs t
-    records_stay key rs has = (λ i. map contents (records_of key (record { files = t.files; records = w.records i })))
-        ∙ has

@@ -1,32 +1,17 @@
 -- What is kept of files that aren't whole is a front of what they are after a step, and of what they became.
-use Rattle.std.proofs.Common.{◌≡◌, ℕ, ◌+◌, ◌<◌, ◌≤◌, ◌==◌, ◌⊎◌, inl, inr, cond, List, [], length, get_or, count_by}
-use Rattle.std.proofs.Common.{take, Contains, Option, Some, None, refl, sym, ap, subst, ◌∙◌, arith, length-append}
-use Rattle.std.specs.List.{AllByRecursion}
-use Rattle.std.proofs.Math.Seq.{take-append_seam}
-use Rattle.std.proofs.lemmas.List.Elements.{Contains-append_cases, Contains-get_or, recursion_from_All}
-use Rattle.njh_header.specs.WholeFiles.{HasHeaders}
-use Rattle.njh_record.specs.Stored.{Stored}
-use Rattle.njh_spool.specs.CustomerSpool.{CustomerSpool, PartialFile, WholeFile, partial_numbered, partial_records}
-use Rattle.njh_spool.specs.Spools.{IsSound}
-use Rattle.njh_stream.specs.WholeFiles.{HaveHeaders}
-use Rattle.njh_stream.proofs.OnlyOneLaws.{count-cons, counted_at}
-use Rattle.njh_stream.proofs.ReceivingLaws.{find_counts}
-use Rattle.njh_customer.specs.Growing.{FilesGrow, HasBecomeWhole, HasShortRests, TakesGrowFiles}
-use Rattle.njh_customer.specs.Part.{Part}
-use Rattle.njh_customer.specs.Surviving.{EventsKeepFiles, Survive, TakesKeepFiles, leaves, none, stays}
-use Rattle.njh_customer.proofs.GrowingLaws.{rerouted_count}
-use Rattle.njh_turns.specs.Keeping.{IsLed}
-use Rattle.njh_spoolfile.specs.Kept.{SpoolContents}
-use Rattle.njh_keeper.specs.code.Alike.{AreAlike}
-use Rattle.njh_keeper.specs.code.Following.{AreFronts, GoOnIn, IsFrontOf}
-use Rattle.njh_keeper.specs.code.Partly.{AllGoOn, AllUpToDate, GoesOn, IsUpToDate}
-use Rattle.njh_keeper.specs.code.Remembered.{KeptPartial, OwnFiles}
-use Rattle.njh_keeper.proofs.AlikeLaws.{alike_where_it_reads}
-use Rattle.njh_keeper.proofs.FinishLaws.{front_alike}
-use Rattle.njh_keeper.proofs.FollowingLaws.{all_both}
-use Rattle.njh_keeper.proofs.GrowthLaws.{goes_on_in, led_grows, led_rests, many_go_on_from_partial, partial_goes_on}
-use Rattle.njh_keeper.proofs.KnowingLaws.{front_of_whole, still_goes_on}
-use Rattle.njh_keeper.proofs.NumberedLaws.{equal}
+use Rattle.njh_keeper.proofs.Words
+use Words.{◌≡◌, ℕ, ◌+◌, ◌<◌, ◌≤◌, ◌==◌, ◌⊎◌, inl, inr, cond, List, [], length, get_or, count_by, take, Contains, Option}
+use Words.{Some, None, refl, sym, ap, subst, ◌∙◌, arith, length-append, recursion_from_All, AllByRecursion, Stored}
+use Words.{HasHeaders, SpoolContents, CustomerSpool, PartialFile, WholeFile, partial_numbered, partial_records, IsSound}
+use Words.{HaveHeaders, FilesGrow, HasShortRests, TakesGrowFiles, EventsKeepFiles, Survive, TakesKeepFiles, leaves}
+use Words.{none, IsLed, AreAlike, AreFronts, GoOnIn, IsFrontOf, AllGoOn, AllUpToDate, GoesOn, IsUpToDate, KeptPartial}
+use Words.{OwnFiles}
+use Rattle.std.proofs.{lemmas.List.Elements.{Contains-append_cases, Contains-get_or}, Math.Seq.take-append_seam}
+use Rattle.njh_stream.proofs.{OnlyOneLaws.{count-cons, counted_at}, ReceivingLaws.find_counts}
+use Rattle.njh_customer.{proofs.GrowingLaws.rerouted_count, specs.{Growing.HasBecomeWhole, Part.Part, Surviving.stays}}
+use Rattle.njh_keeper.proofs.{AlikeLaws.alike_where_it_reads, FinishLaws.front_alike, GrowthLaws.goes_on_in}
+use Rattle.njh_keeper.proofs.GrowthLaws.{led_grows, led_rests, many_go_on_from_partial, partial_goes_on}
+use Rattle.njh_keeper.proofs.{KnowingLaws.{front_of_whole, still_goes_on}, ListLaws.all_both, NumberedLaws.equal}
 
 -- ---- the number of a file that isn't whole
 
@@ -44,8 +29,7 @@ no_more_numbered n _ _ (stays f g fs gs one more) =
       by,
       no_more_numbered n fs gs more,
       count-cons (λ (h : WholeFile). h.number == n) g gs,
-      count-cons
-          (λ (h : WholeFile). h.number == n) f fs,
+      count-cons (λ (h : WholeFile). h.number == n) f fs,
     )
 no_more_numbered n _ _ (leaves f fs gs more) =
     omega (arith, no_more_numbered n fs gs more, count-cons (λ (h : WholeFile). h.number == n) f fs)
@@ -111,14 +95,11 @@ module _ (k : ℕ) (x y : CustomerSpool) (few : k < 1366) (grow : FilesGrow k x 
       → p.seen ≤ length f.records → IsFrontOf s p f.records
   front_of s p up go_on f at headers number seen =
       let some : 0 < length (partial_records f.number x) =
-      subst (λ n. 0 < length (partial_records n x)) (sym number)
-      (omega (arith, up.seen, up.many)) in
+      subst (λ n. 0 < length (partial_records n x)) (sym number) (omega (arith, up.seen, up.many)) in
       let whole = grow.became_whole f (is_new f some at) in
-      let front =
-      front_of_whole x s p f.records
+      let front = front_of_whole x s p f.records
       (λ many. subst (λ n. let was = partial_records n x in (length was ≤ length f.records)
-      × AreAlike was (take (length was) f.records)) number (became_alike f whole headers many))
-      up go_on seen in
+      × AreAlike was (take (length was) f.records)) number (became_alike f whole headers many)) up go_on seen in
       record { before = front.0; long = front.1; within = front.2; stored = front.3; alike = front.4 }
 
   module _ (s : SpoolContents) (own : OwnFiles) (up : AllUpToDate x own) (go_on : AllGoOn x s own) where
@@ -134,10 +115,8 @@ module _ (k : ℕ) (x y : CustomerSpool) (few : k < 1366) (grow : FilesGrow k x 
     fronts_of_step headers =
         all_both (IsUpToDate x) (GoesOn x s)
         (λ p. AllByRecursion (λ f. f.number ≡ p.number → p.seen ≤ length f.records → IsFrontOf s p f.records) y.whole)
-        (λ p up go_on.
-        recursion_from_All (λ (f : WholeFile). f.number ≡ p.number → p.seen ≤ length f.records
-        → IsFrontOf s p f.records) y.whole
-        (λ i f there.
+        (λ p up go_on. recursion_from_All (λ (f : WholeFile). f.number ≡ p.number → p.seen ≤ length f.records
+        → IsFrontOf s p f.records) y.whole (λ i f there.
         let g = get_or y.whole i f in
         front_of s p up go_on g (Contains-get_or y.whole i f there) (headers i f there))) own.partial up go_on
 

@@ -1,37 +1,22 @@
 -- What a step of a customer, or new routes of it, make of its files: the whole ones go on, and all of them grow.
-use Rattle.std.proofs.Common.{◌≡◌, ℕ, ◌<◌, ◌≤◌, ◌==◌, Bool, true, false, cond, List, [], ◌∷◌, ◌++◌, length, find}
-use Rattle.std.proofs.Common.{Contains, Option, Some, None, refl, sym, ap, subst, ◌∙◌, append-nil, arith}
-use Rattle.std.proofs.lemmas.List.Elements.{Contains-append_right}
-use Rattle.njh_record.specs.Stored.{Stored}
-use Rattle.njh_record.specs.declared.Kind.{Kind}
-use Rattle.njh_table.specs.Entries.{RouteEntry}
-use Rattle.njh_spool.specs.CustomerSpool.{CustomerSpool, PartialFile, max_arrived, partial_numbered, partial_records}
-use Rattle.njh_spool.specs.Spools.{IsSound}
-use Rattle.njh_stream.specs.Holding.{unrouted_held}
-use Rattle.njh_customer.specs.declared.signal.Signal.{Signal}
-use Rattle.njh_customer.specs.Growing.{FilesGrow, HasCome, HasShortRests, TakesGrowFiles}
-use Rattle.njh_customer.specs.NewRoutes.{entry_with, part_after_routes}
-use Rattle.njh_customer.specs.OutgoingFiles.{outgoing}
-use Rattle.njh_customer.specs.Part.{Part, part_after_bytes, part_after_signal}
-use Rattle.njh_customer.specs.Runs.{OwnSignal}
-use Rattle.njh_customer.specs.Surviving.{EventsKeepFiles, FilesGoOn, TakesKeepFiles}
-use Rattle.njh_customer.proofs.StepsGrow.{signals_grow}
-use Rattle.njh_customer.proofs.GrowingLaws.{many_go_on, quiet}
-use Rattle.njh_customer.proofs.GrowingLaws.{partials_numbered}
-use Rattle.njh_customer.proofs.RestLengths.{events_short, takes_short}
-use Rattle.njh_customer.proofs.SurvivingLaws.{held_still}
-use Rattle.njh_turns.specs.Keeping.{IsLed, by_bytes, by_routes, by_signal}
-use Rattle.njh_keeper.specs.code.Following.{GoOnIn}
-use Rattle.njh_keeper.specs.code.Walking.{AreNumbered}
-use Rattle.njh_keeper.proofs.NumberedLaws.{equal_to}
+use Rattle.njh_keeper.proofs.Words
+use Words.{◌≡◌, ℕ, ◌<◌, ◌≤◌, ◌==◌, List, [], ◌++◌, length, Option, Some, None, refl, sym, ap, subst, ◌∙◌, append-nil}
+use Words.{arith, Kind, Stored, RouteEntry, CustomerSpool, PartialFile, max_arrived, partial_numbered, partial_records}
+use Words.{IsSound, FilesGrow, HasShortRests, TakesGrowFiles, entry_with, part_after_routes, outgoing, OwnSignal}
+use Words.{EventsKeepFiles, TakesKeepFiles, IsLed, GoOnIn, AreNumbered}
+use Rattle.{njh_stream.specs.Holding.unrouted_held, njh_customer.proofs.FileListLaws.found_one}
+use Rattle.njh_customer.proofs.{GrowingLaws.{many_go_on, quiet, partials_numbered}, RestLengths.events_short}
+use Rattle.njh_customer.proofs.{RestLengths.takes_short, StepsGrow.signals_grow, SurvivingLaws.held_still}
+use Rattle.njh_customer.specs.{declared.signal.Signal.Signal, Growing.HasCome, Part.{Part, part_after_bytes}}
+use Rattle.{njh_customer.specs.{Part.part_after_signal, Surviving.FilesGoOn}, njh_turns.specs.Keeping.by_bytes}
+use Rattle.{njh_turns.specs.Keeping.{by_routes, by_signal}, njh_keeper.proofs.NumberedLaws.equal_to}
 use Rattle.njh_keeper.proofs.WalkLaws.{are_numbered}
 
 -- ---- a step
 
 -- what holds after bytes of a line, after a signal and after new routes holds wherever the part is led
 led : (p : Part) (P : Part → Type 0) → ((l : ℕ) (piece : List ℕ) → l < length p.rests
-    → P (part_after_bytes p l piece).after)
-    → ((l : ℕ) (signal : Signal) → P (part_after_signal p l signal).after)
+    → P (part_after_bytes p l piece).after) → ((l : ℕ) (signal : Signal) → P (part_after_signal p l signal).after)
     → ((routes : List RouteEntry) → P (part_after_routes routes p)) → (after : Part) → IsLed p after → P after
 led p P behind_bytes behind_signal behind_routes after (by_bytes l piece there is) =
     subst P (sym is) (behind_bytes l piece there)
@@ -61,12 +46,10 @@ routes_grow_none routes p =
 -- the whole files are those that there were, but for such as left, and after them others, at most as many as were
 -- counted
 pub led_files_go_on : EventsKeepFiles → TakesKeepFiles → (p after : Part) → IsLed p after
-    → after.customer.spool.arrived < max_arrived
-    → FilesGoOn (outgoing p.customer) (outgoing after.customer)
+    → after.customer.spool.arrived < max_arrived → FilesGoOn (outgoing p.customer) (outgoing after.customer)
 led_files_go_on events takes p after =
     led p (λ x. x.customer.spool.arrived < max_arrived → FilesGoOn (outgoing p.customer) (outgoing x.customer))
-    (takes p) (λ l signal. events p (OwnSignal signal l))
-    (λ routes below. routes_go_on routes p) after
+    (takes p) (λ l signal. events p (OwnSignal signal l)) (λ routes below. routes_go_on routes p) after
 
 -- fewer than 1,366 records have come
 pub led_grows : TakesGrowFiles → (p after : Part) → IsLed p after → HasShortRests p
@@ -106,28 +89,13 @@ goes_on_in events takes p after sound is_led = record {
 
 -- ---- the records of a file that isn't whole
 
--- what is found is there, and passes the test
-found_there : {X : Type 0} (p : X → Bool) (xs : List X) (x : X) → find p xs ≡ Some x → Contains xs x × (p x ≡ true)
-found_there p [] x is = absurd (cc is)
-found_there {X} p (y ∷ ys) x is = at_test (p y) refl (found_there p ys x) is
-  where
-    at_test : (b : Bool) → p y ≡ b → (find p ys ≡ Some x → Contains ys x × (p x ≡ true))
-        → cond b (Some y) (find p ys) ≡ Some x → Contains (y ∷ ys) x × (p x ≡ true)
-    at_test true passes rest is =
-        let same : y ≡ x = cc is in
-        (subst (Contains (y ∷ ys)) same (0, omega arith, refl), subst (λ z. p z ≡ true) same passes)
-    at_test false passes rest is =
-        let later = rest is in
-        (Contains-append_right (y ∷ []) ys x later.0, later.1)
-
 -- these are the records of the file of that number, and after them others
 abbrev pub GoesOnFromPartial : CustomerSpool → ℕ → List Stored → Type 0
 GoesOnFromPartial x n records = (rest : List Stored) × (records ≡ partial_records n x ++ rest)
 
 -- more records than came go on from the file of their number
 pub many_go_on_from_partial : (k : ℕ) (x : CustomerSpool) (n : ℕ) (kind : Kind) (records : List Stored) → IsSound x
-    → k < length records
-    → HasCome k x.partial n kind records → GoesOnFromPartial x n records
+    → k < length records → HasCome k x.partial n kind records → GoesOnFromPartial x n records
 many_go_on_from_partial k x n kind records sound many come =
     let from = many_go_on k n x.partial kind records many come in
     let apart = sound.apart from.file.number in
@@ -140,8 +108,7 @@ many_go_on_from_partial k x n kind records sound many come =
 
 -- so the files do that aren't whole now either
 pub partial_goes_on : (k : ℕ) (x y : CustomerSpool) → k < 1366 → FilesGrow k x y → IsSound x → (n : ℕ)
-    → 1366 ≤ length (partial_records n y)
-    → GoesOnFromPartial x n (partial_records n y)
+    → 1366 ≤ length (partial_records n y) → GoesOnFromPartial x n (partial_records n y)
 partial_goes_on k x y few grow sound n = at_file (partial_numbered n y) refl
   where
     at_file : (o : Option PartialFile) → partial_numbered n y ≡ o
@@ -149,6 +116,6 @@ partial_goes_on k x y few grow sound n = at_file (partial_numbered n y) refl
         → GoesOnFromPartial x n (elim o as (λ _. List Stored) [ Some f ↦ f.records | None ↦ [] ])
     at_file None is many = absurd (omega (arith, many))
     at_file (Some f) is many =
-        let there = found_there (λ (g : PartialFile). g.number == n) y.partial f is in
+        let there = found_one (λ (g : PartialFile). g.number == n) y.partial f is in
         many_go_on_from_partial k x n f.kind f.records sound (omega (arith, few, many))
         (subst (λ m. HasCome k x.partial m f.kind f.records) (equal_to f.number n there.1) (grow.partial f there.0))

@@ -1,32 +1,16 @@
 -- A file that became whole is added: a number comes in hand, its records are finished under it, and its row is added.
-use Rattle.std.proofs.Common.{◌≡◌, ◌≢◌, ℕ, ◌+◌, ◌^◌, ◌<◌, ◌≤◌, true, List, [], ◌∷◌, ◌++◌, length, get_or, remove, refl}
-use Rattle.std.proofs.Common.{sym, subst, ◌∙◌, arith}
-use Rattle.std.specs.List.{AllByRecursion}
-use Rattle.std.proofs.lemmas.List.Elements.{All-from_recursion}
-use Rattle.sqlite.specs.State.{State}
-use Rattle.njh_header.specs.WholeFiles.{HasHeaders}
-use Rattle.njh_spool.specs.CustomerSpool.{WholeFile}
-use Rattle.njh_hub.specs.Views.{file_summary}
-use Rattle.njh_hub.specs.declared.file_summary.FileSummaryView.{FileSummaryView}
-use Rattle.njh_spoolfile.specs.Kept.{File, SpoolContents, records_of, with_file, without_records}
-use Rattle.njh_spoolfile.specs.Steps.{Changes}
-use Rattle.njh_keeper.specs.Opened.{is_name_of}
-use Rattle.njh_keeper.specs.code.Alike.{Writes}
-use Rattle.njh_keeper.specs.code.Following.{AddsRow, AreFronts, GoesTo, HasFiles, IsFrontOf, IsInHand, IsRowFor}
-use Rattle.njh_keeper.specs.code.Following.{LeadsFiles, LeadsInHand, Memory, claim_of}
-use Rattle.njh_keeper.specs.code.Leading.{Leads}
-use Rattle.njh_keeper.specs.code.Mirrored.{FitsHub}
-use Rattle.njh_keeper.specs.code.Remembered.{AreApart, KeptPartial, KeptWhole, Numbers, Remembers, claim, with_key}
-use Rattle.njh_keeper.specs.code.Writing.{IsTaken}
-use Rattle.njh_keeper.proofs.CallLaws.{add_follows, take_follows, taken_is_empty}
-use Rattle.njh_keeper.proofs.FollowingLaws.{all_both, goes, remain_removed, remain_same}
-use Rattle.njh_keeper.proofs.FrameLaws.{drops_records}
-use Rattle.njh_keeper.proofs.KeyLaws.{keyed_none, one_itself}
-use Rattle.njh_keeper.proofs.LeadingLaws.{leads_by, leads_nothing, leads_then, leads_weaker}
-use Rattle.njh_keeper.proofs.MirrorLaws.{all_of}
-use Rattle.njh_keeper.proofs.MovesLaws.{moves_memory, moves_then, still_apart}
-use Rattle.njh_keeper.proofs.NumberedLaws.{all-push, all_weaker}
-use Rattle.njh_keeper.proofs.UsesLaws.{uses_as_key_is_taken, uses_as_partial_goes}
+use Rattle.njh_keeper.proofs.Words
+use Words.{◌≡◌, ◌≢◌, ℕ, ◌+◌, ◌^◌, ◌<◌, ◌≤◌, true, List, [], ◌∷◌, ◌++◌, length, get_or, remove, refl, sym, subst, ◌∙◌}
+use Words.{arith, All-from_recursion, AllByRecursion, State, HasHeaders, File, SpoolContents, records_of, with_file}
+use Words.{without_records, Changes, WholeFile, FileSummaryView, file_summary, Writes, AddsRow, AreFronts, GoesTo}
+use Words.{HasFiles, IsFrontOf, IsRowFor, LeadsFiles, Memory, claim_of, Leads, FitsHub, AreApart, KeptPartial}
+use Words.{KeptWhole, Numbers, Remembers, claim, with_key, IsTaken, is_name_of}
+use Rattle.njh_keeper.proofs.{CallLaws.{add_follows, take_follows, taken_is_empty}, FollowingLaws.goes}
+use Rattle.njh_keeper.proofs.{FollowingLaws.{remain_removed, remain_same}, FrameLaws.drops_records, KeyLaws.keyed_none}
+use Rattle.njh_keeper.proofs.{KeyLaws.one_itself, LeadingLaws.{leads_by, leads_nothing, leads_then, leads_weaker}}
+use Rattle.njh_keeper.proofs.{ListLaws.all_both, MirrorLaws.all_of, MovesLaws.{moves_memory, moves_then, still_apart}}
+use Rattle.njh_keeper.proofs.{NumberedLaws.{all-push, all_weaker}, UsesLaws.uses_as_key_is_taken}
+use Rattle.njh_keeper.{proofs.UsesLaws.uses_as_partial_goes, specs.code.Following.{IsInHand, LeadsInHand}}
 
 -- files that aren't whole have no number that is in hand
 no_partial : (key : ℕ) (m : Memory) → AreApart (with_key key (claim_of m))
@@ -52,10 +36,8 @@ module _ (m : Memory) (g : WholeFile) (s : SpoolContents) (files : List WholeFil
       p there) in
       let front : IsFrontOf s p g.records = fronts_here.0 same seen in
       record {
-        moves =
-            moves_memory (claim_of m) (with_key p.key (claim_of (memory_left i))) s refl
-            (λ n. omega (arith, uses_as_partial_goes m.numbers m.own i p there is n)) has.ordered
-            (omega arith);
+        moves = moves_memory (claim_of m) (with_key p.key (claim_of (memory_left i))) s refl
+            (λ n. omega (arith, uses_as_partial_goes m.numbers m.own i p there is n)) has.ordered (omega arith);
         text = refl;
         mirrored = has.mirrored;
         remain = remain_removed m.own.partial i;
@@ -89,8 +71,7 @@ module _ (m : Memory) (g : WholeFile) (s : SpoolContents) (files : List WholeFil
           text = refl;
           mirrored = by.mirrored;
           remain = remain_same m.own.partial;
-          records =
-              all_weaker (λ (p : KeptPartial). p.key ≢ key)
+          records = all_weaker (λ (p : KeptPartial). p.key ≢ key)
               (λ p. records_of p.key (without_records key 0 (2 ^ 23) s) ≡ records_of p.key s)
               (λ p other. (drops_records key 0 (2 ^ 23) s has.ordered (omega arith)).others p.key other) m.own.partial
               (no_partial key memory_taken apart);
@@ -109,8 +90,7 @@ module _ (m m1 : Memory) (s t u : SpoolContents) (files : List WholeFile) (has :
   abbrev memory_added : KeptWhole → Memory
   memory_added k = record {
     numbers = record m1.numbers { next_id = m1.numbers.next_id + 1 };
-    own = record m1.own
-        { whole = m1.own.whole ++ k ∷ [] };
+    own = record m1.own { whole = m1.own.whole ++ k ∷ [] };
     text = m1.text;
   }
 
@@ -129,8 +109,7 @@ module _ (m m1 : Memory) (s t u : SpoolContents) (files : List WholeFile) (has :
       let v = with_file k.id row u in
       goes m (memory_added k) s v files (files ++ g ∷ []) has
       (moves_then (claim_of m) (with_key k.key (claim_of m1)) (claim_of (memory_added k)) s t v hand.moves by.moves)
-      by.mirrored
-      hand.text (all-push (λ f. HasHeaders f.kind f.records) files g has.headers headers) hand.remain
+      by.mirrored hand.text (all-push (λ f. HasHeaders f.kind f.records) files g has.headers headers) hand.remain
       (all_both (λ (p : KeptPartial). p.key ≢ k.key) (λ p. records_of p.key t ≡ records_of p.key s)
       (λ p. records_of p.key v ≡ records_of p.key s)
       (λ p other before. done.0.others p.key other ∙ before) m1.own.partial (no_partial k.key m1 apart) hand.records)
@@ -141,26 +120,22 @@ module _ (m m1 : Memory) (s t u : SpoolContents) (files : List WholeFile) (has :
   added_goes key m2 old new row hand finishes =
       subst (λ x. GoesTo m x s (with_file row.kept.id row.row u) (files ++ g ∷ [])) (sym row.memory)
       (row_added row.kept row.row (subst (λ n. IsInHand n written m m1 s t files g.records) (sym row.key_is) hand)
-      row.id row.remembers
-      (subst (λ n. IsRowFor m1.text n summary row.row) (sym row.key_is) row.is_row)
+      row.id row.remembers (subst (λ n. IsRowFor m1.text n summary row.row) (sym row.key_is) row.is_row)
       (subst (λ n. Writes true n written g.records t u) (sym row.key_is) finishes))
 
 -- ---- the calls one after the other
 
 module _ (m m1 : Memory) (g : WholeFile) (key written : ℕ) where
-  pub add_leads : (m2 : Memory) (summary : FileSummaryView) (old mid mid2 new : State) → summary ≡ file_summary g
+  pub add_leads : (m2 : Memory) (summary : FileSummaryView) {old mid mid2 new : State} → summary ≡ file_summary g
       → HasHeaders g.kind g.records → AllByRecursion FitsHub g.records
       → LeadsInHand key written g m m1 old mid → Leads (Writes true key written g.records) mid mid2
       → AddsRow key summary g m1 m2 mid2 new
       → LeadsFiles m m2 (λ s files. AreFronts s m.own.partial (g ∷ [])) (λ files now. now ≡ files ++ g ∷ []) old new
-  add_leads m2 summary old mid mid2 new summary_is headers fits hand finish row =
+  add_leads m2 summary {old} {mid} {mid2} {new} summary_is headers fits hand finish row =
       leads_then
-      (λ s u. (files : List WholeFile) → HasFiles m s files → AreFronts s m.own.partial (g ∷ [])
-      → (t : SpoolContents) × IsInHand key written m m1 s t files g.records × Writes true key written g.records t u)
-      (λ u v. v ≡ with_file row.kept.id row.row u) _ old mid2 new
-      (leads_then _ _ _ old mid mid2 hand finish
-      (λ s t u first second files has fronts. (t, first files has fronts, second)))
-      (leads_by (with_file row.kept.id row.row) mid2 new row.changes)
+      (leads_then {R = λ s u. (files : List WholeFile) → HasFiles m s files → AreFronts s m.own.partial (g ∷ [])
+      → (t : SpoolContents) × IsInHand key written m m1 s t files g.records × Writes true key written g.records t u}
+      hand finish (λ s t u first second files has fronts. (t, first files has fronts, second))) (leads_by row.changes)
       (λ s u v both same files has fronts.
       let found = both files has fronts in (
         files ++ g ∷ [],
@@ -170,27 +145,23 @@ module _ (m m1 : Memory) (g : WholeFile) (key written : ℕ) where
             found.2),
       ))
 
-  pub partial_leads : (i : ℕ) (p : KeptPartial) (at : State) → i < length m.own.partial → p ≡ get_or m.own.partial i p
+  pub partial_leads : (i : ℕ) (p : KeptPartial) {at : State} → i < length m.own.partial → p ≡ get_or m.own.partial i p
       → g.number ≡ p.number → p.seen ≤ length g.records → p.key ≡ key → p.written ≡ written
       → m1 ≡ record { numbers = m.numbers; own = record m.own { partial = remove m.own.partial i }; text = m.text }
       → LeadsInHand key written g m m1 at at
-  partial_leads i p at there is same seen key_is written_is left =
-      leads_nothing _ at
-      (λ s files has fronts.
-      subst (λ x. IsInHand key written m x s s files g.records) (sym left)
+  partial_leads i p there is same seen key_is written_is left =
+      leads_nothing (λ s files has fronts. subst (λ x. IsInHand key written m x s s files g.records) (sym left)
       (subst (λ n. IsInHand n written m (memory_left m g s files has i) s s files g.records) key_is
       (subst (λ n. IsInHand p.key n m (memory_left m g s files has i) s s files g.records) written_is
       (partial_in_hand m g s files has i p there is same seen fronts))))
 
-  pub key_leads : (left : List ℕ) (behind : ℕ) (old new : State)
+  pub key_leads : (left : List ℕ) (behind : ℕ) {old new : State}
       → IsTaken m.numbers.free_keys m.numbers.next_key key left behind → written ≡ 0
       → m1 ≡ record { numbers = record m.numbers { free_keys = left; next_key = behind }; own = m.own; text = m.text }
       → Changes (without_records key 0 (2 ^ 23)) old new → LeadsInHand key written g m m1 old new
-  key_leads left behind old new taken none is changes =
-      leads_weaker (λ s t. t ≡ without_records key 0 (2 ^ 23) s) _ old new
-      (λ s t same files has fronts.
+  key_leads left behind taken none is changes =
+      leads_weaker (leads_by changes) (λ s t same files has fronts.
       subst (λ x. IsInHand key written m x s t files g.records) (sym is)
       (subst (λ n. IsInHand key n m (memory_taken m g s files has key left behind taken) s t files g.records) (sym none)
       (subst (λ x. IsInHand key 0 m (memory_taken m g s files has key left behind taken) s x files g.records) (sym same)
       (key_in_hand m g s files has key left behind taken))))
-      (leads_by (without_records key 0 (2 ^ 23)) old new changes)

@@ -1,26 +1,16 @@
 -- Whole files put back into a hub one after the other: each customer has its own.
-use Rattle.std.proofs.Common.{◌≡◌, ◌≢◌, ℕ, ◌+◌, ◌<◌, ◌≤◌, Bool, true, false, cond, List, [], ◌∷◌, ◌++◌}
-use Rattle.std.proofs.Common.{length, map, get_or, slice_set, bytes_eq, Option, Some, None, Result, Ok, Err, refl, sym}
-use Rattle.std.proofs.Common.{ap, subst, ◌∙◌, ⊎_elim, eqb, nat_lt, arith}
-use Rattle.std.specs.Prelude.{fold}
-use Rattle.std.proofs.lemmas.List.{ext_get_or, get_or-map, get_or-set_same, get_or-set_other, length-map, length-set}
-use Rattle.std.proofs.lemmas.List.Sums.{fails_before_first, fold-append}
-use Rattle.std.specs.List.{position_or_len}
-use Rattle.std.proofs.lemmas.Bool.{cases_lt, lt-ltb}
-use Rattle.std.proofs.lemmas.Iterator.Adapters.{position_from-zero}
-use Rattle.std.proofs.lemmas.List.Quantifiers.{position-Some}
-use Rattle.std.proofs.lemmas.Bool.Decides.{eqb_tells}
-use Rattle.std.proofs.lemmas.Slice.Eq.{bytes_eq-Decides}
-use Rattle.njh_ebcdic.specs.Reading.{name_of_text}
-use Rattle.njh_ebcdic.specs.declared.name.NameFault.{NameFault}
-use Rattle.njh_table.specs.Accepted.{AreDistinct}
-use Rattle.njh_table.specs.TableFile.{NamedCustomer, TableFile, customer_at, entry_of, no_customer}
-use Rattle.njh_hub.specs.WholeHub.{Part, no_part, part, part_at_open}
-use Rattle.njh_spoolfile.specs.Kept.{SpoolContents, Whole, kept}
-use Rattle.njh_keeper.specs.Opened.{AllAreBack, AreBack, IsRefused, hub_opened, is_name_of, is_own, own, own_files}
-use Rattle.njh_keeper.specs.Opened.{part_opened, whole_fault, with_whole}
-use Rattle.njh_keeper.specs.code.Restoring.{NoneFails, hub_fault, hub_with, hub_with_all, number_from, number_of}
-use Rattle.njh_keeper.specs.declared.fault.FileFault.{FileFault}
+use Rattle.njh_keeper.proofs.Words
+use Words.{◌≡◌, ◌≢◌, ℕ, ◌+◌, ◌<◌, ◌≤◌, Bool, true, false, cond, List, [], ◌∷◌, ◌++◌, length, map, get_or, slice_set}
+use Words.{bytes_eq, Option, Some, None, Result, Ok, Err, refl, sym, ap, subst, ◌∙◌, nat_lt, arith, cases_lt, lt-ltb}
+use Words.{get_or-map, get_or-set_same, get_or-set_other, length-map, length-set, bytes_eq-Decides, fold, NameFault}
+use Words.{name_of_text, SpoolContents, Whole, kept, AreDistinct, NamedCustomer, TableFile, customer_at, no_customer}
+use Words.{Part, no_part, part, part_at_open, NoneFails, hub_fault, hub_with, hub_with_all, number_from, number_of}
+use Words.{FileFault, AllAreBack, AreBack, hub_opened, is_name_of, is_own, own_files, part_opened, whole_fault}
+use Words.{with_whole}
+use Rattle.std.proofs.{Common.{⊎_elim, eqb}, lemmas.{Bool.Decides.eqb_tells, Iterator.Adapters.position_from-zero}}
+use Rattle.std.proofs.lemmas.List.{ext_get_or, Quantifiers.position-Some, Sums.{fails_before_first, fold-append}}
+use Rattle.{std.specs.List.position_or_len, njh_table.specs.TableFile.entry_of, njh_keeper.specs.Opened.IsRefused}
+use Rattle.njh_keeper.specs.Opened.{own}
 
 -- ---- a text is one name at most
 
@@ -50,8 +40,7 @@ number_missing names text e k there =
     let test : List ℕ → Bool = λ name. is_name_of text name in
     let at = position_or_len test names in
     let none : cond (nat_lt at (length names)) (Some at) None ≡ None = position_from-zero test names ∙ e in
-    fails_before_first test names k []
-    (⊎_elim (λ (less : at < length names).
+    fails_before_first test names k [] (⊎_elim (λ (less : at < length names).
     absurd (let never = sym (ap (λ b. cond b (Some at) None) (lt-ltb at (length names) less)) ∙ none in cc never))
     (λ (high : length names ≤ at). omega (arith, there, high)) (cases_lt at (length names)))
 
@@ -61,8 +50,7 @@ pub no_number : (n : ℕ) (names : List (List ℕ)) (text : List ℕ) (fault : N
 no_number n [] text fault is = refl
 no_number n (name ∷ names) text fault is =
     let other : is_name_of text name ≡ false =
-    ap (λ (r : Result (List ℕ) NameFault). elim r as (λ _. Bool) [ Ok read ↦ bytes_eq read name | Err f ↦ false ])
-    is in
+    ap (λ (r : Result (List ℕ) NameFault). elim r as (λ _. Bool) [ Ok read ↦ bytes_eq read name | Err f ↦ false ]) is in
     ap (λ (b : Bool). cond b (Some n) (number_from (n + 1) names text)) other ∙ no_number (n + 1) names text fault is
 
 -- ---- the customers are apart
@@ -74,13 +62,11 @@ pub apart : (names : List (List ℕ)) → AreDistinct names → Apart names
 apart names distinct i j low high same =
     ⊎_elim (λ (w : i < j). absurd (distinct i j [] w high same))
     (λ (w : j ≤ i). ⊎_elim (λ (v : j < i). absurd (distinct j i [] v low (sym same)))
-    (λ (v : i ≤ j). omega (arith, w, v)) (cases_lt j i))
-    (cases_lt i j)
+    (λ (v : i ≤ j). omega (arith, w, v)) (cases_lt j i)) (cases_lt i j)
 
 -- the name of which a text is is that of the customer of the number
 pub own_number : (names : List (List ℕ)) (text : List ℕ) (c : ℕ) → Apart names → c < length names
-    → is_name_of text (get_or names c []) ≡ true
-    → number_of names text ≡ Some c
+    → is_name_of text (get_or names c []) ≡ true → number_of names text ≡ Some c
 own_number names text c distinct there is = split (number_of names text) refl
   where
     split : (o : Option ℕ) → number_of names text ≡ o → number_of names text ≡ Some c
@@ -111,30 +97,25 @@ module _ (names : List (List ℕ)) (distinct : Apart names) (c : ℕ) (there : c
     where
       other : (d : ℕ) → number_of names w.file.customer ≡ Some d → c ≢ d → (b : Bool) → is_own name w.file ≡ b
           → is_own name w.file ≡ false
-      other d e apart true is = absurd (apart
-          (let same : ◌≡◌ {A = Option ℕ} (Some d) (Some c) = sym e
+      other d e apart true is = absurd (apart (let same : ◌≡◌ {A = Option ℕ} (Some d) (Some c) = sym e
           ∙ own_number names w.file.customer c distinct there is in cc))
       other d e apart false is = is
 
-      split : (o : Option ℕ) → number_of names w.file.customer ≡ o
-          → part c (elim o as (λ _. List Part)
+      split : (o : Option ℕ) → number_of names w.file.customer ≡ o → part c (elim o as (λ _. List Part)
           [ None ↦ parts | Some d ↦ slice_set parts d (with_whole (part d parts) w) ])
           ≡ cond (is_own name w.file) (with_whole (part c parts) w) (part c parts)
       split None e = ap (λ (b : Bool). cond b (with_whole (part c parts) w) (part c parts))
           (sym (number_missing names w.file.customer e c there))
-      split (Some d) e = ⊎_elim
-          (λ (v : (eqb c d ≡ true) × (c ≡ d)).
+      split (Some d) e = ⊎_elim (λ (v : (eqb c d ≡ true) × (c ≡ d)).
           let is : is_own name w.file ≡ true =
           subst (λ (k : ℕ). is_name_of w.file.customer (get_or names k []) ≡ true) (sym v.1)
           (found names w.file.customer d e).1 in
           ap (λ (k : ℕ). part c (slice_set parts k (with_whole (part k parts) w))) (sym v.1)
           ∙ get_or-set_same parts c (with_whole (part c parts) w) no_part (omega (arith, there, count))
           ∙ ap (λ (b : Bool). cond b (with_whole (part c parts) w) (part c parts)) (sym is))
-          (λ (v : (eqb c d ≡ false) × (c ≢ d)).
-          get_or-set_other parts d c (with_whole (part d parts) w) no_part v.1
+          (λ (v : (eqb c d ≡ false) × (c ≢ d)). get_or-set_other parts d c (with_whole (part d parts) w) no_part v.1
           ∙ ap (λ (b : Bool). cond b (with_whole (part c parts) w) (part c parts))
-          (sym (other d e v.1 (is_own name w.file) refl)))
-          (eqb_tells c d)
+          (sym (other d e v.1 (is_own name w.file) refl))) (eqb_tells c d)
 
   -- ---- all files
 
@@ -152,8 +133,7 @@ module _ (names : List (List ℕ)) (distinct : Apart names) (c : ℕ) (there : c
       ∙ with_own (is_own name w.file) (part c parts) w (own name ws)
 
   back_own : (b : Bool) (p : Part) (w : Whole) (ws : List Whole) → (b ≡ true → whole_fault p w ≡ None)
-      → AreBack (cond b (with_whole p w) p) ws
-      → AreBack p (cond b (w ∷ ws) ws)
+      → AreBack (cond b (with_whole p w) p) ws → AreBack p (cond b (w ∷ ws) ws)
   back_own true p w ws none rest = (none refl, rest)
   back_own false p w ws none rest = rest
 
@@ -215,8 +195,7 @@ module _ (table : TableFile) (distinct : AreDistinct (map (λ c. c.name) table.c
     pub part_all : (ws : List Whole) → part c (hub_with_all names start ws) ≡ part_opened
         (entry_of (customer_at table c)) (own (customer_at table c).name ws)
     part_all ws =
-        all names (apart names distinct) c low ws start count
-        ∙ (λ i. fold with_whole (start_is i) (own (name_is i) ws))
+        all names (apart names distinct) c low ws start count ∙ (λ i. fold with_whole (start_is i) (own (name_is i) ws))
 
     pub back_all : (ws : List Whole) → NoneFails names start ws
         → AreBack (part_at_open (entry_of (customer_at table c))) (own (customer_at table c).name ws)
@@ -246,8 +225,7 @@ module _ (table : TableFile) (distinct : AreDistinct (map (λ c. c.name) table.c
       → hub_fault names (hub_with_all names start before) w ≡ Some fault → IsRefused table spool w fault
   refused spool before after w fault is none why = split (number_of names w.file.customer) refl why
     where
-      split : (o : Option ℕ) → number_of names w.file.customer ≡ o
-          → (elim o as (λ _. Option FileFault)
+      split : (o : Option ℕ) → number_of names w.file.customer ≡ o → (elim o as (λ _. Option FileFault)
           [ None ↦ None | Some c ↦ whole_fault (part c (hub_with_all names start before)) w ]) ≡ Some fault
           → IsRefused table spool w fault
       split None e told = absurd (cc told)
@@ -269,13 +247,11 @@ module _ (table : TableFile) (distinct : AreDistinct (map (λ c. c.name) table.c
 -- ---- a customer's part
 
 pub own_decide : (table other : TableFile) (spool others : SpoolContents) (c d : ℕ) → c < length table.customers
-    → d < length other.customers
-    → entry_of (customer_at table c) ≡ entry_of (customer_at other d)
+    → d < length other.customers → entry_of (customer_at table c) ≡ entry_of (customer_at other d)
     → own_files (customer_at table c).name spool ≡ own_files (customer_at other d).name others
     → part c (hub_opened table spool) ≡ part d (hub_opened other others)
 own_decide table other spool others c d there is_there entries files =
     get_or-map (λ (x : NamedCustomer). part_opened (entry_of x) (own_files x.name spool)) table.customers c no_customer
-    no_part there
-    ∙ (λ i. part_opened (entries i) (files i))
+    no_part there ∙ (λ i. part_opened (entries i) (files i))
     ∙ sym (get_or-map (λ (x : NamedCustomer). part_opened (entry_of x) (own_files x.name others)) other.customers d
     no_customer no_part is_there)

@@ -1,24 +1,13 @@
 -- A customer's lines where none is up: they are those of a customer that was just opened, but for what isn't compared.
-use Rattle.std.proofs.Common.{◌≡◌, ℕ, zero, suc, ◌<◌, false, List, [], ◌∷◌, length, map, get_or, replicate, refl, sym}
-use Rattle.std.proofs.Common.{ap}
-use Rattle.std.proofs.Common.{subst, ◌∙◌, arith}
-use Rattle.std.specs.List.{AllZip}
-use Rattle.std.proofs.lemmas.List.{get_or-map, get_or_default}
-use Rattle.std.proofs.lemmas.Simd.{map-map}
-use Rattle.njh_bisync.specs.Reading.{Rest, Nothing}
-use Rattle.njh_line.specs.Laws.{is_up}
-use Rattle.njh_line.specs.Sessions.{fresh}
-use Rattle.njh_line.specs.declared.Phase.TheVariants.{Down}
-use Rattle.njh_line.specs.declared.config.Config.{Config}
+use Rattle.njh_keeper.proofs.Words
+use Words.{◌≡◌, ℕ, zero, suc, ◌<◌, false, List, [], ◌∷◌, length, map, get_or, replicate, refl, sym, ap, subst, ◌∙◌}
+use Words.{arith, get_or-map, get_or_default, map-map, AllZip, Nothing, CustomerEntry, LineEntry, Down, is_up, fresh}
+use Words.{CustomerLine, config_of, idle_line, line_at, no_customer_line, IsIdle, phase_of, rest_at, bare}
+use Rattle.{njh_bisync.specs.Reading.Rest, njh_table.specs.declared.Role.TheVariants.Answer}
+use Rattle.{njh_line.specs.declared.config.Config.Config, njh_customer.specs.Customer.sender_at}
+use Rattle.njh_keeper.proofs.OpeningSettled.{zip_by_place}
 use Rattle.njh_stream.specs.declared.receiver.Receiver.TheVariants as receiver
 use Rattle.njh_stream.specs.declared.sender.Sender.TheVariants as sender
-use Rattle.njh_table.specs.Entries.{CustomerEntry, LineEntry}
-use Rattle.njh_table.specs.declared.Role.TheVariants.{Answer}
-use Rattle.njh_customer.specs.Customer.{CustomerLine, config_of, idle_line, line_at, no_customer_line, sender_at}
-use Rattle.njh_customer.specs.InOrder.{IsIdle, phase_of}
-use Rattle.njh_customer.specs.Part.{rest_at}
-use Rattle.njh_keeper.specs.LinesLost.{bare}
-use Rattle.njh_keeper.proofs.OpeningSettled.{zip_by_place}
 
 -- a list of so many that holds one thing alone
 all_copies : {A : Type 0} (n : ℕ) (a : A) (xs : List A) → length xs ≡ n → ((k : ℕ) → get_or xs k a ≡ a)
@@ -36,8 +25,7 @@ pub same_rests : (rs ss : List Rest) → length rs ≡ length ss → ((l : ℕ) 
 same_rests rs ss same none other =
     all_copies (length ss) Nothing rs same none ∙ sym (all_copies (length ss) Nothing ss refl other)
 
-pub rest_past : (rests : List Rest) (l : ℕ) → (l < length rests → rest_at l rests ≡ Nothing)
-    → rest_at l rests ≡ Nothing
+pub rest_past : (rests : List Rest) (l : ℕ) → (l < length rests → rest_at l rests ≡ Nothing) → rest_at l rests ≡ Nothing
 rest_past [] l there = refl
 rest_past (r ∷ rs) zero there = there (omega arith)
 rest_past (r ∷ rs) (suc l) there = rest_past rs l (λ h. there (omega (arith, h)))
@@ -144,8 +132,6 @@ module _ (xs : List CustomerLine) (lines : List LineEntry) (long : length xs ≡
     pub bare_lines : map bare xs ≡ map bare (map (opened_line entry) lines)
     bare_lines = same_maps bare (λ (line : LineEntry). bare (opened_line entry line)) xs lines
         (zip_by_place (λ (x : CustomerLine) (line : LineEntry). bare x ≡ bare (opened_line entry line)) xs lines no_line
-        long
-        (λ l x low is. subst (λ (y : CustomerLine). bare y ≡ bare (opened_line entry (get_or lines l no_line)))
+        long (λ l x low is. subst (λ (y : CustomerLine). bare y ≡ bare (opened_line entry (get_or lines l no_line)))
         (at_line l x low is) (bare_of (config_of entry (get_or lines l no_line)) (get_or lines l no_line).streams
-        (line_at l xs) (like l low))))
-        ∙ sym (map-map bare (opened_line entry) lines)
+        (line_at l xs) (like l low)))) ∙ sym (map-map bare (opened_line entry) lines)

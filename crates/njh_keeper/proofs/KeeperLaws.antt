@@ -1,14 +1,8 @@
 -- What a crash may leave of the customers' whole files.
-use Rattle.std.proofs.Common.{◌≡◌, ◌⊎◌, inl, inr, List, ap, subst, ◌∙◌, arith}
-use Rattle.sqlite.specs.State.{Survives}
-use Rattle.sqlite.specs.Store.{Ghosts}
-use Rattle.sqlite.specs.Tree.{Trees}
-use Rattle.njh_spool.specs.Restoring.{KeptFile}
-use Rattle.njh_spoolfile.specs.Kept.{Holds, SpoolContents}
-use Rattle.njh_spoolfile.specs.Shelf.{shown}
-use Rattle.njh_spoolfile.specs.CommitState.{CommitState, Stands}
-use Rattle.njh_keeper.specs.Keeper.{Keeping, MayLeave, left_in}
-use Rattle.njh_keeper.proofs.OneSpool.{one_spool}
+use Rattle.{std.proofs.Common.{◌≡◌, ◌⊎◌, inl, inr, List, ap, subst, ◌∙◌, arith}, sqlite.specs.State.Survives}
+use Rattle.{sqlite.specs.{Store.Ghosts, Tree.Trees}, njh_spoolfile.specs.CommitState.{CommitState, Stands}}
+use Rattle.{njh_spoolfile.specs.{Kept.{Holds, SpoolContents}, Shelf.shown}, njh_spool.specs.Restoring.KeptFile}
+use Rattle.njh_keeper.{proofs.OneSpool.one_spool, specs.Keeper.{Keeping, MayLeave, left_in}}
 
 module _ {S : Type 0} (g : Ghosts S) where
   -- only what was committed
@@ -17,9 +11,7 @@ module _ {S : Type 0} (g : Ghosts S) where
       → ((trees : Trees) → (shown g keeper.store).may_leave trees → trees ≡ (shown g keeper.store).committed.trees)
       → MayLeave g keeper left → left ≡ left_in keeper.names s.kept
   committed_is_left keeper s left stands only m =
-      m.is
-      ∙ ap (left_in keeper.names)
-      (one_spool m.spool s.kept (shown g keeper.store).committed.trees
+      m.is ∙ ap (left_in keeper.names) (one_spool m.spool s.kept (shown g keeper.store).committed.trees
       (subst (Holds m.spool) (only m.trees m.may) m.holds) stands.kept)
 
   module _ (old new : Keeping S) (names : new.names ≡ old.names) where

@@ -1,9 +1,7 @@
 -- How often a number is a key.
 use Rattle.std.proofs.Common.{◌≡◌, ◌≢◌, ℕ, zero, suc, ◌+◌, ◌<◌, ◌≤◌, ◌==◌, Bool, true, false, List, [], ◌∷◌, ◌++◌}
-use Rattle.std.proofs.Common.{length, get_or, map, set, remove, refl, ap, ◌∙◌, arith}
-use Rattle.std.specs.List.{AllByRecursion}
-use Rattle.njh_keeper.specs.code.Remembered.{keyed, one_if}
-use Rattle.njh_keeper.proofs.NumberedLaws.{equal}
+use Rattle.std.{proofs.Common.{length, get_or, map, set, remove, refl, ap, ◌∙◌, arith}, specs.List.AllByRecursion}
+use Rattle.njh_keeper.{proofs.NumberedLaws.equal, specs.code.Remembered.{keyed, one_if}}
 
 pub one_itself : (n : ℕ) → one_if (n == n) ≡ 1
 one_itself n = ap one_if (equal n)

@@ -1,34 +1,19 @@
 -- What the keeper of a spool file knows of a hub's files: it goes on to know them step by step, and leaves them.
-use Rattle.std.proofs.Common.{◌≡◌, ℕ, ◌<◌, ◌≤◌, List, ◌++◌, length, get_or, set, map, take, sym, subst, arith}
-use Rattle.std.specs.Prelude.{⊤}
-use Rattle.std.proofs.lemmas.List.{length-take-le, take-take}
-use Rattle.njh_record.specs.Stored.{Stored}
-use Rattle.njh_spool.specs.CustomerSpool.{CustomerSpool, partial_records}
-use Rattle.njh_turns.specs.Keeping.{kept_file}
-use Rattle.njh_spoolfile.specs.Kept.{SpoolContents, records_of}
-use Rattle.njh_keeper.specs.Keeper.{left_in}
-use Rattle.njh_keeper.specs.code.Alike.{AreAlike}
-use Rattle.njh_keeper.specs.code.Mirrored.{HasRecords}
-use Rattle.njh_keeper.specs.code.Knowing.{AreNamedApart, HasSpool, Knows}
-use Rattle.njh_keeper.specs.code.Partly.{AllUpToDate, Goes, GoesOn, IsUpToDate}
-use Rattle.njh_keeper.specs.code.Remembered.{IsPartlyKept, KeptPartial, Mirrored, Moves, Numbers, OwnFiles, claim}
-use Rattle.njh_keeper.specs.code.Remembered.{keyed}
-use Rattle.njh_keeper.proofs.CustomerLaws.{IsApartFrom, all_still_apart, others_apart}
-use Rattle.njh_keeper.proofs.FinishLaws.{front_alike}
-use Rattle.njh_keeper.proofs.KeyLaws.{each_counts}
-use Rattle.njh_keeper.proofs.LeftLaws.{left_of_parts}
-use Rattle.njh_keeper.proofs.MirrorLaws.{all_of, mirrored_of_another}
-use Rattle.njh_keeper.proofs.NumberedLaws.{all_weaker}
-use Rattle.njh_keeper.proofs.PartialLaws.{all_zip_changes, partly_kept_of_more}
-use Rattle.njh_keeper.proofs.PartlyLaws.{still_all}
-use Rattle.njh_keeper.proofs.ZipLaws.{all_zip_weaker}
+use Rattle.njh_keeper.proofs.Words
+use Words.{◌≡◌, ℕ, ◌<◌, ◌≤◌, List, ◌++◌, length, get_or, set, map, take, sym, subst, arith, length-take-le, take-take}
+use Words.{⊤, Stored, SpoolContents, records_of, CustomerSpool, partial_records, kept_file, AreAlike, AreNamedApart}
+use Words.{HasSpool, Knows, HasRecords, AllUpToDate, Goes, GoesOn, IsUpToDate, IsPartlyKept, KeptPartial, Mirrored}
+use Words.{Moves, Numbers, OwnFiles, claim, keyed, left_in}
+use Rattle.njh_keeper.proofs.{CustomerLaws.{IsApartFrom, all_still_apart, others_apart}, FinishLaws.front_alike}
+use Rattle.njh_keeper.proofs.{KeyLaws.each_counts, LeftLaws.left_of_parts, ListLaws.all_zip_weaker, MirrorLaws.all_of}
+use Rattle.njh_keeper.proofs.{MirrorLaws.mirrored_of_another, NumberedLaws.all_weaker, PartialLaws.all_zip_changes}
+use Rattle.njh_keeper.proofs.{PartialLaws.partly_kept_of_more, PartlyLaws.still_all}
 
 -- ---- what it leaves
 
 -- the customers' whole files, as the hub has them
 pub known_is_left : (w : Numbers) (owns : List OwnFiles) (now : List CustomerSpool) (s : SpoolContents)
-    → Knows w owns now s
-    → left_in (map (λ own. own.name) owns) s ≡ map (λ c. map kept_file c.whole) now
+    → Knows w owns now s → left_in (map (λ own. own.name) owns) s ≡ map (λ c. map kept_file c.whole) now
 known_is_left w owns now s knows =
     left_of_parts (λ (c : CustomerSpool). c.whole) s owns now
     (all_zip_weaker (λ _. ⊤) (HasSpool s) (λ own c. Mirrored s own c.whole) (λ own c none has. has.mirrored) owns now
@@ -44,12 +29,10 @@ module _ (w w' : Numbers) (owns : List OwnFiles) (c : ℕ) (own own' : OwnFiles)
       → HasSpool s o sp → HasSpool t o sp
   of_another o sp away has = record {
     arrived = has.arrived;
-    mirrored =
-        mirrored_of_another s t o sp.whole has.mirrored (claim w own) (claim w' own') moves away.0
+    mirrored = mirrored_of_another s t o sp.whole has.mirrored (claim w own) (claim w' own') moves away.0
         (λ n. omega (arith, away.1 n));
     up_to_date = has.up_to_date;
-    go_on =
-        still_all sp s t o.partial
+    go_on = still_all sp s t o.partial
         (all_weaker (λ (p : KeptPartial). 1 ≤ keyed (λ (x : KeptPartial). x.key) p.key o.partial)
         (λ p. records_of p.key t ≡ records_of p.key s)
         (λ p least. moves.records p.key (omega (arith, away.1 p.key, least))) o.partial
@@ -63,8 +46,7 @@ module _ (w w' : Numbers) (owns : List OwnFiles) (c : ℕ) (own own' : OwnFiles)
     ordered = moves.ordered;
     below = moves.below knows.below;
     apart = all_still_apart w w' owns c own own' there is s t moves knows.apart;
-    each =
-        all_zip_changes (IsApartFrom w w' owns c own own' there is s t moves knows.apart) (HasSpool s) (HasSpool t)
+    each = all_zip_changes (IsApartFrom w w' owns c own own' there is s t moves knows.apart) (HasSpool s) (HasSpool t)
         of_another owns now c own' sp
         (others_apart w w' owns c own own' there is s t moves knows.apart (named c own there is)) knows.each has;
   }
@@ -90,8 +72,7 @@ still_goes_on before now s p grows up go_on enough =
 
 -- Where one became whole, that is so but for headers: the file may have been sent elsewhere since.
 pub front_of_whole : (before : CustomerSpool) (s : SpoolContents) (p : KeptPartial) (rs : List Stored)
-    → (1366 ≤ length rs
-    → (length (partial_records p.number before) ≤ length rs)
+    → (1366 ≤ length rs → (length (partial_records p.number before) ≤ length rs)
     × AreAlike (partial_records p.number before) (take (length (partial_records p.number before)) rs))
     → IsUpToDate before p → GoesOn before s p → p.seen ≤ length rs
     → (front : List Stored) × (length front ≡ p.written) × (p.written ≤ length rs) × HasRecords p.key front s

@@ -1,43 +1,20 @@
 -- The keeper of a spool file goes on to know a hub's files: by a customer's step, and by a commit.
-use Rattle.std.proofs.Common.{◌≡◌, ◌≢◌, ◌⊎◌, inl, inr, ℕ, zero, suc, ◌<◌, true, List, [], ◌∷◌, length, get_or}
-use Rattle.std.proofs.Common.{set, map, Result, Ok, Err, OnOk, refl, sym, ap, subst, ◌∙◌, arith}
-use Rattle.std.proofs.lemmas.List.{get_or-map, get_or-set_same, get_or_default, length-map, map-set, set-get_or}
-use Rattle.std.proofs.lemmas.Simd.{map-map}
-use Rattle.std.specs.List.{AllByRecursion, AllZip}
-use Rattle.std.specs.Prelude.{string_bytes}
-use Rattle.sqlite.specs.Effect.{Database}
-use Rattle.sqlite.specs.State.{HasCleanDisk, State}
-use Rattle.sqlite.specs.Store.{Ghosts}
-use Rattle.njh_customer.specs.Growing.{HasShortRests}
-use Rattle.njh_spool.specs.Restoring.{KeptFile}
-use Rattle.njh_spool.specs.CustomerSpool.{CustomerSpool}
-use Rattle.njh_spool.specs.Spools.{IsSound}
-use Rattle.njh_stream.specs.WholeFiles.{HaveHeaders}
-use Rattle.njh_table.specs.Accepted.{AreDistinct}
-use Rattle.njh_table.specs.TableFile.{NamedCustomer, TableFile, entry_of}
-use Rattle.njh_hub.specs.WholeHub.{Part, no_part, part}
-use Rattle.njh_turns.specs.Keeping.{IsLed, LeadsHub, LeavesEither, LeavesOnly, kept_file, kept_of}
-use Rattle.njh_spoolfile.specs.Kept.{Holds, SpoolContents, kept}
-use Rattle.njh_spoolfile.specs.Shelf.{shown}
-use Rattle.njh_spoolfile.specs.CommitState.{CommitState, Stands}
-use Rattle.njh_spoolfile.specs.Steps.{Stays}
-use Rattle.njh_keeper.specs.Opened.{AllAreBack, hub_opened, is_name_of, own_files, part_opened}
+use Rattle.njh_keeper.proofs.Words
+use Words.{◌≡◌, ◌≢◌, ◌⊎◌, inl, inr, ℕ, zero, suc, ◌<◌, true, List, [], ◌∷◌, length, get_or, set, map, Result, Ok, Err}
+use Words.{OnOk, refl, sym, ap, subst, ◌∙◌, arith, get_or-map, get_or-set_same, get_or_default, length-map, map-set}
+use Words.{set-get_or, map-map, AllByRecursion, AllZip, Database, HasCleanDisk, State, Ghosts, CommitState, Stands}
+use Words.{Holds, SpoolContents, kept, shown, Stays, AreDistinct, NamedCustomer, TableFile, CustomerSpool, KeptFile}
+use Words.{IsSound, HaveHeaders, HasShortRests, Part, no_part, part, IsLed, kept_file, kept_of, AreNamedApart, HasOwn}
+use Words.{HasSpool, IsSoundPart, Knows, LeadsStep, StepGoes, own_memory_of, own_of, AllAreFound, AllAreRead, HasBegun}
+use Words.{name_at, OwnFiles, Keeping, KnowsHub, KnowsNow, MayLeave, MayLeaveOf, left_in, AllAreBack, hub_opened}
+use Words.{is_name_of, own_files, part_opened}
+use Rattle.{std.specs.Prelude.string_bytes, njh_table.specs.TableFile.entry_of, njh_turns.specs.Keeping.LeadsHub}
+use Rattle.{njh_turns.specs.Keeping.{LeavesEither, LeavesOnly}, njh_keeper.proofs.BegunLaws.all_by_place}
+use Rattle.njh_keeper.proofs.{BegunLaws.{begun_is_known, opened_rests, others_by_place}, CustomerLaws.uses_of_one}
+use Rattle.njh_keeper.proofs.{GrowthLaws.led_rests, HubLaws.apart, KnowingLaws.{known_is_left, known_still}}
+use Rattle.njh_keeper.proofs.{ListLaws.{all-set, all_map}, NumberedLaws.all_at, OpeningFound.{all_found, all_read_from}}
+use Rattle.njh_keeper.specs.{code.Remembered.OwnMemory, Keeper.{IsKeptNow, memory_in, owns_in}}
 use Rattle.njh_keeper.specs.declared.own_files.OwnFiles as own_files_type
-use Rattle.njh_keeper.specs.Keeper.{IsKeptNow, Keeping, KnowsHub, KnowsNow, MayLeave, MayLeaveOf, left_in, memory_in}
-use Rattle.njh_keeper.specs.Keeper.{owns_in}
-use Rattle.njh_keeper.specs.code.Knowing.{AreNamedApart, HasOwn, HasSpool, IsSoundPart, Knows, LeadsStep, StepGoes}
-use Rattle.njh_keeper.specs.code.Memory.{own_memory_of, own_of}
-use Rattle.njh_keeper.specs.code.Opening.{AllAreFound, AllAreRead, HasBegun, name_at}
-use Rattle.njh_keeper.specs.code.Remembered.{OwnFiles, OwnMemory}
-use Rattle.njh_keeper.proofs.BegunLaws.{all_by_place, begun_is_known, opened_rests, others_by_place}
-use Rattle.njh_keeper.proofs.CustomerLaws.{uses_of_one}
-use Rattle.njh_keeper.proofs.FollowingLaws.{all-set}
-use Rattle.njh_keeper.proofs.GrowthLaws.{led_rests}
-use Rattle.njh_keeper.proofs.HubLaws.{apart}
-use Rattle.njh_keeper.proofs.KnowingLaws.{known_is_left, known_still}
-use Rattle.njh_keeper.proofs.NumberedLaws.{all_at}
-use Rattle.njh_keeper.proofs.OpeningFound.{all_found, all_read_from}
-use Rattle.njh_keeper.proofs.PartlyLaws.{all_map}
 
 -- ---- what it leaves
 
@@ -82,8 +59,7 @@ pub either_leaves : {S : Type 0} (g : Ghosts S) (found : SpoolContents → Type 
     (before parts : List Part) → (HasCleanDisk (shown g new.store) → HasCleanDisk (shown g old.store))
     → ((left : List (List KeptFile)) → MayLeave g new left
     → MayLeave g old left ⊎ ((now : SpoolContents) → Holds now (shown g old.store).now.trees
-    → left ≡ left_in old.names now))
-    → LeavesOnly (MayLeaveOf g found old) before → KnowsHub g found old parts
+    → left ≡ left_in old.names now)) → LeavesOnly (MayLeaveOf g found old) before → KnowsHub g found old parts
     → LeavesEither (MayLeaveOf g found new) before parts
 either_leaves g found old new before parts early crash only knows left m = elim (crash left m.0) [
   | inl may ↦ inl (only left (may, m.1))
@@ -129,16 +105,12 @@ begun_known g new names hub owns t customers names_is each begun stands distinct
   names = names_is ∙ sym each ∙ sym (names_in owns)
       ∙ sym (ap (λ ms. map (λ (own : OwnFiles). own.name) (map (λ (m : OwnMemory). m.own) ms)) customers);
   distinct = subst AreDistinct (sym names_is) distinct;
-  texts =
-      subst (AllByRecursion (λ (m : OwnMemory). is_name_of m.text m.own.name ≡ true)) (sym customers)
+  texts = subst (AllByRecursion (λ (m : OwnMemory). is_name_of m.text m.own.name ≡ true)) (sym customers)
       (all_map (λ (m : OwnMemory). is_name_of m.text m.own.name ≡ true) own_memory_of owns texts);
-  knows =
-      subst (λ ms. Knows new.numbers (map (λ (m : OwnMemory). m.own) ms) (spools_of hub) t) (sym customers)
+  knows = subst (λ ms. Knows new.numbers (map (λ (m : OwnMemory). m.own) ms) (spools_of hub) t) (sym customers)
       (subst (λ os. Knows new.numbers os (spools_of hub) t) (sym (owns_are owns))
       (begun_is_known names hub (map own_of owns) new.numbers t begun distinct long).0);
-  sound =
-      all_by_place IsSoundPart hub
-      (λ c p low is.
+  sound = all_by_place IsSoundPart hub (λ c p low is.
       let here : part c hub ≡ p = get_or_default hub c no_part p low ∙ sym is in
       let one = sound c (omega (arith, low, long)) in
       record {
@@ -204,8 +176,7 @@ named_apart owns distinct c own there is =
     let name_is : (i : ℕ) (o : OwnFiles) → i < length owns → o ≡ get_or owns i o → o.name ≡ name_at names i =
     (λ i o low at. at_place (λ (x : OwnFiles). x.name) owns i o low at
     ∙ get_or_default names i o.name [] (omega (arith, low, long))) in
-    others_by_place (λ o. o.name ≢ own.name) owns c
-    (λ i o low at other same.
+    others_by_place (λ o. o.name ≢ own.name) owns c (λ i o low at other same.
     other (apart names distinct i c (omega (arith, low, long)) (omega (arith, there, long))
     (sym (name_is i o low at) ∙ same ∙ name_is c own there is)))
 
@@ -250,8 +221,7 @@ module _ {S : Type 0} (g : Ghosts S) (old new : Keeping S) (before : List Part) 
     named = all_at (λ (x : OwnMemory). is_name_of x.text x.own.name ≡ true) old.customers c m k.texts there is;
     has =
         all_zip_at (HasSpool k.standing.now) owns (spools_of before) c m.own (part c before).customer.spool k.knows.each
-        within here
-        (at_place (λ (p : Part). p.customer.spool) before c (part c before) in_hub part_is);
+        within here (at_place (λ (p : Part). p.customer.spool) before c (part c before) in_hub part_is);
   }
 
   apart_by_name : AreNamedApart owns
@@ -288,8 +258,7 @@ module _ {S : Type 0} (g : Ghosts S) (old new : Keeping S) (before : List Part) 
     kept_same same =
         sym (set_same (kept_of before) c (map kept_file now.customer.spool.whole)
         (sym same ∙ at_place (λ (p : Part). map kept_file p.customer.spool.whole) before c (part c before) in_hub
-        part_is
-        ∙ get_or_default (kept_of before) c (map kept_file (part c before).customer.spool.whole)
+        part_is ∙ get_or_default (kept_of before) c (map kept_file (part c before).customer.spool.whole)
         (map kept_file now.customer.spool.whole)
         (omega (arith, in_hub, length-map before (λ (p : Part). map kept_file p.customer.spool.whole)))))
         ∙ sym (map-set (λ (p : Part). map kept_file p.customer.spool.whole) before c now)
@@ -310,8 +279,7 @@ module _ {S : Type 0} (g : Ghosts S) (old new : Keeping S) (before : List Part) 
           ∙ kept_same still.1 ∙ sym left_new;
       names = names ∙ k.names ∙ sym names_new;
       distinct = subst AreDistinct (sym names) k.distinct;
-      texts =
-          subst (AllByRecursion (λ (x : OwnMemory). is_name_of x.text x.own.name ≡ true)) (sym customers)
+      texts = subst (AllByRecursion (λ (x : OwnMemory). is_name_of x.text x.own.name ≡ true)) (sym customers)
           (all-set (λ (x : OwnMemory). is_name_of x.text x.own.name ≡ true) old.customers c m2 k.texts goes.named);
       knows = knows_new;
       sound = all-set IsSoundPart before c now k.sound sound;
@@ -335,15 +303,13 @@ known_after g old new before hub c k leads sound headers m m2 there is customers
     let many = length-map old.customers (λ (x : OwnMemory). x.own) in
     let in_hub : c < length before = omega (arith, there, zip, long, many) in
     let now : part c hub ≡ after = ap (part c) leads.2 ∙ get_or-set_same before c after no_part in_hub in
-    let was : IsSoundPart (part c before) =
-    all_at IsSoundPart before c (part c before) k.sound in_hub
+    let was : IsSoundPart (part c before) = all_at IsSoundPart before c (part c before) k.sound in_hub
     (get_or_default before c no_part (part c before) in_hub) in
     let by : IsSoundPart after = record {
       sound = subst (λ (p : Part). IsSound p.customer.spool) now sound;
       headers = subst (λ (p : Part). HaveHeaders p.customer.spool.whole) now headers;
       rests = led_rests (part c before) after leads.1 was.rests;
     } in
-    subst (KnowsNow g new) (sym leads.2)
-    (known_set g old new before c after k leads.1 by m m2 there is customers names
+    subst (KnowsNow g new) (sym leads.2) (known_set g old new before c after k leads.1 by m m2 there is customers names
     (subst (λ (p : Part). LeadsStep (memory_in old m) (memory_in new m2) old.is_changed new.is_changed p
     (shown g old.store) (shown g new.store)) now step))

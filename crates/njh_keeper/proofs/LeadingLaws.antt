@@ -1,22 +1,17 @@
 -- Calls of the keeper one after the other.
-use Rattle.std.proofs.Common.{◌≡◌, inl, refl, sym, subst, arith}
-use Rattle.sqlite.specs.State.{State, Survives}
-use Rattle.sqlite.proofs.StateLemmas.{survives_then}
-use Rattle.sqlite_trees.specs.Tree.{Trees}
-use Rattle.njh_spoolfile.specs.Kept.{Holds, SpoolContents}
-use Rattle.njh_spoolfile.specs.Steps.{Changes}
-use Rattle.njh_keeper.specs.code.Leading.{Leads}
+use Rattle.{std.proofs.Common.{◌≡◌, inl, refl, sym, subst, arith}, sqlite.proofs.StateLemmas.survives_then}
+use Rattle.{sqlite.specs.State.{HasCleanDisk, State, Survives}, sqlite_trees.specs.Tree.Trees}
+use Rattle.{njh_spoolfile.specs.{Kept.{Holds, SpoolContents}, Steps.Changes}, njh_keeper.specs.code.Leading.Leads}
 
 -- a call that leaves the spool file as it is
-pub leads_nothing : (P : SpoolContents → SpoolContents → Type 0) (at : State) → ((s : SpoolContents) → P s s)
+pub leads_nothing : {P : SpoolContents → SpoolContents → Type 0} {at : State} → ((s : SpoolContents) → P s s)
     → Leads P at at
-leads_nothing P at holds = record { leads = λ s stands. (s.now, stands, holds s.now) }
+leads_nothing holds = record { leads = λ s stands. (s.now, stands, holds s.now) }
 
 -- one more step
-pub leads_then : (P Q R : SpoolContents → SpoolContents → Type 0) (old mid new : State) → Leads P old mid
-    → Leads Q mid new
-    → ((s t u : SpoolContents) → P s t → Q t u → R s u) → Leads R old new
-leads_then P Q R old mid new one more both = record {
+pub leads_then : {P Q R : SpoolContents → SpoolContents → Type 0} {old mid new : State} → Leads P old mid
+    → Leads Q mid new → ((s t u : SpoolContents) → P s t → Q t u → R s u) → Leads R old new
+leads_then one more both = record {
   leads = λ s stands.
       let first = one.leads s stands in
       let next = more.leads (record s { now = first.0 }) first.1 in
@@ -24,16 +19,16 @@ leads_then P Q R old mid new one more both = record {
 }
 
 -- what it comes to says less
-pub leads_weaker : (P Q : SpoolContents → SpoolContents → Type 0) (old new : State)
-    → ((s t : SpoolContents) → P s t → Q s t) → Leads P old new → Leads Q old new
-leads_weaker P Q old new less one = record {
+pub leads_weaker : {P Q : SpoolContents → SpoolContents → Type 0} {old new : State} → Leads P old new
+    → ((s t : SpoolContents) → P s t → Q s t) → Leads Q old new
+leads_weaker one less = record {
   leads = λ s stands. let first = one.leads s stands in (first.0, first.1, less s.now first.0 first.2);
 }
 
 -- a call of the store
-pub leads_by : (change : SpoolContents → SpoolContents) (old new : State) → Changes change old new
+pub leads_by : {change : SpoolContents → SpoolContents} {old new : State} → Changes change old new
     → Leads (λ s t. t ≡ change s) old new
-leads_by change old new by = record {
+leads_by {change} by = record {
   leads = λ s stands. (
     change s.now,
     record {
@@ -57,14 +52,18 @@ survives_here at P = record {
   crash = λ clean db h. inl h;
 }
 
+-- a disk that is clean after a call was clean before it
+pub clean_before : {old new : State} {P : Trees → Type 0} → Survives old new P → HasCleanDisk new → HasCleanDisk old
+clean_before call clean = omega (arith, call.clean, clean)
+
 -- neither of two calls commits
-pub survives_both : (old mid new : State) → Survives old mid (λ _. ⊥) → Survives mid new (λ _. ⊥)
+pub survives_both : {old mid new : State} → Survives old mid (λ _. ⊥) → Survives mid new (λ _. ⊥)
     → Survives old new (λ _. ⊥)
-survives_both old mid new one more = survives_then old mid new (λ _. ⊥) (λ _. ⊥) (λ _. ⊥) (λ clean db none. none)
-    (λ clean db none. none) one more
+survives_both {old} {mid} {new} = survives_then old mid new (λ _. ⊥) (λ _. ⊥) (λ _. ⊥) (λ clean db none. none)
+    (λ clean db none. none)
 
 -- of two calls, whatever they commit
-pub survives_any : (old mid new : State) (P Q : Trees → Type 0) → Survives old mid P → Survives mid new Q
+pub survives_any : {old mid new : State} {P Q : Trees → Type 0} → Survives old mid P → Survives mid new Q
     → Survives old new (λ _. Unit {0})
-survives_any old mid new P Q one more = survives_then old mid new P Q (λ _. Unit {0}) (λ clean db may. tt)
-    (λ clean db may. tt) one more
+survives_any {old} {mid} {new} {P} {Q} = survives_then old mid new P Q (λ _. Unit {0}) (λ clean db may. tt)
+    (λ clean db may. tt)

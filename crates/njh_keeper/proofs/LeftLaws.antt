@@ -1,19 +1,10 @@
 -- What a spool file that has a hub's whole files leaves of them.
-use Rattle.std.proofs.Common.{◌≡◌, ℕ, List, [], ◌∷◌, length, get_or, drop, map, Option, Some, refl, sym, ap, subst, ◌∙◌}
-use Rattle.std.proofs.Common.{arith}
-use Rattle.std.specs.List.{AllZip, filter_map}
-use Rattle.std.proofs.lemmas.List.Elements.{All-from_recursion}
-use Rattle.njh_record.specs.declared.Kind.{Kind}
-use Rattle.njh_record.specs.declared.Kind.TheVariants.{In, Out}
-use Rattle.njh_spool.specs.CustomerSpool.{WholeFile}
-use Rattle.njh_spoolfile.specs.Kept.{File, SpoolContents, Whole, contents, records_of}
-use Rattle.njh_keeper.specs.Opened.{file_in, kind_of_word, kind_word, own_files}
-use Rattle.njh_keeper.specs.code.Mirrored.{FitsHub, ReadsAs, own_rows}
-use Rattle.njh_turns.specs.Keeping.{kept_file}
-use Rattle.njh_keeper.specs.Keeper.{left_in}
-use Rattle.njh_keeper.specs.code.Remembered.{AllBeside, none_beside, one_beside, IsKept, KeptWhole, Mirrored, OwnFiles}
-use Rattle.njh_keeper.proofs.OwnFileLaws.{own_files_read_back}
-use Rattle.njh_keeper.proofs.RecordLaws.{file_reads_back}
+use Rattle.njh_keeper.proofs.Words
+use Words.{◌≡◌, ℕ, List, [], ◌∷◌, length, get_or, drop, map, Option, Some, refl, sym, ap, subst, ◌∙◌, arith}
+use Words.{All-from_recursion, AllZip, filter_map, Kind, In, Out, File, SpoolContents, Whole, contents, records_of}
+use Words.{WholeFile, kept_file, FitsHub, ReadsAs, own_rows, AllBeside, none_beside, one_beside, IsKept, KeptWhole}
+use Words.{Mirrored, OwnFiles, left_in, file_in, kind_of_word, kind_word, own_files}
+use Rattle.njh_keeper.proofs.{OwnFileLaws.own_files_read_back, RecordLaws.file_reads_back}
 
 word_back : (kind : Kind) → kind_of_word (kind_word kind) ≡ Some kind
 word_back In = refl

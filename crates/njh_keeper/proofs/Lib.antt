@@ -1,3 +1,4 @@
+pub mod Words
 pub mod HubLaws
 pub mod FileLaws
 pub mod BackLaws
@@ -14,7 +15,7 @@ pub mod RowLaws
 pub mod RecordLaws
 pub mod OneSpool
 pub mod OwnFileLaws
-pub mod ZipLaws
+pub mod ListLaws
 pub mod WritingLaws
 pub mod FrameLaws
 pub mod BesideLaws

@@ -1,60 +1,28 @@
 -- A customer of a hub that is opened again has what the customer alone would have after the loss of all its lines.
-use Rattle.std.proofs.Common.{◌≡◌, ℕ, ◌+◌, ◌<◌, ◌≤◌, Bool, true, false}
-use Rattle.std.proofs.Common.{List, [], ◌∷◌}
-use Rattle.std.proofs.Common.{length, map, Option, Some, None, Ok, Err}
-use Rattle.std.proofs.Common.{refl, sym, ap, subst}
-use Rattle.std.proofs.Common.{◌∙◌, arith}
-use Rattle.std.specs.List.{All, filter_map}
-use Rattle.std.proofs.Math.ListN.{get_or-map}
-use Rattle.std.proofs.lemmas.Bool.{leb-true, ltb-true}
-use Rattle.std.proofs.lemmas.List.{length-append, length-map, length-set}
-use Rattle.std.proofs.lemmas.List.Elements.{recursion_from_All}
-use Rattle.std.proofs.lemmas.List.Sums.{sum_by_push}
-use Rattle.njh_bisync.specs.Reading.{Nothing}
-use Rattle.njh_header.specs.WholeFiles.{HasHeaders}
-use Rattle.njh_line.specs.Laws.{is_up}
-use Rattle.njh_line.specs.Sessions.{fresh}
-use Rattle.njh_line.specs.declared.Phase.TheVariants.{Down}
-use Rattle.njh_spool.specs.CustomerSpool.{WholeFile, cost, used_blocks}
-use Rattle.njh_spool.specs.CustomerSpool.{with_arrived}
-use Rattle.njh_spool.specs.declared.State.TheVariants.{Sending}
+use Rattle.njh_keeper.proofs.Words
+use Words.{◌≡◌, ℕ, ◌+◌, ◌<◌, ◌≤◌, Bool, true, false, List, [], ◌∷◌, length, map, Option, Some, None, Ok, Err, refl, sym}
+use Words.{ap, subst, ◌∙◌, arith, length-map, length-set, recursion_from_All, sum_by_push, filter_map, Nothing}
+use Words.{HasHeaders, Whole, CustomerEntry, RouteEntry, entry_unmarked, next_number-fresh, WholeFile, cost}
+use Words.{used_blocks, with_arrived, Sending, KeptFile, restore_fault, state_back, Down, is_up, fresh, CustomerLine}
+use Words.{config_of, idle_line, line_at, no_customer_line, IsIdle, phase_of, entry_with, part_after_routes, outgoing}
+use Words.{rest_at, OwnSignal, part_with_file, kept_file, bare, file_at_rest, AreBack, file_in, part_opened, HasOpened}
+use Words.{as_opened, opened_of}
+use Rattle.std.{proofs.{lemmas.{Bool.{leb-true, ltb-true}, List.length-append}, Math.ListN.get_or-map}, specs.List.All}
+use Rattle.njh_table.specs.{Keys.Walked, NewRoutes.{NewRoute, routes_checked}}
+use Rattle.njh_customer.{proofs.OutgoingLaws.stream_is, specs.{Customer.{IsMarked, with_marks}, Feeding.bytes_run}}
+use Rattle.njh_customer.specs.InOrder.{HasAfterLosses, IsInOrder, IsWithinQuota, LossesLeaveFiles, StaysInOrder}
+use Rattle.njh_customer.specs.{InOrder.{after_losses, losses}, Laws.{EventsKeepEntries, EventsKeepLines, MarksAreRight}}
+use Rattle.njh_customer.specs.{NewRoutes.{routes_given, taken_where}, OutgoingFiles.sender_on, Part.Part}
+use Rattle.njh_customer.specs.{Part.{part_at_open, rest_on}, Runs.{OwnEvent, OwnBytes, OwnRoutes, alone_run, event_run}}
+use Rattle.{njh_hub.proofs.RestoredLaws.headers_by, njh_turns.specs.Keeping.kept_files}
+use Rattle.njh_keeper.proofs.{BackLaws.{fits_in, put_back, stays_so}, IdleLines.{bare_lines, marks_off, no_rests}}
+use Rattle.njh_keeper.proofs.IdleLines.{fresh_down, opened_line, rest_past, same_rests, senders_idle, set_up_by}
+use Rattle.njh_keeper.proofs.{IdleLines.set_up_of, LeftLaws.found_all, OneStepLaws.some_of, OpenedLaws.new}
+use Rattle.njh_keeper.proofs.{OpenedLaws.opened_files, RestingFiles.{AreNotSent, all_fit, kept_costs, kept_read}}
+use Rattle.njh_keeper.{proofs.RestingFiles.{lost_files, same_kept}, specs.LinesLost.{AreFilesOf, IsAtRest}}
+use Rattle.njh_keeper.specs.LinesLost.{LeftAsLinesLost, OpenedAsLinesLost, StandsAs}
 use Rattle.njh_stream.specs.Sending as sending
 use Rattle.njh_stream.specs.declared.sender.Sender.TheVariants as sender
-use Rattle.njh_spool.specs.Restoring.{KeptFile, restore_fault}
-use Rattle.njh_spool.specs.Restoring.{state_back}
-use Rattle.njh_table.specs.Entries.{CustomerEntry, RouteEntry}
-use Rattle.njh_table.specs.Marks.{entry_unmarked}
-use Rattle.njh_table.specs.Keys.{Walked}
-use Rattle.njh_table.specs.NewRoutes.{NewRoute, routes_checked}
-use Rattle.njh_customer.specs.Customer.{CustomerLine, IsMarked, config_of, idle_line, line_at, no_customer_line}
-use Rattle.njh_customer.specs.Customer.{with_marks}
-use Rattle.njh_customer.specs.Feeding.{bytes_run}
-use Rattle.njh_customer.specs.InOrder.{HasAfterLosses, IsIdle, IsInOrder, IsWithinQuota, LossesLeaveFiles, StaysInOrder}
-use Rattle.njh_customer.specs.InOrder.{after_losses}
-use Rattle.njh_customer.specs.InOrder.{losses, phase_of}
-use Rattle.njh_customer.specs.Laws.{EventsKeepEntries, EventsKeepLines, MarksAreRight}
-use Rattle.njh_customer.specs.NewRoutes.{entry_with, part_after_routes, routes_given, taken_where}
-use Rattle.njh_customer.specs.OutgoingFiles.{outgoing, sender_on}
-use Rattle.njh_customer.specs.Part.{Part, part_at_open, rest_at, rest_on}
-use Rattle.njh_customer.specs.Runs.{OwnEvent, OwnBytes, OwnSignal, OwnRoutes, alone_run, event_run}
-use Rattle.njh_spool.proofs.NumberLaws.{next_number-fresh}
-use Rattle.njh_customer.proofs.OutgoingLaws.{stream_is}
-use Rattle.njh_hub.specs.Restored.{part_with_file}
-use Rattle.njh_hub.proofs.RestoredLaws.{headers_by}
-use Rattle.njh_turns.specs.Keeping.{is_held, kept_file, kept_files}
-use Rattle.njh_spoolfile.specs.Kept.{Whole}
-use Rattle.njh_keeper.specs.LinesLost.{AreFilesOf, IsAtRest, LeftAsLinesLost, OpenedAsLinesLost, StandsAs, bare}
-use Rattle.njh_keeper.specs.LinesLost.{file_at_rest}
-use Rattle.njh_keeper.specs.Opened.{AreBack, file_in, part_opened}
-use Rattle.njh_keeper.specs.OpenedFiles.{HasOpened, as_opened, opened_of}
-use Rattle.njh_keeper.proofs.LeftLaws.{found_all}
-use Rattle.njh_keeper.proofs.OneStepLaws.{some_of}
-use Rattle.njh_keeper.proofs.OpenedLaws.{new, opened_files}
-use Rattle.njh_keeper.proofs.BackLaws.{fits_in, put_back, stays_so}
-use Rattle.njh_keeper.proofs.IdleLines.{bare_lines, marks_off, no_rests, fresh_down, opened_line, rest_past}
-use Rattle.njh_keeper.proofs.IdleLines.{same_rests}
-use Rattle.njh_keeper.proofs.IdleLines.{senders_idle, set_up_by, set_up_of}
-use Rattle.njh_keeper.proofs.RestingFiles.{AreNotSent, all_fit, kept_costs, kept_read, lost_files, same_kept}
 
 -- ---- a customer that files come back to stays in order
 
@@ -215,8 +183,7 @@ module _ (stays : StaysInOrder) (leave : LossesLeaveFiles) (marks : MarksAreRigh
         sym (ap (entry_with routes) (lost.entry
         ∙ ap (λ (e : CustomerEntry). entry_with q.customer.entry.routes (with_marks q.customer.entry.up e))
         (run.entry ∙ ap (λ (e : CustomerEntry). entry_with p.customer.entry.routes (with_marks p.customer.entry.up e))
-        begins.entry_is))
-        ∙ ap (λ (up : List Bool). entry_with routes (with_marks up entry)) marks_are)
+        begins.entry_is)) ∙ ap (λ (up : List Bool). entry_with routes (with_marks up entry)) marks_are)
 
     lost_rests : (l : ℕ) → rest_on l q ≡ Nothing
     lost_rests l =
@@ -255,8 +222,7 @@ module _ (stays : StaysInOrder) (leave : LossesLeaveFiles) (marks : MarksAreRigh
           ≡ map file_at_rest (part_after_routes routes q).customer.spool.whole
       files_are =
           let e = entry_with routes q.customer.entry in
-          again.whole
-          ∙ ap (λ (x : CustomerEntry). map (as_opened x) again.files) entry_is
+          again.whole ∙ ap (λ (x : CustomerEntry). map (as_opened x) again.files) entry_is
           ∙ ap (map (as_opened e)) (kept_are ∙ sym (same_kept q.customer.spool.whole p.customer.spool.whole has.files))
           ∙ sym (lost_files e q.customer.spool.whole has.none_sent)
 
@@ -275,8 +241,7 @@ module _ (stays : StaysInOrder) (leave : LossesLeaveFiles) (marks : MarksAreRigh
       -- the entry of the customer that was opened, but for its routes, is that of the one that lost its lines
       lines_are : map bare (part_opened (entry_with routes entry) ws).customer.lines ≡ map bare q.customer.lines
       lines_are =
-          ap (map bare) again.lines
-          ∙ ap (λ (x : CustomerEntry). map bare (map (opened_line x) x.lines)) entry_is
+          ap (map bare) again.lines ∙ ap (λ (x : CustomerEntry). map bare (map (opened_line x) x.lines)) entry_is
           ∙ sym (bare_lines q.customer.lines q.customer.entry.lines
           (sym (length-map q.customer.lines set_up_of) ∙ ap length lost.order.set_up
           ∙ length-map q.customer.entry.lines (set_up_by q.customer.entry)) has.down q.customer.entry

@@ -1,22 +1,16 @@
 -- A spool file goes on to have the whole files of a hub, call by call.
-use Rattle.std.proofs.Common.{◌≡◌, ◌≢◌, ℕ, ◌+◌, ◌<◌, ◌≤◌, true, List, [], ◌∷◌, ◌++◌, length, get_or, set, remove, map}
-use Rattle.std.proofs.Common.{refl, sym, ap, subst, ◌∙◌, arith}
-use Rattle.std.specs.List.{AllByRecursion}
-use Rattle.std.proofs.lemmas.List.{get_or_default, set-get_or}
-use Rattle.njh_spool.specs.CustomerSpool.{WholeFile}
-use Rattle.njh_spoolfile.specs.Kept.{File, SpoolContents, contents, records_of, with_changed, with_file, without_file}
-use Rattle.njh_keeper.specs.Opened.{is_own, kind_word}
-use Rattle.njh_keeper.specs.code.Mirrored.{FitsHub, HasRecords, IsOrdered, WritesRowsOf, WritesUnder, own_rows}
-use Rattle.njh_turns.specs.Keeping.{is_held}
-use Rattle.njh_keeper.specs.code.Remembered.{AllBeside, AreBelow, Claim, IsKept, IsRowOf, KeptWhole, Mirrored, Moves}
-use Rattle.njh_keeper.specs.code.Remembered.{OwnFiles, Remembers, keyed}
+use Rattle.njh_keeper.proofs.Words
+use Words.{◌≡◌, ◌≢◌, ℕ, ◌+◌, ◌<◌, ◌≤◌, true, List, [], ◌∷◌, ◌++◌, length, get_or, set, remove, map, refl, sym, ap}
+use Words.{subst, ◌∙◌, arith, get_or_default, set-get_or, AllByRecursion, File, SpoolContents, contents, records_of}
+use Words.{with_changed, with_file, without_file, WholeFile, is_held, FitsHub, HasRecords, IsOrdered, WritesRowsOf}
+use Words.{WritesUnder, own_rows, AllBeside, AreBelow, Claim, IsKept, IsRowOf, KeptWhole, Mirrored, Moves, OwnFiles}
+use Words.{Remembers, keyed, is_own, kind_word}
 use Rattle.njh_keeper.proofs.BesideLaws.{BesideAt, beside_at, beside_push, beside_remove, beside_set, beside_weaker}
-use Rattle.njh_keeper.proofs.FrameLaws.{adds_row, changes_row, drops_row, rows_stay}
-use Rattle.njh_keeper.proofs.KeyLaws.{each_counts, keyed_apart, keyed_at, keyed_none}
-use Rattle.njh_keeper.proofs.MovesLaws.{moves_rows, moves_then, moves_under}
-use Rattle.njh_keeper.proofs.NumberedLaws.{all_weaker}
-use Rattle.njh_keeper.proofs.RowLaws.{below_with_changed, below_with_file, below_without_file, row_below, row_changes}
-use Rattle.njh_keeper.proofs.RowLaws.{row_comes_last, row_leaves}
+use Rattle.njh_keeper.proofs.{FrameLaws.{adds_row, changes_row, drops_row, rows_stay}, KeyLaws.each_counts}
+use Rattle.njh_keeper.proofs.{KeyLaws.{keyed_apart, keyed_at, keyed_none}, MovesLaws.{moves_rows, moves_then}}
+use Rattle.njh_keeper.proofs.{MovesLaws.moves_under, NumberedLaws.all_weaker, RowLaws.below_with_changed}
+use Rattle.njh_keeper.proofs.RowLaws.{below_with_file, below_without_file, row_below, row_changes, row_comes_last}
+use Rattle.njh_keeper.proofs.RowLaws.{row_leaves}
 
 pub all_of : {X : Type 0} (P : X → Type 0) → ((x : X) → P x) → (xs : List X) → AllByRecursion P xs
 all_of P each [] = tt
@@ -30,8 +24,7 @@ kept_still s t k e f same one = record {
   id = one.id;
   row = one.row;
   remembers = one.remembers;
-  stored = ap
-      (map contents) same ∙ one.stored;
+  stored = ap (map contents) same ∙ one.stored;
   fits = one.fits;
 }
 
@@ -50,8 +43,7 @@ module _ (s t : SpoolContents) (own : OwnFiles) (files : List WholeFile) (all : 
   mirrored_under key w foreign =
       mirrored_still (rows_stay key s t w own.name)
       (all_weaker (λ (k : KeptWhole). k.key ≢ key) (λ k. records_of k.key t ≡ records_of k.key s)
-      (λ k apart. w.others k.key apart) own.whole
-      (keyed_none (λ (k : KeptWhole). k.key) key own.whole foreign))
+      (λ k apart. w.others k.key apart) own.whole (keyed_none (λ (k : KeptWhole). k.key) key own.whole foreign))
 
   -- a call was about another customer's files
   pub mirrored_of_another : (a b : Claim) → Moves a b s t → own.name ≢ a.name
@@ -103,8 +95,7 @@ module _ (s : SpoolContents) (own : OwnFiles) (files : List WholeFile) (h : IsOr
   -- only its state changes, and nothing is written
 
   pub state_changes : (f g : WholeFile) (now : KeptWhole) → f ≡ get_or files i f → g.kind ≡ f.kind
-      → is_held g.state ≡ is_held f.state → g.records ≡ f.records
-      → now.id ≡ k.id → now.key ≡ k.key → Remembers now g
+      → is_held g.state ≡ is_held f.state → g.records ≡ f.records → now.id ≡ k.id → now.key ≡ k.key → Remembers now g
       → Mirrored s (record own { whole = set own.whole i now }) (set files i g)
   state_changes f g now found kind held records id key remembers =
       let here : one.third ≡ f = one.third_is ∙ get_or_default files i one.third f one.third_there ∙ sym found in
@@ -153,14 +144,12 @@ module _ (s : SpoolContents) (own : OwnFiles) (files : List WholeFile) (h : IsOr
         let u = with_changed k.id file t in
         let changed : own_rows own.name u ≡ set rows i (one.second.0, file) =
         subst (λ n. own_rows own.name (with_changed n file t) ≡ set (own_rows own.name t) i (one.second.0, file))
-        one.holds.id
-        (row_changes own.name t under.ordered i one.second there_still is_still file owned)
+        one.holds.id (row_changes own.name t under.ordered i one.second there_still is_still file owned)
         ∙ ap (λ (es : List (ℕ × File)). set es i (one.second.0, file)) same_rows in
         subst (λ es. AllBeside (IsKept u) (set own.whole i now) es (set files i g)) (sym changed)
         (beside_set (λ x. x.key ≢ k.key) (IsKept s) (IsKept u)
         (λ x e f apart kept. kept_still s u x e f (under.others x.key apart) kept) own.whole rows files i now
-        (one.second.0, file) g
-        (keyed_apart (λ (x : KeptWhole). x.key) own.whole i k there is once) all
+        (one.second.0, file) g (keyed_apart (λ (x : KeptWhole). x.key) own.whole i k there is once) all
         (record {
           id = one.holds.id ∙ sym id;
           row = subst (λ n. IsRowOf n g file) (sym key) row;
@@ -179,10 +168,8 @@ module _ (s : SpoolContents) (own : OwnFiles) (files : List WholeFile) (h : IsOr
         )) in
         let same : (n : ℕ) → a.uses n ≤ a.uses n = λ n. omega arith in
         let first = moves_under a a s refl same k.key t under busy refl in
-        moves_then a a a s t (with_changed k.id file t) first
-        (moves_rows a a t refl same (with_changed k.id file t)
-        (subst (λ who. WritesRowsOf who t (with_changed k.id file t)) (sym mine) changing_row) (omega arith)
-        (λ below.
+        moves_then a a a s t (with_changed k.id file t) first (moves_rows a a t refl same (with_changed k.id file t)
+        (subst (λ who. WritesRowsOf who t (with_changed k.id file t)) (sym mine) changing_row) (omega arith) (λ below.
         let low : k.id < a.next_id = subst (λ n. n < a.next_id) one.holds.id
         (row_below own.name t under.ordered i one.second there_still is_still a.next_id below) in
         below_with_changed a.next_id k.id file t low below))
@@ -211,8 +198,7 @@ module _ (s t : SpoolContents) (own : OwnFiles) (files : List WholeFile) (all : 
       (record { id = refl; row = row; remembers = remembers; stored = stored; fits = fits }))
 
   pub coming_moves : (a b : Claim) → a.name ≡ own.name → b.name ≡ a.name → a.next_id ≡ k.id → b.next_id ≡ k.id + 1
-      → 1 ≤ a.uses k.key → ((n : ℕ) → b.uses n ≤ a.uses n)
-      → Moves a b s (with_file k.id file t)
+      → 1 ≤ a.uses k.key → ((n : ℕ) → b.uses n ≤ a.uses n) → Moves a b s (with_file k.id file t)
   coming_moves a b mine name next then busy uses =
       let same : (n : ℕ) → a.uses n ≤ a.uses n = λ n. omega arith in
       moves_then a a b s t (with_file k.id file t) (moves_under a a s refl same k.key t under busy refl)

@@ -1,11 +1,8 @@
 -- What calls make of a spool file, one after the other.
-use Rattle.std.proofs.Common.{◌≡◌, ℕ, ◌<◌, ◌≤◌, refl, sym, ap, subst, ◌∙◌, arith}
-use Rattle.std.specs.List.{AllByRecursion}
-use Rattle.njh_spoolfile.specs.Kept.{File, SpoolContents, records_of}
-use Rattle.njh_keeper.specs.code.Mirrored.{IsOrdered, WritesRowsOf, WritesUnder}
+use Rattle.std.{proofs.Common.{◌≡◌, ℕ, ◌<◌, ◌≤◌, refl, sym, ap, subst, ◌∙◌, arith}, specs.List.AllByRecursion}
+use Rattle.{njh_spoolfile.specs.Kept.{File, SpoolContents, records_of}, njh_keeper.proofs.FrameLaws.rows_stay}
+use Rattle.njh_keeper.{proofs.NumberedLaws.all_weaker, specs.code.Mirrored.{IsOrdered, WritesRowsOf, WritesUnder}}
 use Rattle.njh_keeper.specs.code.Remembered.{AreApart, AreBelow, Claim, Moves}
-use Rattle.njh_keeper.proofs.FrameLaws.{rows_stay}
-use Rattle.njh_keeper.proofs.NumberedLaws.{all_weaker}
 
 pub moves_then : (a b c : Claim) (s t u : SpoolContents) → Moves a b s t → Moves b c t u → Moves a c s u
 moves_then a b c s t u one more = record {

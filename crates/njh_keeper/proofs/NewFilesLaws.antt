@@ -1,37 +1,17 @@
 -- The hub's whole files beside those that are kept: which were there, and which one is at a place.
-use Rattle.std.proofs.Common.{◌≡◌, ℕ, zero, suc, ◌+◌, ◌-◌, ◌^◌, ◌<◌, ◌≤◌, ◌==◌, inl, inr, Bool, true, false, cond, List}
-use Rattle.std.proofs.Common.{[], ◌∷◌, ◌++◌, length, map, get_or, set, find, take, Option, Some, None, min, refl, sym}
-use Rattle.std.proofs.Common.{ap, subst, ◌∙◌, arith}
-use Rattle.std.specs.Option.{option_map, option_or}
-use Rattle.std.specs.List.{AllByRecursion}
-use Rattle.std.proofs.lemmas.List.Elements.{All-from_recursion}
-use Rattle.std.proofs.lemmas.List.{get_or-take, get_or_default, length-take-le, take_more}
-use Rattle.std.proofs.lemmas.Bool.{cases_lt}
-use Rattle.sqlite.specs.State.{State}
-use Rattle.njh_header.specs.WholeFiles.{HasHeaders}
-use Rattle.njh_record.specs.declared.Kind.TheVariants.{In}
-use Rattle.njh_record.specs.Stored.{Stored}
-use Rattle.njh_spool.specs.CustomerSpool.{CustomerSpool, WholeFile, max_arrived, partial_numbered}
-use Rattle.njh_spool.specs.declared.State.TheVariants.{Ready}
-use Rattle.njh_stream.specs.WholeFiles.{HaveHeaders}
-use Rattle.njh_stream.specs.SpoolFiles.{records_in}
-use Rattle.njh_spoolfile.specs.Kept.{SpoolContents, records_of, contents}
-use Rattle.njh_hub.specs.Views.{file_summary}
-use Rattle.njh_hub.specs.WholeHub.{Part, part}
-use Rattle.njh_hub.specs.declared.file_summary.FileSummaryView.{FileSummaryView}
-use Rattle.njh_customer.specs.Surviving.{FirstFilesSurvive, Survive, leaves, none}
-use Rattle.njh_customer.specs.Customer.{Customer}
-use Rattle.njh_customer.specs.OutgoingFiles.{outgoing}
-use Rattle.njh_keeper.specs.code.Following.{AreFronts, GoesTo, GoOnIn, IsAt, IsFoundAt, IsFrontOf, IsHubFile, IsReached}
-use Rattle.njh_keeper.specs.code.Following.{IsStillAt, LeadsFiles, Memory, Remain}
-use Rattle.njh_keeper.specs.declared.own_files.HubFile.{HubFile}
-use Rattle.njh_keeper.specs.code.Remembered.{KeptPartial, one_if}
-use Rattle.njh_keeper.specs.code.Walking.{AreNumbered, IsWalkedTo}
-use Rattle.njh_keeper.proofs.FollowingLaws.{all_both, all_remain, goes_then}
-use Rattle.njh_keeper.proofs.KeyLaws.{keyed_at}
-use Rattle.njh_keeper.proofs.LeadingLaws.{leads_then}
-use Rattle.njh_keeper.proofs.NumberedLaws.{all_weaker, equal}
-use Rattle.njh_keeper.proofs.WalkLaws.{walk_ends, walk_finds, walk_goes_on}
+use Rattle.njh_keeper.proofs.Words
+use Words.{◌≡◌, ℕ, zero, suc, ◌+◌, ◌-◌, ◌^◌, ◌<◌, ◌≤◌, ◌==◌, inl, inr, Bool, true, false, cond, List, [], ◌∷◌, ◌++◌}
+use Words.{length, map, get_or, set, take, Option, Some, None, min, refl, sym, ap, subst, ◌∙◌, arith, cases_lt}
+use Words.{get_or-take, get_or_default, length-take-le, take_more, All-from_recursion, AllByRecursion, State, In}
+use Words.{Stored, HasHeaders, SpoolContents, records_of, contents, CustomerSpool, WholeFile, max_arrived}
+use Words.{partial_numbered, Ready, records_in, HaveHeaders, outgoing, Survive, leaves, none, FileSummaryView}
+use Words.{file_summary, Part, part, AreFronts, GoesTo, GoOnIn, IsAt, IsFrontOf, IsReached, IsStillAt, LeadsFiles}
+use Words.{Memory, Remain, KeptPartial, one_if, AreNumbered, IsWalkedTo}
+use Rattle.{std.{proofs.Common.find, specs.Option.{option_map, option_or}}, njh_customer.specs.Customer.Customer}
+use Rattle.{njh_customer.specs.Surviving.FirstFilesSurvive, njh_keeper.proofs.FollowingLaws.{all_remain, goes_then}}
+use Rattle.njh_keeper.proofs.{KeyLaws.keyed_at, LeadingLaws.leads_then, ListLaws.all_both, NumberedLaws.all_weaker}
+use Rattle.njh_keeper.proofs.{NumberedLaws.equal, WalkLaws.{walk_ends, walk_finds, walk_goes_on}}
+use Rattle.njh_keeper.specs.{code.Following.{IsFoundAt, IsHubFile}, declared.own_files.HubFile.HubFile}
 
 pub all_have_gone : (fs : List WholeFile) → Survive fs []
 all_have_gone [] = none
@@ -66,8 +46,7 @@ records_at s i g once there is =
       | Some records ↦ records
       | None ↦
           []
-    ])
-    (found_at s.whole i g once there is)
+    ]) (found_at s.whole i g once there is)
 
 -- ---- what is kept of files that aren't whole
 
@@ -97,8 +76,7 @@ fronts_stay s t files before now remain same fronts =
     (all_remain (FrontsOf s files) before now remain fronts) same
 
 pub front_at : (s : SpoolContents) (partial : List KeptPartial) (files : List WholeFile) (i : ℕ) (g : WholeFile)
-    → i < length files → g ≡ get_or files i g → AreFronts s partial files
-    → AreFronts s partial (g ∷ [])
+    → i < length files → g ≡ get_or files i g → AreFronts s partial files → AreFronts s partial (g ∷ [])
 front_at s partial files i g there is fronts =
     all_weaker (FrontsOf s files) (FrontsOf s (g ∷ []))
     (λ p all. (
@@ -138,7 +116,7 @@ is_at_of_first files n i f within low here = record {
 
 -- ---- the calls one after the other
 
-module _ (m m1 m2 : Memory) (old mid new : State) where
+module _ {m m1 m2 : Memory} {old mid new : State} where
   -- the next one is found, and is what the hub has
   pub walked_on : (still : List WholeFile) (place number : ℕ) (f : WholeFile) → IsAt still place f → number ≡ f.number
       → LeadsFiles m m1 (λ s files. IsWalkedTo still files place)
@@ -147,16 +125,14 @@ module _ (m m1 m2 : Memory) (old mid new : State) where
       → LeadsFiles m m2 (λ s files. IsWalkedTo still files place) (λ files now. IsWalkedTo still now (place + 1)) old
       new
   walked_on still place number f next number_is one more =
-      leads_then _ _ _ old mid new one more
-      (λ s t u first second files has walk.
+      leads_then one more (λ s t u first second files has walk.
       let a = first files has walk in
       let found : IsFoundAt number a.0 place = a.1.1 in
       let same : found.file.number ≡ f.number = found.number_is ∙ number_is in
       let b = second a.0 a.2.has (record {
         before = found.file;
         is = found.is;
-        still = walk_finds still a.0 place a.1.0
-            found.file found.there found.is f next.there next.is same;
+        still = walk_finds still a.0 place a.1.0 found.file found.there found.is f next.there next.is same;
       }) in (
         b.0,
         subst (λ x. IsWalkedTo still x (place + 1)) (sym b.1)
@@ -165,31 +141,27 @@ module _ (m m1 m2 : Memory) (old mid new : State) where
       ))
 
   -- one more is followed
-  pub walked_further : (Given : SpoolContents → List WholeFile → Type 0) (still : List WholeFile) (index : ℕ)
-      → LeadsFiles m m1 Given (λ files now. IsWalkedTo still now index) old mid
-      → LeadsFiles m1 m2 (λ s files. IsWalkedTo still files index) (λ files now. IsWalkedTo still now (index + 1)) mid
-      new
-      → LeadsFiles m m2 Given (λ files now. IsWalkedTo still now (index + 1)) old new
-  walked_further Given still index one more =
-      leads_then _ _ _ old mid new one more
-      (λ s t u first second files has given.
+  pub walked_further : (Given : SpoolContents → List WholeFile → Type 0) (still : List WholeFile) (place index : ℕ)
+      → place ≡ index → LeadsFiles m m1 Given (λ files now. IsWalkedTo still now index) old mid
+      → LeadsFiles m1 m2 (λ s files. IsWalkedTo still files place) (λ files now. IsWalkedTo still now (place + 1)) mid
+      new → LeadsFiles m m2 Given (λ files now. IsWalkedTo still now (index + 1)) old new
+  walked_further Given still place index same one more =
+      leads_then one more (λ s t u first second files has given.
       let a = first files has given in
-      let b = second a.0 a.2.has a.1 in
-      (b.0, b.1, goes_then m m1 m2 s t u a.0 b.0 a.2 b.2))
+      let b = second a.0 a.2.has (subst (IsWalkedTo still a.0) (sym same) a.1) in
+      (b.0, subst (λ n. IsWalkedTo still b.0 (n + 1)) same b.1, goes_then m m1 m2 s t u a.0 b.0 a.2 b.2))
 
   -- after the last one all others have left
-  pub walked_to_end : (Given : SpoolContents → List WholeFile → Type 0) (still : List WholeFile) (index : ℕ)
-      → length still ≤ index
-      → LeadsFiles m m1 Given (λ files now. IsWalkedTo still now index) old mid
-      → LeadsFiles m1 m2 (λ s files. IsWalkedTo still files index)
-      (λ files now. IsWalkedTo still now index × IsReached None now index) mid new
+  pub walked_to_end : (Given : SpoolContents → List WholeFile → Type 0) (still : List WholeFile) (place index : ℕ)
+      → place ≡ index → length still ≤ place → LeadsFiles m m1 Given (λ files now. IsWalkedTo still now index) old mid
+      → LeadsFiles m1 m2 (λ s files. IsWalkedTo still files place)
+      (λ files now. IsWalkedTo still now place × IsReached None now place) mid new
       → LeadsFiles m m2 Given (λ files now. now ≡ still) old new
-  walked_to_end Given still index last one more =
-      leads_then _ _ _ old mid new one more
-      (λ s t u first second files has given.
+  walked_to_end Given still place index same last one more =
+      leads_then one more (λ s t u first second files has given.
       let a = first files has given in
-      let b = second a.0 a.2.has a.1 in
-      (b.0, walk_ends still b.0 index b.1.0 last b.1.1, goes_then m m1 m2 s t u a.0 b.0 a.2 b.2))
+      let b = second a.0 a.2.has (subst (IsWalkedTo still a.0) (sym same) a.1) in
+      (b.0, walk_ends still b.0 place b.1.0 last b.1.1, goes_then m m1 m2 s t u a.0 b.0 a.2 b.2))
 
   -- one more is added
   pub added_further : (whole : List WholeFile) (before index : ℕ) (f : WholeFile) → IsAt whole index f
@@ -199,15 +171,13 @@ module _ (m m1 m2 : Memory) (old mid new : State) where
       → LeadsFiles m m2 (λ s files. (files ≡ take before whole) × AreFronts s m.own.partial whole)
       (λ files now. now ≡ take (index + 1) whole) old new
   added_further whole before index f here one more =
-      leads_then _ _ _ old mid new one more
-      (λ s t u first second files has given.
+      leads_then one more (λ s t u first second files has given.
       let a = first files has given in
       let b = second a.0 a.2.has (front_at t m1.own.partial whole index f here.there here.is
       (fronts_stay s t whole m.own.partial m1.own.partial a.2.remain a.2.records given.1)) in (
         b.0,
         b.1 ∙ (λ i. a.1 i ++ here.is i ∷ []) ∙ sym (take_more whole index f here.there),
-        goes_then m m1 m2 s t u a.0
-            b.0 a.2 b.2,
+        goes_then m m1 m2 s t u a.0 b.0 a.2 b.2,
       ))
 
 -- ---- which were there
@@ -246,7 +216,7 @@ goes_arrived a m m2 s t files one = record {
   records = one.records;
 }
 
-pub followed_all : (a : ℕ) (m m1 m2 : Memory) (first mid new : State) (c : Customer) (before old : ℕ)
+pub followed_all : (a : ℕ) {m m1 m2 : Memory} {first mid new : State} (c : Customer) (before old : ℕ)
     → ((files : List WholeFile) → GoOnIn before files c → Survive files (take old c.spool.whole))
     → LeadsFiles m m1 (λ s files. Survive files (take old c.spool.whole) × AreNumbered files)
     (λ files now. now ≡ take old c.spool.whole) first mid
@@ -255,13 +225,11 @@ pub followed_all : (a : ℕ) (m m1 m2 : Memory) (first mid new : State) (c : Cus
     → LeadsFiles m (record { numbers = m2.numbers; own = record m2.own { arrived = a }; text = m2.text })
     (λ s files. GoOnIn before files c × AreFronts s m.own.partial c.spool.whole)
     (λ files now. now ≡ c.spool.whole) first new
-followed_all a m m1 m2 first mid new c before old survive one more =
-    leads_then _ _ _ first mid new one more
-    (λ s t u was_led is_led files has given.
+followed_all a {m} {m1} {m2} c before old survive one more =
+    leads_then one more (λ s t u was_led is_led files has given.
     let x = was_led files has (survive files given.0, given.0.numbered) in
     let y = is_led x.0 x.2.has (
       x.1,
-      fronts_stay s t c.spool.whole m.own.partial m1.own.partial x.2.remain x.2.records
-          given.1,
+      fronts_stay s t c.spool.whole m.own.partial m1.own.partial x.2.remain x.2.records given.1,
     ) in
     (y.0, y.1, goes_arrived a m m2 s u y.0 (goes_then m m1 m2 s t u x.0 y.0 x.2 y.2)))

@@ -1,9 +1,7 @@
 -- The data set headers of a file are gone through, and the nodes that they name compared.
 use Rattle.std.proofs.Common.{◌≡◌, ℕ, ◌+◌, ◌≤◌, false, List, [], ◌∷◌, length, drop, slice_get, Option, Some, None}
-use Rattle.std.proofs.Common.{is_some, refl, sym, ap, subst, ◌∙◌, arith}
-use Rattle.njh_record.specs.Stored.{Stored}
-use Rattle.njh_keeper.specs.code.Nodes.{AreOne, named_node, named_nodes, with_first}
-use Rattle.njh_keeper.proofs.NodeLaws.{AllAre}
+use Rattle.{std.proofs.Common.{is_some, refl, sym, ap, subst, ◌∙◌, arith}, njh_record.specs.Stored.Stored}
+use Rattle.njh_keeper.{proofs.NodeLaws.AllAre, specs.code.Nodes.{named_node, AreOne, named_nodes, with_first}}
 
 -- ---- the next node
 

@@ -1,19 +1,11 @@
 -- The headers of a file name one node if it stays as it is when it is sent to its destination, and else several.
-use Rattle.std.proofs.Common.{◌≡◌, ℕ, List, [], ◌∷◌, length, get_or, drop, Option, Some, None, refl, sym, ap, subst}
-use Rattle.std.proofs.Common.{◌∙◌}
-use Rattle.std.specs.Prelude.{unwrap_or}
-use Rattle.std.specs.List.{AllByRecursion}
-use Rattle.njh_ebcdic.specs.Users.{User}
-use Rattle.njh_record.specs.Stored.{Stored}
-use Rattle.njh_record.specs.declared.Kind.{Kind}
-use Rattle.njh_record.specs.declared.Kind.TheVariants.{In}
-use Rattle.njh_header.specs.FileHeaders.{destination_of}
-use Rattle.njh_header.specs.Redirecting.{destination_node, records_to_node}
-use Rattle.njh_header.proofs.DestinationRecords.{named_eight, stays, stays_so}
+use Rattle.njh_keeper.proofs.Words
+use Words.{◌≡◌, ℕ, List, [], ◌∷◌, length, get_or, drop, Option, Some, None, refl, sym, ap, subst, ◌∙◌, AllByRecursion}
+use Words.{User, Kind, In, Stored, stays, destination_of, destination_node, records_to_node, said_destination, AreOne}
+use Words.{with_first, NameOneNode}
+use Rattle.{std.specs.Prelude.unwrap_or, njh_header.proofs.DestinationRecords.{named_eight, stays_so}}
 use Rattle.njh_header.proofs.Destinations.{FirstNode, destination_is_first, first_names, none_before}
-use Rattle.njh_hub.specs.Files.{said_destination}
-use Rattle.njh_keeper.specs.code.Nodes.{AreOne, nodes_in, with_first}
-use Rattle.njh_keeper.specs.code.Remembered.{NameOneNode}
+use Rattle.njh_keeper.specs.code.Nodes.{nodes_in}
 
 abbrev pub AllAre : List ℕ → List (List ℕ) → Type 0
 AllAre node nodes = AllByRecursion (λ n. n ≡ node) nodes

@@ -1,14 +1,11 @@
 -- What has rising numbers: one put among them, some taken out, and those that pass a test.
 use Rattle.std.proofs.Common.{◌≡◌, ◌≢◌, ℕ, zero, suc, ◌<◌, ◌==◌, Bool, true, false, not, cond, List, [], ◌∷◌, ◌++◌}
 use Rattle.std.proofs.Common.{length, get_or, set, remove, map, filter, Contains, refl, sym, ap, subst, ◌∙◌, arith}
-use Rattle.std.specs.declared.cmp.Ordering.{Ordering}
-use Rattle.std.specs.declared.cmp.Ordering.TheVariants.{Less, Equal, Greater}
-use Rattle.std.specs.Ordering.{nat_cmp, match_ordering}
-use Rattle.std.specs.List.{AllByRecursion}
-use Rattle.std.proofs.lemmas.Bool.Decides.{nat_tests}
-use Rattle.std.proofs.lemmas.List.Elements.{All-filter, All-contains_itself, All-from_recursion, recursion_from_All}
-use Rattle.njh_spoolfile.specs.Kept.{Rise, put, without}
-use Rattle.njh_spoolfile.proofs.Rows.{same, above}
+use Rattle.std.proofs.lemmas.{Bool.Decides.nat_tests, List.Elements.{All-contains_itself, All-filter}}
+use Rattle.std.proofs.lemmas.List.Elements.{All-from_recursion, recursion_from_All}
+use Rattle.std.specs.{declared.cmp.Ordering.{Ordering, TheVariants.{Less, Equal, Greater}}, List.AllByRecursion}
+use Rattle.{std.specs.Ordering.{nat_cmp, match_ordering}, njh_spoolfile.{proofs.Rows.{same, above}, specs.Kept.Rise}}
+use Rattle.njh_spoolfile.specs.Kept.{put, without}
 
 pub equal : (n : ℕ) → (n == n) ≡ true
 equal n = grind (arith, nat_tests)
@@ -122,8 +119,7 @@ module _ {X : Type 0} where
           up.0))
 
   pub filter-put_other : (p : ℕ × X → Bool) (new : ℕ × X) (es : List (ℕ × X)) → p new ≡ false
-      → AllByRecursion (λ e. e.0 ≡ new.0 → p e ≡ false) es
-      → filter p (put new es) ≡ filter p es
+      → AllByRecursion (λ e. e.0 ≡ new.0 → p e ≡ false) es → filter p (put new es) ≡ filter p es
   filter-put_other p new [] fails alike = rw fails refl
   filter-put_other p new (e ∷ es) fails alike = split (nat_cmp e.0 new.0) refl (filter-put_other p new es fails alike.1)
     where
@@ -138,8 +134,7 @@ module _ {X : Type 0} where
   filter-without p q es = filter_comm p (λ e. not (q e.0)) es
 
   pub filter-without_other : (p : ℕ × X → Bool) (q : ℕ → Bool) (es : List (ℕ × X))
-      → AllByRecursion (λ e. p e ≡ true → q e.0 ≡ false) es
-      → filter p (without q es) ≡ filter p es
+      → AllByRecursion (λ e. p e ≡ true → q e.0 ≡ false) es → filter p (without q es) ≡ filter p es
   filter-without_other p q [] apart = refl
   filter-without_other p q (e ∷ es) apart = split (p e) (q e.0) refl refl (filter-without_other p q es apart.1)
     where
@@ -158,8 +153,7 @@ module _ {X : Type 0} where
           → AllByRecursion (λ x. x.0 ≢ id) (cond (not b) (e ∷ without (λ n. n == id) es) (without (λ n. n == id) es))
       either true is rest = rest
       either false is rest = (
-        λ here. absurd
-            (let never : true ≡ false = sym (ap (λ n. n == id) here ∙ equal id) ∙ is in cc),
+        λ here. absurd (let never : true ≡ false = sym (ap (λ n. n == id) here ∙ equal id) ∙ is in cc),
         rest,
       )
 
@@ -183,8 +177,7 @@ module _ {X : Type 0} where
   without_at [] i e up there is = absurd (omega (arith, there))
   without_at (y ∷ es) zero e up there is =
       let number : y.0 ≡ e.0 = ap (λ (z : ℕ × X). z.0) (sym is) in
-      rw (number, equal e.0)
-      (filter_all (λ x. not (x.0 == e.0)) es
+      rw (number, equal e.0) (filter_all (λ x. not (x.0 == e.0)) es
       (all_weaker (λ x. y.0 < x.0) (λ x. not (x.0 == e.0) ≡ true)
       (λ x high. ap not (unequal x.0 e.0 (λ here. omega (arith, high, here, number)))) es up.0))
   without_at (y ∷ es) (suc i) e up there is =

@@ -1,10 +1,8 @@
 -- The rows of a spool file determine what it holds.
-use Rattle.std.proofs.Common.{◌≡◌, ℕ, pos, ◌==◌, Bool, true, false, List, [], ◌∷◌, map, refl, sym, ap, ◌∙◌}
-use Rattle.sqlite.specs.declared.types.Value.{Value}
-use Rattle.sqlite.specs.declared.types.Value.TheVariants.{Int, Text, Blob}
-use Rattle.sqlite.specs.Order.{Row, column}
-use Rattle.sqlite_trees.specs.Tree.{Trees}
-use Rattle.njh_spoolfile.specs.Kept.{File, Record, SpoolContents, Holds, file_row, flag, record_row}
+use Rattle.std.proofs.Common.{pos, ◌≡◌, ℕ, ◌==◌, Bool, true, false, List, [], ◌∷◌, map, refl, sym, ap, ◌∙◌}
+use Rattle.sqlite.specs.{declared.types.Value.{Value, TheVariants.{Int, Text, Blob}}, Order.{Row, column}}
+use Rattle.{sqlite_trees.specs.Tree.Trees, njh_spoolfile.specs.Kept.{file_row, flag, record_row, File, Record}}
+use Rattle.njh_spoolfile.specs.Kept.{SpoolContents, Holds}
 
 -- ---- a row is read back
 

@@ -1,30 +1,13 @@
 -- A customer's step: its whole files are followed, and then those that aren't whole, from what the spool file had of
 -- it.
-use Rattle.std.proofs.Common.{◌≡◌, Bool, false, List, [], ◌∷◌, get_or, drop, length, map, Option, Some, None, true, sym}
-use Rattle.std.proofs.Common.{ap, subst, ◌∙◌, arith}
-use Rattle.std.proofs.lemmas.List.Elements.{recursion_from_All}
-use Rattle.sqlite.specs.State.{State}
-use Rattle.njh_header.specs.WholeFiles.{HasHeaders}
-use Rattle.njh_spool.specs.CustomerSpool.{WholeFile}
-use Rattle.njh_stream.specs.WholeFiles.{HaveHeaders}
-use Rattle.njh_customer.specs.Growing.{TakesGrowFiles}
-use Rattle.njh_customer.specs.Surviving.{EventsKeepFiles, TakesKeepFiles}
-use Rattle.njh_hub.specs.WholeHub.{Part}
-use Rattle.njh_turns.specs.Keeping.{IsLed, kept_file}
-use Rattle.njh_spoolfile.specs.Kept.{Holds, SpoolContents, Whole}
-use Rattle.njh_spoolfile.specs.CommitState.{CommitState, Stands}
-use Rattle.njh_keeper.specs.Opened.{file_in, is_name_of, own_files}
-use Rattle.njh_keeper.specs.code.Following.{AreFronts, GoOnIn, GoesTo, HasFiles, LeadsFiles, Memory}
-use Rattle.njh_keeper.specs.code.Knowing.{HasOwn, IsSoundPart, StepGoes}
-use Rattle.njh_keeper.specs.code.Leading.{Leads}
-use Rattle.njh_keeper.specs.code.Partly.{AllClosed, AllUpToDate, IsUpToDate, KeepsOn}
-use Rattle.njh_keeper.specs.code.Remembered.{KeptPartial, Mirrored}
-use Rattle.njh_keeper.proofs.FollowingLaws.{all_remain}
-use Rattle.njh_keeper.proofs.FrontLaws.{is_after}
-use Rattle.njh_keeper.proofs.KnowingLaws.{has_spool}
-use Rattle.njh_keeper.proofs.LeftLaws.{mirrored_is_read_back}
-use Rattle.njh_keeper.proofs.NumberedLaws.{all_weaker}
-use Rattle.njh_keeper.proofs.OneSpool.{one_spool}
+use Rattle.njh_keeper.proofs.Words
+use Words.{◌≡◌, Bool, false, List, [], ◌∷◌, get_or, drop, length, map, Option, Some, None, true, sym, ap, subst, ◌∙◌}
+use Words.{arith, recursion_from_All, State, HasHeaders, CommitState, Stands, Holds, SpoolContents, Whole, WholeFile}
+use Words.{HaveHeaders, TakesGrowFiles, EventsKeepFiles, TakesKeepFiles, Part, IsLed, kept_file, AreFronts, GoOnIn}
+use Words.{GoesTo, HasFiles, LeadsFiles, Memory, HasOwn, IsSoundPart, StepGoes, Leads, AllClosed, AllUpToDate}
+use Words.{IsUpToDate, KeepsOn, KeptPartial, Mirrored, file_in, is_name_of, own_files}
+use Rattle.njh_keeper.proofs.{FollowingLaws.all_remain, FrontLaws.is_after, KnowingLaws.has_spool}
+use Rattle.njh_keeper.proofs.{LeftLaws.mirrored_is_read_back, NumberedLaws.all_weaker, OneSpool.one_spool}
 use Rattle.njh_keeper.proofs.StepsLaws.{step_goes}
 
 pub some_of : {X : Type 0} (xs ys : List X) → map Some xs ≡ map Some ys → xs ≡ ys
@@ -38,11 +21,9 @@ some_of {X} (x ∷ xs) (y ∷ ys) same =
 
 -- what is kept of a customer's files is what it was, where its spool file is
 kept_still : (m m1 : Memory) (s t : SpoolContents) (files now : List WholeFile) → t ≡ s → m1.own.name ≡ m.own.name
-    → Mirrored s m.own files → Mirrored t m1.own now
-    → map kept_file files ≡ map kept_file now
+    → Mirrored s m.own files → Mirrored t m1.own now → map kept_file files ≡ map kept_file now
 kept_still m m1 s t files now here name before behind =
-    some_of (map kept_file files) (map kept_file now)
-    (sym (mirrored_is_read_back s m.own files before)
+    some_of (map kept_file files) (map kept_file now) (sym (mirrored_is_read_back s m.own files before)
     ∙ sym (λ i. map (λ (w : Whole). file_in w.file w.records) (own_files (name i) (here i)))
     ∙ mirrored_is_read_back t m1.own now behind)
 
@@ -50,8 +31,7 @@ module _ (events : EventsKeepFiles) (takes : TakesKeepFiles) (grow : TakesGrowFi
     (changed changed2 : Bool) (before now : Part) (led : IsLed before now) (sound : IsSoundPart before)
     (headers_now : HaveHeaders now.customer.spool.whole) (old mid new : State)
     (followed : LeadsFiles m m1 (λ s files. GoOnIn m.own.arrived files now.customer
-    × AreFronts s m.own.partial now.customer.spool.whole)
-    (λ files fs. fs ≡ now.customer.spool.whole) old mid)
+    × AreFronts s m.own.partial now.customer.spool.whole) (λ files fs. fs ≡ now.customer.spool.whole) old mid)
     (arrived : m1.own.arrived ≡ now.customer.spool.arrived)
     (kept : Leads (KeepsOn m1.numbers m1.own m2.numbers m2.own now.customer.spool) mid new)
     (seen : AllClosed m1.own → AllUpToDate now.customer.spool m2.own)
@@ -94,8 +74,7 @@ module _ (events : EventsKeepFiles) (takes : TakesKeepFiles) (grow : TakesGrowFi
             let here : t ≡ s.now = one_spool t s.now mid.now.trees there.now
             (subst (λ (at : State). Holds s.now at.now.trees) (sym q.1) stands.now) in (
               q.0,
-              kept_still m m1 s.now t files now.customer.spool.whole here goes.moves.name h.mirrored
-                  goes.has.mirrored,
+              kept_still m m1 s.now t files now.customer.spool.whole here goes.moves.name h.mirrored goes.has.mirrored,
             );
       }
 

@@ -1,23 +1,11 @@
 -- A customer's files after the opening.
-use Rattle.std.proofs.Common.{◌≡◌, ℕ, Bool, true, false, cond, ◌&&◌, ◌||◌, List, [], ◌∷◌, ◌++◌, map}
-use Rattle.std.proofs.Common.{refl, sym, ap, subst, append_assoc, append-nil, ◌∙◌}
-use Rattle.std.specs.List.{AllByRecursion}
-use Rattle.std.proofs.lemmas.List.{map-append}
-use Rattle.njh_header.specs.FileHeaders.{destination_of}
-use Rattle.njh_record.specs.Stored.{Stored}
-use Rattle.njh_record.specs.declared.Kind.{Kind}
-use Rattle.njh_spool.specs.declared.State.TheVariants.{Ready, Held}
-use Rattle.njh_spool.specs.Restoring.{KeptFile, state_back}
-use Rattle.njh_spool.specs.CustomerSpool.{WholeFile, next_number}
-use Rattle.njh_stream.specs.Holding.{destination_unrouted, has_lost_route, held_file, waits_in_state}
-use Rattle.njh_table.specs.Entries.{CustomerEntry}
-use Rattle.njh_hub.specs.Restored.{part_with_file}
-use Rattle.njh_hub.specs.WholeHub.{Part, part_at_open}
-use Rattle.njh_spoolfile.specs.Kept.{Whole}
-use Rattle.njh_keeper.specs.Opened.{AreBack, part_opened}
-use Rattle.njh_keeper.specs.OpenedFiles.{HasOpened, OpenedFile, as_opened, opened_of}
-use Rattle.njh_keeper.proofs.NumberedLaws.{all-push}
-use Rattle.njh_keeper.proofs.BackLaws.{ArePutBack, none_left, one_back, put_back, which_are}
+use Rattle.njh_keeper.proofs.Words
+use Words.{◌≡◌, ℕ, Bool, true, false, cond, ◌&&◌, ◌||◌, List, [], ◌∷◌, ◌++◌, map, refl, sym, ap, subst, append_assoc}
+use Words.{append-nil, ◌∙◌, map-append, AllByRecursion, Kind, Stored, destination_of, Whole, CustomerEntry, WholeFile}
+use Words.{Ready, Held, KeptFile, state_back, destination_unrouted, has_lost_route, held_file, waits_in_state}
+use Words.{part_with_file, Part, part_at_open, AreBack, part_opened, HasOpened, OpenedFile, as_opened, opened_of}
+use Rattle.{njh_spool.specs.CustomerSpool.next_number, njh_keeper.proofs.BackLaws.{ArePutBack, none_left, one_back}}
+use Rattle.njh_keeper.proofs.{BackLaws.{put_back, which_are}, NumberedLaws.all-push}
 
 -- ---- the last file
 
@@ -103,8 +91,7 @@ follow _ _ p _ (none_left _) all = record {
 follow _ _ p q (one_back w ws f fs _ _ is none more) all =
     let rest = follow ws fs (part_with_file f p) q more (still_routed p f all) in
     record {
-      whole = rest.whole
-          ∙ ap (λ (xs : List OpenedFile). xs ++ map (as_opened p.customer.entry) fs) (shown p f all)
+      whole = rest.whole ∙ ap (λ (xs : List OpenedFile). xs ++ map (as_opened p.customer.entry) fs) (shown p f all)
           ∙ append_assoc (map opened_of p.customer.spool.whole) (as_opened p.customer.entry f ∷ [])
           (map (as_opened p.customer.entry) fs);
       partial = rest.partial;

@@ -1,27 +1,12 @@
 -- After the opening no number is used twice.
-use Rattle.std.proofs.Common.{◌≡◌, ◌≢◌, ℕ, zero, suc, ◌+◌, ◌-◌, ◌<◌, ◌≤◌, ◌^◌, ◌==◌, ◌&&◌, ◌||◌, min, nat_lt}
-use Rattle.std.proofs.Common.{nat_le, Bool, true, false, cond, List, [], ◌∷◌, ◌++◌, length, get_or, inl, inr, refl, sym}
-use Rattle.std.proofs.Common.{ap, filter, not, ◌∙◌, arith}
-use Rattle.std.specs.Prelude.{⊤}
-use Rattle.std.specs.List.{AllByRecursion}
-use Rattle.std.proofs.lemmas.Bool.{cases_Bool, cases_lt, eqb-true}
-use Rattle.std.proofs.lemmas.Bool.Decides.{nat_tests}
-use Rattle.njh_table.specs.Accepted.{AreDistinct}
-use Rattle.njh_spoolfile.specs.Kept.{File, SpoolContents, entry_of}
-use Rattle.njh_spoolfile.specs.declared.kept.StoredFile.{StoredFile}
-use Rattle.njh_hub.specs.WholeHub.{Part}
-use Rattle.njh_keeper.specs.Opened.{is_own}
-use Rattle.njh_keeper.specs.code.Apart.{AreFilesApart}
-use Rattle.njh_keeper.specs.code.Mirrored.{own_rows}
-use Rattle.njh_keeper.specs.code.Opening.{AreRemembered, entries, keyed_rows, owned_of}
-use Rattle.njh_keeper.specs.code.Remembered.{AllAreApart, Numbers, OwnFiles, keyed, may_be_given, one_if, uses_of_all}
-use Rattle.njh_keeper.specs.code.Remembered.{uses_of_files}
-use Rattle.njh_keeper.specs.code.Writing.{free_at, is_used, key_behind, numbers_but}
-use Rattle.njh_keeper.proofs.BegunLaws.{all_by_place}
-use Rattle.njh_keeper.proofs.FollowingLaws.{all_both}
-use Rattle.njh_keeper.proofs.KeyLaws.{keyed-append, keyed-map, one_or_none}
-use Rattle.njh_keeper.proofs.OpeningNumbers.{after_all, unused_high}
-use Rattle.njh_keeper.proofs.RowLaws.{owned_once}
+use Rattle.njh_keeper.proofs.Words
+use Words.{◌≡◌, ◌≢◌, ℕ, zero, suc, ◌+◌, ◌-◌, ◌<◌, ◌≤◌, ◌^◌, ◌==◌, ◌&&◌, ◌||◌, min, nat_lt, nat_le, Bool, true, false}
+use Words.{cond, List, [], ◌∷◌, ◌++◌, length, get_or, inl, inr, refl, sym, ap, filter, not, ◌∙◌, arith, cases_Bool}
+use Words.{cases_lt, eqb-true, nat_tests, AllByRecursion, ⊤, StoredFile, File, SpoolContents, entry_of, AreDistinct}
+use Words.{Part, AreFilesApart, own_rows, AreRemembered, entries, keyed_rows, owned_of, AllAreApart, Numbers, OwnFiles}
+use Words.{keyed, may_be_given, one_if, uses_of_all, uses_of_files, free_at, is_used, key_behind, numbers_but, is_own}
+use Rattle.njh_keeper.proofs.{BegunLaws.all_by_place, KeyLaws.{keyed-append, keyed-map, one_or_none}, ListLaws.all_both}
+use Rattle.njh_keeper.proofs.{OpeningNumbers.{after_all, unused_high}, RowLaws.owned_once}
 
 -- ---- each row is one customer's at most
 
@@ -88,8 +73,7 @@ differ (name ∷ names) distinct = (
 
 uses_are : (n : ℕ) (names : List (List ℕ)) (owns : List OwnFiles) (f : List ℕ → ℕ) → length owns ≡ length names
     → ((c : ℕ) → (own : OwnFiles) → c < length owns → own ≡ get_or owns c own
-    → uses_of_files n own ≡ f (get_or names c []))
-    → uses_of_all n owns ≡ total names f
+    → uses_of_files n own ≡ f (get_or names c [])) → uses_of_all n owns ≡ total names f
 uses_are n [] [] f long each = refl
 uses_are n [] (own ∷ owns) f long each = absurd (omega (arith, long))
 uses_are n (name ∷ names) [] f long each = absurd (omega (arith, long))
@@ -105,9 +89,7 @@ pub customers_use : (n : ℕ) (names : List (List ℕ)) (hub : List Part) (owns 
     → AreDistinct names → length owns ≡ length names → AreRemembered names hub owns s t
     → uses_of_all n owns ≤ keyed_rows n s.files
 customers_use n names hub owns s t distinct long all =
-    let same =
-    uses_are n names owns (λ name. keyed_rows n (own_rows name s)) long
-    (λ c own low is.
+    let same = uses_are n names owns (λ name. keyed_rows n (own_rows name s)) long (λ c own low is.
     let one = all.each c own low is in
     omega (arith, one.keys n, ap (λ ps. keyed (λ p. p.key) n ps) one.opened.owned.partial)) in
     omega (arith, same, rows_most names n s.files (differ names distinct))
@@ -139,11 +121,7 @@ numbers_are passes (suc k) n = by (passes k) refl (numbers_are passes k n)
   where
     by : (b : Bool) → passes k ≡ b → AreBut (numbers_but passes k) passes k n
         → AreBut (cond b (numbers_but passes k) (numbers_but passes k ++ k ∷ [])) passes (suc k) n
-    by true is rest = record {
-      once = rest.once;
-      passed = rest.passed;
-      high = λ low. rest.high (omega (arith, low));
-    }
+    by true is rest = record { once = rest.once; passed = rest.passed; high = λ low. rest.high (omega (arith, low)) }
     by false is rest =
         let push = keyed-append (λ x. x) n (numbers_but passes k) (k ∷ []) in
         elim (cases_Bool (k == n)) [

@@ -1,27 +1,14 @@
 -- The memory of the keeper as it begins: what is dropped then is no file's.
-use Rattle.std.proofs.Common.{◌≡◌, ℕ, ◌+◌, ◌-◌, ◌<◌, ◌≤◌, ◌^◌, ◌==◌, min, nat_le, nat_lt, Bool, true, false, cond}
-use Rattle.std.proofs.Common.{List, [], ◌∷◌, length, get_or, inl, inr, refl, sym, ap, subst, ◌∙◌, arith}
-use Rattle.std.specs.List.{AllByRecursion}
-use Rattle.std.proofs.lemmas.Bool.{cases_Bool, eqb-false}
-use Rattle.std.proofs.lemmas.Bool.Decides.{nat_tests}
-use Rattle.njh_table.specs.Accepted.{AreDistinct}
-use Rattle.njh_hub.specs.WholeHub.{Part}
-use Rattle.njh_spoolfile.specs.Kept.{File, SpoolContents, entry_of, records_of, without_records}
-use Rattle.njh_spoolfile.specs.declared.kept.StoredFile.{StoredFile}
-use Rattle.njh_keeper.specs.code.Apart.{AreFilesApart, have_low_ids}
-use Rattle.njh_keeper.specs.code.Mirrored.{IsOrdered, own_rows}
-use Rattle.njh_keeper.specs.code.Opening.{AreRemembered, HasBegun, IsOpened, entries, files_at, keyed_rows, name_at}
-use Rattle.njh_keeper.specs.code.Remembered.{KeptWhole, Numbers, OwnFiles, keyed, one_if}
-use Rattle.njh_keeper.specs.code.Writing.{emptied_at, free_at, id_behind, is_used, key_behind}
-use Rattle.njh_keeper.specs.code.Writing.{without_keys}
-use Rattle.njh_keeper.proofs.FollowingLaws.{all_both}
-use Rattle.njh_keeper.proofs.FrameLaws.{drops_records}
-use Rattle.njh_keeper.proofs.KeyLaws.{each_counts}
-use Rattle.njh_keeper.proofs.MirrorLaws.{mirrored_still}
-use Rattle.njh_keeper.proofs.NumberedLaws.{all_weaker}
-use Rattle.njh_keeper.proofs.OpeningApart.{all_are_apart, few_are, own_and_others, rows_count, used_is}
-use Rattle.njh_keeper.proofs.OpeningNumbers.{after_all}
-use Rattle.njh_keeper.proofs.PartlyLaws.{all_map}
+use Rattle.njh_keeper.proofs.Words
+use Words.{◌≡◌, ℕ, ◌+◌, ◌-◌, ◌<◌, ◌≤◌, ◌^◌, ◌==◌, min, nat_le, nat_lt, Bool, true, false, cond, List, [], ◌∷◌, length}
+use Words.{get_or, inl, inr, refl, sym, ap, subst, ◌∙◌, arith, cases_Bool, eqb-false, nat_tests, AllByRecursion}
+use Words.{StoredFile, File, SpoolContents, entry_of, records_of, without_records, AreDistinct, Part, AreFilesApart}
+use Words.{have_low_ids, IsOrdered, own_rows, AreRemembered, HasBegun, IsOpened, entries, files_at, keyed_rows, name_at}
+use Words.{KeptWhole, Numbers, OwnFiles, keyed, one_if, emptied_at, free_at, id_behind, is_used, key_behind}
+use Words.{without_keys}
+use Rattle.njh_keeper.proofs.{FrameLaws.drops_records, KeyLaws.each_counts, ListLaws.{all_both, all_map}}
+use Rattle.njh_keeper.proofs.{MirrorLaws.mirrored_still, NumberedLaws.all_weaker, OpeningApart.{all_are_apart, few_are}}
+use Rattle.njh_keeper.proofs.{OpeningApart.{own_and_others, rows_count, used_is}, OpeningNumbers.after_all}
 
 -- ---- records under other numbers stay
 
@@ -85,10 +72,8 @@ module _ (files : List StoredFile) (names : List (List ℕ)) (hub : List Part) (
       omega (arith, same, most, count) in
       record {
         owned = one.opened.owned;
-        mirrored =
-            mirrored_still t (without_keys (emptied_at files (key_behind key files)) t) own (files_at c hub)
-            one.opened.mirrored
-            (λ i. own_rows own.name (record
+        mirrored = mirrored_still t (without_keys (emptied_at files (key_behind key files)) t) own (files_at c hub)
+            one.opened.mirrored (λ i. own_rows own.name (record
             { files = empty.files i; records = (without_keys (emptied_at files (key_behind key files)) t).records }))
             (all_weaker (λ (k : KeptWhole). 1 ≤ keyed (λ (f : StoredFile). f.file.key) k.key files)
             (λ k. records_of k.key (without_keys (emptied_at files (key_behind key files)) t) ≡ records_of k.key t)
@@ -107,8 +92,7 @@ module _ (files : List StoredFile) (names : List (List ℕ)) (hub : List Part) (
     each = opened;
     apart = all_are_apart files names hub owns s t w key each rows distinct long all sweeps free next;
     ordered = empty.ordered;
-    below =
-        subst (λ (es : List (ℕ × File)). AllByRecursion (λ e. e.0 < w.next_id) es) (sym empty.files)
+    below = subst (λ (es : List (ℕ × File)). AllByRecursion (λ e. e.0 < w.next_id) es) (sym empty.files)
         (all.below w.next_id (subst (λ (es : List (ℕ × File)). AllByRecursion (λ e. e.0 < w.next_id) es) rows
         (all_map (λ (e : ℕ × File). e.0 < w.next_id) entry_of files
         (all_both (λ (f : StoredFile). f.id < 2 ^ 32 - 1) (λ f. min (f.id + 1) (2 ^ 32 - 1) ≤ w.next_id)

@@ -1,20 +1,12 @@
 -- One customer after the other is remembered at the opening.
-use Rattle.std.proofs.Common.{◌≡◌, ◌≢◌, ℕ, ◌<◌, ◌⊎◌, inl, inr, List, [], ◌∷◌, ◌++◌, length, get_or, refl, sym, ap}
-use Rattle.std.proofs.Common.{subst, ◌∙◌, arith}
-use Rattle.std.specs.List.{AllZip}
-use Rattle.std.proofs.lemmas.Bool.{cases_lt}
-use Rattle.std.proofs.lemmas.List.{get_or_append_left, get_or_push, length_push}
-use Rattle.njh_spool.specs.CustomerSpool.{WholeFile}
-use Rattle.njh_hub.specs.WholeHub.{Part, part}
-use Rattle.njh_table.specs.Accepted.{AreDistinct}
-use Rattle.njh_spoolfile.specs.Kept.{File, SpoolContents, records_of}
-use Rattle.njh_keeper.specs.code.Mirrored.{IsOrdered, own_rows}
-use Rattle.njh_keeper.specs.code.Opening.{AllAreRead, AreRemembered, IsCustomer, IsOwnOf, IsReadFor, IsRemembered}
-use Rattle.njh_keeper.specs.code.Opening.{Remembering, files_at, keyed_rows, name_at, owned_of}
-use Rattle.njh_keeper.specs.code.Remembered.{KeptWhole, Mirrored, OwnFiles}
-use Rattle.njh_keeper.proofs.HubLaws.{apart}
-use Rattle.njh_keeper.proofs.MirrorLaws.{all_of, mirrored_still}
-use Rattle.njh_keeper.proofs.OpeningLists.{all_read_same}
+use Rattle.njh_keeper.proofs.Words
+use Words.{◌≡◌, ◌≢◌, ℕ, ◌<◌, ◌⊎◌, inl, inr, List, [], ◌∷◌, ◌++◌, length, get_or, refl, sym, ap, subst, ◌∙◌, arith}
+use Words.{cases_lt, AllZip, File, SpoolContents, records_of, AreDistinct, WholeFile, Part, part, IsOrdered, own_rows}
+use Words.{AllAreRead, AreRemembered, IsOwnOf, IsReadFor, Remembering, files_at, keyed_rows, name_at, owned_of}
+use Words.{KeptWhole, Mirrored, OwnFiles}
+use Rattle.{std.proofs.lemmas.List.{get_or_append_left, get_or_push, length_push}, njh_keeper.proofs.HubLaws.apart}
+use Rattle.njh_keeper.proofs.{MirrorLaws.{all_of, mirrored_still}, OpeningLists.all_read_same}
+use Rattle.njh_keeper.specs.code.Opening.{IsCustomer, IsRemembered}
 
 pub none_remembered : (names : List (List ℕ)) (hub : List Part) (s : SpoolContents) → IsOrdered s
     → AreRemembered names hub [] s s

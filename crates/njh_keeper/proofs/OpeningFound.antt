@@ -1,30 +1,16 @@
 -- The whole files of a hub that was opened from a spool file: from which rows they were read, and that each is found by
 -- its number.
-use Rattle.std.proofs.Common.{◌≡◌, ℕ, ◌<◌, List, [], ◌∷◌, length, get_or, drop, map, Option, Some, sym, ap, subst, ◌∙◌}
-use Rattle.std.proofs.Common.{arith}
-use Rattle.std.specs.List.{AllZip}
-use Rattle.std.proofs.lemmas.List.{get_or-map, length-map}
-use Rattle.njh_spool.specs.Restoring.{KeptFile}
-use Rattle.njh_spool.specs.CustomerSpool.{CustomerSpool, WholeFile, with_arrived}
-use Rattle.njh_spool.proofs.NumberLaws.{next_number-fresh}
-use Rattle.njh_stream.specs.SpoolFiles.{records_in}
-use Rattle.njh_table.specs.Entries.{CustomerEntry}
-use Rattle.njh_table.specs.Marks.{entry_unmarked}
-use Rattle.njh_table.specs.TableFile.{NamedCustomer, TableFile, customer_at, entry_of as entry_in, no_customer}
-use Rattle.njh_customer.specs.InOrder.{AreApart}
-use Rattle.njh_customer.proofs.FileLimits.{apart_arrived, apart_fresh, apart_routes, whole_distinct}
-use Rattle.njh_hub.specs.WholeHub.{Part, no_part, part, part_at_open}
-use Rattle.njh_spoolfile.specs.Kept.{File, SpoolContents, Whole, contents, kept, records_of, whole_in}
-use Rattle.njh_keeper.specs.Opened.{AllAreBack, AreBack, file_in, hub_opened, own_files, part_opened}
-use Rattle.njh_keeper.specs.OpenedFiles.{OpenedFile, as_opened, opened_of}
-use Rattle.njh_keeper.specs.code.Mirrored.{own_rows}
-use Rattle.njh_keeper.specs.code.Opening.{AreFound, IsReadFor, files_at, name_at}
-use Rattle.njh_keeper.proofs.BackLaws.{fits_in, put_back, stays_so}
-use Rattle.njh_keeper.proofs.BegunLaws.{all_by_place}
-use Rattle.njh_keeper.proofs.NewFilesLaws.{records_at}
-use Rattle.njh_keeper.proofs.OpenedLaws.{new, opened_files}
-use Rattle.njh_keeper.proofs.ReadBackLaws.{is_read_as}
-use Rattle.njh_keeper.proofs.RowLaws.{own_files_are}
+use Rattle.njh_keeper.proofs.Words
+use Words.{◌≡◌, ℕ, ◌<◌, List, [], ◌∷◌, length, get_or, drop, map, Option, Some, sym, ap, subst, ◌∙◌, arith, get_or-map}
+use Words.{length-map, AllZip, File, SpoolContents, Whole, contents, kept, records_of, whole_in, CustomerEntry}
+use Words.{entry_unmarked, NamedCustomer, TableFile, customer_at, no_customer, next_number-fresh, CustomerSpool}
+use Words.{WholeFile, with_arrived, KeptFile, records_in, Part, no_part, part, part_at_open, own_rows, AreFound}
+use Words.{IsReadFor, files_at, name_at, AllAreBack, AreBack, file_in, hub_opened, own_files, part_opened, OpenedFile}
+use Words.{as_opened, opened_of}
+use Rattle.{njh_table.specs.TableFile.entry_of as entry_in, njh_customer.proofs.FileLimits.{apart_arrived, apart_fresh}}
+use Rattle.njh_customer.{proofs.FileLimits.{apart_routes, whole_distinct}, specs.InOrder.AreApart}
+use Rattle.njh_keeper.proofs.{BackLaws.{fits_in, put_back, stays_so}, BegunLaws.all_by_place, NewFilesLaws.records_at}
+use Rattle.njh_keeper.proofs.{OpenedLaws.{new, opened_files}, ReadBackLaws.is_read_as, RowLaws.own_files_are}
 use Rattle.njh_keeper.proofs.WalkLaws.{are_numbered}
 
 -- ---- from which rows
@@ -61,8 +47,7 @@ opened_apart : (entry : CustomerEntry) (ws : List Whole) → AreBack (part_at_op
     → AreApart (part_opened entry ws).customer.spool
 opened_apart entry ws back =
     let put = put_back ws (part_at_open entry) back in
-    stays_so (λ p. AreApart p.customer.spool)
-    (λ f p none apart.
+    stays_so (λ p. AreApart p.customer.spool) (λ f p none apart.
     let s = p.customer.spool in
     apart_routes p.customer.entry.routes (record p.customer { spool = with_arrived (new p f) s })
     (apart_arrived (new p f) s (next_number-fresh s (fits_in f s none).room) apart))
@@ -97,8 +82,7 @@ module _ (table : TableFile) (spool : SpoolContents) (back : AllAreBack table (k
   all_found = part_is (λ (p : Part). AreFound p.customer.spool)
       (each_found its_part.customer.spool (opened_apart its_entry (own_files its_name spool) (back c there)))
 
-  pub all_read_from : AllZip (IsReadFor spool) (own_rows (name_at names c) spool)
-      (files_at c (hub_opened table spool))
+  pub all_read_from : AllZip (IsReadFor spool) (own_rows (name_at names c) spool) (files_at c (hub_opened table spool))
   all_read_from =
       let opened = opened_files its_entry (own_files its_name spool) (back c there) in
       let rows : map (λ (w : Whole). file_in w.file w.records) (map (whole_in spool) (own_rows its_name spool))

@@ -1,16 +1,10 @@
 -- Numbers that rise are numbers of their own.
-use Rattle.std.proofs.Common.{◌≡◌, ◌≢◌, ℕ, ◌+◌, ◌-◌, ◌<◌, ◌≤◌, ◌^◌, ◌==◌, ◌||◌, nat_le, nat_lt, Bool, true, false, cond}
-use Rattle.std.proofs.Common.{List, [], ◌∷◌, map, inl, inr, refl, sym, ap, ◌∙◌, arith}
-use Rattle.std.specs.Prelude.{IsPermutation}
-use Rattle.std.specs.List.{AllByRecursion, sum_by}
-use Rattle.std.proofs.lemmas.Bool.{cases_Bool, eqb-true}
-use Rattle.std.proofs.lemmas.Bool.Decides.{nat_tests}
-use Rattle.std.proofs.lemmas.List.Elements.{All-from_recursion, recursion_from_All}
-use Rattle.std.proofs.lemmas.List.Sorted.{All-permutation, IsPermutation-sym, sum_by-IsPermutation}
-use Rattle.std.proofs.lemmas.List.Recursion.{is_sum_by}
-use Rattle.njh_spoolfile.specs.declared.kept.StoredFile.{StoredFile}
-use Rattle.njh_keeper.specs.code.Apart.{AreFilesApart, rises}
-use Rattle.njh_keeper.specs.code.Remembered.{keyed, one_if}
+use Rattle.njh_keeper.proofs.Words
+use Words.{◌≡◌, ◌≢◌, ℕ, ◌+◌, ◌-◌, ◌<◌, ◌≤◌, ◌^◌, ◌==◌, ◌||◌, nat_le, nat_lt, Bool, true, false, cond, List, [], ◌∷◌}
+use Words.{map, inl, inr, refl, sym, ap, ◌∙◌, arith, cases_Bool, eqb-true, nat_tests, All-from_recursion}
+use Words.{recursion_from_All, is_sum_by, AllByRecursion, IsPermutation, StoredFile, AreFilesApart, rises, keyed}
+use Words.{one_if}
+use Rattle.std.{proofs.lemmas.List.Sorted.{All-permutation, IsPermutation-sym, sum_by-IsPermutation}, specs.List.sum_by}
 use Rattle.njh_keeper.proofs.KeyLaws.{keyed-map}
 
 -- ---- numbers that rise
@@ -73,12 +67,9 @@ apart_by_rising files sorted same is =
       once = λ n.
           let count : keyed (λ f. f.file.key) n files ≡ keyed (λ k. k) n sorted =
           sym (keyed-map (λ k. k) (λ (f : StoredFile). f.file.key) n files) ∙ keyed_sum n keys
-          ∙ sym (sum_by-IsPermutation (λ k. one_if (k == n)) keys sorted same)
-          ∙ sym (keyed_sum n sorted) in
+          ∙ sym (sum_by-IsPermutation (λ k. one_if (k == n)) keys sorted same) ∙ sym (keyed_sum n sorted) in
           omega (arith, count, one.once n);
-      low =
-          all_map files
-          (recursion_from_All (λ k. k < 2 ^ 32 - 1) keys
+      low = all_map files (recursion_from_All (λ k. k < 2 ^ 32 - 1) keys
           (All-permutation (λ k. k < 2 ^ 32 - 1) sorted keys (IsPermutation-sym keys sorted same)
           (All-from_recursion (λ k. k < 2 ^ 32 - 1) sorted one.low)));
     }

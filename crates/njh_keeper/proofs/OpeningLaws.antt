@@ -1,20 +1,13 @@
 -- A hub that is opened from a spool file, by what was found in it.
-use Rattle.std.proofs.Common.{◌≡◌, ℕ, ◌+◌, ◌<◌, List, [], ◌∷◌, ◌++◌, length, map, take, drop, get_or}
-use Rattle.std.proofs.Common.{sym, ap, subst, append_assoc, ◌∙◌}
-use Rattle.std.proofs.lemmas.List.{take-append-drop, take_more, map-append}
-use Rattle.njh_table.specs.Accepted.{AreDistinct}
-use Rattle.njh_table.specs.TableFile.{NamedCustomer, TableFile, entry_of as entry_in}
-use Rattle.njh_hub.specs.WholeHub.{Part, part_at_open}
-use Rattle.njh_spoolfile.specs.Kept.{SpoolContents, Whole, entry_of, kept, whole_in}
-use Rattle.njh_spoolfile.specs.declared.kept.StoredFile.{StoredFile}
-use Rattle.njh_keeper.specs.Faults.{Tells}
-use Rattle.njh_keeper.specs.Opened.{AllAreBack, hub_opened}
-use Rattle.njh_keeper.specs.code.Refusing.{StopsIn}
+use Rattle.std.proofs.Common.{◌≡◌, ℕ, ◌+◌, ◌<◌, List, [], ◌∷◌, ◌++◌, length, map, take, drop, get_or, sym, ap, subst}
+use Rattle.std.proofs.{Common.{append_assoc, ◌∙◌}, lemmas.List.{take-append-drop, take_more, map-append}}
+use Rattle.njh_spoolfile.specs.{declared.kept.StoredFile.StoredFile, Kept.{SpoolContents, Whole, entry_of, kept}}
+use Rattle.{njh_spoolfile.specs.Kept.whole_in, njh_table.specs.{Accepted.AreDistinct, TableFile.entry_of as entry_in}}
+use Rattle.{njh_table.specs.TableFile.{NamedCustomer, TableFile}, njh_hub.specs.WholeHub.{Part, part_at_open}}
+use Rattle.njh_keeper.{proofs.{HubLaws.{all_back, opened, refused}, StepLaws.wholes_are}, specs.code.Refusing.StopsIn}
 use Rattle.njh_keeper.specs.code.Restoring.{NoneFails, hub_fault, hub_with_all, wholes}
-use Rattle.njh_keeper.specs.declared.fault.OpeningFault.{OpeningFault}
-use Rattle.njh_keeper.specs.declared.fault.OpeningFault.TheVariants.{Memory, Store, File as Refused}
-use Rattle.njh_keeper.proofs.HubLaws.{all_back, opened, refused}
-use Rattle.njh_keeper.proofs.StepLaws.{wholes_are}
+use Rattle.njh_keeper.specs.declared.fault.OpeningFault.{OpeningFault, TheVariants.{Memory, Store, File as Refused}}
+use Rattle.njh_keeper.specs.{Faults.Tells, Opened.{AllAreBack, hub_opened}}
 
 -- What was found: the customers' names, the files without their records, and the hub as it was opened.
 pub record Finds (table : TableFile) (spool : SpoolContents) (names : List (List ℕ)) (hub : List Part)
@@ -28,8 +21,7 @@ around : (files : List StoredFile) (at : ℕ) (f : StoredFile) → at < length f
     → files ≡ take at files ++ f ∷ drop (at + 1) files
 around files at f low here =
     sym (take-append-drop (at + 1) files) ∙ ap (λ (xs : List StoredFile). xs ++ drop (at + 1) files)
-    (take_more files at f low)
-    ∙ append_assoc (take at files) (get_or files at f ∷ []) (drop (at + 1) files)
+    (take_more files at f low) ∙ append_assoc (take at files) (get_or files at f ∷ []) (drop (at + 1) files)
     ∙ ap (λ (x : StoredFile). take at files ++ x ∷ drop (at + 1) files) (sym here)
 
 module _ {table : TableFile} {spool : SpoolContents} {names : List (List ℕ)} {hub : List Part} {files : List StoredFile}
@@ -45,8 +37,7 @@ module _ {table : TableFile} {spool : SpoolContents} {names : List (List ℕ)} {
       let start = map part_at_open (map entry_in table.customers) in
       all_back table f.distinct (kept spool)
       (subst (λ (ns : List (List ℕ)). NoneFails ns start (kept spool)) f.names_are
-      (subst (λ (ps : List Part). NoneFails names ps (kept spool)) f.hub_is
-      (subst (NoneFails names hub) all_are none)))
+      (subst (λ (ps : List Part). NoneFails names ps (kept spool)) f.hub_is (subst (NoneFails names hub) all_are none)))
 
   pub tells : (fault : OpeningFault) → StopsIn names hub spool files fault → Tells table spool fault
   tells Memory h = tt
@@ -67,7 +58,6 @@ module _ {table : TableFile} {spool : SpoolContents} {names : List (List ℕ)} {
       let split : kept spool ≡ before ++ w ∷ wholes spool (drop (at + 1) files) =
       sym all_are ∙ ap (map G) (around files at it.file h.1.there h.1.is)
       ∙ map-append G (take at files) (it.file ∷ drop (at + 1) files) in
-      refused table f.distinct spool before (wholes spool (drop (at + 1) files)) w it.fault split none
-      (sym same ∙ h.2)
+      refused table f.distinct spool before (wholes spool (drop (at + 1) files)) w it.fault split none (sym same ∙ h.2)
 
 -- ---- the file at which it stopped

@@ -1,22 +1,14 @@
 -- The rows of a customer on a spool file beside the files that a hub has of them.
-use Rattle.std.proofs.Common.{◌≡◌, ℕ, ◌+◌, ◌<◌, ◌==◌, true, List, [], ◌∷◌, ◌++◌, length, get_or, set, map, refl, sym}
-use Rattle.std.proofs.Common.{ap, subst, append_assoc, append-nil, ◌∙◌, arith}
-use Rattle.std.specs.List.{AllZip}
-use Rattle.njh_spool.specs.CustomerSpool.{CustomerSpool, WholeFile}
-use Rattle.njh_spool.specs.Restoring.{KeptFile}
-use Rattle.njh_turns.specs.Keeping.{is_held}
-use Rattle.njh_spoolfile.specs.Kept.{File, SpoolContents, contents, records_of, with_changed}
-use Rattle.njh_keeper.specs.Opened.{file_in, is_own}
-use Rattle.njh_keeper.specs.code.Mirrored.{HasRecords, IsOrdered, WritesRowsOf, own_rows}
-use Rattle.njh_keeper.specs.code.Opening.{IsRead, IsReadFor, Remembering, keyed_rows, owned_of}
-use Rattle.njh_keeper.specs.code.Remembered.{AllBeside, none_beside, IsKept, IsRowOf, KeptWhole, OwnFiles, Remembers}
-use Rattle.njh_keeper.specs.code.Remembered.{keyed, one_if}
-use Rattle.njh_keeper.proofs.BesideLaws.{beside_lengths, beside_push, beside_weaker}
-use Rattle.njh_keeper.proofs.FrameLaws.{changes_row}
-use Rattle.njh_keeper.proofs.KeyLaws.{keyed-append}
-use Rattle.njh_keeper.proofs.MirrorLaws.{all_of, kept_still}
-use Rattle.njh_keeper.proofs.ReadBackLaws.{IsReadAs, is_kept_as_read, is_read_as}
-use Rattle.njh_keeper.proofs.RowLaws.{below_with_changed, row_below, row_changes}
+use Rattle.njh_keeper.proofs.Words
+use Words.{◌≡◌, ℕ, ◌+◌, ◌<◌, ◌==◌, true, List, [], ◌∷◌, ◌++◌, length, get_or, set, map, refl, sym, ap, subst}
+use Words.{append_assoc, append-nil, ◌∙◌, arith, AllZip, File, SpoolContents, contents, records_of, with_changed}
+use Words.{CustomerSpool, WholeFile, KeptFile, is_held, HasRecords, IsOrdered, WritesRowsOf, own_rows, IsRead}
+use Words.{IsReadFor, Remembering, keyed_rows, owned_of, AllBeside, none_beside, IsKept, IsRowOf, KeptWhole, OwnFiles}
+use Words.{Remembers, keyed, one_if, file_in, is_own}
+use Rattle.njh_keeper.proofs.{BesideLaws.{beside_lengths, beside_push, beside_weaker}, FrameLaws.changes_row}
+use Rattle.njh_keeper.proofs.{KeyLaws.keyed-append, MirrorLaws.{all_of, kept_still}, ReadBackLaws.IsReadAs}
+use Rattle.njh_keeper.proofs.{ReadBackLaws.{is_kept_as_read, is_read_as}, RowLaws.{below_with_changed, row_below}}
+use Rattle.njh_keeper.proofs.RowLaws.{row_changes}
 
 -- ---- lists
 
@@ -93,8 +85,7 @@ module _ (name : List ℕ) (whole : List KeptWhole) (e : ℕ × File) (left : Li
           others = all.1;
           there = subst (λ (n : ℕ). n < length spool.whole) long
               (subst (λ (xs : List WholeFile). length is.before < length xs) (sym files) (first_there is.before g gs));
-          at =
-              subst (λ (n : ℕ). g ≡ get_or spool.whole n g) long
+          at = subst (λ (n : ℕ). g ≡ get_or spool.whole n g) long
               (subst (λ (xs : List WholeFile). g ≡ get_or xs (length is.before) g) (sym files)
               (first_left is.before g gs));
         },
@@ -169,13 +160,11 @@ module _ (name : List ℕ) (whole : List KeptWhole) (e : ℕ × File) (left : Li
         rows = is.rows ++ (e.0, row) ∷ [];
         before = is.before ++ g ∷ [];
         behind = it.rest;
-        rows_are =
-            row_changes name s is.writes.ordered (length is.rows) e there_row at_row row owned
+        rows_are = row_changes name s is.writes.ordered (length is.rows) e there_row at_row row owned
             ∙ ap (λ (es : List (ℕ × File)). set es (length is.rows) (e.0, row)) rows_now
             ∙ first_set is.rows e (e.0, row) left ∙ one_more is.rows (e.0, row) left;
         files_are = files_now;
-        beside =
-            beside_push (IsKept (with_changed e.0 row s)) whole is.rows is.before k (e.0, row) g
+        beside = beside_push (IsKept (with_changed e.0 row s)) whole is.rows is.before k (e.0, row) g
             (all_kept_same s (with_changed e.0 row s) refl whole is.rows is.before is.beside) kept_new;
         reads = all_read_same s (with_changed e.0 row s) refl left it.rest it.others;
         writes = writes_then name from s (with_changed e.0 row s) is.writes writes_row;
@@ -230,6 +219,5 @@ remembered own name rows files s t named step ordered are all =
           (all_read name own.whole files s t is);
       writes = subst (λ who. WritesRowsOf who s t) (sym named) is.writes;
       below = is.below;
-      keys = λ n.
-          omega (arith, is.keys n, ap (λ who. keyed_rows n (own_rows who s)) named);
+      keys = λ n. omega (arith, is.keys n, ap (λ who. keyed_rows n (own_rows who s)) named);
     }

@@ -1,15 +1,12 @@
 -- Which numbers are emptied at an opening.
-use Rattle.std.proofs.Common.{◌≡◌, ℕ, suc, zero, ◌+◌, ◌-◌, ◌<◌, ◌≤◌, ◌^◌, ◌==◌, min, max, nat_lt, Bool, true, false}
+use Rattle.std.proofs.Common.{max, ◌≡◌, ℕ, suc, zero, ◌+◌, ◌-◌, ◌<◌, ◌≤◌, ◌^◌, ◌==◌, min, nat_lt, Bool, true, false}
 use Rattle.std.proofs.Common.{◌||◌, List, [], ◌∷◌, length, replicate, slice_index_or, slice_set, refl, inl, inr, sym}
-use Rattle.std.proofs.Common.{ap, subst, ◌∙◌, arith}
-use Rattle.std.specs.List.{AllByRecursion}
-use Rattle.std.proofs.lemmas.Bool.{cases_Bool, cases_lt, eqb-false, eqb-true}
+use Rattle.std.proofs.{Common.{ap, subst, ◌∙◌, arith}, lemmas.Bool.{cases_Bool, cases_lt, eqb-false, eqb-true}}
 use Rattle.std.proofs.lemmas.List.{get_or-replicate, get_or-set_other, get_or-set_same, length-replicate, length-set}
-use Rattle.std.proofs.Math.ListN.{get_or-eq_default}
-use Rattle.njh_spoolfile.specs.declared.kept.StoredFile.{StoredFile}
-use Rattle.njh_keeper.specs.code.Writing.{AreBelow, emptied_at, free_at, is_marked, is_used, key_behind, marked_by}
-use Rattle.njh_keeper.specs.code.Writing.{number_after, numbers_but, unmarked}
-use Rattle.njh_keeper.proofs.NumberedLaws.{all_weaker}
+use Rattle.std.{proofs.Math.ListN.get_or-eq_default, specs.List.AllByRecursion}
+use Rattle.{njh_spoolfile.specs.declared.kept.StoredFile.StoredFile, njh_keeper.proofs.NumberedLaws.all_weaker}
+use Rattle.njh_keeper.specs.code.Writing.{AreBelow, number_after, emptied_at, free_at, is_marked, is_used, key_behind}
+use Rattle.njh_keeper.specs.code.Writing.{marked_by, numbers_but, unmarked}
 
 or_false : (b : Bool) → b ≡ (b || false)
 or_false true = refl
@@ -96,7 +93,6 @@ emptied_is files next marks few all are = let h =
     looked_for next few in rw (are, h.0, h.1) (marks_of_files files next (next + 64) (all few) few)
 
 pub free_is : (files : List StoredFile) (next : ℕ) (marks : List Bool) → next ≤ 200000 → AreBelow files next
-    → marks ≡ marked_by (replicate 200000 false) files
-    → unmarked marks next ≡ free_at files next
+    → marks ≡ marked_by (replicate 200000 false) files → unmarked marks next ≡ free_at files next
 free_is files next marks few all are = let h =
     looked_for next few in rw (are, h.0) (marks_of_files files next next (all few) few)

@@ -1,16 +1,9 @@
 -- What a crash may leave after the opening.
-use Rattle.std.proofs.Common.{◌≡◌, ℕ, suc, ◌<◌, List, [], ◌∷◌, length, get_or, map, refl, sym, ap, ◌∙◌, arith}
-use Rattle.std.specs.List.{AllZip}
-use Rattle.std.proofs.lemmas.Simd.{map-map}
-use Rattle.njh_hub.specs.WholeHub.{Part, no_part}
-use Rattle.njh_turns.specs.Keeping.{kept_of}
-use Rattle.njh_spoolfile.specs.Kept.{SpoolContents}
-use Rattle.njh_keeper.specs.Keeper.{left_in}
-use Rattle.njh_keeper.specs.declared.own_files.OwnFiles as own_files
-use Rattle.njh_keeper.specs.code.Memory.{own_of}
-use Rattle.njh_keeper.specs.code.Opening.{HasBegun}
-use Rattle.njh_keeper.specs.code.Remembered.{Mirrored, Numbers, OwnFiles}
+use Rattle.njh_keeper.proofs.Words
+use Words.{◌≡◌, ℕ, suc, ◌<◌, List, [], ◌∷◌, length, get_or, map, refl, sym, ap, ◌∙◌, arith, map-map, AllZip}
+use Words.{SpoolContents, Part, no_part, kept_of, own_of, HasBegun, Mirrored, Numbers, OwnFiles, left_in}
 use Rattle.njh_keeper.proofs.LeftLaws.{left_of_parts}
+use Rattle.njh_keeper.specs.declared.own_files.OwnFiles as own_files
 
 pub zip_by_place : {X Y : Type 0} (R : X → Y → Type 0) (xs : List X) (ys : List Y) (d : Y) → length xs ≡ length ys
     → ((c : ℕ) → (x : X) → c < length xs → x ≡ get_or xs c x → R x (get_or ys c d)) → AllZip R xs ys
@@ -19,8 +12,7 @@ zip_by_place R [] (y ∷ ys) d long each = absurd (omega (arith, long))
 zip_by_place R (x ∷ xs) [] d long each = absurd (omega (arith, long))
 zip_by_place R (x ∷ xs) (y ∷ ys) d long each = (
   each 0 x (omega arith) refl,
-  zip_by_place R xs ys d (omega (arith, long))
-      (λ c z low is. each (suc c) z (omega (arith, low)) is),
+  zip_by_place R xs ys d (omega (arith, long)) (λ c z low is. each (suc c) z (omega (arith, low)) is),
 )
 
 pub left_after : (names : List (List ℕ)) (hub : List Part) (owns : List own_files.OwnFiles) (w : Numbers)

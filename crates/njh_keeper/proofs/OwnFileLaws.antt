@@ -1,11 +1,8 @@
 -- A customer's whole files on a spool file: what leaves them alone, and how a hub reads them.
-use Rattle.std.proofs.Common.{◌≡◌, ℕ, List, [], ◌∷◌, map, Some, refl, ap, ◌∙◌}
-use Rattle.std.specs.List.{AllZip}
-use Rattle.njh_spoolfile.specs.Kept.{File, SpoolContents, Whole, whole_in}
-use Rattle.njh_spool.specs.Restoring.{KeptFile}
-use Rattle.njh_keeper.specs.Opened.{file_in, own_files}
-use Rattle.njh_keeper.specs.code.Mirrored.{ReadsAs, own_rows}
-use Rattle.njh_keeper.proofs.RowLaws.{own_files_are}
+use Rattle.std.{proofs.Common.{◌≡◌, ℕ, List, [], ◌∷◌, map, Some, refl, ap, ◌∙◌}, specs.List.AllZip}
+use Rattle.{njh_spoolfile.specs.Kept.{File, SpoolContents, Whole, whole_in}, njh_spool.specs.Restoring.KeptFile}
+use Rattle.njh_keeper.{proofs.RowLaws.own_files_are, specs.{code.Mirrored.{ReadsAs, own_rows}, Opened.file_in}}
+use Rattle.njh_keeper.specs.Opened.{own_files}
 
 -- ---- what leaves them alone
 

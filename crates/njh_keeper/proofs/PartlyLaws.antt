@@ -1,50 +1,17 @@
 -- What is remembered of files that aren't whole, and what stands of them on a spool file, call by call.
-use Rattle.std.proofs.Common.{◌≡◌, ◌≢◌, ℕ, zero, suc, ◌+◌, ◌^◌, ◌<◌, ◌≤◌, Bool, false, cond, List, [], ◌∷◌, ◌++◌}
-use Rattle.std.proofs.Common.{length, get_or, set, remove, map, take, refl, sym, ap, subst, ◌∙◌, arith}
-use Rattle.std.specs.Prelude.{⊤}
-use Rattle.std.specs.List.{AllByRecursion}
-use Rattle.njh_spool.specs.CustomerSpool.{CustomerSpool, partial_records}
-use Rattle.njh_spoolfile.specs.Kept.{SpoolContents, contents, records_of, without_records}
-use Rattle.std.proofs.lemmas.List.{take_all}
-use Rattle.njh_keeper.specs.code.Mirrored.{HasRecords, IsOrdered, WritesUnder}
-use Rattle.njh_keeper.specs.code.Partly.{GoesOn, KeepsNew, KeepsOn}
-use Rattle.njh_keeper.specs.code.Remembered.{AreApart, IsPartlyKept, KeptPartial, Numbers, OwnFiles, Sweep, claim}
-use Rattle.njh_keeper.specs.code.Remembered.{keyed, uses, with_key}
-use Rattle.njh_keeper.proofs.CallLaws.{take_follows, taken_is_empty}
-use Rattle.njh_keeper.proofs.FrameLaws.{drops_records}
-use Rattle.njh_keeper.proofs.KeyLaws.{keyed-append, keyed_apart, keyed_none, one_itself}
-use Rattle.njh_keeper.proofs.MirrorLaws.{mirrored_under}
-use Rattle.njh_keeper.proofs.MovesLaws.{moves_memory, moves_nothing, moves_then, moves_under, still_apart}
-use Rattle.njh_keeper.proofs.NumberedLaws.{all_at}
+use Rattle.njh_keeper.proofs.Words
+use Words.{◌≡◌, ◌≢◌, ℕ, zero, suc, ◌+◌, ◌^◌, ◌<◌, ◌≤◌, Bool, false, cond, List, [], ◌∷◌, ◌++◌, length, get_or, set}
+use Words.{remove, map, take, refl, sym, ap, subst, ◌∙◌, arith, take_all, AllByRecursion, ⊤, SpoolContents, contents}
+use Words.{records_of, without_records, CustomerSpool, partial_records, HasRecords, IsOrdered, WritesUnder, GoesOn}
+use Words.{KeepsNew, KeepsOn, AreApart, IsPartlyKept, KeptPartial, Numbers, OwnFiles, Sweep, claim, keyed, uses}
+use Words.{with_key}
+use Rattle.njh_keeper.proofs.{CallLaws.{take_follows, taken_is_empty}, FrameLaws.drops_records, KeyLaws.keyed-append}
+use Rattle.njh_keeper.proofs.{KeyLaws.{keyed_apart, keyed_none, one_itself}, ListLaws.{all_remove, all_set}}
+use Rattle.njh_keeper.proofs.{MirrorLaws.mirrored_under, MovesLaws.{moves_memory, moves_nothing, moves_then}}
+use Rattle.njh_keeper.proofs.{MovesLaws.{moves_under, still_apart}, NumberedLaws.{all-push, all_at}}
 use Rattle.njh_keeper.proofs.UsesLaws.{in_hand_alone, in_hand_is_used, partial_is_apart, sweep_is_apart}
 use Rattle.njh_keeper.proofs.UsesLaws.{uses_as_one_is_swept, uses_as_partial_changes, uses_as_partial_comes}
 use Rattle.njh_keeper.proofs.UsesLaws.{uses_as_partial_is_swept}
-
-module _ {X : Type 0} (P : X → Type 0) where
-  pub all_push : (xs : List X) (x : X) → AllByRecursion P xs → P x → AllByRecursion P (xs ++ x ∷ [])
-  all_push [] x all one = (one, tt)
-  all_push (y ∷ xs) x all one = (all.0, all_push xs x all.1 one)
-
-  pub all_remove : (xs : List X) (i : ℕ) → AllByRecursion P xs → AllByRecursion P (remove xs i)
-  all_remove [] zero all = tt
-  all_remove [] (suc i) all = tt
-  all_remove (y ∷ xs) zero all = all.1
-  all_remove (y ∷ xs) (suc i) all = (all.0, all_remove xs i all.1)
-
-  pub all_set : (xs : List X) (i : ℕ) (x : X) → AllByRecursion P (remove xs i) → P x → AllByRecursion P (set xs i x)
-  all_set [] i x all one = tt
-  all_set (y ∷ xs) zero x all one = (one, all)
-  all_set (y ∷ xs) (suc i) x all one = (all.0, all_set xs i x all.1 one)
-
-  -- of what they are seen as
-  pub all_map : {Y : Type 0} (f : Y → X) (ys : List Y) → AllByRecursion (λ y. P (f y)) ys → AllByRecursion P (map f ys)
-  all_map f [] all = tt
-  all_map f (y ∷ ys) all = (all.0, all_map f ys all.1)
-
-  pub all_of_map : {Y : Type 0} (f : Y → X) (ys : List Y) → AllByRecursion P (map f ys)
-      → AllByRecursion (λ y. P (f y)) ys
-  all_of_map f [] all = tt
-  all_of_map f (y ∷ ys) all = (all.0, all_of_map f ys all.1)
 
 -- P of those before a place, and Q of the others
 module _ {X : Type 0} (P Q : X → Type 0) where
@@ -105,8 +72,7 @@ in_hand_not_partial w own key apart = let once = apart key in let one = one_itse
 
 -- a number that is swept is no such file's
 swept_not_partial : (w : Numbers) (own : OwnFiles) (rest : List Sweep) (sweep : Sweep) → w.sweeps ≡ rest ++ sweep ∷ []
-    → AreApart (claim w own)
-    → keyed (λ (p : KeptPartial). p.key) sweep.key own.partial ≡ 0
+    → AreApart (claim w own) → keyed (λ (p : KeptPartial). p.key) sweep.key own.partial ≡ 0
 swept_not_partial w own rest sweep are apart =
     let once = apart sweep.key in
     let one = one_itself sweep.key in
@@ -143,8 +109,7 @@ module _ (now : CustomerSpool) (w : Numbers) (own : OwnFiles) where
       let first = take_follows w own s files h all w1 key taken next apart in
       let mid = still_apart (claim w own) (with_key key (claim w1 own)) s t first.moves apart in
       let none : keyed (λ (p : KeptPartial). p.key) key own.partial ≡ 0 = in_hand_not_partial w1 own key mid in
-      let then =
-      new files first.moves.ordered mid (taken_is_empty w own s files h all w1 key taken) first.mirrored
+      let then = new files first.moves.ordered mid (taken_is_empty w own s files h all w1 key taken) first.mirrored
       (under_all now s t key (drops_records key 0 (2 ^ 23) s h (omega arith)) own.partial
       (keyed_none (λ (p : KeptPartial). p.key) key own.partial none) go_on) in
       record {
@@ -169,14 +134,11 @@ module _ (now : CustomerSpool) (w : Numbers) (own : OwnFiles) where
             (λ n. let same = uses_as_partial_comes w own p n in omega (arith, same)) p.key t wrote.0
             (in_hand_is_used w own p.key) refl;
         mirrored = mirrored_under s t own files all p.key wrote.0 (in_hand_alone w own p.key apart);
-        go_on =
-            all_push (GoesOn now t) own.partial p
-            (under_all now s t p.key wrote.0 own.partial
+        go_on = all-push (GoesOn now t) own.partial p (under_all now s t p.key wrote.0 own.partial
             (keyed_none (λ (x : KeptPartial). x.key) p.key own.partial none) go_on)
             (λ more. record {
               written = omega (arith, whole);
-              stored = subst (λ rs. HasRecords p.key rs t)
-                  (sym (ap (λ n. take n (partial_records p.number now)) whole
+              stored = subst (λ rs. HasRecords p.key rs t) (sym (ap (λ n. take n (partial_records p.number now)) whole
                   ∙ take_all (length (partial_records p.number now)) (partial_records p.number now) (omega arith)))
                   wrote.1;
             });
@@ -188,25 +150,21 @@ module _ (now : CustomerSpool) (w : Numbers) (own : OwnFiles) where
       → t ≡ without_records sweep.key first end s
       → KeepsOn w own (record w {
         sweeps = rest ++ cond b (further ∷ []) [];
-        free_keys = w.free_keys ++ cond b []
-            (sweep.key ∷ []);
+        free_keys = w.free_keys ++ cond b [] (sweep.key ∷ []);
       }) own now s t
   keeps_while_swept rest sweep further b first end s t are same within dropped files h apart all go_on =
       let w' : Numbers = record w {
         sweeps = rest ++ cond b (further ∷ []) [];
-        free_keys = w.free_keys ++ cond b []
-            (sweep.key ∷ []);
+        free_keys = w.free_keys ++ cond b [] (sweep.key ∷ []);
       } in
       let under : WritesUnder sweep.key s t =
       subst (λ u. WritesUnder sweep.key s u) (sym dropped) (drops_records sweep.key first end s h within) in
       let alone = sweep_is_apart w own rest sweep are apart in
       let none = swept_not_partial w own rest sweep are apart in
       record {
-        moves =
-            moves_under (claim w own) (claim w' own) s refl
+        moves = moves_under (claim w own) (claim w' own) s refl
             (λ n. let used = uses_as_one_is_swept w own rest sweep further b are same n in omega (arith, used))
-            sweep.key t under
-            alone.1 refl;
+            sweep.key t under alone.1 refl;
         mirrored = mirrored_under s t own files all sweep.key under alone.0;
         go_on = under_all now s t sweep.key under own.partial
             (keyed_none (λ (p : KeptPartial). p.key) sweep.key own.partial none) go_on;
@@ -226,14 +184,11 @@ module _ (now : CustomerSpool) (w : Numbers) (own : OwnFiles) where
         let once : keyed (λ (x : KeptPartial). x.key) p.key own.partial ≤ 1 = let most =
         apart p.key in omega (arith, most) in
         record {
-          moves =
-              moves_under (claim w own) (claim w (record own { partial = set own.partial i q })) s refl
+          moves = moves_under (claim w own) (claim w (record own { partial = set own.partial i q })) s refl
               (λ n. let same = uses_as_partial_changes w own i p q there is key n in omega (arith, same)) p.key t
               wrote.0 alone.1 refl;
           mirrored = mirrored_under s t own files all p.key wrote.0 alone.0;
-          go_on =
-              all_set (GoesOn now t) own.partial i q
-              (under_all now s t p.key wrote.0 (remove own.partial i)
+          go_on = all_set (GoesOn now t) own.partial i q (under_all now s t p.key wrote.0 (remove own.partial i)
               (keyed_apart (λ (x : KeptPartial). x.key) own.partial i p there is once)
               (all_remove (GoesOn now s) own.partial i go_on))
               (λ more. subst (λ n. IsPartlyKept t q (partial_records n now)) (sym number) wrote.1);
@@ -245,13 +200,11 @@ module _ (now : CustomerSpool) (w : Numbers) (own : OwnFiles) where
     keeps_closed q s closed files h apart all go_on =
         let here = all_at (GoesOn now s) own.partial i p go_on there is in
         record {
-          moves =
-              moves_memory (claim w own) (claim w (record own { partial = set own.partial i q })) s refl
+          moves = moves_memory (claim w own) (claim w (record own { partial = set own.partial i q })) s refl
               (λ n. let same = uses_as_partial_changes w own i p q there is (ap (λ x. x.key) closed) n in omega
               (arith, same)) h (omega arith);
           mirrored = all;
-          go_on =
-              all_set (GoesOn now s) own.partial i q (all_remove (GoesOn now s) own.partial i go_on)
+          go_on = all_set (GoesOn now s) own.partial i q (all_remove (GoesOn now s) own.partial i go_on)
               (subst (GoesOn now s) (sym closed)
               (λ more. let one = here more in record { written = one.written; stored = one.stored }));
         }
@@ -261,8 +214,7 @@ module _ (now : CustomerSpool) (w : Numbers) (own : OwnFiles) where
         → KeepsOn w own (record w { sweeps = w.sweeps ++ sweep ∷ [] }) (record own { partial = remove own.partial i })
         now s s
     keeps_swept sweep s same files h apart all go_on = record {
-      moves =
-          moves_memory (claim w own) (claim (record w { sweeps = w.sweeps ++ sweep ∷ [] })
+      moves = moves_memory (claim w own) (claim (record w { sweeps = w.sweeps ++ sweep ∷ [] })
           (record own { partial = remove own.partial i })) s refl
           (λ n. uses_as_partial_is_swept w own i p sweep there is same n) h (omega arith);
       mirrored = all;

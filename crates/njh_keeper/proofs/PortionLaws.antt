@@ -1,57 +1,27 @@
 -- Records of files that aren't whole are kept, one call after the other.
-use Rattle.std.proofs.Common.{◌≡◌, ℕ, zero, suc, ◌+◌, ◌-◌, ◌^◌, ◌<◌, ◌≤◌, min, Bool, true, false, cond, if◌then◌else◌}
-use Rattle.std.proofs.Common.{◌⊎◌, inl, inr, Result, Ok, Err, IsOk, OnOk, List, [], ◌∷◌, ◌++◌, length, get_or, set}
-use Rattle.std.proofs.Common.{remove, take, map, slice_get, IsSomeAnd, refl, sym, ap, subst, ◌∙◌, arith}
-use Rattle.std.proofs.lemmas.List.{get_or-map, length-map, map-append, map-set, take_all}
-use Rattle.std.proofs.lemmas.Bool.{false≢true}
-use Rattle.std.proofs.lemmas.Option.{slice_get-get_or}
-use Rattle.njh_record.specs.Stored.{Stored}
-use Rattle.njh_keeper.specs.code.Alike.{Writes}
-use Rattle.sqlite.specs.State.{HasCleanDisk}
-use Rattle.sqlite.specs.Store.{Ghosts}
-use Rattle.njh_spool.specs.CustomerSpool.{CustomerSpool, partial_records}
-use Rattle.njh_spoolfile.specs.Kept.{SpoolContents, without_records}
-use Rattle.njh_spoolfile.specs.Shelf.{shown}
-use Rattle.njh_spoolfile.specs.Steps.{Changes}
+use Rattle.njh_keeper.proofs.Words
+use Words.{◌≡◌, ℕ, ◌+◌, ◌-◌, ◌^◌, ◌<◌, ◌≤◌, min, Bool, true, false, cond, ◌⊎◌, inl, inr, Result, Ok, Err, IsOk, OnOk}
+use Words.{List, [], ◌∷◌, ◌++◌, length, get_or, set, remove, take, map, slice_get, refl, sym, ap, subst, ◌∙◌, arith}
+use Words.{get_or-map, length-map, map-append, map-set, take_all, HasCleanDisk, Ghosts, Stored, SpoolContents}
+use Words.{without_records, shown, Changes, CustomerSpool, partial_records, Writes, Leads, numbers_of, own_of}
+use Words.{partial_of, sweep_in, HasRecords, IsOrdered, WritesUnder, AllClosed, AllSeen, IsSeen, IsUpToDate, KeepsNew}
+use Words.{KeepsOn, KeepsPartly, IsPartlyKept, KeptPartial, Numbers, OwnFiles, IsTaken, SpoolWriter}
+use Rattle.std.proofs.{Common.{if◌then◌else◌, IsSomeAnd}, lemmas.{Bool.false≢true, Option.slice_get-get_or}}
+use Rattle.njh_keeper.proofs.{AlikeLaws.begun_same, LeadingLaws.{leads_by, leads_nothing, leads_then, leads_weaker}}
+use Rattle.njh_keeper.proofs.{ListLaws.{all_remove, all_set, map-remove}, NumberedLaws.{all-push, all_weaker}}
+use Rattle.njh_keeper.proofs.PartlyLaws.{Halves, halves_at, halves_remove, halves_set, keeps_begun, keeps_closed}
+use Rattle.njh_keeper.proofs.PartlyLaws.{keeps_gone_on, keeps_on_nothing, keeps_on_then, keeps_swept, keeps_while_swept}
+use Rattle.njh_keeper.proofs.{PartlyLaws.keeps_taken, UsesLaws.uses_as_key_is_taken}
+use Rattle.njh_keeper.specs.code.{Partly.{IsSameButNumbers, KeepsPartlyNew}, Writing.{behind_of, first_of, freed_by}}
+use Rattle.njh_keeper.specs.code.Writing.{is_left, left_of, without_swept}
 use Rattle.njh_keeper.specs.declared.own_files.KeptPartial as kept_partial
 use Rattle.njh_keeper.specs.declared.own_files.OwnFiles as own_files
-use Rattle.njh_keeper.specs.declared.writer.SpoolWriter.{SpoolWriter}
 use Rattle.njh_keeper.specs.declared.writer.Sweep as sweep
-use Rattle.njh_keeper.specs.code.Leading.{Leads}
-use Rattle.njh_keeper.specs.code.Memory.{numbers_of, own_of, partial_of, sweep_in}
-use Rattle.njh_keeper.specs.code.Mirrored.{HasRecords, IsOrdered, WritesUnder}
-use Rattle.njh_keeper.specs.code.Partly.{AllClosed, AllSeen, IsSameButNumbers, IsSeen, IsUpToDate, KeepsNew, KeepsOn}
-use Rattle.njh_keeper.specs.code.Partly.{KeepsPartly, KeepsPartlyNew}
-use Rattle.njh_keeper.specs.code.Remembered.{IsPartlyKept, KeptPartial, Numbers, OwnFiles}
-use Rattle.njh_keeper.specs.code.Writing.{IsTaken, behind_of, first_of, freed_by, is_left, left_of, without_swept}
-use Rattle.njh_keeper.proofs.AlikeLaws.{begun_same}
-use Rattle.njh_keeper.proofs.LeadingLaws.{leads_by, leads_nothing, leads_then, leads_weaker}
-use Rattle.njh_keeper.proofs.PartlyLaws.{Halves, all_push, all_remove, all_set, halves_at, halves_remove, halves_set}
-use Rattle.njh_keeper.proofs.PartlyLaws.{keeps_begun, keeps_closed, keeps_gone_on, keeps_on_nothing, keeps_on_then}
-use Rattle.njh_keeper.proofs.PartlyLaws.{keeps_swept, keeps_while_swept, keeps_taken}
-use Rattle.njh_keeper.proofs.NumberedLaws.{all_weaker}
-use Rattle.njh_keeper.proofs.UsesLaws.{uses_as_key_is_taken}
 
 never : {A : Type 0} (b : Bool) → b ≡ false → b ≡ true → A
 never b closed about = absurd (false≢true (sym closed ∙ about))
 
-pub map-remove : {X Y : Type 0} (f : X → Y) (xs : List X) (i : ℕ) → map f (remove xs i) ≡ remove (map f xs) i
-map-remove f [] zero = refl
-map-remove f [] (suc i) = refl
-map-remove f (x ∷ xs) zero = refl
-map-remove f (x ∷ xs) (suc i) = ap (λ ys. f x ∷ ys) (map-remove f xs i)
-
 module _ {S : Type 0} (g : Ghosts S) (now : CustomerSpool) where
-  -- nothing is written
-  pub keeps_nothing : (w : SpoolWriter S) (own : own_files.OwnFiles) → KeepsPartly g now w own w own
-  keeps_nothing w own = record {
-    led = λ clean. leads_nothing (KeepsOn (numbers_of w) (own_of own) (numbers_of w) (own_of own) now) (shown g w.store)
-        (λ s. keeps_on_nothing now (numbers_of w) (own_of own) s);
-    seen = λ seen. seen;
-    numbers = refl;
-    others = refl;
-  }
-
   same_then : (w w1 w2 : SpoolWriter S) → IsSameButNumbers w w1 → IsSameButNumbers w1 w2 → IsSameButNumbers w w2
   same_then w w1 w2 one more = more ∙ ap (λ (x : SpoolWriter S). record x
       { store = w2.store; next_key = w2.next_key; free_keys = w2.free_keys; sweeps = w2.sweeps; waiting = w2.waiting })
@@ -66,11 +36,7 @@ module _ {S : Type 0} (g : Ghosts S) (now : CustomerSpool) where
       → (HasCleanDisk (shown g w2.store) → HasCleanDisk (shown g w1.store))
       → KeepsPartly g now w own w1 own1 → KeepsPartly g now w1 own1 w2 own2 → KeepsPartly g now w own w2 own2
   keeps_then w w1 w2 own own1 own2 early one more = record {
-    led = λ clean.
-        leads_then (KeepsOn (numbers_of w) (own_of own) (numbers_of w1) (own_of own1) now)
-        (KeepsOn (numbers_of w1) (own_of own1) (numbers_of w2) (own_of own2) now)
-        (KeepsOn (numbers_of w) (own_of own) (numbers_of w2) (own_of own2) now) (shown g w.store) (shown g w1.store)
-        (shown g w2.store) (one.led (early clean)) (more.led clean)
+    led = λ clean. leads_then (one.led (early clean)) (more.led clean)
         (λ s t u. keeps_on_then now (numbers_of w) (own_of own) (numbers_of w1) (numbers_of w2) (own_of own1)
         (own_of own2) s t u);
     seen = λ seen. more.seen (one.seen seen);
@@ -84,22 +50,15 @@ module _ {S : Type 0} (g : Ghosts S) (now : CustomerSpool) where
       → IsTaken w.free_keys.items w.next_key key w1.free_keys.items w1.next_key
       → w1 ≡ record w { store = w1.store; free_keys = w1.free_keys; next_key = w1.next_key }
       → (HasCleanDisk (shown g w1.store) → Changes (without_records key 0 (2 ^ 23)) (shown g w.store)
-      (shown g w1.store))
-      → KeepsPartlyNew g key now w1 own w2 own2 → KeepsPartly g now w own w2 own2
+      (shown g w1.store)) → KeepsPartlyNew g key now w1 own w2 own2 → KeepsPartly g now w own w2 own2
   keeps_with_taken w w1 w2 own own2 key early taken same emptied new =
       let n = numbers_of w in
       let n1 : Numbers = record n { free_keys = w1.free_keys.items; next_key = w1.next_key } in
       let is : numbers_of w1 ≡ n1 = ap numbers_of same in
       record {
-        led = λ clean.
-            leads_then (λ s t. t ≡ without_records key 0 (2 ^ 23) s)
-            (KeepsNew key n1 (own_of own) (numbers_of w2) (own_of own2) now)
-            (KeepsOn n (own_of own) (numbers_of w2) (own_of own2) now) (shown g w.store) (shown g w1.store)
-            (shown g w2.store)
-            (leads_by (without_records key 0 (2 ^ 23)) (shown g w.store) (shown g w1.store) (emptied (early clean)))
+        led = λ clean. leads_then (leads_by (emptied (early clean)))
             (subst (λ (m : Numbers). Leads (KeepsNew key m (own_of own) (numbers_of w2) (own_of own2) now)
-            (shown g w1.store) (shown g w2.store)) is (new.led clean))
-            (λ s t u here wrote.
+            (shown g w1.store) (shown g w2.store)) is (new.led clean)) (λ s t u here wrote.
             keeps_taken now n (own_of own) n1 (numbers_of w2) (own_of own2) key s u refl
             (uses_as_key_is_taken n (own_of own) key w1.free_keys.items w1.next_key taken)
             (subst (λ (x : SpoolContents). KeepsNew key n1 (own_of own) (numbers_of w2) (own_of own2) now x u) here
@@ -136,14 +95,11 @@ module _ {S : Type 0} (g : Ghosts S) (now : CustomerSpool) where
 
     -- those of one come for the first time
     pub keeps_first : (p : kept_partial.KeptPartial) → own1.partial.items ≡ own.partial.items ++ p ∷ []
-        → p.is_open ≡ true
-        → p.seen ≡ length (partial_records p.number now) → 1366 ≤ p.seen
-        → p.written ≡ length (partial_records p.number now)
-        → (HasCleanDisk (shown g w1.store)
+        → p.is_open ≡ true → p.seen ≡ length (partial_records p.number now) → 1366 ≤ p.seen
+        → p.written ≡ length (partial_records p.number now) → (HasCleanDisk (shown g w1.store)
         → Leads (λ s t. IsOrdered s → HasRecords p.key [] s
         → WritesUnder p.key s t × HasRecords p.key (partial_records p.number now) t) (shown g w.store)
-        (shown g w1.store))
-        → KeepsPartlyNew g p.key now w own w1 own1
+        (shown g w1.store)) → KeepsPartlyNew g p.key now w own w1 own1
     keeps_first p items is_open seen many whole wrote =
         let own' : OwnFiles = record (own_of own) { partial = (own_of own).partial ++ partial_of p ∷ [] } in
         let partial : map partial_of own1.partial.items ≡ (own_of own).partial ++ partial_of p ∷ [] =
@@ -154,14 +110,10 @@ module _ {S : Type 0} (g : Ghosts S) (now : CustomerSpool) where
               subst (λ (x : OwnFiles). Leads (KeepsNew p.key (numbers_of w) (own_of own) (numbers_of w1) x now)
               (shown g w.store) (shown g w1.store)) (sym is)
               (subst (λ (m : Numbers). Leads (KeepsNew p.key (numbers_of w) (own_of own) m own' now) (shown g w.store)
-              (shown g w1.store)) (sym numbers_still)
-              (leads_weaker _ (KeepsNew p.key (numbers_of w) (own_of own) (numbers_of w) own' now) (shown g w.store)
-              (shown g w1.store)
-              (λ s t written. keeps_begun now (numbers_of w) (own_of own) (partial_of p) s t whole written)
-              (wrote clean)));
-          seen = λ all.
-              subst (AllSeen now) (sym is)
-              (all_push (IsSeen now) (own_of own).partial (partial_of p) all (λ about. (seen, many)));
+              (shown g w1.store)) (sym numbers_still) (leads_weaker (wrote clean)
+              (λ s t written. keeps_begun now (numbers_of w) (own_of own) (partial_of p) s t whole written)));
+          seen = λ all. subst (AllSeen now) (sym is)
+              (all-push (IsSeen now) (own_of own).partial (partial_of p) all (λ about. (seen, many)));
           numbers = is_same;
           others = others;
         }
@@ -170,12 +122,10 @@ module _ {S : Type 0} (g : Ghosts S) (now : CustomerSpool) where
     pub keeps_more : (i : ℕ) (p q : kept_partial.KeptPartial) (n : ℕ) → i < length own.partial.items
         → p ≡ get_or own.partial.items i p → own1.partial.items ≡ set own.partial.items i q
         → p.number ≡ n → q.key ≡ p.key → q.number ≡ p.number → p.seen ≤ length (partial_records n now)
-        → q.seen ≡ length (partial_records n now) → 1366 ≤ q.seen
-        → (HasCleanDisk (shown g w1.store)
+        → q.seen ≡ length (partial_records n now) → 1366 ≤ q.seen → (HasCleanDisk (shown g w1.store)
         → Leads (λ s t. IsOrdered s → IsPartlyKept s (partial_of p) (partial_records n now)
         → WritesUnder p.key s t × IsPartlyKept t (partial_of q) (partial_records n now))
-        (shown g w.store) (shown g w1.store))
-        → KeepsPartly g now w own w1 own1
+        (shown g w.store) (shown g w1.store)) → KeepsPartly g now w own w1 own1
     keeps_more i p q n there at items mine key number grown seen many wrote =
         let ps = (own_of own).partial in
         let own' : OwnFiles = record (own_of own) { partial = set ps i (partial_of q) } in
@@ -186,21 +136,15 @@ module _ {S : Type 0} (g : Ghosts S) (now : CustomerSpool) where
         let here : partial_of p ≡ get_or ps i (partial_of p) =
         ap partial_of at ∙ sym (get_or-map partial_of own.partial.items i p (partial_of p) there) in
         record {
-          led = λ clean.
-              subst (λ (x : OwnFiles). Leads (KeepsOn (numbers_of w) (own_of own) (numbers_of w1) x now)
+          led = λ clean. subst (λ (x : OwnFiles). Leads (KeepsOn (numbers_of w) (own_of own) (numbers_of w1) x now)
               (shown g w.store) (shown g w1.store)) (sym is)
               (subst (λ (m : Numbers). Leads (KeepsOn (numbers_of w) (own_of own) m own' now) (shown g w.store)
-              (shown g w1.store)) (sym numbers_still)
-              (leads_weaker _ (KeepsOn (numbers_of w) (own_of own) (numbers_of w) own' now) (shown g w.store)
-              (shown g w1.store)
+              (shown g w1.store)) (sym numbers_still) (leads_weaker (wrote clean)
               (λ s t written. keeps_gone_on now (numbers_of w) (own_of own) i (partial_of p) within here (partial_of q)
-              s t key number
-              (subst (λ m. p.seen ≤ length (partial_records m now)) (sym mine) grown)
+              s t key number (subst (λ m. p.seen ≤ length (partial_records m now)) (sym mine) grown)
               (subst (λ m. IsOrdered s → IsPartlyKept s (partial_of p) (partial_records m now)
-              → WritesUnder p.key s t × IsPartlyKept t (partial_of q) (partial_records m now)) (sym mine) written))
-              (wrote clean)));
-          seen = λ all.
-              subst (AllSeen now) (sym is)
+              → WritesUnder p.key s t × IsPartlyKept t (partial_of q) (partial_records m now)) (sym mine) written))));
+          seen = λ all. subst (AllSeen now) (sym is)
               (all_set (IsSeen now) ps i (partial_of q) (all_remove (IsSeen now) ps i all)
               (λ about. (subst (λ m. q.seen ≡ length (partial_records m now)) (sym (number ∙ mine)) seen, many)));
           numbers = is_same;
@@ -236,14 +180,11 @@ module _ {S : Type 0} (g : Ghosts S) (now : CustomerSpool) where
           let own' : OwnFiles = record (own_of own) { partial = set ps i (partial_of q) } in
           let is : own_of own1 ≡ own' = ap own_of others ∙ (λ j. record (own_of own) { partial = partial_set j }) in
           record {
-            led = λ clean.
-                subst (λ (x : OwnFiles). Leads (KeepsOn (numbers_of w) (own_of own) (numbers_of w) x now)
+            led = λ clean. subst (λ (x : OwnFiles). Leads (KeepsOn (numbers_of w) (own_of own) (numbers_of w) x now)
                 (shown g w.store) (shown g w.store)) (sym is)
-                (leads_nothing (KeepsOn (numbers_of w) (own_of own) (numbers_of w) own' now) (shown g w.store)
-                (λ s. keeps_closed now (numbers_of w) (own_of own) i (partial_of p) within here (partial_of q) s
-                (ap partial_of closed)));
-            seen = λ all.
-                subst (AllSeen now) (sym is)
+                (leads_nothing (λ s. keeps_closed now (numbers_of w) (own_of own) i (partial_of p) within here
+                (partial_of q) s (ap partial_of closed)));
+            seen = λ all. subst (AllSeen now) (sym is)
                 (all_set (IsSeen now) ps i (partial_of q) (all_remove (IsSeen now) ps i all)
                 (never q.is_open (ap (λ x. x.is_open) closed)));
             numbers = refl;
@@ -277,16 +218,14 @@ module _ {S : Type 0} (g : Ghosts S) (now : CustomerSpool) where
           let numbers : numbers_of w1 ≡ n' = ap numbers_of same ∙ (λ j. record (numbers_of w) { sweeps = swept j }) in
           let store : w1.store ≡ w.store = ap (λ (x : SpoolWriter S). x.store) same in
           record {
-            led = λ clean.
-                subst (λ (x : OwnFiles). Leads (KeepsOn (numbers_of w) (own_of own) (numbers_of w1) x now)
+            led = λ clean. subst (λ (x : OwnFiles). Leads (KeepsOn (numbers_of w) (own_of own) (numbers_of w1) x now)
                 (shown g w.store) (shown g w1.store)) (sym is)
                 (subst (λ (m : Numbers). Leads (KeepsOn (numbers_of w) (own_of own) m own' now) (shown g w.store)
                 (shown g w1.store)) (sym numbers)
                 (subst (λ x. Leads (KeepsOn (numbers_of w) (own_of own) n' own' now) (shown g w.store) (shown g x))
                 (sym store)
-                (leads_nothing (KeepsOn (numbers_of w) (own_of own) n' own' now) (shown g w.store)
-                (λ s. keeps_swept now (numbers_of w) (own_of own) i (partial_of p) within here (sweep_in gone) s
-                key))));
+                (leads_nothing (λ s. keeps_swept now (numbers_of w) (own_of own) i (partial_of p) within here
+                (sweep_in gone) s key))));
             seen = λ all. subst (AllSeen now) (sym is) (all_remove (IsSeen now) ps i all);
             numbers =
                 same ∙ (λ j. record w {
@@ -349,19 +288,16 @@ module _ {S : Type 0} (g : Ghosts S) (now : CustomerSpool) (w w1 : SpoolWriter S
       let K : Numbers → SpoolContents → SpoolContents → Type 0 =
       λ m. KeepsOn (numbers_of w) (own_of own) m (own_of own) now in
       record {
-        led = λ clean.
-            subst (λ (m : Numbers). Leads (K m) (shown g w.store) (shown g w1.store)) (sym numbers)
+        led = λ clean. subst (λ (m : Numbers). Leads (K m) (shown g w.store) (shown g w1.store)) (sym numbers)
             (subst (λ x. Leads (K (numbers_of w)) (shown g w.store) (shown g x)) (sym store)
-            (leads_nothing (K (numbers_of w)) (shown g w.store)
-            (λ s. keeps_on_nothing now (numbers_of w) (own_of own) s)));
+            (leads_nothing (λ s. keeps_on_nothing now (numbers_of w) (own_of own) s)));
         seen = λ seen. seen;
         numbers = only_swept;
         others = refl;
       }
 
   some_is_swept : (before : List sweep.Sweep) (last : sweep.Sweep) → w.sweeps.items ≡ before ++ last ∷ []
-      → w1.sweeps.items ≡ before ++ left_of last
-      → w1.free_keys.items ≡ w.free_keys.items ++ freed_by last
+      → w1.sweeps.items ≡ before ++ left_of last → w1.free_keys.items ≡ w.free_keys.items ++ freed_by last
       → (HasCleanDisk (shown g w1.store) → Changes (without_swept last) (shown g w.store) (shown g w1.store))
       → KeepsPartly g now w own w1 own
   some_is_swept before last are left freed dropped =
@@ -382,15 +318,10 @@ module _ {S : Type 0} (g : Ghosts S) (now : CustomerSpool) (w w1 : SpoolWriter S
       let mine : n.sweeps ≡ map sweep_in before ++ sweep_in last ∷ [] =
       ap (map sweep_in) are ∙ map-append sweep_in before (last ∷ []) in
       record {
-        led = λ clean.
-            subst (λ (m : Numbers). Leads (KeepsOn n (own_of own) m (own_of own) now) (shown g w.store)
-            (shown g w1.store)) (sym numbers)
-            (leads_weaker (λ s t. t ≡ without_swept last s) (KeepsOn n (own_of own) n' (own_of own) now)
-            (shown g w.store) (shown g w1.store)
-            (λ s t is.
+        led = λ clean. subst (λ (m : Numbers). Leads (KeepsOn n (own_of own) m (own_of own) now) (shown g w.store)
+            (shown g w1.store)) (sym numbers) (leads_weaker (leads_by (dropped clean)) (λ s t is.
             keeps_while_swept now n (own_of own) (map sweep_in before) (sweep_in last) (sweep_in further) b
-            (first_of last) (behind_of last) s t mine refl (omega arith) is)
-            (leads_by (without_swept last) (shown g w.store) (shown g w1.store) (dropped clean)));
+            (first_of last) (behind_of last) s t mine refl (omega arith) is));
         seen = λ seen. seen;
         numbers = only_swept;
         others = refl;
@@ -429,16 +360,13 @@ module _ (p q : kept_partial.KeptPartial) (rs : List Stored) (key : q.key ≡ p.
 
   -- all that is left is written
   pub rest_is_written : (t : SpoolContents) → q.written ≡ length rs → Writes false p.key p.written rs s t → IsOrdered s
-      → IsPartlyKept s (partial_of p) rs
-      → WritesUnder p.key s t × IsPartlyKept t (partial_of q) rs
+      → IsPartlyKept s (partial_of p) rs → WritesUnder p.key s t × IsPartlyKept t (partial_of q) rs
   rest_is_written t whole wrote h one =
       let done = wrote (take p.written rs) h one.stored (begun_same p.written rs one.written) in (
         done.0,
         record {
           written = omega (arith, whole);
-          stored =
-              subst (λ k. HasRecords k (take q.written rs) t) (sym key)
-              (subst (λ xs. HasRecords p.key xs t)
+          stored = subst (λ k. HasRecords k (take q.written rs) t) (sym key) (subst (λ xs. HasRecords p.key xs t)
               (sym (ap (λ n. take n rs) whole ∙ take_all (length rs) rs (omega arith))) done.1);
         },
       )

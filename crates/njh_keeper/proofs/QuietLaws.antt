@@ -1,7 +1,6 @@
 -- Where nothing was written no commit is due.
-use Rattle.std.proofs.Common.{◌≡◌, true, refl, ◌∙◌}
+use Rattle.{std.proofs.Common.{◌≡◌, true, refl, ◌∙◌}, njh_keeper.specs.code.Following.IsQuiet}
 use Rattle.njh_keeper.specs.declared.writer.SpoolWriter.{SpoolWriter}
-use Rattle.njh_keeper.specs.code.Following.{IsQuiet}
 
 -- a writer that did nothing
 pub quiet_same : {S : Type 0} (w : SpoolWriter S) → IsQuiet w w

@@ -1,24 +1,14 @@
 -- The records of a hub's file are gone through, and what of them stands on a spool file.
-use Rattle.std.proofs.Common.{◌≡◌, ℕ, zero, suc, ◌+◌, ◌^◌, ◌<◌, ◌≤◌, ◌&&◌, Bool, true, false, List, [], ◌∷◌, ◌++◌}
-use Rattle.std.proofs.Common.{length, get_or, take, drop, slice_get, Option, Some, None, refl, sym, ap, subst, ◌∙◌}
-use Rattle.std.proofs.Common.{arith}
-use Rattle.std.specs.List.{AllByRecursion}
-use Rattle.std.proofs.lemmas.List.{drop-drop, take-append-drop, take-take}
-use Rattle.sqlite.specs.State.{State}
-use Rattle.njh_record.specs.Stored.{Stored}
-use Rattle.njh_spool.specs.CustomerSpool.{CustomerSpool}
-use Rattle.njh_spool.specs.Spools.{records_numbered}
-use Rattle.njh_stream.specs.SpoolFiles.{records_in}
-use Rattle.njh_spoolfile.specs.Kept.{Record, SpoolContents, with_record, without_records}
-use Rattle.njh_spoolfile.specs.Steps.{Changes}
-use Rattle.njh_keeper.specs.code.Alike.{AreAlike, AreBegun, Writes, is_header}
-use Rattle.njh_keeper.specs.code.Leading.{Leads}
-use Rattle.njh_keeper.specs.code.Mirrored.{FitsHub, HasRecords, IsOrdered, WritesUnder, records_midway, stored_of}
-use Rattle.njh_keeper.specs.code.Writing.{with_replaced}
-use Rattle.njh_keeper.specs.declared.writer.SpoolWriter.{SpoolWriter}
-use Rattle.njh_keeper.proofs.FinishLaws.{finish_adds, finish_ends, finish_passes, finish_rewrites}
-use Rattle.njh_keeper.proofs.FrameLaws.{changes_record, writes_nothing, writes_record, writes_then}
-use Rattle.njh_keeper.proofs.LeadingLaws.{leads_by, leads_nothing, leads_then, leads_weaker}
+use Rattle.njh_keeper.proofs.Words
+use Words.{◌≡◌, ℕ, zero, suc, ◌+◌, ◌^◌, ◌<◌, ◌≤◌, ◌&&◌, Bool, true, false, List, [], ◌∷◌, ◌++◌, length, get_or, take}
+use Words.{drop, slice_get, Option, Some, None, refl, sym, ap, subst, ◌∙◌, arith, take-append-drop, take-take}
+use Words.{AllByRecursion, State, Stored, Record, SpoolContents, with_record, without_records, Changes, CustomerSpool}
+use Words.{records_numbered, records_in, AreAlike, AreBegun, Writes, Leads, FitsHub, HasRecords, IsOrdered, WritesUnder}
+use Words.{records_midway, stored_of, SpoolWriter}
+use Rattle.{std.proofs.lemmas.List.drop-drop, njh_keeper.proofs.FinishLaws.{finish_adds, finish_ends, finish_passes}}
+use Rattle.njh_keeper.proofs.{FinishLaws.finish_rewrites, FrameLaws.{changes_record, writes_nothing, writes_record}}
+use Rattle.njh_keeper.proofs.{FrameLaws.writes_then, LeadingLaws.{leads_by, leads_nothing, leads_then, leads_weaker}}
+use Rattle.njh_keeper.specs.code.{Alike.is_header, Writing.with_replaced}
 
 -- ---- the next record of those that are left
 
@@ -35,8 +25,7 @@ none_is_left (x ∷ xs) zero is = absurd (cc is)
 none_is_left (x ∷ xs) (suc at) is = let past = none_is_left xs at is in omega (arith, past)
 
 next_fits : (all : List Stored) (at : ℕ) (r : Stored) → at < length all → r ≡ get_or all at r → FitsHub r
-    → AllByRecursion FitsHub (take at all)
-    → AllByRecursion FitsHub (take (suc at) all)
+    → AllByRecursion FitsHub (take at all) → AllByRecursion FitsHub (take (suc at) all)
 next_fits [] at r there is fits so_far = absurd (omega (arith, there))
 next_fits (x ∷ xs) zero r there is fits so_far = (subst FitsHub is fits, tt)
 next_fits (x ∷ xs) (suc at) r there is fits so_far =
@@ -44,8 +33,7 @@ next_fits (x ∷ xs) (suc at) r there is fits so_far =
 
 -- so many fit, and then one more
 pub one_more_fits : (all : List Stored) (at : ℕ) (r : Stored) → at < length all → r ≡ get_or all at r → FitsHub r
-    → AllByRecursion FitsHub (take at all)
-    → AllByRecursion FitsHub (take (at + 1) all)
+    → AllByRecursion FitsHub (take at all) → AllByRecursion FitsHub (take (at + 1) all)
 one_more_fits all at r there is fits so_far =
     let one : suc at ≡ at + 1 = omega arith in
     subst (λ n. AllByRecursion FitsHub (take n all)) one (next_fits all at r there is fits so_far)
@@ -89,18 +77,17 @@ IsFront all before = (length before ≤ length all) × AreAlike before (take (le
 
 module _ (key : ℕ) (Given : List Stored → Type 0) (all : List Stored)
     (front : (before : List Stored) → Given before → IsFront all before) where
-  pub reach_begins : (at : State) → Leads (Reaches key Given all 0) at at
-  reach_begins at = leads_nothing (Reaches key Given all 0) at (λ s before h has given. (writes_nothing key s h, has))
+  pub reach_begins : {at : State} → Leads (Reaches key Given all 0) at at
+  reach_begins = leads_nothing (λ s before h has given. (writes_nothing key s h, has))
 
-  module _ (at : ℕ) (old mid new : State) (so_far : Leads (Reaches key Given all at) old mid) where
+  module _ (at : ℕ) {old mid : State} (so_far : Leads (Reaches key Given all at) old mid) where
     -- a record is passed over that stands there
     pub reach_passes : ((before : List Stored) → Given before
         → records_midway (at + 1) all before ≡ records_midway at all before)
         → Leads (Reaches key Given all (at + 1)) old mid
     reach_passes same =
-        leads_weaker (Reaches key Given all at) (Reaches key Given all (at + 1)) old mid
-        (λ s t reached before h has given. let one = reached before h has given
-        in (one.0, subst (λ rs. HasRecords key rs t) (sym (same before given)) one.1)) so_far
+        leads_weaker so_far (λ s t reached before h has given. let one = reached before h has given in
+        (one.0, subst (λ rs. HasRecords key rs t) (sym (same before given)) one.1))
 
     module _ (r : Record) (low : at < 2 ^ 23) (mine : r.key ≡ key) (place : r.place ≡ at)
         (is : stored_of r ≡ get_or all at (stored_of r)) where
@@ -108,12 +95,10 @@ module _ (key : ℕ) (Given : List Stored → Type 0) (all : List Stored)
       lower = omega (arith, low, place)
 
       -- a record is added behind those that stood there
-      pub reach_adds : ((before : List Stored) → Given before → length before ≤ at) → at < length all
+      pub reach_adds : {new : State} → ((before : List Stored) → Given before → length before ≤ at) → at < length all
           → Changes (with_record r) mid new → Leads (Reaches key Given all (at + 1)) old new
       reach_adds behind within changes =
-          leads_then (Reaches key Given all at) (λ s t. t ≡ with_record r s) (Reaches key Given all (at + 1)) old mid
-          new so_far (leads_by (with_record r) mid new changes)
-          (λ s t u reached is_u before h has given.
+          leads_then so_far (leads_by changes) (λ s t u reached is_u before h has given.
           let one = reached before h has given in
           let all_front = front before given in
           subst (λ v. WritesUnder key s v × HasRecords key (records_midway (at + 1) all before) v) (sym is_u) (
@@ -123,12 +108,10 @@ module _ (key : ℕ) (Given : List Stored → Type 0) (all : List Stored)
           ))
 
       -- a header is written anew
-      pub reach_rewrites : ((before : List Stored) → Given before → at < length before)
+      pub reach_rewrites : {new : State} → ((before : List Stored) → Given before → at < length before)
           → Changes (with_replaced r) mid new → Leads (Reaches key Given all (at + 1)) old new
       reach_rewrites within changes =
-          leads_then (Reaches key Given all at) (λ s t. t ≡ with_replaced r s) (Reaches key Given all (at + 1)) old mid
-          new so_far (leads_by (with_replaced r) mid new changes)
-          (λ s t u reached is_u before h has given.
+          leads_then so_far (leads_by changes) (λ s t u reached is_u before h has given.
           let one = reached before h has given in
           let all_front = front before given in
           let as_key : with_replaced r t ≡ with_record r (without_records key at (at + 1) t) =
@@ -144,13 +127,11 @@ module _ (key : ℕ) (Given : List Stored → Type 0) (all : List Stored)
           ))
 
   -- none is left
-  pub reach_ends : (at : ℕ) (old new : State) → length all ≤ at → Leads (Reaches key Given all at) old new
+  pub reach_ends : (at : ℕ) {old new : State} → length all ≤ at → Leads (Reaches key Given all at) old new
       → Leads (λ s t. (before : List Stored) → IsOrdered s → HasRecords key before s → Given before
       → WritesUnder key s t × HasRecords key all t) old new
-  reach_ends at old new past =
-      leads_weaker (Reaches key Given all at) (λ s t. (before : List Stored) → IsOrdered s → HasRecords key before s
-      → Given before → WritesUnder key s t × HasRecords key all t) old new
-      (λ s t reached before h has given.
+  reach_ends at past so_far =
+      leads_weaker so_far (λ s t reached before h has given.
       let one = reached before h has given in
       let all_front = front before given in
       (one.0, subst (λ rs. HasRecords key rs t) (finish_ends before all all_front.0 all_front.1 at past) one.1))
@@ -181,7 +162,7 @@ begun_is_same true written all at r low is other before given =
     let all_front = begun_front true written all before given in
     finish_passes before all all_front.0 all_front.1 at r (omega (arith, low, given.0)) is other
 
-pub write_done : (is_old : Bool) (key written : ℕ) (all : List Stored) (at : ℕ) (old new : State) → length all ≤ at
+pub write_done : (is_old : Bool) (key written : ℕ) (all : List Stored) (at : ℕ) {old new : State} → length all ≤ at
     → Leads (Reaches key (AreBegun is_old written all) all at) old new → Leads (Writes is_old key written all) old new
-write_done is_old key written all at old new past so_far =
-    reach_ends key (AreBegun is_old written all) all (begun_front is_old written all) at old new past so_far
+write_done is_old key written all at past so_far =
+    reach_ends key (AreBegun is_old written all) all (begun_front is_old written all) at past so_far

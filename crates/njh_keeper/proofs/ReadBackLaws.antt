@@ -1,21 +1,11 @@
 -- A row that is read as a file of a hub says what the spool file has of it.
-use Rattle.std.proofs.Common.{◌≡◌, ℕ, ◌+◌, ◌==◌, nat_lt, nat_le, ◌&&◌, Bool, true, false, cond, List, [], ◌∷◌, length}
-use Rattle.std.proofs.Common.{map, Option, Some, None, option_map, bytes_eq, codes, refl, sym, ap, subst, ◌∙◌, arith}
-use Rattle.std.specs.List.{AllByRecursion}
-use Rattle.std.specs.Cmp.Lexicographic.{bytes_decides}
-use Rattle.std.proofs.lemmas.Bool.Decides.{nat_tests}
-use Rattle.std.proofs.lemmas.List.{length-map}
-use Rattle.njh_record.specs.declared.Kind.{Kind}
-use Rattle.njh_record.specs.declared.Kind.TheVariants.{In, Out}
-use Rattle.njh_spool.specs.Restoring.{KeptFile}
-use Rattle.njh_spool.specs.CustomerSpool.{WholeFile}
-use Rattle.njh_spoolfile.specs.Kept.{File, SpoolContents, contents, records_of}
-use Rattle.njh_turns.specs.Keeping.{is_held}
-use Rattle.njh_keeper.specs.Opened.{Contents, are_records_from, are_records_of, as_stored, file_in, is_record_at}
-use Rattle.njh_keeper.specs.Opened.{kind_of_word, kind_word}
-use Rattle.njh_keeper.specs.code.Mirrored.{FitsHub, HasRecords, contents_from}
-use Rattle.njh_keeper.specs.code.Remembered.{IsKept, KeptWhole, Remembers}
-use Rattle.njh_keeper.proofs.NumberedLaws.{equal_to}
+use Rattle.njh_keeper.proofs.Words
+use Words.{◌≡◌, ℕ, ◌+◌, ◌==◌, nat_lt, nat_le, ◌&&◌, Bool, true, false, cond, List, [], ◌∷◌, length, map, Option, Some}
+use Words.{None, option_map, bytes_eq, refl, sym, ap, subst, ◌∙◌, arith, and_parts, nat_tests, length-map}
+use Words.{bytes_decides, AllByRecursion, Kind, In, Out, File, SpoolContents, contents, records_of, WholeFile, KeptFile}
+use Words.{is_held, FitsHub, HasRecords, contents_from, IsKept, KeptWhole, Remembers, Contents, are_records_from}
+use Words.{are_records_of, as_stored, file_in, is_record_at, kind_of_word, kind_word}
+use Rattle.{std.proofs.Common.codes, njh_keeper.proofs.NumberedLaws.equal_to}
 
 pub record IsReadAs (spool : SpoolContents) (file : File) (f : KeptFile) : Type 0 where
   pub kind : file.kind ≡ kind_word f.kind
@@ -23,10 +13,6 @@ pub record IsReadAs (spool : SpoolContents) (file : File) (f : KeptFile) : Type 
   pub count : file.records ≡ length f.records
   pub stored : HasRecords file.key f.records spool
   pub fits : AllByRecursion FitsHub f.records
-
-both_true : (a b : Bool) → (a && b) ≡ true → (a ≡ true) × (b ≡ true)
-both_true true b e = (refl, e)
-both_true false b e = absurd (cc e)
 
 -- ---- its records
 
@@ -37,9 +23,9 @@ record AreStored (place : ℕ) (cs : List Contents) : Type 0 where
 are_stored : (place : ℕ) (cs : List Contents) → are_records_from place cs ≡ true → AreStored place cs
 are_stored place [] is = record { are = refl; fits = tt }
 are_stored place (c ∷ cs) is =
-    let each = both_true (is_record_at place c) (are_records_from (place + 1) cs) is in
-    let here = both_true (c.0 == place) (nat_lt c.1 256 && nat_le (length c.2) 256) each.0 in
-    let low = both_true (nat_lt c.1 256) (nat_le (length c.2) 256) here.1 in
+    let each = and_parts (is_record_at place c) (are_records_from (place + 1) cs) is in
+    let here = and_parts (c.0 == place) (nat_lt c.1 256 && nat_le (length c.2) 256) each.0 in
+    let low = and_parts (nat_lt c.1 256) (nat_le (length c.2) 256) here.1 in
     let at : c.0 ≡ place = equal_to c.0 place here.0 in
     let rest = are_stored (place + 1) cs each.1 in
     record {
@@ -50,8 +36,7 @@ are_stored place (c ∷ cs) is =
 -- ---- its kind
 
 by_word : (word : List ℕ) (kind : Kind) (a b : Bool) → (a ≡ true → word ≡ kind_word In)
-    → (b ≡ true → word ≡ kind_word Out)
-    → cond a (Some In) (cond b (Some Out) None) ≡ Some kind → word ≡ kind_word kind
+    → (b ≡ true → word ≡ kind_word Out) → cond a (Some In) (cond b (Some Out) None) ≡ Some kind → word ≡ kind_word kind
 by_word word kind true b first second is = first refl ∙ (let same : In ≡ kind = cc is in ap kind_word same)
 by_word word kind false true first second is = second refl ∙ (let same : Out ≡ kind = cc is in ap kind_word same)
 by_word word kind false false first second is = absurd (cc is)
@@ -73,7 +58,7 @@ module _ (spool : SpoolContents) (file : File) where
   read_so : (kind : Kind) → kind_of_word file.kind ≡ Some kind → are_records_of file cs ≡ true
       → IsReadAs spool file (as_file kind)
   read_so kind word all =
-      let each = both_true (length cs == file.records) (are_records_from 0 cs) all in
+      let each = and_parts (length cs == file.records) (are_records_from 0 cs) all in
       let stored = are_stored 0 cs each.1 in
       record {
         kind = word_of_kind file.kind kind word;

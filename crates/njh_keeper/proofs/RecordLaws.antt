@@ -1,22 +1,15 @@
 -- What becomes of the records under each key.
-use Rattle.std.proofs.Common.{◌≡◌, ◌≢◌, ℕ, zero, suc, ◌+◌, ◌^◌, ◌<◌, ◌≤◌, ◌==◌, nat_le, nat_lt, ◌&&◌, true, false, not}
-use Rattle.std.proofs.Common.{List, [], ◌∷◌, ◌++◌, length, get_or, set, drop, map, All, Some, refl, sym, ap, subst, ◌∙◌}
-use Rattle.std.proofs.Common.{arith}
-use Rattle.std.specs.List.{AllByRecursion}
-use Rattle.std.proofs.lemmas.Bool.Decides.{nat_tests}
-use Rattle.std.proofs.lemmas.List.{get_or_default}
-use Rattle.std.proofs.lemmas.List.Elements.{All-filter, All-from_recursion, filter_passes, recursion_from_All}
-use Rattle.njh_record.specs.Stored.{Stored}
-use Rattle.njh_record.specs.declared.Kind.{Kind}
-use Rattle.njh_spoolfile.specs.Kept.{File, Record, SpoolContents, IsNumbered, Rise, contents, put, without}
-use Rattle.njh_spoolfile.specs.Kept.{record_number, records_of, with_record, without_records}
-use Rattle.njh_spoolfile.proofs.Rows.{all_put, put_rises, without_rises}
-use Rattle.njh_keeper.specs.Opened.{Contents, as_stored, are_records_from, are_records_of, file_in, kind_of_word}
-use Rattle.njh_keeper.specs.code.Mirrored.{FitsHub, HasRecords, IsOrdered, contents_from, stored_of}
-use Rattle.njh_keeper.proofs.FileLaws.{is_file}
-use Rattle.njh_keeper.proofs.NumberedLaws.{all_filter, all_weaker, equal, equal_to, filter_none, filter-put}
-use Rattle.njh_keeper.proofs.NumberedLaws.{filter-put_other, filter-without, filter-without_other, put_at, put_last}
-use Rattle.njh_keeper.proofs.NumberedLaws.{unequal}
+use Rattle.njh_keeper.proofs.Words
+use Words.{◌≡◌, ◌≢◌, ℕ, zero, suc, ◌+◌, ◌^◌, ◌<◌, ◌≤◌, ◌==◌, nat_le, nat_lt, ◌&&◌, true, false, not, List, [], ◌∷◌}
+use Words.{◌++◌, length, get_or, set, drop, map, Some, refl, sym, ap, subst, ◌∙◌, arith, nat_tests, get_or_default}
+use Words.{All-filter, All-from_recursion, filter_passes, recursion_from_All, AllByRecursion, Kind, Stored, all_put}
+use Words.{put_rises, without_rises, File, Record, SpoolContents, Rise, contents, put, without, records_of, with_record}
+use Words.{without_records, FitsHub, HasRecords, IsOrdered, contents_from, stored_of, Contents, as_stored}
+use Words.{are_records_from, are_records_of, file_in, kind_of_word}
+use Rattle.{std.proofs.Common.All, njh_spoolfile.specs.Kept.{IsNumbered, record_number}}
+use Rattle.njh_keeper.proofs.{FileLaws.is_file, NumberedLaws.{all_filter, all_weaker, equal, equal_to, filter_none}}
+use Rattle.njh_keeper.proofs.NumberedLaws.{filter-put, filter-put_other, filter-without, filter-without_other, put_at}
+use Rattle.njh_keeper.proofs.NumberedLaws.{put_last, unequal}
 
 -- ---- the order stays
 
@@ -58,8 +51,7 @@ pub records_of_another_leave : (key j first end : ℕ) (spool : SpoolContents) �
     → records_of key (without_records j first end spool) ≡ records_of key spool
 records_of_another_leave key j first end spool h other within =
     filter-without_other (λ e. e.1.key == key) (λ n. nat_le (record_number j first) n && nat_lt n (record_number j end))
-    spool.records
-    (all_weaker IsNumbered (λ e. (e.1.key == key) ≡ true
+    spool.records (all_weaker IsNumbered (λ e. (e.1.key == key) ≡ true
     → (nat_le (record_number j first) e.0 && nat_lt e.0 (record_number j end)) ≡ false)
     (λ e one mine. apart key j first end e other within one mine) spool.records h.numbered)
 
@@ -103,8 +95,7 @@ module _ (key : ℕ) where
           key = under.0.1 i;
           place = at i;
           srcb = ap (λ (c : Contents). c.1) first i;
-          bytes = ap
-              (λ (c : Contents). c.2) first i;
+          bytes = ap (λ (c : Contents). c.2) first i;
         },
       ) ∷ rest i
 
@@ -163,8 +154,7 @@ pub all_leave : (key : ℕ) (spool : SpoolContents) → IsOrdered spool
     → HasRecords key [] (without_records key 0 (2 ^ 23) spool)
 all_leave key spool h =
     let between = λ (n : ℕ). nat_le (record_number key 0) n && nat_lt n (record_number key (2 ^ 23)) in
-    ap (map contents)
-    (filter-without (λ e. e.1.key == key) between spool.records
+    ap (map contents) (filter-without (λ e. e.1.key == key) between spool.records
     ∙ filter_none (λ e. not (between e.0)) (records_of key spool)
     (all_weaker (IsUnder key) (λ e. not (between e.0) ≡ false) (within_key key) (records_of key spool)
     (are_under key spool h)))
@@ -189,8 +179,7 @@ module _ (key : ℕ) (rs : List Stored) (r : Record) (spool : SpoolContents) (h 
 
   pub record_comes_last : r.place ≡ length rs → HasRecords key (rs ++ stored_of r ∷ []) (with_record r spool)
   record_comes_last at =
-      ap (map contents)
-      (filter-put (λ e. e.1.key == key) new spool.records h.records_rise is_mine
+      ap (map contents) (filter-put (λ e. e.1.key == key) new spool.records h.records_rise is_mine
       ∙ (λ i. put (new_is (length rs) at i) (are i))
       ∙ put_last (record_number key (length rs)) _ (entries key 0 rs) (entries_below key (length rs) 0 rs (omega arith))
       ∙ sym (entries_push key 0 (length rs) rs (stored_of r) (omega arith)))
@@ -204,15 +193,13 @@ module _ (key : ℕ) (rs : List Stored) (r : Record) (spool : SpoolContents) (h 
       let d = entry key i (stored_of r) in
       let within : i < length es = omega (arith, there, length-entries key 0 rs) in
       let number = number_at key 0 i i rs d (omega arith) there in
-      ap (map contents)
-      (filter-put (λ e. e.1.key == key) new (without_records key i (i + 1) spool).records
+      ap (map contents) (filter-put (λ e. e.1.key == key) new (without_records key i (i + 1) spool).records
       (without_rises between spool.records h.records_rise) is_mine
       ∙ ap (put new) (filter-without (λ e. e.1.key == key) between spool.records)
       ∙ (λ j. put (new_is i at j) (without (λ n. between_one key i n j) (are j)))
       ∙ subst (λ n. put (n, d.1) (without (λ m. m == n) es) ≡ set es i (n, d.1)) number
       (put_at es i (get_or es i d) d.1 (entries_rise key 0 rs) within (get_or_default es i d (get_or es i d) within))
-      ∙ entries-set key 0 i i rs (stored_of r) (omega arith))
-      ∙ contents-entries key 0 (set rs i (stored_of r))
+      ∙ entries-set key 0 i i rs (stored_of r) (omega arith)) ∙ contents-entries key 0 (set rs i (stored_of r))
 
 -- ---- they are read back
 

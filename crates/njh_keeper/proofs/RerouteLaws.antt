@@ -1,16 +1,9 @@
 -- What REROUTE leaves of a file's records, and what is known of them by the file's destination.
-use Rattle.std.proofs.Common.{◌≡◌, ◌⊎◌, inl, inr, true, List, ℕ, Some, None, refl, sym, ap, subst, ◌∙◌}
-use Rattle.njh_ebcdic.specs.Names.{is_name}
-use Rattle.njh_ebcdic.specs.Users.{User}
-use Rattle.njh_record.specs.Stored.{Stored}
-use Rattle.njh_record.specs.declared.Kind.{Kind}
-use Rattle.njh_header.specs.FileHeaders.{destination_of}
-use Rattle.njh_header.specs.Redirecting.{records_to_node}
-use Rattle.njh_header.proofs.Destinations.{goes_to_node, records_twice}
-use Rattle.njh_customer.specs.Surviving.{IsRerouted, as_before, to_node}
-use Rattle.njh_hub.specs.Files.{said_destination}
-use Rattle.njh_keeper.specs.code.Remembered.{NameOneNode}
-use Rattle.njh_keeper.proofs.NodeLaws.{said_is}
+use Rattle.njh_keeper.proofs.Words
+use Words.{◌≡◌, ◌⊎◌, inl, inr, true, List, ℕ, Some, None, refl, sym, ap, subst, ◌∙◌, is_name, User, Kind, Stored}
+use Words.{destination_of, records_to_node, IsRerouted, said_destination, NameOneNode}
+use Rattle.{njh_header.proofs.Destinations.{goes_to_node, records_twice}, njh_customer.specs.Surviving.as_before}
+use Rattle.{njh_customer.specs.Surviving.to_node, njh_keeper.proofs.NodeLaws.said_is}
 
 -- they were sent to a node
 pub record AreSentTo (kind : Kind) (before now : List Stored) : Type 0 where
@@ -31,8 +24,7 @@ last_decides kind _ now (to_node node before _ named more) =
     later (inr sent) = inr (record {
       node = sent.node;
       named = sent.named;
-      are = sent.are
-          ∙ records_twice kind node sent.node named sent.named None before;
+      are = sent.are ∙ records_twice kind node sent.node named sent.named None before;
     })
 
 module _ (kind : Kind) (before now : List Stored) (d : User) (reads : destination_of kind before ≡ Some d) where
@@ -46,8 +38,7 @@ module _ (kind : Kind) (before now : List Stored) (d : User) (reads : destinatio
   sent_name_one sent =
       subst (NameOneNode kind) (sym sent.are)
       (ap (λ node. records_to_node kind node None (records_to_node kind sent.node None before))
-      (said_node sent.node sent.named)
-      ∙ records_twice kind sent.node sent.node sent.named sent.named None before)
+      (said_node sent.node sent.named) ∙ records_twice kind sent.node sent.node sent.named sent.named None before)
 
   -- they are as they were, or their headers name one node
   pub same_or_one_node : IsRerouted kind before now → (now ≡ before) ⊎ NameOneNode kind now
@@ -65,7 +56,6 @@ module _ (kind : Kind) (before now : List Stored) (d : User) (reads : destinatio
       either : (now ≡ before) ⊎ AreSentTo kind before now → now ≡ before
       either (inl still) = still
       either (inr sent) =
-          let node : sent.node ≡ (said_destination kind before).node =
-          sym (said_node sent.node sent.named)
+          let node : sent.node ≡ (said_destination kind before).node = sym (said_node sent.node sent.named)
           ∙ ap (λ rs. (said_destination kind rs).node) (sym sent.are) ∙ ap (λ (u : User). u.node) same in
           sent.are ∙ ap (λ n. records_to_node kind n None before) node ∙ one

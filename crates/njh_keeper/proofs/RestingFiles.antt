@@ -1,34 +1,15 @@
 -- A customer's files where none is being sent: what is kept of them, and that it can be put back.
-use Rattle.std.proofs.Common.{◌≡◌, ℕ, ◌+◌, ◌≤◌, ◌&&◌, ◌||◌, nat_le, nat_lt, Bool, true, false, cond, List, [], ◌∷◌}
-use Rattle.std.proofs.Common.{◌++◌, length, map, get_or, drop, Option, Some, None, is_some, refl, sym, ap, ◌∙◌, arith}
-use Rattle.std.specs.Prelude.{sum_by}
-use Rattle.std.specs.List.{AllByRecursion, Contains}
-use Rattle.std.proofs.lemmas.Bool.{le-leb, lt-ltb}
-use Rattle.std.proofs.lemmas.List.{length-append, length-map}
-use Rattle.std.proofs.lemmas.List.Elements.{Contains-append_right}
-use Rattle.std.proofs.lemmas.List.Sums.{sum_by-cons, sum_by_push}
-use Rattle.njh_ebcdic.specs.Users.{User}
-use Rattle.njh_header.specs.FileHeaders.{file_owner, destination_of}
-use Rattle.njh_header.specs.FileNames.{FileName}
-use Rattle.njh_header.specs.WholeFiles.{HasHeaders}
-use Rattle.njh_record.specs.Stored.{Stored}
-use Rattle.njh_record.specs.declared.Kind.{Kind}
-use Rattle.njh_spool.specs.CustomerSpool.{CustomerSpool, WholeFile, cost, used_blocks}
-use Rattle.njh_spool.specs.declared.State.{State}
-use Rattle.njh_spool.specs.declared.State.TheVariants.{Ready, Held, Refused, Sending}
-use Rattle.njh_spool.specs.Restoring.{KeptFile, has_blocks_for, has_headers, kept, limits_fault, restore_fault}
-use Rattle.njh_spool.specs.declared.restoring.fault.RestoreFault.TheVariants.{BadHeader, FilesOver, QuotaOver}
-use Rattle.njh_stream.specs.Holding.{destination_unrouted, has_lost_route, held_file, waits_in_state}
-use Rattle.njh_table.specs.Entries.{CustomerEntry}
-use Rattle.njh_customer.specs.InOrder.{at_rest, state_at_rest}
-use Rattle.njh_customer.specs.Part.{Part}
-use Rattle.njh_turns.specs.Keeping.{is_held, kept_file}
-use Rattle.njh_hub.specs.Restored.{part_with_file}
-use Rattle.njh_spoolfile.specs.Kept.{Whole}
-use Rattle.njh_keeper.specs.LinesLost.{file_at_rest}
-use Rattle.njh_keeper.specs.Opened.{AreBack, file_in}
-use Rattle.njh_keeper.specs.OpenedFiles.{as_opened}
-use Rattle.njh_keeper.proofs.BackLaws.{back_with}
+use Rattle.njh_keeper.proofs.Words
+use Words.{◌≡◌, ℕ, ◌+◌, ◌≤◌, ◌&&◌, ◌||◌, nat_le, nat_lt, Bool, true, false, cond, List, [], ◌∷◌, ◌++◌, length, map}
+use Words.{get_or, drop, Option, Some, None, is_some, refl, sym, ap, ◌∙◌, arith, lt-ltb, length-map, sum_by_push}
+use Words.{AllByRecursion, User, Kind, Stored, destination_of, HasHeaders, Whole, CustomerEntry, CustomerSpool}
+use Words.{WholeFile, cost, used_blocks, BadHeader, FilesOver, QuotaOver, Ready, Held, Sending, KeptFile}
+use Words.{has_blocks_for, has_headers, restore_fault, destination_unrouted, has_lost_route, held_file, waits_in_state}
+use Words.{part_with_file, is_held, kept_file, file_at_rest, AreBack, file_in, as_opened}
+use Rattle.std.proofs.lemmas.{Bool.le-leb, List.{length-append, Elements.Contains-append_right, Sums.sum_by-cons}}
+use Rattle.{std.specs.{List.Contains, Prelude.sum_by}, njh_header.specs.{FileHeaders.file_owner, FileNames.FileName}}
+use Rattle.njh_spool.specs.{declared.State.{State, TheVariants.Refused}, Restoring.{kept, limits_fault}}
+use Rattle.{njh_customer.specs.{InOrder.{at_rest, state_at_rest}, Part.Part}, njh_keeper.proofs.BackLaws.back_with}
 use Rattle.njh_keeper.proofs.OpenedLaws.{held_back, new}
 
 -- ---- none is being sent
@@ -147,8 +128,7 @@ none_refused f fs s reads room =
     let files : nat_lt (length s.whole + length s.partial) s.limit ≡ true =
     lt-ltb (length s.whole + length s.partial) s.limit (omega (arith, room.files)) in
     let blocks : nat_le (used_blocks s + cost f.records) s.quota ≡ true =
-    le-leb (used_blocks s + cost f.records) s.quota
-    (omega (arith, room.blocks, sum_by-cons cost_of_kept f fs)) in
+    le-leb (used_blocks s + cost f.records) s.quota (omega (arith, room.blocks, sum_by-cons cost_of_kept f fs)) in
     ap (λ b. cond b (limits_fault f.records s) (Some BadHeader)) reads
     ∙ ap (λ b. cond b (cond (has_blocks_for f.records s) None (Some QuotaOver)) (Some FilesOver)) files
     ∙ ap (λ b. cond b None (Some QuotaOver)) blocks

@@ -1,21 +1,14 @@
 -- What becomes of the rows of each customer.
-use Rattle.std.proofs.Common.{◌≡◌, ◌≢◌, ℕ, ◌+◌, ◌<◌, ◌==◌, Bool, true, false, List, [], ◌∷◌, ◌++◌, length, get_or, set}
-use Rattle.std.proofs.Common.{remove, map, filter, Result, Ok, Err, bytes_eq, refl, sym, ap, subst, append-nil, ◌∙◌}
-use Rattle.std.proofs.Common.{arith}
-use Rattle.std.specs.List.{AllByRecursion}
-use Rattle.std.specs.Cmp.Lexicographic.{bytes_decides}
-use Rattle.std.proofs.lemmas.List.Elements.{filter-append, filter_passes}
-use Rattle.njh_ebcdic.specs.Reading.{name_of_text}
-use Rattle.njh_ebcdic.specs.declared.name.NameFault.{NameFault}
-use Rattle.sqlite_trees.specs.Tree.{Trees}
-use Rattle.njh_spoolfile.specs.Kept.{File, Holds, SpoolContents, Whole, Rise, put, whole_in, with_file, without_file}
-use Rattle.njh_spoolfile.specs.Kept.{with_changed}
-use Rattle.njh_spoolfile.proofs.Rows.{all_put, put_rises, without_rises}
-use Rattle.njh_keeper.specs.Opened.{is_own, own_files}
-use Rattle.njh_keeper.specs.code.Mirrored.{IsOrdered, own_rows}
-use Rattle.njh_keeper.proofs.NumberedLaws.{all_at, all_filter, all_weaker, filter-map, kept_apart, rises_filter}
-use Rattle.njh_keeper.proofs.NumberedLaws.{filter_there, filter-put, filter-put_other, filter-without}
-use Rattle.njh_keeper.proofs.NumberedLaws.{filter-without_other, one_at, put_at, put_last, unequal, without_at}
+use Rattle.njh_keeper.proofs.Words
+use Words.{◌≡◌, ◌≢◌, ℕ, ◌+◌, ◌<◌, ◌==◌, Bool, true, false, List, [], ◌∷◌, ◌++◌, length, get_or, set, remove, map}
+use Words.{filter, Result, Ok, Err, bytes_eq, refl, sym, ap, subst, append-nil, ◌∙◌, arith, filter_passes}
+use Words.{bytes_decides, AllByRecursion, Trees, NameFault, name_of_text, all_put, put_rises, without_rises, File}
+use Words.{Holds, SpoolContents, Whole, Rise, put, whole_in, with_file, without_file, with_changed, IsOrdered, own_rows}
+use Words.{is_own, own_files}
+use Rattle.{std.proofs.lemmas.List.Elements.filter-append, njh_keeper.proofs.NumberedLaws.{all_at, all_filter}}
+use Rattle.njh_keeper.proofs.NumberedLaws.{all_weaker, filter-map, kept_apart, rises_filter, filter_there, filter-put}
+use Rattle.njh_keeper.proofs.NumberedLaws.{filter-put_other, filter-without, filter-without_other, one_at, put_at}
+use Rattle.njh_keeper.proofs.NumberedLaws.{put_last, unequal, without_at}
 
 -- ---- the order is there, and stays
 
@@ -50,8 +43,7 @@ pub below_without_file : (end id : ℕ) (spool : SpoolContents) → AllByRecursi
 below_without_file end id spool all = all_filter _ (λ (e : ℕ × File). e.0 < end) spool.files all
 
 pub below_with_changed : (end id : ℕ) (file : File) (spool : SpoolContents) → id < end
-    → AllByRecursion (λ e. e.0 < end) spool.files
-    → AllByRecursion (λ e. e.0 < end) (with_changed id file spool).files
+    → AllByRecursion (λ e. e.0 < end) spool.files → AllByRecursion (λ e. e.0 < end) (with_changed id file spool).files
 below_with_changed end id file spool less all =
     all_put (λ e. e.0 < end) (id, file) (without_file id spool).files less (below_without_file end id spool all)
 
@@ -112,8 +104,7 @@ module _ (name : List ℕ) (spool : SpoolContents) (ordered : IsOrdered spool) (
     row_of_another_changes file fails =
         filter-put_other (owns other) (e.0, file) (without_file e.0 spool).files fails
         (all_weaker (λ (x : ℕ × File). x.0 ≢ e.0) (λ x. x.0 ≡ e.0 → is_own other x.1 ≡ false)
-        (λ x apart here. absurd (apart here)) (without_file e.0 spool).files
-        (kept_apart e.0 spool.files))
+        (λ x apart here. absurd (apart here)) (without_file e.0 spool).files (kept_apart e.0 spool.files))
         ∙ row_of_another_leaves
 
   pub row_changes : (file : File) → is_own name file ≡ true
@@ -131,8 +122,7 @@ pub owned_once : (name other : List ℕ) (file : File) → is_own name file ≡ 
 owned_once name other file owned apart = split (name_of_text file.customer) owned
   where
     split : (r : Result (List ℕ) NameFault) → elim r as (λ _. Bool) [ Ok read ↦ bytes_eq read name | Err fault ↦ false ]
-        ≡ true
-        → elim r as (λ _. Bool) [ Ok read ↦ bytes_eq read other | Err fault ↦ false ] ≡ false
+        ≡ true → elim r as (λ _. Bool) [ Ok read ↦ bytes_eq read other | Err fault ↦ false ] ≡ false
     split (Ok read) is = differs (bytes_eq read other) refl
       where
         differs : (b : Bool) → bytes_eq read other ≡ b → b ≡ false

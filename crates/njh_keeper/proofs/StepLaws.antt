@@ -1,21 +1,11 @@
 -- One whole file of a spool, put back or not.
-use Rattle.std.proofs.Common.{◌≡◌, ℕ, ◌<◌, ◌+◌, List, [], ◌∷◌, ◌++◌, length, map, take, get_or, slice_set, Option, Some}
-use Rattle.std.proofs.Common.{None, sym, ap, subst, ◌∙◌}
-use Rattle.std.proofs.lemmas.List.{map-append, take_more}
-use Rattle.std.proofs.lemmas.Simd.{map-map}
-use Rattle.sqlite.specs.State.{State}
-use Rattle.sqlite.specs.Tree.{Trees}
-use Rattle.njh_hub.specs.WholeHub.{Part, part}
-use Rattle.njh_spoolfile.specs.Kept.{SpoolContents, Whole, Holds, contents, contents_of, kept, records_between}
-use Rattle.njh_spoolfile.specs.Kept.{records_of, whole_in, entry_of}
-use Rattle.njh_spoolfile.specs.Steps.{Stays}
-use Rattle.njh_spoolfile.proofs.ReadingLaws.{of_file}
-use Rattle.njh_spoolfile.specs.declared.kept.StoredFile.{StoredFile}
-use Rattle.njh_spoolfile.specs.declared.kept.StoredRecord.{StoredRecord}
-use Rattle.njh_keeper.specs.Opened.{Contents, file_fault, whole_fault, with_file, with_whole}
-use Rattle.njh_keeper.specs.code.Restoring.{NoneFails, hub_fault, hub_with, hub_with_all, number_of, wholes}
-use Rattle.njh_keeper.specs.declared.fault.FileFault.{FileFault}
-use Rattle.njh_keeper.proofs.HubLaws.{more, more-fails}
+use Rattle.njh_keeper.proofs.Words
+use Words.{◌≡◌, ℕ, ◌<◌, ◌+◌, List, [], ◌∷◌, ◌++◌, length, map, take, get_or, slice_set, Option, Some, None, sym, ap}
+use Words.{subst, ◌∙◌, map-append, take_more, map-map, State, StoredFile, StoredRecord, SpoolContents, Whole, Holds}
+use Words.{contents, contents_of, kept, records_of, whole_in, entry_of, Stays, Part, part, NoneFails, hub_fault}
+use Words.{hub_with, hub_with_all, number_of, wholes, FileFault, Contents, file_fault, whole_fault, with_whole}
+use Rattle.{sqlite.specs.Tree.Trees, njh_spoolfile.{proofs.ReadingLaws.of_file, specs.Kept.records_between}}
+use Rattle.njh_keeper.{proofs.HubLaws.{more, more-fails}, specs.Opened.with_file}
 
 -- ---- nothing happened
 
@@ -23,8 +13,7 @@ pub stays_then : (a b c : State) → Stays a b → Stays b c → Stays a c
 stays_then a b c p q = record {
   is_open = λ h. q.is_open (p.is_open h);
   now = q.now ∙ p.now;
-  committed = q.committed
-      ∙ p.committed;
+  committed = q.committed ∙ p.committed;
   mode = q.mode ∙ p.mode;
 }
 
@@ -38,17 +27,8 @@ all_read spool trees key read held is = is ∙ ap (map contents) (of_file key sp
 -- ---- by the number of its customer
 
 module _ (names : List (List ℕ)) (hub : List Part) (w : Whole) where
-  pub no_customer : number_of names w.file.customer ≡ None → (hub ≡ hub_with names hub w)
-      × (hub_fault names hub w ≡ None)
-  no_customer is = (
-    sym (ap (λ (o : Option ℕ). elim o as (λ _. List Part)
-        [ None ↦ hub | Some c ↦ slice_set hub c (with_whole (part c hub) w) ]) is),
-    ap (λ (o : Option ℕ). elim o as (λ _. Option FileFault) [ None ↦ None | Some c ↦ whole_fault (part c hub) w ]) is,
-  )
-
   pub with_it : (c : ℕ) (read : List Contents) (new : List Part) → number_of names w.file.customer ≡ Some c
-      → read ≡ w.records
-      → new ≡ slice_set hub c (with_file (part c hub) w.file read) → new ≡ hub_with names hub w
+      → read ≡ w.records → new ≡ slice_set hub c (with_file (part c hub) w.file read) → new ≡ hub_with names hub w
   with_it c read new is whole moved =
       moved ∙ ap (λ (rs : List Contents). slice_set hub c (with_file (part c hub) w.file rs)) whole
       ∙ sym (ap (λ (o : Option ℕ). elim o as (λ _. List Part)
@@ -83,8 +63,7 @@ hub_more names hub now new spool files at f low here so_far one =
 pub none_more : (names : List (List ℕ)) (hub now : List Part) (spool : SpoolContents) (files : List StoredFile) (at : ℕ)
     (f : StoredFile) → at < length files
     → f ≡ get_or files at f → now ≡ hub_with_all names hub (wholes spool (take at files))
-    → NoneFails names hub (wholes spool (take at files))
-    → hub_fault names now (whole_in spool (entry_of f)) ≡ None
+    → NoneFails names hub (wholes spool (take at files)) → hub_fault names now (whole_in spool (entry_of f)) ≡ None
     → NoneFails names hub (wholes spool (take (at + 1) files))
 none_more names hub now spool files at f low here so_far none one =
     subst (NoneFails names hub) (sym (wholes_more spool files at f low here))

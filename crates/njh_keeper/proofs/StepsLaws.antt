@@ -1,12 +1,8 @@
 -- A step of a customer: its whole files are followed, and then those that aren't whole.
-use Rattle.njh_spool.specs.CustomerSpool.{CustomerSpool}
-use Rattle.njh_spoolfile.specs.Kept.{SpoolContents}
-use Rattle.njh_keeper.specs.code.Following.{GoesTo, Memory, claim_of}
-use Rattle.njh_keeper.specs.code.Partly.{AllGoOn, Goes, GoesOn, KeepsOn}
+use Rattle.{njh_spoolfile.specs.Kept.SpoolContents, njh_spool.specs.CustomerSpool.CustomerSpool}
+use Rattle.njh_keeper.proofs.{FollowingLaws.all_remain, MovesLaws.moves_then, PartlyLaws.still_all}
+use Rattle.njh_keeper.specs.code.{Following.{GoesTo, Memory, claim_of}, Partly.{AllGoOn, Goes, GoesOn, KeepsOn}}
 use Rattle.njh_keeper.specs.code.Remembered.{Numbers, OwnFiles, claim}
-use Rattle.njh_keeper.proofs.FollowingLaws.{all_remain}
-use Rattle.njh_keeper.proofs.MovesLaws.{moves_then}
-use Rattle.njh_keeper.proofs.PartlyLaws.{still_all}
 
 module _ (now : CustomerSpool) (m m1 : Memory) (s t : SpoolContents) (goes : GoesTo m m1 s t now.whole)
     (all : AllGoOn now s m.own) where

@@ -1,40 +1,17 @@
 -- A file that is still there: what is written anew, and what is remembered of it then.
-use Rattle.std.proofs.Common.{◌≡◌, ◌≢◌, ℕ, ◌<◌, ◌⊎◌, inl, inr, Bool, true, false, List, length, get_or, set, Some, None}
-use Rattle.std.proofs.Common.{refl, sym, ap, subst, ◌∙◌, arith}
-use Rattle.std.specs.List.{AllByRecursion}
-use Rattle.std.proofs.lemmas.List.{get_or_default}
-use Rattle.std.proofs.lemmas.List.Elements.{All-from_recursion}
-use Rattle.njh_ebcdic.specs.Users.{User}
-use Rattle.njh_record.specs.Stored.{Stored}
-use Rattle.njh_record.specs.declared.Kind.{Kind}
-use Rattle.njh_record.specs.declared.Kind.TheVariants.{In, Out}
-use Rattle.njh_header.specs.FileHeaders.{destination_of}
-use Rattle.njh_header.specs.WholeFiles.{HasHeaders}
-use Rattle.njh_spool.specs.CustomerSpool.{WholeFile}
-use Rattle.njh_customer.specs.Surviving.{IsStill}
-use Rattle.njh_hub.specs.Files.{said_destination}
-use Rattle.njh_hub.specs.Views.{file_summary}
-use Rattle.njh_hub.specs.declared.file_summary.FileSummaryView.{FileSummaryView}
-use Rattle.njh_turns.specs.Keeping.{is_held}
-use Rattle.njh_spoolfile.specs.Kept.{File, SpoolContents, records_of, with_changed}
-use Rattle.njh_keeper.specs.Opened.{is_own}
-use Rattle.njh_keeper.specs.code.Alike.{AreAlike, Writes}
-use Rattle.njh_keeper.specs.code.Following.{GoesTo, HasFiles, IsRowFor, IsStillAt, Memory, claim_of}
-use Rattle.njh_keeper.specs.code.Mirrored.{FitsHub, HasRecords, WritesUnder, own_rows}
-use Rattle.njh_keeper.specs.code.Nodes.{AreOne, named_nodes}
-use Rattle.njh_keeper.specs.code.Remembered.{IsKept, IsRowOf, KeptPartial, KeptWhole, NameOneNode, Remembers, AreApart}
-use Rattle.njh_keeper.proofs.AlikeLaws.{alike_fit, alike_long, begun_all}
-use Rattle.njh_keeper.proofs.BesideLaws.{BesideAt}
-use Rattle.njh_keeper.proofs.CallLaws.{change_follows}
-use Rattle.njh_keeper.proofs.FollowLaws.{destination_still, records_alike, records_are_same}
-use Rattle.njh_keeper.proofs.FollowingLaws.{all-set, goes, remain_same}
-use Rattle.njh_keeper.proofs.KeyLaws.{keyed_at, keyed_none}
-use Rattle.njh_keeper.proofs.MirrorLaws.{all_of, state_changes}
-use Rattle.njh_keeper.proofs.MovesLaws.{moves_memory}
-use Rattle.njh_keeper.proofs.NodeLaws.{job_names_one, names_one_node, one_node_is_named}
-use Rattle.njh_keeper.proofs.NumberedLaws.{all_weaker}
-use Rattle.njh_keeper.proofs.RerouteLaws.{same_by_destination, same_or_one_node}
-use Rattle.njh_keeper.proofs.UsesLaws.{uses_as_one_changes}
+use Rattle.njh_keeper.proofs.Words
+use Words.{◌≡◌, ◌≢◌, ℕ, ◌<◌, ◌⊎◌, inl, inr, Bool, true, false, List, length, get_or, set, Some, None, refl, sym, ap}
+use Words.{subst, ◌∙◌, arith, get_or_default, All-from_recursion, AllByRecursion, User, Kind, In, Out, Stored}
+use Words.{destination_of, HasHeaders, File, SpoolContents, records_of, with_changed, WholeFile, IsStill}
+use Words.{FileSummaryView, said_destination, file_summary, is_held, AreAlike, Writes, GoesTo, HasFiles, IsRowFor}
+use Words.{IsStillAt, Memory, claim_of, FitsHub, HasRecords, WritesUnder, own_rows, AreOne, named_nodes, IsKept}
+use Words.{IsRowOf, KeptPartial, KeptWhole, NameOneNode, Remembers, AreApart, is_own}
+use Rattle.njh_keeper.proofs.{AlikeLaws.{alike_fit, alike_long, begun_all}, BesideLaws.BesideAt}
+use Rattle.njh_keeper.proofs.{CallLaws.change_follows, FollowingLaws.{goes, remain_same}, FollowLaws.destination_still}
+use Rattle.njh_keeper.proofs.{FollowLaws.{records_alike, records_are_same}, KeyLaws.{keyed_at, keyed_none}}
+use Rattle.njh_keeper.proofs.{ListLaws.all-set, MirrorLaws.{all_of, state_changes}, MovesLaws.moves_memory}
+use Rattle.njh_keeper.proofs.{NodeLaws.{job_names_one, names_one_node, one_node_is_named}, NumberedLaws.all_weaker}
+use Rattle.njh_keeper.proofs.{RerouteLaws.{same_by_destination, same_or_one_node}, UsesLaws.uses_as_one_changes}
 use Rattle.njh_keeper.proofs.WalkedLaws.{kept_at}
 
 -- ---- which nodes are named
@@ -71,8 +48,7 @@ module _ (k : KeptWhole) (f g : WholeFile) (remembers : Remembers k f) (still : 
       by_kind : (kind : Kind) → f.kind ≡ kind → (b : Bool) → k.is_mixed ≡ b → g.records ≡ f.records
       by_kind In job b mixed =
           same_by_destination f.kind f.records g.records was.destination was.goes still.records
-          (subst (λ x. NameOneNode x f.records) (sym job)
-          (job_names_one f.records was.destination
+          (subst (λ x. NameOneNode x f.records) (sym job) (job_names_one f.records was.destination
           (subst (λ x. destination_of x f.records ≡ Some was.destination) job was.goes)))
           (destination_still k f g was.destination remembers still was.goes same)
       by_kind Out out b mixed = by_mixed out b mixed
@@ -136,8 +112,7 @@ module _ (m : Memory) (i : ℕ) (k : KeptWhole) (there : i < length m.own.whole)
           (moves_memory (claim_of m) (claim_of (memory_changed now)) s refl
           (λ n. let as_was = same_uses n in omega (arith, as_was)) has.ordered (omega arith))
           (state_changes s m.own files has.ordered has.mirrored i k there is before.before g now before.is
-          before.still.kind held same id key remembers)
-          refl all_headers (remain_same m.own.partial)
+          before.still.kind held same id key remembers) refl all_headers (remain_same m.own.partial)
           (all_of (λ (p : KeptPartial). records_of p.key s ≡ records_of p.key s) (λ p. refl) m.own.partial)
 
       -- its row is written anew, and the records under its key
@@ -148,8 +123,7 @@ module _ (m : Memory) (i : ℕ) (k : KeptWhole) (there : i < length m.own.whole)
           let by = change_follows m.numbers m.own s files has.ordered has.mirrored i k now g t row there is has.apart
           under owned id key is_row remembers stored fits in
           goes m (memory_changed now) s (with_changed k.id row t) files (set files i g) has by.moves by.mirrored refl
-          all_headers (remain_same m.own.partial)
-          (all_weaker (λ (p : KeptPartial). p.key ≢ k.key)
+          all_headers (remain_same m.own.partial) (all_weaker (λ (p : KeptPartial). p.key ≢ k.key)
           (λ p. records_of p.key (with_changed k.id row t) ≡ records_of p.key s) (λ p other. under.others p.key other)
           m.own.partial (partial_apart has.apart))
 
@@ -196,8 +170,7 @@ module _ (m : Memory) (i : ℕ) (k : KeptWhole) (there : i < length m.own.whole)
             destination = destination_is;
             mixed = λ _. names_one_still k before.before g kept.remembers before.still was headers
                 (λ said. one (said ∙ sym destination_is));
-          })
-          t row written.0 (is_row.owned m.own.name has.named) (is_row.of_file g summary_is) written.1
+          }) t row written.0 (is_row.owned m.own.name has.named) (is_row.of_file g summary_is) written.1
           (alike_fit before.before.records g.records alike kept.fits)
 
       module _ (same : k.destination ≡ summary.destination)
@@ -211,8 +184,7 @@ module _ (m : Memory) (i : ℕ) (k : KeptWhole) (there : i < length m.own.whole)
           records = kept.remembers.records ∙ sym (ap length as_was);
           state = state_is;
           destination = same ∙ destination_is;
-          mixed = λ one.
-              subst (λ kind. NameOneNode kind g.records) (sym before.still.kind)
+          mixed = λ one. subst (λ kind. NameOneNode kind g.records) (sym before.still.kind)
               (subst (λ rs. NameOneNode before.before.kind rs) (sym as_was) (kept.remembers.mixed one));
         }
 

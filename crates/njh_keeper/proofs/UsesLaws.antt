@@ -1,13 +1,9 @@
 -- How often each number is used, while files come and leave and numbers are given out.
 use Rattle.std.proofs.Common.{◌≡◌, ℕ, ◌+◌, ◌<◌, ◌≤◌, ◌==◌, ◌-◌, ◌^◌, List, [], ◌∷◌, ◌++◌, length, get_or, set, remove}
-use Rattle.std.proofs.Common.{ap, arith, ◌⊎◌, inl, inr, Bool, true, false, cond}
-use Rattle.std.proofs.lemmas.Bool.Decides.{nat_tests}
+use Rattle.std.proofs.{Common.{ap, arith, ◌⊎◌, inl, inr, Bool, true, false, cond}, lemmas.Bool.Decides.nat_tests}
+use Rattle.njh_keeper.proofs.KeyLaws.{keyed-append, keyed-remove, keyed-set, keyed_at, one_itself}
 use Rattle.njh_keeper.specs.code.Remembered.{AreApart, KeptPartial, KeptWhole, Numbers, OwnFiles, Sweep, claim, keyed}
 use Rattle.njh_keeper.specs.code.Remembered.{may_be_given, one_if, uses, with_key}
-use Rattle.njh_keeper.proofs.KeyLaws.{keyed-append, keyed-remove, keyed-set, keyed_at, one_itself}
-
-key_of_whole : KeptWhole → ℕ
-key_of_whole k = k.key
 
 same_key : (n a b : ℕ) → a ≡ b → one_if (a == n) ≡ one_if (b == n)
 same_key n a b same = ap (λ k. one_if (k == n)) same
@@ -32,8 +28,7 @@ module _ (w : Numbers) (own : OwnFiles) where
       omega (arith, gone, more, alike)
 
   pub uses_as_one_changes : (i : ℕ) (k now : KeptWhole) → i < length own.whole → k ≡ get_or own.whole i k
-      → now.key ≡ k.key
-      → (n : ℕ) → uses n w (record own { whole = set own.whole i now }) ≡ uses n w own
+      → now.key ≡ k.key → (n : ℕ) → uses n w (record own { whole = set own.whole i now }) ≡ uses n w own
   uses_as_one_changes i k now there is same n =
       let as_was = keyed-set (λ (x : KeptWhole). x.key) n own.whole i k now there is same in omega (arith, as_was)
 
@@ -56,8 +51,7 @@ module _ (w : Numbers) (own : OwnFiles) where
       (arith, more)
 
   pub uses_as_partial_changes : (i : ℕ) (p now : KeptPartial) → i < length own.partial → p ≡ get_or own.partial i p
-      → now.key ≡ p.key
-      → (n : ℕ) → uses n w (record own { partial = set own.partial i now }) ≡ uses n w own
+      → now.key ≡ p.key → (n : ℕ) → uses n w (record own { partial = set own.partial i now }) ≡ uses n w own
   uses_as_partial_changes i p now there is same n =
       let as_was = keyed-set (λ (x : KeptPartial). x.key) n own.partial i p now there is same in omega (arith, as_was)
 
@@ -73,40 +67,9 @@ module _ (w : Numbers) (own : OwnFiles) where
 
   -- ---- the writer's
 
-  pub uses_as_free_key_is_taken : (free : List ℕ) (key : ℕ) → w.free_keys ≡ free ++ key ∷ []
-      → (n : ℕ) → (with_key key (claim (record w { free_keys = free }) own)).uses n ≡ uses n w own
-  uses_as_free_key_is_taken free key taken n =
-      let all : keyed (λ k. k) n w.free_keys ≡ keyed (λ k. k) n (free ++ key ∷ []) = ap (keyed (λ k. k) n) taken in
-      let last = keyed-append (λ (k : ℕ). k) n free (key ∷ []) in
-      omega (arith, all, last)
-
   one_further : (first n : ℕ) → first < 2 ^ 32 - 1
       → one_if (first == n) + one_if (may_be_given (first + 1) n) ≡ one_if (may_be_given first n)
   one_further first n low = grind (arith, nat_tests, low)
-
-  pub uses_as_new_key_is_taken : w.next_key < 2 ^ 32 - 1 → (n : ℕ)
-      → (with_key w.next_key (claim (record w { next_key = w.next_key + 1 }) own)).uses n ≡ uses n w own
-  uses_as_new_key_is_taken low n = let further = one_further w.next_key n low in omega (arith, further)
-
-  pub uses_as_sweep_goes_on : (rest : List Sweep) (sweep further : Sweep) → w.sweeps ≡ rest ++ sweep ∷ []
-      → further.key ≡ sweep.key
-      → (n : ℕ) → uses n (record w { sweeps = rest ++ further ∷ [] }) own ≡ uses n w own
-  uses_as_sweep_goes_on rest sweep further are same n =
-      let all : keyed (λ (x : Sweep). x.key) n w.sweeps ≡ keyed (λ (x : Sweep). x.key) n (rest ++ sweep ∷ []) =
-      ap (keyed (λ (x : Sweep). x.key) n) are in
-      let before = keyed-append (λ (x : Sweep). x.key) n rest (sweep ∷ []) in
-      let behind = keyed-append (λ (x : Sweep). x.key) n rest (further ∷ []) in
-      let alike = same_key n further.key sweep.key same in
-      omega (arith, all, before, behind, alike)
-
-  pub uses_as_sweep_ends : (rest : List Sweep) (sweep : Sweep) → w.sweeps ≡ rest ++ sweep ∷ []
-      → (n : ℕ) → uses n (record w { sweeps = rest; free_keys = w.free_keys ++ sweep.key ∷ [] }) own ≡ uses n w own
-  uses_as_sweep_ends rest sweep are n =
-      let all : keyed (λ (x : Sweep). x.key) n w.sweeps ≡ keyed (λ (x : Sweep). x.key) n (rest ++ sweep ∷ []) =
-      ap (keyed (λ (x : Sweep). x.key) n) are in
-      let before = keyed-append (λ (x : Sweep). x.key) n rest (sweep ∷ []) in
-      let free = keyed-append (λ (k : ℕ). k) n w.free_keys (sweep.key ∷ []) in
-      omega (arith, all, before, free)
 
   -- the last of the free ones, or where none is free the first that was never given out
   pub uses_as_key_is_taken : (key : ℕ) (left : List ℕ) (behind : ℕ)
@@ -133,8 +96,7 @@ module _ (w : Numbers) (own : OwnFiles) where
       → further.key ≡ sweep.key
       → (n : ℕ) → uses n (record w {
         sweeps = rest ++ cond b (further ∷ []) [];
-        free_keys = w.free_keys ++ cond b []
-            (sweep.key ∷ []);
+        free_keys = w.free_keys ++ cond b [] (sweep.key ∷ []);
       }) own ≡ uses n w own
   uses_as_one_is_swept rest sweep further b are same n =
       let all : keyed (λ (x : Sweep). x.key) n w.sweeps ≡ keyed (λ (x : Sweep). x.key) n (rest ++ sweep ∷ []) =
@@ -164,8 +126,7 @@ module _ (w : Numbers) (own : OwnFiles) where
 
   -- one that is about to be given out, swept, or of a file that isn't whole is no whole file's
   pub partial_is_apart : (i : ℕ) (p : KeptPartial) → i < length own.partial → p ≡ get_or own.partial i p
-      → AreApart (claim w own)
-      → (keyed (λ (k : KeptWhole). k.key) p.key own.whole ≡ 0) × (1 ≤ uses p.key w own)
+      → AreApart (claim w own) → (keyed (λ (k : KeptWhole). k.key) p.key own.whole ≡ 0) × (1 ≤ uses p.key w own)
   partial_is_apart i p there is apart =
       let once = apart p.key in
       let has = keyed_at (λ (x : KeptPartial). x.key) own.partial i p there is in

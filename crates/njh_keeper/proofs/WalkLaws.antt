@@ -1,15 +1,11 @@
 -- The keeper goes through a customer's files: those that left are taken out, and each other one is found by its number.
-use Rattle.std.proofs.Common.{◌≡◌, ◌≢◌, ℕ, suc, ◌+◌, ◌<◌, ◌≤◌, ◌==◌, List, [], ◌∷◌, ◌++◌, length, get_or, set}
-use Rattle.std.proofs.Common.{remove, take, drop, count_by, refl, sym, ap, subst, ◌∙◌, arith, length-drop}
-use Rattle.std.proofs.lemmas.List.{drop-set-lt, drop_all, drop_at, drop_more, length-set, length-take-le}
-use Rattle.std.proofs.lemmas.List.{take-append-le, take-take, take_all, take_more, take_more_set}
-use Rattle.std.proofs.lemmas.List.Edits.{length-remove}
-use Rattle.std.proofs.lemmas.List.Recursion.{is_sum_by}
-use Rattle.njh_spool.specs.CustomerSpool.{WholeFile}
-use Rattle.njh_customer.specs.Surviving.{IsStill, Survive, leaves, stays}
-use Rattle.njh_keeper.specs.code.Remembered.{keyed, one_if}
-use Rattle.njh_keeper.specs.code.Walking.{AreNumbered, IsWalkedTo}
-use Rattle.njh_keeper.proofs.KeyLaws.{one_itself}
+use Rattle.std.proofs.Common.{◌≡◌, ◌≢◌, ℕ, suc, ◌+◌, ◌<◌, ◌≤◌, ◌==◌, List, [], ◌∷◌, ◌++◌, length, get_or, set, remove}
+use Rattle.std.proofs.Common.{take, drop, count_by, refl, sym, ap, subst, ◌∙◌, arith, length-drop}
+use Rattle.std.proofs.lemmas.List.{drop-set-lt, drop_at, take_more_set, drop_all, drop_more, length-set, length-take-le}
+use Rattle.std.proofs.lemmas.List.{take-append-le, take-take, take_all, take_more, Edits.length-remove}
+use Rattle.{std.proofs.lemmas.List.Recursion.is_sum_by, njh_spool.specs.CustomerSpool.WholeFile}
+use Rattle.{njh_customer.specs.Surviving.{stays, IsStill, Survive, leaves}, njh_keeper.proofs.KeyLaws.one_itself}
+use Rattle.njh_keeper.specs.code.{Remembered.{keyed, one_if}, Walking.{AreNumbered, IsWalkedTo}}
 
 abbrev number : WholeFile → ℕ
 number f = f.number
@@ -112,16 +108,14 @@ module _ (still files : List WholeFile) (i : ℕ) (walk : IsWalkedTo still files
         → IsWalkedTo still (remove files i) i
     walk_drops g more here other =
         let next = next_is still i g more here in
-        without_it
-        (subst (Survive (drop (i + 1) files)) (sym next)
+        without_it (subst (Survive (drop (i + 1) files)) (sym next)
         (has_left f g (drop (i + 1) files) (drop (i + 1) still)
         (subst (Survive (f ∷ drop (i + 1) files)) next survivors) other))
 
     pub walk_drops_last : length still ≤ i → IsWalkedTo still (remove files i) i
     walk_drops_last last =
         let none_left : drop i still ≡ [] = drop_all i still last in
-        without_it
-        (subst (Survive (drop (i + 1) files)) (sym none_left)
+        without_it (subst (Survive (drop (i + 1) files)) (sym none_left)
         (all_have_left f (drop (i + 1) files) (subst (Survive (f ∷ drop (i + 1) files)) none_left survivors)))
 
     module _ (g : WholeFile) (more : i < length still) (here : g ≡ get_or still i g) (same : f.number ≡ g.number) where

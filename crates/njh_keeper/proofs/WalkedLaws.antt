@@ -1,16 +1,10 @@
 -- The keeper goes through what it remembers of a customer's files, beside those that the hub has now.
-use Rattle.std.proofs.Common.{◌≡◌, ℕ, ◌<◌, ◌≤◌, ◌==◌, true, false, List, length, get_or, remove, Option, Some, None}
-use Rattle.std.proofs.Common.{sym, ap, ◌∙◌, arith, eqb-true}
-use Rattle.std.specs.Option.{option_eq}
-use Rattle.njh_spool.specs.CustomerSpool.{WholeFile}
-use Rattle.njh_spoolfile.specs.Kept.{SpoolContents}
-use Rattle.njh_keeper.specs.code.Mirrored.{own_rows}
-use Rattle.njh_keeper.specs.code.Remembered.{IsKept, KeptWhole}
-use Rattle.njh_keeper.specs.code.Following.{HasFiles, IsNext, IsReached, Memory}
-use Rattle.njh_keeper.specs.code.Walking.{IsWalkedTo}
-use Rattle.njh_keeper.proofs.BesideLaws.{BesideAt, beside_at, beside_lengths}
-use Rattle.njh_keeper.proofs.NumberedLaws.{equal}
-use Rattle.njh_keeper.proofs.WalkLaws.{walk_drops, walk_drops_last, walk_has_more}
+use Rattle.njh_keeper.proofs.Words
+use Words.{◌≡◌, ℕ, ◌<◌, ◌≤◌, ◌==◌, true, false, List, length, get_or, remove, Option, Some, None, sym, ap, ◌∙◌, arith}
+use Words.{SpoolContents, WholeFile, HasFiles, IsReached, Memory, own_rows, IsKept, KeptWhole, IsWalkedTo}
+use Rattle.{std.{proofs.Common.eqb-true, specs.Option.option_eq}, njh_keeper.proofs.BesideLaws.{BesideAt, beside_at}}
+use Rattle.njh_keeper.proofs.{BesideLaws.beside_lengths, NumberedLaws.equal, WalkLaws.{walk_drops, walk_drops_last}}
+use Rattle.njh_keeper.proofs.WalkLaws.{walk_has_more}
 
 -- ---- whether a number is the one that is looked for
 
@@ -33,9 +27,8 @@ module _ (m : Memory) (s : SpoolContents) (files : List WholeFile) (has : HasFil
   as_many = (beside_lengths (IsKept s) m.own.whole (own_rows m.own.name s) files has.mirrored).1
 
   -- where no further one is remembered, the hub has none
-  pub reached_at_end : (number : Option ℕ) (still : List WholeFile) (place : ℕ) → IsNext number still place
-      → IsWalkedTo still files place → length m.own.whole ≤ place
-      → IsReached number files place
+  pub reached_at_end : (number : Option ℕ) (still : List WholeFile) (place : ℕ) → IsReached number still place
+      → IsWalkedTo still files place → length m.own.whole ≤ place → IsReached number files place
   reached_at_end None still place next walk end = let long = as_many in omega (arith, long, end)
   reached_at_end (Some n) still place next walk end =
       absurd (
@@ -56,12 +49,10 @@ module _ (m : Memory) (s : SpoolContents) (files : List WholeFile) (has : HasFil
       number_is = let here : n ≡ k.number = cc same in sym kept_at.holds.remembers.number ∙ sym here;
     }
 
-    pub passed_here : (number : Option ℕ) (still : List WholeFile) → IsNext number still place
-        → IsWalkedTo still files place → (number ≡ Some k.number → ⊥)
-        → IsWalkedTo still (remove files place) place
+    pub passed_here : (number : Option ℕ) (still : List WholeFile) → IsReached number still place
+        → IsWalkedTo still files place → (number ≡ Some k.number → ⊥) → IsWalkedTo still (remove files place) place
     passed_here None still next walk other =
         walk_drops_last still files place walk kept_at.third kept_at.third_there kept_at.third_is next
     passed_here (Some n) still next walk other =
         walk_drops still files place walk kept_at.third kept_at.third_there kept_at.third_is next.file next.there
-        next.is
-        (λ same. other (ap Some (sym next.number_is ∙ sym same ∙ sym kept_at.holds.remembers.number)))
+        next.is (λ same. other (ap Some (sym next.number_is ∙ sym same ∙ sym kept_at.holds.remembers.number)))

@@ -1,14 +1,9 @@
 -- What a writer's calls do to a spool, one after the other.
-use Rattle.std.proofs.Common.{◌≡◌, ℕ, suc, ◌+◌, ◌<◌, ◌≤◌, ◌^◌, min, Bool, true, false, List, [], ◌∷◌, ◌++◌}
-use Rattle.std.proofs.Common.{slice_index_or, refl, inl, inr, sym, ap, subst, ◌∙◌, arith}
-use Rattle.std.proofs.lemmas.List.{append-nil, append_assoc}
-use Rattle.std.proofs.lemmas.Bool.{cases_lt}
-use Rattle.sqlite.specs.State.{State}
-use Rattle.sqlite.specs.Effect.{Database}
-use Rattle.njh_spoolfile.specs.Kept.{SpoolContents, Holds, without_records}
-use Rattle.njh_spoolfile.specs.CommitState.{CommitState, Stands}
-use Rattle.njh_spoolfile.specs.Steps.{Changes}
-use Rattle.njh_keeper.specs.code.Writing.{below, is_marked, numbers_but, shows_now, unmarked, without_keys}
+use Rattle.njh_keeper.proofs.Words
+use Words.{◌≡◌, ℕ, suc, ◌+◌, ◌<◌, ◌≤◌, ◌^◌, min, Bool, true, false, List, [], ◌∷◌, ◌++◌, slice_index_or, refl, inl, inr}
+use Words.{sym, ap, subst, ◌∙◌, arith, cases_lt, Database, State, CommitState, Stands, SpoolContents, Holds}
+use Words.{without_records, Changes, is_marked, numbers_but, shows_now, unmarked, without_keys}
+use Rattle.{std.proofs.lemmas.List.{append-nil, append_assoc}, njh_keeper.specs.code.Writing.below}
 
 -- a change that waits
 pub stands_changed : (change : SpoolContents → SpoolContents) (s : CommitState) (old new : State)

@@ -1,11 +1,9 @@
 -- A file's records are written one after the other, and some of them anew.
-use Rattle.std.proofs.Common.{◌≡◌, ℕ, ◌+◌, ◌<◌, List, [], ◌∷◌, ◌++◌, length, get_or, set, take, drop, sym, ap, subst}
-use Rattle.std.proofs.Common.{◌∙◌, append_assoc, append-nil, arith, length-append, length-drop}
-use Rattle.std.proofs.lemmas.List.{drop_all, drop_more, length-take-le, set_at, take_all, take_more}
-use Rattle.njh_record.specs.Stored.{Stored}
-use Rattle.njh_spoolfile.specs.Kept.{Record, SpoolContents, with_record, without_records}
-use Rattle.njh_keeper.specs.code.Mirrored.{HasRecords, IsOrdered, records_midway, stored_of}
-use Rattle.njh_keeper.proofs.RecordLaws.{record_changes, record_comes_last}
+use Rattle.njh_keeper.proofs.Words
+use Words.{◌≡◌, ℕ, ◌+◌, ◌<◌, List, [], ◌∷◌, ◌++◌, length, get_or, set, take, drop, sym, ap, subst, ◌∙◌, append_assoc}
+use Words.{arith, length-append, length-drop, drop_more, length-take-le, take_more, Stored, Record, SpoolContents}
+use Words.{with_record, without_records, HasRecords, IsOrdered, records_midway, stored_of}
+use Rattle.{std.proofs.lemmas.List.set_at, njh_keeper.proofs.RecordLaws.{record_changes, record_comes_last}}
 
 -- as many of these are there as were written, and the next one comes
 pub next_is_written : (key at : ℕ) (rs : List Stored) (r : Record) (spool : SpoolContents) → IsOrdered spool
@@ -45,9 +43,3 @@ module _ (at : ℕ) (now before : List Stored) (long : length now ≡ length bef
       ∙ set_at (take at now) (get_or before at (stored_of r)) (drop (at + 1) before) (stored_of r) at first
       ∙ ap (λ x. take at now ++ x ∷ drop (at + 1) before) is ∙ further (stored_of r))
       (record_changes key (records_midway at now before) r spool h has mine at there here)
-
-pub all_are_rewritten : (now before : List Stored) → length now ≡ length before
-    → records_midway (length now) now before ≡ now
-all_are_rewritten now before long =
-    (λ i. take_all (length now) now (omega arith) i ++ drop_all (length now) before (omega (arith, long)) i)
-    ∙ append-nil now

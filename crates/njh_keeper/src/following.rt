@@ -11,7 +11,7 @@ ghost use Rattle.njh_spoolfile.specs.Shelf.{shown};
 ghost use Rattle.sqlite.specs.State.{HasCleanDisk, Survives};
 ghost use Rattle.njh_keeper.specs.declared.own_files.KeptWhole.{KeptWhole};
 ghost use Rattle.njh_keeper.specs.code.Following.{AddsRow, AreFronts, ChangesRow, GoOnIn, IsAt, IsHubFile};
-ghost use Rattle.njh_keeper.specs.code.Following.{IsNext, IsQuiet, IsReached, IsStillAt};
+ghost use Rattle.njh_keeper.specs.code.Following.{IsQuiet, IsReached, IsStillAt};
 ghost use Rattle.njh_keeper.specs.code.Following.{LeadsFiles, LeadsInHand, memory_of};
 ghost use Rattle.njh_keeper.specs.code.Memory.{own_of};
 ghost use Rattle.njh_keeper.specs.code.Remembered.{NameOneNode};
@@ -79,7 +79,7 @@ fn follow_old<S: Alter + Drop>(
     ensures crash { Survives (shown S.Store writer.old.store) (shown S.Store writer.new.store) (λ _. ⊥) }
 {
     let mut place = 0;
-    'old: for index in 0..old {
+    for index in 0..old {
         follow_at(writer, own, place, hub, customer, index)?;
         place += 1;
     }
@@ -136,7 +136,7 @@ fn add_new<S: Alter + Drop>(
     ensures crash { Survives (shown S.Store writer.old.store) (shown S.Store writer.new.store) (λ _. ⊥) }
 {
     let count = hub.file_count(customer);
-    'new: for index in old..count {
+    for index in old..count {
         let summary = hub.summary_at(customer, index);
         let number = hub.number_at(customer, index);
         add_one(writer, own, hub, HubFile { customer, number }, &summary)?;
@@ -163,14 +163,15 @@ fn drop_before<S: Alter + Drop>(
     place: usize,
     number: Option<FileId>,
 ) -> Result<(), Error>
-    ensures led { (still : List WholeFile) → IsNext number still place → HasCleanDisk (shown S.Store writer.new.store)
+    ensures led { (still : List WholeFile) → IsReached number still place
+        → HasCleanDisk (shown S.Store writer.new.store)
         → OnOk result (LeadsFiles (memory_of writer.old own.old) (memory_of writer.new own.new)
         (λ s files. IsWalkedTo still files place) (λ files now. IsWalkedTo still now place × IsReached number now place)
         (shown S.Store writer.old.store) (shown S.Store writer.new.store)) }
     ensures quiet { OnOk result (IsQuiet writer.old writer.new) }
     ensures crash { Survives (shown S.Store writer.old.store) (shown S.Store writer.new.store) (λ _. ⊥) }
 {
-    'whole: for _ in 0..own.whole.len() {
+    for _ in 0..own.whole.len() {
         if place >= own.whole.len() || Some(own.whole[place].number) == number {
             return Ok(());
         }

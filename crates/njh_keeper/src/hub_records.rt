@@ -47,7 +47,7 @@ pub(crate) fn write_records<S: Alter + Drop>(
         return Err(astray());
     };
     let mut record = Record::new();
-    'places: for place in 0..PLACES {
+    for place in 0..PLACES {
         let Some(srcb) = records.next(&mut record) else {
             return Ok(());
         };

@@ -59,7 +59,7 @@ fn keep_of_lines<S: Alter + Drop>(
         own.new) }
     ensures crash { Survives (shown S.Store writer.old.store) (shown S.Store writer.new.store) (λ _. ⊥) }
 {
-    'lines: for number in 0..u16::MAX {
+    for number in 0..u16::MAX {
         let Ok(receivers) = hub.receivers(LineId { customer, number }) else {
             return Ok(());
         };
@@ -81,7 +81,7 @@ fn keep_of_line<S: Alter + Drop>(
         own.new) }
     ensures crash { Survives (shown S.Store writer.old.store) (shown S.Store writer.new.store) (λ _. ⊥) }
 {
-    'streams: for receiver in receivers {
+    for receiver in receivers {
         if let Receiver::Open { file, .. } = *receiver {
             let number = file;
             keep_portion(writer, own, hub, HubFile { customer, number })?;
@@ -202,7 +202,7 @@ fn drop_given_up<S: Alter + Drop>(
     ensures crash { Survives (shown S.Store writer.old.store) (shown S.Store writer.new.store) (λ _. ⊥) }
 {
     let mut place = 0;
-    'partial: while place < own.partial.len() {
+    while place < own.partial.len() {
         if own.partial[place].is_open {
             own.partial[place].is_open = false;
             place += 1;

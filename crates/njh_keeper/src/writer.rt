@@ -330,7 +330,7 @@ impl<S: Alter + Drop> SpoolWriter<S> {
           next_key = key_behind self.old.next_key files.now;
         } }
     {
-        'files: for stored in files {
+        for stored in files {
             self.next_id = self.next_id.max(stored.id.saturating_add(1));
             self.next_key = self.next_key.max(stored.file.key.saturating_add(1));
         }
@@ -366,7 +366,7 @@ impl<S: Alter + Drop> SpoolWriter<S> {
         ensures others { self.new ≡ record self.old { store = self.new.store; free_keys = self.new.free_keys } }
         ensures crash { Survives (shown S.Store self.old.store) (shown S.Store self.new.store) (λ _. ⊥) }
     {
-        'keys: for key in 0..self.next_key.saturating_add(MARGIN) {
+        for key in 0..self.next_key.saturating_add(MARGIN) {
             if !is_marked(marks, key) {
                 self.empty_key(key)?;
             }
@@ -435,7 +435,7 @@ fn marks_of(alloc: Global, files: &[StoredFile]) -> Result<Vec<bool>, AllocError
 fn mark_keys(marks: &mut [bool], files: &[StoredFile])
     ensures { marks.new ≡ marked_by marks.old files.now }
 {
-    'files: for stored in files {
+    for stored in files {
         let key = stored.file.key as usize;
         if key < marks.len() {
             marks[key] = true;

@@ -99,17 +99,6 @@ AreFronts s partial files =
     (λ p. AllByRecursion (λ f. f.number ≡ p.number → p.seen ≤ length f.records → IsFrontOf s p f.records) files)
     partial
 
--- This is the number of the next one of those that are still there; none where no further one is.
-pub record IsNextNumber (number : ℕ) (still : List WholeFile) (place : ℕ) : Type 0 where
-  pub file : WholeFile
-  pub there : place < length still
-  pub is : file ≡ get_or still place file
-  pub number_is : file.number ≡ number
-
-abbrev pub IsNext : Option ℕ → List WholeFile → ℕ → Type 0
-IsNext None still place = length still ≤ place
-IsNext (Some number) still place = IsNextNumber number still place
-
 -- The file of this number of a customer of a hub is this one, and so its summary says.
 pub record IsHubFile (hub : List Part) (file : HubFile) (summary : FileSummaryView) (g : WholeFile) : Type 0 where
   pub summary_is : summary ≡ file_summary g

@@ -2,7 +2,7 @@
 use Rattle.std.specs.Prelude.{◌≡◌, ◌≢◌, ℕ, ◌+◌, ◌<◌, ◌≤◌, ◌==◌, ◌-◌, ◌^◌, ◌&&◌, nat_le, nat_lt}
 use Rattle.std.specs.Prelude.{Bool, false, cond, None}
 use Rattle.std.specs.Prelude.{List, [], ◌∷◌, length, take}
-use Rattle.std.specs.List.{AllByRecursion, AllZip}
+use Rattle.std.specs.List.{AllByRecursion}
 use Rattle.njh_ebcdic.specs.Users.{User}
 use Rattle.njh_header.specs.Redirecting.{records_to_node}
 use Rattle.njh_record.specs.Stored.{Stored}
@@ -103,10 +103,6 @@ Mirrored spool own files = AllBeside (IsKept spool) own.whole (own_rows own.name
 pub record IsPartlyKept (spool : SpoolContents) (p : KeptPartial) (records : List Stored) : Type 0 where
   pub written : p.written ≤ length records
   pub stored : HasRecords p.key (take p.written records) spool
-
--- of each of a customer's, with its records when it was last seen
-abbrev pub PartlyMirrored : SpoolContents → OwnFiles → List (List Stored) → Type 0
-PartlyMirrored spool own partial = AllZip (IsPartlyKept spool) own.partial partial
 
 -- ---- under which number records stand
 

@@ -1,19 +1,8 @@
-use Rattle.std.proofs.Common.{◌≡◌, ◌++◌, [], length, map, sym, ap, subst, ◌∙◌, arith}
-use Rattle.std.proofs.lemmas.List.{length-map}
-use Rattle.sqlite.specs.State.{HasCleanDisk, State, Survives}
-use Rattle.std.specs.Prelude.{⊤}
-use Rattle.sqlite.specs.Effect.{Database}
-use Rattle.njh_spoolfile.specs.Kept.{Holds}
-use Rattle.njh_spoolfile.specs.Shelf.{shown}
-use Rattle.njh_spoolfile.specs.CommitState.{Stands}
-use Rattle.njh_keeper.specs.code.Apart.{AreFilesApart, have_low_ids}
-use Rattle.njh_keeper.specs.code.Memory.{numbers_of, own_of, sweep_in}
-use Rattle.njh_keeper.specs.code.Opening.{AreRemembered, HasBegun, entries}
-use Rattle.njh_keeper.specs.code.Writing.{emptied_at, free_at, key_behind, without_keys}
-use Rattle.njh_keeper.specs.declared.writer.SpoolWriter.{SpoolWriter}
-use Rattle.njh_keeper.proofs.OpeningBegun.{has_begun}
-use Rattle.njh_keeper.proofs.RowLaws.{is_ordered}
-use Rattle.njh_keeper.proofs.LeadingLaws.{survives_any}
+use Rattle.njh_keeper.proofs.Words
+use Words.{◌≡◌, ◌++◌, [], length, map, sym, ap, subst, ◌∙◌, arith, length-map, ⊤, Database, HasCleanDisk, State}
+use Words.{Survives, Stands, Holds, shown, AreFilesApart, have_low_ids, numbers_of, own_of, sweep_in, AreRemembered}
+use Words.{HasBegun, entries, emptied_at, free_at, key_behind, without_keys, SpoolWriter}
+use Rattle.njh_keeper.proofs.{LeadingLaws.survives_any, OpeningBegun.has_begun, RowLaws.is_ordered}
 use Rattle.njh_keeper.proofs.beginning.begin.Goals as goal
 
 pub returns-clause-begun : goal.returns-clause-begun
@@ -22,7 +11,6 @@ returns-clause-begun g c clean s stands distinct found reads =
     let first = shown g.S.Store c.files.new.self in
     let second = shown g.S.Store c.remember_all.new.writer.store in
     let third = shown g.S.Store c.forget_numbers.new.self.store in
-    let new = shown g.S.Store c.begin_numbers.new.self.store in
     let items = c.in_ok-files.files.items in
     let files = c.deref-3.result.now in
     let names = c.args.names.now in
@@ -64,25 +52,22 @@ returns-clause-begun g c clean s stands distinct found reads =
     subst (λ (x : State). Stands (record s { now = led.0 }) x) (sym same) led.1 in (
       without_keys (emptied_at files (key_behind key files)) led.0,
       begun,
-      c.in_ok-begin_numbers.ensures.begun clean
-          (record s { now = led.0 }) moved,
+      c.in_ok-begin_numbers.ensures.begun clean (record s { now = led.0 }) moved,
     )
 
 pub returns-in_err-owns-clause-crash : goal.returns-in_err-owns-clause-crash
-returns-in_err-owns-clause-crash g c = survives_any _ _ _ _ _ c.files.ensures.crash c.remember_all.ensures.crash
+returns-in_err-owns-clause-crash g c = survives_any c.files.ensures.crash c.remember_all.ensures.crash
 
 pub returns-in_err-begin_numbers-clause-crash : goal.returns-in_err-begin_numbers-clause-crash
 returns-in_err-begin_numbers-clause-crash g c =
     let same = ap (λ (x : SpoolWriter g.row.S.Denot). shown g.S.Store x.store) c.forget_numbers.ensures.others in
-    survives_any _ _ _ _ _ c.files.ensures.crash
-    (survives_any _ _ _ _ _ c.remember_all.ensures.crash
+    survives_any c.files.ensures.crash (survives_any c.remember_all.ensures.crash
     (subst (λ (x : State). Survives x (shown g.S.Store c.begin_numbers.new.self.store) (λ _. ⊤)) same
     c.begin_numbers.ensures.crash))
 
 pub returns-clause-crash : goal.returns-clause-crash
 returns-clause-crash g c =
     let same = ap (λ (x : SpoolWriter g.row.S.Denot). shown g.S.Store x.store) c.forget_numbers.ensures.others in
-    survives_any _ _ _ _ _ c.files.ensures.crash
-    (survives_any _ _ _ _ _ c.remember_all.ensures.crash
+    survives_any c.files.ensures.crash (survives_any c.remember_all.ensures.crash
     (subst (λ (x : State). Survives x (shown g.S.Store c.begin_numbers.new.self.store) (λ _. ⊤)) same
     c.begin_numbers.ensures.crash))

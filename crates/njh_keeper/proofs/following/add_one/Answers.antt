@@ -1,26 +1,15 @@
-use Rattle.std.proofs.Common.{◌≡◌, true, ap, subst, arith}
-use Rattle.std.specs.List.{AllByRecursion}
-use Rattle.sqlite.specs.State.{HasCleanDisk}
-use Rattle.njh_hub.specs.declared.file_summary.FileSummaryView.{FileSummaryView}
-use Rattle.njh_spoolfile.proofs.ReadingLaws.{ok_then}
-use Rattle.njh_spoolfile.specs.Shelf.{shown}
-use Rattle.njh_keeper.specs.code.Alike.{Writes}
-use Rattle.njh_keeper.specs.code.Following.{AddsRow, memory_of}
-use Rattle.njh_keeper.specs.code.Leading.{Leads}
-use Rattle.njh_keeper.specs.code.Memory.{numbers_of}
-use Rattle.njh_keeper.specs.code.Mirrored.{FitsHub}
-use Rattle.njh_keeper.proofs.HandLaws.{add_leads}
-use Rattle.njh_keeper.proofs.LeadingLaws.{survives_both}
+use Rattle.njh_keeper.proofs.Words
+use Words.{◌≡◌, true, ap, subst, AllByRecursion, ok_then, shown, FileSummaryView, Writes, AddsRow, memory_of, Leads}
+use Words.{numbers_of, FitsHub}
+use Rattle.njh_keeper.proofs.{HandLaws.add_leads, LeadingLaws.{clean_before, survives_both}}
 use Rattle.njh_keeper.proofs.following.add_one.Goals as goal
 
 pub returns-clause-led : goal.returns-clause-led
 returns-clause-led g c f hub_file clean =
-    let old = shown g.S.Store c.args.writer.now.store in
     let mid = shown g.S.Store c.place_for.new.writer.store in
     let mid2 = shown g.S.Store c.write_records.new.writer.store in
     let new = shown g.S.Store c.add_row.new.writer.store in
-    let later : HasCleanDisk mid2 = omega (arith, c.add_row.ensures.crash.clean, clean) in
-    let early : HasCleanDisk mid = omega (arith, c.write_records.ensures.crash.clean, later) in
+    let later = clean_before c.add_row.ensures.crash clean in
     let summary = c.args.summary.now in
     let m = memory_of c.args.writer.now c.args.own.now in
     let m1 = memory_of c.place_for.new.writer c.place_for.new.own in
@@ -29,21 +18,18 @@ returns-clause-led g c f hub_file clean =
     λ j. record { numbers = ap numbers_of c.in_ok-write_records.ensures.others j; own = m1.own; text = m1.text } in
     let place = c.in_ok-place.place in
     let hand = c.in_ok-place.ensures.led f hub_file.number_is
-    (ap (λ (x : FileSummaryView). x.records) hub_file.summary_is) early in
+    (ap (λ (x : FileSummaryView). x.records) hub_file.summary_is) (clean_before c.write_records.ensures.crash later) in
     let finish = subst (λ rs. Leads (Writes true place.key place.written rs) mid mid2) hub_file.records_are
     (c.in_ok-write_records.ensures.led later) in
     let fits = subst (AllByRecursion FitsHub) hub_file.records_are c.in_ok-write_records.ensures.fit in
-    ok_then c.add_row.result _ _
-    (λ row.
-    add_leads m m1 f place.key place.written m2 summary old mid mid2 new hub_file.summary_is hub_file.headers fits hand
-    finish
-    (subst (λ x. AddsRow place.key summary f x m2 mid2 new) same row))
-    (c.add_row.ensures.added f hub_file clean)
+    ok_then c.add_row.result _ _ (λ row.
+    add_leads m m1 f place.key place.written m2 summary hub_file.summary_is hub_file.headers fits hand finish
+    (subst (λ x. AddsRow place.key summary f x m2 mid2 new) same row)) (c.add_row.ensures.added f hub_file clean)
 
 pub returns-in_err-write_records-clause-crash : goal.returns-in_err-write_records-clause-crash
 returns-in_err-write_records-clause-crash g c =
-    survives_both _ _ _ c.place_for.ensures.crash c.write_records.ensures.crash
+    survives_both c.place_for.ensures.crash c.write_records.ensures.crash
 
 pub returns-clause-crash : goal.returns-clause-crash
-returns-clause-crash g c = survives_both _ _ _ c.place_for.ensures.crash
-    (survives_both _ _ _ c.write_records.ensures.crash c.add_row.ensures.crash)
+returns-clause-crash g c = survives_both c.place_for.ensures.crash
+    (survives_both c.write_records.ensures.crash c.add_row.ensures.crash)

@@ -1,15 +1,8 @@
-use Rattle.std.proofs.Common.{rules, ◌≡◌, [], ◌∷◌, map, refl, ap, subst, ◌∙◌}
-use Rattle.std.proofs.lemmas.List.{map-append}
-use Rattle.njh_hub.specs.declared.file_summary.FileSummaryView.{FileSummaryView}
-use Rattle.njh_spoolfile.proofs.ReadingLaws.{ok_then}
-use Rattle.njh_spoolfile.specs.Kept.{file_of, with_file}
-use Rattle.njh_spoolfile.specs.Shelf.{shown}
-use Rattle.njh_spoolfile.specs.Steps.{Changes}
-use Rattle.njh_keeper.specs.declared.own_files.KeptWhole as declared
-use Rattle.njh_keeper.specs.declared.writer.SpoolWriter.{SpoolWriter}
-use Rattle.njh_keeper.specs.code.Following.{IsRowFor, memory_of}
-use Rattle.njh_keeper.specs.code.Memory.{numbers_of, whole_of}
+use Rattle.njh_keeper.proofs.Words
+use Words.{rules, ◌≡◌, [], ◌∷◌, map, refl, ap, subst, ◌∙◌, map-append, ok_then, file_of, with_file, shown, Changes}
+use Words.{FileSummaryView, IsRowFor, memory_of, numbers_of, whole_of, SpoolWriter}
 use Rattle.njh_turns.proofs.KeepingLaws.{on_ok}
+use Rattle.njh_keeper.specs.declared.own_files.KeptWhole as declared
 use Rattle.njh_keeper.proofs.following.add_row.Goals as goal
 
 pub returns-clause-added : goal.returns-clause-added
@@ -53,8 +46,7 @@ returns-clause-added g c f hub_file clean =
       };
       is_row = (let is : IsRowFor m.text c.args.key summary row = search rules in is);
       changes = subst (λ x. Changes (with_file now.id row) x new) before changed;
-    })
-    (c.add_file-added.ensures.changed clean)
+    }) (c.add_file-added.ensures.changed clean)
 
 pub returns-clause-due : goal.returns-clause-due
 returns-clause-due g c = on_ok c.add_file-added.result

@@ -1,23 +1,14 @@
-use Rattle.std.proofs.Common.{◌≡◌, ◌<◌, true, None, length, get_or, set, map, refl, sym, ap, subst, ◌∙◌, arith}
-use Rattle.std.proofs.lemmas.List.{get_or-map, get_or_default, length-map, map-set}
-use Rattle.std.specs.Vec.{with_item}
-use Rattle.sqlite.specs.State.{HasCleanDisk}
-use Rattle.njh_turns.specs.Keeping.{is_held}
-use Rattle.njh_spoolfile.specs.Kept.{with_changed}
-use Rattle.njh_spoolfile.specs.Shelf.{shown}
-use Rattle.njh_keeper.specs.code.Following.{GoesTo, memory_of}
-use Rattle.njh_keeper.specs.code.Memory.{numbers_of, whole_of}
-use Rattle.njh_keeper.specs.code.Nodes.{AreOne, named_nodes}
-use Rattle.njh_keeper.specs.declared.writer.SpoolWriter.{SpoolWriter}
-use Rattle.njh_keeper.proofs.LeadingLaws.{leads_by, leads_nothing, leads_weaker}
-use Rattle.njh_keeper.proofs.StillLaws.{held_goes, kept_goes, memory_changed, now_kept}
-use Rattle.njh_keeper.proofs.QuietLaws.{quiet_changed, quiet_same}
+use Rattle.njh_keeper.proofs.Words
+use Words.{◌≡◌, ◌<◌, true, None, length, get_or, set, map, refl, sym, ap, subst, ◌∙◌, arith, get_or-map, get_or_default}
+use Words.{length-map, map-set, with_item, HasCleanDisk, shown, is_held, GoesTo, memory_of, numbers_of, whole_of}
+use Words.{AreOne, named_nodes, SpoolWriter}
 use Rattle.njh_keeper.proofs.following.change_state.Goals.{then-changes_hold+in_ok-change_row, else-changes_hold}
+use Rattle.njh_keeper.proofs.{LeadingLaws.{leads_by, leads_nothing, leads_weaker}, QuietLaws.quiet_changed}
+use Rattle.njh_keeper.proofs.{QuietLaws.quiet_same, StillLaws.{held_goes, kept_goes, memory_changed, now_kept}}
 use Rattle.njh_keeper.proofs.following.change_state.Goals as goal
 
 pub returns-clause-led : goal.returns-clause-led
 returns-clause-led g c f hub_file kept kept_is said several clean =
-    let old = shown g.S.Store c.args.writer.now.store in
     let m = memory_of c.args.writer.now c.args.own.now in
     let i = c.args.place in
     let items = c.args.own.now.whole.items in
@@ -27,7 +18,6 @@ returns-clause-led g c f hub_file kept kept_is said several clean =
     let is : k ≡ get_or m.own.whole i k = ap whole_of c.index-kept.ensures
     ∙ sym (get_or-map whole_of items i first k c.requires) in
     let summary = c.args.summary.now in
-    let new = shown g.S.Store c.if-changes_hold.writer.store in
     let same : kept ≡ first = kept_is ∙ get_or_default items i kept first c.requires ∙ sym c.index-kept.ensures in
     let said_first : first.destination ≡ summary.destination = ap (λ x. x.destination) (sym same) ∙ said in
     let several_first : first.is_mixed ≡ true → AreOne (named_nodes None f.records) → ⊥ =
@@ -38,7 +28,6 @@ returns-clause-led g c f hub_file kept kept_is said several clean =
     elim c.if-changes_hold.branch [
       | then-changes_hold+in_ok-change_row w ↦
           rw w.writer-is (
-          let there_now = shown g.S.Store w.change_row.new.writer.store in
           let led : memory_of w.change_row.new.writer
           (record c.args.own.now { whole = with_item c.args.own.now.whole i now }) ≡ to =
           λ j. record {
@@ -48,24 +37,21 @@ returns-clause-led g c f hub_file kept kept_is said several clean =
           } in
           let changed = w.in_ok-change_row.ensures.changed
           (subst (λ (x : SpoolWriter g.row.S.Denot). HasCleanDisk (shown g.S.Store x.store)) w.writer-is clean) in
-          leads_weaker (λ s t. t ≡ with_changed k.id changed.row s) _ old there_now
-          (λ s t is_changed files has before. (
+          leads_weaker (leads_by changed.changes) (λ s t is_changed files has before. (
             set files i f,
             refl,
             subst (λ x. GoesTo m x s t (set files i f)) (sym led)
                 (subst (λ x. GoesTo m to s x (set files i f)) (sym is_changed)
                 (held_goes m i k there is f summary hub_file.summary_is hub_file.headers s files has before said_first
                 several_first changed.row changed.is_row)),
-          ))
-          (leads_by (with_changed k.id changed.row) old there_now changed.changes))
+          )))
       | else-changes_hold w ↦
           let held : is_held summary.state ≡ is_held first.state = c.changes_hold.ensures w.if-changes_hold.false in
           rw w.writer-is (
           let led : memory_of c.args.writer.now (record c.args.own.now { whole = with_item c.args.own.now.whole i now })
           ≡ to =
           λ j. record { numbers = m.numbers; own = record m.own { whole = whole j }; text = m.text } in
-          leads_nothing _ old
-          (λ s files has before. (
+          leads_nothing (λ s files has before. (
             set files i f,
             refl,
             subst (λ x. GoesTo m x s s (set files i f)) (sym led)

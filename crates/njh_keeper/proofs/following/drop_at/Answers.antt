@@ -1,14 +1,9 @@
 use Rattle.std.proofs.Common.{◌≡◌, ◌<◌, ◌++◌, [], ◌∷◌, length, get_or, remove, map, refl, sym, ap, subst, ◌∙◌, arith}
-use Rattle.std.specs.Prelude.{⊤}
-use Rattle.std.proofs.lemmas.List.{get_or-map, length-map, map-append}
-use Rattle.njh_spoolfile.specs.Kept.{without_file}
-use Rattle.njh_spoolfile.specs.Shelf.{shown}
-use Rattle.njh_keeper.specs.code.Following.{GoesTo, LeadsFiles, memory_of}
-use Rattle.njh_keeper.specs.code.Memory.{numbers_of, sweep_in, whole_of}
-use Rattle.njh_keeper.specs.code.Writing.{sweep_of}
-use Rattle.njh_keeper.proofs.FollowingLaws.{file_goes, map-remove, memory_without, ok_both}
-use Rattle.njh_keeper.proofs.LeadingLaws.{leads_by, leads_weaker}
-use Rattle.njh_keeper.specs.declared.writer.SpoolWriter.{SpoolWriter}
+use Rattle.std.{proofs.lemmas.List.{get_or-map, length-map, map-append}, specs.Prelude.⊤}
+use Rattle.{njh_spoolfile.specs.Shelf.shown, njh_keeper.proofs.FollowingLaws.{file_goes, memory_without, ok_both}}
+use Rattle.njh_keeper.{proofs.{LeadingLaws.{leads_by, leads_weaker}, ListLaws.map-remove}, specs.code.Following.GoesTo}
+use Rattle.njh_keeper.specs.code.{Following.{LeadsFiles, memory_of}, Memory.{numbers_of, sweep_in, whole_of}}
+use Rattle.njh_keeper.specs.{code.Writing.sweep_of, declared.writer.SpoolWriter.SpoolWriter}
 use Rattle.njh_keeper.proofs.following.drop_at.Goals as goal
 
 pub returns-clause-led : goal.returns-clause-led
@@ -25,8 +20,7 @@ returns-clause-led g c clean =
     let is : k ≡ get_or m.own.whole i k = ap whole_of c.remove-gone.ensures.value
     ∙ sym (get_or-map whole_of items i gone k c.requires) in
     let m' = memory_of c.drop_file.new.self (record c.args.own.now { whole = c.remove-gone.new.self }) in
-    ok_both c.drop_file.result _ _ _
-    (λ changed later.
+    ok_both c.drop_file.result _ _ _ (λ changed later.
     let sweeps : map sweep_in c.drop_file.new.self.sweeps.items ≡ m.numbers.sweeps ++ sweep ∷ [] =
     ap (map sweep_in) later ∙ map-append sweep_in c.args.writer.now.sweeps.items (sweep_of gone.key gone.records ∷ [])
     in
@@ -38,15 +32,12 @@ returns-clause-led g c clean =
     let led : m' ≡ memory_without m i k sweep there is refl =
     λ j. record { numbers = numbers j; own = whole j; text = m.text } in
     subst (λ x. LeadsFiles m x (λ s files. ⊤) (λ files now. now ≡ remove files i) old new) (sym led)
-    (leads_weaker (λ s t. t ≡ without_file gone.id s) _ old new
-    (λ s t same files has given. (
+    (leads_weaker (leads_by changed) (λ s t same files has given. (
       remove files i,
       refl,
       subst (λ u. GoesTo m (memory_without m i k sweep there is refl) s u (remove files i))
           (sym same) (file_goes m i k sweep there is refl s files has),
-    ))
-    (leads_by (without_file gone.id) old new changed)))
-    (c.drop_file.ensures.changed clean) c.drop_file.ensures.later
+    )))) (c.drop_file.ensures.changed clean) c.drop_file.ensures.later
 
 pub returns-clause-due : goal.returns-clause-due
 returns-clause-due g c = ap (λ (x : SpoolWriter g.row.S.Denot). x.is_changed) c.drop_file.ensures.others

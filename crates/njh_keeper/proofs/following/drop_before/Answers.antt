@@ -1,41 +1,31 @@
-use Rattle.std.proofs.Common.{◌≡◌, ◌<◌, length, get_or, Some, sym, ap, subst, ◌∙◌, arith}
-use Rattle.std.proofs.lemmas.List.{get_or-map, length-map}
-use Rattle.std.proofs.lemmas.List.Edits.{length-remove}
-use Rattle.sqlite.specs.State.{HasCleanDisk}
-use Rattle.sqlite.proofs.StateLemmas.{survives_then}
-use Rattle.njh_spoolfile.specs.Shelf.{shown}
-use Rattle.njh_keeper.specs.code.Following.{memory_of}
-use Rattle.njh_keeper.specs.code.Memory.{whole_of}
-use Rattle.njh_keeper.specs.code.Walking.{IsWalkedTo}
-use Rattle.njh_keeper.proofs.FollowingLaws.{goes_nowhere, goes_then}
-use Rattle.njh_keeper.proofs.LeadingLaws.{leads_nothing, leads_then, leads_weaker, survives_both, survives_here}
-use Rattle.njh_keeper.proofs.WalkedLaws.{is_another, is_that, passed_here, reached_at_end, reached_here}
-use Rattle.njh_keeper.proofs.QuietLaws.{quiet_changed, quiet_same}
+use Rattle.std.proofs.{Common.{◌≡◌, ◌<◌, length, get_or, Some, sym, ap, subst, ◌∙◌, arith}, lemmas.List.get_or-map}
+use Rattle.{std.proofs.lemmas.List.{length-map, Edits.length-remove}, njh_spoolfile.specs.Shelf.shown}
 use Rattle.njh_keeper.proofs.following.drop_before.Goals.{then-place-len-via-then-place-len}
 use Rattle.njh_keeper.proofs.following.drop_before.Goals.{then-place-len-via-else-place-len+then-eq}
+use Rattle.njh_keeper.proofs.{FollowingLaws.{goes_nowhere, goes_then}, LeadingLaws.{clean_before, leads_nothing}}
+use Rattle.njh_keeper.proofs.LeadingLaws.{leads_then, leads_weaker, survives_both, survives_here}
+use Rattle.njh_keeper.proofs.{QuietLaws.{quiet_changed, quiet_same}, WalkedLaws.{is_another, is_that, passed_here}}
+use Rattle.njh_keeper.{proofs.WalkedLaws.{reached_at_end, reached_here}, specs.code.Following.memory_of}
+use Rattle.njh_keeper.specs.code.{Memory.whole_of, Walking.IsWalkedTo}
 use Rattle.njh_keeper.proofs.following.drop_before.Goals as goal
 
-pub whole-init : goal.whole-init
-whole-init g c =
+pub loop-init : goal.loop-init
+loop-init g c =
     let at = shown g.S.Store c.args.writer.now.store in
     let m = memory_of c.args.writer.now c.args.own.now in
     record {
       crash = survives_here at (λ _. ⊥);
-      led = λ still next clean. leads_nothing _ at (λ s files has walk. (files, walk, goes_nowhere m s files has));
+      led = λ still next clean. leads_nothing (λ s files has walk. (files, walk, goes_nowhere m s files has));
       fewer = omega arith;
       quiet = quiet_same c.args.writer.now;
     }
 
-pub whole-preserved : goal.whole-preserved
-whole-preserved g c =
-    let old = shown g.S.Store c.args.writer.now.store in
-    let mid = shown g.S.Store c.whole.writer.store in
-    let new = shown g.S.Store c.drop_at.new.writer.store in
-    let early : HasCleanDisk new → HasCleanDisk mid = λ clean. omega (arith, c.drop_at.ensures.crash.clean) in
+pub loop-preserved : goal.loop-preserved
+loop-preserved g c =
     let m = memory_of c.args.writer.now c.args.own.now in
-    let m1 = memory_of c.whole.writer c.whole.own in
+    let m1 = memory_of c.loop.writer c.loop.own in
     let m2 = memory_of c.drop_at.new.writer c.drop_at.new.own in
-    let items = c.whole.own.whole.items in
+    let items = c.loop.own.whole.items in
     let place = c.args.place in
     let k = whole_of c.index.result.now in
     let low : place < length items = omega (arith, c.if-place-len.false, c.len.ensures) in
@@ -43,37 +33,30 @@ whole-preserved g c =
     let is : k ≡ get_or m1.own.whole place k =
     ap whole_of c.index.ensures ∙ sym (get_or-map whole_of items place c.index.result.now k low) in
     record {
-      crash = survives_then old mid new _ _ (λ _. ⊥) (λ _ db none. none) (λ _ db none. none) c.whole.invariant.crash
-          c.drop_at.ensures.crash;
+      crash = survives_both c.loop.invariant.crash c.drop_at.ensures.crash;
       led = λ still next clean.
-          leads_then _ _ _ old mid new (c.whole.invariant.led still next (early clean))
-          (c.in_ok-drop_at.ensures.led clean)
-          (λ s t u first second files has walk.
+          leads_then (c.loop.invariant.led still next (clean_before c.drop_at.ensures.crash clean))
+          (c.in_ok-drop_at.ensures.led clean) (λ s t u first second files has walk.
           let one = first files has walk in
           let two = second one.0 one.2.has tt in
           let other : c.args.number ≡ Some k.number → ⊥ = is_another k.number c.args.number (sym c.if-eq.ensures) in (
             two.0,
             subst (λ now. IsWalkedTo still now place) (sym two.1)
                 (passed_here m1 t one.0 one.2.has place k there is c.args.number still next one.1 other),
-            goes_then m m1 m2 s
-                t u one.0 two.0 one.2 two.2,
+            goes_then m m1 m2 s t u one.0 two.0 one.2 two.2,
           ));
       fewer = let less = length-remove items place low in let now =
-          ap length c.drop_at.ensures.memory in omega (arith, c.whole.invariant.fewer, less, now);
+          ap length c.drop_at.ensures.memory in omega (arith, c.loop.invariant.fewer, less, now);
       quiet = quiet_changed c.args.writer.now c.drop_at.new.writer c.drop_at.ensures.due;
     }
 
 pub returns-then-place-len-clause-led : goal.returns-then-place-len-clause-led
 returns-then-place-len-clause-led g c still next clean =
-    let old = shown g.S.Store c.args.writer.now.store in
-    let new = shown g.S.Store c.whole.writer.store in
-    let m = memory_of c.args.writer.now c.args.own.now in
-    let m1 = memory_of c.whole.writer c.whole.own in
-    let items = c.whole.own.whole.items in
+    let m1 = memory_of c.loop.writer c.loop.own in
+    let items = c.loop.own.whole.items in
     let long = length-map items whole_of in
     let place = c.args.place in
-    leads_weaker _ _ old new
-    (λ s t first files has walk.
+    leads_weaker (c.loop.invariant.led still next clean) (λ s t first files has walk.
     let one = first files has walk in (
       one.0,
       (
@@ -93,35 +76,30 @@ returns-then-place-len-clause-led g c still next clean =
       ),
       one.2,
     ))
-    (c.whole.invariant.led still next clean)
 
 pub returns-clause-led : goal.returns-clause-led
 returns-clause-led g c still next clean =
-    let old = shown g.S.Store c.args.writer.now.store in
-    let new = shown g.S.Store c.whole.writer.store in
-    let m1 = memory_of c.whole.writer c.whole.own in
-    let items = c.whole.own.whole.items in
+    let m1 = memory_of c.loop.writer c.loop.own in
+    let items = c.loop.own.whole.items in
     let long = length-map items whole_of in
     let place = c.args.place in
-    let fewer = c.whole.invariant.fewer in
-    leads_weaker _ _ old new
-    (λ s t first files has walk.
+    let fewer = c.loop.invariant.fewer in
+    leads_weaker (c.loop.invariant.led still next clean) (λ s t first files has walk.
     let one = first files has walk in (
       one.0,
       (
         one.1,
         reached_at_end m1 t one.0 one.2.has c.args.number still place next one.1
-            (omega (arith, long, fewer, c.whole-test.false, c.len-end.ensures)),
+            (omega (arith, long, fewer, c.loop-test.false, c.len-end.ensures)),
       ),
       one.2,
     ))
-    (c.whole.invariant.led still next clean)
 
 pub returns-then-place-len-clause-quiet : goal.returns-then-place-len-clause-quiet
-returns-then-place-len-clause-quiet g c = c.whole.invariant.quiet
+returns-then-place-len-clause-quiet g c = c.loop.invariant.quiet
 
 pub returns-clause-quiet : goal.returns-clause-quiet
-returns-clause-quiet g c = c.whole.invariant.quiet
+returns-clause-quiet g c = c.loop.invariant.quiet
 
 pub returns-in_err-drop_at-clause-crash : goal.returns-in_err-drop_at-clause-crash
-returns-in_err-drop_at-clause-crash g c = survives_both _ _ _ c.whole.invariant.crash c.drop_at.ensures.crash
+returns-in_err-drop_at-clause-crash g c = survives_both c.loop.invariant.crash c.drop_at.ensures.crash

@@ -1,19 +1,16 @@
-use Rattle.std.proofs.Common.{◌+◌, ◌≤◌, List, length}
-use Rattle.sqlite.specs.State.{HasCleanDisk, Survives}
-use Rattle.njh_spool.specs.CustomerSpool.{WholeFile}
-use Rattle.njh_spoolfile.specs.Shelf.{shown}
-use Rattle.njh_keeper.specs.code.Following.{IsNext, IsQuiet, LeadsFiles, memory_of}
-use Rattle.njh_keeper.specs.code.Walking.{IsWalkedTo}
+use Rattle.{std.proofs.Common.{◌+◌, ◌≤◌, List, length}, sqlite.specs.State.{HasCleanDisk, Survives}}
+use Rattle.{njh_spoolfile.specs.Shelf.shown, njh_spool.specs.CustomerSpool.WholeFile}
+use Rattle.njh_keeper.specs.code.{Following.{IsQuiet, IsReached, LeadsFiles, memory_of}, Walking.IsWalkedTo}
 use Rattle.njh_keeper.proofs.following.drop_before.Given as goal
 
 -- so many files were taken out
-abbrev pub invariant-whole : goal.invariant-whole
-invariant-whole g l =
+abbrev pub invariant-loop : goal.invariant-loop
+invariant-loop g l =
     let old = shown g.S.Store l.fn.writer.store in
     let now = shown g.S.Store l.writer.store in
     record {
       crash : Survives old now (λ _. ⊥);
-      led : (still : List WholeFile) → IsNext l.number still l.place → HasCleanDisk now
+      led : (still : List WholeFile) → IsReached l.number still l.place → HasCleanDisk now
           → LeadsFiles (memory_of l.fn.writer l.fn.own) (memory_of l.writer l.own)
           (λ s files. IsWalkedTo still files l.place) (λ files here. IsWalkedTo still here l.place) old now;
       fewer : length l.own.whole.items + l.counter ≤ length l.fn.own.whole.items;

@@ -1,43 +1,25 @@
-use Rattle.std.proofs.Common.{◌≡◌, sym, ap, ◌∙◌, arith}
-use Rattle.std.proofs.lemmas.List.{get_or_default}
-use Rattle.sqlite.specs.State.{HasCleanDisk}
-use Rattle.njh_spool.specs.CustomerSpool.{WholeFile}
-use Rattle.njh_hub.specs.Views.{file_summary}
-use Rattle.njh_hub.specs.WholeHub.{part}
-use Rattle.njh_spoolfile.proofs.ReadingLaws.{ok_then}
-use Rattle.njh_spoolfile.specs.Shelf.{shown}
-use Rattle.njh_keeper.specs.code.Following.{memory_of}
-use Rattle.njh_keeper.proofs.NewFilesLaws.{hub_file_at, walked_on}
-use Rattle.njh_keeper.proofs.QuietLaws.{quiet_then}
-use Rattle.njh_keeper.proofs.LeadingLaws.{survives_both}
+use Rattle.std.proofs.{Common.{◌≡◌, sym, ap, ◌∙◌}, lemmas.List.get_or_default}
+use Rattle.{njh_spoolfile.proofs.ReadingLaws.ok_then, njh_spool.specs.CustomerSpool.WholeFile}
+use Rattle.{njh_hub.specs.{Views.file_summary, WholeHub.part}, njh_keeper.proofs.LeadingLaws.clean_before}
+use Rattle.njh_keeper.proofs.{LeadingLaws.survives_both, NewFilesLaws.{hub_file_at, walked_on}, QuietLaws.quiet_then}
 use Rattle.njh_keeper.proofs.following.follow_at.Goals as goal
 
 pub returns-clause-led : goal.returns-clause-led
 returns-clause-led g c still f numbered here next clean =
-    let old = shown g.S.Store c.args.writer.now.store in
-    let mid = shown g.S.Store c.drop_before.new.writer.store in
-    let new = shown g.S.Store c.follow_one.new.writer.store in
-    let early : HasCleanDisk mid = omega (arith, c.follow_one.ensures.crash.clean, clean) in
-    let m = memory_of c.args.writer.now c.args.own.now in
-    let m1 = memory_of c.drop_before.new.writer c.drop_before.new.own in
-    let m2 = memory_of c.follow_one.new.writer c.follow_one.new.own in
     let parts = c.args.hub.now in
     let whole = (part c.args.customer parts).customer.spool.whole in
     let number = c.number_at-number.result in
     let number_is : number ≡ f.number = c.number_at-number.ensures
     ∙ ap (λ (x : WholeFile). x.number) (get_or_default whole c.args.index _ f here.there ∙ sym here.is) in
-    let summary_is : c.summary_at-summary.result ≡ file_summary f =
-    c.summary_at-summary.ensures.summary
+    let summary_is : c.summary_at-summary.result ≡ file_summary f = c.summary_at-summary.ensures.summary
     ∙ ap file_summary (get_or_default whole c.args.index _ f here.there ∙ sym here.is) in
     let hub_file = hub_file_at parts (record { customer = c.args.customer; number = number })
     c.summary_at-summary.result c.args.index f numbered c.summary_at-summary.ensures.headers here number_is
     summary_is in
     ok_then c.follow_one.result _ _
-    (λ more.
-    walked_on m m1 m2 old mid new still c.args.place number f next number_is
-    (c.in_ok-drop_before.ensures.led still
-    (record { file = f; there = next.there; is = next.is; number_is = sym number_is }) early) more)
-    (c.follow_one.ensures.led f hub_file clean)
+    (walked_on still c.args.place number f next number_is (c.in_ok-drop_before.ensures.led still
+    (record { file = f; there = next.there; is = next.is; number_is = sym number_is })
+    (clean_before c.follow_one.ensures.crash clean))) (c.follow_one.ensures.led f hub_file clean)
 
 pub returns-clause-quiet : goal.returns-clause-quiet
 returns-clause-quiet g c =
@@ -45,4 +27,4 @@ returns-clause-quiet g c =
     c.in_ok-drop_before.ensures.quiet) c.follow_one.ensures.quiet
 
 pub returns-clause-crash : goal.returns-clause-crash
-returns-clause-crash g c = survives_both _ _ _ c.drop_before.ensures.crash c.follow_one.ensures.crash
+returns-clause-crash g c = survives_both c.drop_before.ensures.crash c.follow_one.ensures.crash

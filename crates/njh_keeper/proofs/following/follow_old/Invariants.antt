@@ -1,15 +1,11 @@
-use Rattle.std.proofs.Common.{◌≡◌, take}
-use Rattle.sqlite.specs.State.{HasCleanDisk, Survives}
-use Rattle.njh_customer.specs.Surviving.{Survive}
-use Rattle.njh_hub.specs.WholeHub.{part}
-use Rattle.njh_spoolfile.specs.Shelf.{shown}
-use Rattle.njh_keeper.specs.code.Following.{IsQuiet, LeadsFiles, memory_of}
-use Rattle.njh_keeper.specs.code.Walking.{AreNumbered, IsWalkedTo}
+use Rattle.{std.proofs.Common.{◌≡◌, take}, sqlite.specs.State.{HasCleanDisk, Survives}, njh_spoolfile.specs.Shelf.shown}
+use Rattle.{njh_customer.specs.Surviving.Survive, njh_hub.specs.WholeHub.part, njh_keeper.specs.code.Following.IsQuiet}
+use Rattle.njh_keeper.specs.code.{Following.{LeadsFiles, memory_of}, Walking.{AreNumbered, IsWalkedTo}}
 use Rattle.njh_keeper.proofs.following.follow_old.Given as goal
 
 -- so many files were followed
-abbrev pub invariant-old : goal.invariant-old
-invariant-old g l =
+abbrev pub invariant-loop-index : goal.invariant-loop-index
+invariant-loop-index g l =
     let first = shown g.S.Store l.fn.writer.store in
     let now = shown g.S.Store l.writer.store in
     let whole = (part l.customer l.hub).customer.spool.whole in

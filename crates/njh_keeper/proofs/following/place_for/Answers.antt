@@ -1,17 +1,11 @@
-use Rattle.std.proofs.Common.{◌≤◌, map, refl, sym, ap, subst, ◌∙◌, arith}
-use Rattle.std.specs.Prelude.{string_bytes}
-use Rattle.std.proofs.lemmas.List.{get_or-map, length-map}
-use Rattle.njh_spoolfile.specs.Shelf.{shown}
-use Rattle.njh_keeper.specs.declared.own_files.OwnFiles.{OwnFiles}
-use Rattle.njh_keeper.specs.code.Following.{memory_of}
-use Rattle.njh_keeper.specs.code.Memory.{numbers_of, own_of, partial_of}
-use Rattle.njh_keeper.proofs.FollowingLaws.{map-remove}
-use Rattle.njh_keeper.proofs.HandLaws.{key_leads, partial_leads}
+use Rattle.std.proofs.{Common.{◌≤◌, map, refl, sym, ap, subst, ◌∙◌, arith}, lemmas.List.{get_or-map, length-map}}
+use Rattle.{std.specs.Prelude.string_bytes, njh_keeper.proofs.HandLaws.{key_leads, partial_leads}}
+use Rattle.njh_keeper.{proofs.ListLaws.map-remove, specs.code.{Following.memory_of, Memory.{numbers_of, own_of}}}
+use Rattle.njh_keeper.specs.{code.Memory.partial_of, declared.own_files.OwnFiles.OwnFiles}
 use Rattle.njh_keeper.proofs.following.place_for.Goals as goal
 
 pub returns-in-Some-clause-led : goal.returns-in-Some-clause-led
 returns-in-Some-clause-led g c f number records clean =
-    let at = shown g.S.Store c.args.writer.now.store in
     let m = memory_of c.args.writer.now c.args.own.now in
     let m1 = memory_of c.args.writer.now c.take_partial.new.self in
     let items = c.args.own.now.partial.items in
@@ -20,7 +14,7 @@ returns-in-Some-clause-led g c f number records clean =
     let i = taken.0 in
     let long = length-map items partial_of in
     let others = c.take_partial.ensures.others in
-    partial_leads m m1 f p.key p.written i (partial_of p) at (omega (arith, long, taken.1))
+    partial_leads m m1 f p.key p.written i (partial_of p) (omega (arith, long, taken.1))
     (ap partial_of taken.2 ∙ sym (get_or-map partial_of items i p (partial_of p) taken.1))
     (sym number ∙ sym taken.4) (subst (λ n. p.seen ≤ n) records taken.5) refl refl
     (λ j. record {
@@ -32,17 +26,13 @@ returns-in-Some-clause-led g c f number records clean =
 
 pub returns-in_ok-take_key-in-None-clause-led : goal.returns-in_ok-take_key-in-None-clause-led
 returns-in_ok-take_key-in-None-clause-led g c f number records clean =
-    let old = shown g.S.Store c.args.writer.now.store in
-    let new = shown g.S.Store c.take_key.new.self.store in
     let m = memory_of c.args.writer.now c.args.own.now in
     let m1 = memory_of c.take_key.new.self c.take_partial.new.self in
     let same = (c.take_partial.ensures.none c.in-None.is).0 in
     key_leads m m1 f c.in_ok-take_key-in-None.field-0 0 c.take_key.new.self.free_keys.items c.take_key.new.self.next_key
-    old new c.in_ok-take_key-in-None.ensures.taken refl
+    c.in_ok-take_key-in-None.ensures.taken refl
     (λ j. record {
       numbers = ap numbers_of c.take_key.ensures.others j;
       own = ap own_of same j;
-      text = ap
-          (λ (x : OwnFiles). string_bytes x.text) same j;
-    })
-    (c.in_ok-take_key-in-None.ensures.emptied clean)
+      text = ap (λ (x : OwnFiles). string_bytes x.text) same j;
+    }) (c.in_ok-take_key-in-None.ensures.emptied clean)

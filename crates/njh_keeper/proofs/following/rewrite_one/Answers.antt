@@ -1,20 +1,12 @@
-use Rattle.std.proofs.Common.{◌≡◌, ◌<◌, false, true, length, get_or, set, refl, sym, ap, subst, ◌∙◌, arith}
-use Rattle.std.proofs.lemmas.List.{get_or-map, get_or_default, length-map, map-set}
-use Rattle.std.specs.Vec.{with_item}
-use Rattle.sqlite.specs.State.{HasCleanDisk}
-use Rattle.njh_hub.specs.declared.file_summary.FileSummaryView.{FileSummaryView}
-use Rattle.njh_spoolfile.specs.Kept.{with_changed}
-use Rattle.njh_spoolfile.specs.Shelf.{shown}
-use Rattle.njh_keeper.specs.code.Alike.{Writes}
-use Rattle.njh_keeper.specs.code.Following.{GoesTo, memory_of}
-use Rattle.njh_keeper.specs.code.Memory.{numbers_of, whole_of}
-use Rattle.njh_keeper.proofs.LeadingLaws.{leads_by, leads_then, survives_both}
-use Rattle.njh_keeper.proofs.StillLaws.{memory_changed, now_rewritten, rewritten_goes}
+use Rattle.njh_keeper.proofs.Words
+use Words.{◌≡◌, ◌<◌, false, true, length, get_or, set, refl, sym, ap, subst, ◌∙◌, arith, get_or-map, get_or_default}
+use Words.{length-map, map-set, with_item, FileSummaryView, Writes, GoesTo, memory_of, numbers_of, whole_of}
+use Rattle.njh_keeper.proofs.{LeadingLaws.{clean_before, leads_by, leads_then, survives_both}, StillLaws.memory_changed}
+use Rattle.njh_keeper.proofs.StillLaws.{now_rewritten, rewritten_goes}
 use Rattle.njh_keeper.proofs.following.rewrite_one.Goals as goal
 
 pub returns-clause-led : goal.returns-clause-led
 returns-clause-led g c f hub_file kept kept_is one clean =
-    let old = shown g.S.Store c.args.writer.now.store in
     let m = memory_of c.args.writer.now c.args.own.now in
     let i = c.args.place in
     let items = c.args.own.now.whole.items in
@@ -24,9 +16,6 @@ returns-clause-led g c f hub_file kept kept_is one clean =
     let is : k ≡ get_or m.own.whole i k = ap whole_of c.index-kept.ensures
     ∙ sym (get_or-map whole_of items i first k c.requires) in
     let summary = c.args.summary.now in
-    let mid = shown g.S.Store c.write_records.new.writer.store in
-    let new = shown g.S.Store c.change_row.new.writer.store in
-    let early : HasCleanDisk mid = omega (arith, c.change_row.ensures.crash.clean, clean) in
     let same : kept ≡ first = kept_is ∙ get_or_default items i kept first c.requires ∙ sym c.index-kept.ensures in
     let now = record first { state = summary.state; destination = summary.destination; is_mixed = false } in
     let m' = memory_of c.change_row.new.writer (record c.args.own.now { whole = with_item c.args.own.now.whole i now })
@@ -39,13 +28,11 @@ returns-clause-led g c f hub_file kept kept_is one clean =
       text = m.text;
     } in
     let changed = c.in_ok-change_row.ensures.changed clean in
-    leads_then _ (λ t u. u ≡ with_changed k.id changed.row t) _ old mid new (c.in_ok-write_records.ensures.led early)
-    (leads_by (with_changed k.id changed.row) mid new changed.changes)
-    (λ s t u writes is_changed files has before. (
+    leads_then (c.in_ok-write_records.ensures.led (clean_before c.change_row.ensures.crash clean))
+    (leads_by changed.changes) (λ s t u writes is_changed files has before. (
       set files i f,
       refl,
-      subst (λ x. GoesTo m x s u (set files i f)) (sym led)
-          (subst (λ x. GoesTo m (memory_changed m i k there is
+      subst (λ x. GoesTo m x s u (set files i f)) (sym led) (subst (λ x. GoesTo m (memory_changed m i k there is
           (now_rewritten m i k there is f summary hub_file.summary_is hub_file.headers)) s x (set files i f))
           (sym is_changed)
           (rewritten_goes m i k there is f summary hub_file.summary_is hub_file.headers s files has before
@@ -56,7 +43,7 @@ returns-clause-led g c f hub_file kept kept_is one clean =
 
 pub returns-in_err-change_row-clause-crash : goal.returns-in_err-change_row-clause-crash
 returns-in_err-change_row-clause-crash g c =
-    survives_both _ _ _ c.write_records.ensures.crash c.change_row.ensures.crash
+    survives_both c.write_records.ensures.crash c.change_row.ensures.crash
 
 pub returns-clause-crash : goal.returns-clause-crash
-returns-clause-crash g c = survives_both _ _ _ c.write_records.ensures.crash c.change_row.ensures.crash
+returns-clause-crash g c = survives_both c.write_records.ensures.crash c.change_row.ensures.crash

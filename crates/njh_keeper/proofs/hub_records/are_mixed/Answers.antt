@@ -1,6 +1,6 @@
 use Rattle.std.proofs.Common.{rules, ◌≡◌, ℕ, List, ◌∷◌, Some, None, refl, ◌∙◌, ap, arith}
-use Rattle.njh_keeper.specs.code.Nodes.{named_nodes}
 use Rattle.njh_keeper.proofs.NextNodeLaws.{begins, empty, ends, from_zero, goes_on, none_named, nothing, other}
+use Rattle.njh_keeper.specs.code.Nodes.{named_nodes}
 use Rattle.njh_keeper.proofs.hub_records.are_mixed.Goals as goal
 
 pub returns-in_default-clause-one : goal.returns-in_default-clause-one
@@ -22,15 +22,13 @@ pub returns-then-ne-clause-several : goal.returns-then-ne-clause-several
 returns-then-ne-clause-several c =
     let differ : c.in-Some-next_node.node ≡ c.in-Some.first → ⊥ = search rules in
     λ e one. differ (other (named_nodes None c.args.records) c.in-Some.first c.in-Some-next_node.node _ _
-    c.loop.invariant.0
-    c.in-Some-next_node.ensures.nodes one)
+    c.loop.invariant.0 c.in-Some-next_node.ensures.nodes one)
 
 pub returns-in-None-clause-one : goal.returns-in-None-clause-one
 returns-in-None-clause-one c =
     λ e. ends (named_nodes None c.args.records) c.in-Some.first _ c.loop.invariant.0
     (nothing _ c.next_node-in-loop.result c.next_node-in-loop.new.before c.next_node-in-loop.new.records
-    c.next_node-in-loop.ensures.nodes
-    c.in-None.is (c.next_node-in-loop.ensures.none c.in-None.is))
+    c.next_node-in-loop.ensures.nodes c.in-None.is (c.next_node-in-loop.ensures.none c.in-None.is))
 
 pub loop-preserved : goal.loop-preserved
 loop-preserved c =

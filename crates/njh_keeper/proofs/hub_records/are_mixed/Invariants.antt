@@ -1,6 +1,5 @@
-use Rattle.std.proofs.Common.{◌<◌, ◌+◌, length, Some, None}
+use Rattle.{std.proofs.Common.{◌<◌, ◌+◌, length, Some, None}, njh_keeper.proofs.NextNodeLaws.Known}
 use Rattle.njh_keeper.specs.code.Nodes.{named_nodes}
-use Rattle.njh_keeper.proofs.NextNodeLaws.{Known}
 use Rattle.njh_keeper.proofs.hub_records.are_mixed.Given as goal
 
 -- the nodes that were named are the first one

@@ -1,7 +1,6 @@
 use Rattle.std.proofs.Common.{◌≡◌, ℕ, List, Option, length, Some, None, refl, sym, ◌∙◌, ap, arith}
-use Rattle.njh_record.specs.Stored.{Stored}
+use Rattle.{njh_record.specs.Stored.Stored, njh_keeper.proofs.NextNodeLaws.{at_end, empty, fewer, is_none, read_one}}
 use Rattle.njh_keeper.specs.code.Nodes.{named_nodes, with_first}
-use Rattle.njh_keeper.proofs.NextNodeLaws.{at_end, empty, fewer, is_none, read_one}
 use Rattle.njh_keeper.proofs.hub_records.next_node.Goals as goal
 
 pub loop-init : goal.loop-init
@@ -11,13 +10,11 @@ pub returns-in_err-srcb-clause-nodes : goal.returns-in_err-srcb-clause-nodes
 returns-in_err-srcb-clause-nodes c =
     c.loop.invariant.0
     ∙ at_end c.loop.before c.loop.records c.next.new.self c.from_residual.result c.in_err-srcb.ensures.first
-    c.in_err-srcb.ensures.rest
-    c.from_residual.ensures
+    c.in_err-srcb.ensures.rest c.from_residual.ensures
 
 pub returns-then-is_some-clause-nodes : goal.returns-then-is_some-clause-nodes
 returns-then-is_some-clause-nodes c =
-    c.loop.invariant.0
-    ∙ read_one c.loop.before c.loop.records c.next.new.self
+    c.loop.invariant.0 ∙ read_one c.loop.before c.loop.records c.next.new.self
     (record { srcb = c.in_ok-srcb.srcb; bytes = c.next.new.into.items })
     c.deref.result.now c.node_of-node.result c.in_ok-srcb.ensures.first c.in_ok-srcb.ensures.rest c.deref.ensures.0
     c.node_of-node.ensures
@@ -40,8 +37,7 @@ loop-preserved c =
     let one = fewer c.loop.records r c.in_ok-srcb.ensures.first in
     let none : c.node_of-node.result ≡ None =
     is_none c.node_of-node.result (sym c.is_some.ensures ∙ c.if-is_some.false) in (
-      c.loop.invariant.0
-          ∙ read_one c.loop.before c.loop.records c.next.new.self r
+      c.loop.invariant.0 ∙ read_one c.loop.before c.loop.records c.next.new.self r
           c.deref.result.now c.node_of-node.result c.in_ok-srcb.ensures.first c.in_ok-srcb.ensures.rest
           c.deref.ensures.0 c.node_of-node.ensures
           ∙ ap (λ (n : Option (List ℕ)). with_first n (named_nodes (Some c.in_ok-srcb.srcb) c.next.new.self)) none,

@@ -1,5 +1,4 @@
-use Rattle.std.proofs.Common.{◌≡◌, ◌≤◌, length, Some, ◌+◌}
-use Rattle.njh_keeper.specs.code.Nodes.{named_nodes}
+use Rattle.{std.proofs.Common.{◌≡◌, ◌≤◌, length, Some, ◌+◌}, njh_keeper.specs.code.Nodes.named_nodes}
 use Rattle.njh_keeper.proofs.hub_records.next_node.Given as goal
 
 -- the records that were gone through name none

@@ -1,18 +1,11 @@
-use Rattle.std.proofs.Common.{◌≡◌, drop, take}
-use Rattle.std.specs.List.{AllByRecursion}
-use Rattle.sqlite.specs.State.{HasCleanDisk, Survives}
-use Rattle.njh_stream.specs.SpoolFiles.{records_in}
-use Rattle.njh_hub.specs.WholeHub.{part}
-use Rattle.njh_spoolfile.specs.Shelf.{shown}
-use Rattle.njh_keeper.specs.code.Leading.{Leads}
-use Rattle.njh_keeper.specs.code.Mirrored.{FitsHub}
-use Rattle.njh_keeper.specs.code.Alike.{AreBegun}
+use Rattle.njh_keeper.proofs.Words
+use Words.{◌≡◌, drop, take, AllByRecursion, HasCleanDisk, Survives, shown, records_in, part, AreBegun, Leads, FitsHub}
 use Rattle.njh_keeper.proofs.ReachLaws.{Reaches}
 use Rattle.njh_keeper.proofs.hub_records.write_records.Given as goal
 
 -- so many records were gone through, and those are left
-abbrev pub invariant-places : goal.invariant-places
-invariant-places g l =
+abbrev pub invariant-loop-place : goal.invariant-loop-place
+invariant-loop-place g l =
     let old = shown g.S.Store l.fn.writer.store in
     let now = shown g.S.Store l.writer.store in
     let all = records_in l.fn.file.number (part l.fn.file.customer l.hub).customer.spool in

@@ -1,5 +1,4 @@
-use Rattle.std.proofs.Common.{◌∙◌}
-use Rattle.njh_spoolfile.specs.CommitState.{CommitState}
+use Rattle.{std.proofs.Common.◌∙◌, njh_spoolfile.specs.CommitState.CommitState}
 use Rattle.njh_keeper.proofs.laws.a_crash_leaves_what_was_opened.Goals as goal
 
 pub returns : goal.returns

@@ -1,6 +1,5 @@
-use Rattle.std.proofs.Common.{ap}
-use Rattle.njh_keeper.specs.Opened.{is_own, part_opened}
-use Rattle.njh_spoolfile.proofs.ListLaws.{others_stay}
+use Rattle.{std.proofs.Common.ap, njh_spoolfile.proofs.ListLaws.others_stay, njh_keeper.specs.Opened.is_own}
+use Rattle.njh_keeper.specs.Opened.{part_opened}
 use Rattle.njh_keeper.proofs.laws.a_file_of_another_does_not_show.Goals as goal
 
 pub returns : goal.returns

@@ -1,5 +1,4 @@
-use Rattle.std.proofs.Common.{sym, ◌∙◌}
-use Rattle.njh_keeper.proofs.HubLaws.{no_number}
+use Rattle.{std.proofs.Common.{sym, ◌∙◌}, njh_keeper.proofs.HubLaws.no_number}
 use Rattle.njh_keeper.proofs.names.number_of.Goals as goal
 
 pub returns-in_default : goal.returns-in_default

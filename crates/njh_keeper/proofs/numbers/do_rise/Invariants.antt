@@ -1,5 +1,4 @@
-use Rattle.std.proofs.Common.{◌≡◌, drop}
-use Rattle.njh_keeper.specs.code.Apart.{rises}
+use Rattle.{std.proofs.Common.{◌≡◌, drop}, njh_keeper.specs.code.Apart.rises}
 use Rattle.njh_keeper.proofs.numbers.do_rise.Given as goal
 
 -- so many rise

@@ -1,5 +1,4 @@
-use Rattle.std.proofs.Common.{◌≡◌, drop}
-use Rattle.njh_keeper.specs.code.Apart.{have_low_ids}
+use Rattle.{std.proofs.Common.{◌≡◌, drop}, njh_keeper.specs.code.Apart.have_low_ids}
 use Rattle.njh_keeper.proofs.numbers.ids_are_low.Given as goal
 
 -- so many have lower ones

@@ -1,17 +1,12 @@
-use Rattle.std.proofs.Common.{subst, sym, arith}
-use Rattle.std.proofs.lemmas.Result.{IfErr-weaker, IfOk-weaker, on_ok_weaker}
-use Rattle.sqlite.specs.Effect.{Database}
-use Rattle.sqlite.specs.State.{HasCleanDisk}
-use Rattle.njh_spoolfile.specs.Kept.{Holds}
-use Rattle.njh_spoolfile.specs.Shelf.{shown}
-use Rattle.njh_keeper.proofs.OpeningLaws.{Finds, come_back, opens, tells}
-use Rattle.njh_keeper.proofs.LeadingLaws.{survives_both}
+use Rattle.std.proofs.{Common.{subst, sym}, lemmas.Result.{IfErr-weaker, IfOk-weaker, on_ok_weaker}}
+use Rattle.{sqlite.specs.Effect.Database, njh_spoolfile.specs.{Kept.Holds, Shelf.shown}}
+use Rattle.njh_keeper.proofs.{LeadingLaws.{clean_before, survives_both}, OpeningLaws.{Finds, come_back, opens, tells}}
 use Rattle.njh_keeper.proofs.opening.open_from.Goals as goal
 
 pub returns-clause-hub : goal.returns-clause-hub
 returns-clause-hub g c clean =
     let mid = shown g.S.Store c.find.new.store in
-    let early : HasCleanDisk mid = omega (arith, c.fill.ensures.crash.clean) in
+    let early = clean_before c.fill.ensures.crash clean in
     IfOk-weaker c.fill.result _ _ (λ opened is spool held.
     let moved : Holds spool mid.now.trees =
     subst (λ (d : Database). Holds spool d.trees) (sym (c.in-Ok.ensures.same early).now) held in
@@ -26,7 +21,7 @@ returns-clause-hub g c clean =
 pub returns-clause-back : goal.returns-clause-back
 returns-clause-back g c clean =
     let mid = shown g.S.Store c.find.new.store in
-    let early : HasCleanDisk mid = omega (arith, c.fill.ensures.crash.clean) in
+    let early = clean_before c.fill.ensures.crash clean in
     on_ok_weaker c.fill.result (λ none spool held.
     let moved : Holds spool mid.now.trees =
     subst (λ (d : Database). Holds spool d.trees) (sym (c.in-Ok.ensures.same early).now) held in
@@ -41,7 +36,7 @@ returns-clause-back g c clean =
 pub returns-clause-refused : goal.returns-clause-refused
 returns-clause-refused g c clean =
     let mid = shown g.S.Store c.find.new.store in
-    let early : HasCleanDisk mid = omega (arith, c.fill.ensures.crash.clean) in
+    let early = clean_before c.fill.ensures.crash clean in
     IfErr-weaker c.fill.result _ _ (λ fault stops spool held.
     let moved : Holds spool mid.now.trees =
     subst (λ (d : Database). Holds spool d.trees) (sym (c.in-Ok.ensures.same early).now) held in
@@ -54,4 +49,4 @@ returns-clause-refused g c clean =
     tells f fault (stops spool moved)) (c.fill.ensures.refused clean)
 
 pub returns-clause-crash : goal.returns-clause-crash
-returns-clause-crash g c = survives_both _ _ _ c.find.ensures.crash c.fill.ensures.crash
+returns-clause-crash g c = survives_both c.find.ensures.crash c.fill.ensures.crash

@@ -1,7 +1,5 @@
-use Rattle.std.proofs.Common.{refl, sym, subst}
-use Rattle.njh_keeper.specs.code.Refusing.{IsRefusalOf}
-use Rattle.njh_keeper.specs.declared.fault.OpeningFault.TheVariants.{File}
-use Rattle.njh_keeper.specs.declared.restoring.StopCause.{StopCause}
+use Rattle.{std.proofs.Common.{refl, sym, subst}, njh_keeper.specs.code.Refusing.IsRefusalOf}
+use Rattle.njh_keeper.specs.declared.{fault.OpeningFault.TheVariants.File, restoring.StopCause.StopCause}
 use Rattle.njh_keeper.proofs.opening.refusal_of.Goals as goal
 
 pub returns : goal.returns

@@ -1,14 +1,8 @@
 use Rattle.std.proofs.Common.{◌≡◌, [], false, length, refl, true, ap, subst, ◌∙◌, arith}
-use Rattle.njh_spool.specs.CustomerSpool.{partial_records}
-use Rattle.njh_spoolfile.proofs.ReadingLaws.{ok_then}
-use Rattle.njh_spoolfile.specs.Shelf.{shown}
-use Rattle.njh_hub.specs.WholeHub.{part}
-use Rattle.njh_keeper.specs.code.Alike.{Writes}
-use Rattle.njh_keeper.specs.code.Leading.{Leads}
-use Rattle.njh_keeper.specs.declared.own_files.KeptPartial.{KeptPartial}
-use Rattle.njh_keeper.proofs.AlikeLaws.{begun_same}
-use Rattle.njh_keeper.proofs.LeadingLaws.{leads_weaker}
-use Rattle.njh_keeper.proofs.PortionLaws.{keeps_first}
+use Rattle.njh_spoolfile.{proofs.ReadingLaws.ok_then, specs.Shelf.shown}
+use Rattle.{njh_spool.specs.CustomerSpool.partial_records, njh_hub.specs.WholeHub.part}
+use Rattle.njh_keeper.proofs.{AlikeLaws.begun_same, LeadingLaws.leads_weaker, PortionLaws.keeps_first}
+use Rattle.njh_keeper.specs.{code.{Alike.Writes, Leading.Leads}, declared.own_files.KeptPartial.KeptPartial}
 use Rattle.njh_keeper.proofs.portions.begin.Goals as goal
 
 pub returns-clause-kept : goal.returns-clause-kept
@@ -26,13 +20,10 @@ returns-clause-kept g c =
     } in
     let old = shown g.S.Store c.args.writer.now.store in
     let new = shown g.S.Store c.write_records.new.writer.store in
-    ok_then c.remember.result _ _
-    (λ last.
+    ok_then c.remember.result _ _ (λ last.
     keeps_first g.S.Store now c.args.writer.now c.write_records.new.writer c.args.own.now c.remember.new.own
     c.in_ok-write_records.ensures.others c.remember.ensures.others p last refl
     counted (omega (arith, c.record_count-count.ensures, c.requires.many)) counted
-    (λ clean. leads_weaker _ _ old new (λ s t wrote h empty. wrote [] h empty
-    (begun_same 0 (partial_records c.args.file.number now) (omega arith)))
-    (subst (λ rs. Leads (Writes false c.args.key 0 rs) old new) c.requires.partial
-    (c.in_ok-write_records.ensures.led clean))))
-    c.remember.ensures.last
+    (λ clean. leads_weaker (subst (λ rs. Leads (Writes false c.args.key 0 rs) old new) c.requires.partial
+    (c.in_ok-write_records.ensures.led clean)) (λ s t wrote h empty. wrote [] h empty
+    (begun_same 0 (partial_records c.args.file.number now) (omega arith))))) c.remember.ensures.last

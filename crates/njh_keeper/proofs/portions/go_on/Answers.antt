@@ -1,13 +1,9 @@
 use Rattle.std.proofs.Common.{◌≡◌, ◌≤◌, length, refl, true, false, ap, subst, ◌∙◌, arith}
-use Rattle.njh_spool.specs.CustomerSpool.{partial_records}
-use Rattle.njh_spoolfile.specs.Shelf.{shown}
-use Rattle.njh_stream.specs.SpoolFiles.{records_in}
-use Rattle.njh_hub.specs.WholeHub.{part}
-use Rattle.njh_keeper.specs.code.Alike.{Writes}
-use Rattle.njh_keeper.specs.code.Leading.{Leads}
+use Rattle.{njh_spoolfile.specs.Shelf.shown, njh_spool.specs.CustomerSpool.partial_records}
+use Rattle.{njh_stream.specs.SpoolFiles.records_in, njh_hub.specs.WholeHub.part}
+use Rattle.njh_keeper.proofs.{LeadingLaws.{leads_nothing, leads_weaker}, PortionLaws.{found_at, keeps_more}}
+use Rattle.njh_keeper.{proofs.PortionLaws.{rest_is_written, waits_still}, specs.code.{Alike.Writes, Leading.Leads}}
 use Rattle.njh_keeper.specs.declared.own_files.KeptPartial.{KeptPartial}
-use Rattle.njh_keeper.proofs.LeadingLaws.{leads_nothing, leads_weaker}
-use Rattle.njh_keeper.proofs.PortionLaws.{found_at, keeps_more, rest_is_written, waits_still}
 use Rattle.njh_keeper.proofs.portions.go_on.Goals as goal
 
 pub returns-then-saturating_sub-lt-PORTION-clause-kept : goal.returns-then-saturating_sub-lt-PORTION-clause-kept
@@ -24,7 +20,7 @@ returns-then-saturating_sub-lt-PORTION-clause-kept g c =
     keeps_more g.S.Store now c.args.writer.now c.args.writer.now c.args.own.now _ refl refl c.args.place p q
     c.args.file.number c.requires.within c.index-partial.ensures refl found.0 refl refl grown
     counted (omega (arith, c.record_count-seen.ensures, c.requires.many))
-    (λ clean. leads_nothing _ (shown g.S.Store c.args.writer.now.store) (λ s. waits_still p q rs refl s refl))
+    (λ clean. leads_nothing (λ s. waits_still p q rs refl s refl))
 
 pub returns-clause-kept : goal.returns-clause-kept
 returns-clause-kept g c =
@@ -41,8 +37,7 @@ returns-clause-kept g c =
     let new = shown g.S.Store c.write_records.new.writer.store in
     keeps_more g.S.Store now c.args.writer.now c.write_records.new.writer c.args.own.now _
     c.in_ok-write_records.ensures.others refl c.args.place p q c.args.file.number c.requires.within
-    c.index-partial.ensures
-    refl found.0 refl refl grown counted (omega (arith, c.record_count-seen.ensures, c.requires.many))
-    (λ clean. leads_weaker _ _ old new (λ s t wrote. rest_is_written p q rs refl s t counted wrote)
-    (subst (λ xs. Leads (Writes false p.key p.written xs) old new) c.requires.partial
-    (c.in_ok-write_records.ensures.led clean)))
+    c.index-partial.ensures refl found.0 refl refl grown counted
+    (omega (arith, c.record_count-seen.ensures, c.requires.many))
+    (λ clean. leads_weaker (subst (λ xs. Leads (Writes false p.key p.written xs) old new) c.requires.partial
+    (c.in_ok-write_records.ensures.led clean)) (λ s t wrote. rest_is_written p q rs refl s t counted wrote))

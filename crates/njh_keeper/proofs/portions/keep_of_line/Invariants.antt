@@ -1,12 +1,10 @@
-use Rattle.sqlite.specs.State.{Survives}
-use Rattle.njh_hub.specs.WholeHub.{part}
-use Rattle.njh_spoolfile.specs.Shelf.{shown}
+use Rattle.{sqlite.specs.State.Survives, njh_spoolfile.specs.Shelf.shown, njh_hub.specs.WholeHub.part}
 use Rattle.njh_keeper.specs.code.Partly.{KeepsPartly}
 use Rattle.njh_keeper.proofs.portions.keep_of_line.Given as goal
 
 -- nothing was committed, and records are kept of the files of the streams so far
-abbrev pub invariant-streams : goal.invariant-streams
-invariant-streams g l = record {
+abbrev pub invariant-loop-receiver : goal.invariant-loop-receiver
+invariant-loop-receiver g l = record {
   crash : Survives (shown g.S.Store l.fn.writer.store) (shown g.S.Store l.writer.store) (λ _. ⊥);
   kept : KeepsPartly g.S.Store (part l.customer l.hub).customer.spool l.fn.writer l.fn.own l.writer l.own;
 }

@@ -1,5 +1,4 @@
-use Rattle.std.proofs.Common.{◌≡◌, drop, map}
-use Rattle.njh_spoolfile.specs.Kept.{contents_of}
+use Rattle.{std.proofs.Common.{◌≡◌, drop, map}, njh_spoolfile.specs.Kept.contents_of}
 use Rattle.njh_keeper.specs.Opened.{are_records_from}
 use Rattle.njh_keeper.proofs.records.are_records.Given as goal
 

@@ -1,13 +1,7 @@
-use Rattle.std.proofs.Common.{◌≡◌, sym, ap, ◌∙◌}
-use Rattle.std.proofs.lemmas.List.{get_or_default}
-use Rattle.std.proofs.lemmas.List.Elements.{recursion_from_All}
-use Rattle.njh_header.specs.WholeFiles.{HasHeaders}
-use Rattle.njh_hub.specs.Views.{file_summary}
-use Rattle.njh_hub.specs.declared.file_summary.FileSummaryView.{FileSummaryView}
-use Rattle.njh_hub.specs.WholeHub.{part}
-use Rattle.njh_spool.specs.CustomerSpool.{WholeFile}
-use Rattle.njh_stream.specs.SpoolFiles.{records_in}
-use Rattle.njh_keeper.proofs.NumberedLaws.{all_at}
+use Rattle.std.proofs.{Common.{◌≡◌, sym, ap, ◌∙◌}, lemmas.List.{get_or_default, Elements.recursion_from_All}}
+use Rattle.{njh_header.specs.WholeFiles.HasHeaders, njh_spool.specs.CustomerSpool.WholeFile}
+use Rattle.{njh_stream.specs.SpoolFiles.records_in, njh_hub.specs.declared.file_summary.FileSummaryView.FileSummaryView}
+use Rattle.{njh_hub.specs.{Views.file_summary, WholeHub.part}, njh_keeper.proofs.NumberedLaws.all_at}
 use Rattle.njh_keeper.proofs.remembering.kept_at.Goals as goal
 
 pub returns-clause-remembers : goal.returns-clause-remembers
@@ -21,8 +15,7 @@ returns-clause-remembers c found g is =
     in
     let own : records_in g.number spool ≡ g.records =
     all_at (λ f. records_in f.number spool ≡ f.records) spool.whole i g found c.requires is in
-    let headers : HasHeaders g.kind g.records =
-    all_at (λ f. HasHeaders f.kind f.records) spool.whole i g
+    let headers : HasHeaders g.kind g.records = all_at (λ f. HasHeaders f.kind f.records) spool.whole i g
     (recursion_from_All (λ f. HasHeaders f.kind f.records) spool.whole c.summary_at-summary.ensures.headers) c.requires
     is in
     let records : records_in c.number_at-number.result spool ≡ g.records = ap (λ n. records_in n spool) number ∙ own in

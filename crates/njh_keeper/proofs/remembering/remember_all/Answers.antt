@@ -1,18 +1,10 @@
-use Rattle.std.proofs.Common.{rules, ◌≡◌, ◌<◌, ◌++◌, true, [], ◌∷◌, length, map, string_bytes, refl, sym, ap, subst}
-use Rattle.std.proofs.Common.{◌∙◌, arith}
-use Rattle.std.proofs.lemmas.List.{get_or_default, length-map, length-take, map-append, take_more}
-use Rattle.std.specs.List.{AllByRecursion}
-use Rattle.sqlite.specs.State.{HasCleanDisk}
-use Rattle.sqlite.proofs.StateLemmas.{survives_then}
-use Rattle.njh_hub.specs.WholeHub.{part}
-use Rattle.njh_spoolfile.specs.Shelf.{shown}
-use Rattle.njh_keeper.specs.Opened.{is_name_of}
-use Rattle.njh_keeper.specs.code.Memory.{own_of}
-use Rattle.njh_keeper.specs.code.Opening.{AreRemembered, IsOwnOf, Remembering, entries, files_at, name_at}
-use Rattle.njh_keeper.proofs.LeadingLaws.{leads_nothing, leads_then, survives_here, survives_both}
+use Rattle.njh_keeper.proofs.Words
+use Words.{rules, ◌≡◌, ◌<◌, ◌++◌, true, [], ◌∷◌, length, map, string_bytes, refl, sym, ap, subst, ◌∙◌, arith}
+use Words.{get_or_default, length-map, map-append, take_more, AllByRecursion, shown, part, own_of, AreRemembered}
+use Words.{IsOwnOf, Remembering, entries, files_at, name_at, SpoolWriter, is_name_of}
+use Rattle.{std.proofs.lemmas.List.length-take, njh_keeper.proofs.LeadingLaws.{clean_before, leads_nothing, leads_then}}
+use Rattle.njh_keeper.proofs.{LeadingLaws.{survives_here, survives_both}, NumberedLaws.all-push}
 use Rattle.njh_keeper.proofs.OpeningCustomers.{none_remembered, one_more_remembered}
-use Rattle.njh_keeper.proofs.PartlyLaws.{all_push}
-use Rattle.njh_keeper.specs.declared.writer.SpoolWriter.{SpoolWriter}
 use Rattle.njh_keeper.proofs.remembering.remember_all.Goals as goal
 
 pub loop-place-init : goal.loop-place-init
@@ -26,17 +18,12 @@ loop-place-init g c =
       writer = refl;
       names = ap (map (λ own. own.name)) none;
       texts = subst (AllByRecursion (λ own. is_name_of (string_bytes own.text) own.name ≡ true)) (sym none) tt;
-      led = λ found clean.
-          leads_nothing _ at (λ s ordered rows distinct reads.
+      led = λ found clean. leads_nothing (λ s ordered rows distinct reads.
           subst (λ xs. AreRemembered names hub (map own_of xs) s s) (sym none) (none_remembered names hub s ordered));
     }
 
 pub loop-place-preserved : goal.loop-place-preserved
 loop-place-preserved g c =
-    let old = shown g.S.Store c.args.writer.now.store in
-    let mid = shown g.S.Store c.loop-place.writer.store in
-    let new = shown g.S.Store c.remember_customer.new.writer.store in
-    let early : HasCleanDisk new → HasCleanDisk mid = λ clean. omega (arith, c.remember_customer.ensures.crash.clean) in
     let so_far = c.loop-place.invariant in
     let names = c.args.names.now in
     let hub = c.args.hub.now in
@@ -51,59 +38,49 @@ loop-place-preserved g c =
     (let a = length-map items own_of in let b = length-map items (λ own. own.name) in let d = ap length so_far.names
     in let e = length-take place names in omega (arith, a, b, d, e, low)) in
     record {
-      crash = survives_then old mid new _ _ (λ _. ⊥) (λ _ db none. none) (λ _ db none. none) so_far.crash
-          c.remember_customer.ensures.crash;
-      writer =
-          c.remember_customer.ensures.others
-          ∙ ap (λ (x : SpoolWriter g.row.S.Denot). record x
+      crash = survives_both so_far.crash c.remember_customer.ensures.crash;
+      writer = c.remember_customer.ensures.others ∙ ap (λ (x : SpoolWriter g.row.S.Denot). record x
           { store = c.remember_customer.new.writer.store; is_changed = c.remember_customer.new.writer.is_changed })
           so_far.writer;
-      names =
-          ap (map (λ own. own.name)) pushed ∙ map-append (λ own. own.name) items (own ∷ [])
+      names = ap (map (λ own. own.name)) pushed ∙ map-append (λ own. own.name) items (own ∷ [])
           ∙ (λ i. so_far.names i ++ (c.in_ok-own.ensures.own.name_is ∙ c.index-names-place.is) i ∷ [])
           ∙ sym (take_more names place c.index-names-place.result low);
-      texts =
-          subst (AllByRecursion (λ own. is_name_of (string_bytes own.text) own.name ≡ true)) (sym pushed)
-          (all_push (λ own. is_name_of (string_bytes own.text) own.name ≡ true) items own so_far.texts
+      texts = subst (AllByRecursion (λ own. is_name_of (string_bytes own.text) own.name ≡ true)) (sym pushed)
+          (all-push (λ own. is_name_of (string_bytes own.text) own.name ≡ true) items own so_far.texts
           c.in_ok-own.ensures.text);
       led = λ found clean.
           let whose : IsOwnOf (name_at names (length (map own_of items)))
           (part (length (map own_of items)) hub).customer.spool (own_of own) =
           subst (λ n. IsOwnOf (name_at names n) (part n hub).customer.spool (own_of own)) (sym long)
           (subst (λ who. IsOwnOf who (part place hub).customer.spool (own_of own)) name_is c.in_ok-own.ensures.own) in
-          leads_then _ _ _ old mid new (so_far.led found (early clean))
-          (c.in_ok-own.ensures.led (found place low) clean)
-          (λ s t u first one ordered rows distinct reads.
+          leads_then (so_far.led found (clean_before c.remember_customer.ensures.crash clean))
+          (c.in_ok-own.ensures.led (found place low) clean) (λ s t u first one ordered rows distinct reads.
           let next : Remembering (name_at names (length (map own_of items))) (entries c.args.files.now)
           (files_at (length (map own_of items)) hub) (own_of own) t u =
           subst (λ n. Remembering (name_at names n) (entries c.args.files.now) (files_at n hub) (own_of own) t u)
           (sym long)
           (subst (λ who. Remembering who (entries c.args.files.now) (files_at place hub) (own_of own) t u) name_is one)
-          in
-          subst (λ owns. AreRemembered names hub owns s u)
+          in subst (λ owns. AreRemembered names hub owns s u)
           (sym (ap (map own_of) pushed ∙ map-append own_of items (own ∷ [])))
           (one_more_remembered names hub (entries c.args.files.now) (map own_of items) (own_of own) s t u rows distinct
-          reads (omega (arith, long, low)) whose
-          (first ordered rows distinct reads) next));
+          reads (omega (arith, long, low)) whose (first ordered rows distinct reads) next));
     }
 
 pub returns-in_err-own-clause-crash : goal.returns-in_err-own-clause-crash
-returns-in_err-own-clause-crash g c = survives_both _ _ _ c.loop-place.invariant.crash c.remember_customer.ensures.crash
+returns-in_err-own-clause-crash g c = survives_both c.loop-place.invariant.crash c.remember_customer.ensures.crash
 
 pub returns-in_err-own-clause-others : goal.returns-in_err-own-clause-others
 returns-in_err-own-clause-others g c =
-    c.remember_customer.ensures.others
-    ∙ ap (λ (x : SpoolWriter g.row.S.Denot). record x
+    c.remember_customer.ensures.others ∙ ap (λ (x : SpoolWriter g.row.S.Denot). record x
     { store = c.remember_customer.new.writer.store; is_changed = c.remember_customer.new.writer.is_changed })
     c.loop-place.invariant.writer
 
 pub returns-in_err-push-clause-crash : goal.returns-in_err-push-clause-crash
 returns-in_err-push-clause-crash g c =
-    survives_both _ _ _ c.loop-place.invariant.crash c.remember_customer.ensures.crash
+    survives_both c.loop-place.invariant.crash c.remember_customer.ensures.crash
 
 pub returns-in_err-push-clause-others : goal.returns-in_err-push-clause-others
 returns-in_err-push-clause-others g c =
-    c.remember_customer.ensures.others
-    ∙ ap (λ (x : SpoolWriter g.row.S.Denot). record x
+    c.remember_customer.ensures.others ∙ ap (λ (x : SpoolWriter g.row.S.Denot). record x
     { store = c.remember_customer.new.writer.store; is_changed = c.remember_customer.new.writer.is_changed })
     c.loop-place.invariant.writer

@@ -1,12 +1,7 @@
-use Rattle.std.proofs.Common.{◌≡◌, true, [], map, string_bytes, ap, subst, ◌∙◌}
-use Rattle.njh_hub.specs.WholeHub.{part}
-use Rattle.njh_spoolfile.specs.Shelf.{shown}
-use Rattle.njh_keeper.specs.Opened.{is_name_of}
-use Rattle.njh_keeper.specs.code.Leading.{Leads}
-use Rattle.njh_keeper.specs.code.Memory.{own_of, partial_of, whole_of}
-use Rattle.njh_keeper.specs.code.Opening.{Reads, entries, owned_of}
-use Rattle.njh_keeper.proofs.LeadingLaws.{leads_weaker}
-use Rattle.njh_keeper.proofs.OpeningLists.{remembered}
+use Rattle.{std.proofs.Common.{◌≡◌, true, [], map, string_bytes, ap, subst, ◌∙◌}, njh_spoolfile.specs.Shelf.shown}
+use Rattle.{njh_hub.specs.WholeHub.part, njh_keeper.proofs.{LeadingLaws.leads_weaker, OpeningLists.remembered}}
+use Rattle.njh_keeper.specs.code.{Leading.Leads, Memory.{own_of, partial_of, whole_of}, Opening.{Reads, entries}}
+use Rattle.njh_keeper.specs.{code.Opening.owned_of, Opened.is_name_of}
 use Rattle.njh_keeper.proofs.remembering.remember_customer.Goals as goal
 
 pub returns-clause-own : goal.returns-clause-own
@@ -41,6 +36,5 @@ returns-clause-led g c found clean =
     subst (λ xs. Leads (Reads c.args.name spool (map whole_of xs) whole (owned_of c.args.name rows) []) old new) first.3
     (subst (λ who. Leads (Reads who spool (map whole_of own.whole.items) whole (owned_of who rows) []) old new) first.0
     (c.in_ok-remember_files.ensures.led named found clean)) in
-    leads_weaker _ _ old new
-    (λ s t reads. remembered (own_of now) c.args.name rows spool.whole s t
-    (ap (λ o. o.name) c.remember_files.ensures.others ∙ first.0) (reads s)) led
+    leads_weaker led (λ s t reads. remembered (own_of now) c.args.name rows spool.whole s t
+    (ap (λ o. o.name) c.remember_files.ensures.others ∙ first.0) (reads s))

@@ -1,22 +1,13 @@
-use Rattle.std.proofs.Common.{rules, ◌≡◌, ◌<◌, ◌++◌, List, [], ◌∷◌, length, get_or, map, sym, ap, subst, ◌∙◌, arith}
-use Rattle.std.proofs.lemmas.List.{get_or_default, length-map, map-append}
-use Rattle.std.proofs.lemmas.Result.{on_ok_weaker}
-use Rattle.njh_hub.specs.Views.{file_summary}
-use Rattle.njh_hub.specs.WholeHub.{part}
-use Rattle.njh_hub.specs.declared.file_summary.FileSummaryView.{FileSummaryView}
-use Rattle.njh_turns.specs.Keeping.{is_held}
-use Rattle.njh_spoolfile.specs.Kept.{SpoolContents, entry_of, with_changed}
-use Rattle.njh_spoolfile.specs.Shelf.{shown}
-use Rattle.njh_keeper.specs.code.Memory.{whole_of}
-use Rattle.njh_keeper.specs.code.Opening.{IsRead}
-use Rattle.njh_keeper.specs.code.Remembered.{KeptWhole, Remembers}
-use Rattle.njh_keeper.proofs.LeadingLaws.{leads_by, leads_nothing, leads_weaker}
-use Rattle.njh_keeper.proofs.OpeningLists.{goes_on_anew, goes_on_same, next_read}
+use Rattle.njh_keeper.proofs.Words
+use Words.{rules, ◌≡◌, ◌<◌, ◌++◌, List, [], ◌∷◌, length, get_or, map, sym, ap, subst, ◌∙◌, arith, get_or_default}
+use Words.{length-map, map-append, on_ok_weaker, SpoolContents, entry_of, with_changed, FileSummaryView, file_summary}
+use Words.{part, is_held, whole_of, IsRead, KeptWhole, Remembers}
+use Rattle.njh_keeper.proofs.{LeadingLaws.{leads_by, leads_nothing, leads_weaker}, OpeningLists.goes_on_anew}
+use Rattle.njh_keeper.proofs.OpeningLists.{goes_on_same, next_read}
 use Rattle.njh_keeper.proofs.remembering.remember_one.Goals as goal
 
 pub returns-then-is_held-stored-clause-led : goal.returns-then-is_held-stored-clause-led
 returns-then-is_held-stored-clause-led g c text found clean left =
-    let at = shown g.S.Store c.args.writer.now.store in
     let name = c.args.own.now.name in
     let spool = (part c.args.customer c.args.hub.now).customer.spool in
     let items = c.args.own.now.whole.items in
@@ -27,14 +18,13 @@ returns-then-is_held-stored-clause-led g c text found clean left =
     ap (map whole_of) c.in_ok-push.ensures.items ∙ map-append whole_of items (c.kept_at-kept.result ∷ []) in
     let same : length whole ≡ c.len-index.result =
     (let long = length-map items whole_of in omega (arith, long, c.len-index.ensures)) in
-    leads_nothing _ at (λ s from is.
+    leads_nothing (λ s from is.
     let nx = next_read name whole e left spool from s is in
     let f = nx.0 in
     let at_index : f ≡ get_or spool.whole c.len-index.result f = subst (λ n. f ≡ get_or spool.whole n f) same nx.1.at in
     let remembers : Remembers k f = c.kept_at-kept.ensures.remembers found f at_index in
     let there : c.len-index.result < length spool.whole = subst (λ n. n < length spool.whole) same nx.1.there in
-    let summary : c.summary_at-summary.result ≡ file_summary f =
-    c.summary_at-summary.ensures.summary ∙ ap file_summary
+    let summary : c.summary_at-summary.result ≡ file_summary f = c.summary_at-summary.ensures.summary ∙ ap file_summary
     (get_or_default spool.whole c.len-index.result _ f there ∙ sym at_index) in
     let noted : c.is_held.result ≡ c.args.stored.now.file.held = search rules in
     let held : is_held f.state ≡ e.1.held = sym (ap (λ (v : FileSummaryView). is_held v.state) summary)
@@ -45,8 +35,6 @@ returns-then-is_held-stored-clause-led g c text found clean left =
 
 pub returns-clause-led : goal.returns-clause-led
 returns-clause-led g c text found clean =
-    let old = shown g.S.Store c.args.writer.now.store in
-    let new = shown g.S.Store c.change_row.new.writer.store in
     let name = c.args.own.now.name in
     let spool = (part c.args.customer c.args.hub.now).customer.spool in
     let items = c.args.own.now.whole.items in
@@ -58,23 +46,17 @@ returns-clause-led g c text found clean =
     ap (map whole_of) c.in_ok-push.ensures.items ∙ map-append whole_of items (kept ∷ []) in
     let same : length whole ≡ c.len-index.result =
     (let long = length-map items whole_of in omega (arith, long, c.len-index.ensures)) in
-    on_ok_weaker c.change_row.result
-    (λ changed left.
-    leads_weaker (λ s t. t ≡ with_changed kept.id changed.row s) _ old new
-    (λ s t by from is.
+    on_ok_weaker c.change_row.result (λ changed left. leads_weaker (leads_by changed.changes) (λ s t by from is.
     let nx = next_read name whole e left spool from s is in
     let f = nx.0 in
     let at_index : f ≡ get_or spool.whole c.len-index.result f = subst (λ n. f ≡ get_or spool.whole n f) same nx.1.at in
     let remembers : Remembers k f = c.kept_at-kept.ensures.remembers found f at_index in
     let there : c.len-index.result < length spool.whole = subst (λ n. n < length spool.whole) same nx.1.there in
-    let summary : c.summary_at-summary.result ≡ file_summary f =
-    c.summary_at-summary.ensures.summary ∙ ap file_summary
+    let summary : c.summary_at-summary.result ≡ file_summary f = c.summary_at-summary.ensures.summary ∙ ap file_summary
     (get_or_default spool.whole c.len-index.result _ f there ∙ sym at_index) in
     subst (λ (ks : List KeptWhole). IsRead name ks left spool.whole from t) (sym now)
     (subst (λ (u : SpoolContents). IsRead name (whole ++ k ∷ []) left spool.whole from u)
     (sym (by ∙ ap (λ n. with_changed n changed.row s) c.kept_at-kept.ensures.id.0))
     (goes_on_anew name whole e left spool from s is k f nx.1 c.kept_at-kept.ensures.id.0 c.kept_at-kept.ensures.id.1
-    remembers changed.row
-    (changed.is_row.owned name text) (changed.is_row.of_file f summary))))
-    (leads_by (with_changed kept.id changed.row) old new changed.changes))
+    remembers changed.row (changed.is_row.owned name text) (changed.is_row.of_file f summary)))))
     (c.change_row.ensures.changed clean)

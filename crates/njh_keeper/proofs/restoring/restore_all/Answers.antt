@@ -1,11 +1,6 @@
-use Rattle.std.proofs.Common.{◌∙◌, subst, sym, arith}
-use Rattle.sqlite.specs.State.{HasCleanDisk}
-use Rattle.sqlite.specs.Effect.{Database}
-use Rattle.sqlite.proofs.StateLemmas.{survives_then}
-use Rattle.njh_spoolfile.specs.Kept.{Holds}
-use Rattle.njh_spoolfile.specs.Shelf.{shown}
+use Rattle.{std.proofs.Common.{◌∙◌, subst, sym}, sqlite.specs.Effect.Database, njh_spoolfile.specs.Kept.Holds}
+use Rattle.{njh_spoolfile.specs.Shelf.shown, njh_keeper.proofs.LeadingLaws.{clean_before, survives_both}}
 use Rattle.njh_keeper.proofs.StepLaws.{hub_more, none_more, stays_then}
-use Rattle.njh_keeper.proofs.LeadingLaws.{survives_both}
 use Rattle.njh_keeper.proofs.restoring.restore_all.Goals as goal
 
 pub loop-at-preserved : goal.loop-at-preserved
@@ -15,19 +10,17 @@ loop-at-preserved g c =
     let new = shown g.S.Store c.restore_one.new.store in
     let done = c.in-Ok.ensures in
     let so_far = c.loop-at.invariant in
-    let early : HasCleanDisk new → HasCleanDisk mid = λ clean. omega (arith, c.restore_one.ensures.crash.clean) in
+    let early = clean_before c.restore_one.ensures.crash in
     record {
       count = c.restore_one.ensures.count ∙ so_far.count;
       lines = λ d. c.restore_one.ensures.lines d ∙ so_far.lines d;
-      crash = survives_then old mid new _ _ (λ _. ⊥) (λ _ db none. none) (λ _ db none. none) so_far.crash
-          c.restore_one.ensures.crash;
+      crash = survives_both so_far.crash c.restore_one.ensures.crash;
       same = λ clean. stays_then old mid new (so_far.same (early clean)) (done.same clean);
       hub = λ clean spool held.
           let now : Holds spool mid.now.trees =
           subst (λ (d : Database). Holds spool d.trees) (sym (so_far.same (early clean)).now) held in
           hub_more c.args.names.now c.args.hub.now c.loop-at.hub c.restore_one.new.hub spool c.args.files.now
-          c.loop-at.at
-          c.index-files-at.result c.loop-at-test.true c.index-files-at.is
+          c.loop-at.at c.index-files-at.result c.loop-at-test.true c.index-files-at.is
           (so_far.hub (early clean) spool held) (done.ok clean spool now).0;
       back = λ clean spool held.
           let now : Holds spool mid.now.trees =
@@ -44,4 +37,4 @@ pub returns-clause-lines : goal.returns-clause-lines
 returns-clause-lines g c = c.loop-at.invariant.lines
 
 pub returns-in-Err-clause-crash : goal.returns-in-Err-clause-crash
-returns-in-Err-clause-crash g c = survives_both _ _ _ c.loop-at.invariant.crash c.restore_one.ensures.crash
+returns-in-Err-clause-crash g c = survives_both c.loop-at.invariant.crash c.restore_one.ensures.crash

@@ -1,10 +1,6 @@
-use Rattle.std.proofs.Common.{◌≡◌, length, take}
-use Rattle.sqlite.specs.State.{HasCleanDisk, Survives}
-use Rattle.njh_hub.specs.WholeHub.{SameLines}
-use Rattle.njh_spoolfile.specs.Kept.{SpoolContents, Holds}
-use Rattle.njh_spoolfile.specs.Shelf.{shown}
-use Rattle.njh_spoolfile.specs.Steps.{Stays}
-use Rattle.njh_keeper.specs.code.Restoring.{NoneFails, hub_with_all, wholes}
+use Rattle.{std.proofs.Common.{◌≡◌, length, take}, sqlite.specs.State.{HasCleanDisk, Survives}}
+use Rattle.njh_spoolfile.specs.{Kept.{SpoolContents, Holds}, Shelf.shown, Steps.Stays}
+use Rattle.{njh_hub.specs.WholeHub.SameLines, njh_keeper.specs.code.Restoring.{NoneFails, hub_with_all, wholes}}
 use Rattle.njh_keeper.proofs.restoring.restore_all.Given as goal
 
 -- so many files were put back

@@ -1,11 +1,7 @@
-use Rattle.std.proofs.Common.{◌≡◌, ℕ, List, map, Some, ap, sym, ◌∙◌, arith}
-use Rattle.njh_hub.specs.WholeHub.{part}
-use Rattle.njh_spoolfile.specs.Kept.{contents_of, entry_of, file_of, whole_in}
-use Rattle.njh_keeper.specs.Opened.{file_fault}
-use Rattle.njh_keeper.specs.code.Restoring.{number_of}
-use Rattle.njh_keeper.proofs.FileLaws.{no_fault, this_fault}
-use Rattle.njh_keeper.proofs.HubLaws.{found}
-use Rattle.njh_keeper.proofs.StepLaws.{all_read, fault_is, with_it}
+use Rattle.{std.proofs.Common.{◌≡◌, ℕ, List, map, Some, ap, sym, ◌∙◌, arith}, njh_spoolfile.specs.Kept.contents_of}
+use Rattle.{njh_spoolfile.specs.Kept.{entry_of, file_of, whole_in}, njh_hub.specs.WholeHub.part}
+use Rattle.njh_keeper.proofs.{FileLaws.{no_fault, this_fault}, HubLaws.found, StepLaws.{all_read, fault_is, with_it}}
+use Rattle.njh_keeper.specs.{code.Restoring.number_of, Opened.file_fault}
 use Rattle.njh_keeper.proofs.restoring.restore_one.Goals as goal
 
 pub put_back-requires : goal.put_back-requires

@@ -1,5 +1,4 @@
-use Rattle.std.proofs.Common.{◌++◌, ap, ◌∙◌, arith}
-use Rattle.std.specs.Prelude.{encode_utf8}
+use Rattle.std.{proofs.Common.{◌++◌, ap, ◌∙◌, arith}, specs.Prelude.encode_utf8}
 use Rattle.njh_ebcdic.proofs.PageLaws.{shown_text-more}
 use Rattle.njh_keeper.proofs.rows.field_text.Goals as goal
 

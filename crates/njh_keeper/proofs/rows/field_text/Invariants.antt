@@ -1,5 +1,4 @@
-use Rattle.std.proofs.Common.{◌≡◌, take, string_bytes}
-use Rattle.njh_ebcdic.specs.Characters.{shown_text}
+use Rattle.{std.proofs.Common.{◌≡◌, take, string_bytes}, njh_ebcdic.specs.Characters.shown_text}
 use Rattle.njh_keeper.proofs.rows.field_text.Given as goal
 
 abbrev pub invariant-loop-byte : goal.invariant-loop-byte

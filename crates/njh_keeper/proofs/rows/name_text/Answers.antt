@@ -1,13 +1,8 @@
 use Rattle.std.proofs.Common.{◌≡◌, ℕ, Bool, true, false, List, bytes_eq, string_bytes, Result, Ok, Err, IfOk, refl, ap}
-use Rattle.std.proofs.Common.{subst, ◌∙◌}
-use Rattle.std.specs.Prelude.{IsTrue}
-use Rattle.std.proofs.lemmas.Result.{IfOk-weaker}
-use Rattle.std.proofs.lemmas.Slice.Eq.{bytes_eq-Decides}
-use Rattle.njh_ebcdic.specs.Names.{is_name}
-use Rattle.njh_ebcdic.specs.declared.name.NameFault.{NameFault}
-use Rattle.njh_ebcdic.proofs.ReadBack.{name_of_text-shown_text}
+use Rattle.std.proofs.{Common.{subst, ◌∙◌}, lemmas.{Result.IfOk-weaker, Slice.Eq.bytes_eq-Decides}}
+use Rattle.{std.specs.Prelude.IsTrue, njh_ebcdic.proofs.ReadBack.name_of_text-shown_text}
+use Rattle.{njh_ebcdic.specs.{declared.name.NameFault.NameFault, Names.is_name}, njh_keeper.specs.code.Shown.field_text}
 use Rattle.njh_keeper.specs.Opened.{is_name_of}
-use Rattle.njh_keeper.specs.code.Shown.{field_text}
 use Rattle.njh_keeper.proofs.rows.name_text.Goals as goal
 
 pub returns : goal.returns
@@ -19,9 +14,7 @@ returns c =
   where
     reads : (text : List ℕ) → text ≡ field_text c.args.name → is_name_of text c.args.name ≡ true
     reads text is =
-        ap (λ (t : List ℕ). is_name_of t c.args.name) is
-        ∙ ap (λ (r : Result (List ℕ) NameFault). elim r as (λ _. Bool)
-        [ Ok read ↦ bytes_eq read c.args.name | Err fault ↦ false ])
-        (name_of_text-shown_text c.args.name
+        ap (λ (t : List ℕ). is_name_of t c.args.name) is ∙ ap (λ (r : Result (List ℕ) NameFault). elim r as (λ _. Bool)
+        [ Ok read ↦ bytes_eq read c.args.name | Err fault ↦ false ]) (name_of_text-shown_text c.args.name
         (subst (λ (field : List ℕ). IsTrue (is_name field)) c.bytes.ensures.same c.bytes.ensures.name))
         ∙ (bytes_eq-Decides c.args.name c.args.name).1 refl

@@ -1,8 +1,5 @@
-use Rattle.std.proofs.Common.{◌≡◌, inl, inr, subst, arith}
-use Rattle.std.proofs.lemmas.Bool.{cases_lt}
-use Rattle.njh_spool.specs.Spools.{IsSound}
-use Rattle.njh_stream.specs.WholeFiles.{HaveHeaders}
-use Rattle.njh_hub.specs.WholeHub.{part}
+use Rattle.{std.proofs.{Common.{◌≡◌, inl, inr, subst, arith}, lemmas.Bool.cases_lt}, njh_spool.specs.Spools.IsSound}
+use Rattle.{njh_stream.specs.WholeFiles.HaveHeaders, njh_hub.specs.WholeHub.part}
 use Rattle.njh_keeper.proofs.sound.see_sound.Goals as goal
 
 pub loop-at-preserved : goal.loop-at-preserved

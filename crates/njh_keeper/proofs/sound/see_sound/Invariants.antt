@@ -1,6 +1,4 @@
-use Rattle.std.proofs.Common.{ℕ, ◌<◌}
-use Rattle.njh_spool.specs.Spools.{IsSound}
-use Rattle.njh_stream.specs.WholeFiles.{HaveHeaders}
+use Rattle.{std.proofs.Common.{ℕ, ◌<◌}, njh_spool.specs.Spools.IsSound, njh_stream.specs.WholeFiles.HaveHeaders}
 use Rattle.njh_hub.specs.WholeHub.{part}
 use Rattle.njh_keeper.proofs.sound.see_sound.Given as goal
 

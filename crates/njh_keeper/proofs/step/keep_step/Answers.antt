@@ -1,17 +1,9 @@
-use Rattle.std.proofs.Common.{Result, Ok, Err, OnOk, sym, ap, ◌∙◌, arith}
-use Rattle.std.specs.Prelude.{string_bytes}
-use Rattle.sqlite.specs.State.{HasCleanDisk}
-use Rattle.sqlite.specs.declared.error.Error.{Error}
-use Rattle.njh_hub.specs.WholeHub.{part}
-use Rattle.njh_spoolfile.specs.Shelf.{shown}
+use Rattle.std.{proofs.Common.{Result, Ok, Err, OnOk, sym, ap, ◌∙◌, arith}, specs.Prelude.string_bytes}
+use Rattle.{sqlite.specs.{declared.error.Error.Error, State.HasCleanDisk}, njh_spoolfile.specs.Shelf.shown}
+use Rattle.{njh_hub.specs.WholeHub.part, njh_keeper.proofs.{GrowthLaws.numbered_of_sound, LeadingLaws.survives_both}}
+use Rattle.njh_keeper.{proofs.OneStepLaws.step_leads, specs.code.{Following.memory_of, Knowing.LeadsStep}}
+use Rattle.njh_keeper.specs.code.{Memory.own_of, Partly.{AllClosed, AllUpToDate, KeepsPartly}}
 use Rattle.njh_keeper.specs.declared.own_files.OwnFiles.{OwnFiles}
-use Rattle.njh_keeper.specs.code.Following.{memory_of}
-use Rattle.njh_keeper.specs.code.Knowing.{LeadsStep}
-use Rattle.njh_keeper.specs.code.Memory.{own_of}
-use Rattle.njh_keeper.specs.code.Partly.{AllClosed, AllUpToDate, KeepsPartly}
-use Rattle.njh_keeper.proofs.GrowthLaws.{numbered_of_sound}
-use Rattle.njh_keeper.proofs.OneStepLaws.{step_leads}
-use Rattle.njh_keeper.proofs.LeadingLaws.{survives_both}
 use Rattle.njh_keeper.proofs.step.keep_step.Goals as goal
 
 pub returns-clause-led : goal.returns-clause-led
@@ -20,8 +12,7 @@ returns-clause-led g c sound headers clean =
   where
     by : (r : Result (Unit {0}) Error)
         → OnOk r (KeepsPartly g.S.Store (part c.args.customer c.args.hub.now).customer.spool c.follow.new.writer
-        c.follow.new.own c.keep_portions.new.writer c.keep_portions.new.own)
-        → (AllClosed (own_of c.follow.new.own)
+        c.follow.new.own c.keep_portions.new.writer c.keep_portions.new.own) → (AllClosed (own_of c.follow.new.own)
         → OnOk r (AllUpToDate (part c.args.customer c.args.hub.now).customer.spool (own_of c.keep_portions.new.own)))
         → OnOk r (LeadsStep (memory_of c.args.writer.now c.args.own.now)
         (memory_of c.keep_portions.new.writer c.keep_portions.new.own) c.args.writer.now.is_changed
@@ -40,8 +31,7 @@ returns-clause-led g c sound headers clean =
         λ before led known.
         step_leads c.files_survive.ensures.events c.files_survive.ensures.takes c.files_grow.ensures.takes
         (memory_of w c.args.own.now) (memory_of w1 own1) (memory_of w2 own2) w.is_changed w2.is_changed before now led
-        known headers
-        (shown g.S.Store w.store) (shown g.S.Store w1.store) (shown g.S.Store w2.store)
+        known headers (shown g.S.Store w.store) (shown g.S.Store w1.store) (shown g.S.Store w2.store)
         (c.in_ok-follow.ensures.led (numbered_of_sound now.customer.spool sound) mid) c.in_ok-follow.ensures.arrived
         (kept.led clean) seen
         (ap (λ (o : OwnFiles). string_bytes o.text) kept.others) (ap (λ (o : OwnFiles). o.name) kept.others)
@@ -50,4 +40,4 @@ returns-clause-led g c sound headers clean =
         in (q.0, ap (λ st. shown g.S.Store st) q.1))
 
 pub returns-clause-crash : goal.returns-clause-crash
-returns-clause-crash g c = survives_both _ _ _ c.follow.ensures.crash c.keep_portions.ensures.crash
+returns-clause-crash g c = survives_both c.follow.ensures.crash c.keep_portions.ensures.crash

@@ -1,11 +1,7 @@
-use Rattle.std.proofs.Common.{◌≡◌, ◌<◌, get_or, length, map, set, refl, subst, sym, arith}
-use Rattle.std.proofs.lemmas.List.{length-map, map-set}
-use Rattle.std.specs.Vec.{with_item}
-use Rattle.sqlite.specs.State.{HasCleanDisk}
-use Rattle.njh_spoolfile.specs.Shelf.{shown}
+use Rattle.std.proofs.{Common.{◌≡◌, ◌<◌, get_or, length, map, set, refl, subst, sym, arith}, lemmas.List.length-map}
+use Rattle.{std.{proofs.lemmas.List.map-set, specs.Vec.with_item}, njh_keeper.proofs.KnownLaws.{at_place, known_after}}
+use Rattle.njh_keeper.{proofs.{KnownLaws.ok_given, LeadingLaws.clean_before}, specs.code.Memory.own_memory_of}
 use Rattle.njh_keeper.specs.Keeper.{KnowsHub}
-use Rattle.njh_keeper.specs.code.Memory.{own_memory_of}
-use Rattle.njh_keeper.proofs.KnownLaws.{at_place, known_after, ok_given}
 use Rattle.njh_keeper.proofs.keeper.SpoolKeeper.follow_files.Goals as goal
 
 pub returns-clause-known : goal.returns-clause-known
@@ -14,22 +10,18 @@ returns-clause-known g c before leads knows =
     let items = c.self.inside.customers.items in
     let own = c.index_mut-own.result.now in
     let own2 = c.keep_step.new.own in
-    let mid = shown g.S.Store c.self.inside.writer.store in
-    let early : HasCleanDisk (shown g.S.Store c.keep_step.new.writer.store) → HasCleanDisk mid =
-    λ clean. omega (arith, clean, c.keep_step.ensures.crash.clean) in
     let knew = subst (λ k. KnowsHub g.S.Store g.S.Origin.found k before) (sym c.self.view_is) knows in
     let there : i < length items = omega (arith, c.if-from-len.false, c.from.ensures, c.len.ensures, c.from-2.ensures)
     in
     let long = length-map items own_memory_of in
     let within : i < length (map own_memory_of items) = omega (arith, there, long) in
     ok_given c.keep_step.result _ _ _ (c.keep_step.ensures.led c.files_are_sound.ensures.sound
-    c.files_are_sound.ensures.headers)
-    (λ led clean began found.
-    known_after g.S.Store _ _ before c.args.hub.now c.args.customer (knew (early clean) began found) leads
+    c.files_are_sound.ensures.headers) (λ led clean began found.
+    known_after g.S.Store _ _ before c.args.hub.now c.args.customer
+    (knew (clean_before c.keep_step.ensures.crash clean) began found) leads
     c.files_are_sound.ensures.sound c.files_are_sound.ensures.headers
     (own_memory_of own) (own_memory_of own2) (subst (λ n. n < length (map own_memory_of items)) c.from-2.ensures within)
     (subst (λ n. own_memory_of own ≡ get_or (map own_memory_of items) n (own_memory_of own)) c.from-2.ensures
     (at_place own_memory_of items i own there c.index_mut-own.ensures.value))
     (subst (λ n. map own_memory_of (with_item c.self.inside.customers i own2).items ≡ set (map own_memory_of items) n
-    (own_memory_of own2)) c.from-2.ensures (map-set own_memory_of items i own2))
-    refl (led clean))
+    (own_memory_of own2)) c.from-2.ensures (map-set own_memory_of items i own2)) refl (led clean))

@@ -1,35 +1,21 @@
-use Rattle.std.proofs.Common.{◌≡◌, List, length, map, Result, Ok, Err, IfOk, OnOk, sym, ap, subst, ◌∙◌, arith}
-use Rattle.std.specs.List.{AllByRecursion}
-use Rattle.std.proofs.lemmas.Result.{IfOk-weaker}
-use Rattle.sqlite.specs.State.{HasCleanDisk, State}
-use Rattle.njh_table.specs.Accepted.{AreDistinct}
-use Rattle.njh_customer.specs.Growing.{HasShortRests}
-use Rattle.njh_hub.specs.Parts.{entries_of}
-use Rattle.njh_hub.specs.WholeHub.{Part, SameLines, part_at_open}
-use Rattle.njh_turns.specs.declared.depot.DepotFault.{DepotFault}
-use Rattle.njh_spoolfile.specs.Kept.{Holds}
-use Rattle.njh_spoolfile.specs.Shelf.{shown}
-use Rattle.njh_spoolfile.specs.CommitState.{CommitState, Stands}
-use Rattle.njh_spoolfile.specs.Origin.{StandsAsFound}
-use Rattle.njh_keeper.specs.Keeper.{IsCommitted, IsSettledFrom, KnowsHub, KnowsNow}
-use Rattle.njh_keeper.specs.code.Opening.{AllAreFound, AllAreRead}
-use Rattle.njh_keeper.proofs.KnownLaws.{ok_always, opened_so, stood_still}
+use Rattle.njh_keeper.proofs.Words
+use Words.{◌≡◌, List, length, map, Result, Ok, Err, IfOk, OnOk, sym, ap, subst, ◌∙◌, arith, IfOk-weaker, AllByRecursion}
+use Words.{HasCleanDisk, State, CommitState, Stands, Holds, StandsAsFound, shown, AreDistinct, HasShortRests, Part}
+use Words.{SameLines, part_at_open, DepotFault, AllAreFound, AllAreRead, IsSettledFrom, KnowsHub, KnowsNow}
+use Rattle.{njh_hub.specs.Parts.entries_of, njh_keeper.proofs.KnownLaws.{ok_always, opened_so, stood_still}}
+use Rattle.njh_keeper.{proofs.LeadingLaws.clean_before, specs.Keeper.IsCommitted}
 use Rattle.njh_keeper.proofs.keeper.SpoolKeeper.open_hub.Goals as goal
 
 pub returns-clause-opened : goal.returns-clause-opened
 returns-clause-opened g c =
-    let mid = shown g.S.Store c.open_from.new.store in
-    let new = shown g.S.Store c.remember_hub.new.self.store in
-    let early : HasCleanDisk new → HasCleanDisk mid =
-    λ clean. omega (arith, clean, c.remember_hub.ensures.crash.clean) in
     let before = ap (λ k. shown g.S.Store k.store) (sym c.self.view_is) in
     IfOk-weaker c.remember_hub.result _ _
     (λ opened same. record {
       lines = subst (λ (ps : List Part). SameLines (map part_at_open (entries_of c.args.tables)) ps) (sym same)
           c.in-Ok-open_from.ensures.lines;
-      hub = λ clean spool held. same ∙ c.in-Ok-open_from.ensures.hub (early clean) spool
-          (subst (λ (at : State). Holds spool at.now.trees) before held);
-      back = λ clean spool held. c.in-Ok-open_from.ensures.back (early clean) spool
+      hub = λ clean spool held. same ∙ c.in-Ok-open_from.ensures.hub (clean_before c.remember_hub.ensures.crash clean)
+          spool (subst (λ (at : State). Holds spool at.now.trees) before held);
+      back = λ clean spool held. c.in-Ok-open_from.ensures.back (clean_before c.remember_hub.ensures.crash clean) spool
           (subst (λ (at : State). Holds spool at.now.trees) before held);
     }) c.remember_hub.ensures.hub
 
@@ -52,14 +38,10 @@ returns-clause-settled g c = by c.remember_hub.result c.remember_hub.ensures.hub
       committed = λ clean s given.
           let stands = subst (λ (at : State). Stands s at) (ap (λ k. shown g.S.Store k.store) (sym c.self.view_is))
           given in
-          let early : HasCleanDisk (shown g.S.Store c.open_from.new.store) =
-          omega (arith, clean, c.remember_hub.ensures.crash.clean) in
-          let so =
-          opened_so c.args.tables s.now c.in-Ok.names.items c.in-Ok-open_from.hub
-          c.in-Ok.ensures.each
+          let early = clean_before c.remember_hub.ensures.crash clean in
+          let so = opened_so c.args.tables s.now c.in-Ok.names.items c.in-Ok-open_from.hub c.in-Ok.ensures.each
           (c.in-Ok-open_from.ensures.hub early s.now stands.now) (c.in-Ok-open_from.ensures.back early s.now stands.now)
-          in
-          subst (λ (ps : List Part). IsCommitted g.S.Store c.remember_hub.new.self ps) (sym same)
+          in subst (λ (ps : List Part). IsCommitted g.S.Store c.remember_hub.new.self ps) (sym same)
           (kept clean s (stood_still s _ _ (c.in-Ok-open_from.ensures.same early) stands)
           (subst AreDistinct (sym c.in-Ok.ensures.each) c.names_of.ensures.accepted.names) so.0 so.1 so.2);
     }
@@ -72,29 +54,23 @@ returns-clause-known g c = by c.remember_hub.result c.remember_hub.ensures.hub c
         → OnOk r ((s : CommitState) → Stands s (shown g.S.Store c.open_from.new.store) → AreDistinct c.in-Ok.names.items
         → AllAreFound c.in-Ok.names.items c.in-Ok-open_from.hub
         → AllAreRead c.in-Ok.names.items c.in-Ok-open_from.hub s.now
-        → length c.in-Ok.names.items ≡ length c.in-Ok-open_from.hub
-        → AllByRecursion HasShortRests c.in-Ok-open_from.hub
+        → length c.in-Ok.names.items ≡ length c.in-Ok-open_from.hub → AllByRecursion HasShortRests c.in-Ok-open_from.hub
         → KnowsNow g.S.Store c.remember_hub.new.self c.in-Ok-open_from.hub))
         → IfOk r (λ hub. KnowsHub g.S.Store g.S.Origin.found c.remember_hub.new.self hub)
     by (Err e) same known = tt
     by (Ok hub) same known = λ clean began found.
         let s : CommitState = record { now = began; kept = began } in
-        let early : HasCleanDisk (shown g.S.Store c.open_from.new.store) =
-        omega (arith, clean, c.remember_hub.ensures.crash.clean) in
+        let early = clean_before c.remember_hub.ensures.crash clean in
         let first : HasCleanDisk (shown g.S.Store c.self.inside.writer.store) =
         omega (arith, early, c.open_from.ensures.crash.clean) in
         let stands = c.self.invariant c.if-not-self.false first began found in
-        let so =
-        opened_so c.args.tables began c.in-Ok.names.items c.in-Ok-open_from.hub
-        c.in-Ok.ensures.each
+        let so = opened_so c.args.tables began c.in-Ok.names.items c.in-Ok-open_from.hub c.in-Ok.ensures.each
         (c.in-Ok-open_from.ensures.hub early began stands.now) (c.in-Ok-open_from.ensures.back early began stands.now)
-        in
-        subst (λ (ps : List Part). KnowsNow g.S.Store c.remember_hub.new.self ps) (sym same)
+        in subst (λ (ps : List Part). KnowsNow g.S.Store c.remember_hub.new.self ps) (sym same)
         (known clean s (stood_still s _ _ (c.in-Ok-open_from.ensures.same early) stands)
         (subst AreDistinct (sym c.in-Ok.ensures.each) c.names_of.ensures.accepted.names) so.0 so.1 so.2 so.3)
 
 pub returns-clause-stood : goal.returns-clause-stood
 returns-clause-stood g c =
-    ok_always c.remember_hub.result _
-    (subst (λ k. StandsAsFound g.S.Store g.S.Origin.found k.store) c.self.view_is
+    ok_always c.remember_hub.result _ (subst (λ k. StandsAsFound g.S.Store g.S.Origin.found k.store) c.self.view_is
     (c.self.invariant c.if-not-self.false))

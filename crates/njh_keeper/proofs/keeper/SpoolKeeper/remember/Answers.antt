@@ -1,12 +1,7 @@
-use Rattle.std.proofs.Common.{◌≡◌, length, refl, sym, ap, subst, ◌∙◌, arith}
-use Rattle.njh_spoolfile.specs.Shelf.{shown}
-use Rattle.njh_spoolfile.specs.CommitState.{Stands}
-use Rattle.njh_table.specs.Accepted.{AreDistinct}
-use Rattle.njh_keeper.specs.Keeper.{left_in}
-use Rattle.njh_keeper.specs.code.Memory.{numbers_of}
-use Rattle.njh_keeper.specs.code.Opening.{AllAreFound, AllAreRead}
-use Rattle.njh_keeper.proofs.KnownLaws.{begun_known}
-use Rattle.njh_keeper.proofs.OpeningSettled.{left_after}
+use Rattle.{std.proofs.Common.{◌≡◌, length, refl, sym, ap, subst, ◌∙◌, arith}, njh_spoolfile.specs.CommitState.Stands}
+use Rattle.{njh_spoolfile.specs.Shelf.shown, njh_table.specs.Accepted.AreDistinct}
+use Rattle.njh_keeper.{proofs.{KnownLaws.begun_known, OpeningSettled.left_after}, specs.code.Memory.numbers_of}
+use Rattle.njh_keeper.specs.{code.Opening.{AllAreFound, AllAreRead}, Keeper.left_in}
 use Rattle.njh_keeper.proofs.keeper.SpoolKeeper.remember.Goals as goal
 
 pub returns-clause-kept : goal.returns-clause-kept
@@ -16,16 +11,14 @@ returns-clause-kept g c clean s stands distinct found reads long =
     let names = c.deref.result.now in
     let here : c.self.inside.names.items ≡ names = sym c.deref.ensures.value in
     let view = sym c.self.view_is in
-    let begun =
-    c.in_ok-customers.ensures.begun clean s (subst (λ k. Stands s (shown g.S.Store k.store)) view stands)
+    let begun = c.in_ok-customers.ensures.begun clean s (subst (λ k. Stands s (shown g.S.Store k.store)) view stands)
     (subst AreDistinct here (subst (λ k. AreDistinct k.names) view distinct))
     (subst (λ ns. AllAreFound ns hub) here (subst (λ k. AllAreFound k.names hub) view found))
     (subst (λ ns. AllAreRead ns hub s.now) here (subst (λ k. AllAreRead k.names hub s.now) view reads)) in
     record {
       spool = begun.0;
       stands = begun.2;
-      left =
-          ap (λ ns. left_in ns begun.0) (here ∙ sym c.in_ok-customers.ensures.names)
+      left = ap (λ ns. left_in ns begun.0) (here ∙ sym c.in_ok-customers.ensures.names)
           ∙ left_after names hub owns (numbers_of c.begin.new.writer) begun.0 begun.1
           (subst (λ ns. length ns ≡ length hub) here (subst (λ k. length k.names ≡ length hub) view long));
     }

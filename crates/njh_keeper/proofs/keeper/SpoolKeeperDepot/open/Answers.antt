@@ -1,10 +1,6 @@
-use Rattle.std.proofs.Common.{List, Result, Ok, Err, IfOk, OnOk, ◌∙◌}
-use Rattle.sqlite.specs.State.{HasCleanDisk}
-use Rattle.njh_hub.specs.WholeHub.{Part}
-use Rattle.njh_turns.specs.Keeping.{IsSettled}
-use Rattle.njh_turns.specs.declared.depot.DepotFault.{DepotFault}
-use Rattle.njh_spoolfile.specs.Origin.{StandsAsFound}
-use Rattle.njh_spoolfile.specs.Shelf.{shown}
+use Rattle.{std.proofs.Common.{List, Result, Ok, Err, IfOk, OnOk, ◌∙◌}, sqlite.specs.State.HasCleanDisk}
+use Rattle.{njh_spoolfile.specs.{Origin.StandsAsFound, Shelf.shown}, njh_hub.specs.WholeHub.Part}
+use Rattle.njh_turns.specs.{declared.depot.DepotFault.DepotFault, Keeping.IsSettled}
 use Rattle.njh_keeper.specs.Keeper.{IsSettledFrom, KnowsHub, MayLeaveOf}
 use Rattle.njh_keeper.proofs.keeper.SpoolKeeperDepot.open.Goals as goal
 

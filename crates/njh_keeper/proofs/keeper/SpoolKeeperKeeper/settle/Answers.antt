@@ -1,6 +1,5 @@
-use Rattle.std.proofs.Common.{ap, ◌∙◌}
-use Rattle.njh_keeper.specs.Keeper.{left_in}
-use Rattle.njh_keeper.proofs.KnownLaws.{either_leaves, known_leaves, known_settled, may_leave_same}
+use Rattle.{std.proofs.Common.{ap, ◌∙◌}, njh_keeper.proofs.KnownLaws.{either_leaves, known_leaves, known_settled}}
+use Rattle.njh_keeper.{proofs.KnownLaws.may_leave_same, specs.Keeper.left_in}
 use Rattle.njh_keeper.proofs.keeper.SpoolKeeperKeeper.settle.Goals as goal
 
 pub returns-in-Ok-clause-settled : goal.returns-in-Ok-clause-settled

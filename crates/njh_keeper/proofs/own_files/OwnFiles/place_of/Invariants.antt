@@ -1,6 +1,4 @@
-use Rattle.std.proofs.Common.{take}
-use Rattle.std.specs.List.{AllByRecursion}
-use Rattle.njh_keeper.specs.code.Partly.{IsAnother}
+use Rattle.{std.{proofs.Common.take, specs.List.AllByRecursion}, njh_keeper.specs.code.Partly.IsAnother}
 use Rattle.njh_keeper.proofs.own_files.OwnFiles.place_of.Given as goal
 
 -- none before the place is the file

@@ -1,8 +1,6 @@
 use Rattle.std.proofs.Common.{◌≡◌, true, List, map, rules, subst, sym, ◌∙◌, arith}
-use Rattle.njh_spoolfile.specs.Kept.{contents_of}
-use Rattle.njh_spoolfile.specs.declared.kept.StoredRecord.{StoredRecord}
-use Rattle.njh_keeper.specs.Opened.{are_records_from}
-use Rattle.njh_keeper.proofs.FileLaws.{have_room}
+use Rattle.njh_spoolfile.specs.{declared.kept.StoredRecord.StoredRecord, Kept.contents_of}
+use Rattle.njh_keeper.{proofs.FileLaws.have_room, specs.Opened.are_records_from}
 use Rattle.njh_keeper.proofs.records.FileContents.of.Goals as goal
 
 pub invariant_of-result : goal.invariant_of-result

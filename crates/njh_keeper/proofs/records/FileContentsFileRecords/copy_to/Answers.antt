@@ -1,10 +1,6 @@
-use Rattle.std.proofs.Common.{◌≡◌, ◌<◌, ◌++◌, List, length, map, Some, ap, sym, ◌∙◌, arith}
-use Rattle.std.specs.Prelude.{slice_get}
-use Rattle.std.proofs.lemmas.List.{length-map}
-use Rattle.njh_record.specs.Stored.{Stored}
-use Rattle.njh_spoolfile.specs.Kept.{contents_of}
-use Rattle.njh_keeper.specs.Opened.{as_stored}
-use Rattle.njh_keeper.proofs.FileLaws.{got}
+use Rattle.std.proofs.{Common.{◌≡◌, ◌<◌, ◌++◌, List, length, map, Some, ap, sym, ◌∙◌, arith}, lemmas.List.length-map}
+use Rattle.{std.specs.Prelude.slice_get, njh_record.specs.Stored.Stored, njh_spoolfile.specs.Kept.contents_of}
+use Rattle.njh_keeper.{proofs.FileLaws.got, specs.Opened.as_stored}
 use Rattle.njh_keeper.proofs.records.FileContentsFileRecords.copy_to.Goals as goal
 
 pub returns : goal.returns
@@ -18,10 +14,8 @@ returns c =
       arith,
       c.requires,
       ap (λ (xs : List Stored). length xs) c.self.view_is,
-      length-map (map contents_of items)
-          as_stored,
+      length-map (map contents_of items) as_stored,
       length-map items contents_of,
     ) in
     ap (λ (xs : List Stored). slice_get xs c.args.n) (sym c.self.view_is)
-    ∙ got items c.args.n r there c.index-record.ensures
-    ∙ (λ i. Some (record { srcb = r.srcb; bytes = sym bytes i }))
+    ∙ got items c.args.n r there c.index-record.ensures ∙ (λ i. Some (record { srcb = r.srcb; bytes = sym bytes i }))

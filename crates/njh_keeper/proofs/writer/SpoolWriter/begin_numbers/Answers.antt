@@ -1,7 +1,5 @@
-use Rattle.std.proofs.Common.{◌≡◌, ap, arith}
-use Rattle.njh_keeper.specs.code.Writing.{key_behind}
-use Rattle.njh_keeper.specs.declared.writer.SpoolWriter.{SpoolWriter}
-use Rattle.njh_keeper.proofs.OpeningNumbers.{are_below}
+use Rattle.{std.proofs.Common.{◌≡◌, ap, arith}, njh_keeper.proofs.OpeningNumbers.are_below}
+use Rattle.njh_keeper.specs.{code.Writing.key_behind, declared.writer.SpoolWriter.SpoolWriter}
 use Rattle.njh_keeper.proofs.writer.SpoolWriter.begin_numbers.Goals as goal
 
 pub empty_others-requires : goal.empty_others-requires

@@ -1,9 +1,7 @@
 use Rattle.std.proofs.Common.{◌≡◌, ◌≤◌, ◌-◌, ◌+◌, ◌^◌, ◌++◌, ◌∙◌, ap, min, subst, arith}
-use Rattle.njh_spoolfile.specs.Shelf.{shown}
-use Rattle.njh_spoolfile.specs.CommitState.{Stands}
-use Rattle.njh_spoolfile.proofs.ReadingLaws.{ok_then}
-use Rattle.njh_keeper.specs.code.Writing.{emptied_at, free_at, shows_now, unmarked, without_keys}
-use Rattle.njh_keeper.proofs.OpeningNumbers.{emptied_is, free_is}
+use Rattle.njh_spoolfile.{proofs.ReadingLaws.ok_then, specs.{CommitState.Stands, Shelf.shown}}
+use Rattle.njh_keeper.{proofs.OpeningNumbers.{emptied_is, free_is}, specs.code.Writing.{emptied_at, free_at, shows_now}}
+use Rattle.njh_keeper.specs.code.Writing.{unmarked, without_keys}
 use Rattle.njh_keeper.proofs.writer.SpoolWriter.empty_others.Goals as goal
 
 pub returns-clause-emptied : goal.returns-clause-emptied

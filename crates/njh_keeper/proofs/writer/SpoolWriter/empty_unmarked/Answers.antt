@@ -1,37 +1,31 @@
-use Rattle.std.proofs.Common.{◌≡◌, ◌++◌, slice_index_or, false, true, sym, ap, ◌∙◌, arith}
-use Rattle.sqlite.specs.State.{HasCleanDisk}
-use Rattle.sqlite.proofs.StateLemmas.{survives_then}
-use Rattle.njh_spoolfile.specs.Shelf.{shown}
-use Rattle.njh_keeper.specs.declared.writer.SpoolWriter.{SpoolWriter}
-use Rattle.njh_keeper.proofs.WriterLaws.{emptied_more, free_more, marked_below, marked_more}
-use Rattle.njh_keeper.proofs.LeadingLaws.{survives_both}
+use Rattle.{std.proofs.Common.{◌≡◌, ◌++◌, slice_index_or, false, true, sym, ap, ◌∙◌}, njh_spoolfile.specs.Shelf.shown}
+use Rattle.njh_keeper.proofs.LeadingLaws.{clean_before, survives_both}
 use Rattle.njh_keeper.proofs.writer.SpoolWriter.empty_unmarked.Goals.{then-not-is_marked+in_ok-empty_key}
-use Rattle.njh_keeper.proofs.writer.SpoolWriter.empty_unmarked.Goals.{else-not-is_marked}
+use Rattle.njh_keeper.proofs.{writer.SpoolWriter.empty_unmarked.Goals.else-not-is_marked, WriterLaws.emptied_more}
+use Rattle.njh_keeper.proofs.WriterLaws.{free_more, marked_below, marked_more}
+use Rattle.njh_keeper.specs.declared.writer.SpoolWriter.{SpoolWriter}
 use Rattle.njh_keeper.proofs.writer.SpoolWriter.empty_unmarked.Goals as goal
 
-pub keys-preserved : goal.keys-preserved
-keys-preserved g c =
+pub loop-key-preserved : goal.loop-key-preserved
+loop-key-preserved g c =
     let marks = c.args.marks.now in
-    let key = c.keys.key in
+    let key = c.loop-key.key in
     let next = c.args.self.now.next_key in
-    let old = shown g.S.Store c.args.self.now.store in
-    let mid = shown g.S.Store c.keys.self.store in
-    let so_far = c.keys.invariant in
+    let mid = shown g.S.Store c.loop-key.self.store in
+    let so_far = c.loop-key.invariant in
     elim c.if-not-is_marked.branch [
       | then-not-is_marked+in_ok-empty_key w ↦
           let new = shown g.S.Store w.empty_key.new.self.store in
           let is : slice_index_or marks key false ≡ false = sym c.is_marked.ensures ∙ w.if-not-is_marked.true in
-          let early : HasCleanDisk new → HasCleanDisk mid = λ clean. omega (arith, w.empty_key.ensures.crash.clean) in
           rw w.self-is (record {
-            crash = survives_then old mid new _ _ (λ _. ⊥) (λ _ db none. none) (λ _ db none. none) so_far.crash
-                w.empty_key.ensures.crash;
-            emptied = λ clean s at. emptied_more marks key s mid new is (so_far.emptied (early clean) s at)
+            crash = survives_both so_far.crash w.empty_key.ensures.crash;
+            emptied = λ clean s at. emptied_more marks key s mid new is
+                (so_far.emptied (clean_before w.empty_key.ensures.crash clean) s at)
                 (w.in_ok-empty_key.ensures.emptied clean);
-            free = free_more marks key next c.keys.self.next_key c.args.self.now.free_keys.items
-                c.keys.self.free_keys.items w.empty_key.new.self.free_keys.items is (ap (λ x. x.next_key) so_far.others)
-                so_far.free w.in_ok-empty_key.ensures.free;
-            others = w.empty_key.ensures.others
-                ∙ ap (λ (x : SpoolWriter g.row.S.Denot). record x
+            free = free_more marks key next c.loop-key.self.next_key c.args.self.now.free_keys.items
+                c.loop-key.self.free_keys.items w.empty_key.new.self.free_keys.items is
+                (ap (λ x. x.next_key) so_far.others) so_far.free w.in_ok-empty_key.ensures.free;
+            others = w.empty_key.ensures.others ∙ ap (λ (x : SpoolWriter g.row.S.Denot). record x
                 { store = w.empty_key.new.self.store; free_keys = w.empty_key.new.self.free_keys }) so_far.others;
           })
       | else-not-is_marked w ↦
@@ -46,4 +40,4 @@ keys-preserved g c =
     ]
 
 pub returns-in_err-empty_key-clause-crash : goal.returns-in_err-empty_key-clause-crash
-returns-in_err-empty_key-clause-crash g c = survives_both _ _ _ c.keys.invariant.crash c.empty_key.ensures.crash
+returns-in_err-empty_key-clause-crash g c = survives_both c.loop-key.invariant.crash c.empty_key.ensures.crash

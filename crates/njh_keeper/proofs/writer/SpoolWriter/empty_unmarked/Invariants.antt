@@ -1,13 +1,10 @@
-use Rattle.std.proofs.Common.{◌≡◌, ◌++◌, min}
-use Rattle.sqlite.specs.State.{HasCleanDisk, Survives}
-use Rattle.njh_spoolfile.specs.Shelf.{shown}
-use Rattle.njh_spoolfile.specs.CommitState.{CommitState, Stands}
-use Rattle.njh_keeper.specs.code.Writing.{shows_now, unmarked, without_keys}
+use Rattle.njh_keeper.proofs.Words
+use Words.{◌≡◌, ◌++◌, min, HasCleanDisk, Survives, CommitState, Stands, shown, shows_now, unmarked, without_keys}
 use Rattle.njh_keeper.proofs.writer.SpoolWriter.empty_unmarked.Given as goal
 
 -- so many numbers were looked at
-abbrev pub invariant-keys : goal.invariant-keys
-invariant-keys g l =
+abbrev pub invariant-loop-key : goal.invariant-loop-key
+invariant-loop-key g l =
     let old = shown g.S.Store l.fn.self.store in
     let now = shown g.S.Store l.self.store in
     record {
