@@ -1,4 +1,4 @@
--- What is told where no hub is opened from a spool file.
+-- What is told if no hub is opened from a spool file.
 use Rattle.std.specs.Prelude.{⊤}
 use Rattle.njh_table.specs.TableFile.{TableFile}
 use Rattle.njh_spoolfile.specs.Kept.{SpoolContents, entry_of, whole_in}

@@ -129,6 +129,6 @@ abbrev pub KnowsHub : {S : Type 0} → Ghosts S → (SpoolContents → Type 0) �
 KnowsHub g found keeper parts =
     HasCleanDisk (shown g keeper.store) → (began : SpoolContents) → found began → KnowsNow g keeper parts
 
--- A crash may leave this, where the files held a spool when they were opened.
+-- A crash may leave this, if the files held a spool when they were opened.
 abbrev pub MayLeaveOf : {S : Type 0} → Ghosts S → (SpoolContents → Type 0) → Keeping S → List (List KeptFile) → Type 0
 MayLeaveOf g found keeper left = MayLeave g keeper left × ((began : SpoolContents) × found began)

@@ -20,7 +20,7 @@ use Rattle.njh_keeper.specs.OpenedFiles.{OpenedFile, opened_of}
 
 -- ---- what is compared
 
--- a whole file without its number: Held where it is Held, and else Ready
+-- a whole file without its number: Held if it is Held, and else Ready
 abbrev pub file_at_rest : WholeFile → OpenedFile
 file_at_rest f = opened_of (at_rest f)
 
@@ -41,7 +41,7 @@ pub record IsAtRest (p : Part) : Type 0 where
   pub rests : (l : ℕ) → rest_on l p ≡ Nothing
 
 -- A customer that was opened has what one has whose lines were lost. These are the same: the entry; the whole files in
--- their order, each with its kind and its records, Held where the other is Held and Ready where it isn't; and the
+-- their order, each with its kind and its records, Held if the other is Held and Ready if it isn't; and the
 -- lines, but for what `bare` leaves out. Both are in order, with the same quota and limit, and on both nothing goes on.
 pub record StandsAs (opened lost : Part) : Type 0 where
   pub entry : opened.customer.entry ≡ lost.customer.entry

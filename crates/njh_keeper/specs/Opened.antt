@@ -47,7 +47,7 @@ are_records_from place (r ∷ rs) = is_record_at place r && are_records_from (pl
 abbrev pub are_records_of : File → List Contents → Bool
 are_records_of file records = (length records == file.records) && are_records_from 0 records
 
--- The file as a hub has it: its kind, whether it is Held, and its records. None where its records aren't all there, or
+-- The file as a hub has it: its kind, whether it is Held, and its records. None if its records aren't all there, or
 -- its kind is none.
 abbrev pub file_in : File → List Contents → Option KeptFile
 file_in file records =

@@ -24,7 +24,7 @@ pub record OpenedFile : Type 0 where
 abbrev pub opened_of : WholeFile → OpenedFile
 opened_of f = record { kind = f.kind; records = f.records; state = f.state }
 
--- Held where it was kept as Held or its node has no route, and else Ready
+-- Held if it was kept as Held or its node has no route, and else Ready
 abbrev pub state_opened : CustomerEntry → KeptFile → State
 state_opened entry f =
     if f.held || destination_unrouted entry (destination_of f.kind f.records) then Held else Ready

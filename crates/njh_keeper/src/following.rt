@@ -144,7 +144,7 @@ fn add_new<S: Alter + Drop>(
     Ok(())
 }
 
-/// How many files became whole between two counts; all there may be where it isn't known.
+/// How many files became whole between two counts; all there may be if it isn't known.
 fn new_files(before: u64, now: u64) -> u32
     ensures all { now ≡ max_arrived → result ≡ 2 ^ 32 - 1 }
     ensures some { now < max_arrived → result ≡ min (now - before) (2 ^ 32 - 1) }
@@ -155,7 +155,7 @@ fn new_files(before: u64, now: u64) -> u32
     u32::try_from(now.saturating_sub(before)).unwrap_or(u32::MAX)
 }
 
-/// Takes out the files that stood from a place on before the one of this number; all where none is
+/// Takes out the files that stood from a place on before the one of this number; all if none is
 /// given.
 fn drop_before<S: Alter + Drop>(
     writer: &mut SpoolWriter<S>,

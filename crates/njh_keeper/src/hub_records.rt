@@ -21,7 +21,7 @@ use njh_spool::RecordReader;
 use njh_spoolfile::RecordRow;
 use sqlite::{Alter, Error};
 
-/// Blanks, where a field has nothing.
+/// Blanks, if a field has nothing.
 const BLANKS: [u8; 8] = [0x40; 8];
 
 /// Writes the records of a file of which so many stand there. Where the file may have been sent
@@ -113,7 +113,7 @@ fn are_mixed(mut records: RecordReader<'_>, count: u32) -> bool
 }
 
 /// The node that the next data set header names, of those records that are left, so many at most.
-/// One directly behind another goes on with that, and names none. The SRCB of the record before is
+/// One directly after another goes on with that, and names none. The SRCB of the record before is
 /// given, and that of the header is left in its place.
 fn next_node(records: &mut RecordReader<'_>, before: &mut u8, count: u32) -> Option<Name>
     requires { length records.old ≤ count }
@@ -135,7 +135,7 @@ fn next_node(records: &mut RecordReader<'_>, before: &mut u8, count: u32) -> Opt
     None
 }
 
-/// The node that a record names, behind one with an SRCB, where it is a data set header that reads.
+/// The node that a record names, after one with an SRCB, if it is a data set header that reads.
 fn node_of(before: u8, srcb: u8, bytes: &[u8]) -> Option<Name>
     ensures { result ≡ named_node (Some before) (record { srcb = srcb; bytes = bytes.now }) }
 {
@@ -148,7 +148,7 @@ fn node_of(before: u8, srcb: u8, bytes: &[u8]) -> Option<Name>
     }
 }
 
-/// The job's name, as a file's job header has it; blanks where it doesn't read.
+/// The job's name, as a file's job header has it; blanks if it doesn't read.
 pub(crate) fn job_of(hub: &Hub, file: HubFile) -> [u8; 8] {
     let Some(mut records) = hub.read_file(file.customer, file.number) else {
         return BLANKS;

@@ -100,7 +100,7 @@ impl<'a, R: Clock, S: Origin + Drop> SpoolKeeper<'a, R, S> {
 }
 
 impl<'a, R: Clock, S: Origin + Drop> SpoolKeeper<'a, R, S> {
-    /// The whole file that couldn't be put back when a hub was opened, and why; none where there is
+    /// The whole file that couldn't be put back when a hub was opened, and why; none if there is
     /// no such file.
     pub fn refused(&self) -> Option<&RefusedFile> {
         self.refused.as_ref()
@@ -163,7 +163,7 @@ impl<'a, R: Clock, S: Origin + Drop> SpoolKeeper<'a, R, S> {
         keep_step(&mut self.writer, own, hub, customer)
     }
 
-    /// Commits what was written, where whole files changed or much waits.
+    /// Commits what was written, if whole files changed or much waits.
     fn settle_files(&mut self) -> Result<(), Error>
         ensures same { (self.new.failures ≡ self.old.failures) × (self.new.names ≡ self.old.names)
             × (self.new.customers ≡ self.old.customers) × (self.new.is_fresh ≡ false) }
@@ -262,7 +262,7 @@ impl<'a, R: Clock, S: Origin + Drop> SpoolKeeper<'a, R, S> {
         self.remember_hub(hub, names)
     }
 
-    /// Gives the hub back once it is remembered.
+    /// Gives the hub back after it is remembered.
     fn remember_hub(&mut self, hub: Hub, names: Vec<Name>) -> Result<Hub, DepotFault>
         ensures hub { IfOk result (λ remembered. remembered ≡ hub) }
         ensures names { OnOk result (self.new.names ≡ names.items) }
@@ -333,7 +333,7 @@ impl<'a, R: Clock, S: Origin + Drop> Depot for SpoolKeeper<'a, R, S> {
     }
 }
 
-/// Why no hub is opened, where the spool file fails.
+/// Why no hub is opened, if the spool file fails.
 fn depot_fault(error: Error) -> DepotFault {
     match error {
         Error::SqliteFailure(ErrorCode::OutOfMemory) => DepotFault::Memory,
@@ -352,7 +352,7 @@ fn count_strangers(names: &[Name], files: &[StoredFile]) -> u32 {
     count
 }
 
-/// Seconds since the beginning of 1970 by the clock; 0 where it fails, stands before that, or past
+/// Seconds since the beginning of 1970 by the clock; 0 if it fails, stands before that, or past
 /// the year 2105.
 fn seconds_on<R: Clock>(rt: &R) -> u32 {
     match SystemTime::now(rt) {

@@ -23,7 +23,7 @@ use njh_spoolfile::only_the_last_commit;
 use sqlite::Alter;
 
 /// A customer of a hub that was opened from files of its own has these, in their order and with all
-/// their records: Held where they were Held or their node has no route, else Ready. Its lines are
+/// their records: Held if they were Held or their node has no route, else Ready. Its lines are
 /// down, and nothing waits.
 pub fn files_stand_again()
     ensures { (entry : CustomerEntry) (ws : List Whole) → AreBack (part_at_open entry) ws

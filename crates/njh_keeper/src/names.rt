@@ -36,7 +36,7 @@ pub(crate) fn number_of(names: &[Name], text: &str) -> Option<u16>
     None
 }
 
-/// The same, for any number of customers; none where there are more than a hub has.
+/// The same, for any number of customers; none if there are more than a hub has.
 pub(crate) fn number_among(names: &[Name], text: &str) -> Option<u16> {
     if names.len() > usize::from(u16::MAX) {
         return None;

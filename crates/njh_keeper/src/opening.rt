@@ -107,11 +107,11 @@ fn fill<S: Alter>(
 
 /// Opens a hub of these tables from a spool file: each customer has its own whole files there, in
 /// their order of arrival and with all their records. One that was Held is Held; any other is
-/// Ready, or Held where its node has no route. All lines are down. Files of customers that the
+/// Ready, or Held if its node has no route. All lines are down. Files of customers that the
 /// tables don't have stay in the spool file alone. One file's records are read at a time. Nothing
 /// in the spool file changes.
 ///
-/// `File` comes at the first file, in the order of arrival, that can't be put back; `Memory` where
+/// `File` comes at the first file, in the order of arrival, that can't be put back; `Memory` if
 /// there was none for the hub or for the list of files.
 pub fn open_from<S: Alter>(
     alloc: Global,

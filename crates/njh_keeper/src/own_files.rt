@@ -88,7 +88,7 @@ impl OwnFiles {
         None
     }
 
-    /// The file of this number that wasn't whole, where it can be the one with so many records now.
+    /// The file of this number that wasn't whole, if it can be the one with so many records now.
     /// It is remembered no more.
     pub(crate) fn take_partial(&mut self, number: FileId, records: u32) -> Option<KeptPartial>
         ensures taken { IfSome result (λ p. (place : ℕ) × (place < length self.old.partial.items)

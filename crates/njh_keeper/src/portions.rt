@@ -90,7 +90,7 @@ fn keep_of_line<S: Alter + Drop>(
     Ok(())
 }
 
-/// Keeps records of a file that isn't whole, where it has many and enough of them wait.
+/// Keeps records of a file that isn't whole, if it has many and enough of them wait.
 fn keep_portion<S: Alter + Drop>(
     writer: &mut SpoolWriter<S>,
     own: &mut OwnFiles,
@@ -152,7 +152,7 @@ fn remember(own: &mut OwnFiles, partial: KeptPartial) -> Result<(), Error>
     Ok(())
 }
 
-/// Keeps the records of a file that came since some were kept, where enough of them wait.
+/// Keeps the records of a file that came since some were kept, if enough of them wait.
 fn go_on<S: Alter + Drop>(
     writer: &mut SpoolWriter<S>,
     own: &mut OwnFiles,

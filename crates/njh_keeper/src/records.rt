@@ -30,7 +30,7 @@ impl Model for FileContents {
 }
 
 impl FileContents {
-    /// The records that were read of a file; none where they aren't all of its own.
+    /// The records that were read of a file; none if they aren't all of its own.
     pub(crate) fn of(file: &FileRow, records: Vec<StoredRecord>) -> Option<FileContents>
         ensures { MatchOption result (are_records_of (file_of file.now) (map contents_of records.items) ≡ false)
             (λ contents. (are_records_of (file_of file.now) (map contents_of records.items) ≡ true)

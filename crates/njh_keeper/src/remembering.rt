@@ -120,7 +120,7 @@ fn remember_files<S: Alter + Drop>(
     Ok(())
 }
 
-/// Remembers a whole file that was put back, where it is the customer's.
+/// Remembers a whole file that was put back, if it is the customer's.
 fn remember_if_own<S: Alter + Drop>(
     writer: &mut SpoolWriter<S>,
     own: &mut OwnFiles,

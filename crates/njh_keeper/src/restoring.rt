@@ -69,7 +69,7 @@ fn put_back(
     }
 }
 
-/// Puts a whole file of a spool file back to its customer, where that is one of these. Its records
+/// Puts a whole file of a spool file back to its customer, if that is one of these. Its records
 /// alone are read.
 fn restore_one<S: Alter>(
     alloc: Global,

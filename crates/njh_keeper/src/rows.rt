@@ -29,7 +29,7 @@ pub(crate) fn is_held(state: State) -> bool
     }
 }
 
-/// The characters of a field, without the blanks behind them.
+/// The characters of a field, without the blanks after them.
 fn field_text(alloc: Global, field: &[u8]) -> Result<String, AllocError>
     ensures { IfOk result (λ text. string_bytes text ≡ field_text field.now) }
 {

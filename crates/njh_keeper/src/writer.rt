@@ -24,14 +24,14 @@ pub(crate) const PLACES: u32 = 1 << 23;
 /// How many records of files that have left are dropped at once.
 const SWEPT_AT_ONCE: u32 = 512;
 
-/// How many records wait for a commit at most, where no whole file changes.
+/// How many records wait for a commit at most, if no whole file changes.
 const WAITING: u32 = 4096;
 
 /// Up to which number those are looked for that no file's records stand under, when a spool file is
 /// opened.
 const LOOKED_FOR: u32 = 200_000;
 
-/// How many numbers behind those of files are emptied then.
+/// How many numbers after those of files are emptied then.
 const MARGIN: u32 = 64;
 
 /// Records of a file that has left, from a place on.
@@ -118,7 +118,7 @@ impl<S: Alter + Drop> SpoolWriter<S> {
         Ok(key)
     }
 
-    /// The number of a row behind all others.
+    /// The number of a row after all others.
     pub(crate) fn take_id(&mut self) -> Result<u32, Error>
         ensures taken { IfOk result (λ id. id ≡ self.old.next_id) }
         ensures others { OnOk result (self.new ≡ record self.old { next_id = self.old.next_id + 1 }) }
@@ -245,7 +245,7 @@ impl<S: Alter + Drop> SpoolWriter<S> {
         keep_rest(&mut self.sweeps, &mut self.free_keys, sweep)
     }
 
-    /// Commits what waits, where whole files changed or much waits.
+    /// Commits what waits, if whole files changed or much waits.
     pub(crate) fn settle(&mut self) -> Result<(), Error>
         ensures waits { is_due self.old.is_changed self.old.waiting ≡ false → IsOk result × (self.new ≡ self.old) }
         ensures kept { is_due self.old.is_changed self.old.waiting ≡ true
@@ -305,7 +305,7 @@ impl<S: Alter + Drop> SpoolWriter<S> {
         self.sweeps.clear();
     }
 
-    /// Begins behind the numbers of these files, which are all. What stands under numbers of no
+    /// Begins after the numbers of these files, which are all. What stands under numbers of no
     /// file is dropped, as far as it is looked for.
     pub(crate) fn begin_numbers(&mut self, files: &[StoredFile]) -> Result<(), Error>
         ensures begun { HasCleanDisk (shown S.Store self.new.store) → OnOk result ((s : CommitState)
@@ -323,7 +323,7 @@ impl<S: Alter + Drop> SpoolWriter<S> {
         self.commit()
     }
 
-    /// The next numbers are behind those of these files.
+    /// The next numbers are after those of these files.
     fn go_behind(&mut self, files: &[StoredFile])
         ensures { self.new ≡ record self.old {
           next_id = id_behind self.old.next_id files.now;
@@ -356,7 +356,7 @@ impl<S: Alter + Drop> SpoolWriter<S> {
         emptied
     }
 
-    /// Drops what stands under numbers without a mark, up to a few behind those of files.
+    /// Drops what stands under numbers without a mark, up to a few after those of files.
     fn empty_unmarked(&mut self, marks: &[bool]) -> Result<(), Error>
         ensures emptied { HasCleanDisk (shown S.Store self.new.store) → OnOk result ((s : CommitState)
             → Stands s (shown S.Store self.old.store) → Stands (shows_now (without_keys (unmarked marks.now
@@ -391,7 +391,7 @@ impl<S: Alter + Drop> SpoolWriter<S> {
     }
 }
 
-/// The place behind those records of a file that has left which are dropped at once.
+/// The place after those records of a file that has left which are dropped at once.
 fn behind_of(sweep: Sweep) -> u32
     ensures { result ≡ behind_of sweep }
 {
@@ -399,7 +399,7 @@ fn behind_of(sweep: Sweep) -> u32
     (first + SWEPT_AT_ONCE).min(sweep.end).min(PLACES)
 }
 
-/// Has the records dropped later that are left of a file that has left. Where none is, its number
+/// Has the records dropped later that are left of a file that has left. If none is, its number
 /// is free.
 fn keep_rest(sweeps: &mut Vec<Sweep>, free_keys: &mut Vec<u32>, sweep: Sweep) -> Result<(), Error>
     ensures left { OnOk result (sweeps.new.items ≡ sweeps.old.items ++ left_of sweep) }

@@ -20,7 +20,7 @@ AreAlike before now = AllZip IsAlike before now
 
 -- ---- what comes to stand under a key
 
--- Of a file's records so many stood there: the very first of these, or, where the file may have been sent elsewhere
+-- Of a file's records so many stood there: the very first of these, or, if the file may have been sent elsewhere
 -- since, such as are alike to them.
 abbrev pub AreBegun : (is_old : Bool) (written : ℕ) (now before : List Stored) → Type 0
 AreBegun is_old written now before =

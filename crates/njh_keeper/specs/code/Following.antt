@@ -57,14 +57,14 @@ pub data Remain : List KeptPartial → List KeptPartial → Type 0 where
   stays : (p : KeptPartial) (before now : List KeptPartial) → Remain before now → Remain (p ∷ before) (p ∷ now)
   leaves : (p : KeptPartial) (before now : List KeptPartial) → Remain before now → Remain (p ∷ before) now
 
--- A call leads there, where these are the customer's whole files; what is kept of files that aren't whole stays.
+-- A call leads there: these are the customer's whole files then, and what is kept of files that aren't whole stays.
 pub record GoesTo (m m' : Memory) (s t : SpoolContents) (files : List WholeFile) : Type 0 where
   pub moves : Moves (claim_of m) (claim_of m') s t
   pub has : HasFiles m' t files
   pub remain : Remain m.own.partial m'.own.partial
   pub records : AllByRecursion (λ p. records_of p.key t ≡ records_of p.key s) m'.own.partial
 
--- the same of a connection, where these whole files are given on the spool file
+-- the same of a connection, if these whole files are given on the spool file
 abbrev pub LeadsFiles : (m m' : Memory) → (SpoolContents → List WholeFile → Type 0)
     → (List WholeFile → List WholeFile → Type 0)
     → State → State → Type 0
@@ -74,7 +74,7 @@ LeadsFiles m m' Given Becomes old new =
 
 -- ---- beside the hub's files
 
--- At the place stands a file of this number; where none is given, no file does.
+-- At the place stands a file of this number; if none is given, no file does.
 pub record IsFoundAt (number : ℕ) (files : List WholeFile) (place : ℕ) : Type 0 where
   pub file : WholeFile
   pub there : place < length files
@@ -177,8 +177,8 @@ pub record GoOnIn (arrived : ℕ) (files : List WholeFile) (now : Customer) : Ty
   pub goes : now.spool.arrived < max_arrived
       → FilesGoOn (record (outgoing now) { files = files; arrived = arrived }) (outgoing now)
 
--- ---- where nothing is written
+-- ---- if nothing is written
 
--- Where no whole file has changed since the last commit, none had before either, and the spool file is as it was.
+-- If no whole file has changed since the last commit, none had before either, and the spool file is as it was.
 abbrev pub IsQuiet : {S : Type 0} → spool_writer.SpoolWriter S → spool_writer.SpoolWriter S → Type 0
 IsQuiet old new = new.is_changed ≡ false → (old.is_changed ≡ false) × (new.store ≡ old.store)

@@ -52,7 +52,7 @@ pub record HasOwn (m : Memory) (s : SpoolContents) (now : CustomerSpool) : Type 
   pub named : is_name_of m.text m.own.name ≡ true
   pub has : HasSpool s m.own now
 
--- The spool file has its files as they are behind the step, and those of others stay. Where no whole file has changed
+-- The spool file has its files as they are after the step, and those of others stay. If no whole file has changed
 -- since the last commit none had before, and what is kept of them is what it was.
 pub record StepGoes (m m' : Memory) (changed changed' : Bool) (before now : CustomerSpool) (s t : SpoolContents)
     : Type 0 where

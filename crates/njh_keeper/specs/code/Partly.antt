@@ -25,7 +25,7 @@ IsAnother number records p = p.number ≡ number → records < p.seen
 abbrev pub IsSeen : CustomerSpool → KeptPartial → Type 0
 IsSeen now p = p.is_open ≡ true → (p.seen ≡ length (partial_records p.number now)) × (1366 ≤ p.seen)
 
--- behind a step: all of its records were seen, and it is not yet known whether a stream goes on with it
+-- after a step: all of its records were seen, and it is not yet known whether a stream goes on with it
 pub record IsUpToDate (now : CustomerSpool) (p : KeptPartial) : Type 0 where
   pub closed : p.is_open ≡ false
   pub seen : p.seen ≡ length (partial_records p.number now)
@@ -65,7 +65,7 @@ KeepsOn w own new_w new_own now s t =
     (files : List WholeFile) → IsOrdered s → AreApart (claim w own) → Mirrored s own files → AllGoOn now s own
     → Goes (claim w own) (claim new_w new_own) new_own now files s t
 
--- They do where a number is in hand, under which no records stand.
+-- They do if a number is in hand, under which no records stand.
 abbrev pub KeepsNew : (key : ℕ) (w : Numbers) (own : OwnFiles) (new_w : Numbers) (new_own : OwnFiles)
     (now : CustomerSpool) → SpoolContents → SpoolContents → Type 0
 KeepsNew key w own new_w new_own now s t =
@@ -96,7 +96,7 @@ pub record KeepsPartly {S : Type 0} (g : Ghosts S) (now : CustomerSpool) (w : Sp
   pub numbers : IsSameButNumbers w new_w
   pub others : new_own ≡ record own { partial = new_own.partial }
 
--- the same, where a number is in hand
+-- the same, if a number is in hand
 pub record KeepsPartlyNew {S : Type 0} (g : Ghosts S) (key : ℕ) (now : CustomerSpool) (w : SpoolWriter S)
     (own : own_files.OwnFiles) (new_w : SpoolWriter S) (new_own : own_files.OwnFiles) : Type 0 where
   pub led : HasCleanDisk (shown g new_w.store)

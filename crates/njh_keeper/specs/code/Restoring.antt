@@ -23,7 +23,7 @@ number_from n names text = position_from (λ name. is_name_of text name) n names
 abbrev pub number_of : List (List ℕ) → List ℕ → Option ℕ
 number_of names text = number_from 0 names text
 
--- a hub with one whole file more, where its customer is one of these
+-- a hub with one whole file more, if its customer is one of these
 abbrev pub hub_with : List (List ℕ) → List Part → Whole → List Part
 hub_with names parts w = elim (number_of names w.file.customer)
     [ None ↦ parts | Some c ↦ slice_set parts c (with_whole (part c parts) w) ]

@@ -8,7 +8,7 @@ use Rattle.njh_keeper.specs.code.Remembered.{keyed}
 abbrev pub AreNumbered : List WholeFile → Type 0
 AreNumbered files = (n : ℕ) → keyed (λ f. f.number) n files ≤ 1
 
--- The first so many files are those of the hub now, and of the others those are still there that are behind them.
+-- The first so many files are those of the hub now, and of the others those are still there that are after them.
 pub record IsWalkedTo (still files : List WholeFile) (i : ℕ) : Type 0 where
   pub reaches : i ≤ length files
   pub front : take i files ≡ take i still

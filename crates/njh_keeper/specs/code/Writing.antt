@@ -11,7 +11,7 @@ use Rattle.njh_keeper.specs.declared.writer.Sweep.{Sweep}
 abbrev pub with_replaced : Record → SpoolContents → SpoolContents
 with_replaced r spool = with_record r (without_records r.key r.place (r.place + 1) spool)
 
--- A number is taken: the last of the free ones, or where none is free the first that was never taken.
+-- A number is taken: the last of the free ones, or if none is free the first that was never taken.
 abbrev pub IsTaken : (free : List ℕ) (next key : ℕ) (left : List ℕ) (behind : ℕ) → Type 0
 IsTaken free next key left behind =
     ((free ≡ left ++ key ∷ []) × (behind ≡ next))
@@ -31,7 +31,7 @@ behind_of sweep = min (min (first_of sweep + 512) sweep.end) (2 ^ 23)
 abbrev pub without_swept : Sweep → SpoolContents → SpoolContents
 without_swept sweep spool = without_records sweep.key (first_of sweep) (behind_of sweep) spool
 
--- what is to be dropped then, and the key that is free where that is nothing
+-- what is to be dropped then, and the key that is free if that is nothing
 abbrev pub is_left : Sweep → Bool
 is_left sweep = nat_lt (behind_of sweep) sweep.end
 
@@ -47,7 +47,7 @@ is_due is_changed waiting = is_changed || nat_le 4096 waiting
 
 -- ---- the opening
 
--- the first number, not below this one, behind those of whole files, and behind those that their records stand under
+-- the first number, not below this one, after those of whole files, and after those that their records stand under
 abbrev pub number_after : (StoredFile → ℕ) → ℕ → List StoredFile → ℕ
 number_after number next files = fold (λ n f. max n (min (number f + 1) (2 ^ 32 - 1))) next files
 
@@ -76,19 +76,19 @@ unmarked marks end = numbers_but (is_marked marks) end
 abbrev pub marked_by : List Bool → List StoredFile → List Bool
 marked_by marks files = fold (λ m f. slice_set m f.file.key true) marks files
 
--- The numbers under which all is dropped: those that no file's records stand under, up to 64 behind the next one. Of
--- them those below that one are free. Where more than 200,000 were taken none is looked for.
+-- The numbers under which all is dropped: those that no file's records stand under, up to 64 after the next one. Of
+-- them those below that one are free. If more than 200,000 were taken none is looked for.
 abbrev pub emptied_at : List StoredFile → ℕ → List ℕ
 emptied_at files next = if nat_lt 200000 next then [] else numbers_but (is_used files) (next + 64)
 
 abbrev pub free_at : List StoredFile → ℕ → List ℕ
 free_at files next = if nat_lt 200000 next then [] else numbers_but (is_used files) next
 
--- the records of each file stand under a number below this one, where no more than 200,000 were taken
+-- the records of each file stand under a number below this one, if no more than 200,000 were taken
 abbrev pub AreBelow : List StoredFile → ℕ → Type 0
 AreBelow files next = next ≤ 200000 → AllByRecursion (λ f. f.file.key < next) files
 
--- a number where it is below another one
+-- a number if it is below another one
 abbrev pub below : (end key : ℕ) → List ℕ
 below end key = if nat_lt key end then key ∷ [] else []
 
