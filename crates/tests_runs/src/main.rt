@@ -1,46 +1,59 @@
-//! Tries the whole program on what is stored, and prints what came of it; the file `stdout` has
-//! that.
-//!
-//! Each line of the table of `data/README.md` is a run: the words of the command line, what the
-//! program is given to read, what it must print, and its status. Then each option that the
-//! program's help tells of is looked for in the man page. Last it is the program itself on its own
-//! arguments, whose tables are refused, and ends as the program ends then.
+//! Tries the whole program on the runs that are stored in `data`, and prints what came of it; the
+//! file `stdout` has that. What tries it is `tests_trials`. Last it is the program itself on its
+//! own arguments, whose tables are refused, and ends as the program ends then.
 #![tactic(auto)]
 
-mod likeness;
-mod man_page;
-mod mishaps;
-mod program;
-mod registry;
-mod runs;
-mod streams;
-mod texts;
-
-use crate::program::{Program, WholeProgram};
-use njh_program::Failure;
+use njh_program::{Failure, Spooling, carry_out};
 use std::alloc::Global;
 use std::io;
+use std::net::Net;
 use std::process::ExitCode;
-use std::rt::Files;
+use std::rt::{Clock, Env, Files};
+use tests_trials::{Log, Program, Run, try_all};
+
+/// The whole program, over these files and sockets.
+#[derive(Drop)]
+struct WholeProgram<'a, R> {
+    rt: &'a R,
+}
+
+impl<R: Files + Spooling + Net + Clock + AllocGlobal> Program for WholeProgram<'_, R> {
+    fn run(&self, words: &[&str], run: &mut Run<'_>) -> io::Result<u8> {
+        let log = Log {
+            bytes: &mut run.logged,
+        };
+        match carry_out(self.rt, words, &mut run.source, &mut run.drain, log) {
+            Ok(()) => Ok(0),
+            Err(failure) => {
+                let status = failure.status();
+                keep_failure(self.rt.alloc(), &failure, run)?;
+                Ok(status)
+            }
+        }
+    }
+}
+
+/// Keeps the line of a failure, or what `clap` says of the arguments.
+fn keep_failure(alloc: Global, failure: &Failure, run: &mut Run<'_>) -> io::Result<()> {
+    let text = failure.to_string(alloc)?;
+    match failure {
+        Failure::Arguments(_) => run.refusal = text,
+        _ => run.line = text,
+    }
+    Ok(())
+}
 
 /// Tries all, and then is the program itself.
-fn play<R: Files + Print + AllocGlobal, P: Program, E: Print>(
+fn play<R: Env + Files + Spooling + Net + Clock + Input + Print + AllocGlobal, E: Print>(
     rt: &R,
-    program: &P,
     errors: &E,
 ) -> ExitCode {
-    match try_all(rt, program) {
-        Ok(()) => program.run_itself(errors),
+    match try_all(rt, &WholeProgram { rt }) {
+        Ok(()) => njh_program::run(rt, errors),
         Err(error) => njh_program::end(Err(Failure::from(error)), errors),
     }
 }
 
-/// Tries all but the end of the program.
-fn try_all<R: Files + Print + AllocGlobal, P: Program>(rt: &R, program: &P) -> io::Result<()> {
-    runs::compare_all(rt, program)?;
-    man_page::compare(rt, program)
-}
-
 fn main(rt: HostRuntime) -> ExitCode {
-    play(&rt, &WholeProgram::new(&rt), &rt.stdout())
+    play(&rt, &rt.stdout())
 }

@@ -2,6 +2,7 @@
 
 use crate::program::Program;
 use crate::streams::{Calls, Mishap, Run};
+use crate::trial::Trial;
 use std::alloc::Global;
 use std::io;
 
@@ -15,27 +16,12 @@ const MISHAPS: [(Mishap, &str); 3] = [
     (Mishap::IsInterrupted, "is interrupted"),
 ];
 
-/// A run that is tried: its words, of which the first is its name, its script and its whole output.
-#[derive(Clone, Copy)]
-struct Trial<'a> {
-    words: &'a [&'a str],
-    script: &'a [u8],
-    output: &'a [u8],
-}
-
 /// Says how a run ends where one read, or one write, goes amiss.
 pub fn compare<R: Print + AllocGlobal, P: Program>(
     rt: &R,
     program: &P,
-    words: &[&str],
-    script: &[u8],
-    output: &[u8],
+    trial: Trial<'_>,
 ) -> io::Result<()> {
-    let trial = Trial {
-        words,
-        script,
-        output,
-    };
     for (mishap, what) in MISHAPS {
         say(rt, program, trial, true, mishap, what)?;
     }

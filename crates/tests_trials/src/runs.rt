@@ -8,6 +8,7 @@ use crate::program::Program;
 use crate::registry::{self, Entry, entry_of};
 use crate::streams::{Calls, Run};
 use crate::texts::{first_difference, first_miscount};
+use crate::trial::Trial;
 use crate::{likeness, mishaps};
 use std::alloc::Global;
 use std::rt::Files;
@@ -20,16 +21,26 @@ pub fn compare_all<R: Files + Print + AllocGlobal, P: Program>(
     program: &P,
 ) -> io::Result<()> {
     let table = fs::read_to_string(rt, registry::FILE)?;
+    let brought = compare_each(rt, program, table.as_str())?;
+    println!(rt; "scripts that decode and encode bring back: {brought}")
+}
+
+/// Says of each run of the table whether it is as it is stored; answers how many scripts are
+/// brought back.
+fn compare_each<R: Files + Print + AllocGlobal, P: Program>(
+    rt: &R,
+    program: &P,
+    table: &str,
+) -> io::Result<u32> {
     let mut brought = 0u32;
-    for line in table.as_str().lines() {
+    for line in table.lines() {
         if let Some(entry) = entry_of(line)
             && compare(rt, program, entry)?
         {
             brought = brought.saturating_add(1);
         }
     }
-    println!(rt; "scripts that decode and encode bring back: {brought}")?;
-    Ok(())
+    Ok(brought)
 }
 
 /// A stored file.
@@ -46,20 +57,46 @@ fn compare<R: Files + Print + AllocGlobal, P: Program>(
     entry: Entry<'_>,
 ) -> io::Result<bool> {
     let script = stored(rt, entry.name, "script")?;
-    let wanted = stored(rt, entry.name, "out")?;
+    let output = stored(rt, entry.name, "out")?;
     let words = entry.words(rt.alloc())?;
-    compare_run(rt, program, entry, &words, &script, &wanted)?;
-    compare_words(rt, program, entry.name, &wanted)?;
+    let trial = Trial {
+        words: &words,
+        script: &script,
+        output: &output,
+    };
+    compare_trial(rt, program, entry, trial)
+}
+
+/// Says so of a run whose files are read.
+fn compare_trial<R: Files + Print + AllocGlobal, P: Program>(
+    rt: &R,
+    program: &P,
+    entry: Entry<'_>,
+    trial: Trial<'_>,
+) -> io::Result<bool> {
+    compare_run(rt, program, entry, trial)?;
+    compare_words(rt, program, entry.name, trial.output)?;
     if entry.how.ends_with("streams") {
-        mishaps::compare(rt, program, &words, &script, &wanted)?;
+        mishaps::compare(rt, program, trial)?;
     }
     if let Some((_, other)) = entry.how.split_once("like ") {
-        likeness::compare(rt, entry.name, &wanted, &stored(rt, other, "out")?)?;
+        compare_like(rt, entry.name, trial.output, other)?;
     }
     if entry.status == 0 && entry.with.starts_with("replay") {
-        return is_brought(rt, program, entry.name, &script);
+        return is_brought(rt, program, entry.name, trial.script);
     }
     Ok(false)
+}
+
+/// Says whether ACME's lines of what is stored of a run are those of another run.
+fn compare_like<R: Files + Print + AllocGlobal>(
+    rt: &R,
+    name: &str,
+    output: &[u8],
+    other: &str,
+) -> io::Result<()> {
+    let stored = stored(rt, other, "out")?;
+    likeness::compare(rt, name, output, &stored)
 }
 
 /// Says whether a run prints what is stored and ends with the status that is stored. The text for
@@ -68,26 +105,40 @@ fn compare_run<R: Print + AllocGlobal, P: Program>(
     rt: &R,
     program: &P,
     entry: Entry<'_>,
-    words: &[&str],
-    script: &[u8],
-    wanted: &[u8],
+    trial: Trial<'_>,
 ) -> io::Result<()> {
     let name = entry.name;
-    if !entry.is_said_by(script) {
+    if !entry.is_said_by(trial.script) {
         println!(rt; "{name}: about something else")?;
     }
-    let mut run = Run::new(rt.alloc(), script, Calls::good(), Calls::good());
-    let status = program.run(words, &mut run)?;
-    let told = run.told(rt.alloc())?;
-    let other = if entry.how.ends_with("counts") {
-        first_miscount(&told, wanted)
-    } else {
-        first_difference(&told, wanted)
-    };
+    let (status, other) = first_other(rt.alloc(), program, entry, trial)?;
     match other {
         Some(number) => println!(rt; "{name}: differs in line {number}, status {status}"),
         None if status != entry.status => println!(rt; "{name}: same, but status {status}"),
         None => println!(rt; "{name}: same, status {status}"),
+    }
+}
+
+/// The status of a run, and the number of the first line that isn't as it is stored, if there is
+/// one.
+fn first_other<P: Program>(
+    alloc: Global,
+    program: &P,
+    entry: Entry<'_>,
+    trial: Trial<'_>,
+) -> io::Result<(u8, Option<u64>)> {
+    let mut run = Run::new(alloc, trial.script, Calls::good(), Calls::good());
+    let status = program.run(trial.words, &mut run)?;
+    let told = run.told(alloc)?;
+    Ok((status, other_line(entry, &told, trial.output)))
+}
+
+/// The number of the first line of a text that isn't as it is stored, as the run asks for it.
+fn other_line(entry: Entry<'_>, told: &[u8], wanted: &[u8]) -> Option<u64> {
+    if entry.how.ends_with("counts") {
+        first_miscount(told, wanted)
+    } else {
+        first_difference(told, wanted)
     }
 }
 

@@ -14,12 +14,31 @@ const NAMES: [&str; 6] = ["replay", "serve", "decode", "encode", "check", "files
 /// Says of each subcommand how many options the help has, and which of them the man page lacks.
 pub fn compare<R: Files + Print + AllocGlobal, P: Program>(rt: &R, program: &P) -> io::Result<()> {
     let page = fs::read_to_string(rt, PAGE)?;
+    compare_all(rt, program, page.as_str())
+}
+
+/// Says so of each subcommand, by the text of the page.
+fn compare_all<R: Print + AllocGlobal, P: Program>(
+    rt: &R,
+    program: &P,
+    page: &str,
+) -> io::Result<()> {
     for name in NAMES {
-        let mut run = Run::new(rt.alloc(), &[], Calls::good(), Calls::good());
-        program.run(&["njehub", name, "--help"], &mut run)?;
-        say_options(rt, page.as_str(), name, run.refusal.as_str())?;
+        compare_one(rt, program, page, name)?;
     }
     Ok(())
+}
+
+/// Says so of a subcommand.
+fn compare_one<R: Print + AllocGlobal, P: Program>(
+    rt: &R,
+    program: &P,
+    page: &str,
+    name: &str,
+) -> io::Result<()> {
+    let mut run = Run::new(rt.alloc(), &[], Calls::good(), Calls::good());
+    program.run(&["njehub", name, "--help"], &mut run)?;
+    say_options(rt, page, name, run.refusal.as_str())
 }
 
 /// Says how many options the help of a subcommand has, and which of them the page lacks.
@@ -33,14 +52,25 @@ fn say_options<R: Print + AllocGlobal>(
     for line in help.lines() {
         if let Some(option) = option_in(line) {
             options = options.saturating_add(1);
-            // A hyphen of the page is written with a backslash.
-            let written = format!(in rt.alloc(); "\\-\\-{option}")?;
-            if !page.contains(written.as_str()) {
-                println!(rt; "man page: no --{option} of {name}")?;
-            }
+            say_option(rt, page, name, option)?;
         }
     }
     println!(rt; "man page: {options} options of {name}")
+}
+
+/// Says of an option of a subcommand if the page lacks it.
+fn say_option<R: Print + AllocGlobal>(
+    rt: &R,
+    page: &str,
+    name: &str,
+    option: &str,
+) -> io::Result<()> {
+    // A hyphen of the page is written with a backslash.
+    let written = format!(in rt.alloc(); "\\-\\-{option}")?;
+    if page.contains(written.as_str()) {
+        return Ok(());
+    }
+    println!(rt; "man page: no --{option} of {name}")
 }
 
 /// The name of the long option that a line of help begins with, if it does.

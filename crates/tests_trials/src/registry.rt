@@ -23,11 +23,15 @@ pub struct Entry<'a> {
 
 /// The run of a line of the table, if the line is one.
 pub fn entry_of(line: &str) -> Option<Entry<'_>> {
-    let cells = line.strip_prefix("| ")?.strip_suffix(" |")?;
-    let (name, rest) = cells.split_once(" | ")?;
-    let (how, rest) = rest.split_once(" | ")?;
-    let (with, rest) = rest.split_once(" | ")?;
-    let (status, about) = rest.split_once(" | ")?;
+    entry_in(line.strip_prefix("| ")?.strip_suffix(" |")?)
+}
+
+/// The run of a row, if its fourth cell is a status.
+fn entry_in(row: &str) -> Option<Entry<'_>> {
+    let (name, rest) = first_cell(row);
+    let (how, rest) = first_cell(rest);
+    let (with, rest) = first_cell(rest);
+    let (status, about) = first_cell(rest);
     let status = status.parse::<u8>().ok()?;
     Some(Entry {
         name,
@@ -36,6 +40,14 @@ pub fn entry_of(line: &str) -> Option<Entry<'_>> {
         status,
         about,
     })
+}
+
+/// The first cell of a row, and the rest of it.
+fn first_cell(row: &str) -> (&str, &str) {
+    match row.split_once(" | ") {
+        Some(cells) => cells,
+        None => (row, ""),
+    }
 }
 
 impl<'a> Entry<'a> {
