@@ -13,4 +13,4 @@ pub use fault::FilesFault;
 pub use finding::Asked;
 pub use listing::print_files;
 pub use opening::SpoolFiles;
-pub use printing::print;
+pub use printing::{print, print_spool};

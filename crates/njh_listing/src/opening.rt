@@ -11,7 +11,7 @@ ghost use Rattle.njh_listing.specs.Faults.{IsOfSpool};
 
 use crate::fault::FilesFault;
 use njh_spoolfile::Store;
-use sqlite::{Alter, FileFrom, FileStore, Start, Unknown};
+use sqlite::{Alter, FileFrom, FileStore, Start};
 use std::fs::{File, OpenOptions, Permissions};
 use std::io::ErrorKind;
 use std::os::unix::fs::{OpenOptionsExt, PermissionsExt};
@@ -22,23 +22,27 @@ use std::{fs, io};
 /// users of the host.
 const MODE: u32 = 0o600;
 
-/// What opens spool files.
+/// What opens spool files. `start` is what a proof knows of the files before they are opened. No
+/// impl says of which type an open one is, so that a crate that only has what opens them doesn't
+/// prove how the parts of that type are dropped.
 pub trait SpoolFiles {
-    /// What a spool file that is only read is kept in.
-    type Kept: Alter + Drop;
-
-    /// What a proof knows of the files before they are opened.
-    type From: Start;
-
     /// Opens the spool file at the path, or makes it, and gives it and its log the mode 0600.
-    fn open_spool(&self, path: &str) -> Result<Store<FileStore<FileFrom<Self::From>>>, FilesFault>
+    fn open_spool<S: Start>(
+        &self,
+        path: &str,
+        start: S,
+    ) -> Result<Store<FileStore<FileFrom<S>>>, FilesFault>
         ensures found { IfOk result (λ store. HasCleanDisk (file_state store.conn) → (spool : SpoolContents)
-            → IsFoundIn (image_at Self.From.Start) spool
+            → IsFoundIn (image_at S.Start) spool
             → Stands (record { now = spool; kept = spool }) (file_state store.conn)) }
         ensures refused { IfErr result IsOfSpool };
 
     /// Opens the spool file at the path, which has to be there, and leaves its mode.
-    fn find_spool(&self, path: &str) -> Result<Store<Self::Kept>, FilesFault>
+    fn find_spool<S: Start>(
+        &self,
+        path: &str,
+        start: S,
+    ) -> Result<Store<FileStore<FileFrom<S>>>, FilesFault>
         ensures { IfErr result IsOfSpool };
 }
 
@@ -140,26 +144,30 @@ fn where_set<S: Alter + Drop>(
 }
 
 impl SpoolFiles for HostRuntime {
-    type Kept = FileStore<FileFrom<Unknown>>;
-
-    type From = Unknown;
-
-    fn open_spool(&self, path: &str) -> Result<Store<FileStore<FileFrom<Unknown>>>, FilesFault> {
+    fn open_spool<S: Start>(
+        &self,
+        path: &str,
+        start: S,
+    ) -> Result<Store<FileStore<FileFrom<S>>>, FilesFault> {
         match make_empty(self, path) {
             Ok(()) => {}
             Err(fault) => return Err(fault),
         }
-        match open_store(self, path, Unknown) {
+        match open_store(self, path, start) {
             Ok(store) => where_set(store, set_modes(self, path)),
             Err(fault) => Err(fault),
         }
     }
 
-    fn find_spool(&self, path: &str) -> Result<Store<FileStore<FileFrom<Unknown>>>, FilesFault> {
+    fn find_spool<S: Start>(
+        &self,
+        path: &str,
+        start: S,
+    ) -> Result<Store<FileStore<FileFrom<S>>>, FilesFault> {
         match File::open(self, path) {
             Ok(file) => drop(file),
             Err(_) => return Err(FilesFault::Device),
         }
-        open_store(self, path, Unknown)
+        open_store(self, path, start)
     }
 }

@@ -12,8 +12,9 @@ use crate::exporting::export_file;
 use crate::fault::FilesFault;
 use crate::finding::Asked;
 use crate::listing::print_files;
+use crate::opening::SpoolFiles;
 use njh_spoolfile::Store;
-use sqlite::Alter;
+use sqlite::{Alter, Start};
 use std::alloc::Global;
 use std::io::Write;
 
@@ -45,4 +46,48 @@ pub fn print<S: Alter, W: Write>(
         None => print_files(alloc, store, asked.customer, out),
         Some(name) => export_file(alloc, store, asked, name, out),
     }
+}
+
+/// Prints what is asked for of the spool file at a path, which has to be there (`print`).
+pub fn print_spool<F: SpoolFiles + AllocGlobal, S: Start, W: Write>(
+    rt: &F,
+    path: &str,
+    start: S,
+    asked: &Asked<'_>,
+    out: &mut W,
+) -> Result<(), FilesFault>
+    ensures done { OnOk result (IsPrinted (option_map (λ c. c.now) asked.now.customer) asked.now.file asked.now.raw
+        (W.contents out.old) (W.contents out.new)) }
+    ensures begun { OnErr result (Keeps (W.contents out.old) (W.contents out.new)
+        ⊎ IsPrintedInPart (option_map (λ c. c.now) asked.now.customer) asked.now.file asked.now.raw
+        (W.contents out.old) (W.contents out.new)) }
+    ensures silent { IfErr result (λ fault. Keeps (W.contents out.old) (W.contents out.new) ⊎ IsOfSpool fault) }
+{
+    print_opened(rt.alloc(), rt.find_spool(path, start), asked, out)
+}
+
+/// Prints what is asked for of a spool file that was opened, and drops it. It names no type of a
+/// store, since each call that does so is proved at the price of all that the type's calls
+/// promise.
+fn print_opened<S: Alter + Drop, W: Write>(
+    alloc: Global,
+    opened: Result<Store<S>, FilesFault>,
+    asked: &Asked<'_>,
+    out: &mut W,
+) -> Result<(), FilesFault>
+    requires { IfErr opened IsOfSpool }
+    ensures done { OnOk result (IsPrinted (option_map (λ c. c.now) asked.now.customer) asked.now.file asked.now.raw
+        (W.contents out.old) (W.contents out.new)) }
+    ensures begun { OnErr result (Keeps (W.contents out.old) (W.contents out.new)
+        ⊎ IsPrintedInPart (option_map (λ c. c.now) asked.now.customer) asked.now.file asked.now.raw
+        (W.contents out.old) (W.contents out.new)) }
+    ensures silent { IfErr result (λ fault. Keeps (W.contents out.old) (W.contents out.new) ⊎ IsOfSpool fault) }
+{
+    let mut store = match opened {
+        Ok(store) => store,
+        Err(fault) => return Err(fault),
+    };
+    let printed = print(alloc, &mut store, asked, out);
+    drop(store);
+    printed
 }

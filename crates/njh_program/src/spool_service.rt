@@ -13,6 +13,7 @@ use njh_service::Log;
 use njh_sockets::utc_seconds;
 use njh_spoolfile::{Origin, Store};
 use njh_subcommands::{Failure, tables_of};
+use sqlite::Start;
 use std::alloc::Global;
 use std::fmt;
 use std::io::Write;
@@ -22,17 +23,22 @@ use std::rt::{Clock, Files};
 /// Serves the lines of a table file, and keeps whole files in a spool file. If the table file can't
 /// be read, or its lines can't be served, the log says why. The table file's fault comes
 /// before that of the spool file.
-pub(crate) fn serve_spool_file<F: Files + SpoolFiles + Net + Clock + AllocGlobal, L: Write + Drop>(
+pub(crate) fn serve_spool_file<
+    F: Files + SpoolFiles + Net + Clock + AllocGlobal,
+    S: Start,
+    L: Write + Drop,
+>(
     rt: &F,
     path: &str,
     spool: &str,
+    start: S,
     options: Options,
     mut log: Log<L>,
 ) -> Result<(), Failure>
     ensures served { OnOk result (AreServedOf path.now options.turns (Some spool.now)) }
     ensures refused { IfErr result (λ failure. AreRefused (Some path.now) failure ⊎ IsFilesEnd failure) }
 {
-    match rt.open_spool(spool) {
+    match rt.open_spool(spool, start) {
         Ok(store) => serve_kept(rt, path, spool, options, log, store),
         Err(fault) => {
             let failure = first_failure(rt, path, fault);

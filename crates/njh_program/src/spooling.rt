@@ -9,15 +9,17 @@ ghost use Rattle.njh_subcommands.specs.TableBytes.{AreRefused};
 
 use crate::service::Options;
 use crate::spool_service::serve_spool_file;
-use njh_listing::{Asked, FilesFault, SpoolFiles, print};
+use njh_listing::{Asked, FilesFault, SpoolFiles, print_spool};
 use njh_service::Log;
 use njh_subcommands::Failure;
+use sqlite::Unknown;
 use std::io::Write;
 use std::net::Net;
 use std::rt::{Clock, Files};
 
 /// What serves over spool files and prints them: whatever opens them does. Which type an open one
-/// has is hidden here, since a bound that names it costs each function above.
+/// has is said here alone, and hidden from all above, since each function with a bound that names
+/// it, and each crate, is proved at a price.
 pub trait Spooling {
     /// Prints what is asked for of the spool file at a path, which has to be there.
     fn print_spool<W: Write>(
@@ -54,7 +56,7 @@ impl<F: SpoolFiles + Files + Net + Clock + AllocGlobal> Spooling for F {
         asked: &Asked<'_>,
         out: &mut W,
     ) -> Result<(), FilesFault> {
-        print_spool_file(self, spool, asked, out)
+        print_spool(self, spool, Unknown, asked, out)
     }
 
     fn serve_spool<L: Write + Drop>(
@@ -64,29 +66,6 @@ impl<F: SpoolFiles + Files + Net + Clock + AllocGlobal> Spooling for F {
         options: Options,
         log: Log<L>,
     ) -> Result<(), Failure> {
-        serve_spool_file(self, path, spool, options, log)
+        serve_spool_file(self, path, spool, Unknown, options, log)
     }
-}
-
-/// Prints what is asked for of the spool file at a path, which has to be there.
-fn print_spool_file<F: SpoolFiles + AllocGlobal, W: Write>(
-    rt: &F,
-    path: &str,
-    asked: &Asked<'_>,
-    out: &mut W,
-) -> Result<(), FilesFault>
-    ensures done { OnOk result (IsPrinted (option_map (λ c. c.now) asked.now.customer) asked.now.file asked.now.raw
-        (W.contents out.old) (W.contents out.new)) }
-    ensures begun { OnErr result (Keeps (W.contents out.old) (W.contents out.new)
-        ⊎ IsPrintedInPart (option_map (λ c. c.now) asked.now.customer) asked.now.file asked.now.raw
-        (W.contents out.old) (W.contents out.new)) }
-    ensures silent { IfErr result (λ fault. Keeps (W.contents out.old) (W.contents out.new) ⊎ IsOfSpool fault) }
-{
-    let mut store = match rt.find_spool(path) {
-        Ok(store) => store,
-        Err(fault) => return Err(fault),
-    };
-    let printed = print(rt.alloc(), &mut store, asked, out);
-    drop(store);
-    printed
 }

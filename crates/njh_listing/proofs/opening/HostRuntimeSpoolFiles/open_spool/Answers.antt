@@ -8,5 +8,5 @@ same_has : {T E : Type 0} (r : Result T E) (P : T → Type 0) (x : T) → P x �
 same_has r P x has same = IfOk-weaker r (λ y. y ≡ x) P (λ y e. subst P (sym e) has) same
 
 pub returns-in-Ok-open_store-clause-found : goal.returns-in-Ok-open_store-clause-found
-returns-in-Ok-open_store-clause-found c =
+returns-in-Ok-open_store-clause-found g c =
     same_has c.where_set.result _ _ c.in-Ok-open_store.ensures.found c.where_set.ensures.same
