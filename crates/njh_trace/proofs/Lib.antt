@@ -5,4 +5,3 @@ mod ReadingLaws
 mod SentLaws
 mod SourceLaws
 mod TracedSoFar
-mod Writing

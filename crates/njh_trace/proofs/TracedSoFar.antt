@@ -1,17 +1,16 @@
 -- How far a trace was read and told.
 use Rattle.std.proofs.Common.{◌≡◌, ℕ, Bool, List, [], ◌++◌, Option, sym, ap, ◌∙◌, append_assoc, append-nil}
-use Rattle.std.proofs.Common.{true, false, subst, Result, Ok, Err, OnOk, OnErr, None, Some, ◌<◌, ◌≤◌, length, take}
-use Rattle.std.specs.Prelude.{IfSome, MatchOption}
+use Rattle.std.proofs.Common.{true, false, subst, Result, Ok, Err, OnOk, OnErr}
+use Rattle.std.specs.Prelude.{IfSome}
 use Rattle.std.specs.List.{list_any}
-use Rattle.std.specs.Io.KnownBytes.{Appends, Consumes, IsAtEnd, Keeps, ReadConsumes}
-use Rattle.std.proofs.KnownBytes.{Appends-nil, Appends-trans, Consumes-nil, Consumes-trans, Consumes-kept}
-use Rattle.std.proofs.KnownBytes.{Consumes-whole}
+use Rattle.std.specs.Io.KnownBytes.{Appends, Consumes, IsAtEnd}
+use Rattle.std.proofs.KnownBytes.{Appends-trans, Consumes-trans, Consumes-whole}
 use Rattle.njh_io.specs.Written.{AppendsBeginning}
 use Rattle.njh_io.specs.Lines.{is_long_line, lines_from}
 use Rattle.njh_trace.specs.Trace.{has_long_line, trace_told}
 use Rattle.njh_trace.specs.code.Reading.{Progress, Takes, told_behind}
-use Rattle.njh_trace.proofs.ReadingLaws.{known_then, Takes-any_long, Takes-none, Takes-tells, Takes-then}
-use Rattle.njh_trace.proofs.Writing.{beginning-after}
+use Rattle.njh_trace.proofs.ReadingLaws.{known_then, Takes-any_long, Takes-tells, Takes-then}
+use Rattle.njh_io.proofs.Beginnings.{beginning-after}
 
 abbrev pub start : Progress
 start = record { sources = []; front = [] }
@@ -24,15 +23,6 @@ pub record IsTraced (hex : Bool) (first now old new : Option (List ℕ)) (at : P
   pub written : Appends old new told
   pub takes : Takes hex start seen told at
 
-pub IsTraced-none : (hex : Bool) (known held : Option (List ℕ)) → IsTraced hex known known held held start
-IsTraced-none hex known held = record {
-  seen = [];
-  told = [];
-  read = Consumes-nil known;
-  written = Appends-nil held;
-  takes = Takes-none hex start;
-}
-
 -- a piece more
 pub IsTraced-more : (hex : Bool) (first now later old then new : Option (List ℕ)) (a b : Progress) (piece told : List ℕ)
     → IsTraced hex first now old then a → Consumes now later piece → Appends then new told → Takes hex a piece told b
@@ -43,18 +33,6 @@ IsTraced-more hex first now later old then new a b piece told x read written tak
   read = Consumes-trans first now later x.seen piece x.read read;
   written = Appends-trans old then new x.told told x.written written;
   takes = Takes-then hex start a b x.seen piece x.told told x.takes takes;
-}
-
--- a read that gave nothing
-pub IsTraced-kept : (hex : Bool) (first now later old new : Option (List ℕ)) (at : Progress)
-    → IsTraced hex first now old new at
-    → Keeps now later → IsTraced hex first later old new at
-IsTraced-kept hex first now later old new at x kept = record {
-  seen = x.seen;
-  told = x.told;
-  read = Consumes-kept first now later x.seen x.read kept;
-  written = x.written;
-  takes = x.takes;
 }
 
 -- all was read, and then the last line was told
@@ -169,40 +147,3 @@ pub part-on_err : {T E : Type 0} (r : Result T E) (hex : Bool) (first now old th
 part-on_err (Ok x) hex first now old then new at traced end last = tt
 part-on_err (Err e) hex first now old then new at traced end last =
     IsTraced-last_part hex first now old then new at traced end last
-
-pub on_err_of : {T E : Type 0} (r : Result T E) (P : Type 0) → P → OnErr r P
-on_err_of (Ok x) P so = tt
-on_err_of (Err e) P so = so
-
--- a read that gave nothing came to the end
-pub at_end : (now later : Option (List ℕ)) (bytes : List ℕ) → Consumes now later bytes → bytes ≡ [] → IsAtEnd later
-    → IsAtEnd now
-at_end None later bytes read none end = tt
-at_end (Some xs) None bytes read none end = absurd read
-at_end (Some xs) (Some ys) bytes read none end = read ∙ ap (λ (zs : List ℕ). zs ++ ys) none ∙ end
-
-pub read_nothing : {E : Type 0} (r : Result ℕ E) (first now later : Option (List ℕ)) (n : ℕ) (buf : List ℕ)
-    → Consumes first now []
-    → ReadConsumes now later r buf → r ≡ Ok n → n ≡ 0 → 0 < length buf → IsAtEnd first
-read_nothing {E} r first now later n buf none read is zero room =
-    let P : Result ℕ E → Type 0 = λ x. ReadConsumes {E = E} now later x buf in
-    let taken : P (Ok n) = subst P is read in
-    at_end first later (take n buf) (Consumes-trans first now later [] (take n buf) none taken.0)
-    (ap (λ (k : ℕ). take k buf) zero) (taken.1 zero room)
-
--- what a read answered
-pub end_read : (read : Option ℕ) (now later : Option (List ℕ)) (piece : List ℕ)
-    → MatchOption read (IsAtEnd now) (λ count. (count ≤ length piece) × Consumes now later (take count piece))
-    → read ≡ None
-    → IsAtEnd now
-end_read None now later piece said is = said
-end_read (Some n) now later piece said is = absurd (cc is)
-
-pub piece_read : (read : Option ℕ) (n : ℕ) (now later : Option (List ℕ)) (piece front : List ℕ)
-    → MatchOption read (IsAtEnd now) (λ count. (count ≤ length piece) × Consumes now later (take count piece))
-    → read ≡ Some n
-    → front ≡ take n piece → Consumes now later front
-piece_read None n now later piece front said is at = absurd (cc is)
-piece_read (Some m) n now later piece front said is at =
-    let same : m ≡ n = cc is in
-    subst (Consumes now later) (ap (λ (k : ℕ). take k piece) same ∙ sym at) said.1

@@ -3,7 +3,7 @@
 ghost use Rattle.std.specs.Prelude.{◌≡◌};
 ghost use Rattle.njh_trace.specs.declared.fault.TraceFault.TheVariants.{Device, Memory};
 
-use njh_io::WriteFault;
+use njh_io::{PieceFault, WriteFault};
 use std::alloc::{AllocError, AllocFailed};
 use thiserror::Error;
 
@@ -41,6 +41,14 @@ impl From<WriteFault> for TraceFault {
     ghost from_gives = { λ _ fault. fault ≡ Device };
 
     fn from(_fault: WriteFault) -> TraceFault {
+        TraceFault::Device
+    }
+}
+
+impl From<PieceFault> for TraceFault {
+    ghost from_gives = { λ _ fault. fault ≡ Device };
+
+    fn from(_fault: PieceFault) -> TraceFault {
         TraceFault::Device
     }
 }

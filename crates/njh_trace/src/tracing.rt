@@ -1,8 +1,7 @@
 //! Tells a trace from wherever it comes to wherever it goes.
 
-ghost use Rattle.std.specs.Prelude.{◌≡◌, ◌≢◌, ◌<◌, ◌≤◌, ℕ, [], ◌++◌, List, length, take, true, false, OnOk, OnErr};
-ghost use Rattle.std.specs.Prelude.{IfErr, IfOk, IfSome, Err, MatchOption};
-ghost use Rattle.std.specs.Io.KnownBytes.{Appends, Consumes, IsAtEnd};
+ghost use Rattle.std.specs.Prelude.{◌≡◌, ◌≢◌, ℕ, [], ◌++◌, List, true, false, OnOk, OnErr, IfSome, Err};
+ghost use Rattle.std.specs.Io.KnownBytes.{Appends};
 ghost use Rattle.std.specs.List.{list_any};
 ghost use Rattle.njh_io.specs.Written.{AppendsBeginning};
 ghost use Rattle.njh_io.specs.Lines.{is_long_line, lines_from};
@@ -11,9 +10,9 @@ ghost use Rattle.njh_trace.specs.code.Reading.{told_behind, Takes};
 
 use crate::fault::TraceFault;
 use crate::reading::Reading;
-use njh_io::write_bytes;
+use njh_io::{read_piece, write_bytes};
 use std::alloc::Global;
-use std::io::{ErrorKind, Read, Write};
+use std::io::{Read, Write};
 
 /// How many bytes are asked for at once: 64 kB.
 const PIECE: usize = 65_536;
@@ -75,25 +74,6 @@ fn tell_all<R: Read, W: Write>(
                 let (front, _) = piece.split_at(count);
                 tell_piece(reading, front, hex, lines, out)?;
             }
-        }
-    }
-    Err(TraceFault::Device)
-}
-
-/// Reads a piece, and answers how many bytes it has; nothing at the end.
-fn read_piece<R: Read>(input: &mut R, piece: &mut [u8]) -> Result<Option<usize>, TraceFault>
-    requires { 0 < length piece.old }
-    ensures taken { IfOk result (λ read. MatchOption read (IsAtEnd (R.remaining input.old)) (λ count.
-        (count ≤ length piece.new)
-        × Consumes (R.remaining input.old) (R.remaining input.new) (take count piece.new))) }
-    ensures device { IfErr result (λ fault. fault ≡ TraceFault.Device) }
-{
-    for _ in 0..u64::MAX {
-        match input.read(piece) {
-            Ok(0) => return Ok(None),
-            Ok(count) => return Ok(Some(count)),
-            Err(error) if error.kind() == ErrorKind::Interrupted => {}
-            Err(_) => return Err(TraceFault::Device),
         }
     }
     Err(TraceFault::Device)

@@ -9,4 +9,4 @@ returns-in-Ok-eq0 g c =
     let end = read_nothing c.read.result (g.R.Read.remaining c.args.input.now) (g.R.Read.remaining c.loop.input)
     (g.R.Read.remaining c.read.new.self) c.in-Ok-eq0.field-0 c.read.new.buf c.loop.invariant c.read.ensures.bytes
     c.in-Ok-eq0.is zero room in
-    record { taken = end }
+    record { taken = end; some = tt }

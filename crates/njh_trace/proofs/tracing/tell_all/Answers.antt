@@ -1,5 +1,6 @@
 use Rattle.std.proofs.Common.{rules}
-use Rattle.njh_trace.proofs.TracedSoFar.{end_read, on_err_of, part-on_err, piece_read, whole-on_ok}
+use Rattle.njh_io.proofs.{Beginnings.on_err_of, PieceLaws.{end_read, piece_read}}
+use Rattle.njh_trace.proofs.TracedSoFar.{part-on_err, whole-on_ok}
 use Rattle.njh_trace.proofs.TracedSoFar.{IsTraced-begun, IsTraced-long, IsTraced-more, IsTraced-part}
 use Rattle.njh_trace.proofs.tracing.tell_all.Goals as goal
 

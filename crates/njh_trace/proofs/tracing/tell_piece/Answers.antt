@@ -1,4 +1,5 @@
-use Rattle.njh_trace.proofs.TracedSoFar.{on_err_of, written_part}
+use Rattle.njh_io.proofs.Beginnings.{on_err_of}
+use Rattle.njh_trace.proofs.TracedSoFar.{written_part}
 use Rattle.njh_trace.proofs.tracing.tell_piece.Goals as goal
 
 pub returns-in_err-write_bytes-clause-begun : goal.returns-in_err-write_bytes-clause-begun
