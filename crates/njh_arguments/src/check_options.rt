@@ -17,8 +17,8 @@ const CHECK_EXAMPLE: &str =
   K3 BadValue: customer 2 (BOLT), line 1 (b1), block: 100 isn't 300 to 4096
 Of a script it prints the number of its events, or the first bad line and why it is one, as
   line 3: no line b9
-With both it looks at the tables first: of a fault in them it prints that alone, and else of the script. A script
-without tables is checked by the built-in tables.
+With both it looks at the tables first: of a fault in them it prints that alone, and else of the
+script. A script without tables is checked by the built-in tables.
 
 Examples:
   njehub check --tables tables.toml

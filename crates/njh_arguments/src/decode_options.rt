@@ -34,7 +34,8 @@ pub(crate) fn decode_command<'a>(alloc: Global) -> Result<Command<'a>, AllocErro
     let hex = flag(
         alloc,
         "hex",
-        "Prints each line of bytes as it stands before its words, and the bytes of compressed records beside them",
+        "Prints each line of bytes as it stands before its words, and the bytes of compressed \
+         records beside them",
     );
     with_option(Ok(bare_decode(alloc)), hex)
 }

@@ -11,8 +11,8 @@ use std::alloc::Global;
 
 /// What the help of `encode` ends with.
 const ENCODE_EXAMPLE: &str =
-    "It reads lines in words and writes lines of a script, with the counts of the blocks kept for each line.
-Three lines in words:
+    "It reads lines in words and writes lines of a script, with the counts of the blocks kept
+for each line. Three lines in words:
   a1: contact
   a1: sign on as LYON block 1024
   a1: message to BUREAU from LYON ANNA: LIST

@@ -18,7 +18,8 @@ use std::net::IpAddr;
 
 /// What the help of `serve` ends with.
 const SERVE_EXAMPLE: &str =
-    "It looks at the table file once a second for routes that changed, and writes its log to standard error.
+    "It looks at the table file once a second for routes that changed, and writes its log to
+standard error.
 
 Example:
   njehub serve --tables tables.toml 2>> njehub.log";
