@@ -28,7 +28,7 @@ pub struct FrameRoom {
 
 impl FrameRoom {
     /// Room that nothing was printed in.
-    pub fn new() -> FrameRoom {
+    pub(crate) fn new() -> FrameRoom {
         FrameRoom { text: [0; LINE] }
     }
 }
