@@ -1,5 +1,5 @@
 -- What the statements' texts mean under the spool's schema.
-use Rattle.std.proofs.Common.{◌≡◌, ℕ, pos, negsuc, List, [], ◌∷◌, codes, false, None, refl, Ok}
+use Rattle.std.proofs.Common.{◌≡◌, ℕ, pos, negsuc, List, [], ◌∷◌, ◌++◌, codes, false, None, refl, Ok}
 use Rattle.sqlite.specs.declared.types.Value.TheVariants.{Null, Int}
 use Rattle.sqlite.specs.Term.{Term, lit, col}
 use Rattle.sqlite.specs.Query.{Query, inner, end}
@@ -131,7 +131,8 @@ by_rowid tree passes shown = record {
 }
 
 abbrev pub select_files : List ℕ
-select_files = codes "SELECT id, customer, key, kind, job, number, owner_node, owner_user, to_node, to_user, held, records, blocks, came FROM files ORDER BY id"
+select_files = codes "SELECT id, customer, key, kind, job, number, owner_node, owner_user, to_node, to_user, "
+    ++ codes "held, records, blocks, came FROM files ORDER BY id"
 
 abbrev pub file_names : List (List ℕ)
 file_names = codes "id" ∷ codes "customer" ∷ codes "key" ∷ codes "kind" ∷ codes "job" ∷ codes "number" ∷ codes
@@ -212,14 +213,19 @@ unfolding understood everything
 create_spool_is = record { command = refl; whole = refl; plain = (refl, refl); defined = refl }
 
 abbrev pub create_files : List ℕ
-create_files = codes "CREATE TABLE files (id INTEGER PRIMARY KEY, customer TEXT NOT NULL, key INTEGER NOT NULL, kind TEXT NOT NULL, job TEXT NOT NULL, number INTEGER NOT NULL, owner_node TEXT NOT NULL, owner_user TEXT NOT NULL, to_node TEXT NOT NULL, to_user TEXT NOT NULL, held INTEGER NOT NULL, records INTEGER NOT NULL, blocks INTEGER NOT NULL, came INTEGER NOT NULL) STRICT"
+create_files = codes "CREATE TABLE files (id INTEGER PRIMARY KEY, customer TEXT NOT NULL, key INTEGER NOT NULL, "
+    ++ codes "kind TEXT NOT NULL, job TEXT NOT NULL, number INTEGER NOT NULL, owner_node TEXT NOT NULL, "
+    ++ codes "owner_user TEXT NOT NULL, to_node TEXT NOT NULL, to_user TEXT NOT NULL, "
+    ++ codes "held INTEGER NOT NULL, records INTEGER NOT NULL, blocks INTEGER NOT NULL, "
+    ++ codes "came INTEGER NOT NULL) STRICT"
 
 pub create_files_is : IsCreation create_files one_table (record files_table { tree = 0 })
 unfolding understood everything
 create_files_is = record { command = refl; whole = refl; plain = (refl, refl); defined = refl }
 
 abbrev pub create_records : List ℕ
-create_records = codes "CREATE TABLE records (id INTEGER PRIMARY KEY, file INTEGER NOT NULL, place INTEGER NOT NULL, srcb INTEGER NOT NULL, bytes BLOB NOT NULL) STRICT"
+create_records = codes "CREATE TABLE records (id INTEGER PRIMARY KEY, file INTEGER NOT NULL, "
+    ++ codes "place INTEGER NOT NULL, srcb INTEGER NOT NULL, bytes BLOB NOT NULL) STRICT"
 
 pub create_records_is : IsCreation create_records two_tables (record records_table { tree = 0 })
 unfolding understood everything

@@ -32,8 +32,9 @@ fn create_files<S: Alter>(conn: &mut Connection<S>) -> Result<(), Error>
     let _ = conn.execute(
         "CREATE TABLE files (id INTEGER PRIMARY KEY, customer TEXT NOT NULL, key INTEGER NOT NULL, \
          kind TEXT NOT NULL, job TEXT NOT NULL, number INTEGER NOT NULL, owner_node TEXT NOT NULL, \
-         owner_user TEXT NOT NULL, to_node TEXT NOT NULL, to_user TEXT NOT NULL, held INTEGER NOT NULL, \
-         records INTEGER NOT NULL, blocks INTEGER NOT NULL, came INTEGER NOT NULL) STRICT",
+         owner_user TEXT NOT NULL, to_node TEXT NOT NULL, to_user TEXT NOT NULL, \
+         held INTEGER NOT NULL, records INTEGER NOT NULL, blocks INTEGER NOT NULL, \
+         came INTEGER NOT NULL) STRICT",
         &[],
     )?;
     Ok(())
@@ -46,8 +47,8 @@ fn create_records<S: Alter>(conn: &mut Connection<S>) -> Result<(), Error>
     ensures crash { Survives (state S.Store conn.old) (state S.Store conn.new) (λ _. ⊥) }
 {
     let _ = conn.execute(
-        "CREATE TABLE records (id INTEGER PRIMARY KEY, file INTEGER NOT NULL, place INTEGER NOT NULL, \
-         srcb INTEGER NOT NULL, bytes BLOB NOT NULL) STRICT",
+        "CREATE TABLE records (id INTEGER PRIMARY KEY, file INTEGER NOT NULL, \
+         place INTEGER NOT NULL, srcb INTEGER NOT NULL, bytes BLOB NOT NULL) STRICT",
         &[],
     )?;
     Ok(())

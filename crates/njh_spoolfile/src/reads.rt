@@ -119,8 +119,8 @@ fn rows_of_files<S: Alter>(conn: &mut Connection<S>) -> Result<Vec<Row>, Error>
     ensures crash { Survives (state S.Store conn.old) (state S.Store conn.new) (λ _. ⊥) }
 {
     conn.query_all(
-        "SELECT id, customer, key, kind, job, number, owner_node, owner_user, to_node, to_user, held, \
-         records, blocks, came FROM files ORDER BY id",
+        "SELECT id, customer, key, kind, job, number, owner_node, owner_user, to_node, to_user, \
+         held, records, blocks, came FROM files ORDER BY id",
         &[],
     )
 }
