@@ -18,7 +18,7 @@ pub struct StandardError<'a, E: Print> {
 
 impl<'a, E: Print> StandardError<'a, E> {
     /// Standard error, printed to by these means.
-    pub fn new(errors: &'a E) -> StandardError<'a, E> {
+    pub(crate) fn new(errors: &'a E) -> StandardError<'a, E> {
         StandardError { errors }
     }
 }

@@ -52,7 +52,7 @@ pub struct TableFileSource<'a, R: Files + AllocGlobal> {
 impl<'a, R: Files + AllocGlobal> TableFileSource<'a, R> {
     /// The file as it is now. It is to be made before the tables are first read, so that no change
     /// is missed.
-    pub fn new(rt: &'a R, path: &'a str) -> TableFileSource<'a, R> {
+    pub(crate) fn new(rt: &'a R, path: &'a str) -> TableFileSource<'a, R> {
         TableFileSource {
             rt,
             path,
