@@ -86,6 +86,13 @@ def command(to, node, user, words):
     return bytes([MESSAGE, 0x80]) + spelled(head + names + ebcdic(words))
 
 
+def message(to, user, node, text):
+    """The record of a message from a node to a user at another, as it stands in a block."""
+    said = ebcdic(text)
+    record = b"\x20\x77\x00" + bytes([len(said)]) + field(to) + b"\x00" + field(user) + field(node) + b"\x00" + said
+    return bytes([MESSAGE, 0x80]) + spelled(record)
+
+
 def file_of(number, origin, user, to, receiver, cards):
     """The records of a file for a receiver at another node: SRCB and bytes."""
     job = bytearray(100)

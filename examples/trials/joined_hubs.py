@@ -16,20 +16,13 @@ import random
 import sys
 import time
 
-from frames import MESSAGE, command, ebcdic, field, file_of, spelled
+from frames import command, ebcdic, file_of, message
 from hub import Hub, customer_of, free_ports, line_of, options_of, row
 from peers import FilePeer, Loop
 
 WIDTHS = (22, 9, 8, 6, 8, 4, 5, 6)
 
 CARDS = [ebcdic(f"{number:04} THE QUICK BROWN FOX JUMPS OVER THE LAZY DOG".ljust(80)) for number in range(40)]
-
-
-def message(to, user, node, text):
-    """The record of a message to a user."""
-    said = ebcdic(text)
-    record = b"\x20\x77\x00" + bytes([len(said)]) + field(to) + b"\x00" + field(user) + field(node) + b"\x00" + said
-    return bytes([MESSAGE, 0x80]) + spelled(record)
 
 
 class Person(FilePeer):
