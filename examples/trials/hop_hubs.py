@@ -68,8 +68,8 @@ class Row:
             ends = (FilePeer, first, "LYON"), (metz, first + self.lines - 1, "METZ")
             self.people.append([peer(loop, ports[line], node) for peer, line, node in ends])
         up = lambda: all(peer.is_up for pair in self.people for peer in pair) and self.are_joined()
-        if not loop.run(40, up):
-            raise TimeoutError("the lines don't come up")
+        if not loop.run(60, up):
+            raise TimeoutError(f"the lines don't come up: {[hub.log()[-2:] for hub in self.hubs]}")
 
     def are_joined(self):
         return all(hub.sessions() >= 2 * len(self.people) for hub in self.hubs)

@@ -86,7 +86,7 @@ def play(listeners, targets, pipe, seconds):
 def join(line, dialler, port, ends, poll):
     """Joins a connection that was made to the end that listens on a port."""
     try:
-        other = connected(port, timeout=5, patience=5)
+        other = connected(port, timeout=5, patience=20)
     except OSError:
         dialler.close()
         return
