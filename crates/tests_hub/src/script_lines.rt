@@ -1,7 +1,7 @@
 //! Lines of scripts, each a script of its own, and scripts of the greatest length.
 
 use crate::trial::tables_of;
-use njh_check::check_script;
+use njh_check::{CheckFault, check_script};
 use njh_replay::{ReplayFault, replay};
 use njh_table::Tables;
 use std::alloc::Global;
@@ -40,6 +40,11 @@ fn is_said(alloc: Global, tables: &Tables, line: &str, wanted: &str) -> io::Resu
         Ok(_) => Ok(out.strip_suffix(b"\n") == Some(wanted.as_bytes())),
         Err(_) => Err(io::Error::from(ErrorKind::OutOfMemory)),
     }
+}
+
+/// Says what is printed of a check that doesn't come to its end.
+pub fn say_faults<R: Print>(rt: &R) -> io::Result<()> {
+    println!(rt; "a check: {}, {}", CheckFault::Device, CheckFault::Memory)
 }
 
 /// How many bytes a script may have.
