@@ -1,5 +1,6 @@
 pub mod Endpoints
 pub mod Opened
+pub mod Prompting
 pub mod Revisions
 pub mod Serving
 pub mod code

@@ -25,8 +25,8 @@ impl<N: Network + Drop, L: Write + Drop, S: TableSource + Drop> Attendant<LineWi
         self.is_due(place)
     }
 
-    fn prompts(&self, _place: usize, _hub: &Hub) -> bool {
-        false
+    fn prompts(&self, place: usize, hub: &Hub) -> bool {
+        self.prompts(place, hub)
     }
 
     fn after(&mut self, hub: &Hub, wires: &mut [LineWire<N::Connection>]) {

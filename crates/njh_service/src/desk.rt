@@ -1,16 +1,19 @@
 //! What the attendant does with one line.
 
-ghost use Rattle.std.specs.Prelude.{◌≡◌, ◌≤◌};
+ghost use Rattle.std.specs.Prelude.{◌≡◌, ◌≤◌, IsTrue};
 ghost use Rattle.njh_hub.specs.Quiets.{quiet_on};
+ghost use Rattle.njh_hub.specs.Resting.{IsResting};
 ghost use Rattle.njh_hub.specs.Views.{HasGivenUp};
 ghost use Rattle.njh_hub.specs.WholeHub.{HasLine};
 
+use crate::customers::Customers;
 use crate::dial::Dial;
 use crate::entry::{Ending, Failure, LogEntry, LogEvent, Place};
 use crate::last_frame::LastFrame;
 use crate::log::Log;
 use crate::post::{Label, Post};
 use crate::site::Site;
+use crate::traffic::{Sight, Traffic};
 use njh_hub::{Hub, SessionView};
 use njh_line::Phase;
 use njh_table::{LineId, Role};
@@ -30,9 +33,6 @@ const PAUSE: u64 = 1_000;
 /// How often connections of a line are told at most.
 const TELL: u64 = 1_000;
 
-/// How many customers a hub has at most.
-pub(crate) const CUSTOMERS: usize = 64;
-
 /// What is shown of a line that the hub doesn't have.
 const NO_SESSION: SessionView = SessionView {
     phase: Phase::Down,
@@ -49,8 +49,7 @@ pub(crate) struct Desk<N: Network + Drop, L: Write + Drop> {
     pub(crate) network: N,
     pub(crate) log: Log<L>,
     pub(crate) now: u64,
-    /// Of each customer by its number: whether it was told that it is near its quota.
-    pub(crate) near: [bool; CUSTOMERS],
+    pub(crate) customers: Customers,
 }
 
 impl<N: Network + Drop, L: Write + Drop> Desk<N, L> {
@@ -88,8 +87,8 @@ impl<N: Network + Drop, L: Write + Drop> Desk<N, L> {
     }
 
     /// Ends the connection of a line whose session gave up, and tells what changed, if something
-    /// came or the line was quiet. Sets how long the line's next quiet lasts. Answers when the line
-    /// wants to be looked at.
+    /// came, or the line was quiet or prompted. Sets how long the line's next quiet lasts, and notes
+    /// how the line is. Answers when it wants to be looked at.
     pub(crate) fn apply_session(
         &mut self,
         post: &mut Post<N::Listener, N::Connection>,
@@ -103,12 +102,15 @@ impl<N: Network + Drop, L: Write + Drop> Desk<N, L> {
         ensures quiet { HasLine hub.now post.old.line → wire.new.quiet ≡ quiet_on post.old.line hub.now }
     {
         let begun = wire.begun();
-        if begun != post.seen || begun == self.now || (post.linked && !wire.is_connected()) {
+        if begun != post.traffic.seen.begun
+            || begun == self.now
+            || (post.linked && !wire.is_connected())
+        {
             self.look(post, hub, wire);
-            post.seen = begun;
             post.linked = wire.is_connected() || wire.is_ready();
         }
         set_quiet(post.line, hub, wire);
+        self.note(post.line, &mut post.traffic, sight_of(post.line, hub, wire));
         if wire.waits_to_send() {
             let again = self.now.saturating_add(AGAIN);
             return again.min(post.moment).min(wire.deadline());
@@ -116,7 +118,16 @@ impl<N: Network + Drop, L: Write + Drop> Desk<N, L> {
         if wire.is_ready() {
             return self.now;
         }
-        wire.deadline().min(post.moment)
+        let soon = post.traffic.soon(self.now);
+        wire.deadline().min(post.moment).min(soon)
+    }
+
+    /// Notes how a line is at the end of its turn, and of its customer whether a line may have
+    /// something to send by that.
+    fn note(&mut self, id: LineId, traffic: &mut Traffic, sight: Sight) {
+        if traffic.note(sight, self.now) {
+            self.customers.mark(id.customer);
+        }
     }
 
     /// Looks at a line on which something came.
@@ -363,6 +374,23 @@ fn session_of(hub: &Hub, id: LineId) -> SessionView {
     match hub.session(id) {
         Ok(session) => session,
         Err(_) => NO_SESSION,
+    }
+}
+
+/// How a line is at the end of its turn.
+fn sight_of<C: Connection + Drop>(id: LineId, hub: &Hub, wire: &LineWire<C>) -> Sight
+    ensures rests { IsTrue result.rests → IsResting hub.now id }
+    ensures begun { result.begun ≡ wire.now.begun }
+{
+    let session = session_of(hub, id);
+    let waits = wire.waits_to_send();
+    Sight {
+        is_up: session.phase == Phase::Up,
+        next_count: session.next_count,
+        last_bcb: session.last_bcb,
+        rests: hub.is_resting(id) && wire.is_connected() && !waits,
+        waits,
+        begun: wire.begun(),
     }
 }
 

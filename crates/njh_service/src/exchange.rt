@@ -1,13 +1,17 @@
 //! The attendant of a service.
 
-ghost use Rattle.std.specs.Prelude.{◌≡◌, ◌≤◌, ◌∷◌, ◌++◌, [], Some, slice_get, OnOk, OnErr};
+ghost use Rattle.std.specs.Prelude.{◌≡◌, ◌≤◌, ◌∷◌, ◌++◌, [], IsTrue, Some, slice_get, OnOk, OnErr};
 ghost use Rattle.njh_turns.specs.Service.{AreStill};
 ghost use Rattle.njh_table.specs.declared.LineId.{LineId};
 ghost use Rattle.njh_hub.specs.Quiets.{quiet_on};
+ghost use Rattle.njh_hub.specs.Resting.{HasNext};
 ghost use Rattle.njh_hub.specs.Views.{HasGivenUp};
 ghost use Rattle.njh_hub.specs.WholeHub.{HasLine};
 
-use crate::desk::{CUSTOMERS, Desk};
+mod waking;
+
+use crate::customers::Customers;
+use crate::desk::Desk;
 use crate::log::Log;
 use crate::post::{Label, LineNames, Post};
 use crate::revision::Revision;
@@ -89,7 +93,7 @@ impl<N: Network + Drop, L: Write + Drop, S: TableSource + Drop> Exchange<N, L, S
                 network,
                 log,
                 now: 0,
-                near: [false; CUSTOMERS],
+                customers: Customers::none(),
             },
             posts: Vec::new(alloc),
             ready: Vec::new(alloc),
@@ -111,6 +115,7 @@ impl<N: Network + Drop, L: Write + Drop, S: TableSource + Drop> Exchange<N, L, S
         ensures err { OnErr result (self.new ≡ self.old) }
     {
         let label = Label::of(names);
+        self.desk.customers.add(id.customer, self.posts.len());
         if self.posts.len() % GROUP == 0 {
             self.groups.push(AT_ONCE)?;
         }
@@ -218,8 +223,19 @@ impl<N: Network + Drop, L: Write + Drop, S: TableSource + Drop> Exchange<N, L, S
         }
     }
 
+    /// Whether the line at this place, if it rests, is prompted in this round.
+    pub(crate) fn prompts(&self, place: usize, hub: &Hub) -> bool
+        ensures next { (id : LineId) → slice_get self.now place ≡ Some id → HasNext hub.now id → IsTrue result }
+    {
+        let Some(post) = self.posts.get(place) else {
+            return true;
+        };
+        post.traffic.prompts(hub, post.line, self.desk.now)
+    }
+
     /// Of each line that was looked at, which are all that had a turn, lets out what waits, ends a
-    /// connection whose session gave up, and tells what changed.
+    /// connection whose session gave up, and tells what changed. Then has those lines looked at in
+    /// the next round to which others of their customers gave something to send.
     pub(crate) fn end_round(&mut self, hub: &Hub, wires: &mut [LineWire<N::Connection>])
         ensures still { AreStill (λ a b acts. a.place ≡ b.place) (λ wire. wire.failures) wires.old wires.new }
         ensures lines { self.new ≡ self.old }
@@ -230,6 +246,7 @@ impl<N: Network + Drop, L: Write + Drop, S: TableSource + Drop> Exchange<N, L, S
             next = next.min(moment);
         }
         self.next = next;
+        self.wake(hub);
     }
 
     /// Ends the round of a group's lines, if one was looked at. Answers when one wants to be

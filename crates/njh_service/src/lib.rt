@@ -4,6 +4,7 @@
 
 mod attending;
 mod customer_routes;
+mod customers;
 mod desk;
 mod dial;
 mod difference;
@@ -28,6 +29,7 @@ mod site;
 mod streams;
 mod table_source;
 mod telling;
+mod traffic;
 
 pub use customer_routes::routes_of;
 pub use difference::{CustomerKey, Difference, LineKey, difference_of};

@@ -5,6 +5,7 @@ ghost use Rattle.std.specs.Prelude.{◌≡◌};
 use crate::dial::Dial;
 use crate::site::Site;
 use crate::streams::Streams;
+use crate::traffic::Traffic;
 use arrayvec::ArrayString;
 use njh_ebcdic::Name;
 use njh_table::LineId;
@@ -70,8 +71,6 @@ impl Label {
 pub(crate) struct Post<Li: Drop, C: Drop> {
     /// When its site is to be looked at, on the service's clock; `u64::MAX` if nobody waits there.
     pub(crate) moment: u64,
-    /// When its wire's silence had begun as it was last looked at; `u64::MAX` before that.
-    pub(crate) seen: u64,
     /// Whether its wire had a connection, or an end to tell, when it was last looked at.
     pub(crate) linked: bool,
     pub(crate) line: LineId,
@@ -80,6 +79,8 @@ pub(crate) struct Post<Li: Drop, C: Drop> {
     pub(crate) label: Label,
     /// What its streams were about when it was last looked at.
     pub(crate) streams: Streams,
+    /// What was noted of it as it was last looked at.
+    pub(crate) traffic: Traffic,
 }
 
 impl<Li: Drop, C: Drop> Post<Li, C> {
@@ -89,7 +90,6 @@ impl<Li: Drop, C: Drop> Post<Li, C> {
     {
         Post {
             moment: 0,
-            seen: u64::MAX,
             linked: false,
             line: id,
             site: match site {
@@ -98,6 +98,7 @@ impl<Li: Drop, C: Drop> Post<Li, C> {
             },
             label,
             streams: Streams::idle(),
+            traffic: Traffic::none(),
         }
     }
 

@@ -25,8 +25,12 @@ impl<N: Network + Drop, L: Write + Drop, S: TableSource + Drop> Exchange<N, L, S
         }
     }
 
-    /// Tells what came of a customer's new routes.
+    /// Tells what came of a customer's new routes. By routes that it was given its lines may have
+    /// something to send.
     pub(crate) fn tell_routes(&mut self, customer: u16, answer: Result<(), HubFault>) {
+        if answer.is_ok() {
+            self.desk.customers.mark(customer);
+        }
         let Some(name) = self.revision.note_routes(customer, answer.is_ok()) else {
             return;
         };

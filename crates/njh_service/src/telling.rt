@@ -105,7 +105,7 @@ impl<N: Network + Drop, L: Write + Drop> Desk<N, L> {
         let (Ok(used), Ok(quota)) = (hub.used(customer), hub.quota(customer)) else {
             return;
         };
-        let Some(near) = self.near.get_mut(usize::from(customer)) else {
+        let Some(near) = self.customers.near.get_mut(usize::from(customer)) else {
             return;
         };
         let was = *near;

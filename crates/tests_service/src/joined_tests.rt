@@ -134,7 +134,11 @@ fn look<R: Abort>(rt: &R, joint: &Joint, number: usize, case: Case) {
         "hub {number}"
     );
     let (frames, texts) = joint.sent(number);
-    assert!(rt; frames > 1000, "hub {number} sent {frames} frames");
+    // One every two seconds, with the turn for a second each, and some more after each text.
+    assert!(rt;
+        1000 < frames && frames < 2500,
+        "hub {number} sent {frames} frames"
+    );
     if let Some(wanted) = case.texts {
         assert_eq!(rt;
             Some(&texts),

@@ -1,0 +1,59 @@
+//! Lines to which other lines of their customers gave something to send.
+
+ghost use Rattle.std.specs.Prelude.{◌≡◌};
+
+use super::{Exchange, GROUP};
+use crate::customers::{CUSTOMERS, Row};
+use crate::table_source::TableSource;
+use njh_hub::Hub;
+use njh_wire::Network;
+use std::io::Write;
+
+impl<N: Network + Drop, L: Write + Drop, S: TableSource + Drop> Exchange<N, L, S> {
+    /// Of each customer on whose lines something came, or that was given routes, has those lines
+    /// looked at in the next round that rest and have something to send.
+    pub(super) fn wake(&mut self, hub: &Hub)
+        ensures lines { self.new ≡ self.old }
+    {
+        for customer in 0..CUSTOMERS {
+            if let Some(row) = self.desk.customers.take(customer) {
+                self.wake_row(row, hub);
+            }
+        }
+    }
+
+    /// Has those lines of a customer looked at in the next round that rest and have something to
+    /// send.
+    fn wake_row(&mut self, row: Row, hub: &Hub)
+        ensures lines { self.new ≡ self.old }
+    {
+        for place in row.first..row.end {
+            if self.is_wanted(place, row.customer, hub) {
+                self.call(place);
+            }
+        }
+    }
+
+    /// Whether the line at this place is one of this customer's that rests and has something to
+    /// send.
+    fn is_wanted(&self, place: usize, customer: u16, hub: &Hub) -> bool {
+        match self.posts.get(place) {
+            Some(post) => post.line.customer == customer && post.traffic.wakes(hub, post.line),
+            None => false,
+        }
+    }
+
+    /// A line is looked at in the next round, which doesn't wait.
+    fn call(&mut self, place: usize)
+        ensures lines { self.new ≡ self.old }
+    {
+        let now = self.desk.now;
+        if let Some(watch) = self.watches.get_mut(place) {
+            watch.moment = now;
+        }
+        if let Some(watch) = self.groups.get_mut(place / GROUP) {
+            watch.moment = now;
+        }
+        self.next = now;
+    }
+}

@@ -1,0 +1,140 @@
+//! What was noted of a line, and when it is prompted because of that.
+
+ghost use Rattle.std.specs.Prelude.{◌≡◌, ◌-◌, ◌<◌, ◌^◌, ◌↔◌, IsTrue};
+ghost use Rattle.njh_hub.specs.Resting.{HasNext};
+ghost use Rattle.njh_service.specs.Prompting.{IsPrompted, has_text, is_recent, is_same_bcb, is_soon, moves_others};
+ghost use Rattle.njh_service.specs.Prompting.{noted, soon};
+
+use njh_hub::Hub;
+use njh_table::LineId;
+
+/// For how long after a text its line is prompted soon, in milliseconds.
+const BUSY: u64 = 2_000;
+
+/// After how long a silence that is, in milliseconds.
+const PAUSE: u64 = 20;
+
+/// How a line was at the end of its turn.
+#[derive(Clone, Copy, Drop)]
+pub(crate) struct Sight {
+    /// Whether its session was up.
+    pub(crate) is_up: bool,
+    /// The count of the hub's next block, modulo 16.
+    pub(crate) next_count: u8,
+    /// The BCB of the last block of the peer's that was acted on.
+    pub(crate) last_bcb: Option<u8>,
+    /// Whether it rested, and its wire was free to send.
+    pub(crate) rests: bool,
+    /// Whether bytes waited to go out on its wire.
+    pub(crate) waits: bool,
+    /// Since when its wire was silent, on the service's clock; `u64::MAX` before its first turn.
+    pub(crate) begun: u64,
+}
+
+/// What was noted of a line.
+#[derive(Clone, Copy, Drop)]
+pub(crate) struct Traffic {
+    /// How it was at the end of the last turn in which it was visited.
+    pub(crate) seen: Sight,
+    /// When a text was last taken or sent on it, on the service's clock; none if none was.
+    pub(crate) text: Option<u64>,
+}
+
+impl Traffic {
+    /// That of a line that has had no turn.
+    pub(crate) fn none() -> Traffic {
+        Traffic {
+            seen: Sight {
+                is_up: false,
+                next_count: 0,
+                last_bcb: None,
+                rests: false,
+                waits: false,
+                begun: u64::MAX,
+            },
+            text: None,
+        }
+    }
+
+    /// Notes how a line is at the end of its turn. Answers whether something came of the turn that
+    /// may give a line of its customer something to send.
+    pub(crate) fn note(&mut self, now: Sight, moment: u64) -> bool
+        ensures noted { self.new ≡ noted self.old now moment }
+        ensures moves { result ≡ moves_others self.old.seen now }
+    {
+        let was = self.seen;
+        let has_text = has_text(was, now);
+        if has_text {
+            self.text = Some(moment);
+        }
+        self.seen = now;
+        has_text || was.is_up != now.is_up || (was.waits && !now.waits)
+    }
+
+    /// Whether the line, if it rests, is prompted: another line of its customer gave it something
+    /// to send, or texts were on it of late and its wire is silent for a while. Nothing of another
+    /// customer is in it.
+    pub(crate) fn prompts(&self, hub: &Hub, id: LineId, now: u64) -> bool
+        ensures { IsTrue result ↔ IsPrompted self.now hub.now id now }
+    {
+        self.is_soon(now) || hub.has_next(id)
+    }
+
+    /// Whether the line is to be visited at once: it rests, its wire is free to send, and it has
+    /// something to send.
+    pub(crate) fn wakes(&self, hub: &Hub, id: LineId) -> bool
+        ensures { IsTrue result ↔ (IsTrue self.now.seen.rests × HasNext hub.now id) }
+    {
+        self.seen.rests && hub.has_next(id)
+    }
+
+    /// When the line wants to be visited because texts were on it of late; `u64::MAX` if it
+    /// doesn't. It is then prompted, if nothing comes before.
+    pub(crate) fn soon(&self, now: u64) -> u64
+        ensures soon { result ≡ soon self.now now }
+        ensures later { now < 2 ^ 64 - 1 → now < result }
+    {
+        let moment = self.seen.begun.saturating_add(PAUSE);
+        if self.seen.rests && now < moment && self.is_recent(moment) {
+            moment
+        } else {
+            u64::MAX
+        }
+    }
+
+    /// Whether texts were on the line of late, and its wire is silent for a while.
+    fn is_soon(&self, now: u64) -> bool
+        ensures { result ≡ is_soon self.now now }
+    {
+        self.is_recent(now) && now.saturating_sub(self.seen.begun) >= PAUSE
+    }
+
+    /// Whether a text was taken or sent of late.
+    fn is_recent(&self, now: u64) -> bool
+        ensures { result ≡ is_recent self.now.text now }
+    {
+        match self.text {
+            Some(moment) => now.saturating_sub(moment) < BUSY,
+            None => false,
+        }
+    }
+}
+
+/// Whether a text was taken or sent between two sights of a line.
+fn has_text(was: Sight, now: Sight) -> bool
+    ensures { result ≡ has_text was now }
+{
+    now.next_count != was.next_count || !is_same_bcb(was.last_bcb, now.last_bcb)
+}
+
+/// Whether no further block was acted on.
+fn is_same_bcb(last: Option<u8>, bcb: Option<u8>) -> bool
+    ensures { result ≡ is_same_bcb last bcb }
+{
+    match (last, bcb) {
+        (None, None) => true,
+        (None, Some(_)) => false,
+        (Some(_), None) => false,
+        (Some(last), Some(bcb)) => last == bcb,
+    }
+}
