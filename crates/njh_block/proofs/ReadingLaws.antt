@@ -1,6 +1,6 @@
 -- The items of some bytes, a record at a time.
 use Rattle.std.proofs.Common.{◌≡◌, ℕ, zero, suc, ◌<◌, ◌≤◌, Bool, true, false, cond, eqb, List, [], ◌∷◌, length, Option}
-use Rattle.std.proofs.Common.{Some, None, Result, Ok, Err, refl, sym, ◌∙◌, ap, arith}
+use Rattle.std.proofs.Common.{Some, None, Result, Ok, Err, refl, ◌∙◌, ap, arith}
 use Rattle.std.proofs.lemmas.Bool.{false≢true}
 use Rattle.std.specs.Result.{result_unwrap_or, IsOk}
 use Rattle.njh_record.specs.Unspelled.{Unspelled, record_at_front, Fault}
@@ -121,16 +121,3 @@ pub takes_first : (bytes rest : List ℕ) (i : Item) → first_record bytes ≡ 
 takes_first bytes rest i is ok =
     took i (items_in rest) (items_in bytes)
     (items_in_step bytes ∙ ap (λ (f : Result (Option First) BlockFault). items_from f items_in) is) ok
-
-pub first_leaves_less : (bytes rest : List ℕ) (i : Item)
-    → first_record bytes ≡ Ok (Some (record { item = i; rest = rest }))
-    → length rest < length bytes
-first_leaves_less bytes rest i is = rw is at (first_record-shorter bytes)
-
-pub fault_in-first : (bytes rest : List ℕ) (i : Item)
-    → first_record bytes ≡ Ok (Some (record { item = i; rest = rest }))
-    → fault_in (items_in rest) ≡ fault_in (items_in bytes)
-fault_in-first bytes rest i is =
-    sym (ap fault_in (items_in_step bytes)
-    ∙ (ap (λ (f : Result (Option First) BlockFault). fault_in (items_from f items_in)) is
-    ∙ fault_in-with_item i (items_in rest)))

@@ -2,14 +2,11 @@
 use Rattle.std.proofs.Common.{◌≡◌, ◌<◌, ℕ, zero, suc, Bool, true, false, cond, ◌==◌, List, [], ◌∷◌, ◌++◌}
 use Rattle.std.proofs.Common.{length, take, drop, Option, Some, None, refl, sym, ap, ◌∙◌, arith}
 use Rattle.std.proofs.lemmas.Bool.{eqb-true}
-use Rattle.std.specs.Option.{option_map}
-use Rattle.std.specs.Result.{result_ok}
 use Rattle.njh_record.specs.Stored.{Stored}
 use Rattle.njh_record.specs.declared.Kind.{Kind}
 use Rattle.njh_record.specs.declared.Kind.TheVariants.{In, Out}
-use Rattle.njh_header.specs.Headers.{data_set_header}
 use Rattle.njh_header.specs.Redirecting.{destination_place, records_to_node, redirected_record}
-use Rattle.njh_command.specs.code.Looking.{looked_at, may_name}
+use Rattle.njh_command.specs.code.Looking.{looked_at}
 use Rattle.njh_command.proofs.UpTo.{redirected_up_to}
 
 first_alone : (n : ℕ) → looked_at In (suc n) ≡ 1
@@ -46,11 +43,3 @@ all_looked_at In node (r ∷ rs) =
     ap (λ k. redirected_up_to In node k (r ∷ rs)) (first_alone (length rs))
     ∙ ap (λ rest. redirected_record node (destination_place In None r) r ∷ rest) (sym (jobs_stay node r.srcb rs))
 all_looked_at Out node records = all_from Out None node records
-
--- a record that isn't read names none
-pub names_none : (kind : Kind) (before : Option ℕ) (r : Stored) → may_name kind before r.srcb ≡ false
-    → destination_place kind before r ≡ None
-names_none In None r e = absurd (cc e)
-names_none In (Some before) r e = refl
-names_none Out before r e =
-    ap (λ b. cond b (option_map (λ h. h.place) (result_ok (data_set_header r.bytes))) None) e

@@ -174,9 +174,6 @@ word_in_front (b ∷ bytes) some =
     by_place zero differs = absurd (differs refl)
     by_place (suc n) differs = refl
 
-pub no_words : (bytes : List ℕ) → bytes ≡ [] → words bytes ≡ []
-no_words bytes e = ap words e
-
 -- ---- names
 
 -- a part more than two

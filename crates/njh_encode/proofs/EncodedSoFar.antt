@@ -137,14 +137,6 @@ none_written known at held text =
     let rest = rest_becomes known at text in
     (rest.0, rest.1, beginning-none held rest.0.script)
 
--- what a piece's lines become was appended to nothing, and then written
-pub written_whole : (known : Option Texts) (old new : Option (List ℕ)) (a b : Progress)
-    (piece before after written : List ℕ)
-    → before ≡ [] → written ≡ after → ((lines : List ℕ) × (after ≡ before ++ lines) × Takes known a piece lines b)
-    → Appends old new written → (lines : List ℕ) × Appends old new lines × Takes known a piece lines b
-written_whole known old new a b piece before after written empty same t wrote =
-    (t.0, subst (Appends old new) (same ∙ t.1 ∙ ap (λ (xs : List ℕ). xs ++ t.0) empty) wrote, t.2)
-
 -- or was written in part
 pub written_part : (known : Option Texts) (old new : Option (List ℕ)) (a b : Progress)
     (piece before after written : List ℕ)

@@ -57,10 +57,6 @@ pub text-as : (known : Option Texts) (at : Progress) (a b : List ℕ) (e : Encod
 text-as known at a b e same becomes = let P : List ℕ → Type 0 =
     λ text. BecomesBehind known at text e in subst P same becomes
 
--- nothing was read
-pub Takes-none : (known : Option Texts) (at : Progress) → Takes known at [] [] at
-Takes-none known at = λ more e b. b
-
 -- a piece, and then the next
 pub Takes-then : (known : Option Texts) (a b c : Progress) (piece next lines others : List ℕ)
     → Takes known a piece lines b

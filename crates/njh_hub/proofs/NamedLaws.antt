@@ -1,12 +1,10 @@
 -- What the events of a run name, and why one of them is refused.
-use Rattle.std.proofs.Common.{◌≡◌, ℕ, ◌+◌, ◌<◌, ◌≤◌, List, [], ◌∷◌, ◌++◌, length, take, set, get_or, Option, None, Some}
+use Rattle.std.proofs.Common.{◌≡◌, ℕ, ◌+◌, ◌<◌, List, [], ◌∷◌, ◌++◌, length, take, set, get_or, Option, None, Some}
 use Rattle.std.proofs.Common.{refl, ap, sym, subst, ◌∙◌, ⊎_elim, arith, inl, inr, ◌⊎◌}
 use Rattle.std.proofs.lemmas.List.{length-set, take_more}
 use Rattle.std.proofs.lemmas.Option.{slice_get-get_or}
 use Rattle.std.proofs.lemmas.List.Elements.{All-push, All-same}
 use Rattle.std.specs.Prelude.{All, IsSome, IsSomeAnd, slice_get}
-use Rattle.std.proofs.lemmas.Bool.{cases_lt}
-use Rattle.njh_table.specs.declared.LineId.{LineId}
 use Rattle.njh_table.specs.NewRoutes.{NewRoute, new_routes_of, routes_checked}
 use Rattle.njh_hub.specs.declared.event.Event.{Event}
 use Rattle.njh_hub.specs.declared.event.Event.TheVariants.{Bytes, Tick, Garbled, Lost, Routes}
@@ -18,7 +16,7 @@ use Rattle.njh_hub.specs.declared.fault.Cause.TheVariants.{Hub, Sink}
 use Rattle.njh_hub.specs.declared.fault.HubFault.{HubFault}
 use Rattle.njh_hub.specs.declared.fault.HubFault.TheVariants.{UnknownLine, UnknownCustomer, Memory, BadRoutes}
 use Rattle.njh_hub.specs.RunStops.{IfHub, IsRefused, IsRoutes}
-use Rattle.njh_hub.specs.WholeHub.{Part, part, HasLine, IsNamed, SameLines, hub_run}
+use Rattle.njh_hub.specs.WholeHub.{Part, part, IsNamed, SameLines, hub_run}
 use Rattle.njh_hub.proofs.RunLaws.{each_is_alone}
 
 -- a hub keeps its customers over a run
@@ -79,23 +77,6 @@ refused-before start now on event (BadRoutes cause) refused = IsSomeAnd-weaker _
     (λ given bad. let there : given.0 < length start = omega (arith, bad.0, on.many) in
     (there, sym (on.checked given.0 there (new_routes_of given.0 given.1)) ∙ bad.1)) (routes_of event) refused
 refused-before start now on event Memory refused = named-before start now on event refused
-
--- why a step on a line is refused
-pub step-refused : (parts : List Part) (event : Event) (id : LineId) → line_of_event event ≡ Some id →
-    (HasLine parts id → IsNamed parts event) → (why : HubFault) → ((HasLine parts id → ⊥) → why ≡ UnknownLine) →
-    (HasLine parts id → why ≡ Memory) → IsRefused parts event why
-step-refused parts event id on named UnknownLine unknown memory =
-    let never : HasLine parts id → ⊥ = λ known. cc (memory known) in
-    subst (λ (o : Option LineId). IsSomeAnd o (λ l. HasLine parts l → ⊥)) (sym on) never
-step-refused parts event id on named UnknownCustomer unknown memory =
-    let never : HasLine parts id → ⊥ = λ known. cc (memory known) in cc (unknown never)
-step-refused parts event id on named (BadRoutes cause) unknown memory =
-    let never : HasLine parts id → ⊥ = λ known. cc (memory known) in cc (unknown never)
-step-refused parts event id on named Memory unknown memory =
-    ⊎_elim named (λ (w : length (part id.customer parts).customer.lines ≤ id.number). absurd
-    (let never : HasLine parts id →
-    ⊥ = λ known. omega arith in cc (unknown never)))
-    (cases_lt id.number (length (part id.customer parts).customer.lines))
 
 -- an event comes on a line or gives routes
 pub either_event : (event : Event) → IsSome (line_of_event event) ⊎ IsRoutes event

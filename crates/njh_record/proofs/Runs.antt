@@ -1,5 +1,5 @@
 -- Runs at the front of bytes, and the bytes before them.
-use Rattle.std.proofs.Common.{◌≡◌, ◌≢◌, ℕ, zero, suc, ◌+◌, ◌<◌, ◌≤◌, min, Bool, true, false, eqb, leb, List, [], ◌∷◌}
+use Rattle.std.proofs.Common.{◌≡◌, ◌≢◌, ℕ, zero, suc, ◌+◌, ◌<◌, ◌≤◌, min, true, false, eqb, leb, List, [], ◌∷◌}
 use Rattle.std.proofs.Common.{◌++◌, length, take, drop, replicate, get_or, refl, sym, ◌∙◌, ap, append_assoc, one-add}
 use Rattle.std.proofs.Common.{add-one, arith, ◌⊎◌, inl, inr, length-take}
 use Rattle.std.proofs.lemmas.Bool.{cases_lt, cases_Bool, cond_both, cond-true, cond-false, eqb-true, leb-true}
@@ -142,12 +142,6 @@ NoRunBefore-apart bytes (suc n) within apart =
     apart n (omega arith) (sym here ∙ (same ∙ get_or-drop n bytes 1 0)) in
     rw (← add-one n) (NoRunBefore-more bytes n (omega arith) (begins_run-apart (drop n bytes) at)
     (NoRunBefore-apart bytes n (omega arith) (λ k below. apart k (omega arith))))
-
--- a test of a run, as the code makes it
-pub begins_run-tested : (rest tail : List ℕ) (count : ℕ) (answer value : Bool) → tail ≡ rest → count ≡ run_of tail
-    → answer ≡ is_run (first_byte_of tail) count → answer ≡ value → begins_run rest ≡ value
-begins_run-tested rest tail count answer value same counted tests is =
-    ap begins_run (sym same) ∙ (ap (is_run (first_byte_of tail)) (sym counted) ∙ (sym tests ∙ is))
 
 -- some bytes are at the front, and after them a run or nothing
 pub record StandsBefore (bytes before : List ℕ) : Type 0 where

@@ -41,15 +41,6 @@ flat_map-split f (y ∷ xs) (suc i) none within =
     append_assoc (f y) (flat_map f (take i xs)) (f (get_or xs i none) ++ flat_map f (drop (suc i) xs))
     ∙ ap (λ text. f y ++ text) (flat_map-split f xs i none (omega (arith, within)))
 
--- the items before one, and that one
-pub flat_map-more : {X : Type 0} (f : X → List ℕ) (xs : List X) (i : ℕ) (none : X) → i < length xs
-    → flat_map f (take i xs) ++ f (get_or xs i none) ≡ flat_map f (take (suc i) xs)
-flat_map-more f [] i none within = absurd (omega (arith, within))
-flat_map-more f (y ∷ xs) zero none within = sym (append-nil (f y))
-flat_map-more f (y ∷ xs) (suc i) none within =
-    append_assoc (f y) (flat_map f (take i xs)) (f (get_or xs i none))
-    ∙ ap (λ text. f y ++ text) (flat_map-more f xs i none (omega (arith, within)))
-
 -- a file's line, by what is shown of it without its records
 abbrev pub line_text : List ℕ → WholeFile → List ℕ
 line_text name f = summary_text name (file_summary f)

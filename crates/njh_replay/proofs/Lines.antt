@@ -28,9 +28,6 @@ pub record Reads (tables : TableFile) (lines : List (List ℕ)) (n : ℕ) (event
   pub tell : events ≡ script_events tables (take n lines)
   pub good : (k : ℕ) (d : List ℕ) → k < n → can_stand tables (get_or lines k d) ≡ true
 
-pub Reads-none : (tables : TableFile) (lines : List (List ℕ)) → Reads tables lines 0 []
-Reads-none tables lines = record { tell = refl; good = λ k d below. absurd (omega arith) }
-
 -- one line more
 pub Reads-more : (tables : TableFile) (lines : List (List ℕ)) (n : ℕ) (events more : List Event) (line : List ℕ)
     → Reads tables lines n events → n < length lines → line ≡ get_or lines n line

@@ -1,8 +1,8 @@
 -- Texts and beginnings of texts, one after another.
 use Rattle.std.proofs.Common.{◌≡◌, Result, Ok, Err, OnErr, ℕ, List, [], ◌∷◌, ◌++◌, Option, refl, sym, ap, ◌∙◌}
 use Rattle.std.proofs.Common.{append_assoc, append-nil}
-use Rattle.std.specs.Io.KnownBytes.{Appends, Keeps}
-use Rattle.std.proofs.KnownBytes.{Appends-kept, Appends-nil, Appends-trans}
+use Rattle.std.specs.Io.KnownBytes.{Appends}
+use Rattle.std.proofs.KnownBytes.{Appends-nil, Appends-trans}
 use Rattle.njh_table.specs.declared.LineId.{LineId}
 use Rattle.hex.specs.Hex.{encode_lower}
 use Rattle.njh_io.specs.Written.{AppendsBeginning}
@@ -16,10 +16,6 @@ beginning-none known whole = ([], whole, refl, Appends-nil known)
 pub beginning-all : (old new : Option (List ℕ)) (whole : List ℕ) → Appends old new whole
     → AppendsBeginning old new whole
 beginning-all old new whole written = (whole, [], append-nil whole, written)
-
-pub beginning-kept : (a b c : Option (List ℕ)) (whole : List ℕ) → AppendsBeginning a b whole → Keeps b c
-    → AppendsBeginning a c whole
-beginning-kept a b c whole begun kept = (begun.0, begun.1, begun.2, Appends-kept a b c begun.0 begun.3 kept)
 
 -- a text, and then a beginning of the next
 pub beginning-after : (a b c : Option (List ℕ)) (front text more whole : List ℕ) → Appends a b front

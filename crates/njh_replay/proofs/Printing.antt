@@ -1,8 +1,8 @@
 -- Bytes and hex in pieces.
 use Rattle.std.proofs.Common.{◌≡◌, ℕ, ◌/◌, ◌%◌, List, [], ◌∷◌, ◌++◌, slice_index, Option, refl, sym, ap, ◌∙◌}
 use Rattle.std.proofs.Common.{append_assoc, append-nil}
-use Rattle.std.specs.Io.KnownBytes.{Appends, Keeps}
-use Rattle.std.proofs.KnownBytes.{Appends-nil, Appends-trans, Appends-kept}
+use Rattle.std.specs.Io.KnownBytes.{Appends}
+use Rattle.std.proofs.KnownBytes.{Appends-trans}
 use Rattle.njh_io.specs.Written.{AppendsBeginning}
 use Rattle.njh_replay.proofs.PrintedParts.{beginning-after}
 use Rattle.hex.specs.Hex.{encode_with, encode_lower, lower_digits}
@@ -26,9 +26,6 @@ encode_lower-nil = refl
 abbrev pub IsWrittenBut : (rest bytes : List ℕ) (first last : Option (List ℕ)) → Type 0
 IsWrittenBut rest bytes first last = (text : List ℕ) × Appends first last text
     × (text ++ encode_lower rest ≡ encode_lower bytes)
-
-pub IsWrittenBut-all : (bytes : List ℕ) (known : Option (List ℕ)) → IsWrittenBut bytes bytes known known
-IsWrittenBut-all bytes known = ([], Appends-nil known, refl)
 
 pub IsWrittenBut-more : (bytes rest piece after digits : List ℕ) (first then last : Option (List ℕ))
     → IsWrittenBut rest bytes first then → rest ≡ piece ++ after → digits ≡ encode_lower piece

@@ -142,10 +142,6 @@ from_first entry id spools range = record { range = range; passed = none_passed 
       none = none_of_none (may_go goes Out) (spool_at id.customer spools).whole;
     }
 
-pub index_is : (kind : Kind) (index others : ℕ) (x : FileCursor) → index_of kind (cursor_at kind index others x) ≡ index
-index_is In index others x = refl
-index_is Out index others x = refl
-
 pub known_is : (kind : Kind) (index others : ℕ) (x : FileCursor) (f : FileSummary)
     → is_known_to_go (cursor_at kind index others x) kind f ≡ is_known_to_go x kind f
 known_is In index others x f = refl

@@ -9,15 +9,6 @@ pub map_more : {X Y : Type 0} (f : X → Y) (xs : List X) (n : ℕ) (d : X) → 
     → map f (take (n + 1) xs) ≡ map f (take n xs) ++ f (get_or xs n d) ∷ []
 map_more f xs n d within = ap (map f) (take_more xs n d within) ∙ map-append f (take n xs) (get_or xs n d ∷ [])
 
-pub alike_more : {X Y : Type 0} (f : X → Y) (xs ys : List X) (n : ℕ) (d e : X) → n < length xs → n < length ys
-    → f (get_or ys n e) ≡ f (get_or xs n d) → map f (take n ys) ≡ map f (take n xs)
-    → map f (take (n + 1) ys) ≡ map f (take (n + 1) xs)
-alike_more {X} {Y} f xs ys n d e in_xs in_ys alike before =
-    map_more f ys n e in_ys
-    ∙ (ap (λ (front : List Y). front ++ f (get_or ys n e) ∷ []) before
-    ∙ (ap (λ (last : Y). map f (take n xs) ++ last ∷ []) alike
-    ∙ sym (map_more f xs n d in_xs)))
-
 -- the item that is read
 pub take_one : {X : Type 0} (xs : List X) (n : ℕ) (x : X) → slice_get xs n ≡ Some x
     → take (n + 1) xs ≡ take n xs ++ x ∷ []

@@ -22,11 +22,6 @@ row_of-more written room fits =
     ∙ ap (λ (n : ℕ). written ++ (free_slot ∷ replicate n free_slot)) left
     ∙ ap (λ (n : ℕ). written ++ replicate n free_slot) one
 
-get_or-free : (n i : ℕ) → get_or (replicate n free_slot) i free_slot ≡ free_slot
-get_or-free zero i = refl
-get_or-free (suc n) zero = refl
-get_or-free (suc n) (suc i) = get_or-free n i
-
 pub row_of-set : (written : List FileSlot) (room n : ℕ) (slot : FileSlot) → n < length written
     → row_of (set written n slot) room ≡ set
     (row_of written room) n slot

@@ -21,8 +21,7 @@ use Rattle.sqlite_typed.proofs.AnswerLemmas.{answer_by_keys, last_table, at_end,
 use Rattle.njh_spoolfile.specs.Kept.{SpoolContents, Record, IsNumbered, Holds, file_row, file_shown, record_row}
 use Rattle.njh_spoolfile.specs.Kept.{record_shown, record_number, records_between}
 use Rattle.njh_spoolfile.specs.Tables.{spool_schema}
-use Rattle.sqlite.specs.Effect.{Database}
-use Rattle.njh_spoolfile.specs.Steps.{Begins, Changes, Stays}
+use Rattle.njh_spoolfile.specs.Steps.{Changes, Stays}
 use Rattle.njh_spoolfile.proofs.Meaning.{by_rowid, select_version, select_version_is, select_version_plain}
 use Rattle.njh_spoolfile.proofs.Meaning.{select_files, select_files_is, select_files_plain, file_names}
 use Rattle.njh_spoolfile.proofs.Meaning.{file_terms_shown, is_between, select_records, select_records_is}
@@ -116,16 +115,6 @@ stays old new same = record {
 pub ok_then : {T E : Type 0} (r : Result T E) (P Q : Type 0) → (P → Q) → OnOk r P → OnOk r Q
 ok_then (Ok x) P Q f h = f h
 ok_then (Err e) P Q f h = tt
-
-pub begun_then : (change : SpoolContents → SpoolContents) (a b c : State) → Begins a b → Changes change b c
-    → Changes change a c
-begun_then change a b c begun h = record {
-  is_open = h.is_open;
-  schema = h.schema;
-  waits = h.waits;
-  committed = h.committed ∙ begun.committed;
-  holds = λ spool held. h.holds spool (subst (λ (d : Database). Holds spool d.trees) (sym begun.now) held);
-}
 
 pub changes_then : (f g : SpoolContents → SpoolContents) (a b c : State) → Changes f a b → Changes g b c
     → Changes (λ spool. g (f spool)) a c

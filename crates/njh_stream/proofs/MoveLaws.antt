@@ -34,9 +34,6 @@ pub record Moves (a : Option ℕ) (s : CustomerSpool) (b : Option ℕ) (t : Cust
   pub own : (n : ℕ) → b ≡ Some n → (a ≡ Some n) ⊎ (partial_numbered n s ≡ None)
   pub came : (n : ℕ) (f : PartialFile) → partial_numbered n t ≡ Some f → (b ≡ Some n) ⊎ ((a ≡ Some n → ⊥) × Has n s)
 
-abbrev numbers_differ : {n m : ℕ} → (Some n ≡ Some m → ⊥) → n ≡ m → ⊥
-numbers_differ apart e = apart (ap Some e)
-
 -- the number is that of a, or not
 about : (a : Option ℕ) (n : ℕ) → (a ≡ Some n) ⊎ (a ≡ Some n → ⊥)
 about None n = inr (λ e. absurd (cc e))

@@ -1,6 +1,6 @@
 -- What a stream keeps of a file that comes in says what the records so far say, and one record more moves it.
 use Rattle.std.proofs.Common.{◌≡◌, ℕ, Bool, true, false, List, [], ◌∷◌, ◌++◌, Option, Some, None, Result, Ok, Err, ◌==◌}
-use Rattle.std.proofs.Common.{not, ◌&&◌, cond, refl, sym, ap, ap₂, subst, ◌∙◌, ◌⊎◌, inl, inr, true≢false}
+use Rattle.std.proofs.Common.{not, ◌&&◌, cond, refl, sym, ap, ap₂, subst, ◌∙◌, ◌⊎◌, true≢false}
 use Rattle.std.specs.List.{list_all}
 use Rattle.std.specs.Option.{option_map}
 use Rattle.std.specs.Result.{result_ok}
@@ -113,31 +113,6 @@ pub record IsPlacedFile (kind : Kind) (file : List Stored) (node : List ℕ) (la
   pub node_is : node ≡ node_in (placement kind file)
   pub last_is : last ≡ last_srcb file
   pub stage : (kind ≡ In) ⊎ ((kind ≡ Out) × (all_job_headers file ≡ false))
-
-pub where_placed :
-    (kind : Kind) (file : List Stored) (node : List ℕ) (last : ℕ) → Placed node last ≡ progress_of kind file
-    → IsPlacedFile kind file node last
-where_placed In [] node last h = absurd (cc h)
-where_placed Out [] node last h = absurd (cc h)
-where_placed In (x ∷ xs) node last h =
-    record { first = x; rest = xs; file_is = refl; node_is = ap node_in h; last_is = ap last_in h; stage = inl refl }
-where_placed Out (x ∷ xs) node last h = at_all (all_job_headers (x ∷ xs)) refl h
-  where
-    at_all :
-        (b : Bool) → all_job_headers (x ∷ xs) ≡ b
-        → Placed node last ≡ elim b [ true ↦ JobHeader | false ↦ placement Out (x ∷ xs) ]
-        → IsPlacedFile Out (x ∷ xs) node last
-    at_all true e h = absurd (cc h)
-    at_all false e h =
-        record {
-          first = x;
-          rest = xs;
-          file_is = refl;
-          node_is = ap node_in h;
-          last_is = ap last_in h;
-          stage = inr
-              (refl, e);
-        }
 
 -- ---- one record more
 

@@ -18,10 +18,10 @@ use Rattle.njh_stream.specs.declared.receiver.After.{After}
 use Rattle.njh_stream.specs.code.Verdicts.{IsAfter}
 use Rattle.njh_stream.specs.SpoolFiles.{records_in}
 use Rattle.njh_stream.specs.Transmissions.{is_whole}
-use Rattle.njh_stream.specs.Receiving.{progress_of, placement, last_srcb, received_end, closed_by, received_record}
-use Rattle.njh_stream.specs.Receiving.{received_arrival, received_nothing, received_open, received_request}
+use Rattle.njh_stream.specs.Receiving.{progress_of, placement, last_srcb, received_end, closed_by}
+use Rattle.njh_stream.specs.Receiving.{received_arrival, received_request}
 use Rattle.njh_stream.specs.Receiving.{without_open}
-use Rattle.njh_stream.specs.Receiving.{Abort, Data, Request}
+use Rattle.njh_stream.specs.Receiving.{Request}
 use Rattle.njh_stream.specs.declared.receiver.Receiver.{Receiver}
 use Rattle.njh_stream.specs.declared.receiver.Receiver.TheVariants.{Idle, Open, Draining}
 use Rattle.njh_stream.specs.code.Agreement.{AgreesWith, ends_whole}
@@ -119,14 +119,6 @@ progress_in kind progress n s agrees = at_partial (partial_numbered n s) agrees
     at_partial None agrees = absurd agrees
     at_partial (Some f) agrees = agrees.1
 
--- a record with bytes is stored
-pub record_stored :
-    (entry : CustomerEntry) (l : ℕ) (kind : Kind) (n srcb : ℕ) (bytes : List ℕ) (s : CustomerSpool) → length bytes ≢ 0
-    → received_open entry l kind n (Data srcb bytes) s ≡ received_record entry l kind n
-    (record { srcb = srcb; bytes = bytes }) s
-record_stored entry l kind n srcb [] s some = absurd (some refl)
-record_stored entry l kind n srcb (b ∷ bytes) s some = refl
-
 -- ---- a request while a file is open
 
 -- what comes of the file before
@@ -136,13 +128,6 @@ pub request_cuts :
 request_cuts entry l kind Idle s = refl
 request_cuts entry l kind (Open n progress) s = refl
 request_cuts entry l kind Draining s = refl
-
-pub abort_cuts :
-    (entry : CustomerEntry) (l : ℕ) (kind : Kind) (receiver : Receiver) (s : CustomerSpool)
-    → received_nothing Idle (without_open receiver s) ≡ received_arrival entry l kind receiver Abort s
-abort_cuts entry l kind Idle s = refl
-abort_cuts entry l kind (Open n progress) s = refl
-abort_cuts entry l kind Draining s = refl
 
 -- a file that begins after another was given up
 pub begun_after :

@@ -14,13 +14,11 @@ use Rattle.njh_table.specs.Keys.{without_place}
 use Rattle.njh_table.specs.Walk.{tables_of, walk_of}
 use Rattle.njh_table.specs.declared.fault.TableFault.TheVariants.{BadToml}
 use Rattle.njh_check.specs.Reports.{report_of}
-use Rattle.njh_replay.specs.declared.fault.ReplayFault.TheVariants.{Device, Hub, Script, TooLong}
-use Rattle.njh_subcommands.specs.Checks.{FindsInPart, IsBegunBy, IsCheckEnd, IsScriptEnd}
+use Rattle.njh_subcommands.specs.Checks.{FindsInPart, IsBegunBy, IsCheckEnd}
 use Rattle.njh_subcommands.specs.Status.{ComesFirst}
 use Rattle.njh_subcommands.specs.TableBytes.{AreGiven, tables_in}
 use Rattle.njh_subcommands.specs.TableChecks.{IsSaidOf, IsTablesBegun, IsToldOf, MayTell, no_text_words}
 use Rattle.njh_subcommands.specs.declared.failure.Failure.{Failure}
-use Rattle.njh_subcommands.specs.declared.failure.Failure.TheVariants.{Arguments, Encode, Found, Replay, Tables, Trace}
 use Rattle.njh_subcommands.specs.declared.failure.Failure.TheVariants as failure
 
 pub beginning_whole : (old new : Option (List ℕ)) (whole : List ℕ) → Appends old new whole
@@ -90,23 +88,6 @@ pub no_text-begun : {T E : Type 0} (r : Result T E) (bytes : List ℕ) (old new 
     → OnErr r (AppendsBeginning old new no_text_words) → OnErr r (Keeps old new ⊎ IsTablesBegun old new)
 no_text-begun (Ok x) bytes old new broken begun = tt
 no_text-begun (Err e) bytes old new broken begun = inr (false, bytes, no_text_words, inr (broken, refl), begun)
-
--- a script's end is one of the check by tables
-pub script_end : {T Path : Type 0} (r : Result T Failure) (path : Option Path) → IfErr r IsScriptEnd
-    → IfErr r (IsCheckEnd path)
-script_end (Ok x) path ended = tt
-script_end (Err (Tables fault)) path ended = absurd ended
-script_end (Err Found) path ended = tt
-script_end (Err (failure.Files fault)) path ended = absurd ended
-script_end (Err (Replay TooLong)) path ended = tt
-script_end (Err (Replay Device)) path ended = absurd ended
-script_end (Err (Replay (Hub fault))) path ended = absurd ended
-script_end (Err (Replay (Script number))) path ended = absurd ended
-script_end (Err (Arguments error)) path ended = absurd ended
-script_end (Err (Encode end)) path ended = absurd ended
-script_end (Err (Trace fault)) path ended = absurd ended
-script_end (Err failure.Device) path ended = tt
-script_end (Err failure.Memory) path ended = tt
 
 pub tell_end : {T Path : Type 0} (r : Result T Failure) (path : Option Path) → IfErr r MayTell
     → IfErr r (IsCheckEnd path)

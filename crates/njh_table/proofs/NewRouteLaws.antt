@@ -16,7 +16,7 @@ use Rattle.njh_table.specs.Limits.{max_routes}
 use Rattle.njh_table.specs.Accepted.{AreDistinct, IsRoute, IsCustomer, IsAccepted}
 use Rattle.njh_table.specs.Entries.{RouteEntry, lines_to}
 use Rattle.njh_table.specs.Keys.{Walked, ◌>>◌, fault_where}
-use Rattle.njh_table.specs.NewRoutes.{NewRoute, Again, own_number, own_or_foreign, other_second, own_second, own_route}
+use Rattle.njh_table.specs.NewRoutes.{NewRoute, Again, own_number, own_or_foreign, own_second, own_route}
 use Rattle.njh_table.specs.NewRoutes.{new_routes_of, repeats, is_again, is_own, may_be_second, route_checked}
 use Rattle.njh_table.specs.NewRoutes.{checked_from, routes_checked, given_lines, number_or, taken_second, taken_route}
 use Rattle.njh_table.specs.NewRoutes.{entries_of_routes, with_routes}
@@ -85,19 +85,6 @@ distinct lines taken (r ∷ routes) were e =
     (distinct lines (taken ++ r.node ∷ []) routes (distinct_push taken r.node were is.absent) rest)
 
 -- ---- the lines of routes
-
--- a second line that isn't the first
-pub other-once : (c : ℕ) (second : Option LineId) → is_again (other_second c second) ≡ false
-other-once c None = refl
-other-once c (Some second) = by (own_number c second)
-  where
-    by : (n : Option ℕ) → is_again (own_or_foreign n) ≡ false
-    by None = refl
-    by (Some n) = refl
-
-pub may_be-own : (lines : ℕ) (n : Option ℕ) → may_be_second lines (own_or_foreign n) ≡ is_own lines n
-may_be-own lines None = refl
-may_be-own lines (Some n) = refl
 
 -- a line of the customer's own
 record IsMine (lines c : ℕ) (id : LineId) : Type 0 where

@@ -24,10 +24,6 @@ sources_behind_lines-append : (sources : List SourceView) (xs ys : List (List �
 sources_behind_lines-append sources [] ys = refl
 sources_behind_lines-append sources (x ∷ xs) ys = sources_behind_lines-append (sources_behind sources x) xs ys
 
--- nothing was read
-pub Takes-none : (hex : Bool) (at : Progress) → Takes hex at [] [] at
-Takes-none hex at = record { done = []; lines = λ more. refl; short = refl; told_is = refl; sources_are = refl }
-
 neither : (a b : Bool) → a ≡ false → b ≡ false → (a || b) ≡ false
 neither a b p q = rw p q
 

@@ -1,6 +1,6 @@
 -- How far a trace was read and told.
 use Rattle.std.proofs.Common.{◌≡◌, ℕ, Bool, List, [], ◌++◌, Option, sym, ap, ◌∙◌, append_assoc, append-nil}
-use Rattle.std.proofs.Common.{true, false, subst, Result, Ok, Err, OnOk, OnErr}
+use Rattle.std.proofs.Common.{true, Result, Ok, Err, OnOk, OnErr}
 use Rattle.std.specs.Prelude.{IfSome}
 use Rattle.std.specs.List.{list_any}
 use Rattle.std.specs.Io.KnownBytes.{Appends, Consumes, IsAtEnd}
@@ -59,15 +59,6 @@ IsTraced-last_part hex first now old then new at x end begun =
     ∙ sym (Takes-tells hex start at x.seen x.told x.takes [])
     ∙ ap (λ (text : List ℕ). told_behind hex start text) (append-nil x.seen)))
 
-pub IsTraced-short : (hex : Bool) (first now old new : Option (List ℕ)) (at : Progress)
-    → IsTraced hex first now old new at
-    → IsAtEnd now → list_any is_long_line (lines_from at.front []) ≡ false
-    → IfSome first (λ text. has_long_line text ≡ false)
-IsTraced-short hex first now old new at x end short =
-    Consumes-whole first now x.seen (λ text. has_long_line text ≡ false) x.read end
-    (ap (λ (text : List ℕ). list_any is_long_line (lines_from [] text)) (sym (append-nil x.seen))
-    ∙ Takes-any_long hex start at x.seen x.told x.takes [] ∙ short)
-
 -- a piece has a line that is too long
 pub IsTraced-long : (hex : Bool) (first now later old new : Option (List ℕ)) (at : Progress) (piece : List ℕ)
     → IsTraced hex first now old new at → Consumes now later piece
@@ -103,13 +94,6 @@ IsTraced-begun hex first now old new at x =
     known_then first now x.seen (λ text. AppendsBeginning old new (trace_told hex text)) x.read
     (λ more. (x.told, told_behind hex at more, sym (Takes-tells hex start at x.seen x.told x.takes more), x.written))
 
--- what a piece's lines say was appended to nothing, and then written
-pub written_whole : (hex : Bool) (old new : Option (List ℕ)) (a b : Progress) (piece before after written : List ℕ)
-    → before ≡ [] → written ≡ after → ((told : List ℕ) × (after ≡ before ++ told) × Takes hex a piece told b)
-    → Appends old new written → (told : List ℕ) × Appends old new told × Takes hex a piece told b
-written_whole hex old new a b piece before after written empty same t wrote =
-    (t.0, subst (Appends old new) (same ∙ t.1 ∙ ap (λ (xs : List ℕ). xs ++ t.0) empty) wrote, t.2)
-
 -- or was written in part
 pub written_part : (hex : Bool) (old new : Option (List ℕ)) (a b : Progress) (piece before after written : List ℕ)
     → before ≡ [] → written ≡ after → ((told : List ℕ) × (after ≡ before ++ told) × Takes hex a piece told b)
@@ -132,13 +116,6 @@ pub whole-on_ok : {T E : Type 0} (r : Result T E) (hex : Bool) (first now old th
 whole-on_ok (Ok x) hex first now old then new at traced end last =
     IsTraced-whole hex first now old then new at traced end last
 whole-on_ok (Err e) hex first now old then new at traced end last = tt
-
-pub short-on_ok : {T E : Type 0} (r : Result T E) (hex : Bool) (first now old then : Option (List ℕ)) (at : Progress)
-    → IsTraced hex first now old then at → IsAtEnd now → OnOk r (list_any is_long_line (lines_from at.front []) ≡ false)
-    → OnOk r (IfSome first (λ text. has_long_line text ≡ false))
-short-on_ok (Ok x) hex first now old then at traced end short =
-    IsTraced-short hex first now old then at traced end short
-short-on_ok (Err e) hex first now old then at traced end short = tt
 
 pub part-on_err : {T E : Type 0} (r : Result T E) (hex : Bool) (first now old then new : Option (List ℕ))
     (at : Progress)

@@ -59,11 +59,6 @@ quiets_after-more (q ∷ r ∷ qs) [] turn = refl
 quiets_after-more (q ∷ qs) (t ∷ ts) turn =
     ap (λ (xs : List ℕ). quiet_after q t.heard ∷ xs) (quiets_after-more qs ts turn)
 
-pub length-quiets_after : (quiets : List ℕ) (turns : List Turn) → length (quiets_after quiets turns) ≡ length quiets
-length-quiets_after [] turns = refl
-length-quiets_after (q ∷ qs) [] = refl
-length-quiets_after (q ∷ qs) (t ∷ ts) = omega (arith, length-quiets_after qs ts)
-
 -- an earlier turn stands where it stood
 placed-before : (parts : List Part) (lines : List LineId) (quiets : List ℕ) (i : ℕ) (turns : List Turn) (turn : Turn) →
     i < length turns → turn_at parts lines quiets i (turns ++ turn ∷ []) ≡ turn_at parts lines quiets i turns
