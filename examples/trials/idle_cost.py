@@ -5,7 +5,7 @@
 The table has a row for each case: 256 lines that are signed on, each of which answers its tick by ACK0 and says
 nothing else, and then nobody connected. It says how many seconds of processor the program used in the time (system
 and user, from /proc), in percent of a core, how many frames the lines had each a minute, and how many are up at the
-end. What is wanted: at most 2 % of a core, and at most 0.1 %.
+end. What is wanted: at most 1 % of a core, and at most 0.1 %.
 """
 
 import time
