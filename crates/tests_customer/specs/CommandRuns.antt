@@ -55,7 +55,7 @@ one_of_two_is_being_sent :
 unfolding Plays
 one_of_two_is_being_sent = refl
 
--- A file with a continuation of 131 blanks behind its job header, so that its destination lies in two blocks of the
+-- A file with a continuation of 131 blanks after its job header, so that its destination lies in two blocks of the
 -- spool.
 abbrev long_headed : String → List ℕ
 long_headed node =

@@ -17,7 +17,7 @@ file_for_an_unknown_node :
 unfolding Plays
 file_for_an_unknown_node = refl
 
--- The hub takes no files for itself, and sends none back by the line that it came on. What comes of a file behind its
+-- The hub takes no files for itself, and sends none back by the line that it came on. What comes of a file after its
 -- refusal is ignored.
 files_that_do_not_go_on :
     Plays acme
@@ -57,7 +57,7 @@ files_are_listed_as_they_came :
 unfolding Plays
 files_are_listed_as_they_came = refl
 
--- A record of 257 bytes cancels its file, and the message behind it is obeyed.
+-- A record of 257 bytes cancels its file, and the message after it is obeyed.
 record_too_long :
     Plays acme
     (lyon_is_up

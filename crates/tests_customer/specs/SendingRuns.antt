@@ -50,7 +50,7 @@ file_is_cancelled_while_it_is_sent :
 unfolding Plays
 file_is_cancelled_while_it_is_sent = refl
 
--- The line is lost behind the end of the file: METZ hasn't said that it has it, so it is asked for again.
+-- The line is lost after the end of the file: METZ hasn't said that it has it, so it is asked for again.
 file_is_sent_again_after_a_loss :
     Plays acme
     (file_is_ready
@@ -63,7 +63,7 @@ file_is_sent_again_after_a_loss :
 unfolding Plays
 file_is_sent_again_after_a_loss = refl
 
--- HI of LYON to PAUL at METZ, in a record with two bytes more, which aren't sent on; it goes out behind the request for
+-- HI of LYON to PAUL at METZ, in a record with two bytes more, which aren't sent on; it goes out after the request for
 -- a file.
 message_goes_on :
     Plays acme

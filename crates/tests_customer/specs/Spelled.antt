@@ -35,7 +35,7 @@ blanks_past text = 8 - length (codes text)
 abbrev pub field : String → List ℕ
 field text = ebcdic text ++ replicate (blanks_past text) 0x40
 
--- The same as it is spelled behind other bytes of a literal: a string control byte stands for its blanks, of which
+-- The same as it is spelled after other bytes of a literal: a string control byte stands for its blanks, of which
 -- there are two at least.
 abbrev pub named : String → List ℕ
 named text = ebcdic text ++ (0x80 + blanks_past text) ∷ []

@@ -166,7 +166,7 @@ fn characters(alloc: Global, bytes: &[u8]) -> Result<String, AllocError> {
     Ok(text)
 }
 
-/// A file is refused, and its notice stands until another file comes.
+/// A file is refused, and its notice stays until another file comes.
 pub fn refuse<R: Print + AllocGlobal>(rt: &R, hub: &mut Hub) -> io::Result<()> {
     for digits in [CONTACT, SIGN_ON, REQUEST, FOR_PARIS, REST, ANOTHER] {
         let piece = bytes_of(rt.alloc(), digits)?;

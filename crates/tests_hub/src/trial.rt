@@ -81,7 +81,7 @@ pub fn tables_of(alloc: Global, text: &str) -> io::Result<Tables> {
     }
 }
 
-/// A hub of tables that stand in a text.
+/// A hub of the tables that a text has.
 pub fn open(alloc: Global, text: &str) -> io::Result<Hub> {
     match Hub::open(alloc, tables_of(alloc, text)?) {
         Ok(hub) => Ok(hub),

@@ -22,7 +22,7 @@ a1: bytes 1002838fcf98c0c20064a300c160a300c12bb200c5c9d5c4c5e783c4c1d5d5c184b800
 # BOLT has LYON.42 TO METZ PAUL OUT 6 RECORDS READY, LYON.43 TO METZ IN 3 RECORDS READY
 "#;
 
-/// Of three files the second one leaves, and others come before and behind a new beginning.
+/// Of three files the second one leaves, and others come before and after a new beginning.
 const ORDER: &str = r#"
 a1: contact
 a1: sign on as LYON block 1024

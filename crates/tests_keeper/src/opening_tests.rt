@@ -19,8 +19,7 @@ a1: file LYON.1 of ANNA to PAUL@METZ, lines from 2
 # ACME has LYON.1 TO METZ PAUL OUT 5 RECORDS READY
 "#;
 
-/// Adds the row of the first whole file once more, behind it: two files' records stand under one
-/// number.
+/// Adds the row of the first whole file once more, after it: two files' records have one number.
 fn add_first_again<S: Alter>(alloc: Global, store: &mut Store<S>) -> Result<(), Fail> {
     let files = store.files(alloc)?;
     match files.first() {

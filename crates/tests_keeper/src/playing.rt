@@ -21,7 +21,7 @@ use std::rt::HostRuntime;
 use std::str;
 use std::test::Fail;
 
-/// Behind this line the program is killed, and begins again.
+/// After this line the program is killed, and begins again.
 const KILL: &str = "# kill\n";
 
 /// With this line a run begins in which no route leads to NICE.
@@ -30,7 +30,7 @@ const WITHOUT_NICE: &str = "# NICE has no route\n";
 /// Plays lines of words. Beside those of `encode` these are known:
 ///
 /// `# kill`: the program is killed and begins again, with all lines down. `# NICE has no route`,
-/// directly behind that: in this run no route leads to NICE. `# cut 20`: of the file that follows
+/// directly after that: in this run no route leads to NICE. `# cut 20`: of the file that follows
 /// 20 blocks come, up to `# uncut`. `# ACME has LYON.42 TO METZ PAUL OUT 4 RECORDS READY, ..`:
 /// these whole files of the customer are kept. Then and before the program is killed all that is
 /// kept is what the hub has.

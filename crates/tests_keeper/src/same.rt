@@ -84,7 +84,7 @@ fn other_record(wanted: RecordReader<'_>, found: RecordReader<'_>) -> Option<u32
     Some(PLACES)
 }
 
-/// What LIST would say of a customer's whole files, one behind the other with a comma between.
+/// What LIST would say of a customer's whole files, one after the other with a comma between.
 pub fn listing(alloc: Global, hub: &Hub, customer: u16) -> Result<String, Fail> {
     let mut text = String::new(alloc);
     for index in 0..hub.file_count(customer) {

@@ -33,8 +33,8 @@ fn take_all(
     Ok(())
 }
 
-/// Bytes of a line. Each frame that they end is a letter, and the data of the texts stand behind
-/// one another.
+/// Bytes of a line. Each frame that they end is a letter, and the data of the texts come one
+/// after the other.
 fn check_frames(
     rt: &impl Abort,
     alloc: Global,

@@ -50,8 +50,8 @@ fn outcome(alloc: Global, text: &str) -> Result<String, AllocError> {
     }
 }
 
-/// What comes of the base tables after changes. `A > B` puts B where A stands first; `/` is the end
-/// of a line, and `#` begins a comment.
+/// What comes of the base tables after changes. `A > B` puts B in the place of the first A; `/` is
+/// the end of a line, and `#` begins a comment.
 const ONE: &str = r#"
 K1 BadToml: capacity = 200 > capacity =
 K1 BadToml: capacity = 200 > capacity = 200/capacity = 200
@@ -206,7 +206,7 @@ fn what_comes_of_changes(rt: HostRuntime) -> Result<(), Fail> {
     Ok(())
 }
 
-/// Customers, the lines of the first, routes of each, what stands last in the file, and what comes
+/// Customers, the lines of the first, routes of each, what is last in the file, and what comes
 /// of it. What is past its limit is told before its keys, which are missing.
 const SIZES: [([u32; 3], &str, &str); 10] = [
     ([64, 4, 0], "", "taken"),
@@ -221,7 +221,7 @@ const SIZES: [([u32; 3], &str, &str); 10] = [
     ([1, 4, 512], "[[customer.route]]", "K8 TooMany"),
 ];
 
-/// What stands in a file again and again: a customer, a line of it and a route of it. Their numbers
+/// What a file has again and again: a customer, a line of it and a route of it. Their numbers
 /// stand for `#` and for `%`.
 const CUSTOMER: &str = r##"[[customer]]
 name = "C#"

@@ -1,4 +1,4 @@
-//! The man page: each option that a subcommand's help tells of stands in it.
+//! The man page: it has each option that a subcommand's help tells of.
 
 use crate::program::Program;
 use crate::streams::{Calls, Run};

@@ -17,7 +17,7 @@ pub fn first_difference(text: &[u8], wanted: &[u8]) -> Option<u64> {
     Some(number)
 }
 
-/// The number of the first line, of those that have a count and words, whose words don't stand so
+/// The number of the first line, of those that have a count and words, whose words aren't so
 /// often in a text.
 pub fn first_miscount(text: &[u8], wanted: &[u8]) -> Option<u64> {
     let mut number = 1u64;
@@ -30,7 +30,7 @@ pub fn first_miscount(text: &[u8], wanted: &[u8]) -> Option<u64> {
     None
 }
 
-/// Whether the words of a line stand in a text as often as its count says.
+/// Whether a text has the words of a line as often as its count says.
 fn is_counted_so(text: &[u8], line: &[u8]) -> bool {
     let Some((count, words)) = str::from_utf8(line)
         .ok()
@@ -41,7 +41,7 @@ fn is_counted_so(text: &[u8], line: &[u8]) -> bool {
     count.parse::<u64>().ok() == Some(times(text, words.as_bytes()))
 }
 
-/// How often words stand in a text.
+/// How often a text has words.
 fn times(text: &[u8], words: &[u8]) -> u64 {
     let mut times = 0u64;
     for start in 0..text.len() {

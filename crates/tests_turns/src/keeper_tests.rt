@@ -16,7 +16,7 @@ const STEPS: &str = "contact sign-on list";
 /// The step at which a keeper fails, and the settling; how many bytes of what LYON is told are
 /// written on a1 in five turns, and how often each of both wires is read. The keeper follows each
 /// step, in the order of the turns, before the step's frame is written: contact on both wires, the
-/// sign-on on both, LIST on a1. It settles once a round, behind the turns of both wires. Where it
+/// sign-on on both, LIST on a1. It settles once a round, after the turns of both wires. If it
 /// fails the frame of that step isn't written, and no wire is read after it.
 const FAILURES: [([u32; 2], usize, [u32; 2]); 10] = [
     ([1, 0], 0, [1, 0]),
@@ -93,7 +93,7 @@ fn nothing_is_let_out_unsettled(rt: HostRuntime) -> Result<(), Fail> {
     Ok(())
 }
 
-/// New routes, and a keeper that fails behind them: how often it followed and settled. No wire is
+/// New routes, and a keeper that fails after them: how often it followed and settled. No wire is
 /// read, and the attendant isn't told.
 fn routes_fail<R: Abort>(
     rt: &R,

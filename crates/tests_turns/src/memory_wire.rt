@@ -21,7 +21,7 @@ static ASKED_LYON: [u8; 91] =
     \x00\x10\x26\x10\x02\x80\x8f\xcf\x9a\x80\xc8\xa0\x77\x00\x04\xd3\xe8\xd6\xd5\x84\xc5\x00\xc1\xd5\
     \xd5\xc1\x84\xc4\xd6\xe2\xd3\xd6\x84\xc5\x00\xd3\xc9\xe2\xe3\x00\x00\x10\x26";
 
-/// Answers what its steps say, and keeps the frames that it sends, one behind the other.
+/// Answers what its steps say, and keeps the frames that it sends, one after the other.
 #[derive(Drop)]
 pub struct MemoryWire {
     steps: &'static str,
@@ -36,7 +36,7 @@ impl MemoryWire {
     /// A wire with these steps: `contact`, `sign-on`, `list`, or `all` three in one; `half` of the
     /// sign-on; `begun`, the beginning of the list, and its `end`; `ack0`; `oslo`, all that OSLO
     /// says; `pending`, `closed` and `absent`; `fails`. Any other word is a quiet, or the answer to
-    /// a prompt, and so is what comes behind the last. The write of this number fails, from 1 on; 0
+    /// a prompt, and so is what comes after the last. The write of this number fails, from 1 on; 0
     /// is none.
     pub fn new(steps: &'static str, broken_write: u32) -> MemoryWire {
         MemoryWire {

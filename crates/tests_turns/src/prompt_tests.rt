@@ -35,7 +35,7 @@ const MESSAGE: &[u8] =
     \xd5\xd5\xc1\x84\xc4\xd6\xe2\xd3\xd6\x84\xc5\x00\xd3\xc9\xe2\xe3\x00\x00\x10\x26";
 
 /// The steps of OSLO's wire and of LYON's, which is visited after it; how many rounds there are;
-/// and what LYON is told behind the sign-on. After its ACK0 the line rests, in the fourth round:
+/// and what LYON is told after the sign-on. After its ACK0 the line rests, in the fourth round:
 /// what came of OSLO in that very round goes out in it. The ACK0 of a tick gives the turn away, and
 /// then the line isn't prompted. Nor is it before the sign-on.
 static ROUNDS: [(&str, &str, u64, &[u8]); 3] = [
@@ -67,7 +67,7 @@ fn attend_on<R: Abort>(
     Ok(attend(hub, keeper, wires, &mut lines, attendant, rounds))
 }
 
-/// What LYON is told behind the sign-on, in so many rounds.
+/// What LYON is told after the sign-on, in so many rounds.
 fn check<R: Abort>(
     rt: &R,
     alloc: Global,

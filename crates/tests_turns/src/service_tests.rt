@@ -12,7 +12,7 @@ use std::alloc::Global;
 use std::process::Abort;
 use std::test::Fail;
 
-/// What a contact is answered, and a tick behind it.
+/// What a contact is answered, and a tick after it.
 const ACK0: &[u8] = b"\x10\x70";
 
 const ACK0_AND_NAK: &[u8] = b"\x10\x70\x3d";
