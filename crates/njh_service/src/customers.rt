@@ -21,7 +21,7 @@ pub(crate) struct Row {
     pub(crate) customer: u16,
     /// The place of its first line.
     pub(crate) first: usize,
-    /// The place behind its last one; `first` or 0 where it has none.
+    /// The place after its last one; `first` or 0 if it has none.
     pub(crate) end: usize,
 }
 

@@ -87,8 +87,8 @@ impl<N: Network + Drop, L: Write + Drop> Desk<N, L> {
     }
 
     /// Ends the connection of a line whose session gave up, and tells what changed, if something
-    /// came, or the line was quiet or prompted. Sets how long the line's next quiet lasts, and notes
-    /// how the line is. Answers when it wants to be looked at.
+    /// came, or the line was quiet or prompted. Sets how long the line's next quiet lasts, and
+    /// notes how the line is. Answers when it wants to be looked at.
     pub(crate) fn apply_session(
         &mut self,
         post: &mut Post<N::Listener, N::Connection>,
