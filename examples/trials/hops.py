@@ -28,6 +28,10 @@ each frame at once. All times are of one clock. The plays:
   (the relay of that line counts); exchanges a second and the median and longest answer in milliseconds of another
   customer's line of HUBA that sends blocks without records; and the seconds of processor that HUBA used for each
   second.
+- `looks`: what a customer of many lines costs the others. MANY has a line that sends blocks without records as fast as
+  they are answered, then 250 lines besides that rest, then files too that wait for a line which nobody signs on: each
+  of its blocks may have given one of the lines something to send. A row for each: its blocks a second, exchanges a
+  second and the median and longest answer of another customer's line.
 - `acks`: frames on a line, both ways, in each of the seven seconds after something came for it: between two hubs after
   a message (the mean of five); on a line whose peer suspends messages, all, or the stream whose file it permitted,
   while a message, a message and a file, or that file waits for it. Last: whether all of that came once the peer goes
@@ -35,7 +39,7 @@ each frame at once. All times are of one clock. The plays:
 
 What is wanted: `messages` and `rests` a median under 1 ms and at most 20 ms, with a spool file one commit more, taken
 as 20 ms; `files` under 100 ms for all three hops where the lines had a text in the last second, and under 5 ms for each
-hop whose sending end has the turn; `rings` nine tenths of the exchanges that there are before; `acks` at most 120
+hop whose sending end has the turn; `rings` nine tenths of the exchanges that there are before; `looks` six tenths of those beside the one line; `acks` at most 120
 frames in each of the first two seconds, 20 in the third, and 4 from then on, and that all came. The last column says
 "yes" where it is so. If other programs run on the machine, all figures are rough.
 """
@@ -49,11 +53,11 @@ import typing
 from frames import CARD, COMPLETE, MESSAGE, SYSOUT, Text, ebcdic, file_of, message, records_of
 from hop_ends import PATIENCE, End, Pairs
 from hop_hubs import Ring, Row, Served
-from hub import options_of, places_of, row, table_of
+from hub import customer_of, line_of, options_of, places_of, row, table_of
 from peers import Busy, Crowd, FilePeer, Loop, Peer
 from relays import FROM_DIALLER, TO_DIALLER, turn_after
 
-PLAYS = ("messages", "rests", "files", "rings", "acks")
+PLAYS = ("messages", "rests", "files", "rings", "looks", "acks")
 
 CARDS = [ebcdic(f"{number:04} THE QUICK BROWN FOX JUMPS OVER THE LAZY DOG".ljust(80)) for number in range(3)]
 
@@ -265,6 +269,56 @@ def ring_row(options, ring, other, what, count=1, before=None):
     cells = (f"{rounds / lasted:.1f}", f"{rate:.0f}", cells[0], cells[2], f"{share / lasted:.2f}")
     row(RING_WIDTHS, what, *cells, wanted)
     return rate
+
+
+LOOK_WIDTHS = (18, 9, 12, 10, 11, 7)
+
+# Lines of MANY besides the one that sends and the one that nobody signs on, and files that wait for that one.
+RESTING, WAITING = 250, 1000
+
+
+def looks(options):
+    row(LOOK_WIDTHS, "beside", "blocks/s", "exchanges/s", "median ms", "longest ms", "wanted")
+    places = places_of([2 + RESTING, 1])
+    own, other_place = places[:-1], places[-1]
+    lines = [line_of(place.name, place.node, port=place.port) for place in own]
+    text = f"capacity = {2 * 65535}\n"
+    text += customer_of("MANY", "BUREAU", 65535, lines, [(place.node, place.name) for place in own], 1024)
+    line = line_of(other_place.name, other_place.node, port=other_place.port)
+    text += customer_of("OTHER", "BUREAU", 16, [line], [(other_place.node, other_place.name)])
+    before = None
+    cases = ("one line", 0, 0), (f"{RESTING} more at rest", RESTING, 0), (f"and {WAITING} files", RESTING, WAITING)
+    for what, resting, waiting in cases:
+        with Served(options, text):
+            send_files(own[0], own[1].node, waiting)
+            with crowd_of(Peer, own[2 : 2 + resting]) as at_rest, crowd_of(Busy, own[:1]) as busy:
+                other = End(other_place.port, other_place.node)
+                before = look_row(options, what, busy, other, before)
+                other.socket.close()
+                up = sum(one[0] for one in at_rest.look("stop")[0])
+        if up < resting:
+            print(f"  of {resting} lines {up} are up")
+
+
+def send_files(place, node, count):
+    """Sends so many files for a node, and ends the connection."""
+    loop = Loop()
+    peer = FilePeer(loop, place.port, place.node)
+    peer.to_send += [file_of(number + 1, place.node, "ANNA", node, "PAUL", CARDS[:1]) for number in range(count)]
+    if not loop.run(120, lambda: peer.is_up and peer.went == count):
+        raise TimeoutError(f"{peer.went} files of {count} came")
+    loop.close()
+
+
+def look_row(options, what, busy, other, before):
+    """Measures the other customer's line; answers the exchanges a second that are wanted of the next rows."""
+    answers, begin = answers_of(busy), time.monotonic()
+    times = other.exchanges(options.seconds)
+    lasted = time.monotonic() - begin
+    rate, cells = len(times) / lasted, times_of(times)
+    wanted = told(rate >= 0.6 * before) if before else ""
+    row(LOOK_WIDTHS, what, f"{(answers_of(busy) - answers) / lasted:.0f}", f"{rate:.0f}", cells[0], cells[2], wanted)
+    return before or rate
 
 
 ACK_WIDTHS = (40, 6, 6, 6, 6, 6, 6, 6, 8, 6)

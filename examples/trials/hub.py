@@ -31,9 +31,9 @@ def line_of(name, node, role="answer", **more):
     return text + "".join(f"{key} = {value!r}\n".replace("'", '"') for key, value in more.items())
 
 
-def customer_of(name, hub, quota, lines, routes):
+def customer_of(name, hub, quota, lines, routes, files=256):
     """A customer's entry in a table file, of the texts of its lines and the pairs of node and line of its routes."""
-    text = f'[[customer]]\nname = "{name}"\nhub = "{hub}"\nquota = {quota}\nfiles = 256\n' + "".join(lines)
+    text = f'[[customer]]\nname = "{name}"\nhub = "{hub}"\nquota = {quota}\nfiles = {files}\n' + "".join(lines)
     return text + "".join(f'[[customer.route]]\nnode = "{node}"\nline = "{line}"\n' for node, line in routes)
 
 
