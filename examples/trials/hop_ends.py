@@ -7,7 +7,7 @@ import struct
 import time
 
 from exchanges import BLOCKS
-from frames import ACK0, CONTACT, Deframer, Text, ebcdic, framed, message, sign_on
+from frames import ACK0, CONTACT, Deframer, Text, ebcdic, framed, message, records_of, sign_on
 from hub import connected
 
 # How long nothing may come that is waited for, in seconds.
@@ -96,10 +96,12 @@ class Pairs:
         self.number += 1
         receiver, text = self.receivers[place], f"HOP {self.number}"
         sent = self.senders[place].say(message("N1", "PAUL", "N0", text))
-        while True:
+        while time.monotonic_ns() < sent + PATIENCE * 10**9:
             at, frames = receiver.hear()
-            if any(ebcdic(text) in frame for frame in frames if isinstance(frame, Text)):
+            records = [record for frame in frames if isinstance(frame, Text) for _, _, record in records_of(frame)]
+            if any(record and ebcdic(text) in record for record in records):
                 return at - sent
+        raise TimeoutError(f"{text} didn't come")
 
     def __enter__(self):
         return self
