@@ -3,4 +3,5 @@ pub mod Opened
 pub mod Prompting
 pub mod Revisions
 pub mod Serving
+pub mod Waking
 pub mod code

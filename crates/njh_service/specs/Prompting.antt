@@ -1,11 +1,19 @@
 -- When a line that rests is prompted: told that it may send, before its tick.
 use Rattle.std.specs.Prelude.{ℕ, ◌+◌, ◌-◌, Bool, true, false, ◌&&◌, ◌||◌, not, ◌==◌, nat_lt, nat_le, min, if◌then◌else◌}
-use Rattle.std.specs.Prelude.{Option, Some, None, List, IsTrue, ◌⊎◌}
+use Rattle.std.specs.Prelude.{◌≡◌, ◌↔◌, Option, Some, None, List, IsTrue, ◌⊎◌}
 use Rattle.njh_table.specs.declared.LineId.{LineId}
+use Rattle.njh_line.specs.declared.Phase.TheVariants.{Up}
+use Rattle.njh_hub.specs.declared.session_view.SessionView.{SessionView}
 use Rattle.njh_hub.specs.Resting.{HasNext}
 use Rattle.njh_hub.specs.WholeHub.{Part}
 use Rattle.njh_service.specs.declared.traffic.Sight.{Sight}
 use Rattle.njh_service.specs.declared.traffic.Traffic.{Traffic}
+
+-- a line was seen with this session: whether it was up, and the counts of its blocks
+pub record HasSeen (session : SessionView) (seen : Sight) : Type 0 where
+  pub up : IsTrue seen.is_up ↔ (session.phase ≡ Up)
+  pub next_count : seen.next_count ≡ session.next_count
+  pub last_bcb : seen.last_bcb ≡ session.last_bcb
 
 abbrev pub is_same_bcb : Option ℕ → Option ℕ → Bool
 is_same_bcb None None = true
@@ -41,6 +49,12 @@ is_recent (Some moment) now = nat_lt (now - moment) 2000
 -- and its wire is silent for 20 milliseconds
 abbrev pub is_soon : Traffic → ℕ → Bool
 is_soon t now = is_recent t.text now && nat_le 20 (now - t.seen.begun)
+
+-- What is seen of the attendant: the lines that it serves, by their places, what it noted of each, and the time.
+pub record Watched : Type 0 where
+  pub lines : List LineId
+  pub noted : List Traffic
+  pub now : ℕ
 
 -- A line that rests is prompted: that is so, or the hub has a block to send on it (`HasNext`: by its own customer's part
 -- alone). Else this looks at nothing but what was noted of the line itself, and at the time.

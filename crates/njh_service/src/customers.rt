@@ -1,20 +1,28 @@
 //! What the attendant keeps of each customer.
 
+ghost use Rattle.std.specs.Prelude.{◌≡◌};
+ghost use Rattle.njh_service.specs.Waking.{is_wanted, look_moment, looked, marked, pause_for};
+
 /// How many customers a hub has at most.
 pub(crate) const CUSTOMERS: usize = 64;
+
+/// How many files a look at a line without any counts for.
+const LINE: u64 = 16;
+
+/// How many files are looked at in a millisecond that a customer's lines may be looked at in.
+const FILES: u64 = 12_500;
 
 /// What is kept of each customer, by its number.
 #[derive(Drop)]
 pub(crate) struct Customers {
     /// Whether it was told that it is near its quota.
     pub(crate) near: [bool; CUSTOMERS],
-    /// Whether something came that may give one of its lines something to send.
-    moved: [bool; CUSTOMERS],
     /// Where its lines are.
     rows: [Row; CUSTOMERS],
 }
 
-/// A customer, and where its lines are among those that are served: beside each other.
+/// A customer, where its lines are among those that are served, beside each other, and when they
+/// are looked at because one of them may have something to send.
 #[derive(Clone, Copy, Drop)]
 pub(crate) struct Row {
     /// The customer.
@@ -23,20 +31,67 @@ pub(crate) struct Row {
     pub(crate) first: usize,
     /// The place after its last one; `first` or 0 if it has none.
     pub(crate) end: usize,
+    /// Whether something came since that may give one of them something to send.
+    pub(crate) has_moved: bool,
+    /// From when on they may be looked at again, on the service's clock.
+    pub(crate) again: u64,
+}
+
+impl Row {
+    /// One of no lines.
+    const NONE: Row = Row {
+        customer: 0,
+        first: 0,
+        end: 0,
+        has_moved: false,
+        again: 0,
+    };
+
+    /// Something came that may give one of the lines something to send.
+    fn mark(&mut self)
+        ensures { self.new ≡ marked self.old }
+    {
+        self.has_moved = true;
+    }
+
+    /// Whether the lines are to be looked at now.
+    fn is_wanted(&self, now: u64) -> bool
+        ensures { result ≡ is_wanted self.now now }
+    {
+        self.has_moved && self.again <= now
+    }
+
+    /// The lines are looked at now, and the customer has so many whole files.
+    fn look(&mut self, now: u64, files: u32)
+        ensures { self.new ≡ looked self.old now files }
+    {
+        let lines = self.end.saturating_sub(self.first);
+        self.has_moved = false;
+        self.again = now.saturating_add(pause_for(lines as u64, files));
+    }
+
+    /// When the lines are to be looked at; `u64::MAX` if nothing came.
+    fn moment(&self) -> u64
+        ensures { result ≡ look_moment self.now }
+    {
+        if self.has_moved { self.again } else { u64::MAX }
+    }
+}
+
+/// For how many milliseconds so many lines of a customer with so many files aren't looked at again:
+/// so that all looks at them take an eighth of the time at most, by what one costs.
+fn pause_for(lines: u64, files: u32) -> u64
+    ensures { result ≡ pause_for lines files }
+{
+    lines.saturating_mul(LINE + u64::from(files)) / FILES
 }
 
 impl Customers {
     /// Of customers of whom no line is served.
     pub(crate) fn none() -> Customers {
-        let row = Row {
-            customer: 0,
-            first: 0,
-            end: 0,
-        };
         Customers {
             near: [false; CUSTOMERS],
-            moved: [false; CUSTOMERS],
-            rows: [row; CUSTOMERS],
+            rows: [Row::NONE; CUSTOMERS],
         }
     }
 
@@ -53,18 +108,32 @@ impl Customers {
 
     /// Something came that may give one of this customer's lines something to send.
     pub(crate) fn mark(&mut self, customer: u16) {
-        if let Some(moved) = self.moved.get_mut(usize::from(customer)) {
-            *moved = true;
+        if let Some(row) = self.rows.get_mut(usize::from(customer)) {
+            row.mark();
         }
     }
 
-    /// Where a customer's lines are, if something came since this was last asked of it.
-    pub(crate) fn take(&mut self, customer: usize) -> Option<Row> {
-        let moved = self.moved.get_mut(customer)?;
-        if !*moved {
-            return None;
+    /// A customer's lines, if they are to be looked at now.
+    pub(crate) fn wanted(&self, customer: usize, now: u64) -> Option<Row> {
+        match self.rows.get(customer) {
+            Some(row) if row.is_wanted(now) => Some(*row),
+            _ => None,
         }
-        *moved = false;
-        self.rows.get(customer).copied()
+    }
+
+    /// A customer's lines are looked at now, and it has so many whole files.
+    pub(crate) fn look(&mut self, customer: usize, now: u64, files: u32) {
+        if let Some(row) = self.rows.get_mut(customer) {
+            row.look(now, files);
+        }
+    }
+
+    /// When the lines of some customer are to be looked at; `u64::MAX` if nothing came.
+    pub(crate) fn moment(&self) -> u64 {
+        let mut moment = u64::MAX;
+        for row in &self.rows {
+            moment = moment.min(row.moment());
+        }
+        moment
     }
 }

@@ -1,10 +1,11 @@
 //! What the attendant does with one line.
 
-ghost use Rattle.std.specs.Prelude.{◌≡◌, ◌≤◌, IsTrue};
+ghost use Rattle.std.specs.Prelude.{◌≡◌, ◌<◌, ◌≤◌, ◌↔◌, [], length, IsTrue};
 ghost use Rattle.njh_hub.specs.Quiets.{quiet_on};
 ghost use Rattle.njh_hub.specs.Resting.{IsResting};
-ghost use Rattle.njh_hub.specs.Views.{HasGivenUp};
+ghost use Rattle.njh_hub.specs.Views.{HasGivenUp, hub_line, line_view};
 ghost use Rattle.njh_hub.specs.WholeHub.{HasLine};
+ghost use Rattle.njh_service.specs.Prompting.{HasSeen};
 
 use crate::customers::Customers;
 use crate::dial::Dial;
@@ -370,7 +371,9 @@ fn set_quiet<C: Connection + Drop>(id: LineId, hub: &Hub, wire: &mut LineWire<C>
 }
 
 /// What is shown of a line's session.
-fn session_of(hub: &Hub, id: LineId) -> SessionView {
+fn session_of(hub: &Hub, id: LineId) -> SessionView
+    ensures { HasLine hub.now id → result ≡ line_view (hub_line id hub.now).state }
+{
     match hub.session(id) {
         Ok(session) => session,
         Err(_) => NO_SESSION,
@@ -379,7 +382,10 @@ fn session_of(hub: &Hub, id: LineId) -> SessionView {
 
 /// How a line is at the end of its turn.
 fn sight_of<C: Connection + Drop>(id: LineId, hub: &Hub, wire: &LineWire<C>) -> Sight
+    ensures session { HasLine hub.now id → HasSeen (line_view (hub_line id hub.now).state) result }
     ensures rests { IsTrue result.rests → IsResting hub.now id }
+    ensures waits { IsTrue result.waits ↔ (0 < length wire.now.waiting) }
+    ensures free { IsTrue result.rests → wire.now.waiting ≡ [] }
     ensures begun { result.begun ≡ wire.now.begun }
 {
     let session = session_of(hub, id);

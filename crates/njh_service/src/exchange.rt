@@ -1,12 +1,13 @@
 //! The attendant of a service.
 
-ghost use Rattle.std.specs.Prelude.{◌≡◌, ◌≤◌, ◌∷◌, ◌++◌, [], IsTrue, Some, slice_get, OnOk, OnErr};
+ghost use Rattle.std.specs.Prelude.{◌≡◌, ◌≤◌, ◌↔◌, ◌∷◌, ◌++◌, [], IsTrue, Some, slice_get, OnOk, OnErr};
 ghost use Rattle.njh_turns.specs.Service.{AreStill};
 ghost use Rattle.njh_table.specs.declared.LineId.{LineId};
 ghost use Rattle.njh_hub.specs.Quiets.{quiet_on};
-ghost use Rattle.njh_hub.specs.Resting.{HasNext};
 ghost use Rattle.njh_hub.specs.Views.{HasGivenUp};
 ghost use Rattle.njh_hub.specs.WholeHub.{HasLine};
+ghost use Rattle.njh_service.specs.Prompting.{IsPrompted};
+ghost use Rattle.njh_service.specs.declared.traffic.Traffic.{Traffic};
 
 mod waking;
 
@@ -74,19 +75,22 @@ const AT_ONCE: Watch = Watch {
 };
 
 impl<N: Network + Drop, L: Write + Drop, S: TableSource + Drop> Model for Exchange<N, L, S> {
-    ghost use Rattle.std.specs.Prelude.{List, map};
-    ghost use Rattle.njh_table.specs.declared.LineId.{LineId};
+    ghost use Rattle.std.specs.Prelude.{map};
+    ghost use Rattle.njh_service.specs.Prompting.{Watched};
 
-    // the lines that it serves, by their places
-    ghost Value = { List LineId };
+    ghost Value = { Watched };
 
-    ghost view = { λ exchange. map (λ post. post.line) exchange.posts.items };
+    ghost view = { λ exchange. record {
+      lines = map (λ post. post.line) exchange.posts.items;
+      noted = map (λ post. post.traffic) exchange.posts.items;
+      now = exchange.desk.now;
+    } };
 }
 
 impl<N: Network + Drop, L: Write + Drop, S: TableSource + Drop> Exchange<N, L, S> {
     /// One that serves no line yet.
     pub fn new(alloc: Global, network: N, log: Log<L>, revision: Revision<S>) -> Exchange<N, L, S>
-        ensures { result ≡ [] }
+        ensures { result.lines ≡ [] }
     {
         Exchange {
             desk: Desk {
@@ -111,7 +115,7 @@ impl<N: Network + Drop, L: Write + Drop, S: TableSource + Drop> Exchange<N, L, S
         names: &LineNames<'_>,
         site: Site<N::Listener, SocketAddr>,
     ) -> Result<(), AllocError>
-        ensures added { OnOk result (self.new ≡ self.old ++ id ∷ []) }
+        ensures added { OnOk result (self.new.lines ≡ self.old.lines ++ id ∷ []) }
         ensures err { OnErr result (self.new ≡ self.old) }
     {
         let label = Label::of(names);
@@ -128,7 +132,7 @@ impl<N: Network + Drop, L: Write + Drop, S: TableSource + Drop> Exchange<N, L, S
     /// Waits until a line is ready or due, and looks at each that is.
     pub(crate) fn begin_round(&mut self, wires: &mut [LineWire<N::Connection>])
         ensures still { AreStill (λ a b acts. a.place ≡ b.place) (λ wire. wire.failures) wires.old wires.new }
-        ensures lines { self.new ≡ self.old }
+        ensures lines { self.new.lines ≡ self.old.lines }
     {
         self.desk.now = self.desk.network.now();
         let wait = self.wait();
@@ -151,7 +155,7 @@ impl<N: Network + Drop, L: Write + Drop, S: TableSource + Drop> Exchange<N, L, S
 
     /// Whether something of a group's lines is ready, or the moment of one came.
     fn wakes(&mut self, group: usize) -> bool
-        ensures lines { self.new ≡ self.old }
+        ensures lines { self.new.lines ≡ self.old.lines }
     {
         let is_ready = self.is_ready(group);
         let Some(watch) = self.groups.get_mut(group) else {
@@ -176,7 +180,7 @@ impl<N: Network + Drop, L: Write + Drop, S: TableSource + Drop> Exchange<N, L, S
     /// Looks at the lines of a group, if something of one is ready or the moment of one came.
     fn begin_group(&mut self, group: usize, wires: &mut [LineWire<N::Connection>])
         ensures still { AreStill (λ a b acts. a.place ≡ b.place) (λ wire. wire.failures) wires.old wires.new }
-        ensures lines { self.new ≡ self.old }
+        ensures lines { self.new.lines ≡ self.old.lines }
     {
         if !self.wakes(group) {
             return;
@@ -193,7 +197,7 @@ impl<N: Network + Drop, L: Write + Drop, S: TableSource + Drop> Exchange<N, L, S
     fn begin(&mut self, place: usize, wire: &mut LineWire<N::Connection>)
         ensures counts { wire.old.failures ≤ wire.new.failures }
         ensures place { wire.new.place ≡ wire.old.place }
-        ensures lines { self.new ≡ self.old }
+        ensures lines { self.new.lines ≡ self.old.lines }
     {
         let (Some(post), Some(ready), Some(watch)) = (
             self.posts.get_mut(place),
@@ -225,7 +229,8 @@ impl<N: Network + Drop, L: Write + Drop, S: TableSource + Drop> Exchange<N, L, S
 
     /// Whether the line at this place, if it rests, is prompted in this round.
     pub(crate) fn prompts(&self, place: usize, hub: &Hub) -> bool
-        ensures next { (id : LineId) → slice_get self.now place ≡ Some id → HasNext hub.now id → IsTrue result }
+        ensures prompted { (id : LineId) → (noted : Traffic) → slice_get self.now.lines place ≡ Some id
+            → slice_get self.now.noted place ≡ Some noted → IsTrue result ↔ IsPrompted noted hub.now id self.now.now }
     {
         let Some(post) = self.posts.get(place) else {
             return true;
@@ -238,7 +243,7 @@ impl<N: Network + Drop, L: Write + Drop, S: TableSource + Drop> Exchange<N, L, S
     /// the next round to which others of their customers gave something to send.
     pub(crate) fn end_round(&mut self, hub: &Hub, wires: &mut [LineWire<N::Connection>])
         ensures still { AreStill (λ a b acts. a.place ≡ b.place) (λ wire. wire.failures) wires.old wires.new }
-        ensures lines { self.new ≡ self.old }
+        ensures lines { self.new.lines ≡ self.old.lines }
     {
         let mut next = u64::MAX;
         for group in 0..self.groups.len() {
@@ -253,7 +258,7 @@ impl<N: Network + Drop, L: Write + Drop, S: TableSource + Drop> Exchange<N, L, S
     /// looked at next.
     fn end_group(&mut self, group: usize, hub: &Hub, wires: &mut [LineWire<N::Connection>]) -> u64
         ensures still { AreStill (λ a b acts. a.place ≡ b.place) (λ wire. wire.failures) wires.old wires.new }
-        ensures lines { self.new ≡ self.old }
+        ensures lines { self.new.lines ≡ self.old.lines }
     {
         let watch = self.watch_of(group);
         if !watch.is_due {
@@ -280,7 +285,7 @@ impl<N: Network + Drop, L: Write + Drop, S: TableSource + Drop> Exchange<N, L, S
 
     /// A group is looked at next at this moment.
     fn watch(&mut self, group: usize, moment: u64)
-        ensures lines { self.new ≡ self.old }
+        ensures lines { self.new.lines ≡ self.old.lines }
     {
         if let Some(watch) = self.groups.get_mut(group) {
             *watch = Watch {
@@ -295,7 +300,7 @@ impl<N: Network + Drop, L: Write + Drop, S: TableSource + Drop> Exchange<N, L, S
     fn end(&mut self, place: usize, hub: &Hub, wire: &mut LineWire<N::Connection>) -> u64
         ensures counts { wire.old.failures ≤ wire.new.failures }
         ensures place { wire.new.place ≡ wire.old.place }
-        ensures lines { self.new ≡ self.old }
+        ensures lines { self.new.lines ≡ self.old.lines }
     {
         match self.watches.get(place) {
             Some(watch) if !watch.is_due => return watch.moment,
@@ -320,10 +325,10 @@ impl<N: Network + Drop, L: Write + Drop, S: TableSource + Drop> Exchange<N, L, S
     fn apply_session(&mut self, place: usize, hub: &Hub, wire: &mut LineWire<N::Connection>) -> u64
         ensures counts { wire.old.failures ≤ wire.new.failures }
         ensures place { wire.new.place ≡ wire.old.place }
-        ensures lines { self.new ≡ self.old }
-        ensures kept { (id : LineId) → slice_get self.old place ≡ Some id → ¬ HasGivenUp hub.now id →
+        ensures lines { self.new.lines ≡ self.old.lines }
+        ensures kept { (id : LineId) → slice_get self.old.lines place ≡ Some id → ¬ HasGivenUp hub.now id →
             wire.new.connection ≡ wire.old.connection }
-        ensures quiet { (id : LineId) → slice_get self.old place ≡ Some id → HasLine hub.now id →
+        ensures quiet { (id : LineId) → slice_get self.old.lines place ≡ Some id → HasLine hub.now id →
             wire.new.quiet ≡ quiet_on id hub.now }
     {
         let Some(post) = self.posts.get_mut(place) else {

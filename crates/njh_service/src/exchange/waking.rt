@@ -11,21 +11,26 @@ use std::io::Write;
 
 impl<N: Network + Drop, L: Write + Drop, S: TableSource + Drop> Exchange<N, L, S> {
     /// Of each customer on whose lines something came, or that was given routes, has those lines
-    /// looked at in the next round that rest and have something to send.
+    /// looked at in the next round that rest and have something to send. A customer of many lines
+    /// and files waits a while between two such looks, so that others don't wait for them.
     pub(super) fn wake(&mut self, hub: &Hub)
-        ensures lines { self.new ≡ self.old }
+        ensures lines { self.new.lines ≡ self.old.lines }
     {
+        let now = self.desk.now;
         for customer in 0..CUSTOMERS {
-            if let Some(row) = self.desk.customers.take(customer) {
+            if let Some(row) = self.desk.customers.wanted(customer, now) {
+                let files = hub.file_count(row.customer);
+                self.desk.customers.look(customer, now, files);
                 self.wake_row(row, hub);
             }
         }
+        self.next = self.next.min(self.desk.customers.moment());
     }
 
     /// Has those lines of a customer looked at in the next round that rest and have something to
     /// send.
     fn wake_row(&mut self, row: Row, hub: &Hub)
-        ensures lines { self.new ≡ self.old }
+        ensures lines { self.new.lines ≡ self.old.lines }
     {
         for place in row.first..row.end {
             if self.is_wanted(place, row.customer, hub) {
@@ -45,7 +50,7 @@ impl<N: Network + Drop, L: Write + Drop, S: TableSource + Drop> Exchange<N, L, S
 
     /// A line is looked at in the next round, which doesn't wait.
     fn call(&mut self, place: usize)
-        ensures lines { self.new ≡ self.old }
+        ensures lines { self.new.lines ≡ self.old.lines }
     {
         let now = self.desk.now;
         if let Some(watch) = self.watches.get_mut(place) {

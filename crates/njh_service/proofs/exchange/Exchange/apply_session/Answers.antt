@@ -3,6 +3,7 @@ use Rattle.njh_table.specs.declared.LineId.{LineId}
 use Rattle.njh_hub.specs.Quiets.{quiet_on}
 use Rattle.njh_hub.specs.Views.{HasGivenUp}
 use Rattle.njh_hub.specs.WholeHub.{HasLine}
+use Rattle.njh_service.specs.Prompting.{Watched}
 use Rattle.njh_service.specs.declared.post.Post.{Post}
 use Rattle.njh_service.proofs.PostLaws.{lines_stay, line_there}
 use Rattle.njh_service.proofs.exchange.Exchange.apply_session.Goals as goal
@@ -10,7 +11,8 @@ use Rattle.njh_service.proofs.exchange.Exchange.apply_session.Goals as goal
 pub returns-clause-lines : goal.returns-clause-lines
 returns-clause-lines g c =
     lines_stay (λ (post : Post g.row.N-Listener.Denot g.row.N-Connection.Denot). post.line) c.self.inside.posts.items
-    c.args.self.now c.args.place c.in-Some.post.now c.apply_session.new.post c.self.view_is c.in-Some.ensures.value
+    c.args.self.now.lines c.args.place c.in-Some.post.now c.apply_session.new.post
+    (ap (λ (seen : Watched). seen.lines) c.self.view_is) c.in-Some.ensures.value
     c.apply_session.ensures.line
 
 pub returns-clause-kept : goal.returns-clause-kept
@@ -18,7 +20,8 @@ returns-clause-kept g c = λ line found alive.
     let Within : ℕ → Type 0 = λ many. c.args.place < many in
     let IsAlive : LineId → Type 0 = λ own. ¬ HasGivenUp c.args.hub.now own in
     let own = line_there (λ (post : Post g.row.N-Listener.Denot g.row.N-Connection.Denot). post.line)
-    c.self.inside.posts.items c.args.self.now c.args.place c.in-Some.post.now line c.self.view_is
+    c.self.inside.posts.items c.args.self.now.lines c.args.place c.in-Some.post.now line
+    (ap (λ (seen : Watched). seen.lines) c.self.view_is)
     (subst Within c.self.inside.posts.ok.0 (c.in-Some.ensures.variant.0 refl)) c.in-Some.ensures.value found in
     c.apply_session.ensures.kept (subst IsAlive own alive)
 
@@ -28,6 +31,7 @@ returns-clause-quiet g c = λ line found there.
     let IsThere : LineId → Type 0 = λ own. HasLine c.args.hub.now own in
     let quiet : LineId → ℕ = λ own. quiet_on own c.args.hub.now in
     let own = line_there (λ (post : Post g.row.N-Listener.Denot g.row.N-Connection.Denot). post.line)
-    c.self.inside.posts.items c.args.self.now c.args.place c.in-Some.post.now line c.self.view_is
+    c.self.inside.posts.items c.args.self.now.lines c.args.place c.in-Some.post.now line
+    (ap (λ (seen : Watched). seen.lines) c.self.view_is)
     (subst Within c.self.inside.posts.ok.0 (c.in-Some.ensures.variant.0 refl)) c.in-Some.ensures.value found in
     c.apply_session.ensures.quiet (subst IsThere own there) ∙ ap quiet (sym own)

@@ -6,5 +6,5 @@ use Rattle.njh_service.proofs.exchange.Exchange.end_group.Given as goal
 abbrev pub invariant-loop-place : goal.invariant-loop-place
 invariant-loop-place g l = record {
   still : AreStill (λ a b acts. a.place ≡ b.place) (λ wire. wire.failures) l.fn.wires l.wires;
-  lines : l.self ≡ l.fn.self;
+  lines : l.self.lines ≡ l.fn.self.lines;
 }

@@ -6,5 +6,5 @@ use Rattle.njh_service.proofs.exchange.Exchange.end_round.Given as goal
 abbrev pub invariant-loop-group : goal.invariant-loop-group
 invariant-loop-group g l = record {
   still : AreStill (λ a b acts. a.place ≡ b.place) (λ wire. wire.failures) l.fn.wires l.wires;
-  lines : l.self ≡ l.fn.self;
+  lines : l.self.lines ≡ l.fn.self.lines;
 }

@@ -1,18 +1,32 @@
-use Rattle.std.proofs.Common.{arith, ◌≡◌, ◌<◌, List, length, map, subst, sym, inr}
+use Rattle.std.proofs.Common.{arith, ◌≡◌, ℕ, ◌<◌, ◌↔◌, List, length, map, subst, sym, ap, ◌∙◌}
+use Rattle.std.specs.Prelude.{IsTrue}
 use Rattle.njh_table.specs.declared.LineId.{LineId}
-use Rattle.njh_hub.specs.Resting.{HasNext}
+use Rattle.njh_service.specs.Prompting.{IsPrompted, Watched}
 use Rattle.njh_service.specs.declared.post.Post.{Post}
+use Rattle.njh_service.specs.declared.traffic.Traffic.{Traffic}
 use Rattle.njh_service.proofs.PostLaws.{line_there}
 use Rattle.njh_service.proofs.exchange.Exchange.prompts.Goals as goal
 
+-- what is seen of the line and what was noted of it are those of the post there
 pub returns : goal.returns
 returns g c = record {
-  next = λ line found next.
+  prompted = λ line noted found known.
       let P : Type 0 = Post g.row.N-Listener.Denot g.row.N-Connection.Denot in
-      let Has : LineId → Type 0 = λ own. HasNext c.args.hub.now own in
-      let Seen : List P → Type 0 = λ posts. map (λ (post : P). post.line) posts ≡ c.args.self.now in
+      let Lines : List P → Type 0 = λ posts. map (λ (post : P). post.line) posts ≡ c.args.self.now.lines in
+      let Noted : List P → Type 0 = λ posts. map (λ (post : P). post.traffic) posts ≡ c.args.self.now.noted in
       let there : c.args.place < length c.deref.result.now = omega (arith, c.in-Some.ensures.lookup) in
-      let own = line_there (λ (post : P). post.line) c.deref.result.now c.args.self.now c.args.place c.in-Some.post.now
-      line (subst Seen (sym c.deref.ensures.value) c.self.view_is) there c.in-Some.ensures.lookup.1 found in
-      c.prompts.ensures.1 (inr (subst Has own next));
+      let own = line_there (λ (post : P). post.line) c.deref.result.now c.args.self.now.lines c.args.place
+      c.in-Some.post.now line
+      (subst Lines (sym c.deref.ensures.value) (ap (λ (seen : Watched). seen.lines) c.self.view_is)) there
+      c.in-Some.ensures.lookup.1 found in
+      let its = line_there (λ (post : P). post.traffic) c.deref.result.now c.args.self.now.noted c.args.place
+      c.in-Some.post.now noted
+      (subst Noted (sym c.deref.ensures.value) (ap (λ (seen : Watched). seen.noted) c.self.view_is)) there
+      c.in-Some.ensures.lookup.1 known in
+      let At : ℕ → Type 0 = λ now. IsTrue c.prompts.result ↔ IsPrompted noted c.args.hub.now line now in
+      let Of : Traffic → Type 0 = λ t. IsTrue c.prompts.result ↔ IsPrompted t c.args.hub.now line c.self.inside.desk.now in
+      let On : LineId → Type 0 =
+      λ id. IsTrue c.prompts.result ↔ IsPrompted c.in-Some.post.now.traffic c.args.hub.now id c.self.inside.desk.now in
+      subst At (ap (λ (seen : Watched). seen.now) c.self.view_is)
+      (subst Of (sym its) (subst On (sym own) c.prompts.ensures));
 }
