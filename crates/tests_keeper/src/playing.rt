@@ -71,7 +71,7 @@ fn play_over<S: Origin + Drop>(
 fn play_kept<D: Depot>(files: &SpoolFiles<'_>, keeper: &mut D, run: &str) -> Result<(), Fail> {
     let mut hub = files.hub_of(keeper)?;
     let mut left = u32::MAX;
-    'lines: for line in run.lines() {
+    for line in run.lines() {
         if let Some(note) = line.strip_prefix("# ") {
             left = take_note(files, &hub, note, left)?;
         } else if left > 0 && !line.is_empty() {
@@ -165,7 +165,7 @@ fn play_bytes<K: Keeper>(
 {
     let bytes = hex::decode(files.allocator(), digits)?;
     let mut left = bytes.as_slice();
-    'steps: for _ in 0..bytes.len() {
+    for _ in 0..bytes.len() {
         if left.is_empty() {
             return Ok(());
         }

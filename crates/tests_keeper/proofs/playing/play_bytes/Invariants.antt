@@ -1,5 +1,5 @@
 use Rattle.tests_keeper.proofs.playing.play_bytes.Given as goal
 
 -- what the keeper knows is the hub as it is
-abbrev pub invariant-steps : goal.invariant-steps
-invariant-steps g l = record { known : g.K.Keeper.says.knows l.keeper l.hub }
+abbrev pub invariant-loop : goal.invariant-loop
+invariant-loop g l = record { known : g.K.Keeper.says.knows l.keeper l.hub }
