@@ -34,12 +34,27 @@ differs false now = now
 abbrev pub moves_others : Sight → Sight → Bool
 moves_others was now = has_text was now || differs was.is_up now.is_up || (was.waits && not now.waits)
 
+-- until when a line has paid once it sent a block out of its rest: five milliseconds more, and for 64 blocks at most
+abbrev pub paid_after : ℕ → ℕ → ℕ
+paid_after paid moment =
+    let begun = if nat_lt paid moment then moment else paid in
+    min (min (begun + 5) 18446744073709551615) (min (moment + 325) 18446744073709551615)
+
 -- what is known of a line once it was seen so
 abbrev pub noted : Traffic → Sight → ℕ → Traffic
 noted t now moment = record {
   seen = now;
   text = if has_text t.seen now then Some moment else t.text;
+  paid = if t.seen.rests && not (now.next_count == t.seen.next_count) then paid_after t.paid moment else t.paid;
 }
+
+-- it doesn't owe for 64 blocks, of which each takes five milliseconds
+abbrev pub may_prompt : Traffic → ℕ → Bool
+may_prompt t now = nat_le t.paid (min (now + 320) 18446744073709551615)
+
+-- until when it isn't asked for what it has to send, if it owes for more
+abbrev pub held_until : Traffic → ℕ → ℕ
+held_until t now = if t.seen.rests && not (may_prompt t now) then t.paid - 320 else 18446744073709551615
 
 -- a text was taken or sent in the last two seconds
 abbrev pub is_recent : Option ℕ → ℕ → Bool
@@ -57,9 +72,10 @@ pub record Watched : Type 0 where
   pub now : ℕ
 
 -- A line that rests is prompted: that is so, or the hub has a block to send on it (`HasNext`: by its own customer's part
--- alone). Else this looks at nothing but what was noted of the line itself, and at the time.
+-- alone) and the line doesn't owe for too many. Else this looks at nothing but what was noted of the line itself, and at
+-- the time.
 abbrev pub IsPrompted : Traffic → List Part → LineId → ℕ → Type 0
-IsPrompted t parts id now = IsTrue (is_soon t now) ⊎ HasNext parts id
+IsPrompted t parts id now = IsTrue (is_soon t now) ⊎ (IsTrue (may_prompt t now) × HasNext parts id)
 
 -- when it is to be visited because texts were on it, if that is to come
 abbrev pub soon : Traffic → ℕ → ℕ

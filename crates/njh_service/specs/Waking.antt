@@ -1,6 +1,6 @@
 -- When a customer's lines are looked at because something came that may give one of them something to send: at once, or
 -- after a pause, so that all these looks take an eighth of the time at most. One costs what its lines and files do.
-use Rattle.std.specs.Prelude.{ℕ, ◌+◌, ◌-◌, ◌*◌, ◌/◌, Bool, true, false, ◌&&◌, nat_le, min, if◌then◌else◌}
+use Rattle.std.specs.Prelude.{ℕ, ◌+◌, ◌-◌, ◌*◌, ◌/◌, Bool, true, false, ◌&&◌, ◌==◌, nat_le, nat_lt, min, if◌then◌else◌}
 use Rattle.njh_service.specs.declared.customers.Row.{Row}
 
 -- a line without files costs as much as sixteen files, and a customer has 12,500 in a millisecond
@@ -18,6 +18,13 @@ abbrev pub looked : Row → ℕ → ℕ → Row
 looked row now files = record row {
   has_moved = false;
   again = min (now + pause_for (row.end - row.first) files) 18446744073709551615;
+}
+
+-- they are looked at again at this moment too, if there is one
+abbrev pub looked_again : Row → ℕ → Row
+looked_again row moment = if moment == 18446744073709551615 then row else record row {
+  has_moved = true;
+  again = if nat_lt row.again moment then moment else row.again;
 }
 
 abbrev pub look_moment : Row → ℕ

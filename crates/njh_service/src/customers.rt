@@ -1,7 +1,7 @@
 //! What the attendant keeps of each customer.
 
 ghost use Rattle.std.specs.Prelude.{◌≡◌};
-ghost use Rattle.njh_service.specs.Waking.{is_wanted, look_moment, looked, marked, pause_for};
+ghost use Rattle.njh_service.specs.Waking.{is_wanted, look_moment, looked, looked_again, marked, pause_for};
 
 /// How many customers a hub has at most.
 pub(crate) const CUSTOMERS: usize = 64;
@@ -70,6 +70,20 @@ impl Row {
         self.again = now.saturating_add(pause_for(lines as u64, files));
     }
 
+    /// The lines are looked at again at this moment too; `u64::MAX` if nothing asks for that.
+    fn look_again(&mut self, moment: u64)
+        ensures { self.new ≡ looked_again self.old moment }
+    {
+        if moment != u64::MAX {
+            self.has_moved = true;
+            self.again = if self.again < moment {
+                moment
+            } else {
+                self.again
+            };
+        }
+    }
+
     /// When the lines are to be looked at; `u64::MAX` if nothing came.
     fn moment(&self) -> u64
         ensures { result ≡ look_moment self.now }
@@ -125,6 +139,14 @@ impl Customers {
     pub(crate) fn look(&mut self, customer: usize, now: u64, files: u32) {
         if let Some(row) = self.rows.get_mut(customer) {
             row.look(now, files);
+        }
+    }
+
+    /// A customer's lines are looked at again at this moment too; `u64::MAX` if nothing asks for
+    /// that.
+    pub(crate) fn look_again(&mut self, customer: usize, moment: u64) {
+        if let Some(row) = self.rows.get_mut(customer) {
+            row.look_again(moment);
         }
     }
 

@@ -1,9 +1,9 @@
 //! What was noted of a line, and when it is prompted because of that.
 
-ghost use Rattle.std.specs.Prelude.{◌≡◌, ◌-◌, ◌<◌, ◌^◌, ◌↔◌, IsTrue};
+ghost use Rattle.std.specs.Prelude.{◌≡◌, ◌-◌, ◌<◌, ◌^◌, ◌↔◌, ◌&&◌, IsTrue};
 ghost use Rattle.njh_hub.specs.Resting.{HasNext};
 ghost use Rattle.njh_service.specs.Prompting.{IsPrompted, has_text, is_recent, is_same_bcb, is_soon, moves_others};
-ghost use Rattle.njh_service.specs.Prompting.{noted, soon};
+ghost use Rattle.njh_service.specs.Prompting.{held_until, may_prompt, noted, paid_after, soon};
 
 use njh_hub::Hub;
 use njh_table::LineId;
@@ -13,6 +13,12 @@ const BUSY: u64 = 2_000;
 
 /// After how long a silence that is, in milliseconds.
 const PAUSE: u64 = 20;
+
+/// For how many milliseconds a line pays for a block that it was asked for out of its rest.
+const COST: u64 = 5;
+
+/// For how many milliseconds it may be in debt: 64 blocks, and then one in five milliseconds.
+const DEBT: u64 = 320;
 
 /// How a line was at the end of its turn.
 #[derive(Clone, Copy, Drop)]
@@ -38,6 +44,8 @@ pub(crate) struct Traffic {
     pub(crate) seen: Sight,
     /// When a text was last taken or sent on it, on the service's clock; none if none was.
     pub(crate) text: Option<u64>,
+    /// Until when it has paid for the blocks that it sent out of its rest, on the service's clock.
+    pub(crate) paid: u64,
 }
 
 impl Traffic {
@@ -53,6 +61,7 @@ impl Traffic {
                 begun: u64::MAX,
             },
             text: None,
+            paid: 0,
         }
     }
 
@@ -67,25 +76,47 @@ impl Traffic {
         if has_text {
             self.text = Some(moment);
         }
+        if was.rests && now.next_count != was.next_count {
+            self.paid = paid_after(self.paid, moment);
+        }
         self.seen = now;
         has_text || was.is_up != now.is_up || (was.waits && !now.waits)
     }
 
     /// Whether the line, if it rests, is prompted: another line of its customer gave it something
-    /// to send, or texts were on it of late and its wire is silent for a while. Nothing of another
-    /// customer is in it.
+    /// to send, and it doesn't owe for too many blocks of this kind; or texts were on it of late
+    /// and its wire is silent for a while. Nothing of another customer is in it.
     pub(crate) fn prompts(&self, hub: &Hub, id: LineId, now: u64) -> bool
         ensures { IsTrue result ↔ IsPrompted self.now hub.now id now }
     {
-        self.is_soon(now) || hub.has_next(id)
+        self.is_soon(now) || (self.may_prompt(now) && hub.has_next(id))
     }
 
-    /// Whether the line is to be visited at once: it rests, its wire is free to send, and it has
-    /// something to send.
-    pub(crate) fn wakes(&self, hub: &Hub, id: LineId) -> bool
-        ensures { IsTrue result ↔ (IsTrue self.now.seen.rests × HasNext hub.now id) }
+    /// Whether the line is to be visited at once: it rests, its wire is free to send, it doesn't
+    /// owe for too many blocks, and it has something to send.
+    pub(crate) fn wakes(&self, hub: &Hub, id: LineId, now: u64) -> bool
+        ensures { IsTrue result ↔ (IsTrue (self.now.seen.rests && may_prompt self.now now) × HasNext hub.now id) }
     {
-        self.seen.rests && hub.has_next(id)
+        (self.seen.rests && self.may_prompt(now)) && hub.has_next(id)
+    }
+
+    /// Until when the line, which rests, isn't asked for what it has to send, since it owes for too
+    /// many blocks; `u64::MAX` if it may be asked.
+    pub(crate) fn held_until(&self, now: u64) -> u64
+        ensures { result ≡ held_until self.now now }
+    {
+        if self.seen.rests && !self.may_prompt(now) {
+            self.paid.saturating_sub(DEBT)
+        } else {
+            u64::MAX
+        }
+    }
+
+    /// Whether the line doesn't owe for too many blocks.
+    fn may_prompt(&self, now: u64) -> bool
+        ensures { result ≡ may_prompt self.now now }
+    {
+        self.paid <= now.saturating_add(DEBT)
     }
 
     /// When the line wants to be visited because texts were on it of late; `u64::MAX` if it
@@ -118,6 +149,15 @@ impl Traffic {
             None => false,
         }
     }
+}
+
+/// Until when a line has paid once it sent a block out of its rest.
+fn paid_after(paid: u64, moment: u64) -> u64
+    ensures { result ≡ paid_after paid moment }
+{
+    let begun = if paid < moment { moment } else { paid };
+    let until = begun.saturating_add(COST);
+    until.min(moment.saturating_add(DEBT + COST))
 }
 
 /// Whether a text was taken or sent between two sights of a line.

@@ -21,21 +21,34 @@ impl<N: Network + Drop, L: Write + Drop, S: TableSource + Drop> Exchange<N, L, S
             if let Some(row) = self.desk.customers.wanted(customer, now) {
                 let files = hub.file_count(row.customer);
                 self.desk.customers.look(customer, now, files);
-                self.wake_row(row, hub);
+                let held = self.wake_row(row, hub);
+                self.desk.customers.look_again(customer, held);
             }
         }
         self.next = self.next.min(self.desk.customers.moment());
     }
 
     /// Has those lines of a customer looked at in the next round that rest and have something to
-    /// send.
-    fn wake_row(&mut self, row: Row, hub: &Hub)
+    /// send. Answers when one may be asked again that may not be asked now; `u64::MAX` if there is
+    /// none.
+    fn wake_row(&mut self, row: Row, hub: &Hub) -> u64
         ensures lines { self.new.lines ≡ self.old.lines }
     {
+        let mut held = u64::MAX;
         for place in row.first..row.end {
             if self.is_wanted(place, row.customer, hub) {
                 self.call(place);
             }
+            held = held.min(self.held_until(place));
+        }
+        held
+    }
+
+    /// Until when the line at this place isn't asked for what it has to send.
+    fn held_until(&self, place: usize) -> u64 {
+        match self.posts.get(place) {
+            Some(post) => post.traffic.held_until(self.desk.now),
+            None => u64::MAX,
         }
     }
 
@@ -43,7 +56,8 @@ impl<N: Network + Drop, L: Write + Drop, S: TableSource + Drop> Exchange<N, L, S
     /// send.
     fn is_wanted(&self, place: usize, customer: u16, hub: &Hub) -> bool {
         match self.posts.get(place) {
-            Some(post) => post.line.customer == customer && post.traffic.wakes(hub, post.line),
+            Some(post) => post.line.customer == customer
+                && post.traffic.wakes(hub, post.line, self.desk.now),
             None => false,
         }
     }

@@ -1,4 +1,4 @@
-use Rattle.std.proofs.Common.{arith, ◌≡◌, ℕ, ◌<◌, ◌↔◌, List, length, map, subst, sym, ap, ◌∙◌}
+use Rattle.std.proofs.Common.{arith, ◌≡◌, ℕ, ◌<◌, ◌↔◌, List, length, map, subst, sym, ap}
 use Rattle.std.specs.Prelude.{IsTrue}
 use Rattle.njh_table.specs.declared.LineId.{LineId}
 use Rattle.njh_service.specs.Prompting.{IsPrompted, Watched}
