@@ -3,4 +3,5 @@ pub mod Exported
 pub mod Faults
 pub mod Listed
 pub mod Printed
+pub mod Taken
 pub mod code

@@ -1,6 +1,7 @@
 //! What a spool file holds, printed for people: its whole files, and a file's records.
 #![tactic(auto)]
 
+mod copying;
 mod exporting;
 mod fault;
 mod finding;

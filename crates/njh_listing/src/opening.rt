@@ -1,6 +1,6 @@
 //! Opens the spool file of a path.
 
-ghost use Rattle.std.specs.Prelude.{◌≡◌, IfErr, IfOk};
+ghost use Rattle.std.specs.Prelude.{◌≡◌, length, IfErr, IfOk};
 ghost use Rattle.sqlite.specs.Files.{file_state};
 ghost use Rattle.sqlite.specs.State.{HasCleanDisk};
 ghost use Rattle.sqlite.specs.WalFiles.{image_at};
@@ -8,15 +8,17 @@ ghost use Rattle.njh_spoolfile.specs.Kept.{SpoolContents};
 ghost use Rattle.njh_spoolfile.specs.Origin.{IsFoundIn};
 ghost use Rattle.njh_spoolfile.specs.CommitState.{Stands};
 ghost use Rattle.njh_listing.specs.Faults.{IsOfSpool};
+ghost use Rattle.njh_listing.specs.Taken.{is_other};
 
+use crate::copying::{copy_files, fault_of, hold, make_folder, real_path, remove_folder};
 use crate::fault::FilesFault;
 use njh_spoolfile::Store;
 use sqlite::{Alter, FileFrom, FileStore, Start};
+use std::fs;
 use std::fs::{File, OpenOptions, Permissions};
-use std::io::ErrorKind;
+use std::io::{ErrorKind, Read};
 use std::os::unix::fs::{OpenOptionsExt, PermissionsExt};
 use std::rt::HostRuntime;
-use std::{fs, io};
 
 /// The mode of a spool file and of its log: whole files are their users' letters, and none of other
 /// users of the host.
@@ -26,7 +28,8 @@ const MODE: u32 = 0o600;
 /// impl says of which type an open one is, so that a crate that only has what opens them doesn't
 /// prove how the parts of that type are dropped.
 pub trait SpoolFiles {
-    /// Opens the spool file at the path, or makes it, and gives it and its log the mode 0600.
+    /// Opens the spool file at the path, or makes it, and gives it and its log the mode 0600. What
+    /// is no spool file isn't written.
     fn open_spool<S: Start>(
         &self,
         path: &str,
@@ -37,7 +40,8 @@ pub trait SpoolFiles {
             → Stands (record { now = spool; kept = spool }) (file_state store.conn)) }
         ensures refused { IfErr result IsOfSpool };
 
-    /// Opens the spool file at the path, which has to be there, and leaves its mode.
+    /// Opens a copy of the spool file at the path, which has to be there and need not be writable.
+    /// It stays as it is, and nothing is left beside it; the copy is gone when this returns.
     fn find_spool<S: Start>(
         &self,
         path: &str,
@@ -46,22 +50,16 @@ pub trait SpoolFiles {
         ensures { IfErr result IsOfSpool };
 }
 
-/// What a failure of the file system is told as.
-fn fault_of(error: io::Error) -> FilesFault
-    ensures { IsOfSpool result }
-{
-    match error.kind() {
-        ErrorKind::OutOfMemory => FilesFault::Memory,
-        _ => FilesFault::Device,
-    }
+/// Whether SQLite takes a path for none of a file.
+fn is_no_file(path: &str) -> bool {
+    path == ":memory:" || path.starts_with("file:")
 }
 
-/// Makes an empty file if none is: a database that has nothing yet. SQLite takes two kinds of
-/// names for no file.
+/// Makes an empty file if none is: a database that has nothing yet.
 fn make_empty(rt: &HostRuntime, path: &str) -> Result<(), FilesFault>
     ensures { IfErr result IsOfSpool }
 {
-    if path == ":memory:" || path.starts_with("file:") {
+    if is_no_file(path) {
         return Ok(());
     }
     let made = OpenOptions::new()
@@ -98,14 +96,75 @@ fn set_mode(rt: &HostRuntime, path: &str) -> Result<(), FilesFault>
 fn set_modes(rt: &HostRuntime, path: &str) -> Result<(), FilesFault>
     ensures { IfErr result IsOfSpool }
 {
-    let found = match fs::canonicalize(rt, path) {
-        Ok(found) => found,
+    let file = real_path(rt, path)?;
+    set_mode(rt, file.as_str())?;
+    let log = log_of(rt, file.as_str())?;
+    set_mode(rt, log.as_str())
+}
+
+/// The path of a spool file's log.
+fn log_of(rt: &HostRuntime, file: &str) -> Result<String, FilesFault>
+    ensures { IfErr result IsOfSpool }
+{
+    Ok(format!(in rt.alloc(); "{file}-wal")?)
+}
+
+/// How many bytes a file has; none if it isn't there.
+fn len_of(rt: &HostRuntime, path: &str) -> u64 {
+    match fs::metadata(rt, path) {
+        Ok(found) => found.len(),
+        Err(_) => 0,
+    }
+}
+
+/// Whether a file is somebody else's, by its first bytes and by how many its log has.
+fn is_other(file: &[u8], log: u64) -> bool
+    ensures { result ≡ is_other file.now log }
+{
+    match file {
+        [first] => *first != 0 || log == 0,
+        _ => false,
+    }
+}
+
+/// The first two bytes of a file, if it has as many.
+fn first_bytes(rt: &HostRuntime, path: &str) -> Result<Vec<u8>, FilesFault>
+    ensures { IfErr result IsOfSpool }
+{
+    let file = match File::open(rt, path) {
+        Ok(file) => file,
         Err(error) => return Err(fault_of(error)),
     };
-    let file = found.as_str();
-    set_mode(rt, file)?;
-    let log = format!(in rt.alloc(); "{file}-wal")?;
-    set_mode(rt, log.as_str())
+    let mut bytes = Vec::new(rt.alloc());
+    match file.take(2).read_to_end(&mut bytes) {
+        Ok(_) => Ok(bytes),
+        Err(error) => Err(fault_of(error)),
+    }
+}
+
+/// Refuses a file that is somebody else's and too short for SQLite to see that: it would take it
+/// for one that is new.
+fn refuse_other(rt: &HostRuntime, path: &str) -> Result<(), FilesFault>
+    ensures { IfErr result IsOfSpool }
+{
+    let file = real_path(rt, path)?;
+    let log = log_of(rt, file.as_str())?;
+    let bytes = first_bytes(rt, file.as_str())?;
+    if is_other(&bytes, len_of(rt, log.as_str())) {
+        return Err(FilesFault::Damaged);
+    }
+    Ok(())
+}
+
+/// Makes a file that isn't there, and refuses one that is somebody else's.
+fn make_or_refuse(rt: &HostRuntime, path: &str) -> Result<(), FilesFault>
+    ensures { IfErr result IsOfSpool }
+{
+    if is_no_file(path) {
+        return Err(FilesFault::Device);
+    }
+    make_empty(rt, path)?;
+    refuse_other(rt, path)
 }
 
 /// Opens the spool file at the path, or makes it.
@@ -143,13 +202,71 @@ fn where_set<S: Alter + Drop>(
     }
 }
 
+/// Copies a spool file into a folder, and opens the copy.
+fn open_in<S: Start>(
+    rt: &HostRuntime,
+    path: &str,
+    folder: &str,
+    start: S,
+) -> Result<Store<FileStore<FileFrom<S>>>, FilesFault>
+    ensures { IfErr result IsOfSpool }
+{
+    let copy = match copy_to(rt, path, folder) {
+        Ok(copy) => copy,
+        Err(fault) => return Err(fault),
+    };
+    open_store(rt, copy.as_str(), start)
+}
+
+/// Copies a spool file into a folder, and says where the copy is.
+fn copy_to(rt: &HostRuntime, path: &str, folder: &str) -> Result<String, FilesFault>
+    ensures { IfErr result IsOfSpool }
+{
+    let copy = format!(in rt.alloc(); "{folder}/spool")?;
+    copy_files(rt, path, copy.as_str())?;
+    refuse_other(rt, copy.as_str())?;
+    Ok(copy)
+}
+
+/// Opens a copy of a spool file, which is gone when this returns.
+fn open_copy<S: Start>(
+    rt: &HostRuntime,
+    path: &str,
+    start: S,
+) -> Result<Store<FileStore<FileFrom<S>>>, FilesFault>
+    ensures { IfErr result IsOfSpool }
+{
+    let folder = match make_folder(rt) {
+        Ok(folder) => folder,
+        Err(fault) => return Err(fault),
+    };
+    let opened = open_in(rt, path, folder.as_str(), start);
+    let removed = remove_folder(rt, folder.as_str());
+    match opened {
+        Ok(store) => where_set(store, removed),
+        Err(fault) => Err(fault),
+    }
+}
+
+/// A spool file that is there, held so that nobody writes it.
+fn find(rt: &HostRuntime, path: &str) -> Result<(String, File), FilesFault>
+    ensures { IfErr result IsOfSpool }
+{
+    if is_no_file(path) {
+        return Err(FilesFault::Device);
+    }
+    let real = real_path(rt, path)?;
+    let held = hold(rt, real.as_str())?;
+    Ok((real, held))
+}
+
 impl SpoolFiles for HostRuntime {
     fn open_spool<S: Start>(
         &self,
         path: &str,
         start: S,
     ) -> Result<Store<FileStore<FileFrom<S>>>, FilesFault> {
-        match make_empty(self, path) {
+        match make_or_refuse(self, path) {
             Ok(()) => {}
             Err(fault) => return Err(fault),
         }
@@ -164,10 +281,12 @@ impl SpoolFiles for HostRuntime {
         path: &str,
         start: S,
     ) -> Result<Store<FileStore<FileFrom<S>>>, FilesFault> {
-        match File::open(self, path) {
-            Ok(file) => drop(file),
-            Err(_) => return Err(FilesFault::Device),
-        }
-        open_store(self, path, start)
+        let (real, held) = match find(self, path) {
+            Ok(found) => found,
+            Err(fault) => return Err(fault),
+        };
+        let opened = open_copy(self, real.as_str(), start);
+        drop(held);
+        opened
     }
 }
