@@ -18,6 +18,6 @@ mod sources;
 mod tracing;
 
 pub use fault::TraceFault;
-pub use sent::{put_sent_frame, sent_one_by_one};
+pub use sent::sent_one_by_one;
 pub use sources::Sources;
 pub use tracing::decode_trace;
