@@ -7,16 +7,16 @@ use Rattle.njh_listing.specs.declared.fault.FilesFault.{FilesFault}
 use Rattle.njh_listing.specs.declared.fault.FilesFault.TheVariants.{Damaged, Device, InUse, Memory, NoFile, NotASpool}
 use Rattle.njh_listing.specs.declared.fault.FilesFault.TheVariants.{OtherVersion, Refused, Several}
 
-pub spool_fits : (keys : List ℕ) (fault : FilesFault) → IsOfSpool fault → FitsFault keys fault
-spool_fits keys (NoFile name) is = absurd is
-spool_fits keys (Several list) is = absurd is
-spool_fits keys (Refused why) is = absurd is
-spool_fits keys InUse is = tt
-spool_fits keys NotASpool is = tt
-spool_fits keys OtherVersion is = tt
-spool_fits keys Damaged is = tt
-spool_fits keys Device is = tt
-spool_fits keys Memory is = tt
+pub spool_fits : (keys named : List ℕ) (fault : FilesFault) → IsOfSpool fault → FitsFault keys named fault
+spool_fits keys named (NoFile name) is = absurd is
+spool_fits keys named (Several list) is = absurd is
+spool_fits keys named (Refused why) is = absurd is
+spool_fits keys named InUse is = tt
+spool_fits keys named NotASpool is = tt
+spool_fits keys named OtherVersion is = tt
+spool_fits keys named Damaged is = tt
+spool_fits keys named Device is = tt
+spool_fits keys named Memory is = tt
 
 -- what is said of an answer's fault says something else of it
 pub if_err : {T E : Type 0} (P Q : E → Type 0) → ((e : E) → P e → Q e) → (r : Result T E) → IfErr r P → IfErr r Q

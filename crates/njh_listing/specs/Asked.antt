@@ -29,13 +29,15 @@ asked_of customer number name es = filter (is_called name) (at_number number (fi
 abbrev pub key_in : ℕ × File → ℕ
 key_in e = e.1.key
 
--- If it isn't one file that is asked for: none, or several.
-abbrev pub FitsFault : (keys : List ℕ) → FilesFault → Type 0
-FitsFault keys (NoFile name) = keys ≡ []
-FitsFault keys (Several list) = 1 < length keys
-FitsFault keys fault = ⊤
+-- If it isn't one file that is asked for, and `named` are those of the name, whatever their numbers: none has the name;
+-- or several are asked for, or none is and some have the name.
+abbrev pub FitsFault : (keys named : List ℕ) → FilesFault → Type 0
+FitsFault keys named (NoFile name) = (keys ≡ []) × (named ≡ [])
+FitsFault keys named (Several list) = (length keys ≡ 1 → ⊥) × (length keys ≡ 0 → 0 < length named)
+FitsFault keys named fault = ⊤
 
--- as these files say it of those that are asked for
+-- as these files say it of those that are asked for, and of those that are if no number is given
 abbrev pub IsRefusedOf : (customer : Option (List ℕ)) → (number : Option ℕ) → (name : List ℕ) → List (ℕ × File)
     → FilesFault → Type 0
-IsRefusedOf customer number name es fault = FitsFault (map key_in (asked_of customer number name es)) fault
+IsRefusedOf customer number name es fault =
+    FitsFault (map key_in (asked_of customer number name es)) (map key_in (asked_of customer None name es)) fault

@@ -1,5 +1,5 @@
 -- Which files a hub takes for a new spool file.
-use Rattle.std.specs.Prelude.{ℕ, zero, suc, Bool, true, false, ◌==◌, ◌&&◌, List, [], ◌∷◌}
+use Rattle.std.specs.Prelude.{ℕ, zero, suc, Bool, true, false, List, [], ◌∷◌}
 
 -- A file of one byte is somebody else's, unless the making of a spool file may have left it: then the byte is 0, and
 -- there is a log beside it that has bytes too. `file` is the file, or the beginning of one that has more than a byte.

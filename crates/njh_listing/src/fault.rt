@@ -13,7 +13,8 @@ use std::fmt;
 pub enum FilesFault {
     /// The customer has no such file; with what it was called.
     NoFile(String),
-    /// The customer has several such files; with the end of a line and a line for each of them.
+    /// The customer has several such files, or none of them has the number; with which of the two,
+    /// and a further line for each of them.
     Several(String),
     /// A whole file can't be put back into a hub; with why, and whose it is.
     Refused(String),
@@ -33,11 +34,11 @@ pub enum FilesFault {
 }
 
 impl fmt::Display for FilesFault {
-    /// One line without its end; for several files a further one for each of them.
+    /// One line without its end; for several files, and a wrong number, a further one for each.
     fn fmt<W: fmt::Write>(&self, f: &mut fmt::Formatter<W>) -> fmt::Result {
         match self {
             FilesFault::NoFile(name) => write!(f, "no file {name}"),
-            FilesFault::Several(list) => write!(f, "several files, say which by --number{list}"),
+            FilesFault::Several(list) => f.write_str(list.as_str()),
             FilesFault::Refused(why) => f.write_str(why.as_str()),
             FilesFault::InUse => f.write_str("spool in use"),
             FilesFault::NotASpool => f.write_str("spool is another database"),

@@ -1,8 +1,8 @@
 //! Finds the file that is asked for.
 
 ghost use Rattle.std.specs.Prelude.{◌≡◌, ◌++◌, ◌+◌, ◌-◌, ◌<◌, ◌^◌, ◌&&◌, [], ◌∷◌, map, option_map, bytes_eq, cond};
-ghost use Rattle.std.specs.Prelude.{IfErr, IfOk, OnOk};
-ghost use Rattle.njh_listing.specs.Asked.{FitsFault, asked_of, is_own, key_in};
+ghost use Rattle.std.specs.Prelude.{IfErr, IfOk, None, OnOk};
+ghost use Rattle.njh_listing.specs.Asked.{FitsFault, IsRefusedOf, asked_of, is_own, key_in};
 ghost use Rattle.njh_listing.specs.Listed.{name_text};
 ghost use Rattle.njh_listing.specs.code.FindingSteps.{found_at, is_number};
 ghost use Rattle.njh_spoolfile.specs.Kept.{entry_of, file_of};
@@ -11,6 +11,12 @@ use crate::fault::FilesFault;
 use crate::listing::{name_text, said_of};
 use njh_spoolfile::{FileRow, StoredFile};
 use std::alloc::{AllocError, Global};
+
+/// What is said of files of one name, before the list of them.
+const SEVERAL: &str = "several files, say which by --number";
+
+/// What is said if none of them has the number.
+const WRONG_NUMBER: &str = "wrong number, say which by --number";
 
 /// Which files are asked for, or which one, and how its records are to be written.
 #[derive(Clone, Copy)]
@@ -137,14 +143,15 @@ fn put_line(
     Ok(at)
 }
 
-/// The end of a line and a line for each of the files that are asked for, after its number.
+/// What is said of files, and a further line for each of those that are asked for, after its number.
 fn list_of(
     alloc: Global,
     files: &[StoredFile],
     asked: &Asked<'_>,
     name: &str,
+    said: &str,
 ) -> Result<String, AllocError> {
-    let mut list = String::new(alloc);
+    let mut list = String::from_str(alloc, said)?;
     let mut own = 0;
     for stored in files {
         own = put_line(alloc, &mut list, asked, name, own, stored)?;
@@ -152,13 +159,26 @@ fn list_of(
     Ok(list)
 }
 
-/// The fault if the customer has no such file.
-fn no_file(alloc: Global, name: &str) -> FilesFault
-    ensures { FitsFault [] result }
+/// The fault if the customer has no such file, or none of this number.
+fn none_of(
+    alloc: Global,
+    files: &[StoredFile],
+    asked: &Asked<'_>,
+    name: &str,
+) -> Result<FilesFault, AllocError>
+    ensures { IfOk result (FitsFault [] (map key_in (asked_of (option_map (λ c. c.now) asked.now.customer) None name.now
+        (map entry_of files.now)))) }
 {
-    match String::from_str(alloc, name) {
-        Ok(name) => FilesFault::NoFile(name),
-        Err(_) => FilesFault::Memory,
+    let any = Asked {
+        customer: asked.customer,
+        file: asked.file,
+        number: None,
+        raw: asked.raw,
+    };
+    let named = keys_of(alloc, files, &any, name)?;
+    match named.as_slice() {
+        [] => Ok(FilesFault::NoFile(String::from_str(alloc, name)?)),
+        _ => Ok(FilesFault::Several(list_of(alloc, files, &any, name, WRONG_NUMBER)?)),
     }
 }
 
@@ -171,13 +191,13 @@ pub(crate) fn key_of(
 ) -> Result<u32, FilesFault>
     ensures found { IfOk result (λ key. map key_in (asked_of (option_map (λ c. c.now) asked.now.customer)
         asked.now.number name.now (map entry_of files.now)) ≡ key ∷ []) }
-    ensures refused { IfErr result (FitsFault (map key_in (asked_of (option_map (λ c. c.now) asked.now.customer)
-        asked.now.number name.now (map entry_of files.now)))) }
+    ensures refused { IfErr result (IsRefusedOf (option_map (λ c. c.now) asked.now.customer) asked.now.number name.now
+        (map entry_of files.now)) }
 {
     let keys = keys_of(alloc, files, asked, name)?;
     match keys.as_slice() {
-        [] => Err(no_file(alloc, name)),
+        [] => Err(none_of(alloc, files, asked, name)?),
         [key] => Ok(*key),
-        _ => Err(FilesFault::Several(list_of(alloc, files, asked, name)?)),
+        _ => Err(FilesFault::Several(list_of(alloc, files, asked, name, SEVERAL)?)),
     }
 }

@@ -1,6 +1,6 @@
 //! Opens the spool file of a path.
 
-ghost use Rattle.std.specs.Prelude.{◌≡◌, length, IfErr, IfOk};
+ghost use Rattle.std.specs.Prelude.{◌≡◌, IfErr, IfOk};
 ghost use Rattle.sqlite.specs.Files.{file_state};
 ghost use Rattle.sqlite.specs.State.{HasCleanDisk};
 ghost use Rattle.sqlite.specs.WalFiles.{image_at};

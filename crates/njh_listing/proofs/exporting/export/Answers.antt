@@ -5,7 +5,7 @@ use Rattle.sqlite.specs.State.{HasCleanDisk}
 use Rattle.njh_spoolfile.proofs.ReadingLaws.{of_file}
 use Rattle.njh_spoolfile.specs.Kept.{Holds, contents, contents_of, entry_of}
 use Rattle.njh_spoolfile.specs.Shelf.{shown}
-use Rattle.njh_listing.specs.Asked.{FitsFault, asked_of, key_in}
+use Rattle.njh_listing.specs.Asked.{IsRefusedOf, asked_of, key_in}
 use Rattle.njh_listing.specs.Exported.{export_text}
 use Rattle.njh_listing.specs.Faults.{IsOfSpool}
 use Rattle.njh_listing.proofs.FaultLaws.{if_err, spool_fits}
@@ -31,27 +31,26 @@ returns-clause-kept g c clean spool held =
 pub returns-in_err-files-clause-refused : goal.returns-in_err-files-clause-refused
 returns-in_err-files-clause-refused g c clean =
     let fault : IfErr c.from_residual.result IsOfSpool = search rules in
-    if_err IsOfSpool _ (λ fault is spool held. spool_fits _ fault is) c.from_residual.result fault
+    if_err IsOfSpool _ (λ fault is spool held. spool_fits _ _ fault is) c.from_residual.result fault
 
 pub returns-in_err-key-clause-refused : goal.returns-in_err-key-clause-refused
 returns-in_err-key-clause-refused g c clean =
     let customer = option_map (λ c'. c'.now) c.args.asked.now.customer in
     let fault : IfErr c.from_residual-in_err-key.result
-    (FitsFault (map key_in (asked_of customer c.args.asked.now.number c.args.name.now
-    (map entry_of c.as_slice.result.now)))) =
+    (IsRefusedOf customer c.args.asked.now.number c.args.name.now (map entry_of c.as_slice.result.now)) =
     search rules in
     if_err _ _
     (λ fault fits spool held.
-    subst (λ es. FitsFault (map key_in (asked_of customer c.args.asked.now.number c.args.name.now es)) fault)
+    subst (λ es. IsRefusedOf customer c.args.asked.now.number c.args.name.now es fault)
     (ap (map entry_of) c.as_slice.ensures.value ∙ c.in_ok-files.ensures.files clean spool held) fits)
     c.from_residual-in_err-key.result fault
 
 pub returns-in_err-records-clause-refused : goal.returns-in_err-records-clause-refused
 returns-in_err-records-clause-refused g c clean =
     let fault : IfErr c.from_residual-in_err-records.result IsOfSpool = search rules in
-    if_err IsOfSpool _ (λ fault is spool held. spool_fits _ fault is) c.from_residual-in_err-records.result fault
+    if_err IsOfSpool _ (λ fault is spool held. spool_fits _ _ fault is) c.from_residual-in_err-records.result fault
 
 pub returns-in_err-export_text-clause-refused : goal.returns-in_err-export_text-clause-refused
 returns-in_err-export_text-clause-refused g c clean =
     let fault : IfErr c.from_residual-in_err-export_text.result IsOfSpool = search rules in
-    if_err IsOfSpool _ (λ fault is spool held. spool_fits _ fault is) c.from_residual-in_err-export_text.result fault
+    if_err IsOfSpool _ (λ fault is spool held. spool_fits _ _ fault is) c.from_residual-in_err-export_text.result fault

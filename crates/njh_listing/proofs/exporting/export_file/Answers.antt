@@ -11,4 +11,4 @@ returns-clause-begun g c =
 
 pub returns-clause-refused : goal.returns-clause-refused
 returns-clause-refused g c clean =
-    if_err IsOfSpool _ (λ fault is spool held. spool_fits _ fault is) c.write_text.result c.write_text.ensures.fault
+    if_err IsOfSpool _ (λ fault is spool held. spool_fits _ _ fault is) c.write_text.result c.write_text.ensures.fault
