@@ -1,2 +1,4 @@
 pub mod Loops
+pub mod Passwords
+pub mod Ports
 mod ScriptReasonLaws

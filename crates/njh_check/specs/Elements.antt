@@ -1,5 +1,5 @@
 -- What is at a place of a table file.
-use Rattle.std.specs.Prelude.{ℕ, List, Option, Some, None, option_and_then}
+use Rattle.std.specs.Prelude.{ℕ, Option, Some, None, option_and_then}
 use Rattle.toml.specs.Data.{Data, Members, get_member, get_item, as_array, as_table}
 use Rattle.njh_table.specs.declared.places.Key.{Key}
 use Rattle.njh_table.specs.declared.places.Key.TheVariants as named

@@ -2,7 +2,7 @@
 use Rattle.std.specs.Prelude.{◌≡◌, ℕ, ◌+◌, ◌≤◌, ◌==◌, List, [], length, take, count_by, codes, Option, Some, None}
 use Rattle.std.specs.Prelude.{option_and_then, MatchOption}
 use Rattle.std.specs.Fmt.{decimal}
-use Rattle.toml.specs.Data.{Members, get_member, as_str}
+use Rattle.toml.specs.Data.{Members, as_str}
 use Rattle.toml.specs.Parse.{parse_document}
 use Rattle.njh_table.specs.declared.fault.TableFault.{TableFault}
 use Rattle.njh_table.specs.declared.fault.TableFault.TheVariants as faults
@@ -12,7 +12,7 @@ use Rattle.njh_table.specs.declared.places.Part.{Part}
 use Rattle.njh_table.specs.declared.places.Part.TheVariants as parts
 use Rattle.njh_table.specs.declared.places.PlacedFault.{PlacedFault}
 use Rattle.njh_table.specs.Places.{key_name}
-use Rattle.njh_check.specs.Elements.{part_keys, value_at}
+use Rattle.njh_check.specs.Elements.{value_at}
 use Rattle.njh_check.specs.Reasons.{reason_words}
 use Rattle.njh_check.specs.Words.{◌+++◌, numbered}
 

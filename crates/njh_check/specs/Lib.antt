@@ -5,4 +5,5 @@ pub mod Reasons
 pub mod Reports
 pub mod ScriptChecks
 pub mod ScriptReasons
+pub mod Warnings
 pub mod Words

@@ -1,5 +1,5 @@
 -- What is wrong at a place of a table file.
-use Rattle.std.specs.Prelude.{ℕ, ◌+◌, Bool, true, false, List, [], codes, cond, is_some, is_ok, Option, Some, None}
+use Rattle.std.specs.Prelude.{ℕ, ◌+◌, Bool, false, List, codes, cond, is_ok, Option, Some, None}
 use Rattle.std.specs.Prelude.{option_and_then, unwrap_or}
 use Rattle.std.specs.Fmt.{decimal}
 use Rattle.std.specs.Option.{option_map_or}
@@ -11,12 +11,10 @@ use Rattle.njh_table.specs.declared.places.Key.{Key}
 use Rattle.njh_table.specs.declared.places.Key.TheVariants as named
 use Rattle.njh_table.specs.declared.places.Part.{Part}
 use Rattle.njh_table.specs.declared.places.Part.TheVariants as parts
-use Rattle.njh_table.specs.declared.places.PlacedFault.{PlacedFault}
 use Rattle.njh_table.specs.Keys.{number}
 use Rattle.njh_table.specs.Limits.{max_block, max_capacity, max_customers, max_files, max_line_name, max_lines}
 use Rattle.njh_table.specs.Limits.{max_port, max_quota, max_routes, max_streams, min_block}
 use Rattle.njh_table.specs.Places.{key_name}
-use Rattle.njh_check.specs.Elements.{value_at}
 use Rattle.njh_check.specs.Words.{◌+++◌, between_words, found_words}
 
 -- what a name of a part may be
@@ -68,12 +66,17 @@ unfoldable pub is_name_again : Part → Key → Option Data → Bool
 is_name_again (parts.Customer c) named.Name value = is_name_value value
 is_name_again part key value = false
 
+-- a value at a key, but a password isn't told
+unfoldable pub told_words : Key → Option Data → List ℕ
+told_words named.Password value = codes "it"
+told_words key value = found_words value
+
 -- a value that a key can't have
 unfoldable pub bad_value_words : Part → Option Key → Option Data → List ℕ
 bad_value_words part None value = found_words value +++ codes " isn't a table"
 bad_value_words part (Some key) value =
     cond (is_name_again part key value) (found_words value +++ codes " is an earlier customer's name")
-    (found_words value +++ codes " isn't " +++ wanted_words part key)
+    (told_words key value +++ codes " isn't " +++ wanted_words part key)
 
 -- a key that isn't there, or is an empty list
 unfoldable pub missing_words : Option Key → Option Data → List ℕ

@@ -1,5 +1,6 @@
 -- The report of tables that are right.
-use Rattle.std.specs.Prelude.{ℕ, ◌-◌, ◌==◌, List, ◌++◌, codes, cond, sum_by, slice_get, Option, Some, None, flat_map}
+use Rattle.std.specs.Prelude.{ℕ, ◌-◌, ◌==◌, Bool, true, false, List, [], ◌∷◌, ◌++◌, codes, cond, sum_by}
+use Rattle.std.specs.Prelude.{slice_get, Option, Some, None, flat_map}
 use Rattle.std.specs.Fmt.{decimal}
 use Rattle.std.specs.Option.{option_map_or}
 use Rattle.std.specs.declared.net.socket_addr.SocketAddr.{SocketAddr}
@@ -41,6 +42,19 @@ line_text l =
     name_words l +++ role_words l.entry.role +++ codes ", " +++ peer_words l.port l.peer +++ codes ", "
     +++ size_words l.entry.block l.entry.streams +++ codes "\n"
 
+abbrev pub has_password : List ℕ → Bool
+has_password [] = false
+has_password (c ∷ cs) = true
+
+-- whether a line has a password, which isn't told
+unfoldable pub password_text : NamedLine → List ℕ
+password_text l =
+    codes "  password " +++ l.name +++ cond (has_password l.entry.password) (codes ": set\n") (codes ": none\n")
+
+-- all that is told of a line
+unfoldable pub line_report : NamedLine → List ℕ
+line_report l = line_text l ++ password_text l
+
 -- the name of a customer's line
 unfoldable pub line_name : List NamedLine → ℕ → List ℕ
 line_name lines number = option_map_or (λ l. l.name) (slice_get lines number) (codes "")
@@ -61,7 +75,7 @@ head_text c =
     +++ decimal c.quota +++ codes " blocks, " +++ decimal c.files +++ codes " files\n"
 
 unfoldable pub customer_text : NamedCustomer → List ℕ
-customer_text c = head_text c ++ flat_map line_text c.lines ++ flat_map (route_text c.lines) c.routes
+customer_text c = head_text c ++ flat_map line_report c.lines ++ flat_map (route_text c.lines) c.routes
 
 -- the spool's blocks: all, those that the quotas promise, and those that are left
 unfoldable pub capacity_text : ℕ → ℕ → List ℕ

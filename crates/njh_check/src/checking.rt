@@ -8,13 +8,13 @@ ghost use Rattle.std.specs.Io.KnownBytes.{Appends};
 ghost use Rattle.njh_io.specs.Written.{AppendsBeginning};
 ghost use Rattle.njh_table.specs.declared.places.PlacedFault.{PlacedFault};
 ghost use Rattle.njh_table.specs.Walk.{walk_of};
-ghost use Rattle.njh_check.specs.Checks.{Tells, TellsFault};
+ghost use Rattle.njh_check.specs.Checks.{IsReport, Tells, TellsFault};
 ghost use Rattle.njh_check.specs.FaultTexts.{IsFaultText, line_at, line_ends};
-ghost use Rattle.njh_check.specs.Reports.{report_of};
 
 use crate::fault::CheckFault;
 use crate::line::{fault_words, toml_words};
 use crate::report::report_of;
+use crate::warnings::put_warnings;
 use njh_io::write_bytes;
 use njh_table::{PlacedFault, TableFault, Tables};
 use std::alloc::Global;
@@ -106,7 +106,7 @@ fn outcome(alloc: Global, text: &str) -> Result<(Option<PlacedFault>, Vec<u8>), 
     ensures memory { IfErr result (λ fault. fault ≡ CheckFault.Memory) }
 {
     match Tables::check(alloc, text) {
-        Ok(tables) => report_outcome(alloc, &tables),
+        Ok(tables) => report_outcome(alloc, text, &tables),
         Err(placed) => fault_outcome(alloc, text, placed),
     }
 }
@@ -114,12 +114,20 @@ fn outcome(alloc: Global, text: &str) -> Result<(Option<PlacedFault>, Vec<u8>), 
 /// That of tables that are right.
 fn report_outcome(
     alloc: Global,
+    text: &str,
     tables: &Tables,
 ) -> Result<(Option<PlacedFault>, Vec<u8>), CheckFault>
-    ensures told { IfOk result (λ outcome. (outcome.0 ≡ None) × (outcome.1.items ≡ report_of tables.now)) }
+    ensures told { IfOk result (λ outcome. (outcome.0 ≡ None) × IsReport text.now tables.now outcome.1.items) }
     ensures memory { IfErr result (λ fault. fault ≡ CheckFault.Memory) }
 {
-    Ok((None, report_of(alloc, tables)?))
+    match toml::table_from_str(alloc, text) {
+        Ok(document) => {
+            let mut report = report_of(alloc, tables)?;
+            put_warnings(alloc, &mut report, &document, tables)?;
+            Ok((None, report))
+        }
+        Err(_) => Err(CheckFault::Memory),
+    }
 }
 
 /// That of a table file with a fault.
@@ -139,9 +147,9 @@ fn fault_outcome(
 /// Checks a table file, and writes the report of its tables, or the line of its first fault.
 /// Answers that fault, or none if the tables are right.
 ///
-/// The report has a line for each customer, after it one for each of its lines and one for each of
-/// its routes, and at the end one for the spool. The line of a fault is `fault_text`, ended by 0A.
-/// If memory is refused nothing was written.
+/// The report has a line for each customer, after it two for each of its lines and one for each of
+/// its routes, then one for the spool, and at the end one for each thing that may be a mistake. The
+/// line of a fault is `fault_text`, ended by 0A. If memory is refused nothing was written.
 pub fn check<W: Write>(
     alloc: Global,
     text: &str,

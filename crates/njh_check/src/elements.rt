@@ -64,7 +64,7 @@ fn part_value(document: &Table, part: Part) -> Option<&Value>
 
 /// The keys of a part of the file.
 #[tactic(auto, unfolding(crate::specs::Elements::part_keys))]
-fn part_keys(document: &Table, part: Part) -> Option<&Table>
+pub(crate) fn part_keys(document: &Table, part: Part) -> Option<&Table>
     ensures { option_map (λ t. table_view t.now) result ≡ part_keys part (table_view document.now) }
 {
     match part {

@@ -13,6 +13,8 @@ mod script_check;
 mod script_reason;
 mod script_reasons;
 mod script_words;
+mod unknown_keys;
+mod warnings;
 mod words;
 
 pub use checking::{check, fault_text};

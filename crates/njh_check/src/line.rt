@@ -49,7 +49,7 @@ fn customer_words(alloc: Global, document: &Table, customer: usize) -> Result<St
 
 /// A part of the file, by its numbers from 1 on and its names.
 #[tactic(auto, unfolding(crate::specs::FaultTexts::part_words))]
-fn part_words(alloc: Global, document: &Table, part: Part) -> Result<String, AllocError>
+pub(crate) fn part_words(alloc: Global, document: &Table, part: Part) -> Result<String, AllocError>
     ensures { IfOk result (λ words. string_bytes words ≡ part_words part (table_view document.now)) }
 {
     match part {

@@ -6,7 +6,7 @@ ghost use Rattle.njh_table.specs.Keys.{number};
 ghost use Rattle.njh_table.specs.Limits.{max_quota};
 ghost use Rattle.njh_check.specs.Reasons.{bad_value_words, is_name_again, is_name_value, line_words, missing_words};
 ghost use Rattle.njh_check.specs.Reasons.{most_words, name_words, over_words, quota_in, quotas_in, quotas_of};
-ghost use Rattle.njh_check.specs.Reasons.{reason_words, wanted_words};
+ghost use Rattle.njh_check.specs.Reasons.{reason_words, told_words, wanted_words};
 ghost use Rattle.njh_check.specs.Words.{◌+++◌, found_words};
 
 use crate::elements::find;
@@ -122,16 +122,33 @@ fn bad_value_words(
     if is_name_again(part, key, value) {
         return told_of(alloc, value, " is an earlier customer's name");
     }
-    unwanted_words(alloc, value, wanted_words(part, key))
+    unwanted_words(alloc, key, value, wanted_words(part, key))
 }
 
-/// A value, and what is wanted in its place.
-fn unwanted_words(alloc: Global, value: Option<&Value>, wanted: &str) -> Result<String, AllocError>
+/// A value at a key, but a password isn't told.
+#[tactic(auto, unfolding(crate::specs::Reasons::told_words))]
+fn told_words(alloc: Global, key: Key, value: Option<&Value>) -> Result<String, AllocError>
     ensures { IfOk result (λ words. string_bytes words
-        ≡ found_words (option_map (λ v. view v.now) value.entry) +++ codes " isn't " +++ wanted.now) }
+        ≡ told_words key (option_map (λ v. view v.now) value.entry)) }
 {
-    let found = found_words(alloc, value)?;
-    format!(in alloc; "{found} isn't {wanted}")
+    match key {
+        Key::Password => String::from_str(alloc, "it"),
+        _ => found_words(alloc, value),
+    }
+}
+
+/// A value at a key, and what is wanted in its place.
+fn unwanted_words(
+    alloc: Global,
+    key: Key,
+    value: Option<&Value>,
+    wanted: &str,
+) -> Result<String, AllocError>
+    ensures { IfOk result (λ words. string_bytes words
+        ≡ told_words key (option_map (λ v. view v.now) value.entry) +++ codes " isn't " +++ wanted.now) }
+{
+    let told = told_words(alloc, key, value)?;
+    format!(in alloc; "{told} isn't {wanted}")
 }
 
 /// A key that isn't there, or is an empty list.

@@ -5,7 +5,7 @@ ghost use Rattle.njh_table.specs.Limits.{max_customers};
 ghost use Rattle.njh_table.specs.TableFile.{route_entry};
 ghost use Rattle.njh_check.specs.Reports.{capacity_text, customer_text, head_text, line_name, line_text, name_words};
 ghost use Rattle.njh_check.specs.Reports.{peer_words, port_words, report_of, role_words, route_text, second_words};
-ghost use Rattle.njh_check.specs.Reports.{size_words};
+ghost use Rattle.njh_check.specs.Reports.{has_password, line_report, password_text, size_words};
 
 use njh_ebcdic::Name;
 use njh_table::{NamedCustomer, NamedLine, Role, RouteLines, Tables};
@@ -71,6 +71,33 @@ fn line_text(alloc: Global, line: &NamedLine) -> Result<String, AllocError>
     format!(in alloc; "{name}{role}, {peer}, {size}\n")
 }
 
+/// Whether a line has a password, which is a name, so it isn't empty.
+#[tactic(auto, using(crate::proofs::Passwords::has_password_name))]
+pub(crate) fn has_password(line: &NamedLine) -> bool
+    ensures { result ≡ has_password line.now.entry.password }
+{
+    match line.password() {
+        None => false,
+        Some(name) => {
+            let _eight = name.bytes();
+            true
+        }
+    }
+}
+
+/// Whether a line has a password, which isn't told.
+#[tactic(auto, unfolding(crate::specs::Reports::password_text))]
+fn password_text(alloc: Global, line: &NamedLine) -> Result<String, AllocError>
+    ensures { IfOk result (λ text. string_bytes text ≡ password_text line.now) }
+{
+    let name = line.name();
+    if has_password(line) {
+        format!(in alloc; "  password {name}: set\n")
+    } else {
+        format!(in alloc; "  password {name}: none\n")
+    }
+}
+
 /// The name of a customer's line.
 #[tactic(auto, unfolding(crate::specs::Reports::line_name))]
 fn line_name(lines: &[NamedLine], number: u16) -> &str
@@ -125,18 +152,28 @@ fn head_text(alloc: Global, customer: &NamedCustomer) -> Result<String, AllocErr
     format!(in alloc; "customer {name}: hub {hub}, quota {quota} blocks, {files} files\n")
 }
 
-fn put(report: &mut Vec<u8>, text: &str) -> Result<(), AllocError>
+pub(crate) fn put(report: &mut Vec<u8>, text: &str) -> Result<(), AllocError>
     ensures { OnOk result (report.new.items ≡ report.old.items ++ text.now) }
 {
     report.extend_from_slice(text.as_bytes())
 }
 
+/// All that is told of a line.
+#[tactic(auto, unfolding(crate::specs::Reports::line_report))]
+fn put_line(alloc: Global, report: &mut Vec<u8>, line: &NamedLine) -> Result<(), AllocError>
+    ensures { OnOk result (report.new.items ≡ report.old.items ++ line_report line.now) }
+{
+    let text = line_text(alloc, line)?;
+    put(report, text.as_str())?;
+    let password = password_text(alloc, line)?;
+    put(report, password.as_str())
+}
+
 fn put_lines(alloc: Global, report: &mut Vec<u8>, lines: &[NamedLine]) -> Result<(), AllocError>
-    ensures { OnOk result (report.new.items ≡ report.old.items ++ flat_map line_text lines.now) }
+    ensures { OnOk result (report.new.items ≡ report.old.items ++ flat_map line_report lines.now) }
 {
     for line in lines {
-        let text = line_text(alloc, line)?;
-        put(report, text.as_str())?;
+        put_line(alloc, report, line)?;
     }
     Ok(())
 }
@@ -213,8 +250,8 @@ fn capacity_text(alloc: Global, capacity: u64, quotas: u64) -> Result<String, Al
     format!(in alloc; "capacity {capacity} blocks, quotas {quotas}, left {left}\n")
 }
 
-/// The report of tables: a line for each customer, for each of its lines and for each of its
-/// routes, and one for the spool. Want of memory is the only refusal.
+/// The report of tables: a line for each customer, two for each of its lines and one for each of
+/// its routes, and one for the spool. Want of memory is the only refusal.
 #[tactic(auto, unfolding(crate::specs::Reports::report_of))]
 pub(crate) fn report_of(alloc: Global, tables: &Tables) -> Result<Vec<u8>, AllocError>
     ensures { IfOk result (λ report. report.items ≡ report_of tables.now) }

@@ -15,7 +15,7 @@ const LONGEST: usize = 64;
 
 /// Whether a text is shown as it is.
 #[tactic(auto, unfolding(crate::specs::Words::is_shown))]
-fn is_shown(text: &str) -> bool
+pub(crate) fn is_shown(text: &str) -> bool
     ensures { result ≡ is_shown text.now }
 {
     text.len() <= LONGEST && are_seen(text.as_bytes())

@@ -6,14 +6,13 @@ use Rattle.std.specs.Prelude.{IfErr, MatchResult, OnOk, if◌then◌else◌}
 use Rattle.std.specs.Io.KnownBytes.{Appends, Keeps}
 use Rattle.std.specs.Str.{IsUtf8, is_utf8}
 use Rattle.std.proofs.lemmas.Str.{is_utf8-from_IsUtf8}
-use Rattle.njh_check.specs.Checks.{Tells}
+use Rattle.njh_check.specs.Checks.{IsReport, Tells}
 use Rattle.njh_io.specs.Written.{AppendsBeginning}
 use Rattle.njh_table.specs.TableFile.{TableFile}
 use Rattle.njh_table.specs.declared.places.PlacedFault.{PlacedFault}
 use Rattle.njh_table.specs.Keys.{without_place}
 use Rattle.njh_table.specs.Walk.{tables_of, walk_of}
 use Rattle.njh_table.specs.declared.fault.TableFault.TheVariants.{BadToml}
-use Rattle.njh_check.specs.Reports.{report_of}
 use Rattle.njh_subcommands.specs.Checks.{FindsInPart, IsBegunBy, IsCheckEnd}
 use Rattle.njh_subcommands.specs.Status.{ComesFirst}
 use Rattle.njh_subcommands.specs.TableBytes.{AreGiven, tables_in}
@@ -106,16 +105,16 @@ begun_by (Err e) path tables old new given (inl kept) = inl kept
 begun_by (Err e) path tables old new given (inr begun) = inr (inl (tables, given, begun))
 
 -- tables that are refused aren't told as right ones
-no_tables : (r : Result TableFile PlacedFault) (words : List ℕ) → OnOk (without_place r) ⊥
-    → MatchResult r (λ t. words ≡ report_of t) (λ _. ⊥) → ⊥
-no_tables (Ok t) words refused told = refused
-no_tables (Err placed) words refused told = told
+no_tables : (r : Result TableFile PlacedFault) (P : TableFile → Type 0) → OnOk (without_place r) ⊥
+    → MatchResult r P (λ _. ⊥) → ⊥
+no_tables (Ok t) P refused told = refused
+no_tables (Err placed) P refused told = told
 
 pub told_refused : (bytes words : List ℕ) → OnOk (tables_in bytes) ⊥ → IsSaidOf true bytes words → ⊥
 unfolding tables_in
 told_refused bytes words refused said =
     let P : Bool → Type 0 = λ t. OnOk (if t then tables_of bytes else Err BadToml) ⊥ in
-    no_tables (walk_of bytes) words (subst P said.0 refused) said.1
+    no_tables (walk_of bytes) (λ t. IsReport bytes t words) (subst P said.0 refused) said.1
 
 pub never_right : {T E : Type 0} (r : Result T E) (bytes : List ℕ) (old new : Option (List ℕ))
     → OnOk (tables_in bytes) ⊥
