@@ -18,11 +18,17 @@ use std::alloc::{AllocError, Global};
 /// What the help of `files` ends with.
 const FILES_EXAMPLE: &str =
     "It prints a line for each whole file: the customers in the order of their first files, and each
-customer's in their order of arrival. It reads a spool file that no hub has open.
+customer's in their order of arrival. It reads a spool file that no hub has open, and leaves it as
+it is.
 
 Examples:
   njehub files --spool hub.spool --customer BANK
   njehub files --spool hub.spool --customer BANK --export LYON.42 > listing";
+
+/// What the help says of `--number`.
+const NUMBER_HELP: &str =
+    "With --export: its number, as the list of several shows it, counted from 1 by arrival among \
+     all files, or all of the customer's";
 
 /// What the options of `files` ask for.
 pub(crate) fn files_in<'a>(options: &ArgMatches<'a>) -> Result<Request<'a>, Unasked<'a>>
@@ -121,7 +127,7 @@ fn number_option<'a>(alloc: Global) -> Arg<'a>
     Arg::new(alloc, "number")
         .long("number")
         .value_name("N")
-        .help("With --export: which of the files it is, counted from 1 in their order of arrival")
+        .help(NUMBER_HELP)
         .action(ArgAction::Set)
         .value_parser(ValueParser::Signed(1, 1_000_000))
 }
