@@ -1,12 +1,12 @@
 //! Data set headers.
 
 use crate::fault::HeaderFault;
-use crate::field::{read_name, write_field};
+use crate::field::read_name;
 use crate::places::data_set;
 use crate::section::find_general;
 use crate::user::{Destination, User};
 use njh_ebcdic::Name;
-use njh_record::{Record, field_at};
+use njh_record::field_at;
 use std::marker::Model;
 
 /// What the general section of a data set header says (IBM SC23-0070, "Data set header").
@@ -28,7 +28,6 @@ impl Model for DataSetHeader {
 
 impl DataSetHeader {
     ghost use Rattle.std.specs.Prelude.{◌≡◌, ◌+◌, ◌≤◌, ◌↔◌, length, IfOk};
-    ghost use Rattle.njh_record.specs.Bytes.{with_field};
     ghost use Rattle.njh_header.specs.Headers.{DataSetHeader as Seen, IsDataSetHeader, IsDataSetFault, data_set_header};
 
     /// The data set header that a record is.
@@ -88,13 +87,5 @@ impl DataSetHeader {
         ensures { result ≡ self.now.place }
     {
         self.place
-    }
-
-    /// Replaces the destination node in the header's record.
-    pub fn with_destination(&self, bytes: &mut Record, node: Name)
-        requires { self.now.place + 8 ≤ length bytes.old.items }
-        ensures { bytes.new.items ≡ with_field self.now.place node bytes.old.items }
-    {
-        write_field(bytes, self.place, node.bytes());
     }
 }

@@ -1,13 +1,13 @@
 //! Fields of bytes, by place.
 
 ghost use Rattle.std.specs.Prelude.{◌≡◌, ◌+◌, ◌≤◌, length, IfErr, IfOk, is_ok};
-ghost use Rattle.njh_record.specs.Bytes.{field, number_at, with_field};
+ghost use Rattle.njh_record.specs.Bytes.{field, number_at};
 ghost use Rattle.njh_ebcdic.specs.Names.{is_name};
 
 use crate::fault::HeaderFault;
 use byteorder::{BigEndian, ByteOrder};
 use njh_ebcdic::Name;
-use njh_record::{Record, field_at};
+use njh_record::field_at;
 
 /// The number in the two bytes at a place, the high byte first.
 pub fn read_number(bytes: &[u8], place: usize) -> u16
@@ -25,12 +25,4 @@ pub fn read_name(bytes: &[u8], place: usize) -> Result<Name, HeaderFault>
     ensures fault { IfErr result (λ fault. fault ≡ HeaderFault.BadName) }
 {
     Name::of_field(&field_at(bytes, place)).map_err(|_| HeaderFault::BadName)
-}
-
-/// Puts eight bytes at a place, and leaves the others.
-pub fn write_field(bytes: &mut Record, place: usize, eight: [u8; 8])
-    requires { place + 8 ≤ length bytes.old.items }
-    ensures { bytes.new.items ≡ with_field place eight bytes.old.items }
-{
-    bytes.as_mut_slice()[place..place + 8].copy_from_slice(&eight);
 }

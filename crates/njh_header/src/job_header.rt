@@ -1,13 +1,13 @@
 //! Job headers.
 
 use crate::fault::HeaderFault;
-use crate::field::{read_name, read_number, write_field};
+use crate::field::{read_name, read_number};
 use crate::file_name::FileName;
 use crate::places::job;
 use crate::section::find_general;
 use crate::user::{Destination, User};
 use njh_ebcdic::Name;
-use njh_record::{Record, field_at};
+use njh_record::field_at;
 use std::marker::Model;
 
 /// What the general section of a job header says (IBM SC23-0070, "Job header").
@@ -47,7 +47,6 @@ impl Model for JobHeader {
 
 impl JobHeader {
     ghost use Rattle.std.specs.Prelude.{◌≡◌, ◌+◌, ◌≤◌, ◌↔◌, length, IfOk};
-    ghost use Rattle.njh_record.specs.Bytes.{with_field};
     ghost use Rattle.njh_header.specs.Headers.{JobHeader as Seen, IsJobHeader, IsJobFault, job_header, job_name};
 
     /// The job header that a record is.
@@ -163,13 +162,5 @@ impl JobHeader {
         ensures { result ≡ self.now.place }
     {
         self.place
-    }
-
-    /// Replaces the execution node in the header's record.
-    pub fn with_destination(&self, bytes: &mut Record, node: Name)
-        requires { self.now.place + 8 ≤ length bytes.old.items }
-        ensures { bytes.new.items ≡ with_field self.now.place node bytes.old.items }
-    {
-        write_field(bytes, self.place, node.bytes());
     }
 }
