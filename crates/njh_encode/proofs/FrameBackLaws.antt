@@ -7,23 +7,14 @@ use Rattle.std.proofs.lemmas.Bool.{leb-true}
 use Rattle.std.proofs.lemmas.List.{append-nil, length-append}
 use Rattle.std.proofs.lemmas.List.Concat.{flat_map-cons}
 use Rattle.std.proofs.lemmas.List.Elements.{All-cons, All-nil}
-use Rattle.njh_bisync.specs.Frames.{Text}
-use Rattle.njh_bisync.specs.Reading.{Nothing, Reads}
-use Rattle.njh_bisync.specs.Written.{text_bytes}
+use Rattle.njh_bisync.proofs.ReadBack.{text_reads}
 use Rattle.njh_record.specs.Writing.{spelling_of}
+use Rattle.njh_record.proofs.WritingLaws.{length-spelling_of-record}
 use Rattle.njh_block.specs.Blocks.{Aborted, Control, Data, General, Item, Long, text_of, written_bytes}
 use Rattle.njh_block.specs.Writing.{has_room, is_general}
 use Rattle.njh_encode.specs.declared.line_states.LineState.{LineState}
 use Rattle.njh_encode.specs.LineStates.{counted}
 use Rattle.njh_encode.specs.Packing.{IsData, ReadsAsFrame, block_of, packed, text_limit, writing_on}
-
--- the law of njh_bisync
-abbrev pub TextReads : Type 0
-TextReads = (held : List ℕ) → length held ≤ 4096 → Reads (text_bytes held) (Text held ∷ []) Nothing
-
--- the law of njh_record
-abbrev pub Longest : Type 0
-Longest = (contents : List ℕ) → length contents ≤ 256 → length (spelling_of contents) ≤ 262
 
 -- the text of a block with these items can be a frame's
 abbrev pub IsShort : LineState → List Item → Type 0
@@ -61,12 +52,12 @@ alone-short state rcb srcb bytes short =
     let ended : length (items ++ 0 ∷ []) ≡ length items + 1 = length-append items (0 ∷ []) in
     omega (arith, same, ended, short)
 
-first-short : Longest → (state : LineState) (i : Item) → IsData i → IsShort state (i ∷ [])
-first-short longest state (Data rcb srcb bytes) is = alone-short state rcb srcb bytes (longest bytes is.1)
-first-short longest state (Aborted rcb srcb) is = absurd is
-first-short longest state (Long rcb srcb) is = absurd is
-first-short longest state (Control rcb srcb) is = absurd is
-first-short longest state (General srcb rest) is = absurd is
+first-short : (state : LineState) (i : Item) → IsData i → IsShort state (i ∷ [])
+first-short state (Data rcb srcb bytes) is = alone-short state rcb srcb bytes (length-spelling_of-record bytes is.1)
+first-short state (Aborted rcb srcb) is = absurd is
+first-short state (Long rcb srcb) is = absurd is
+first-short state (Control rcb srcb) is = absurd is
+first-short state (General srcb rest) is = absurd is
 
 frames-cond : (t : Bool) (state : LineState) (begun : List Item) (i : Item) (is : List Item)
     → has_room (writing_on state begun) i ≡ t
@@ -81,13 +72,13 @@ frames-cond true state begun i is room fits this next = fits room
 frames-cond false state begun i is room fits this next =
     All-cons ReadsAsFrame (block_of state begun) (packed (counted state) (i ∷ []) is) this next
 
-pub packed_frames : TextReads → Longest → (is : List Item) (state : LineState) (begun : List Item)
+pub packed_frames : (is : List Item) (state : LineState) (begun : List Item)
     → AllByRecursion IsData is → IsShort state begun → All ReadsAsFrame (packed state begun is)
-packed_frames reads longest [] state begun each short =
+packed_frames [] state begun each short =
     All-cons ReadsAsFrame (block_of state begun) []
-    (reads (text_of (0x80 + state.count % 16) (0x8f, 0xcf) begun) short) (All-nil ReadsAsFrame)
-packed_frames reads longest (i ∷ is) state begun each short =
+    (text_reads (text_of (0x80 + state.count % 16) (0x8f, 0xcf) begun) short) (All-nil ReadsAsFrame)
+packed_frames (i ∷ is) state begun each short =
     frames-cond (has_room (writing_on state begun) i) state begun i is refl
-    (λ room. packed_frames reads longest is state (begun ++ i ∷ []) each.1 (room-short state begun i room))
-    (reads (text_of (0x80 + state.count % 16) (0x8f, 0xcf) begun) short)
-    (packed_frames reads longest is (counted state) (i ∷ []) each.1 (first-short longest (counted state) i each.0))
+    (λ room. packed_frames is state (begun ++ i ∷ []) each.1 (room-short state begun i room))
+    (text_reads (text_of (0x80 + state.count % 16) (0x8f, 0xcf) begun) short)
+    (packed_frames is (counted state) (i ∷ []) each.1 (first-short (counted state) i each.0))

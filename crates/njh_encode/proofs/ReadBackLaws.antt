@@ -5,16 +5,12 @@ use Rattle.std.specs.List.{All, AllByRecursion}
 use Rattle.std.proofs.lemmas.Bool.{le-leb, lt-ltb}
 use Rattle.std.proofs.lemmas.List.Elements.{All-append, All-cons, All-nil, recursion_from_All}
 use Rattle.std.proofs.lemmas.Nat.{mod_below}
-use Rattle.njh_block.specs.Blocks.{Aborted, Control, Data, General, Item, Long, is_bcb, is_fcs, read_block, text_of}
+use Rattle.njh_block.specs.Blocks.{Aborted, Control, Data, General, Item, Long, is_bcb}
 use Rattle.njh_block.specs.Writing.{AreWritten, has_room, read_back}
+use Rattle.njh_block.proofs.WritingLaws.{text-read}
 use Rattle.njh_encode.specs.declared.line_states.LineState.{LineState}
 use Rattle.njh_encode.specs.LineStates.{counted}
 use Rattle.njh_encode.specs.Packing.{IsData, ReadsItself, block_of, packed, writing_on}
-
--- the law of njh_block
-abbrev pub ReadsBack : Type 0
-ReadsBack = (bcb : ℕ) (fcs : ℕ × ℕ) (items : List Item) → IsTrue (is_bcb bcb) → IsTrue (is_fcs fcs) → AreWritten items
-    → read_block (text_of bcb fcs items) ≡ Ok (record { bcb = bcb; fcs = fcs; items = read_back items })
 
 are-written : (is : List Item) → AllByRecursion IsData is → AreWritten is
 are-written [] each = tt
@@ -38,11 +34,11 @@ good-bcb n below =
     let high = lt-ltb (0x80 + n) 0xb0 (omega (arith, below)) in
     rw (low, high) refl
 
-block-reads : ReadsBack → (state : LineState) (begun : List Item) → All IsData begun
+block-reads : (state : LineState) (begun : List Item) → All IsData begun
     → ReadsItself (block_of state begun)
-block-reads law state begun each =
+block-reads state begun each =
     let all = recursion_from_All IsData begun each in
-    law (0x80 + state.count % 16) (0x8f, 0xcf) begun
+    text-read (0x80 + state.count % 16) (0x8f, 0xcf) begun
     (good-bcb (state.count % 16) (mod_below state.count 16 (omega arith))) refl
     (are-written begun all)
     ∙ ap (λ (items : List Item). Ok (record { bcb = 0x80 + state.count % 16; fcs = (0x8f, 0xcf); items = items }))
@@ -60,13 +56,13 @@ reads-cond true state begun i is fits this next = fits
 reads-cond false state begun i is fits this next =
     All-cons ReadsItself (block_of state begun) (packed (counted state) (i ∷ []) is) this next
 
-pub packed_reads : ReadsBack → (is : List Item) (state : LineState) (begun : List Item) → AllByRecursion IsData is
+pub packed_reads : (is : List Item) (state : LineState) (begun : List Item) → AllByRecursion IsData is
     → All IsData begun
     → All ReadsItself (packed state begun is)
-packed_reads law [] state begun each held =
-    All-cons ReadsItself (block_of state begun) [] (block-reads law state begun held) (All-nil ReadsItself)
-packed_reads law (i ∷ is) state begun each held =
+packed_reads [] state begun each held =
+    All-cons ReadsItself (block_of state begun) [] (block-reads state begun held) (All-nil ReadsItself)
+packed_reads (i ∷ is) state begun each held =
     let one = All-cons IsData i [] each.0 (All-nil IsData) in
     reads-cond (has_room (writing_on state begun) i) state begun i is
-    (packed_reads law is state (begun ++ i ∷ []) each.1 (All-append IsData begun (i ∷ []) held one))
-    (block-reads law state begun held) (packed_reads law is (counted state) (i ∷ []) each.1 one)
+    (packed_reads is state (begun ++ i ∷ []) each.1 (All-append IsData begun (i ∷ []) held one))
+    (block-reads state begun held) (packed_reads is (counted state) (i ∷ []) each.1 one)

@@ -17,19 +17,14 @@ pub fn packed_in_order()
 pub fn packed_reads_back()
     ensures { (state : declared.LineState) (items : List Item) → All IsData items
         → All ReadsItself (packed state [] items) }
-{
-    njh_block::reads_back();
-}
+{}
 
 /// The bytes of each packed block's frame read as that frame and nothing else, by the grammar of
 /// frames.
 pub fn packed_frames_read_back()
     ensures { (state : declared.LineState) (items : List Item) → All IsData items
         → All ReadsAsFrame (packed state [] items) }
-{
-    njh_bisync::text_reads_back();
-    njh_record::spelling_bounds();
-}
+{}
 
 /// What a text becomes is one thing if it is known what each name gives.
 pub fn known_texts_settle()

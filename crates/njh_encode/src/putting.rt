@@ -79,7 +79,7 @@ pub(crate) fn put_frame(script: &mut Vec<u8>, name: &str, frame: &[u8]) -> Resul
 }
 
 /// Appends the line of a control frame.
-#[tactic(auto, using(crate::proofs::FrameLaws::control_same))]
+#[tactic(auto, using(crate::proofs::FrameLaws::control_same, crate::proofs::FrameLaws::control_reads))]
 pub(crate) fn put_control_frame(
     script: &mut Vec<u8>,
     name: &str,
@@ -89,7 +89,6 @@ pub(crate) fn put_control_frame(
         ≡ script.old.items ++ bytes_line name.now (bytes_of_frame (control_frame control))) }
     ensures reads { ReadsFrame (control_frame control) }
 {
-    njh_bisync::control_reads_back();
     let mut frame = Vec::new(*script.allocator());
     put_control(control, &mut frame)?;
     put_frame(script, name, &frame)
@@ -101,7 +100,6 @@ pub(crate) fn put_end(script: &mut Vec<u8>, name: &str) -> Result<(), AllocError
         ≡ script.old.items ++ bytes_line name.now (bytes_of_frame Eot)) }
     ensures reads { ReadsFrame Eot }
 {
-    njh_bisync::one_reading();
     put_frame(script, name, &[EOT])
 }
 
@@ -132,8 +130,6 @@ pub(crate) fn put_block(
         ++ bytes_line name.now (bytes_of_frame (frame_of_block (block_with bcb (outgoing_item out.entry))))) }
     ensures reads { ReadsBlock (block_with bcb (outgoing_item out.entry)) }
 {
-    njh_bisync::text_reads_back();
-    njh_block::reads_back();
     let mut writer = BlockWriter::new(LONGEST_BLOCK, bcb, Fcs::nothing_suspended());
     let fits = writer.fits(&out);
     prove!(fits);

@@ -174,7 +174,6 @@ impl Message {
         ensures bytes { result.items ≡ record_of self.now }
         ensures reads { nodal_of (record_of self.now) ≡ Ok self.now }
     {
-        njh_nmr::reading_back();
         let mut record = ArrayVec::new();
         let length = self.text.len() as u8;
         put_bytes(&mut record, &[self.flag, LEVEL, KIND, length]);

@@ -6,5 +6,4 @@ use Rattle.njh_encode.proofs.laws.packed_frames_read_back.Goals as goal
 
 pub returns : goal.returns
 returns c = λ state items each.
-    packed_frames c.text_reads_back.ensures.reads c.spelling_bounds.ensures.longest items state []
-    (recursion_from_All IsData items each) (omega arith)
+    packed_frames items state [] (recursion_from_All IsData items each) (omega arith)

@@ -6,4 +6,4 @@ use Rattle.njh_encode.proofs.laws.packed_reads_back.Goals as goal
 
 pub returns : goal.returns
 returns c = λ state items each.
-    packed_reads c.reads_back.ensures items state [] (recursion_from_All IsData items each) (All-nil IsData)
+    packed_reads items state [] (recursion_from_All IsData items each) (All-nil IsData)

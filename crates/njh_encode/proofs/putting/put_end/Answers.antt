@@ -1,6 +1,5 @@
-use Rattle.std.proofs.Common.{[], ◌∷◌}
 use Rattle.njh_encode.proofs.FrameLaws.{eot_reads}
 use Rattle.njh_encode.proofs.putting.put_end.Goals as goal
 
 pub returns-clause-reads : goal.returns-clause-reads
-returns-clause-reads c = eot_reads (c.one_reading.ensures.some (0x37 ∷ []))
+returns-clause-reads c = eot_reads
