@@ -1,6 +1,6 @@
 -- What the invariant says of one chain.
 use Rattle.std.proofs.Common.{◌≡◌, ℕ, zero, suc, ◌+◌, ◌-◌, ◌*◌, ◌<◌, ◌≤◌, List, [], ◌∷◌, length, get_or, take, map}
-use Rattle.std.proofs.Common.{replicate, sum_by, count_by, eqb, Option, Some, None, IsSome, refl, sym, ap, subst, ◌∙◌}
+use Rattle.std.proofs.Common.{replicate, sum_by, Option, Some, None, IsSome, refl, sym, ap, subst, ◌∙◌}
 use Rattle.std.proofs.Common.{inl, inr, arith, rules, length-take}
 use Rattle.std.specs.List.{All}
 use Rattle.std.proofs.lemmas.Bool.{cases_lt}
@@ -119,20 +119,6 @@ ends_within s chains capacity i store view within = omega (
       (chain_of s),
 )
 
--- each chain has as many blocks as its bytes need
-pub sized : (s : Slab SpoolBlock) (chains : List ChainEnds) (capacity : ℕ) → IsChained s chains capacity →
-    All (λ chain. length chain.keys ≡ blocks_of chain.bytes) (chains_of s chains)
-sized s chains capacity chained = λ k d within.
-    let inside : k < length chains = omega (arith, length-map chains (chain_of s)) in
-    let ends = get_or chains k empty_ends in
-    let is : get_or chains k ends ≡ ends = get_or_default chains k ends empty_ends inside in
-    let bytes = length_bytes s chains k capacity ends chained inside is in
-    let keys = length-keys_from s (blocks_for ends.len) ends.head in
-    let found : get_or (chains_of s chains) k d ≡ chain_of s ends =
-    get_or-map (chain_of s) chains k empty_ends d inside in
-    ap (λ (chain : Chain). length chain.keys) found ∙ keys ∙ ap blocks_for (sym bytes)
-    ∙ ap (λ (chain : Chain). blocks_of chain.bytes) (sym found)
-
 sum_by-map : {X Y : Type 0} (f : Y → ℕ) (g : X → Y) (xs : List X) → sum_by f (map g xs) ≡ sum_by (λ x. f (g x)) xs
 sum_by-map f g [] = refl
 sum_by-map f g (x ∷ xs) =
@@ -150,17 +136,6 @@ used_is s chains capacity store chained view =
     (get_or_default chains j (get_or chains j empty_ends) empty_ends within))) in
     let used = ap blocks_used view in
     (omega (arith, chained.counted), sym (ap (λ (x : StoreValue). x.capacity) view))
-
--- no key stands twice
-pub apart : (s : Slab SpoolBlock) (chains : List ChainEnds) (capacity : ℕ) → IsChained s chains capacity → (key : ℕ) →
-    sum_by (λ (chain : Chain). count_by (λ k. eqb k key) chain.keys) (chains_of s chains) ≤ 1
-apart s chains capacity chained key =
-    omega (
-      arith,
-      sum_by-map (λ (chain : Chain). times_in key chain.keys) (chain_of s) chains,
-      chained.once key,
-      blocks_in-le (get s key),
-    )
 
 -- of chains with no byte yet
 pub chains_of-empty : (s : Slab SpoolBlock) (count : ℕ)

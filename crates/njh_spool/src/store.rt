@@ -9,9 +9,9 @@ mod laws;
 pub mod spool_block;
 mod string_places;
 
-ghost use Rattle.std.specs.Prelude.{◌≡◌, ℕ, ◌+◌, ◌<◌, ◌≤◌, ◌==◌, ◌++◌, length, replicate, count_by, sum_by, IfOk, All};
+ghost use Rattle.std.specs.Prelude.{◌≡◌, ◌+◌, ◌<◌, ◌≤◌, ◌++◌, length, replicate, IfOk};
 ghost use Rattle.njh_record.specs.Bytes.{field, with_field};
-ghost use Rattle.njh_spool.specs.code.Chains.{empty_chain, chain_at, with_chain, with_bytes, blocks_for, blocks_of};
+ghost use Rattle.njh_spool.specs.code.Chains.{empty_chain, chain_at, with_chain, with_bytes, blocks_for};
 ghost use Rattle.njh_spool.specs.code.Chains.{blocks_used, Grows, IsBlockOf, IsNear};
 ghost use Rattle.njh_table.specs.Limits.{max_capacity};
 
@@ -68,15 +68,6 @@ impl BlockStore {
         ensures blocks { length (chain_at chain self.now).keys ≡ blocks_for result }
     {
         self.chains[chain as usize].len
-    }
-
-    /// A chain has as many blocks as its string needs, and no block lies in two chains or twice in
-    /// one.
-    pub fn blocks_lie_once(&self)
-        ensures sized { All (λ chain. length chain.keys ≡ blocks_of chain.bytes) self.now.chains }
-        ensures apart { (key : ℕ) → sum_by (λ chain. count_by (λ k. k == key) chain.keys) self.now.chains ≤ 1 }
-    {
-        let _blocks = &self.blocks;
     }
 
     /// Appends to a chain's string.

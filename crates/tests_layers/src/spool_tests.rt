@@ -2,6 +2,7 @@
 
 use njh_record::{Kind, Record};
 use njh_spool::{FileId, Quota, Spool, SpoolFault, State};
+use njh_table::MAX_QUOTA;
 use std::alloc::Global;
 use std::process::Abort;
 use std::test::Fail;
@@ -9,7 +10,7 @@ use std::test::Fail;
 /// A spool of a customer with so many blocks and two files.
 fn opened<R: Abort>(rt: &R, alloc: Global, blocks: u32) -> Result<Spool, SpoolFault> {
     let quota = Quota { blocks, files: 2 };
-    assert!(rt; quota.is_within_limits());
+    assert!(rt; 1 <= blocks && blocks <= MAX_QUOTA);
     Spool::open(alloc, &[quota])
 }
 
