@@ -8,7 +8,7 @@ use Rattle.std.proofs.lemmas.Bool.{false≢true, le-leb}
 use Rattle.std.proofs.lemmas.List.{length-append}
 use Rattle.std.proofs.lemmas.List.Elements.{All-head, All-tail}
 use Rattle.njh_record.specs.Stored.{Stored}
-use Rattle.njh_record.specs.Writing.{spelling_of}
+use Rattle.njh_record.proofs.WritingLaws.{length-spelling_of-record}
 use Rattle.njh_block.specs.Blocks.{Item, all_suspended, text_of, written_bytes}
 use Rattle.njh_block.specs.Codes.{kind_of}
 use Rattle.njh_block.specs.Writing.{Writing, has_room, is_general, with_last}
@@ -61,8 +61,7 @@ record_short n place s all = at_file (whole_numbered n s) (found_one HasShortRec
 abbrev IsFew : Candidate → Type 0
 IsFew c = length (written_bytes c.item) ≤ 264
 
-module _ (spelled : (contents : List ℕ) → length contents ≤ 256 → length (spelling_of contents) ≤ 262)
-    (o : Outlet) (s : CustomerSpool) (short : IsShort o s) where
+module _ (o : Outlet) (s : CustomerSpool) (short : IsShort o s) where
   few_answer : (a : Option Answer) → IfSome (option_map (answering o s) a) IsFew
   few_answer None = tt
   few_answer (Some a) = omega arith
@@ -83,11 +82,11 @@ module _ (spelled : (contents : List ℕ) → length contents ≤ 256 → length
   few_message : (m : Option (List ℕ)) → IfSome m (λ bytes. length bytes ≤ 256)
       → IfSome (option_map (telling o s) m) IsFew
   few_message None short = tt
-  few_message (Some m) short = omega (arith, spelled m short)
+  few_message (Some m) short = omega (arith, length-spelling_of-record m short)
 
   few_data : (k : ℕ) (r : Option Stored) → IfSome r ShortRecord → length (written_bytes (data_item k r)) ≤ 264
-  few_data k None short = omega (arith, spelled [] (omega arith))
-  few_data k (Some r) short = omega (arith, spelled r.bytes short)
+  few_data k None short = omega (arith, length-spelling_of-record [] (omega arith))
+  few_data k (Some r) short = omega (arith, length-spelling_of-record r.bytes short)
 
   few_next : (k : ℕ) (x : Sender) → length (written_bytes (data_item k (next_of x s).stored)) ≤ 264
   few_next k Idle = few_data k None tt
@@ -184,16 +183,15 @@ front_taken w v all (c ∷ front) behind empty fits are is next =
     ap (λ (x : Writing). has_items x.items) is
     ∙ items_stay front (with_last c.item w) (has_last w.items c.item) ∙ sym (ap is_some_there are)
 
-pub first_has_room : ((contents : List ℕ) → length contents ≤ 256 → length (spelling_of contents) ≤ 262)
-    → FirstHasRoom
+pub first_has_room : FirstHasRoom
 unfolding filled_block
-first_has_room spelled goes w o s empty limit short = by_suspended (all_suspended o.peer_fcs)
+first_has_room goes w o s empty limit short = by_suspended (all_suspended o.peer_fcs)
   where
     taken : (srcs : List Source)
         → TakesLongestFront (candidates goes srcs o s) w o s (after_sources goes srcs (filling w o s))
         → has_items (after_sources goes srcs (filling w o s)).block.items ≡ is_some_there (candidates goes srcs o s)
     taken srcs t = front_taken w (after_sources goes srcs (filling w o s)).block (candidates goes srcs o s) t.front
-        t.behind empty (first_fits goes w o s (few spelled o s short goes) empty limit srcs) t.are t.block t.next
+        t.behind empty (first_fits goes w o s (few o s short goes) empty limit srcs) t.are t.block t.next
 
     by_suspended : (b : Bool) → has_items (filled_where b goes (filling w o s)).block.items
         ≡ (not b && list_any (has_candidate goes o s) (sources 1 o))

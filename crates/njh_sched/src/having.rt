@@ -12,7 +12,6 @@ ghost use Rattle.njh_sched.specs.code.Having.{has_abort, has_file_for, has_messa
 ghost use Rattle.njh_sched.specs.code.Having.{is_aborting};
 
 use crate::cursor::Cursor;
-use crate::laws::first_has_room;
 use crate::outgoing::Outgoing;
 use crate::records::next_served;
 use crate::requests::may_ask;
@@ -123,7 +122,7 @@ fn front_is_short<L: Outgoing>(line: &L)
     ensures { IfSome (slice_get (L.outlet line.now).messages 0) (λ m. length m ≤ 256) }
 {
     if let Some(message) = line.front_message() {
-        let _size = message.len();
+        prove!(message.len() <= message.capacity());
     }
 }
 
@@ -138,7 +137,6 @@ pub fn has_next<L: Outgoing>(line: &L, id: LineId, spool: &Spool, tables: &Table
         → has_items (filled_block (goes_by (entry_of (customer_at tables.now id.customer)) id.number)
         (filling w (L.outlet line.now) (spool_at id.customer spool.now))).block.items ≡ result }
 {
-    first_has_room();
     front_is_short(line);
     spool.records_are_short(id.customer);
     has_record(id, tables.customer(id.customer), line, spool)

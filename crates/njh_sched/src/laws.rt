@@ -10,7 +10,6 @@ ghost use Rattle.njh_sched.specs.Fronts.{LongestFrontsFill};
 ghost use Rattle.njh_sched.specs.Having.{FirstHasRoom};
 ghost use Rattle.njh_sched.specs.Carrying.{Carries, file_records};
 
-use njh_record::spelling_bounds;
 use njh_stream::Sender;
 
 /// Where the peer suspends all, nothing is added and nothing moves.
@@ -51,9 +50,7 @@ pub fn longest_fronts_fill()
 /// room for whatever comes first.
 pub fn first_has_room()
     ensures { FirstHasRoom }
-{
-    spelling_bounds();
-}
+{}
 
 /// What a block carries under a stream's RCB. Of a stream that sends a file: the file's records
 /// from the place before the block to the place after it, each once and in order, and the end of

@@ -3,6 +3,7 @@ use Rattle.njh_spool.specs.Spools.{spool_at}
 use Rattle.njh_stream.specs.Sending.{goes_by}
 use Rattle.njh_table.specs.TableFile.{NamedCustomer, customer_at, entry_of}
 use Rattle.njh_sched.specs.Having.{has_record}
+use Rattle.njh_sched.proofs.FirstLaws.{first_has_room}
 use Rattle.njh_sched.proofs.having.has_next.Goals as goal
 
 pub returns-clause-record : goal.returns-clause-record
@@ -14,7 +15,7 @@ returns-clause-record g c =
 pub returns-clause-block : goal.returns-clause-block
 returns-clause-block g c = λ w empty limit.
     let entry = customer_at c.args.tables.now c.args.id.customer in
-    c.first_has_room.ensures (goes_by (entry_of entry) c.args.id.number) w (g.L.Outgoing.outlet c.args.line.now)
+    first_has_room (goes_by (entry_of entry) c.args.id.number) w (g.L.Outgoing.outlet c.args.line.now)
     (spool_at c.args.id.customer c.args.spool.now) empty limit
     (record { message = c.front_is_short.ensures; records = c.records_are_short.ensures })
     ∙ sym (c.has_record.ensures
