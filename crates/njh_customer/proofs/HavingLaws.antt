@@ -1,15 +1,8 @@
 -- Whether the next block of a line would be sent.
-use Rattle.std.proofs.Common.{◌≡◌, ℕ, Bool, true, false, ◌||◌, not, sym, ap, ◌∙◌}
-use Rattle.njh_block.specs.Blocks.{all_suspended, same_fcs}
-use Rattle.njh_spool.specs.CustomerSpool.{CustomerSpool}
-use Rattle.njh_table.specs.Entries.{CustomerEntry}
-use Rattle.njh_stream.specs.Sending.{goes_by}
-use Rattle.njh_sched.specs.Having.{has_items}
-use Rattle.njh_sched.specs.NextBlock.{filling}
-use Rattle.njh_sched.specs.Tight.{own_fcs}
-use Rattle.njh_customer.specs.Customer.{CustomerLine}
-use Rattle.njh_customer.specs.Having.{has_next}
-use Rattle.njh_customer.specs.Sending.{next_block, outlet_of, own_block}
+use Rattle.njh_customer.proofs.Words
+use Words.{ℕ, Bool, true, false, not, sym, ap, all_suspended, same_fcs, CustomerSpool, CustomerEntry, goes_by, filling}
+use Words.{own_fcs, CustomerLine, next_block, outlet_of, own_block}
+use Rattle.{std.proofs.Common.{◌≡◌, ◌||◌, ◌∙◌}, njh_sched.specs.Having.has_items, njh_customer.specs.Having.has_next}
 use Rattle.njh_customer.proofs.Restated.{filled_kept}
 
 module _ (entry : CustomerEntry) (l : ℕ) (s : CustomerSpool) (x : CustomerLine) (fcs : ℕ × ℕ) where

@@ -6,6 +6,7 @@ use Words.{sent_on, sent_first, CutsAreLike, FirstBytesSendFirst, NoBytesDoNothi
 use Words.{OwnEvent, Run, alone_run, drop, Option, Some, None, add_assoc, rest_step, stop_or, Fed, feed_outcome}
 use Words.{acted_on, later_by}
 use Rattle.{std.proofs.Common.{◌≡◌, ◌+◌, ◌<◌, ◌∷◌, ◌++◌, ◌∙◌, ◌≤◌}, njh_bisync.specs.Frames.Received}
+use Rattle.njh_bisync.proofs.FedLaws.{goes_on}
 
 sent_first-assoc : (a b : List (ℕ × List ℕ)) (r : LineRun) → sent_first a (sent_first b r) ≡ sent_first (a ++ b) r
 sent_first-assoc a b r = ap (λ (s : List (ℕ × List ℕ)). record r { sent = s }) (sym (append_assoc a b r.sent))
@@ -111,26 +112,11 @@ first_bytes_send_first p l front back = let r = bytes_run (rest_on l p) p.custom
 -- ---- one step by bytes of a line: what it takes of a piece, frame by frame
 
 -- a feed takes no more than there is, and something where there is something
-pub record IsProgress (n len : ℕ) : Type 0 where
-  pub within : n ≤ len
-  pub some : 0 < len → 0 < n
-
-stop_or-progress : (frame : Option Received) (rest : Rest) (later : Fed) (len : ℕ) → later.taken ≤ len →
-    IsProgress (stop_or (record { frame = frame; rest = rest }) later).taken (suc len)
-stop_or-progress None rest later len h = record { within = omega arith; some = λ _. omega arith }
-stop_or-progress (Some x) rest later len h = record { within = omega arith; some = λ _. omega arith }
-
-fed-progress : (rest : Rest) (piece : List ℕ) → IsProgress (feed_outcome rest piece).taken (length piece)
-fed-progress rest [] = record { within = omega arith; some = λ h. h }
-fed-progress rest (byte ∷ bytes) =
-    let t = rest_step rest byte in
-    stop_or-progress t.frame t.rest (feed_outcome t.rest bytes) (length bytes) (fed-progress t.rest bytes).within
-
 pub fed_within : (rest : Rest) (piece : List ℕ) → (feed_outcome rest piece).taken ≤ length piece
-fed_within rest piece = (fed-progress rest piece).within
+fed_within rest piece = (goes_on rest piece).within
 
 pub fed_some : (rest : Rest) (piece : List ℕ) → 0 < length piece → 0 < (feed_outcome rest piece).taken
-fed_some rest piece = (fed-progress rest piece).some
+fed_some rest piece = (goes_on rest piece).some
 
 drop-one_more : (n : ℕ) (byte : ℕ) (bytes : List ℕ) → drop (1 + n) (byte ∷ bytes) ≡ drop n bytes
 drop-one_more n byte bytes = let e : 1 + n ≡ suc n = omega arith in rw e refl

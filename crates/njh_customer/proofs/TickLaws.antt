@@ -1,25 +1,16 @@
 -- A tick on a line that has the turn.
 use Rattle.njh_customer.proofs.Words
-use Words.{ℕ, Bool, true, false, cond, List, [], length, refl, sym, ap}
-use Words.{Config, Customer, CustomerLine, CustomerStep, LineState, Session, carried_out, line_at, session_on, silent}
-use Words.{after_line_input, with_reply, try_nak}
-use Rattle.std.proofs.Common.{◌≡◌, ◌∙◌, ◌∷◌, ◌||◌, not}
-use Rattle.njh_line.specs.LineTable.{call, cell, enquiry, next_in_turn, table_outcome}
-use Rattle.std.proofs.lemmas.Bool.{lt-ltb}
-use Rattle.njh_bisync.specs.Written.{control_bytes}
-use Rattle.njh_bisync.specs.declared.frame.Control.TheVariants.{Ack0}
-use Rattle.njh_block.specs.Blocks.{Item, all_suspended, same_fcs}
-use Rattle.njh_block.specs.Writing.{Writing}
+use Words.{ℕ, Bool, true, false, cond, List, [], length, refl, sym, ap, Config, Customer, CustomerLine, CustomerStep}
+use Words.{LineState, Session, carried_out, line_at, session_on, silent, after_line_input, with_reply, try_nak, not}
+use Words.{cell, Ack0, Item, all_suspended, same_fcs, Writing, Up, replied_to, next_block}
+use Words.{sending_of_block, sending_of_empty, sending_of_no_block, sending_of_written, with_outlet}
+use Rattle.{std.proofs.{Common.{◌≡◌, ◌∙◌, ◌∷◌, ◌||◌}, lemmas.Bool.lt-ltb}, njh_line.specs.LineTable.{call, enquiry}}
+use Rattle.{njh_line.specs.LineTable.{next_in_turn, table_outcome}, njh_bisync.specs.Written.control_bytes}
+use Rattle.njh_customer.specs.Alone.{after_signal}
+use Rattle.{njh_sched.specs.Having.has_items, njh_customer.specs.{Laws.TicksSendNext, Having.is_sent, Sending.Sending}}
+use Rattle.njh_customer.{specs.Sending.block_frame, proofs.DisregardingLaws.{again, by_parts, lines_as, unraised}}
 use Rattle.njh_line.specs.LineTable as input
-use Rattle.njh_line.specs.declared.Phase.TheVariants.{Up}
 use Rattle.njh_line.specs.declared.verdict.LineReply.TheVariants as reply
-use Rattle.njh_sched.specs.Having.{has_items}
-use Rattle.njh_customer.specs.Alone.{after_signal, replied_to}
-use Rattle.njh_customer.specs.Laws.{TicksSendNext}
-use Rattle.njh_customer.specs.Having.{is_sent}
-use Rattle.njh_customer.specs.Sending.{Sending, block_frame, next_block, sending_of_block}
-use Rattle.njh_customer.specs.Sending.{sending_of_empty, sending_of_no_block, sending_of_written, with_outlet}
-use Rattle.njh_customer.proofs.DisregardingLaws.{again, by_parts, lines_as, unraised}
 
 -- the line table answers with the next block
 table_is : (config : Config) (s : Session) → s.phase ≡ Up → s.has_turn ≡ true

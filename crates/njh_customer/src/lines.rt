@@ -234,7 +234,7 @@ fn whole_name(password: Option<Name>) -> Option<Name>
     match password {
         None => None,
         Some(name) => {
-            let _eight = name.bytes();
+            prove!(!name.bytes().is_empty());
             Some(name)
         }
     }

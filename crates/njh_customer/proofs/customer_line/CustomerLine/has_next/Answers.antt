@@ -1,11 +1,8 @@
 -- By what the next block tells, and by what it has.
 use Rattle.njh_customer.proofs.Words
-use Words.{ap, sym, refl, subst, all_suspended, same_fcs, spool_at, customer_at, entry_of}
-use Rattle.std.proofs.Common.{◌∙◌, ◌≤◌, ◌||◌}
-use Rattle.njh_sched.specs.Tight.{own_fcs}
-use Rattle.njh_customer.specs.Customer.{CustomerLine}
-use Rattle.njh_customer.specs.Sending.{own_block}
-use Rattle.njh_customer.proofs.HavingLaws.{sent_by_fcs, sent_by_records}
+use Words.{ap, sym, refl, subst, all_suspended, same_fcs, spool_at, customer_at, entry_of, own_fcs, CustomerLine}
+use Words.{own_block}
+use Rattle.{std.proofs.Common.{◌∙◌, ◌≤◌, ◌||◌}, njh_customer.proofs.HavingLaws.{sent_by_fcs, sent_by_records}}
 use Rattle.njh_customer.proofs.customer_line.CustomerLine.has_next.Goals as goal
 
 pub returns-then-not-tells_nothing : goal.returns-then-not-tells_nothing
