@@ -79,7 +79,7 @@ pub(crate) fn has_password(line: &NamedLine) -> bool
     match line.password() {
         None => false,
         Some(name) => {
-            let _eight = name.bytes();
+            prove!(!name.bytes().is_empty());
             true
         }
     }
