@@ -58,7 +58,6 @@ K1 BadToml: capacity = 200 > capacity = 200/capacity = 200
 K1 BadToml: capacity = 200 > capacity = 9223372036854775808
 K1 BadToml: [[customer.route]] > [[customer.route]
 K2 MissingKey: capacity = 200 > #
-K2 MissingKey: [[customer]] > [[customers]] | [[customer]] > [[customers]] | [[customer. > [[customers. | [[customer. > [[customers. | [[customer. > [[customers. | [[customer. > [[customers.
 K2 MissingKey: name = "ACME" > #
 K2 MissingKey: hub = "BUREAU" > #
 K2 MissingKey: quota = 100 > #
@@ -131,11 +130,20 @@ taken: streams = 4 > streams = 4/password = "SECRET"
 taken: streams = 4 > streams = 4/password = ""/port = 0
 taken: streams = 4 > streams = 4/connect = "127.0.0.1:17501"
 taken: streams = 4 > streams = 4/connect = "[2001:db8::7]:65535"/port = 0
-taken: [[customer.route]] > [[customer.line]]/name = "a2"/node = "METZ"/role = "answer"/block = 1024/streams = 4/[[customer.route]] | line = "a1" > line = "a1"/second = "a2"
 taken: role = "answer" > role = "call" | hub = "BUREAU" > hub = "PARIS"
 taken: capacity = 200 > capacity = 200/colour = "red"
-taken: node = "LYON" > node = "METZ" | files = 8 > files = 8/route = [] | [[customer.route]]/node = "LYON"/line = "a1" > #
 "#;
+
+/// Longer ones.
+const LONG: &str = "\
+    K2 MissingKey: [[customer]] > [[customers]] | [[customer]] > [[customers]] | \
+    [[customer. > [[customers. | [[customer. > [[customers. | [[customer. > [[customers. | \
+    [[customer. > [[customers.\n\
+    taken: [[customer.route]] > [[customer.line]]/name = \"a2\"/node = \"METZ\"/\
+    role = \"answer\"/block = 1024/streams = 4/[[customer.route]] | \
+    line = \"a1\" > line = \"a1\"/second = \"a2\"\n\
+    taken: node = \"LYON\" > node = \"METZ\" | files = 8 > files = 8/route = [] | \
+    [[customer.route]]/node = \"LYON\"/line = \"a1\" > #";
 
 /// Two changes, of which each alone has a fault: the first is told.
 const TWO: &str = r#"
@@ -198,7 +206,7 @@ fn comes<R: Abort>(rt: &R, alloc: Global, case: &str) -> Result<(), Fail> {
 
 #[test]
 fn what_comes_of_changes(rt: HostRuntime) -> Result<(), Fail> {
-    for cases in [ONE, TWO] {
+    for cases in [ONE, LONG, TWO] {
         for case in cases.trim().lines() {
             comes(&rt, rt.alloc(), case)?;
         }
