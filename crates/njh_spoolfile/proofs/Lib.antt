@@ -1,3 +1,4 @@
+pub mod CopyLaws
 pub mod Deleting
 pub mod ListLaws
 pub mod Loops

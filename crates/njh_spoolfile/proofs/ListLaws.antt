@@ -33,7 +33,7 @@ pub leaves : (id : ℕ) (spool : SpoolContents)
     → kept (without_file id spool) ≡ filter (λ w. not (w.id == id)) (kept spool)
 leaves id spool = sym (filter-map (λ (w : Whole). not (w.id == id)) (whole_in spool) spool.files)
 
-equal : (n : ℕ) → (n == n) ≡ true
+pub equal : (n : ℕ) → (n == n) ≡ true
 equal n = grind (arith, nat_tests)
 
 unequal : (m n : ℕ) → m ≢ n → (m == n) ≡ false
@@ -44,7 +44,7 @@ same_key a b p q lp lq h = omega (arith, lp, lq, h)
 
 -- a record of another file
 module _ (k : ℕ) (r : Record) (low : r.place < 2 ^ 23) (other : r.key ≢ k) where
-  skips : (es : List (ℕ × Record)) → AllByRecursion IsNumbered es
+  pub skips : (es : List (ℕ × Record)) → AllByRecursion IsNumbered es
       → filter (λ e. e.1.key == k) (put (record_number r.key r.place, r) es) ≡ filter (λ e. e.1.key == k) es
   skips [] all = rw (unequal r.key k other)
   skips (e ∷ es) all = split (nat_cmp e.0 (record_number r.key r.place)) refl (skips es all.1)
@@ -62,11 +62,11 @@ module _ (k : ℕ) (r : Record) (low : r.place < 2 ^ 23) (other : r.key ≢ k) w
       split Greater is rest = rw (unequal r.key k other) refl
 
 module _ (P : ℕ × File → Type 0) (f g : ℕ × File → Whole) (alike : (e : ℕ × File) → P e → f e ≡ g e) where
-  map_alike : (es : List (ℕ × File)) → AllByRecursion P es → map f es ≡ map g es
+  pub map_alike : (es : List (ℕ × File)) → AllByRecursion P es → map f es ≡ map g es
   map_alike [] all = refl
   map_alike (e ∷ es) all = (λ i. alike e all.0 i ∷ map_alike es all.1 i)
 
-whole_as : (id : ℕ) (file : File) (one two : List (ℕ × Record)) → one ≡ two
+pub whole_as : (id : ℕ) (file : File) (one two : List (ℕ × Record)) → one ≡ two
     → ◌≡◌ {A = Whole} (record { id = id; file = file; records = map contents one })
     (record { id = id; file = file; records = map contents two })
 whole_as id file one two same = ap (λ (rs : List (ℕ × Record)). record
@@ -84,7 +84,7 @@ module _ (k key first end : ℕ) (within : end ≤ 2 ^ 23) (other : k ≢ key) w
       → (nat_le (record_number key first) e.0 && nat_lt e.0 (record_number key end)) ≡ false
   apart e h is = grind (arith, nat_tests, h, is, other, within)
 
-  stays : (es : List (ℕ × Record)) → AllByRecursion IsNumbered es
+  pub stays : (es : List (ℕ × Record)) → AllByRecursion IsNumbered es
       → filter (λ e. e.1.key == k) (without
       (λ n. nat_le (record_number key first) n && nat_lt n (record_number key end)) es) ≡ filter (λ e. e.1.key == k) es
   stays [] all = refl

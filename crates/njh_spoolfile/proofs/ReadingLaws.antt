@@ -131,7 +131,7 @@ on_ok P Q f (Ok x) h = f x h
 on_ok P Q f (Err e) h = tt
 
 -- the records of a file are those between two numbers
-of_key : (key : ℕ) (e : ℕ × Record) → IsNumbered e
+pub of_key : (key : ℕ) (e : ℕ × Record) → IsNumbered e
     → (nat_le (record_number key 0) e.0 && nat_lt e.0 (record_number key (2 ^ 23))) ≡ (e.1.key == key)
 of_key key e h = grind (arith, nat_tests, h)
 

@@ -4,5 +4,7 @@ pub mod Origin
 pub mod Reopened
 pub mod Shelf
 pub mod CommitState
+pub mod Copies
 pub mod Steps
 pub mod Tables
+pub mod code

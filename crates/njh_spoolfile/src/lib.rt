@@ -1,6 +1,7 @@
 //! Customers' whole files in a SQLite file.
 #![tactic(auto)]
 
+mod copying;
 mod files;
 mod kept;
 mod laws;
@@ -12,6 +13,7 @@ mod statements;
 mod store;
 mod tables;
 
+pub use copying::{CopyFault, copy_files};
 pub use kept::{FileRow, RecordRow, StoredFile, StoredRecord};
 pub use laws::{
     a_file_comes_last, a_file_keeps_its_place, a_file_leaves, a_record_comes_last,
