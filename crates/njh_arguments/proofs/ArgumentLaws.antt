@@ -1,7 +1,7 @@
 -- What the arguments name, from the matches of a parse.
 use Rattle.std.proofs.Common.{◌≡◌, Result, Ok, Err, OnOk, IfOk, IfErr, Bool, true, false, cond, List, [], ◌∷◌, map}
 use Rattle.std.proofs.Common.{Option, Some, None, option_and_then, refl, sym, ap, subst, ◌∙◌, ◌↔◌, IsTrue}
-use Rattle.std.specs.Prelude.{codes, find, option_map, slice_get, bytes_eq}
+use Rattle.std.specs.Prelude.{codes, find, is_some, option_map, slice_get, bytes_eq}
 use Rattle.std.proofs.lemmas.Option.{slice_get-map}
 use Rattle.std.proofs.lemmas.Slice.Eq.{bytes_eq-Decides}
 use Rattle.std.specs.Box.{box_value}
@@ -16,8 +16,9 @@ use Rattle.clap.specs.declared.parser.matches.ArgMatches.{ArgMatches}
 use Rattle.clap.specs.declared.parser.matches.ArgMatches.TheViews.{out-ArgMatches, out-SubCommand}
 use Rattle.njh_arguments.specs.declared.arguments.Request.{Request}
 use Rattle.njh_arguments.specs.declared.serve_options.Unasked.{Unasked}
-use Rattle.njh_arguments.specs.declared.serve_options.Unasked.TheVariants.{Missing, NoAddress, Nothing}
-use Rattle.njh_arguments.specs.Arguments.{AsksFor, AsksIn, HasNoAddress, HasNothing, IsUnasked, IsUnaskedBy}
+use Rattle.njh_arguments.specs.declared.serve_options.Unasked.TheVariants.{Missing, NoAddress, Nothing, Unclear}
+use Rattle.njh_arguments.specs.Arguments.{AreUnclear, AsksFor, AsksIn, HasNoAddress, HasNothing, IsUnasked}
+use Rattle.njh_arguments.specs.Arguments.{IsTarget, IsUnaskedBy, IsUnclear, PrintsNothing, is_given}
 use Rattle.njh_arguments.specs.Arguments.{program_app}
 
 cond-map : {X Y : Type 0} (f : X → Y) (b : Bool) (x : X) (o : Option Y) (later : Option X) → o ≡ option_map f later
@@ -95,9 +96,44 @@ serves_refused m named is (Ok request) unasked = tt
 serves_refused m named is (Err Missing) unasked = tt
 serves_refused m named is (Err Nothing) unasked = subst HasNothing (sym is) unasked
 serves_refused m named is (Err (NoAddress text)) unasked = subst HasNoAddress (sym is) unasked
+serves_refused m named is (Err Unclear) unasked = subst AreUnclear (sym is) unasked
 
 -- a text that is tested for a word
 pub spells_word : (b : Bool) (text word : Text) → b ≡ bytes_eq text word → IsTrue b ↔ (Some text ≡ Some word)
 spells_word b text word same =
     let d = bytes_eq-Decides text word in
     (λ yes. ap (λ (t : Text). Some t) (d.0 (sym same ∙ yes)), λ e. let is : text ≡ word = cc e in same ∙ d.1 is)
+
+pub is_some-map : {X Y : Type 0} (f : X → Y) (o : Option X) → is_some (option_map f o) ≡ is_some o
+is_some-map f None = refl
+is_some-map f (Some x) = refl
+
+is_some-not : {X : Type 0} (o : Option X) (x : X) → o ≡ Some x → o ≡ None → ⊥
+is_some-not o x is none = let bad : Some x ≡ None = sym is ∙ none in cc bad
+
+no_target : (rows : List Row) (into : Text) → first_of (codes "into") rows ≡ Some into
+    → (PrintsNothing rows → is_given (codes "compact") rows ≡ false → is_given (codes "customer") rows ≡ true → ⊥)
+    → (other : Text) (is_new : Bool) → IsTarget rows other is_new → ⊥
+no_target rows into given none other false target = none target.0 target.2 target.3
+no_target rows into given none other true target = is_some-not (first_of (codes "into") rows) into given target.1
+
+-- files are to be copied into a spool file that may be there, and it isn't clear which
+pub unclear-into : (rows : List Row) (into : Text) → first_of (codes "into") rows ≡ Some into
+    → (PrintsNothing rows → is_given (codes "compact") rows ≡ false → is_given (codes "customer") rows ≡ true → ⊥)
+    → IsUnclear rows
+unclear-into rows into given none = (
+  λ nothing. is_some-not (first_of (codes "into") rows) into given nothing.0,
+  λ other is_new target. no_target rows into given none other is_new target,
+)
+
+prints_nothing : (rows : List Row) (into : Text) (is_new : Bool) → IsTarget rows into is_new → PrintsNothing rows
+prints_nothing rows into false target = target.0
+prints_nothing rows into true target = target.0
+
+-- into a new one
+pub unclear-new : (rows : List Row) (into : Text) → first_of (codes "into") rows ≡ None
+    → first_of (codes "compact") rows ≡ Some into → ¬ PrintsNothing rows → IsUnclear rows
+unclear-new rows into none given printing = (
+  λ nothing. is_some-not (first_of (codes "compact") rows) into given nothing.1,
+  λ other is_new target. printing (prints_nothing rows other is_new target),
+)

@@ -1,6 +1,6 @@
 -- The arguments of the command line.
-use Rattle.std.specs.Prelude.{◌≡◌, ◌↔◌, ◌⊎◌, ℕ, pos, List, [], ◌∷◌, codes, Bool, true, Option, Some, None, option_map}
-use Rattle.std.specs.Prelude.{IsSomeAnd, IsTrue, ⊤}
+use Rattle.std.specs.Prelude.{◌≡◌, ◌↔◌, ◌⊎◌, ℕ, pos, List, [], ◌∷◌, codes, Bool, true, false, Option, Some, None, option_map}
+use Rattle.std.specs.Prelude.{IsSomeAnd, IsTrue, ⊤, is_some}
 use Rattle.std.specs.Net.Grammar.{IsIpText}
 use Rattle.std.specs.declared.net.ip_addr.IpAddr.{IpAddr}
 use Rattle.std.specs.Str.Parse.{IsNumeral, digits_value, without_leading_plus}
@@ -10,14 +10,14 @@ use Rattle.clap.specs.Words.{subcommand_of, with_rule, with_subcommand}
 use Rattle.clap.specs.declared.builder.ArgAction.TheVariants.{Set, SetTrue}
 use Rattle.clap.specs.declared.error.Error.{Error}
 use Rattle.clap.specs.declared.error.kind.ErrorKind.TheVariants.{MissingRequiredArgument, MissingSubcommand}
-use Rattle.clap.specs.declared.error.kind.ErrorKind.TheVariants.{ValueValidation}
+use Rattle.clap.specs.declared.error.kind.ErrorKind.TheVariants.{ArgumentConflict, ValueValidation}
 use Rattle.njh_arguments.specs.declared.arguments.Request.{Request}
-use Rattle.njh_arguments.specs.declared.arguments.Request.TheVariants.{Files, Serve}
+use Rattle.njh_arguments.specs.declared.arguments.Request.TheVariants.{Copy, Files, Serve}
 use Rattle.njh_arguments.specs.declared.arguments.Request.TheVariants as request
 use Rattle.njh_arguments.specs.declared.arguments.Task.{Task}
 use Rattle.njh_arguments.specs.declared.arguments.Task.TheVariants.{CheckScript, CheckTables, Decode, Encode, Replay}
 use Rattle.njh_arguments.specs.declared.serve_options.Unasked.{Unasked}
-use Rattle.njh_arguments.specs.declared.serve_options.Unasked.TheVariants.{Missing, NoAddress, Nothing}
+use Rattle.njh_arguments.specs.declared.serve_options.Unasked.TheVariants.{Missing, NoAddress, Nothing, Unclear}
 
 -- a text is this number's digits, before which a plus may stand
 abbrev pub Spells : Text → ℕ → Type 0
@@ -117,8 +117,18 @@ listing_app = with_rule (with_rule (new_app (codes "files")) wanted_spool_rule) 
 abbrev pub exporting_app : App
 exporting_app = with_rule (with_rule listing_app export_rule) number_rule
 
+abbrev pub printing_app : App
+printing_app = with_rule exporting_app (flag_rule (codes "raw"))
+
+-- and the spool files that whole files are copied into: one that is there, or a new one
+abbrev pub into_rule : Rule
+into_rule = record (new_rule (codes "into")) { long = Some (codes "into"); value_names = 1; action = Some Set }
+
+abbrev pub compact_rule : Rule
+compact_rule = record (new_rule (codes "compact")) { long = Some (codes "compact"); value_names = 1; action = Some Set }
+
 abbrev pub files_app : App
-files_app = with_rule exporting_app (flag_rule (codes "raw"))
+files_app = with_rule (with_rule printing_app into_rule) compact_rule
 
 -- a program whose first word is a subcommand
 abbrev pub bare_app : App
@@ -159,6 +169,23 @@ ListensAt text address = IsSomeAnd text (λ t. IsIpText t address)
 abbrev pub IsFlag : Text → List Row → Bool → Type 0
 IsFlag flag rows set = IsTrue set ↔ (first_of flag rows ≡ Some (codes "true"))
 
+-- an option of this name is given
+abbrev pub is_given : Text → List Row → Bool
+is_given name rows = is_some (first_of name rows)
+
+-- no file is to be printed
+abbrev pub PrintsNothing : List Row → Type 0
+PrintsNothing rows = (is_given (codes "export") rows ≡ false) × (is_given (codes "number") rows ≡ false)
+    × ¬ (first_of (codes "raw") rows ≡ Some (codes "true"))
+
+-- Whole files are to be copied into the spool file at this path and nothing else is asked for: a customer's into one
+-- that may be there, or all or a customer's into a new one.
+abbrev pub IsTarget : List Row → (into : Text) → (is_new : Bool) → Type 0
+IsTarget rows into false = PrintsNothing rows × (first_of (codes "into") rows ≡ Some into)
+    × (is_given (codes "compact") rows ≡ false) × (is_given (codes "customer") rows ≡ true)
+IsTarget rows into true = PrintsNothing rows × (first_of (codes "into") rows ≡ None)
+    × (first_of (codes "compact") rows ≡ Some into)
+
 -- What a subcommand and its rows ask for that needs no socket and no spool file: to replay by these tables, in words or
 -- not; to say a trace in words, with hex or without; to encode lines in words; to check this table file, or a script by
 -- these tables.
@@ -175,7 +202,8 @@ AsksForTask named (CheckScript tables file) = (named.0 ≡ codes "check")
     × (first_of (codes "script") named.1 ≡ Some file.now)
 
 -- What they ask for: such a task; to serve the tables of this file, for so many turns, at that address, with a log or
--- without, and with a spool file or without; or to print of a spool file the files or a file's records.
+-- without, and with a spool file or without; to print of a spool file the files or a file's records; or to copy whole
+-- files of a spool file into another.
 abbrev pub AsksFor : Text × List Row → Request → Type 0
 AsksFor named (request.Task task) = AsksForTask named task
 AsksFor named (Files spool customer file number raw) = (named.0 ≡ codes "files")
@@ -184,6 +212,11 @@ AsksFor named (Files spool customer file number raw) = (named.0 ≡ codes "files
     × (first_of (codes "export") named.1 ≡ option_map (λ s. s.now) file)
     × SpellsNumber (first_of (codes "number") named.1) number
     × IsFlag (codes "raw") named.1 raw
+    × (first_of (codes "into") named.1 ≡ None) × (first_of (codes "compact") named.1 ≡ None)
+AsksFor named (Copy spool customer into is_new) = (named.0 ≡ codes "files")
+    × (first_of (codes "spool") named.1 ≡ Some spool.now)
+    × (first_of (codes "customer") named.1 ≡ option_map (λ s. s.now) customer)
+    × IsTarget named.1 into.now is_new
 AsksFor named (Serve tables turns listen quiet spool) = (named.0 ≡ codes "serve")
     × (first_of (codes "tables") named.1 ≡ Some tables.now)
     × SpellsNumber (first_of (codes "turns") named.1) turns
@@ -213,27 +246,39 @@ NamesNothing rows = (first_of (codes "tables") rows ≡ None) × (first_of (code
 abbrev pub HasNothing : Option (Text × List Row) → Type 0
 HasNothing named = IsSomeAnd named (λ p. NamesNothing p.1)
 
--- why the rows of `serve` or of `check` ask for nothing
+-- a spool file is named that files are copied into, and it isn't clear which, or other options stand beside it
+abbrev pub IsUnclear : List Row → Type 0
+IsUnclear rows = ¬ ((first_of (codes "into") rows ≡ None) × (first_of (codes "compact") rows ≡ None))
+    × ((into : Text) → (is_new : Bool) → ¬ IsTarget rows into is_new)
+
+abbrev pub AreUnclear : Option (Text × List Row) → Type 0
+AreUnclear named = IsSomeAnd named (λ p. IsUnclear p.1)
+
+-- why the rows of `serve`, `check` or `files` ask for nothing
 abbrev pub IsUnasked : List Row → Unasked → Type 0
 IsUnasked rows Missing = ⊤
 IsUnasked rows Nothing = NamesNothing rows
 IsUnasked rows (NoAddress text) = NamesNoAddress rows
+IsUnasked rows Unclear = IsUnclear rows
 
 -- and why a parse does
 abbrev pub IsUnaskedBy : Option (Text × List Row) → Unasked → Type 0
 IsUnaskedBy named Missing = ⊤
 IsUnaskedBy named Nothing = HasNothing named
 IsUnaskedBy named (NoAddress text) = HasNoAddress named
+IsUnaskedBy named Unclear = AreUnclear named
 
 -- the refusal that says so
 abbrev pub IsRefusalOf : Unasked → Error → Type 0
 IsRefusalOf Missing error = kind_of error ≡ MissingSubcommand
 IsRefusalOf Nothing error = kind_of error ≡ MissingRequiredArgument
 IsRefusalOf (NoAddress text) error = kind_of error ≡ ValueValidation
+IsRefusalOf Unclear error = kind_of error ≡ ArgumentConflict
 
--- The arguments are refused so: as clap's definitions say of this program, or since an address is none, or nothing is
--- named to be checked.
+-- The arguments are refused so: as clap's definitions say of this program, or since an address is none, nothing is
+-- named to be checked, or it isn't clear what is to be copied.
 abbrev pub AreRefusedBy : List Text → Error → Type 0
 AreRefusedBy arguments error = HasKind (MissingSubcommand ∷ fault_of program_app arguments) error
     ⊎ ((kind_of error ≡ ValueValidation) × HasNoAddress (subcommand_of program_app arguments))
     ⊎ ((kind_of error ≡ MissingRequiredArgument) × HasNothing (subcommand_of program_app arguments))
+    ⊎ ((kind_of error ≡ ArgumentConflict) × AreUnclear (subcommand_of program_app arguments))

@@ -53,6 +53,17 @@ pub enum Request<'a> {
         /// All records as they are.
         raw: bool,
     },
+    /// To copy whole files of a spool file into another.
+    Copy {
+        /// The spool file.
+        spool: &'a str,
+        /// Whose files; all customers' if none is named.
+        customer: Option<&'a str>,
+        /// The other spool file.
+        into: &'a str,
+        /// Whether the other one is to be made, and isn't there yet.
+        is_new: bool,
+    },
 }
 
 /// What is asked for that needs no socket and no spool file.
@@ -193,6 +204,11 @@ fn refusal_of(
             "nothing to check: name --tables F, --script F or both",
         ),
         Unasked::NoAddress(text) => no_address(alloc, program, text),
+        Unasked::Unclear => program.error(
+            ErrorKind::ArgumentConflict,
+            "to copy files: --customer NAME --into FILE, or --compact NEW, without --export, \
+             --number and --raw",
+        ),
     }
 }
 

@@ -1,14 +1,15 @@
 //! The options of `files`.
 
-ghost use Rattle.std.specs.Prelude.{◌≡◌, codes, false, IfOk, IfErr};
-ghost use Rattle.clap.specs.Words.{app_of, found_of, new_app, rows_of, rule_of};
+ghost use Rattle.std.specs.Prelude.{◌≡◌, codes, true, false, None, IfOk, IfErr};
+ghost use Rattle.clap.specs.Words.{app_of, first_of, found_of, new_app, rows_of, rule_of};
 ghost use Rattle.clap.specs.declared.builder.command.Command.TheViews.{out-Command};
 ghost use Rattle.njh_arguments.specs.Arguments.{AsksFor, IsUnasked, customer_rule, export_rule, files_app};
-ghost use Rattle.njh_arguments.specs.Arguments.{exporting_app, listing_app, number_rule};
+ghost use Rattle.njh_arguments.specs.Arguments.{IsTarget, PrintsNothing, compact_rule, exporting_app, into_rule};
+ghost use Rattle.njh_arguments.specs.Arguments.{listing_app, number_rule, printing_app};
 
 use crate::arguments::Request;
 use crate::options::{
-    described_command, flag, is_set, number_of, spool_option, valued_option, with_option,
+    described_command, flag, is_given, is_set, number_of, spool_option, valued_option, with_option,
 };
 use crate::serve_options::Unasked;
 use clap::builder::ValueParser;
@@ -19,11 +20,14 @@ use std::alloc::{AllocError, Global};
 const FILES_EXAMPLE: &str =
     "It prints a line for each whole file: the customers in the order of their first files, and each
 customer's in their order of arrival. It reads a spool file that no hub has open, and leaves it as
-it is.
+it is. With --into it copies a customer's files, with --compact all or a customer's, and then
+prints a line for each of them there.
 
 Examples:
   njehub files --spool hub.spool --customer BANK
-  njehub files --spool hub.spool --customer BANK --export LYON.42 > listing";
+  njehub files --spool hub.spool --customer BANK --export LYON.42 > listing
+  njehub files --spool hub.spool --customer BANK --into other.spool
+  njehub files --spool hub.spool --compact small.spool";
 
 /// What the help says of `--number`.
 const NUMBER_HELP: &str =
@@ -32,6 +36,66 @@ const NUMBER_HELP: &str =
 
 /// What the options of `files` ask for.
 pub(crate) fn files_in<'a>(options: &ArgMatches<'a>) -> Result<Request<'a>, Unasked<'a>>
+    ensures asked { IfOk result (AsksFor (codes "files", rows_of (found_of options.now))) }
+    ensures refused { IfErr result (IsUnasked (rows_of (found_of options.now))) }
+{
+    let Some(into) = options.get_str("into") else {
+        return compacted_in(options);
+    };
+    if !is_given(options, "customer") || is_given(options, "compact") || is_printing(options) {
+        return Err(Unasked::Unclear);
+    }
+    copied_in(options, into, false)
+}
+
+/// What they ask for if no customer's files are copied.
+fn compacted_in<'a>(options: &ArgMatches<'a>) -> Result<Request<'a>, Unasked<'a>>
+    requires { first_of (codes "into") (rows_of (found_of options.now)) ≡ None }
+    ensures asked { IfOk result (AsksFor (codes "files", rows_of (found_of options.now))) }
+    ensures refused { IfErr result (IsUnasked (rows_of (found_of options.now))) }
+{
+    let Some(into) = options.get_str("compact") else {
+        return printed_in(options);
+    };
+    if is_printing(options) {
+        return Err(Unasked::Unclear);
+    }
+    copied_in(options, into, true)
+}
+
+/// What they ask for if files are copied.
+fn copied_in<'a>(
+    options: &ArgMatches<'a>,
+    into: &'a str,
+    is_new: bool,
+) -> Result<Request<'a>, Unasked<'a>>
+    requires { IsTarget (rows_of (found_of options.now)) into.now is_new }
+    ensures asked { IfOk result (AsksFor (codes "files", rows_of (found_of options.now))) }
+    ensures refused { IfErr result (IsUnasked (rows_of (found_of options.now))) }
+{
+    let Some(spool) = options.get_str("spool") else {
+        return Err(Unasked::Missing);
+    };
+    Ok(Request::Copy {
+        spool,
+        customer: options.get_str("customer"),
+        into,
+        is_new,
+    })
+}
+
+/// Whether a file is to be printed.
+fn is_printing(options: &ArgMatches<'_>) -> bool
+    ensures nothing { result ≡ false → PrintsNothing (rows_of (found_of options.now)) }
+    ensures something { result ≡ true → ¬ PrintsNothing (rows_of (found_of options.now)) }
+{
+    is_given(options, "export") || is_given(options, "number") || is_set(options, "raw")
+}
+
+/// What they ask for if none is copied.
+fn printed_in<'a>(options: &ArgMatches<'a>) -> Result<Request<'a>, Unasked<'a>>
+    requires into { first_of (codes "into") (rows_of (found_of options.now)) ≡ None }
+    requires compact { first_of (codes "compact") (rows_of (found_of options.now)) ≡ None }
     ensures asked { IfOk result (AsksFor (codes "files", rows_of (found_of options.now))) }
     ensures refused { IfErr result (IsUnasked (rows_of (found_of options.now))) }
 {
@@ -51,6 +115,15 @@ pub(crate) fn files_in<'a>(options: &ArgMatches<'a>) -> Result<Request<'a>, Unas
 /// `files`, with its options.
 pub(crate) fn files_command<'a>(alloc: Global) -> Result<Command<'a>, AllocError>
     ensures app { IfOk result (λ command. app_of command ≡ files_app) }
+    ensures local { IfOk result (λ command. (out-Command command).has_globals ≡ false) }
+{
+    let copying = with_option(printing_command(alloc), into_option(alloc));
+    with_option(copying, compact_option(alloc))
+}
+
+/// `files`, with what it prints and how.
+fn printing_command<'a>(alloc: Global) -> Result<Command<'a>, AllocError>
+    ensures app { IfOk result (λ command. app_of command ≡ printing_app) }
     ensures local { IfOk result (λ command. (out-Command command).has_globals ≡ false) }
 {
     let raw = flag(
@@ -130,4 +203,30 @@ fn number_option<'a>(alloc: Global) -> Arg<'a>
         .help(NUMBER_HELP)
         .action(ArgAction::Set)
         .value_parser(ValueParser::Signed(1, 1_000_000))
+}
+
+/// `--into FILE`.
+fn into_option<'a>(alloc: Global) -> Arg<'a>
+    ensures rule { rule_of result ≡ into_rule }
+    ensures local { result.global ≡ false }
+{
+    valued_option(
+        alloc,
+        "into",
+        "FILE",
+        "Copies the customer's files into this spool file, which has none of that customer",
+    )
+}
+
+/// `--compact NEW`.
+fn compact_option<'a>(alloc: Global) -> Arg<'a>
+    ensures rule { rule_of result ≡ compact_rule }
+    ensures local { result.global ≡ false }
+{
+    valued_option(
+        alloc,
+        "compact",
+        "NEW",
+        "Copies the files into a new spool file, which is as small as can be",
+    )
 }

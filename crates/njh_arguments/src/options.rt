@@ -1,6 +1,6 @@
 //! Options that several subcommands have.
 
-ghost use Rattle.std.specs.Prelude.{◌≡◌, false, IfOk, IfErr, Some};
+ghost use Rattle.std.specs.Prelude.{◌≡◌, is_some, false, IfOk, IfErr, Some};
 ghost use Rattle.clap.specs.Words.{App, Rule, app_of, first_of, found_of, new_app, new_rule, rows_of, rule_of};
 ghost use Rattle.clap.specs.Words.{with_rule};
 ghost use Rattle.clap.specs.declared.builder.ArgAction.TheVariants.{Set};
@@ -89,6 +89,13 @@ pub(crate) fn flag<'a>(alloc: Global, name: &'a str, help: &'a str) -> Arg<'a>
         .long(name)
         .help(help)
         .action(ArgAction::SetTrue)
+}
+
+/// Whether an option of this name is given.
+pub(crate) fn is_given(options: &ArgMatches<'_>, name: &str) -> bool
+    ensures { result ≡ is_some (first_of name.now (rows_of (found_of options.now))) }
+{
+    options.get_str(name).is_some()
 }
 
 /// Whether a flag is set.

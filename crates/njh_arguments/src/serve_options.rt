@@ -33,6 +33,8 @@ pub(crate) enum Unasked<'a> {
     Nothing,
     /// The text of `--listen` is no address.
     NoAddress(&'a str),
+    /// Files are to be copied, and which or where to isn't clear, or other options beside that.
+    Unclear,
 }
 
 /// What the options of `serve` ask for.

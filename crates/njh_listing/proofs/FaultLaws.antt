@@ -5,13 +5,17 @@ use Rattle.njh_listing.specs.Asked.{FitsFault}
 use Rattle.njh_listing.specs.Faults.{IsOfSpool}
 use Rattle.njh_listing.specs.declared.fault.FilesFault.{FilesFault}
 use Rattle.njh_listing.specs.declared.fault.FilesFault.TheVariants.{Damaged, Device, InUse, Memory, NoFile, NotASpool}
-use Rattle.njh_listing.specs.declared.fault.FilesFault.TheVariants.{OtherVersion, Refused, Several}
+use Rattle.njh_listing.specs.declared.fault.FilesFault.TheVariants.{AlreadyThere, Full, OtherVersion, Refused, Several}
+use Rattle.njh_listing.specs.declared.fault.FilesFault.TheVariants.{Taken}
 
 pub spool_fits : (keys named : List ℕ) (fault : FilesFault) → IsOfSpool fault → FitsFault keys named fault
 spool_fits keys named (NoFile name) is = absurd is
 spool_fits keys named (Several list) is = absurd is
 spool_fits keys named (Refused why) is = absurd is
+spool_fits keys named (Taken why) is = absurd is
 spool_fits keys named InUse is = tt
+spool_fits keys named AlreadyThere is = tt
+spool_fits keys named Full is = tt
 spool_fits keys named NotASpool is = tt
 spool_fits keys named OtherVersion is = tt
 spool_fits keys named Damaged is = tt

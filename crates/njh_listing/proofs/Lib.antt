@@ -1,3 +1,4 @@
 mod AskedLaws
 mod FaultLaws
 mod MapLaws
+mod MovedLaws

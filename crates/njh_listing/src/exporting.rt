@@ -9,7 +9,8 @@ ghost use Rattle.njh_listing.specs.Exported.{IsExportedOf, IsTextOf, record_line
 ghost use Rattle.njh_listing.specs.Faults.{IsOfSpool};
 ghost use Rattle.njh_spoolfile.specs.Kept.{Holds, SpoolContents, contents_of};
 ghost use Rattle.njh_spoolfile.specs.Shelf.{shown};
-ghost use Rattle.sqlite.specs.State.{HasCleanDisk};
+ghost use Rattle.njh_spoolfile.specs.Steps.{Stays};
+ghost use Rattle.sqlite.specs.State.{HasCleanDisk, Survives};
 
 use crate::fault::FilesFault;
 use crate::finding::{Asked, key_of};
@@ -99,6 +100,9 @@ fn export<S: Alter>(
         asked.now.number name.now spool.files fault) }
     ensures some { IfOk result (λ text. (records : List Contents)
         × (text.items ≡ export_text asked.now.raw records)) }
+    ensures same { HasCleanDisk (shown S.Store store.new) → OnOk result (Stays (shown S.Store store.old)
+        (shown S.Store store.new)) }
+    ensures crash { Survives (shown S.Store store.old) (shown S.Store store.new) (λ _. ⊥) }
 {
     let files = store.files(alloc)?;
     let key = key_of(alloc, files.as_slice(), asked, name)?;
@@ -125,6 +129,9 @@ pub(crate) fn export_file<S: Alter, W: Write>(
     ensures done { OnOk result (IsExported asked.now.raw (W.contents out.old) (W.contents out.new)) }
     ensures begun { OnErr result (Keeps (W.contents out.old) (W.contents out.new)
         ⊎ IsExportedInPart asked.now.raw (W.contents out.old) (W.contents out.new)) }
+    ensures same { HasCleanDisk (shown S.Store store.new) → OnOk result (Stays (shown S.Store store.old)
+        (shown S.Store store.new)) }
+    ensures crash { Survives (shown S.Store store.old) (shown S.Store store.new) (λ _. ⊥) }
     ensures silent { IfErr result (λ fault. Keeps (W.contents out.old) (W.contents out.new) ⊎ IsOfSpool fault) }
 {
     let text = export(alloc, store, asked, name)?;

@@ -1,4 +1,4 @@
-//! Why nothing, or not all, is printed of a spool file.
+//! Why nothing, or not all, is printed of a spool file or copied.
 
 ghost use Rattle.njh_listing.specs.Faults.{IsOfSpool};
 
@@ -8,7 +8,7 @@ use sqlite::{Error, ErrorCode};
 use std::alloc::{AllocError, AllocFailed};
 use std::fmt;
 
-/// Why nothing, or not all, is printed of a spool file, or no hub is opened from it.
+/// Why nothing, or not all, is printed of a spool file or copied, or no hub is opened from it.
 #[derive(Debug, Drop)]
 pub enum FilesFault {
     /// The customer has no such file; with what it was called.
@@ -18,8 +18,14 @@ pub enum FilesFault {
     Several(String),
     /// A whole file can't be put back into a hub; with why, and whose it is.
     Refused(String),
+    /// Files aren't copied where the customer has some; with what says so.
+    Taken(String),
     /// Another program has the spool file open.
     InUse,
+    /// A new spool file is there already.
+    AlreadyThere,
+    /// The spool file has no numbers left for more files.
+    Full,
     /// It is a database with other tables than a spool's.
     NotASpool,
     /// It is a spool of another version.
@@ -40,7 +46,10 @@ impl fmt::Display for FilesFault {
             FilesFault::NoFile(name) => write!(f, "no file {name}"),
             FilesFault::Several(list) => f.write_str(list.as_str()),
             FilesFault::Refused(why) => f.write_str(why.as_str()),
+            FilesFault::Taken(why) => f.write_str(why.as_str()),
             FilesFault::InUse => f.write_str("spool in use"),
+            FilesFault::AlreadyThere => f.write_str("the new spool is there already"),
+            FilesFault::Full => f.write_str("spool has no numbers left"),
             FilesFault::NotASpool => f.write_str("spool is another database"),
             FilesFault::OtherVersion => f.write_str("spool of another version"),
             FilesFault::Damaged => f.write_str("spool damaged, or no database"),

@@ -1,4 +1,5 @@
-//! What a spool file holds, printed for people: its whole files, and a file's records.
+//! What a spool file holds, printed for people: its whole files, and a file's records; and copied into
+//! another spool file.
 #![tactic(auto)]
 
 mod copying;
@@ -6,6 +7,7 @@ mod exporting;
 mod fault;
 mod finding;
 mod listing;
+mod moving;
 mod opening;
 mod printing;
 mod writing;
@@ -13,5 +15,6 @@ mod writing;
 pub use fault::FilesFault;
 pub use finding::Asked;
 pub use listing::print_files;
+pub use moving::{Move, copy, copy_spool};
 pub use opening::SpoolFiles;
 pub use printing::{print, print_spool};

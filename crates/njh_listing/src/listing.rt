@@ -11,6 +11,7 @@ ghost use Rattle.njh_listing.specs.Listed.{IsListed, IsListedInPart, listing_tex
 ghost use Rattle.njh_listing.specs.Listed.{user_words};
 ghost use Rattle.njh_spoolfile.specs.Kept.{File, Holds, SpoolContents, entry_of, file_of};
 ghost use Rattle.njh_spoolfile.specs.Shelf.{shown};
+ghost use Rattle.njh_spoolfile.specs.Steps.{Stays};
 
 use crate::fault::FilesFault;
 use crate::writing::write_text;
@@ -205,6 +206,9 @@ fn listing<S: Alter>(
         → text.items ≡ listing_text (option_map (λ c. c.now) customer.entry) spool.files) }
     ensures some { IfOk result (λ text. (files : List (ℕ × File))
         × (text.items ≡ listing_text (option_map (λ c. c.now) customer.entry) files)) }
+    ensures same { HasCleanDisk (shown S.Store store.new) → OnOk result (Stays (shown S.Store store.old)
+        (shown S.Store store.new)) }
+    ensures crash { Survives (shown S.Store store.old) (shown S.Store store.new) (λ _. ⊥) }
     ensures fault { IfErr result IsOfSpool }
 {
     let files = store.files(alloc)?;
@@ -227,6 +231,9 @@ pub fn print_files<S: Alter, W: Write>(
         (W.contents out.new)) }
     ensures begun { OnErr result (Keeps (W.contents out.old) (W.contents out.new)
         ⊎ IsListedInPart (option_map (λ c. c.now) customer.entry) (W.contents out.old) (W.contents out.new)) }
+    ensures same { HasCleanDisk (shown S.Store store.new) → OnOk result (Stays (shown S.Store store.old)
+        (shown S.Store store.new)) }
+    ensures crash { Survives (shown S.Store store.old) (shown S.Store store.new) (λ _. ⊥) }
     ensures fault { IfErr result IsOfSpool }
 {
     let text = listing(alloc, store, customer)?;

@@ -40,6 +40,14 @@ pub trait SpoolFiles {
             → Stands (record { now = spool; kept = spool }) (file_state store.conn)) }
         ensures refused { IfErr result IsOfSpool };
 
+    /// Makes the spool file at the path, where nothing may be, as `open_spool` does.
+    fn make_spool<S: Start>(
+        &self,
+        path: &str,
+        start: S,
+    ) -> Result<Store<FileStore<FileFrom<S>>>, FilesFault>
+        ensures { IfErr result IsOfSpool };
+
     /// Opens a copy of the spool file at the path, which has to be there and need not be writable.
     /// It stays as it is, and nothing is left beside it; the copy is gone when this returns.
     fn find_spool<S: Start>(
@@ -55,12 +63,12 @@ fn is_no_file(path: &str) -> bool {
     path == ":memory:" || path.starts_with("file:")
 }
 
-/// Makes an empty file if none is: a database that has nothing yet.
-fn make_empty(rt: &HostRuntime, path: &str) -> Result<(), FilesFault>
+/// Makes an empty file, where nothing may be: a database that has nothing yet.
+fn make_new(rt: &HostRuntime, path: &str) -> Result<(), FilesFault>
     ensures { IfErr result IsOfSpool }
 {
     if is_no_file(path) {
-        return Ok(());
+        return Err(FilesFault::Device);
     }
     let made = OpenOptions::new()
         .write(true)
@@ -73,7 +81,7 @@ fn make_empty(rt: &HostRuntime, path: &str) -> Result<(), FilesFault>
             Ok(())
         }
         Err(error) => match error.kind() {
-            ErrorKind::AlreadyExists => Ok(()),
+            ErrorKind::AlreadyExists => Err(FilesFault::AlreadyThere),
             _ => Err(fault_of(error)),
         },
     }
@@ -160,10 +168,11 @@ fn refuse_other(rt: &HostRuntime, path: &str) -> Result<(), FilesFault>
 fn make_or_refuse(rt: &HostRuntime, path: &str) -> Result<(), FilesFault>
     ensures { IfErr result IsOfSpool }
 {
-    if is_no_file(path) {
-        return Err(FilesFault::Device);
+    match make_new(rt, path) {
+        Ok(()) => {}
+        Err(FilesFault::AlreadyThere) => {}
+        Err(fault) => return Err(fault),
     }
-    make_empty(rt, path)?;
     refuse_other(rt, path)
 }
 
@@ -272,6 +281,17 @@ impl SpoolFiles for HostRuntime {
         }
         match open_store(self, path, start) {
             Ok(store) => where_set(store, set_modes(self, path)),
+            Err(fault) => Err(fault),
+        }
+    }
+
+    fn make_spool<S: Start>(
+        &self,
+        path: &str,
+        start: S,
+    ) -> Result<Store<FileStore<FileFrom<S>>>, FilesFault> {
+        match make_new(self, path) {
+            Ok(()) => self.open_spool(path, start),
             Err(fault) => Err(fault),
         }
     }

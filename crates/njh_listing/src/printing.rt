@@ -6,7 +6,8 @@ ghost use Rattle.njh_listing.specs.Faults.{IsOfSpool};
 ghost use Rattle.njh_listing.specs.Printed.{IsFaultOf, IsPrinted, IsPrintedInPart, IsPrintedOf};
 ghost use Rattle.njh_spoolfile.specs.Kept.{Holds, SpoolContents};
 ghost use Rattle.njh_spoolfile.specs.Shelf.{shown};
-ghost use Rattle.sqlite.specs.State.{HasCleanDisk};
+ghost use Rattle.njh_spoolfile.specs.Steps.{Stays};
+ghost use Rattle.sqlite.specs.State.{HasCleanDisk, Survives};
 
 use crate::exporting::export_file;
 use crate::fault::FilesFault;
@@ -40,6 +41,10 @@ pub fn print<S: Alter, W: Write>(
     ensures begun { OnErr result (Keeps (W.contents out.old) (W.contents out.new)
         ⊎ IsPrintedInPart (option_map (λ c. c.now) asked.now.customer) asked.now.file asked.now.raw
         (W.contents out.old) (W.contents out.new)) }
+    // The spool file stays as it was.
+    ensures same { HasCleanDisk (shown S.Store store.new) → OnOk result (Stays (shown S.Store store.old)
+        (shown S.Store store.new)) }
+    ensures crash { Survives (shown S.Store store.old) (shown S.Store store.new) (λ _. ⊥) }
     ensures silent { IfErr result (λ fault. Keeps (W.contents out.old) (W.contents out.new) ⊎ IsOfSpool fault) }
 {
     match asked.file {

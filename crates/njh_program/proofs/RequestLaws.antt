@@ -5,7 +5,7 @@ use Rattle.std.specs.Io.KnownBytes.{Keeps}
 use Rattle.clap.specs.Words.{Text}
 use Rattle.njh_arguments.specs.Arguments.{Asks}
 use Rattle.njh_arguments.specs.declared.arguments.Request.{Request}
-use Rattle.njh_arguments.specs.declared.arguments.Request.TheVariants.{Files, Serve}
+use Rattle.njh_arguments.specs.declared.arguments.Request.TheVariants.{Copy, Files, Serve}
 use Rattle.njh_arguments.specs.declared.arguments.Request.TheVariants as request
 use Rattle.njh_arguments.specs.declared.arguments.Task.{Task}
 use Rattle.njh_encode.specs.declared.fault.EncodeFault.{EncodeFault}
@@ -55,6 +55,7 @@ failed_so : (arguments : List Text) (left : Option (List ℕ)) (asked : Request)
     → Fails asked left why → IsFailed arguments left why
 failed_so arguments left (request.Task t) why asks ended = task_failed arguments left t why asks ended
 failed_so arguments left (Files spool customer file number raw) why asks ended = files_failed arguments left why ended
+failed_so arguments left (Copy spool customer into is_new) why asks ended = files_failed arguments left why ended
 failed_so arguments left (Serve tables turns listen quiet spool) why asks (inr ended) =
     files_failed arguments left why ended
 failed_so arguments left (Serve tables turns listen quiet spool) why asks (inl (inl (inl is))) =
@@ -93,3 +94,4 @@ bad_by arguments fault left old new (request.Task t) asks bad =
     let P : Task → Type 0 = λ t. Asks arguments (request.Task t) in (subst P bad.0 asks, bad.1)
 bad_by arguments fault left old new (Serve tables turns listen quiet spool) asks bad = absurd bad
 bad_by arguments fault left old new (Files spool customer file number raw) asks bad = absurd bad
+bad_by arguments fault left old new (Copy spool customer into is_new) asks bad = absurd bad

@@ -4,11 +4,12 @@ use Rattle.std.specs.Io.KnownBytes.{Keeps}
 use Rattle.clap.specs.Words.{Text}
 use Rattle.njh_arguments.specs.Arguments.{AreRefusedBy, Asks}
 use Rattle.njh_arguments.specs.declared.arguments.Request.{Request}
-use Rattle.njh_arguments.specs.declared.arguments.Request.TheVariants.{Files, Serve}
+use Rattle.njh_arguments.specs.declared.arguments.Request.TheVariants.{Copy, Files, Serve}
 use Rattle.njh_arguments.specs.declared.arguments.Request.TheVariants as request
 use Rattle.njh_arguments.specs.declared.arguments.Task.{Task}
 use Rattle.njh_arguments.specs.declared.arguments.Task.TheVariants.{Encode}
 use Rattle.njh_encode.specs.declared.fault.EncodeFault.{EncodeFault}
+use Rattle.njh_listing.specs.Listed.{IsListed, IsListedInPart}
 use Rattle.njh_listing.specs.Printed.{IsPrinted, IsPrintedInPart}
 use Rattle.njh_hub.specs.Parts.{entries_of}
 use Rattle.njh_hub.specs.WholeHub.{Part, SameLines, part_at_open}
@@ -45,6 +46,7 @@ IsDone (request.Task task) left old new = tasks.IsDone task left old new
 IsDone (Serve tables turns listen quiet spool) left old new = AreServedOf tables.now turns spool × Keeps old new
 IsDone (Files spool customer file number raw) left old new =
     IsPrinted (option_map (λ s. s.now) customer) file raw old new
+IsDone (Copy spool customer into is_new) left old new = IsListed (option_map (λ s. s.now) customer) old new
 
 -- it was done in part
 abbrev pub IsDoneInPart : Request → (left old new : Option (List ℕ)) → Type 0
@@ -52,6 +54,7 @@ IsDoneInPart (request.Task task) left old new = tasks.IsDoneInPart task left old
 IsDoneInPart (Serve tables turns listen quiet spool) left old new = Keeps old new
 IsDoneInPart (Files spool customer file number raw) left old new =
     IsPrintedInPart (option_map (λ s. s.now) customer) file raw old new
+IsDoneInPart (Copy spool customer into is_new) left old new = IsListedInPart (option_map (λ s. s.now) customer) old new
 
 -- What the arguments ask for was done: the script that a reader had left was replayed, lines were served, the trace or
 -- the lines in words that a reader had left were told or encoded, or a table file or a script was checked and is right.
@@ -68,6 +71,7 @@ abbrev pub FindsFault : Request → (old new : Option (List ℕ)) → Type 0
 FindsFault (request.Task task) old new = tasks.FindsFault task old new
 FindsFault (Serve tables turns listen quiet spool) old new = ⊥
 FindsFault (Files spool customer file number raw) old new = ⊥
+FindsFault (Copy spool customer into is_new) old new = ⊥
 
 abbrev pub IsFound : (arguments : List Text) (old new : Option (List ℕ)) → Type 0
 IsFound arguments old new = (request : Request) × Asks arguments request × FindsFault request old new
@@ -77,6 +81,7 @@ abbrev pub HasBadWords : Request → (fault : EncodeFault) (left old new : Optio
 HasBadWords (request.Task task) fault left old new = tasks.HasBadWords task fault left old new
 HasBadWords (Serve tables turns listen quiet spool) fault left old new = ⊥
 HasBadWords (Files spool customer file number raw) fault left old new = ⊥
+HasBadWords (Copy spool customer into is_new) fault left old new = ⊥
 
 abbrev pub IsEncodedBefore : (arguments : List Text) (fault : EncodeFault) (left old new : Option (List ℕ)) → Type 0
 IsEncodedBefore arguments fault left old new =
@@ -87,8 +92,9 @@ abbrev pub RefusesTables : Request → Failure → Type 0
 RefusesTables (request.Task task) failure = tasks.RefusesTables task failure
 RefusesTables (Serve tables turns listen quiet spool) failure = AreRefused (Some tables) failure
 RefusesTables (Files spool customer file number raw) failure = ⊥
+RefusesTables (Copy spool customer into is_new) failure = ⊥
 
--- why no spool file is printed, or not all of what was asked for
+-- why no spool file is printed or copied, or not all of what was asked for
 abbrev pub IsFilesEnd : Failure → Type 0
 IsFilesEnd (failure.Files fault) = ⊤
 IsFilesEnd failure = ⊥
@@ -98,6 +104,7 @@ abbrev pub Fails : Request → (left : Option (List ℕ)) → Failure → Type 0
 Fails (request.Task task) left failure = tasks.IsFailed task left failure
 Fails (Serve tables turns listen quiet spool) left failure = AreRefused (Some tables) failure ⊎ IsFilesEnd failure
 Fails (Files spool customer file number raw) left failure = IsFilesEnd failure
+Fails (Copy spool customer into is_new) left failure = IsFilesEnd failure
 
 -- a task is asked for, and this holds of it
 abbrev pub AsksTask : (arguments : List Text) → (Task → Type 0) → Type 0

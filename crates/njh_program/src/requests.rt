@@ -6,6 +6,7 @@ ghost use Rattle.njh_encode.specs.declared.fault.EncodeEnd.TheVariants.{BadLine}
 ghost use Rattle.njh_encode.specs.declared.fault.EncodeFault.{EncodeFault};
 ghost use Rattle.njh_program.specs.ProgramOutcome.{AreServedOf, Fails, FindsFault, HasBadWords, IsDone, IsDoneInPart};
 ghost use Rattle.njh_program.specs.ProgramOutcome.{IsFilesEnd};
+ghost use Rattle.njh_listing.specs.Listed.{IsListed, IsListedInPart};
 ghost use Rattle.njh_listing.specs.Printed.{IsPrinted, IsPrintedInPart};
 ghost use Rattle.njh_subcommands.specs.Status.{ComesFirst};
 ghost use Rattle.njh_subcommands.specs.TableBytes.{AreRefused};
@@ -13,7 +14,7 @@ ghost use Rattle.njh_subcommands.specs.TableBytes.{AreRefused};
 use crate::service::{Options, serve_file};
 use crate::spooling::Spooling;
 use njh_arguments::Request;
-use njh_listing::Asked;
+use njh_listing::{Asked, Move};
 use njh_service::Log;
 use njh_subcommands::{Failure, perform};
 use std::io::{Read, Write};
@@ -41,7 +42,7 @@ pub(crate) fn carry_out_request<
     match request {
         Request::Task(task) => {
             drop(log);
-            perform(rt, task, script, out)
+            return perform(rt, task, script, out);
         }
         Request::Files {
             spool,
@@ -57,7 +58,21 @@ pub(crate) fn carry_out_request<
                 number,
                 raw,
             };
-            print_files(rt, spool, &asked, out)
+            return print_files(rt, spool, &asked, out);
+        }
+        Request::Copy {
+            spool,
+            customer,
+            into,
+            is_new,
+        } => {
+            drop(log);
+            let moved = Move {
+                customer,
+                into,
+                is_new,
+            };
+            return copy_files(rt, spool, &moved, out);
         }
         Request::Serve {
             tables,
@@ -67,7 +82,7 @@ pub(crate) fn carry_out_request<
             spool,
         } => {
             let log = Log::new(if quiet { None } else { Some(log) });
-            serve_lines(rt, tables, spool, Options { turns, listen }, log)
+            return serve_lines(rt, tables, spool, Options { turns, listen }, log);
         }
     }
 }
@@ -88,6 +103,26 @@ fn print_files<F: Spooling, W: Write>(
     ensures silent { IfErr result (λ failure. ComesFirst failure → Keeps (W.contents out.old) (W.contents out.new)) }
 {
     match rt.print_spool(path, asked, out) {
+        Ok(()) => Ok(()),
+        Err(fault) => Err(Failure::Files(fault)),
+    }
+}
+
+/// Copies whole files of the spool file at a path.
+fn copy_files<F: Spooling, W: Write>(
+    rt: &F,
+    path: &str,
+    moved: &Move<'_>,
+    out: &mut W,
+) -> Result<(), Failure>
+    ensures done { OnOk result (IsListed (option_map (λ c. c.now) moved.now.customer) (W.contents out.old)
+        (W.contents out.new)) }
+    ensures begun { OnErr result (Keeps (W.contents out.old) (W.contents out.new)
+        ⊎ IsListedInPart (option_map (λ c. c.now) moved.now.customer) (W.contents out.old) (W.contents out.new)) }
+    ensures failed { IfErr result IsFilesEnd }
+    ensures silent { IfErr result (λ failure. ComesFirst failure → Keeps (W.contents out.old) (W.contents out.new)) }
+{
+    match rt.copy_spool(path, moved, out) {
         Ok(()) => Ok(()),
         Err(fault) => Err(Failure::Files(fault)),
     }

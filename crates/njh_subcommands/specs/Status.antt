@@ -34,6 +34,7 @@ status_of Found = 1
 status_of (failure.Files (files.NoFile name)) = 1
 status_of (failure.Files (files.Several list)) = 1
 status_of (failure.Files (files.Refused why)) = 1
+status_of (failure.Files (files.Taken why)) = 1
 status_of (failure.Files fault) = 2
 status_of failure.Device = 2
 status_of failure.Memory = 2

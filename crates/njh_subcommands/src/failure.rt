@@ -28,7 +28,8 @@ pub enum Failure {
     Trace(TraceFault),
     /// The lines in words weren't all encoded.
     Encode(EncodeEnd),
-    /// A spool file wasn't printed, or not all of what was asked for, or no hub was opened from it.
+    /// A spool file wasn't printed or copied, or not all of what was asked for, or no hub was opened
+    /// from it.
     Files(FilesFault),
     /// A check found a fault, and said it on standard output.
     Found,
@@ -40,8 +41,8 @@ pub enum Failure {
 
 impl Failure {
     /// The status to end with: 1 if the arguments, the tables, the script, the trace or a line
-    /// in words are refused, a check found a fault, or a spool file has no such file, several, or
-    /// one that can't be put back; 2 if a file, a stream or memory fails.
+    /// in words are refused, a check found a fault, or a spool file has no such file, several, one
+    /// that can't be put back, or some where others are to be copied; 2 if a file, a stream or memory fails.
     pub fn status(&self) -> u8
         ensures { result ≡ status_of self.now }
     {
@@ -62,6 +63,7 @@ impl Failure {
             Failure::Files(FilesFault::NoFile(_)) => 1,
             Failure::Files(FilesFault::Several(_)) => 1,
             Failure::Files(FilesFault::Refused(_)) => 1,
+            Failure::Files(FilesFault::Taken(_)) => 1,
             Failure::Files(_) => 2,
             Failure::Found => 1,
             Failure::Device => 2,

@@ -1,10 +1,12 @@
-use Rattle.std.specs.Prelude.{codes}
-use Rattle.njh_arguments.specs.Arguments.{exporting_app, flag_rule}
+use Rattle.clap.specs.Words.{with_rule}
+use Rattle.njh_arguments.specs.Arguments.{compact_rule, into_rule, printing_app}
 use Rattle.njh_arguments.proofs.files_options.files_command.Goals as goal
 
 pub returns : goal.returns
-returns c = record {
-  app = c.with_option.ensures.app exporting_app (flag_rule (codes "raw")) c.exporting_command.ensures.app
-      c.flag-raw.ensures.rule;
-  local = c.with_option.ensures.local c.exporting_command.ensures.local;
-}
+returns c =
+    let first = printing_app in
+    let second = c.with_option-copying.ensures.app first into_rule c.printing_command.ensures.app
+    c.into_option.ensures.rule in record {
+      app = c.with_option.ensures.app (with_rule first into_rule) compact_rule second c.compact_option.ensures.rule;
+      local = c.with_option.ensures.local (c.with_option-copying.ensures.local c.printing_command.ensures.local);
+    }

@@ -1,15 +1,33 @@
-use Rattle.std.proofs.Common.{◌≡◌, ◌∙◌, Some, codes, option_map, refl, sym, rules}
-use Rattle.njh_arguments.proofs.ArgumentLaws.{first_value-rows}
+use Rattle.std.proofs.Common.{◌≡◌, ◌∙◌, Some, None, codes, option_map, sym, rules, true, false}
+use Rattle.clap.specs.Words.{first_of, found_of, rows_of}
+use Rattle.njh_arguments.specs.Arguments.{is_given}
+use Rattle.njh_arguments.proofs.ArgumentLaws.{first_value-rows, unclear-into}
+use Rattle.njh_arguments.proofs.files_options.files_in.Goals.{then-not-is_given-via-then-not-is_given, then-not-is_given-via-else-not-is_given+then-is_given, then-not-is_given-via-else-not-is_given+else-is_given+then-is_printing}
 use Rattle.njh_arguments.proofs.files_options.files_in.Goals as goal
 
-pub returns-clause-asked : goal.returns-clause-asked
-returns-clause-asked c =
-    let options = c.args.options.now in
-    let found : option_map (λ s. s.now) c.get_str.result ≡ Some c.in-Some.spool.now = search rules in (
-      refl,
-      sym (first_value-rows options (codes "spool")) ∙ (sym c.get_str.ensures ∙ found),
-      sym (first_value-rows options (codes "customer")) ∙ sym c.get_str-2.ensures,
-      sym (first_value-rows options (codes "export")) ∙ sym c.get_str-3.ensures,
-      c.in_ok-number.ensures.asked,
-      c.is_set.ensures,
+pub compacted_in-requires : goal.compacted_in-requires
+compacted_in-requires c =
+    let none : option_map (λ s. s.now) c.get_str.result ≡ None = search rules in
+    sym (first_value-rows c.args.options.now (codes "into")) ∙ (sym c.get_str.ensures ∙ none)
+
+pub returns-then-not-is_given-clause-refused : goal.returns-then-not-is_given-clause-refused
+returns-then-not-is_given-clause-refused c =
+    let rows = rows_of (found_of c.args.options.now) in
+    let found : option_map (λ s. s.now) c.get_str.result ≡ Some c.in-Some.into.now = search rules in
+    unclear-into rows c.in-Some.into.now
+    (sym (first_value-rows c.args.options.now (codes "into")) ∙ (sym c.get_str.ensures ∙ found))
+    (λ prints compact customer. elim c.then-not-is_given.branch [
+      | then-not-is_given-via-then-not-is_given w ↦ search rules
+      | then-not-is_given-via-else-not-is_given+then-is_given w ↦ search rules
+      | then-not-is_given-via-else-not-is_given+else-is_given+then-is_printing w ↦
+          w.is_printing.ensures.something (search rules) prints
+    ])
+
+pub copied_in-requires : goal.copied_in-requires
+copied_in-requires c =
+    let found : option_map (λ s. s.now) c.get_str.result ≡ Some c.in-Some.into.now = search rules in (
+      c.is_printing.ensures.nothing c.if-is_printing.false,
+      sym (first_value-rows c.args.options.now (codes "into")) ∙ (sym c.get_str.ensures ∙ found),
+      search rules,
+      search rules,
     )
