@@ -11,7 +11,7 @@ use Rattle.njh_hub.specs.declared.fault.Cause.{Cause}
 use Rattle.njh_hub.specs.declared.fault.Cause.TheVariants.{Hub, Sink}
 use Rattle.njh_hub.specs.declared.fault.RunFault.{RunFault}
 use Rattle.njh_hub.specs.OwnEvents.{line_of_event, routes_of, first_events, bytes_in_event}
-use Rattle.njh_hub.specs.Sent.{IsCounted}
+use Rattle.njh_hub.specs.Sent.{IsCounted, SinkSays}
 use Rattle.njh_hub.specs.Cuts.{SendsAt}
 use Rattle.njh_hub.specs.WholeHub.{Part, part, HasLine, IsNamed, SameLines, hub_run}
 
@@ -81,23 +81,33 @@ pub record IsBehindFrame (parts : List Part) (whole : ℕ) (event : Event) (faul
   pub sends : SendsAt parts event used
   pub stops : StopsAt whole used event fault
 
--- One event of a run. A fault speaks of it as of the only one.
-pub record IsEventRun {S A Z : Type 0} (took : S → S → List (LineId × List ℕ) → Type 0)
-    (refused : S → S → LineId × List ℕ → Type 0) (count : S → ℕ) (parts : List Part) (event : Event) (out : Vec ℕ Z)
-    (sink : S)
-    (result : Result A RunFault) (new : List Part) (new_out : Vec ℕ Z) (new_sink : S) : Type 0 where
-  pub leads : new ≡ (hub_run parts (done (event ∷ []) result)).parts
-  pub handed : Handed took refused result sink new_sink (hub_run parts (done (event ∷ []) result)).sent
-  pub known : OnOk result (IsNamed parts event)
-  pub lines : SameLines parts new
-  pub room : OnOk result (IsSome (line_of_event event) ⊎ (longest_frame ≤ vec_capacity out)
-      → longest_frame ≤ vec_capacity new_out)
+-- A moment of a run: the customers' parts, what the next frame is put in, and the sink.
+pub record RunMoment (S Z : Type 0) : Type 0 where
+  pub parts : List Part
+  pub out : Vec ℕ Z
+  pub sink : S
+
+abbrev pub moment : {S Z : Type 0} → List Part → Vec ℕ Z → S → RunMoment S Z
+moment parts out sink = record { parts = parts; out = out; sink = sink }
+
+-- One event of a run, and the moments before it and after it. A fault speaks of it as of the only one.
+pub record IsEventRun {S A Z : Type 0} (says : SinkSays S) (before : RunMoment S Z) (event : Event)
+    (result : Result A RunFault) (after : RunMoment S Z) : Type 0 where
+  pub leads : after.parts ≡ (hub_run before.parts (done (event ∷ []) result)).parts
+  pub handed : Handed says.took says.refused result before.sink after.sink
+      (hub_run before.parts (done (event ∷ []) result)).sent
+  pub known : OnOk result (IsNamed before.parts event)
+  pub lines : SameLines before.parts after.parts
+  pub room : OnOk result (IsSome (line_of_event event) ⊎ (longest_frame ≤ vec_capacity before.out)
+      → longest_frame ≤ vec_capacity after.out)
   pub one : IfErr result (IsWithinOne event)
-  pub behind : IfErr result (λ fault. fault.events ≡ 1 → IsNamed parts event)
-  pub causes : IfErr result (λ fault. IfHub fault.cause (λ why. (fault.events ≡ 0) × IsRefused parts event why))
+  pub behind : IfErr result (λ fault. fault.events ≡ 1 → IsNamed before.parts event)
+  pub causes : IfErr result (λ fault. IfHub fault.cause
+      (λ why. (fault.events ≡ 0) × IsRefused before.parts event why))
   pub memory : IfErr result (λ fault. fault.cause ≡ Hub Memory → (fault.events ≡ 0) × (fault.bytes ≡ 0) ×
-      (IsRoutes event ⊎ (vec_capacity out < longest_frame)))
+      (IsRoutes event ⊎ (vec_capacity before.out < longest_frame)))
   pub begun : IfErr result (λ fault. IfHub fault.cause (λ why. fault.bytes ≡ 0))
-  pub behind_frame : IfErr result (λ fault. fault.cause ≡ Sink → IsBehindFrame parts 0 event fault)
-  pub counts : count sink ≤ count new_sink
-  pub counted : IfErr result (λ fault. fault.cause ≡ Sink → IsCounted (count sink) (count new_sink))
+  pub behind_frame : IfErr result (λ fault. fault.cause ≡ Sink → IsBehindFrame before.parts 0 event fault)
+  pub counts : says.count before.sink ≤ says.count after.sink
+  pub counted : IfErr result (λ fault. fault.cause ≡ Sink
+      → IsCounted (says.count before.sink) (says.count after.sink))

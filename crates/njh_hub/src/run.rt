@@ -5,8 +5,8 @@ ghost use Rattle.std.specs.Prelude.{IfErr, IsSomeAnd, All};
 ghost use Rattle.njh_customer.specs.Feeding.{sent_on};
 ghost use Rattle.njh_customer.specs.Runs.{alone_run};
 ghost use Rattle.njh_hub.specs.OwnEvents.{events_of, event_by, sent_to, bytes_in_event};
-ghost use Rattle.njh_hub.specs.Sent.{IsCounted};
-ghost use Rattle.njh_hub.specs.RunStops.{done, Handed, IfHub, IsBehindFrame, IsEventRun, IsRefused, IsRoutes};
+ghost use Rattle.njh_hub.specs.Sent.{IsCounted, sink_says};
+ghost use Rattle.njh_hub.specs.RunStops.{done, moment, Handed, IfHub, IsBehindFrame, IsEventRun, IsRefused, IsRoutes};
 ghost use Rattle.njh_hub.specs.WholeHub.{part, IsNamed, SameLines, sent_by, hub_run};
 ghost use Rattle.njh_hub.specs.declared.event.Event.TheVariants.{Bytes};
 
@@ -84,8 +84,8 @@ impl Hub {
         out: &mut Vec<u8>,
         sink: &mut S,
     ) -> Result<(), RunFault>
-        ensures { IsEventRun S.took S.refused S.count self.old event.now out.old sink.old result self.new out.new
-            sink.new }
+        ensures { IsEventRun (sink_says S.took S.refused S.count) (moment self.old out.old sink.old) event.now result
+            (moment self.new out.new sink.new) }
     {
         match event {
             Event::Bytes(line, piece) => self.run_bytes(*line, piece.bytes(), out, sink),
@@ -111,8 +111,8 @@ impl Hub {
         out: &mut Vec<u8>,
         sink: &mut S,
     ) -> Result<(), RunFault>
-        ensures { IsEventRun S.took S.refused S.count self.old
-            (event_by signal id) out.old sink.old result self.new out.new sink.new }
+        ensures { IsEventRun (sink_says S.took S.refused S.count) (moment self.old out.old sink.old)
+            (event_by signal id) result (moment self.new out.new sink.new) }
     {
         out.clear();
         match self.signal(id, signal, out) {
@@ -141,8 +141,8 @@ impl Hub {
         out: &mut Vec<u8>,
         sink: &mut S,
     ) -> Result<(), RunFault>
-        ensures { IsEventRun S.took S.refused S.count self.old
-            (Bytes id piece.now) out.old sink.old result self.new out.new sink.new }
+        ensures { IsEventRun (sink_says S.took S.refused S.count) (moment self.old out.old sink.old)
+            (Bytes id piece.now) result (moment self.new out.new sink.new) }
     {
         no_bytes_do_nothing();
         steps_follow_bytes();
