@@ -4,7 +4,6 @@ ghost use Rattle.std.specs.Prelude.{◌≡◌, ℕ, ◌+◌, ◌<◌, ◌≤◌,
 ghost use Rattle.std.specs.List.{AllByRecursion};
 ghost use Rattle.std.specs.Vec.{vec_len, vec_capacity};
 ghost use Rattle.njh_bisync.specs.Limits.{longest_frame};
-ghost use Rattle.njh_customer.specs.Customer.{IsMarked};
 ghost use Rattle.njh_customer.specs.Part.{part_after_bytes, part_after_signal};
 ghost use Rattle.njh_spool.specs.CustomerSpool.{used_blocks};
 ghost use Rattle.njh_spool.specs.Spools.{IsSound};
@@ -133,15 +132,6 @@ impl Hub {
         if usize::from(customer) < self.lines.len() {
             self.shared.spool.quota_holds(customer);
         }
-    }
-
-    /// Which of a customer's lines count as up where a route has a second line: those whose
-    /// sessions are up, and no others.
-    pub(crate) fn marks_hold(&self, customer: u16)
-        requires { customer < length self.now }
-        ensures { IsMarked (part customer self.now).customer }
-    {
-        let _tables = &self.shared.tables;
     }
 
     /// A file that comes on a line's stream to the hub is partial.

@@ -1,6 +1,6 @@
 //! What is seen of a hub while it runs: of a line and of a file, without a copy of any record.
 
-ghost use Rattle.std.specs.Prelude.{◌≡◌, ◌<◌, ◌↔◌, length, IsTrue, IfOk, IsOk, OnErr, OnSome, Err};
+ghost use Rattle.std.specs.Prelude.{◌≡◌, ◌<◌, ◌↔◌, length, IsTrue, IfOk, IsOk, OnOk, OnErr, OnSome, Err};
 ghost use Rattle.std.specs.List.{AllByRecursion};
 ghost use Rattle.std.specs.Option.{option_map};
 ghost use Rattle.njh_command.specs.Files.{file_at};
@@ -24,10 +24,12 @@ use njh_table::LineId;
 const TRIES: u8 = 5;
 
 impl Hub {
-    /// The lines of a line's customer. `UnknownLine` comes where the hub has no such line.
+    /// The lines of a line's customer, of which those count as up whose sessions are up.
+    /// `UnknownLine` comes where the hub has no such line.
     fn lines_of(&self, id: LineId) -> Result<&Lines, HubFault>
         ensures lines { IfOk result (λ lines. lines.now.lines ≡ (part id.customer self.now).customer.lines) }
         ensures rests { IfOk result (λ lines. lines.now.rests ≡ (part id.customer self.now).rests) }
+        ensures marked { OnOk result (IsMarked (part id.customer self.now).customer) }
         ensures known { IsOk result ↔ HasLine self.now id }
         ensures unknown { OnErr result (result ≡ Err HubFault.UnknownLine) }
     {
@@ -47,7 +49,6 @@ impl Hub {
         ensures unknown { OnErr result (result ≡ Err HubFault.UnknownLine) }
     {
         let lines = self.lines_of(id)?;
-        self.marks_hold(id.customer);
         Ok(SessionView::of(lines.session(id.number), lines.role(id.number)))
     }
 

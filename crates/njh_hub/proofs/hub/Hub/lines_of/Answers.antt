@@ -1,5 +1,6 @@
 use Rattle.std.proofs.Common.{◌≡◌, ◌<◌, List, length, ap, subst, sym, ◌∙◌, rules, arith}
 use Rattle.std.proofs.lemmas.List.{get_or_read}
+use Rattle.njh_customer.specs.Customer.{IsMarked}
 use Rattle.njh_customer.specs.Part.{Lines}
 use Rattle.njh_hub.specs.Parts.{lines_at, no_lines}
 use Rattle.njh_hub.specs.WholeHub.{Part, HasLine, part}
@@ -45,3 +46,14 @@ returns-clause-rests c =
     ap (λ (x : Lines). x.rests) is
     ∙ sym (ap (λ (p : Part). p.rests) (part-there s.shared.tables s.shared.spool s.lines.items n there))
     ∙ ap (λ (ps : List Part). (part n ps).rests) c.self.view_is
+
+pub returns-clause-marked : goal.returns-clause-marked
+returns-clause-marked c =
+    let s = c.self.inside in
+    let n = c.args.id.customer in
+    let here : HasLine c.args.self.now c.args.id = search rules in
+    let known = subst (λ ps. HasLine ps c.args.id) (sym c.self.view_is) here in
+    let there = line-there s.shared.tables s.shared.spool s.lines.items c.args.id known in
+    subst (λ (ps : List Part). IsMarked (part n ps).customer) c.self.view_is
+    (subst (λ (p : Part). IsMarked p.customer) (sym (part-there s.shared.tables s.shared.spool s.lines.items n there))
+    (c.self.invariant.marked n there))
