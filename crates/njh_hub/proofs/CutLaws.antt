@@ -9,9 +9,9 @@ use Rattle.njh_customer.specs.Customer.{Customer}
 use Rattle.njh_customer.specs.declared.signal.Signal.{Signal}
 use Rattle.njh_customer.specs.declared.signal.Signal.TheVariants as signal
 use Rattle.njh_customer.specs.Feeding.{Taking, take_step, byte_step, or_later, bytes_run, sent_on}
-use Rattle.njh_customer.specs.Laws.{CutsAreLike}
 use Rattle.njh_customer.specs.Part.{rest_on, part_after_signal}
 use Rattle.njh_customer.specs.Runs.{OwnBytes, Run, event_run}
+use Rattle.njh_customer.proofs.PieceLaws.{cuts_are_like}
 use Rattle.njh_hub.specs.declared.event.Event.{Event}
 use Rattle.njh_hub.specs.declared.event.Event.TheVariants.{Bytes, Lost}
 use Rattle.njh_hub.specs.OwnEvents.{event_by}
@@ -42,11 +42,11 @@ silent_before rest c l (byte ∷ bytes) (suc k) within =
     (silent_before x.rest x.after l bytes k)
 
 -- a byte less than a step takes sends no frame of it
-pub byte_less : CutsAreLike → {start now after : List Part} {id : LineId} {piece left : List ℕ} {before used : ℕ}
+pub byte_less : {start now after : List Part} {id : LineId} {piece left : List ℕ} {before used : ℕ}
     {frame : List ℕ} →
     GoesOn start now after id piece left before used frame → 0 < used →
     (after_bytes start id (take (before + used - 1) piece)).sent ≡ (after_bytes start id (take before piece)).sent
-byte_less cuts {start} {now} {after} {id} {piece} {left} {before} {used} {frame} h some =
+byte_less {start} {now} {after} {id} {piece} {left} {before} {used} {frame} h some =
     let c = id.customer in
     let l = id.number in
     let p = part c start in
@@ -71,7 +71,7 @@ byte_less cuts {start} {now} {after} {id} {piece} {left} {before} {used} {frame}
     let none : (event_run x.after (OwnBytes l (take k left))).sent ≡ [] = subst P moved silent in
     let sent : (event_run p (OwnBytes l (front ++ take k left))).sent ≡ x.sent =
     sym (append-nil (event_run p (OwnBytes l (front ++ take k left))).sent)
-    ∙ ap (λ (r : Run). r.sent) (cuts p l front (take k left) [] inside)
+    ∙ ap (λ (r : Run). r.sent) (cuts_are_like p l front (take k left) [] inside)
     ∙ ap (λ (s : List (ℕ × List ℕ)). x.sent ++ (s ++ [])) none ∙ append-nil x.sent in
     ap (λ (bs : List ℕ). sent_by c (event_run p (OwnBytes l bs)).sent) cut ∙ ap (sent_by c) sent
 
@@ -87,18 +87,18 @@ step_sends {start} {now} {after} {id} {piece} {left} {before} {used} {frame} h s
     ap (λ (r : HubRun). r.sent) (whole_done start (Bytes id (take (before + used) piece)) ∙ step_done h)
     ∙ ap (λ (s : List (LineId × List ℕ)). sent ++ s) (sent_pair id frame some)
 
-pub step_stops : CutsAreLike → {start now after : List Part} {id : LineId} {piece left : List ℕ} {before used : ℕ}
+pub step_stops : {start now after : List Part} {id : LineId} {piece left : List ℕ} {before used : ℕ}
     {frame : List ℕ} →
     GoesOn start now after id piece left before used frame → 0 < length frame → 0 < used
     → before + used ≤ length piece →
     SendsAt start (Bytes id piece) (before + used)
-step_stops cuts {start} {now} {after} {id} {piece} {left} {before} {used} {frame} h some any within =
+step_stops {start} {now} {after} {id} {piece} {left} {before} {used} {frame} h some any within =
     let sent = (after_bytes start id (take before piece)).sent in
     let whole : length (run_until start (before + used) (Bytes id piece)).sent ≡ length sent + 1 =
     ap (λ (s : List (LineId × List ℕ)). length s) (step_sends h some) ∙ length-append sent ((id, frame) ∷ []) in
     let less : length (run_until start (before + used - 1) (Bytes id piece)).sent ≡ length sent =
     ap (λ (r : HubRun). length r.sent) (whole_done start (Bytes id (take (before + used - 1) piece)))
-    ∙ ap (λ (s : List (LineId × List ℕ)). length s) (byte_less cuts h any) in
+    ∙ ap (λ (s : List (LineId × List ℕ)). length s) (byte_less h any) in
     record { within = within; some = omega (arith, whole); last = λ _. omega (arith, whole, less) }
 
 -- ---- signals

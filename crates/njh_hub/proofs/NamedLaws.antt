@@ -8,8 +8,8 @@ use Rattle.std.specs.Prelude.{All, IsSome, IsSomeAnd, slice_get}
 use Rattle.njh_table.specs.NewRoutes.{NewRoute, new_routes_of, routes_checked}
 use Rattle.njh_hub.specs.declared.event.Event.{Event}
 use Rattle.njh_hub.specs.declared.event.Event.TheVariants.{Bytes, Tick, Garbled, Lost, Routes}
-use Rattle.njh_customer.specs.Laws.{EventsKeepFaults}
 use Rattle.njh_customer.specs.Runs.{OwnEvent, alone_run, event_run}
+use Rattle.njh_customer.proofs.EventMoves.{events_keep_faults}
 use Rattle.njh_hub.specs.OwnEvents.{customer_of_event, line_of_event, routes_of, own, events_of}
 use Rattle.njh_hub.specs.declared.fault.Cause.{Cause}
 use Rattle.njh_hub.specs.declared.fault.Cause.TheVariants.{Hub, Sink}
@@ -27,11 +27,11 @@ hub_run-length parts (event ∷ events) =
     let after = (event_run (part c parts) (own event)).after in
     hub_run-length (set parts c after) events ∙ length-set parts c after
 
-alone_run-checked : EventsKeepFaults → (p : Part) (events : List OwnEvent) (routes : List NewRoute) →
+alone_run-checked : (p : Part) (events : List OwnEvent) (routes : List NewRoute) →
     routes_checked (alone_run p events).after.customer.entry routes ≡ routes_checked p.customer.entry routes
-alone_run-checked kept p [] routes = refl
-alone_run-checked kept p (event ∷ events) routes = alone_run-checked kept (event_run p event).after events routes
-    ∙ kept p event routes
+alone_run-checked p [] routes = refl
+alone_run-checked p (event ∷ events) routes = alone_run-checked (event_run p event).after events routes
+    ∙ events_keep_faults p event routes
 
 -- A hub that some events led on has the same lines and customers, and refuses the same routes.
 pub record LedOn (start now : List Part) : Type 0 where
@@ -40,15 +40,15 @@ pub record LedOn (start now : List Part) : Type 0 where
   pub checked : (c : ℕ) → c < length start → (routes : List NewRoute)
       → routes_checked (part c now).customer.entry routes ≡ routes_checked (part c start).customer.entry routes
 
-pub led_on : EventsKeepFaults → (start now : List Part) (events : List Event) → now ≡ (hub_run start events).parts
+pub led_on : (start now : List Part) (events : List Event) → now ≡ (hub_run start events).parts
     → SameLines start now
     → LedOn start now
-led_on kept start now events leads same = record {
+led_on start now events leads same = record {
   many = ap (λ (ps : List Part). length ps) leads ∙ hub_run-length start events;
   lines = same;
   checked = λ c there routes. ap (λ (ps : List Part). routes_checked (part c ps).customer.entry routes) leads
       ∙ ap (λ (p : Part). routes_checked p.customer.entry routes) (each_is_alone c start events there).after
-      ∙ alone_run-checked kept (part c start) (events_of c events) routes;
+      ∙ alone_run-checked (part c start) (events_of c events) routes;
 }
 
 -- so it names what it named before, and refuses what it refused

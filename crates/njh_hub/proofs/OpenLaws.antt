@@ -1,6 +1,5 @@
 -- A hub that is opened.
 use Rattle.std.proofs.Common.{◌≡◌, ℕ, ◌<◌, ◌≤◌, List, length, map, ap, ap₂, sym, subst, ◌∙◌, arith}
-use Rattle.std.specs.List.{All}
 use Rattle.std.proofs.lemmas.List.{get_or-map, length-map, ext_get_or}
 use Rattle.std.proofs.lemmas.List.Elements.{All-map}
 use Rattle.njh_spool.specs.CustomerSpool.{CustomerSpool}
@@ -9,9 +8,11 @@ use Rattle.njh_table.specs.Accepted.{IsAccepted}
 use Rattle.njh_table.specs.Entries.{CustomerEntry}
 use Rattle.njh_table.specs.Marks.{customer_unmarked, entry_unmarked, without_marks}
 use Rattle.njh_table.specs.TableFile.{TableFile, no_customer, customer_at, entry_of}
-use Rattle.njh_customer.specs.Customer.{IsMarked, fresh_customer}
+use Rattle.njh_table.proofs.MarkLaws.{each_entry-unmarked}
+use Rattle.njh_customer.specs.Customer.{IsMarked}
 use Rattle.njh_customer.specs.code.Coherence.{IsCoherent}
 use Rattle.njh_customer.specs.Part.{Lines, part_with}
+use Rattle.njh_customer.proofs.{CoherenceLaws.fresh_coherent, MarkLaws.marks_right}
 use Rattle.njh_hub.specs.WholeHub.{Part, part_at_open, no_entry, no_part}
 use Rattle.njh_hub.specs.Parts.{empty_files, entries_of, lines_at, part_held, parts_of}
 use Rattle.njh_hub.specs.code.HubInvariant.{IsHub}
@@ -20,8 +21,6 @@ use Rattle.njh_hub.proofs.PartsLaws.{length-parts_of, part-there}
 -- All marks of a table were taken away, and the files and the lines of its customers were opened.
 pub record AreOpened (from table : TableFile) (files : List CustomerSpool) (lines : List Lines) : Type 0 where
   pub down : table ≡ without_marks from
-  pub entries : (t : TableFile) (c : ℕ) → c < length t.customers
-      → entry_of (customer_at (without_marks t) c) ≡ entry_unmarked (entry_of (customer_at t c))
   pub empty : files ≡ map empty_files table.customers
   pub count : length lines ≡ length table.customers
   pub each : (c : ℕ) → c < length table.customers →
@@ -40,7 +39,7 @@ pub entry-down : {from table : TableFile} {files : List CustomerSpool} {lines : 
     → (c : ℕ) → c < length table.customers
     → entry_of (customer_at table c) ≡ entry_unmarked (entry_of (customer_at from c))
 entry-down {from} {table} {files} {lines} o c there =
-    ap (λ t. entry_of (customer_at t c)) o.down ∙ o.entries from c (omega (arith, there, as_many o))
+    ap (λ t. entry_of (customer_at t c)) o.down ∙ each_entry-unmarked from c (omega (arith, there, as_many o))
 
 -- the part of each is that of a customer just opened
 pub held-opened : {from table : TableFile} {files : List CustomerSpool} {lines : List Lines}
@@ -74,18 +73,17 @@ parts-opened {from} {table} {files} {lines} o =
 pub hub-opened : {from table : TableFile} {files : List CustomerSpool} {lines : List Lines}
     → AreOpened from table files lines
     → IsAccepted table
-    → ((entry : CustomerEntry) → All (λ line. line.streams ≤ 4) entry.lines → IsCoherent (fresh_customer entry))
-    → ((entry : CustomerEntry) → IsMarked (fresh_customer entry))
     → IsHub table files lines
-hub-opened {from} {table} {files} {lines} o accepted coherent marked = record {
+hub-opened {from} {table} {files} {lines} o accepted = record {
   spooled = ap length o.empty ∙ length-map table.customers empty_files;
   lined = o.count;
   coherent = λ (c : ℕ) (there : c < length table.customers).
       let named = customer_at table c in
       let customer = accepted.each c no_customer there in
       subst (λ (p : Part). IsCoherent p.customer) (sym (held-opened o c there))
-      (coherent (entry_of named)
+      (fresh_coherent (entry_of named)
       (All-map (λ line. line.streams ≤ 4) (λ l. l.entry) named.lines (λ i d h. (customer.lines i d h).streams.1)));
   marked = λ (c : ℕ) (there : c < length table.customers).
-      subst (λ (p : Part). IsMarked p.customer) (sym (held-opened o c there)) (marked (entry_of (customer_at table c)));
+      subst (λ (p : Part). IsMarked p.customer) (sym (held-opened o c there))
+      (marks_right.fresh (entry_of (customer_at table c)));
 }

@@ -15,21 +15,17 @@ use Rattle.njh_spool.specs.declared.restoring.fault.RestoreFault.{RestoreFault}
 use Rattle.njh_spool.specs.declared.restoring.fault.RestoreFault.TheVariants.{BadHeader}
 use Rattle.njh_spool.specs.CustomerSpool.{next_number}
 use Rattle.njh_stream.specs.Holding.{unrouted_held}
-use Rattle.njh_stream.specs.code.Agreement.{AreTied}
-use Rattle.njh_stream.specs.declared.receiver.Receiver.{Receiver}
+use Rattle.njh_stream.proofs.TiedLaws.{untouched}
 use Rattle.njh_table.specs.TableFile.{NamedCustomer, TableFile, customer_at, entry_of, no_customer}
 use Rattle.njh_customer.specs.Customer.{Customer, IsMarked}
-use Rattle.njh_customer.specs.code.Coherence.{IsCoherent, RoutesKeepCoherent, streams_to_hub}
+use Rattle.njh_customer.specs.code.Coherence.{IsCoherent, streams_to_hub}
 use Rattle.njh_customer.specs.Part.{Part, Lines, part_with}
+use Rattle.njh_customer.proofs.RoutesMoves.{coherent_given}
 use Rattle.njh_hub.specs.Restored.{customer_with_file, part_with_file}
 use Rattle.njh_hub.specs.Parts.{lines_at, no_lines, part_held, parts_of}
 use Rattle.njh_hub.specs.WholeHub.{part}
 use Rattle.njh_hub.specs.code.HubInvariant.{IsHub}
 use Rattle.njh_hub.proofs.PartsLaws.{DifferAt, Moves, differ-nowhere, differ-set, part-there, parts-moved}
-
-abbrev NothingUnties : Type 0
-NothingUnties = (lines : List (List Receiver)) (s t : CustomerSpool) → t.partial ≡ s.partial → AreTied lines s
-    → AreTied lines t
 
 -- ---- the file's headers read
 
@@ -70,13 +66,12 @@ restored-headers f s r x told is =
 
 -- ---- the customer stays coherent
 
-coherent-restored : (f : KeptFile) (c : Customer) → NothingUnties → RoutesKeepCoherent → HasHeaders f.kind f.records
-    → IsCoherent c
+coherent-restored : (f : KeptFile) (c : Customer) → HasHeaders f.kind f.records → IsCoherent c
     → IsCoherent (customer_with_file f c)
-coherent-restored f c untied kept reads coherent =
+coherent-restored f c reads coherent =
     let d : Customer = record c { spool = with_restored f c.spool } in
     let more : IsCoherent d = record {
-      tied = untied (streams_to_hub c.lines) c.spool d.spool refl coherent.tied;
+      tied = untouched (streams_to_hub c.lines) c.spool d.spool refl coherent.tied;
       streamed = coherent.streamed;
       headers =
           All-push (λ (g : WholeFile). HasHeaders g.kind g.records) c.spool.whole
@@ -86,7 +81,7 @@ coherent-restored f c untied kept reads coherent =
       limit = coherent.limit;
       marks = coherent.marks;
     } in
-    kept d.entry.routes d more
+    coherent_given d.entry.routes d more
 
 -- ---- the hub
 
@@ -99,8 +94,6 @@ pub record Restores (table : TableFile) (files : List CustomerSpool) (lines : Li
   pub restored : between ≡ slice_set files c (with_restored f (spools.spool_at c files))
   pub held : after ≡ slice_set between c (unrouted_held (entry_of entry) (spools.spool_at c between))
   pub reads : HasHeaders f.kind f.records
-  pub untied : NothingUnties
-  pub kept : RoutesKeepCoherent
 
 module _ {table : TableFile} {files : List CustomerSpool} {lines : List Lines} {c : ℕ} {f : KeptFile}
     {between after : List CustomerSpool} {entry : NamedCustomer}
@@ -142,7 +135,7 @@ module _ {table : TableFile} {files : List CustomerSpool} {lines : List Lines} {
         (differ-set spools.no_spool c files now);
     in_lines = differ-nowhere no_lines c lines;
     coherent = subst (λ (p : Part). IsCoherent p.customer) (sym held-restored)
-        (coherent-restored f (part_held table files lines c).customer r.untied r.kept r.reads
+        (coherent-restored f (part_held table files lines c).customer r.reads
         (r.hub.coherent c r.there));
     marked = subst (λ (p : Part). IsMarked p.customer) (sym held-restored) (r.hub.marked c r.there);
   }

@@ -13,7 +13,6 @@ use Rattle.njh_table.specs.declared.new_routes.GivenRoute.{GivenRoute}
 use Rattle.njh_hub.specs.declared.event.Event.{Event}
 use Rattle.njh_hub.specs.declared.event.Event.TheVariants.{Bytes, Tick, Garbled, Lost, Routes}
 use Rattle.njh_customer.specs.Feeding.{sent_on}
-use Rattle.njh_customer.specs.Laws.{NoBytesDoNothing, StepsFollowBytes}
 use Rattle.njh_customer.specs.declared.signal.Signal.{Signal}
 use Rattle.njh_customer.specs.declared.signal.Signal.TheVariants as signal
 use Rattle.njh_customer.specs.NewRoutes.{part_after_routes, taken_where}
@@ -39,10 +38,10 @@ only_one : (h : HubRun) → record { parts = h.parts; sent = h.sent ++ [] } ≡ 
 only_one h = ap (λ (s : List (LineId × List ℕ)). record h { sent = s }) (append-nil h.sent)
 
 -- the first bytes of an event as the only one
-pub part_done : NoBytesDoNothing → (parts : List Part) (id : LineId) (piece : List ℕ) (n : ℕ) →
+pub part_done : (parts : List Part) (id : LineId) (piece : List ℕ) (n : ℕ) →
     hub_run parts (first_events (Bytes id piece ∷ []) 0 n) ≡ after_bytes parts id (take n piece)
-part_done nothing parts id piece zero = sym (after_bytes-none nothing parts id)
-part_done nothing parts id piece (suc n) = only_one (after_bytes parts id (take (suc n) piece))
+part_done parts id piece zero = sym (after_bytes-none parts id)
+part_done parts id piece (suc n) = only_one (after_bytes parts id (take (suc n) piece))
 
 pub whole_done : (parts : List Part) (event : Event) → hub_run parts (event ∷ []) ≡ hub_event parts event
 whole_done parts event = only_one (hub_event parts event)
@@ -50,7 +49,6 @@ whole_done parts event = only_one (hub_event parts event)
 -- A step by bytes of a piece, so many of which were taken before.
 pub record GoesOn (start now after : List Part) (id : LineId) (piece left : List ℕ) (before used : ℕ)
     (frame : List ℕ) : Type 0 where
-  pub follow : StepsFollowBytes
   pub known : HasLine start id
   pub now_is : now ≡ (after_bytes start id (take before piece)).parts
   pub left_is : left ≡ drop before piece
@@ -86,7 +84,7 @@ step_done {start} {now} {after} {id} {piece} {left} {before} {used} {frame} h =
     take-add before used piece ∙ ap (λ (n : ℕ). front ++ take n (drop before piece))
     (h.used_is ∙ ap (λ x. x.taken) same)
     ∙ ap (λ (bs : List ℕ). front ++ take o.taken bs) (sym h.left_is) in
-    ap (after_bytes start id) cut ∙ after_bytes-step h.follow start id front left there rests
+    ap (after_bytes start id) cut ∙ after_bytes-step start id front left there rests
     ∙ ap (λ (ps : List Part). step_from ps id old.sent left) (sym h.now_is)
     ∙ ap (λ (ps : List Part). record { parts = ps; sent = old.sent ++ sent_by id.customer (sent_on id.number t.frame) })
     (sym h.after_is)
@@ -94,15 +92,15 @@ step_done {start} {now} {after} {id} {piece} {left} {before} {used} {frame} h =
     (sym h.frame_is)
 
 -- the same, where a sink refused the frame: the event is done with its last step
-pub sink_done : NoBytesDoNothing → (parts : List Part) (id : LineId) (piece : List ℕ) (taken events bytes : ℕ) →
+pub sink_done : (parts : List Part) (id : LineId) (piece : List ℕ) (taken events bytes : ℕ) →
     (length piece ≤ taken → (events ≡ 1) × (bytes ≡ 0)) → (taken < length piece → (events ≡ 0) × (bytes ≡ taken)) →
     hub_run parts (first_events (Bytes id piece ∷ []) events bytes) ≡ after_bytes parts id (take taken piece)
-sink_done nothing parts id piece taken events bytes whole part =
+sink_done parts id piece taken events bytes whole part =
     ⊎_elim (λ (w : taken < length piece).
     let e = part w in
     ap (λ (n : ℕ). hub_run parts (first_events (Bytes id piece ∷ []) n bytes)) e.0
     ∙ ap (λ (n : ℕ). hub_run parts (first_events (Bytes id piece ∷ []) 0 n)) e.1
-    ∙ part_done nothing parts id piece taken)
+    ∙ part_done parts id piece taken)
     (λ (w : length piece ≤ taken).
     let e = whole w in
     ap (λ (n : ℕ). hub_run parts (first_events (Bytes id piece ∷ []) n bytes)) e.0

@@ -6,9 +6,10 @@ use Rattle.njh_spool.specs.Spools as spools
 use Rattle.njh_table.specs.Entries.{RouteEntry}
 use Rattle.njh_table.specs.TableFile.{TableFile, customer_at, entry_of, no_customer}
 use Rattle.njh_customer.specs.Customer.{IsMarked}
-use Rattle.njh_customer.specs.code.Coherence.{IsCoherent, RoutesKeepCoherent}
+use Rattle.njh_customer.specs.code.Coherence.{IsCoherent}
 use Rattle.njh_customer.specs.NewRoutes.{part_after_routes}
 use Rattle.njh_customer.specs.Part.{Part, Lines, part_with}
+use Rattle.njh_customer.proofs.RoutesMoves.{coherent_given}
 use Rattle.njh_hub.specs.WholeHub.{part}
 use Rattle.njh_hub.specs.Parts.{lines_at, no_lines, part_held, parts_of}
 use Rattle.njh_hub.specs.code.HubInvariant.{IsHub}
@@ -32,7 +33,6 @@ pub record SetsRoutes (table : TableFile) (files : List CustomerSpool) (lines : 
   pub is : part_with (entry_of (customer_at new c)) (spools.spool_at c after) (lines_at c lines)
       ≡ part_after_routes (entry_of (customer_at new c)).routes
       (part_with (entry_of (customer_at new c)) (spools.spool_at c files) (lines_at c lines))
-  pub kept : RoutesKeepCoherent
 
 -- its part is another
 pub held-new : {table : TableFile} {files : List CustomerSpool} {lines : List Lines} {c : ℕ} {routes : List RouteEntry}
@@ -61,7 +61,7 @@ sets_routes {table} {files} {lines} {c} {routes} {new} {after} r =
           (differ-set spools.no_spool c files (spools.spool_at c after));
       in_lines = differ-nowhere no_lines c lines;
       coherent = subst (λ (p : Part). IsCoherent p.customer) (sym (held-new r))
-          (r.kept routes (part_held table files lines c).customer (r.hub.coherent c r.there));
+          (coherent_given routes (part_held table files lines c).customer (r.hub.coherent c r.there));
       marked = subst (λ (p : Part). IsMarked p.customer) (sym (held-new r)) (r.hub.marked c r.there);
     }
 

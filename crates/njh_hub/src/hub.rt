@@ -22,8 +22,8 @@ use crate::fault::HubFault;
 use crate::file_view::{FileView, files_of};
 use crate::opening::{all_down, open_lines, open_spool};
 use njh_bisync::LONGEST_FRAME;
-use njh_customer::{FrameBuffer, Lines, Shared, Signal, marks_are_right, opened_is_coherent};
-use njh_table::{LineId, Tables, marks_change_one_entry};
+use njh_customer::{FrameBuffer, Lines, Shared, Signal};
+use njh_table::{LineId, Tables};
 use std::alloc::Global;
 use std::marker::Model;
 use std::mem;
@@ -62,9 +62,6 @@ impl Hub {
         ensures opened { IfOk result (λ hub. hub ≡ map part_at_open (entries_of tables)) }
         ensures memory { OnErr result (result ≡ Err HubFault.Memory) }
     {
-        opened_is_coherent();
-        marks_are_right();
-        marks_change_one_entry();
         let tables = all_down(tables);
         let spool = open_spool(alloc, &tables)?;
         let lines = open_lines(alloc, &tables)?;
@@ -123,8 +120,8 @@ impl Hub {
         Ok(self.shared.spool.used(customer))
     }
 
-    /// What holds of a customer's files: no two of them, whole or partial, have one number, they stand
-    /// within its quota, and the headers of its whole files read.
+    /// What holds of a customer's files: no two of them, whole or partial, have one number, they
+    /// stand within its quota, and the headers of its whole files read.
     pub fn files_are_sound(&self, customer: u16)
         ensures sound { IsSound (part customer self.now).customer.spool }
         ensures headers { HaveHeaders (part customer self.now).customer.spool.whole }
@@ -162,7 +159,6 @@ impl Hub {
             IsStep self.old id t.after t.frame out.old result self.new out.new }
         ensures rests { OnOk result (id.number < length (part id.customer self.old).rests) }
     {
-        marks_are_right();
         let mut frame = self.frame_buffer(id, out)?;
         let lines = &mut self.lines[usize::from(id.customer)];
         let taken = lines.take_bytes(id, piece, &mut self.shared, &mut frame);
@@ -200,7 +196,6 @@ impl Hub {
         ensures { let t = part_after_signal (part id.customer self.old) id.number signal in
             IsStep self.old id t.after t.frame out.old result self.new out.new }
     {
-        marks_are_right();
         let mut frame = self.frame_buffer(id, out)?;
         let lines = &mut self.lines[usize::from(id.customer)];
         lines.take_signal(id, signal, &mut self.shared, &mut frame);

@@ -3,8 +3,6 @@
 ghost use Rattle.njh_hub.specs.Laws.{EachIsAlone, TwoListsAreLike, CustomersNeverMeet, OthersStay, OwnStepIsOwn};
 ghost use Rattle.njh_hub.specs.Laws.{SentInOrder};
 
-use njh_customer::first_bytes_send_first;
-
 /// Whatever events come, each customer's part of the hub and the frames on its lines are those of
 /// that customer alone over its own events.
 pub fn each_is_alone()
@@ -39,6 +37,4 @@ pub fn own_step_is_own()
 /// all.
 pub fn sent_in_order()
     ensures { SentInOrder }
-{
-    first_bytes_send_first();
-}
+{}

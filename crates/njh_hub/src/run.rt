@@ -14,9 +14,7 @@ use crate::event::Event;
 use crate::fault::{Cause, HubFault, RunFault};
 use crate::hub::Hub;
 use crate::sink::{Sink, SinkFault};
-use njh_customer::{
-    Signal, cuts_are_like, events_keep_entries, no_bytes_do_nothing, steps_follow_bytes,
-};
+use njh_customer::Signal;
 use njh_table::LineId;
 
 impl Hub {
@@ -66,7 +64,6 @@ impl Hub {
         ensures counted { IfErr result (λ fault. fault.cause ≡ Cause.Sink
             → IsCounted (S.count sink.old) (S.count sink.new)) }
     {
-        events_keep_entries();
         let mut out = Vec::new(self.allocator());
         for (index, event) in events.iter().enumerate() {
             match self.run_event(event, &mut out, sink) {
@@ -144,9 +141,6 @@ impl Hub {
         ensures { IsEventRun (sink_says S.took S.refused S.count) (moment self.old out.old sink.old)
             (Bytes id piece.now) result (moment self.new out.new sink.new) }
     {
-        no_bytes_do_nothing();
-        steps_follow_bytes();
-        cuts_are_like();
         let mut taken = 0;
         loop {
             let (_, left) = piece.split_at(taken);

@@ -10,7 +10,6 @@ ghost use Rattle.njh_hub.specs.WholeHub.{part};
 
 use crate::fault::HubFault;
 use crate::hub::Hub;
-use njh_customer::routes_keep_coherent;
 use njh_table::{GivenRoute, Tables};
 
 impl Hub {
@@ -43,7 +42,6 @@ impl Hub {
             Ok(()) => {}
             Err(fault) => return Err(fault),
         }
-        routes_keep_coherent();
         let lines = &self.lines[usize::from(customer)];
         lines.set_routes(customer, &self.shared.tables, &mut self.shared.spool);
         Ok(())

@@ -6,11 +6,10 @@ ghost use Rattle.njh_hub.specs.Restored.{part_with_file};
 ghost use Rattle.njh_hub.specs.WholeHub.{part};
 
 use crate::hub::Hub;
-use njh_customer::routes_keep_coherent;
 use njh_header::FileRecords;
 use njh_record::Kind;
 use njh_spool::{RestoreFault, restore};
-use njh_stream::{hold_unrouted, streams_stay_tied};
+use njh_stream::hold_unrouted;
 
 impl Hub {
     /// Puts a whole file back, last in its customer's order of arrival. One that was Held is Held
@@ -38,8 +37,6 @@ impl Hub {
             Ok(()) => {}
             Err(fault) => return Err(fault),
         }
-        streams_stay_tied();
-        routes_keep_coherent();
         hold_unrouted(
             self.shared.tables.customer(customer),
             customer,

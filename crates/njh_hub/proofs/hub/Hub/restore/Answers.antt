@@ -67,8 +67,6 @@ restored g c =
       held = c.hold_unrouted.ensures;
       reads = restored-headers f (spools.spool_at c.args.customer s.shared.spool) c.restore.result c.in-Ok.field-0
           c.restore.ensures.fault c.in-Ok.is;
-      untied = c.streams_stay_tied.ensures.untouched;
-      kept = c.routes_keep_coherent.ensures;
     }
 
 pub invariant_of-self-2 : goal.invariant_of-self-2

@@ -95,7 +95,7 @@ returns-in-Err-clause-before g c =
     let within : k < length events = omega arith in
     let P : RunFault → Type 0 = λ f. All (IsNamed start) (take f.events events) in
     let on : LedOn start c.loop-index.self =
-    led_on c.events_keep_entries.ensures.faults start c.loop-index.self (take k events)
+    led_on start c.loop-index.self (take k events)
     c.loop-index.invariant.parts c.loop-index.invariant.same in
     let behind : c.in-Err.fault.events ≡ 1 → IsNamed start event = λ one. named-before start c.loop-index.self on event
     (c.in-Err.ensures.behind one) in
@@ -127,7 +127,7 @@ returns-in-Err-clause-causes g c =
     let event = c.index-events-index.result in
     let within : k < length events = omega arith in
     let on : LedOn start c.loop-index.self =
-    led_on c.events_keep_entries.ensures.faults start c.loop-index.self (take k events)
+    led_on start c.loop-index.self (take k events)
     c.loop-index.invariant.parts c.loop-index.invariant.same in
     let P : RunFault → Type 0 = λ f. IfHub f.cause
     (λ why. IsSomeAnd (slice_get events f.events) (λ e. IsRefused start e why)) in
@@ -182,7 +182,7 @@ loop-index-preserved g c =
     let on = went_on start c.loop-index.self events k event within c.index-events-index.is c.loop-index.invariant.parts
     in
     let led : LedOn start c.loop-index.self =
-    led_on c.events_keep_entries.ensures.faults start c.loop-index.self (take k events)
+    led_on start c.loop-index.self (take k events)
     c.loop-index.invariant.parts c.loop-index.invariant.same in
     let known : IsNamed start event = named-before start c.loop-index.self led event c.in-Ok.ensures.known in
     let P : HubRun → Type 0 = λ h. g.S.Sink.took c.args.sink.now c.run_event.new.sink h.sent in

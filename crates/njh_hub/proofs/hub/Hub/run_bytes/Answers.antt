@@ -22,7 +22,6 @@ loop-used-preserved g c =
     let known : HasLine start id = omega (arith, did.known, c.loop-used.invariant.same id.customer) in
     let step : GoesOn start c.loop-used.self c.take.new.self id c.args.piece.now c.split_at.result.1.now
     c.loop-used.taken c.in-Ok.used c.take.new.out.items = record {
-      follow = c.steps_follow_bytes.ensures;
       known = known;
       now_is = c.loop-used.invariant.parts;
       left_is = c.split_at.ensures.back;
@@ -58,7 +57,6 @@ returns-then-taken-piece g c =
     let known : HasLine start id = omega (arith, did.known, c.loop-used.invariant.same id.customer) in
     let step : GoesOn start c.loop-used.self c.take.new.self id c.args.piece.now c.split_at.result.1.now
     c.loop-used.taken c.in-Ok.used c.take.new.out.items = record {
-      follow = c.steps_follow_bytes.ensures;
       known = known;
       now_is = c.loop-used.invariant.parts;
       left_is = c.split_at.ensures.back;
@@ -102,7 +100,6 @@ returns-in-Err-hand_over g c =
     let known : HasLine start id = omega (arith, did.known, c.loop-used.invariant.same id.customer) in
     let step : GoesOn start c.loop-used.self c.take.new.self id c.args.piece.now c.split_at.result.1.now
     c.loop-used.taken c.in-Ok.used c.take.new.out.items = record {
-      follow = c.steps_follow_bytes.ensures;
       known = known;
       now_is = c.loop-used.invariant.parts;
       left_is = c.split_at.ensures.back;
@@ -115,7 +112,7 @@ returns-in-Err-hand_over g c =
     let frame = c.deref.result.now in
     let fault = c.after_sink.result in
     let taken = c.loop-used.taken + c.in-Ok.used in
-    let stop = sink_done c.no_bytes_do_nothing.ensures start id c.args.piece.now taken fault.events fault.bytes
+    let stop = sink_done start id c.args.piece.now taken fault.events fault.bytes
     c.after_sink.ensures.whole c.after_sink.ensures.part in
     let sent = (after_bytes start id (take c.loop-used.taken c.args.piece.now)).sent in
     let all = (hub_run start (first_events (Bytes id c.args.piece.now ∷ []) fault.events fault.bytes)).sent in
@@ -154,7 +151,7 @@ returns-in-Err-hand_over g c =
       memory = λ is. cc (is, c.after_sink.ensures.cause);
       begun = subst B (sym c.after_sink.ensures.cause) tt;
       behind_frame = λ _. bytes_stop start id c.args.piece.now taken fault
-          (step_stops c.cuts_are_like.ensures step some any inside) c.after_sink.ensures.whole
+          (step_stops step some any inside) c.after_sink.ensures.whole
           c.after_sink.ensures.part;
       counts = omega (arith, c.in-Err-hand_over.ensures.counts);
       counted = λ _. counted_from (g.S.Sink.count c.args.sink.now) (g.S.Sink.count c.loop-used.sink)

@@ -57,7 +57,6 @@ routes_set c =
       tables = c.in-Ok.ensures.routes;
       others = c.set_routes.ensures.others;
       is = subst P is c.set_routes.ensures.part;
-      kept = c.routes_keep_coherent.ensures;
     }
 
 leads : (c : After-set_routes) → parts_of c.set_in_tables.new.tables c.set_routes.new.spool c.self.inside.lines.items

@@ -8,6 +8,7 @@ use Rattle.njh_hub.proofs.PartsLaws.{stepped}
 use Rattle.njh_spool.specs.Spools as spools
 use Rattle.njh_table.specs.TableFile.{customer_at, entry_of}
 use Rattle.njh_customer.specs.Customer.{IsMarked}
+use Rattle.njh_customer.proofs.MarkLaws.{marks_right}
 use Rattle.njh_customer.specs.Runs.{OwnSignal}
 use Rattle.njh_hub.proofs.hub.Hub.signal.Goals.{After-drop-out}
 use Rattle.njh_hub.proofs.hub.Hub.signal.Goals as goal
@@ -55,7 +56,7 @@ steps c =
       in_files = t.ensures.others;
       ready = t.ensures.ready;
       marked = subst (λ (q : Part). IsMarked q.customer) (sym t.ensures.part)
-          (c.marks_are_right.ensures.events p (OwnSignal c.args.signal c.args.id.number) (finds c).marked);
+          (marks_right.events p (OwnSignal c.args.signal c.args.id.number) (finds c).marked);
       count = t.ensures.count;
     }
 

@@ -8,6 +8,7 @@ use Rattle.njh_hub.proofs.PartsLaws.{stepped}
 use Rattle.njh_spool.specs.Spools as spools
 use Rattle.njh_table.specs.TableFile.{customer_at, entry_of}
 use Rattle.njh_customer.specs.Customer.{IsMarked}
+use Rattle.njh_customer.proofs.MarkLaws.{marks_right}
 use Rattle.njh_hub.proofs.hub.Hub.take.Goals.{After-drop-out}
 use Rattle.njh_hub.proofs.hub.Hub.take.Goals as goal
 
@@ -54,7 +55,7 @@ steps c =
       in_files = t.ensures.step.others;
       ready = t.ensures.step.ready;
       marked = subst (λ (q : Part). IsMarked q.customer) (sym t.ensures.step.part)
-          (c.marks_are_right.ensures.takes p c.args.id.number c.args.piece.now (finds c).marked);
+          (marks_right.takes p c.args.id.number c.args.piece.now (finds c).marked);
       count = t.ensures.step.count;
     }
 
