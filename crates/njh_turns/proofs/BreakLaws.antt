@@ -10,7 +10,6 @@ use Rattle.njh_table.specs.declared.new_routes.GivenRoute.{GivenRoute}
 use Rattle.njh_table.specs.NewRoutes.{new_routes_of, routes_checked, entries_of_routes}
 use Rattle.njh_customer.specs.NewRoutes.{part_after_routes}
 use Rattle.njh_customer.specs.Feeding.{sent_on}
-use Rattle.njh_customer.specs.Laws.{CutsAreLike, NoBytesDoNothing}
 use Rattle.njh_customer.specs.Part.{part_after_signal}
 use Rattle.njh_customer.specs.declared.signal.Signal.{Signal}
 use Rattle.njh_customer.specs.declared.signal.Signal.TheVariants as signal
@@ -46,19 +45,16 @@ one_sent id (b ∷ frame) = omega arith
 
 -- a step by bytes of a piece, and the keeper that failed behind it
 pub bytes_break : {S : Type 0} (says : WireSays S) (wire now_wire : S)
-    → NoBytesDoNothing →
     {start now after : List Part} {id : LineId} {piece left : List ℕ} {before used : ℕ} {frame : List ℕ} →
     GoesOn start now after id piece left before used frame → before + used ≤ length piece →
     says.passed wire now_wire (map sent_act (after_bytes start id (take before piece)).sent) →
     says.count wire ≤ says.count now_wire →
     EventBreaks says (hub_wire start wire) (Bytes id piece) (AtStep before (before + used)) (hub_wire after now_wire)
-bytes_break says wire now_wire nothing {start} {now} {after} {id} {piece} {left} {before} {used} {frame} h
-    within acts
-    counts =
+bytes_break says wire now_wire {start} {now} {after} {id} {piece} {left} {before} {used} {frame} h within acts counts =
     let e = Bytes id piece in
     let sent = (after_bytes start id (take before piece)).sent in
     let done : hub_run start (first_bytes (Some e) before) ≡ after_bytes start id (take before piece) =
-    part_done nothing start id piece before in
+    part_done start id piece before in
     let led : hub_run start (cut_to (before + used) e ∷ []) ≡ record {
       parts = after;
       sent = sent ++ sent_by id.customer (sent_on id.number frame);
@@ -82,7 +78,6 @@ bytes_break says wire now_wire nothing {start} {now} {after} {id} {piece} {left}
 -- a step by bytes whose frame could not be written, and the loss of the line behind it
 pub bytes_unsent : {S : Type 0} (says : WireSays S) (wire now_wire new_wire : S) →
     ((a b c : S) (xs ys : List WireAct) → says.passed a b xs → says.passed b c ys → says.passed a c (xs ++ ys)) →
-    CutsAreLike →
     {start now after : List Part} {id : LineId} {piece left : List ℕ} {before used : ℕ} {frame : List ℕ}
     (new : List Part) →
     GoesOn start now after id piece left before used frame → 0 < length frame → 0 < used
@@ -93,9 +88,8 @@ pub bytes_unsent : {S : Type 0} (says : WireSays S) (wire now_wire new_wire : S)
     IsCounted (says.count now_wire) (says.count new_wire) →
     new ≡ set after id.customer (part_after_signal (part id.customer after) id.number signal.Lost).after →
     IsDone says (hub_wire start wire) (Bytes id piece) (Some (before + used)) (hub_wire new new_wire)
-bytes_unsent {S} says wire now_wire new_wire more cuts {start} {now} {after} {id} {piece} {left} {before} {used}
-    {frame} new h
-    some any within acts counts unsent counts_then counted lost =
+bytes_unsent {S} says wire now_wire new_wire more {start} {now} {after} {id} {piece} {left} {before} {used} {frame}
+    new h some any within acts counts unsent counts_then counted lost =
     let n = before + used in
     let sent = map sent_act (after_bytes start id (take before piece)).sent in
     let P : List WireAct → Type 0 = λ s. says.passed wire new_wire s in
@@ -104,7 +98,7 @@ bytes_unsent {S} says wire now_wire new_wire more cuts {start} {now} {after} {id
     record {
       hub = lost_next start after new (Bytes id (take n piece)) id refl here lost;
       acts = subst P (sym (step_unsent h some)) (more wire now_wire new_wire sent (Unsent frame ∷ []) acts unsent);
-      stop = step_stops cuts h some any within;
+      stop = step_stops h some any within;
       counts = omega (arith, counts, counts_then);
       counted = λ _. counted_from (says.count wire) (says.count now_wire) (says.count new_wire) counts counted;
     }

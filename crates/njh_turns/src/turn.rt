@@ -19,7 +19,7 @@ use crate::keeper::{KeepFault, Keeper};
 use crate::wire::Wire;
 use crate::wire_reading::{Reading, WireFault};
 use njh_bisync::LONGEST_FRAME;
-use njh_customer::{Signal, cuts_are_like, no_bytes_do_nothing, steps_follow_bytes};
+use njh_customer::Signal;
 use njh_hub::{Hub, HubFault};
 use njh_table::LineId;
 use std::alloc::Global;
@@ -219,9 +219,6 @@ fn pass_bytes<W: Wire, K: Keeper>(
     ensures lines { SameLines hub.old hub.new }
     ensures room { longest_frame ≤ vec_capacity out.new }
 {
-    no_bytes_do_nothing();
-    steps_follow_bytes();
-    cuts_are_like();
     let mut taken = 0;
     while taken < piece.len() {
         let (_, left) = piece.split_at(taken);

@@ -15,7 +15,7 @@ use Rattle.njh_turns.proofs.turn.pass_bytes.Goals as goal
 
 pub loop-taken-init : goal.loop-taken-init
 loop-taken-init g c =
-    let none = after_bytes-none c.no_bytes_do_nothing.ensures c.args.hub.now c.args.id in
+    let none = after_bytes-none c.args.hub.now c.args.id in
     let P : HubRun → Type 0 = λ h. g.W.Wire.says.passed c.args.wire.now c.args.wire.now (map sent_act h.sent) in
     record {
       within = omega arith;
@@ -54,7 +54,6 @@ loop-taken-preserved g c =
     let did = c.take_bytes-used.ensures.step in
     let step : GoesOn start c.loop-taken.hub c.take_bytes-used.new.hub id c.args.piece.now c.split_at.result.1.now
     c.loop-taken.taken c.take_bytes-used.result c.take_bytes-used.new.out.items = record {
-      follow = c.steps_follow_bytes.ensures;
       known = known;
       now_is = c.loop-taken.invariant.parts;
       left_is = c.split_at.ensures.back;
@@ -96,7 +95,6 @@ returns-in-Err-clause-breaks g c =
     let did = c.take_bytes-used.ensures.step in
     let step : GoesOn start c.loop-taken.hub c.take_bytes-used.new.hub id c.args.piece.now c.split_at.result.1.now
     c.loop-taken.taken c.take_bytes-used.result c.take_bytes-used.new.out.items = record {
-      follow = c.steps_follow_bytes.ensures;
       known = known;
       now_is = c.loop-taken.invariant.parts;
       left_is = c.split_at.ensures.back;
@@ -106,7 +104,7 @@ returns-in-Err-clause-breaks g c =
       frame_is = did.frame;
     } in (
       AtStep c.loop-taken.taken (c.loop-taken.taken + c.take_bytes-used.result),
-      bytes_break g.W.Wire.says c.args.wire.now c.loop-taken.wire c.no_bytes_do_nothing.ensures step
+      bytes_break g.W.Wire.says c.args.wire.now c.loop-taken.wire step
           (omega (arith, c.take_bytes-used.ensures.within, c.split_at.ensures.back_len))
           c.loop-taken.invariant.acts c.loop-taken.invariant.counts,
     )
@@ -141,7 +139,6 @@ returns-in-Err-send-clause-done g c =
     let did = c.take_bytes-used.ensures.step in
     let step : GoesOn start c.loop-taken.hub c.take_bytes-used.new.hub id c.args.piece.now c.split_at.result.1.now
     c.loop-taken.taken c.take_bytes-used.result c.take_bytes-used.new.out.items = record {
-      follow = c.steps_follow_bytes.ensures;
       known = known;
       now_is = c.loop-taken.invariant.parts;
       left_is = c.split_at.ensures.back;
@@ -167,7 +164,7 @@ returns-in-Err-send-clause-done g c =
     on_ok c.lose.result (
       Some n,
       bytes_unsent g.W.Wire.says c.args.wire.now c.loop-taken.wire c.send.new.wire g.met.W.Wire.more
-          c.cuts_are_like.ensures c.lose.new.hub step some any within c.loop-taken.invariant.acts
+          c.lose.new.hub step some any within c.loop-taken.invariant.acts
           c.loop-taken.invariant.counts
           unsent c.in-Err-send.ensures.counts c.in-Err-send.ensures.counted c.lose.ensures.step.hub,
     )
@@ -180,7 +177,6 @@ returns-in-Err-send-clause-breaks g c =
     let did = c.take_bytes-used.ensures.step in
     let step : GoesOn start c.loop-taken.hub c.take_bytes-used.new.hub id c.args.piece.now c.split_at.result.1.now
     c.loop-taken.taken c.take_bytes-used.result c.take_bytes-used.new.out.items = record {
-      follow = c.steps_follow_bytes.ensures;
       known = known;
       now_is = c.loop-taken.invariant.parts;
       left_is = c.split_at.ensures.back;
@@ -209,7 +205,7 @@ returns-in-Err-send-clause-breaks g c =
           c.send.new.wire
           (bytes_unsent g.W.Wire.says c.args.wire.now c.loop-taken.wire c.send.new.wire
           g.met.W.Wire.more
-          c.cuts_are_like.ensures c.lose.new.hub step some any within c.loop-taken.invariant.acts
+          c.lose.new.hub step some any within c.loop-taken.invariant.acts
           c.loop-taken.invariant.counts
           unsent c.in-Err-send.ensures.counts c.in-Err-send.ensures.counted c.lose.ensures.step.hub),
     )
