@@ -1,3 +1,5 @@
+pub mod CopiedFiles
+pub mod CopyFaults
 pub mod CopyLaws
 pub mod Deleting
 pub mod ListLaws

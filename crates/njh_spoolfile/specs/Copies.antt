@@ -1,5 +1,5 @@
 -- What is copied of one spool file into another.
-use Rattle.std.specs.Prelude.{◌≡◌, ◌≢◌, ℕ, suc, ◌<◌, ◌-◌, ◌^◌, Bool, true, List, [], ◌∷◌, ◌++◌, length, bytes_eq}
+use Rattle.std.specs.Prelude.{◌≡◌, ◌≢◌, ℕ, suc, ◌+◌, ◌<◌, ◌-◌, ◌^◌, Bool, true, List, [], ◌∷◌, ◌++◌, length, bytes_eq}
 use Rattle.std.specs.Prelude.{Option, None, Some, ⊤}
 use Rattle.std.specs.List.{AllByRecursion}
 use Rattle.sqlite.specs.State.{State}
@@ -31,8 +31,8 @@ numbered id key (w ∷ ws) = under id key w ∷ numbered (suc id) (suc key) ws
 abbrev pub AreBelow : (id key : ℕ) → List Whole → Type 0
 AreBelow id key = AllByRecursion (λ w. (w.id < id) × (w.file.key < key))
 
--- The files that are asked for came behind those that the other spool had, of which none is asked for: under new numbers,
--- and none has the greatest one, which a hub takes for damage.
+-- The files that are asked for came behind those that the other spool had, of which none is asked for. They have new
+-- numbers, and never the greatest one, which a hub takes for damage.
 pub record IsCopied (customer : Option (List ℕ)) (from before after : SpoolContents) : Type 0 where
   pub id : ℕ
   pub key : ℕ
@@ -49,9 +49,22 @@ pub record IsCopiedInto (customer : Option (List ℕ)) (count : ℕ) (from befor
     pub copied : IsCopied customer from before after
     pub how_many : count ≡ length (asked customer from)
 
--- what a fault says of the files that the other spool has
-abbrev pub FitsFault : Option (List ℕ) → SpoolContents → CopyFault → Type 0
-FitsFault customer before (Database error) = ⊤
-FitsFault customer before Damaged = asked customer before ≡ []
-FitsFault customer before Taken = asked customer before ≢ []
-FitsFault customer before Full = asked customer before ≡ []
+-- each record has a subrecord control byte
+abbrev pub HaveControlBytes : List Whole → Type 0
+HaveControlBytes = AllByRecursion (λ w. AllByRecursion (λ r. r.1 < 256) w.records)
+
+-- there are numbers for so many files behind these
+pub record HasRoom (count : ℕ) (ws : List Whole) : Type 0 where
+  pub id : ℕ
+  pub key : ℕ
+  pub some : (0 < id) × (0 < key)
+  pub behind : AreBelow id key ws
+  pub low : (id + count < 2 ^ 32) × (key + count < 2 ^ 32)
+
+-- what a fault says of the two spools
+abbrev pub FitsFault : Option (List ℕ) → (from before : SpoolContents) → CopyFault → Type 0
+FitsFault customer from before (Database error) = ⊤
+FitsFault customer from before Damaged = (asked customer before ≡ []) × ¬ HaveControlBytes (asked customer from)
+FitsFault customer from before Taken = asked customer before ≢ []
+FitsFault customer from before Full =
+    (asked customer before ≡ []) × ¬ HasRoom (length (asked customer from)) (kept before)

@@ -1,16 +1,17 @@
 //! Whole files are copied from one spool file into another.
 
-ghost use Rattle.std.specs.Prelude.{◌≡◌, ◌+◌, ◌<◌, ◌≤◌, ◌^◌, [], ◌∷◌, length, map, option_map};
-ghost use Rattle.std.specs.Prelude.{IfErr, IfOk, IfSome, OnOk};
+ghost use Rattle.std.specs.Prelude.{◌≡◌, ◌⊎◌, ◌+◌, ◌<◌, ◌≤◌, ◌^◌, ℕ, [], ◌∷◌, length, map, option_map};
+ghost use Rattle.std.specs.Prelude.{IfErr, IfOk, IfSome, None, OnOk};
 ghost use Rattle.std.specs.List.{AllByRecursion, list_any};
 ghost use Rattle.sqlite.specs.State.{HasCleanDisk, Survives};
 ghost use Rattle.njh_spoolfile.specs.Kept.{SpoolContents, Holds, contents, contents_of, entry_of, file_of, kept};
-ghost use Rattle.njh_spoolfile.specs.Kept.{records_of, with_record};
-ghost use Rattle.njh_spoolfile.specs.Copies.{AreBelow, FitsFault, IsCopied, IsCopiedInto, asked, is_asked};
+ghost use Rattle.njh_spoolfile.specs.Kept.{records_of, whole_in, with_record};
+ghost use Rattle.njh_spoolfile.specs.Copies.{AreBelow, FitsFault, HaveControlBytes, IsCopied, IsCopiedInto, asked};
+ghost use Rattle.njh_spoolfile.specs.Copies.{is_asked};
 ghost use Rattle.njh_spoolfile.specs.Shelf.{shown};
 ghost use Rattle.njh_spoolfile.specs.Steps.{Changes, Stays};
-ghost use Rattle.njh_spoolfile.specs.code.CopySteps.{Adds, AddsAsked, Fills, FillsEmpty, IsBehind, IsLater, LeadsTo};
-ghost use Rattle.njh_spoolfile.specs.code.CopySteps.{asked_of, record_under};
+ghost use Rattle.njh_spoolfile.specs.code.CopySteps.{Adds, AddsAsked, Fills, FillsEmpty, FitsFiles, FitsStep, IsBehind};
+ghost use Rattle.njh_spoolfile.specs.code.CopySteps.{LacksRoom, LeadsTo, asked_of, record_under};
 
 use crate::kept::{FileRow, RecordRow, StoredFile, StoredRecord};
 use crate::store::Store;
@@ -77,8 +78,12 @@ fn has_asked(files: &[StoredFile], customer: Option<&str>) -> bool
 
 /// The numbers above these and those of one more file, if there are any.
 fn above(next: Numbers, stored: &StoredFile) -> Option<Numbers>
-    ensures { IfSome result (λ after. (next.id ≤ after.id) × (next.key ≤ after.key)
+    ensures above { IfSome result (λ after. (next.id ≤ after.id) × (next.key ≤ after.key)
         × (stored.now.id < after.id) × (stored.now.file.key < after.key)) }
+    ensures least { IfSome result (λ after. (id key : ℕ) → next.id ≤ id → next.key ≤ key → stored.now.id < id
+        → stored.now.file.key < key → (after.id ≤ id) × (after.key ≤ key)) }
+    ensures none { result ≡ None → (id key : ℕ) → stored.now.id < id → stored.now.file.key < key
+        → (2 ^ 32 ≤ id) ⊎ (2 ^ 32 ≤ key) }
 {
     let id = stored.id.checked_add(1)?;
     let key = stored.file.key.checked_add(1)?;
@@ -88,9 +93,14 @@ fn above(next: Numbers, stored: &StoredFile) -> Option<Numbers>
     })
 }
 
-/// The numbers behind those of these files, if there are any.
+/// The least numbers behind those of these files, if there are any.
 fn numbers_behind(files: &[StoredFile]) -> Option<Numbers>
-    ensures { IfSome result (λ first. AllByRecursion (λ f. (f.id < first.id) × (f.file.key < first.key)) files.now) }
+    ensures behind { IfSome result (λ first. AllByRecursion (λ f. (f.id < first.id) × (f.file.key < first.key))
+        files.now) }
+    ensures least { IfSome result (λ first. (id key : ℕ) → (0 < id) × (0 < key)
+        → AllByRecursion (λ f. (f.id < id) × (f.file.key < key)) files.now → (first.id ≤ id) × (first.key ≤ key)) }
+    ensures none { result ≡ None → (id key : ℕ) → AllByRecursion (λ f. (f.id < id) × (f.file.key < key)) files.now
+        → (2 ^ 32 ≤ id) ⊎ (2 ^ 32 ≤ key) }
 {
     let mut next = Numbers { id: 1, key: 1 };
     for stored in files {
@@ -108,9 +118,12 @@ fn first_numbers<T: Alter>(
     ensures behind { HasCleanDisk (shown T.Store into.new) → IfOk result (λ first. (before : SpoolContents)
         → Holds before (shown T.Store into.old).now.trees → AreBelow first.id first.key (kept before)
         × (asked (option_map (λ c. c.now) customer.entry) before ≡ [])) }
-    ensures fault { HasCleanDisk (shown T.Store into.new) → IfErr result (λ fault. (before : SpoolContents)
+    ensures least { HasCleanDisk (shown T.Store into.new) → IfOk result (λ first. (before : SpoolContents)
+        → Holds before (shown T.Store into.old).now.trees → (id key : ℕ) → (0 < id) × (0 < key)
+        → AreBelow id key (kept before) → (first.id ≤ id) × (first.key ≤ key)) }
+    ensures fault { HasCleanDisk (shown T.Store into.new) → IfErr result (λ fault. (spool before : SpoolContents)
         → Holds before (shown T.Store into.old).now.trees
-        → FitsFault (option_map (λ c. c.now) customer.entry) before fault) }
+        → FitsFault (option_map (λ c. c.now) customer.entry) spool before fault) }
     ensures same { HasCleanDisk (shown T.Store into.new) → OnOk result (Stays (shown T.Store into.old)
         (shown T.Store into.new)) }
     ensures crash { Survives (shown T.Store into.old) (shown T.Store into.new) (λ _. ⊥) }
@@ -130,7 +143,7 @@ fn add_one<T: Alter>(into: &mut Store<T>, key: u32, stored: &StoredRecord) -> Re
     ensures added { HasCleanDisk (shown T.Store into.new) → OnOk result (Changes
         (with_record (record_under key (contents_of stored.now))) (shown T.Store into.old) (shown T.Store into.new)) }
     ensures place { OnOk result (stored.now.place < 2 ^ 23) }
-    ensures fault { IfErr result IsLater }
+    ensures fault { IfErr result (FitsStep ⊥ (stored.now.place < 2 ^ 23 → ¬ (stored.now.srcb < 256))) }
     ensures crash { Survives (shown T.Store into.old) (shown T.Store into.new) (λ _. ⊥) }
 {
     let Ok(srcb) = u8::try_from(stored.srcb) else {
@@ -160,7 +173,8 @@ fn add_records<T: Alter>(
     ensures added { HasCleanDisk (shown T.Store into.new) → OnOk result (LeadsTo
         (FillsEmpty key (map contents_of records.now) (map contents_of records.now)) (shown T.Store into.old)
         (shown T.Store into.new)) }
-    ensures fault { IfErr result IsLater }
+    ensures fault { IfErr result (FitsStep ⊥ (¬ AllByRecursion (λ r. (r.0 < 2 ^ 23) × (r.1 < 256))
+        (map contents_of records.now))) }
     ensures crash { Survives (shown T.Store into.old) (shown T.Store into.new) (λ _. ⊥) }
 {
     for stored in records {
@@ -184,7 +198,9 @@ fn copy_records<S: Alter, T: Alter>(
         (shown T.Store into.new)) }
     ensures same { HasCleanDisk (shown S.Store from.new) → OnOk result (Stays (shown S.Store from.old)
         (shown S.Store from.new)) }
-    ensures fault { IfErr result IsLater }
+    ensures fault { HasCleanDisk (shown S.Store from.new) → IfErr result (λ fault. (spool : SpoolContents)
+        → Holds spool (shown S.Store from.old).now.trees
+        → FitsStep ⊥ (¬ AllByRecursion (λ r. r.1 < 256) (map contents (records_of key spool))) fault) }
     ensures crash_from { Survives (shown S.Store from.old) (shown S.Store from.new) (λ _. ⊥) }
     ensures crash { Survives (shown T.Store into.old) (shown T.Store into.new) (λ _. ⊥) }
 {
@@ -228,7 +244,9 @@ fn copy_one<S: Alter, T: Alter>(
         (shown T.Store into.new)) }
     ensures same { HasCleanDisk (shown S.Store from.new) → OnOk result (Stays (shown S.Store from.old)
         (shown S.Store from.new)) }
-    ensures fault { IfErr result IsLater }
+    ensures fault { HasCleanDisk (shown S.Store from.new) → IfErr result (λ fault. (spool : SpoolContents)
+        → Holds spool (shown S.Store from.old).now.trees
+        → FitsStep ⊥ (¬ HaveControlBytes (whole_in spool (entry_of stored.now) ∷ [])) fault) }
     ensures crash_from { Survives (shown S.Store from.old) (shown S.Store from.new) (λ _. ⊥) }
     ensures crash { Survives (shown T.Store into.old) (shown T.Store into.new) (λ _. ⊥) }
 {
@@ -256,7 +274,9 @@ fn copy_asked<S: Alter, T: Alter>(
         (asked_of (option_map (λ c. c.now) customer.entry) (entry_of stored.now ∷ [])) after) }
     ensures same { HasCleanDisk (shown S.Store from.new) → OnOk result (Stays (shown S.Store from.old)
         (shown S.Store from.new)) }
-    ensures fault { IfErr result IsLater }
+    ensures fault { HasCleanDisk (shown S.Store from.new) → IfErr result (λ fault. (spool : SpoolContents)
+        → Holds spool (shown S.Store from.old).now.trees → FitsFiles next spool
+        (asked_of (option_map (λ c. c.now) customer.entry) (entry_of stored.now ∷ [])) fault) }
     ensures crash_from { Survives (shown S.Store from.old) (shown S.Store from.new) (λ _. ⊥) }
     ensures crash { Survives (shown T.Store into.old) (shown T.Store into.new) (λ _. ⊥) }
 {
@@ -292,7 +312,9 @@ fn copy_each<S: Alter, T: Alter>(
         (asked_of (option_map (λ c. c.now) customer.entry) (map entry_of files.now)) after) }
     ensures same { HasCleanDisk (shown S.Store from.new) → OnOk result (Stays (shown S.Store from.old)
         (shown S.Store from.new)) }
-    ensures fault { IfErr result IsLater }
+    ensures fault { HasCleanDisk (shown S.Store from.new) → IfErr result (λ fault. (spool : SpoolContents)
+        → Holds spool (shown S.Store from.old).now.trees → FitsFiles first spool
+        (asked_of (option_map (λ c. c.now) customer.entry) (map entry_of files.now)) fault) }
     ensures crash_from { Survives (shown S.Store from.old) (shown S.Store from.new) (λ _. ⊥) }
     ensures crash { Survives (shown T.Store into.old) (shown T.Store into.new) (λ _. ⊥) }
 {
@@ -319,7 +341,10 @@ fn copy_behind<S: Alter, T: Alter>(
     ensures room { IfOk result (λ count. (first.id + count < 2 ^ 32) × (first.key + count < 2 ^ 32)) }
     ensures same { HasCleanDisk (shown S.Store from.new) → OnOk result (Stays (shown S.Store from.old)
         (shown S.Store from.new)) }
-    ensures fault { IfErr result IsLater }
+    ensures fault { HasCleanDisk (shown S.Store from.new) → IfErr result (λ fault. (spool : SpoolContents)
+        → Holds spool (shown S.Store from.old).now.trees → FitsStep
+        (LacksRoom first (length (asked (option_map (λ c. c.now) customer.entry) spool)))
+        (¬ HaveControlBytes (asked (option_map (λ c. c.now) customer.entry) spool)) fault) }
     ensures crash_from { Survives (shown S.Store from.old) (shown S.Store from.new) (λ _. ⊥) }
     ensures crash { Survives (shown T.Store into.old) (shown T.Store into.new) (λ _. ⊥) }
 {
@@ -342,9 +367,10 @@ pub fn copy_files<S: Alter, T: Alter>(
         → IfOk result (λ count. (spool before : SpoolContents) → Holds spool (shown S.Store from.old).now.trees
         → Holds before (shown T.Store into.old).now.trees
         → IsCopiedInto (option_map (λ c. c.now) customer.entry) count spool before (shown T.Store into.new)) }
-    ensures fault { HasCleanDisk (shown T.Store into.new) → IfErr result (λ fault. (before : SpoolContents)
+    ensures fault { HasCleanDisk (shown S.Store from.new) → HasCleanDisk (shown T.Store into.new)
+        → IfErr result (λ fault. (spool before : SpoolContents) → Holds spool (shown S.Store from.old).now.trees
         → Holds before (shown T.Store into.old).now.trees
-        → FitsFault (option_map (λ c. c.now) customer.entry) before fault) }
+        → FitsFault (option_map (λ c. c.now) customer.entry) spool before fault) }
     ensures same { HasCleanDisk (shown S.Store from.new) → OnOk result (Stays (shown S.Store from.old)
         (shown S.Store from.new)) }
     ensures crash_from { Survives (shown S.Store from.old) (shown S.Store from.new) (λ _. ⊥) }

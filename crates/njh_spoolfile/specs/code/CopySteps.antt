@@ -1,13 +1,14 @@
 -- How whole files are copied, step by step.
-use Rattle.std.specs.Prelude.{◌≡◌, ◌≢◌, ℕ, ◌+◌, ◌<◌, List, [], ◌++◌, length, map, filter, Option}
+use Rattle.std.specs.Prelude.{◌≡◌, ◌≢◌, ◌⊎◌, ℕ, ◌+◌, ◌<◌, ◌≤◌, ◌^◌, List, [], ◌++◌, length, map, filter}
+use Rattle.std.specs.Prelude.{Option, ⊤}
 use Rattle.sqlite.specs.State.{State}
 use Rattle.sqlite_trees.specs.Tree.{IsAscending}
 use Rattle.njh_spoolfile.specs.Kept.{File, Record, SpoolContents, Whole, Holds, contents, kept, records_of}
 use Rattle.njh_spoolfile.specs.Kept.{whole_in}
-use Rattle.njh_spoolfile.specs.Copies.{AreBelow, is_asked, numbered}
+use Rattle.njh_spoolfile.specs.Copies.{AreBelow, HaveControlBytes, is_asked, numbered}
 use Rattle.njh_spoolfile.specs.declared.copying.CopyFault.{CopyFault}
 use Rattle.njh_spoolfile.specs.declared.copying.Numbers.{Numbers}
-use Rattle.njh_spoolfile.specs.declared.copying.CopyFault.TheVariants.{Taken}
+use Rattle.njh_spoolfile.specs.declared.copying.CopyFault.TheVariants.{Database, Damaged, Taken, Full}
 
 -- Another spool stands there, and P holds of both.
 pub record LeadsTo (P : SpoolContents → SpoolContents → Type 0) (old new : State) : Type 0 where
@@ -47,6 +48,17 @@ Adds id key from es = AddsAsked id key (map (whole_in from) es)
 abbrev pub IsBehind : Numbers → List (ℕ × File) → Numbers → Type 0
 IsBehind first es after = (after.id ≡ first.id + length es) × (after.key ≡ first.key + length es)
 
--- the customer's files aren't the cause
-abbrev pub IsLater : CopyFault → Type 0
-IsLater fault = fault ≢ Taken
+-- there are no numbers for so many files from these on
+abbrev pub LacksRoom : Numbers → ℕ → Type 0
+LacksRoom first count = (2 ^ 32 ≤ first.id + count) ⊎ (2 ^ 32 ≤ first.key + count)
+
+-- what a fault says once none of the files that are there is asked for
+abbrev pub FitsStep : (full damaged : Type 0) → CopyFault → Type 0
+FitsStep full damaged (Database error) = ⊤
+FitsStep full damaged Damaged = damaged
+FitsStep full damaged Taken = ⊥
+FitsStep full damaged Full = full
+
+-- what one says of these files of a spool
+abbrev pub FitsFiles : Numbers → (from : SpoolContents) → List (ℕ × File) → CopyFault → Type 0
+FitsFiles first from es = FitsStep (LacksRoom first (length es)) (¬ HaveControlBytes (map (whole_in from) es))

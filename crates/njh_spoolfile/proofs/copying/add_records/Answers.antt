@@ -1,8 +1,11 @@
-use Rattle.std.proofs.Common.{◌≡◌, ◌+◌, ◌<◌, get_or, length, map, sym, ap, subst, take, ◌∙◌, arith}
+use Rattle.std.proofs.Common.{◌≡◌, ◌+◌, ◌<◌, ◌^◌, ℕ, List, get_or, length, map, sym, ap, subst, take, ◌∙◌}
+use Rattle.std.proofs.Common.{arith, rules, IfErr}
 use Rattle.std.proofs.lemmas.List.{get_or-map, length-map}
 use Rattle.njh_spoolfile.specs.Kept.{contents_of}
 use Rattle.njh_spoolfile.specs.Shelf.{shown}
-use Rattle.njh_spoolfile.specs.code.CopySteps.{FillsEmpty}
+use Rattle.njh_spoolfile.specs.code.CopySteps.{FillsEmpty, FitsStep}
+use Rattle.njh_spoolfile.specs.declared.copying.CopyFault.{CopyFault}
+use Rattle.njh_spoolfile.proofs.CopyFaults.{all_one, if_err, step_weaker}
 use Rattle.njh_spoolfile.proofs.CopyLaws.{clean_before, fills_more, fills_nothing, leads_by, leads_nothing, leads_then}
 use Rattle.njh_spoolfile.proofs.CopyLaws.{survives_both, survives_here}
 use Rattle.njh_spoolfile.proofs.copying.add_records.Goals as goal
@@ -32,3 +35,13 @@ loop-stored-preserved g c =
           held.records_rise so_far));
       crash = survives_both c.loop-stored.invariant.crash c.add_one.ensures.crash;
     }
+
+pub returns-in_err-add_one-clause-fault : goal.returns-in_err-add_one-clause-fault
+returns-in_err-add_one-clause-fault g c =
+    let one = c.stored-item.result in
+    let P = λ (fault : CopyFault). FitsStep ⊥ (one.place < 2 ^ 23 → ¬ (one.srcb < 256)) fault in
+    let fault : IfErr c.from_residual.result P = search rules in
+    if_err P _ (λ fault fits. step_weaker ⊥ ⊥ (one.place < 2 ^ 23 → ¬ (one.srcb < 256)) _ (λ none. none)
+    (λ bad all. let here = all_one (λ (r : ℕ × ℕ × List ℕ). (r.0 < 2 ^ 23) × (r.1 < 256)) contents_of
+    c.args.records.now c.loop-stored.stored-index one c.loop-stored-test.true c.stored-item.is all in
+    bad here.0 here.1) fault fits) c.from_residual.result fault

@@ -1,11 +1,13 @@
 use Rattle.std.proofs.Common.{◌≡◌, List, map, ℕ, option_map, sym, subst, take}
-use Rattle.std.proofs.Common.{arith, ◌+◌, ◌++◌, [], ◌∷◌}
-use Rattle.njh_spoolfile.specs.Kept.{File, entry_of}
+use Rattle.std.proofs.Common.{arith, rules, IfErr, ◌+◌, ◌++◌, [], ◌∷◌}
+use Rattle.njh_spoolfile.specs.Kept.{File, Holds, SpoolContents, entry_of}
 use Rattle.njh_spoolfile.specs.Shelf.{shown}
-use Rattle.njh_spoolfile.specs.code.CopySteps.{Adds, LeadsTo, asked_of}
-use Rattle.njh_spoolfile.proofs.CopyLaws.{adds_more, adds_nothing, asked_more, behind_more, clean_before, holds_still}
-use Rattle.njh_spoolfile.proofs.CopyLaws.{leads_nothing, leads_then, stays_both, stays_here, survives_both}
-use Rattle.njh_spoolfile.proofs.CopyLaws.{survives_here}
+use Rattle.njh_spoolfile.specs.code.CopySteps.{Adds, FitsFiles, LeadsTo, asked_of}
+use Rattle.njh_spoolfile.specs.declared.copying.CopyFault.{CopyFault}
+use Rattle.njh_spoolfile.proofs.CopiedFiles.{adds_more, adds_nothing, asked_more, behind_more}
+use Rattle.njh_spoolfile.proofs.CopyFaults.{each_fits, if_err}
+use Rattle.njh_spoolfile.proofs.CopyLaws.{clean_before, holds_still, leads_nothing, leads_then, stays_both, stays_here}
+use Rattle.njh_spoolfile.proofs.CopyLaws.{survives_both, survives_here}
 use Rattle.njh_spoolfile.proofs.copying.copy_each.Goals as goal
 
 pub loop-stored-init : goal.loop-stored-init
@@ -52,3 +54,15 @@ returns-in_err-next-clause-crash_from g c =
 
 pub returns-in_err-next-clause-crash : goal.returns-in_err-next-clause-crash
 returns-in_err-next-clause-crash g c = survives_both c.loop-stored.invariant.crash c.copy_asked.ensures.crash
+
+pub returns-in_err-next-clause-fault : goal.returns-in_err-next-clause-fault
+returns-in_err-next-clause-fault g c clean_from =
+    let customer = option_map (λ c'. c'.now) c.args.customer in
+    let so_far = c.loop-stored.invariant in
+    let early = clean_before c.copy_asked.ensures.crash_from clean_from in
+    let P = λ (fault : CopyFault). (spool : SpoolContents) → Holds spool (shown g.S.Store c.loop-stored.from).now.trees
+    → FitsFiles c.loop-stored.next spool (asked_of customer (entry_of c.stored-item.result ∷ [])) fault in
+    let fault : IfErr c.from_residual.result P = search rules in
+    if_err P _ (λ fault fits spool held. each_fits customer spool c.args.first c.loop-stored.next c.args.files.now
+    c.loop-stored.stored-index c.stored-item.result c.loop-stored-test.true c.stored-item.is so_far.counted fault
+    (fits spool (holds_still (so_far.same early) held))) c.from_residual.result fault

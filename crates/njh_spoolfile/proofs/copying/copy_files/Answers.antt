@@ -1,8 +1,13 @@
-use Rattle.std.proofs.Common.{option_map, sym, subst}
+use Rattle.std.proofs.Common.{IfErr, length, option_map, rules, sym, subst}
 use Rattle.sqlite.specs.Effect.{Database}
-use Rattle.njh_spoolfile.specs.Kept.{Holds}
+use Rattle.njh_spoolfile.specs.Kept.{Holds, SpoolContents}
+use Rattle.njh_spoolfile.specs.Copies.{HaveControlBytes, asked}
 use Rattle.njh_spoolfile.specs.Shelf.{shown}
-use Rattle.njh_spoolfile.proofs.CopyLaws.{clean_before, copied_there, crash_there}
+use Rattle.njh_spoolfile.specs.code.CopySteps.{FitsStep, LacksRoom}
+use Rattle.njh_spoolfile.specs.declared.copying.CopyFault.{CopyFault}
+use Rattle.njh_spoolfile.proofs.CopiedFiles.{copied_there, crash_there}
+use Rattle.njh_spoolfile.proofs.CopyFaults.{all_fits, if_err}
+use Rattle.njh_spoolfile.proofs.CopyLaws.{clean_before}
 use Rattle.njh_spoolfile.proofs.copying.copy_files.Goals as goal
 
 pub returns-clause-copied : goal.returns-clause-copied
@@ -43,3 +48,16 @@ returns-in_err-commit-clause-crash g c =
     (shown g.T.Store c.copy_behind.new.into) (shown g.T.Store c.commit.new.self) c.first_numbers.ensures.crash
     c.copy_behind.ensures.crash c.commit.ensures.crash c.in_ok-first.ensures.same c.in_ok-first.ensures.behind
     c.in_ok-count.ensures.copied c.in_ok-count.ensures.room
+
+pub returns-in_err-count-clause-fault : goal.returns-in_err-count-clause-fault
+returns-in_err-count-clause-fault g c clean_from clean =
+    let customer = option_map (λ c'. c'.now) c.args.customer in
+    let first = c.in_ok-first.first in
+    let early = clean_before c.copy_behind.ensures.crash clean in
+    let P = λ (fault : CopyFault). (spool : SpoolContents) → Holds spool (shown g.S.Store c.args.from.now).now.trees
+    → FitsStep (LacksRoom first (length (asked customer spool))) (¬ HaveControlBytes (asked customer spool)) fault
+    in
+    let fault : IfErr c.from_residual-in_err-count.result P = search rules in
+    if_err P _ (λ fault fits spool before held held_into. all_fits customer spool before first
+    (c.in_ok-first.ensures.behind early before held_into).1 (c.in_ok-first.ensures.least early before held_into) fault
+    (fits spool held)) c.from_residual-in_err-count.result fault

@@ -1,6 +1,8 @@
-use Rattle.std.proofs.Common.{◌≡◌, List, map, ℕ, sym, ap, subst, ◌∙◌}
+use Rattle.std.specs.List.{AllByRecursion}
+use Rattle.std.proofs.Common.{◌≡◌, ◌<◌, ◌^◌, List, map, ℕ, sym, ap, subst, ◌∙◌}
 use Rattle.njh_spoolfile.specs.Kept.{contents, contents_of, records_of}
 use Rattle.njh_spoolfile.specs.code.CopySteps.{Fills, Rising}
+use Rattle.njh_spoolfile.proofs.CopyFaults.{if_err, numbered_places, step_weaker}
 use Rattle.njh_spoolfile.proofs.CopyLaws.{clean_before, fills_after, leads_by, leads_then, rising_records}
 use Rattle.njh_spoolfile.proofs.CopyLaws.{survives_both}
 use Rattle.njh_spoolfile.proofs.ReadingLaws.{of_file, ok_then}
@@ -22,3 +24,15 @@ returns-clause-copied g c clean_from clean =
 
 pub returns-clause-crash : goal.returns-clause-crash
 returns-clause-crash g c = survives_both c.drop_records.ensures.crash c.add_records.ensures.crash
+
+pub returns-clause-fault : goal.returns-clause-fault
+returns-clause-fault g c clean_from =
+    let all = map contents_of c.as_slice.result.now in
+    if_err _ _ (λ fault fits spool held.
+    let all_is : all ≡ map contents (records_of c.args.key spool) =
+    ap (map contents_of) c.as_slice.ensures.value ∙ c.in_ok-records.ensures.records clean_from spool held
+    ∙ ap (map contents) (of_file c.args.key spool.records held.numbered) in
+    step_weaker ⊥ ⊥ (¬ AllByRecursion (λ r. (r.0 < 2 ^ 23) × (r.1 < 256)) all) _ (λ none. none)
+    (λ bad have. bad (subst (AllByRecursion (λ (r : ℕ × ℕ × List ℕ). (r.0 < 2 ^ 23) × (r.1 < 256))) (sym all_is)
+    (numbered_places c.args.key spool.records held.numbered have))) fault fits)
+    c.add_records.result c.add_records.ensures.fault
