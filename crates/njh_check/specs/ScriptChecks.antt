@@ -8,17 +8,18 @@ use Rattle.njh_check.specs.FaultTexts.{fault_name}
 use Rattle.njh_check.specs.ScriptReasons.{Told, reason_of}
 use Rattle.njh_io.specs.Lines.{lines_of}
 use Rattle.njh_replay.specs.Script.{max_script_bytes, script_of}
-use Rattle.njh_check.specs.declared.script_reason.Reason.{Reason}
-use Rattle.njh_check.specs.declared.script_reason.Reason.TheVariants.{BadDigit, BadNode, MoreLines, MoreWords, NoBytes}
-use Rattle.njh_check.specs.declared.script_reason.Reason.TheVariants.{NoColon, NoCustomer, NoCustomerName, NoEvent}
-use Rattle.njh_check.specs.declared.script_reason.Reason.TheVariants.{NoLine, NoName, NotText, OddDigits, Routes}
+use Rattle.njh_check.specs.declared.script_reason.ScriptReason.{ScriptReason}
+use Rattle.njh_check.specs.declared.script_reason.ScriptReason.TheVariants.{BadDigit, BadNode, MoreLines, MoreWords}
+use Rattle.njh_check.specs.declared.script_reason.ScriptReason.TheVariants.{NoBytes, NoColon, NoCustomer}
+use Rattle.njh_check.specs.declared.script_reason.ScriptReason.TheVariants.{NoCustomerName, NoEvent, NoLine, NoName}
+use Rattle.njh_check.specs.declared.script_reason.ScriptReason.TheVariants.{NotText, OddDigits, Routes}
 
 -- words as they are, kept whole
 unfoldable pub label : List ℕ → List ℕ
 label words = words
 
 -- why a line is bad, but for the word that is
-abbrev pub why_words : Reason → List ℕ
+abbrev pub why_words : ScriptReason → List ℕ
 why_words NotText = label (codes "not UTF-8")
 why_words NoEvent = label (codes "no event ")
 why_words NoName = label (codes "no line is named")

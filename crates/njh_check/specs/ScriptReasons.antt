@@ -13,14 +13,15 @@ use Rattle.njh_table.specs.TableFile.{TableFile, customer_at, entry_of, line_nam
 use Rattle.njh_replay.specs.Script.{words_of}
 use Rattle.njh_replay.specs.ScriptRoutes.{customer_named, parts_of_pair, routes_of_pairs}
 use Rattle.njh_check.specs.declared.script_reason.BadLine.{BadLine}
-use Rattle.njh_check.specs.declared.script_reason.Reason.{Reason}
-use Rattle.njh_check.specs.declared.script_reason.Reason.TheVariants.{BadDigit, BadNode, MoreLines, MoreWords, NoBytes}
-use Rattle.njh_check.specs.declared.script_reason.Reason.TheVariants.{NoColon, NoCustomer, NoCustomerName, NoEvent}
-use Rattle.njh_check.specs.declared.script_reason.Reason.TheVariants.{NoLine, NoName, NotText, OddDigits, Routes}
+use Rattle.njh_check.specs.declared.script_reason.ScriptReason.{ScriptReason}
+use Rattle.njh_check.specs.declared.script_reason.ScriptReason.TheVariants.{BadDigit, BadNode, MoreLines, MoreWords}
+use Rattle.njh_check.specs.declared.script_reason.ScriptReason.TheVariants.{NoBytes, NoColon, NoCustomer}
+use Rattle.njh_check.specs.declared.script_reason.ScriptReason.TheVariants.{NoCustomerName, NoEvent, NoLine, NoName}
+use Rattle.njh_check.specs.declared.script_reason.ScriptReason.TheVariants.{NotText, OddDigits, Routes}
 
 -- a reason, and the word that it is about, which is empty if it is about none alone
 abbrev pub Told : Type 0
-Told = Reason × List ℕ
+Told = ScriptReason × List ℕ
 
 abbrev pub told : BadLine → Told
 told bad = (bad.why, bad.word.now)

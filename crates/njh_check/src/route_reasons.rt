@@ -6,7 +6,7 @@ ghost use Rattle.njh_check.specs.ScriptReasons.{reason_of_pairs, reason_of_route
 ghost use Rattle.njh_replay.specs.ScriptRoutes.{routes_of_pairs};
 ghost use Rattle.njh_replay.specs.FirstParts.{parts_behind};
 
-use crate::script_reason::{BadLine, Reason};
+use crate::script_reason::{BadLine, ScriptReason};
 use crate::script_reasons::alone;
 use njh_ebcdic::Name;
 use njh_replay::{customer_named, first_part, routes_of_pairs};
@@ -24,13 +24,13 @@ pub(crate) fn reason_of_routes<'a>(
         ≡ reason_of_routes tables.now (parts_behind 32 behind.entry)) }
 {
     let Some(words) = behind else {
-        return Ok(Some(alone(Reason::NoCustomerName)));
+        return Ok(Some(alone(ScriptReason::NoCustomerName)));
     };
     let (name, pairs) = first_part(words, ' ');
     match customer_named(tables, name) {
         Some(customer) => reason_for(alloc, tables, customer, pairs),
         None => Ok(Some(BadLine {
-            why: Reason::NoCustomer,
+            why: ScriptReason::NoCustomer,
             word: name,
         })),
     }
@@ -52,7 +52,7 @@ fn reason_for<'a>(
         None => Ok(reason_of_pairs(tables, pairs)),
         Some(routes) => match tables.check_routes(customer, &routes) {
             Ok(()) => Ok(None),
-            Err(fault) => Ok(Some(alone(Reason::Routes { fault }))),
+            Err(fault) => Ok(Some(alone(ScriptReason::Routes { fault }))),
         },
     }
 }
@@ -80,7 +80,7 @@ fn reason_of_pair<'a>(tables: &Tables, pair: &'a str) -> Option<BadLine<'a>>
     let (node, lines) = first_part(pair, ':');
     let Some(lines) = lines else {
         return Some(BadLine {
-            why: Reason::NoColon,
+            why: ScriptReason::NoColon,
             word: pair,
         });
     };
@@ -91,7 +91,7 @@ fn reason_of_pair<'a>(tables: &Tables, pair: &'a str) -> Option<BadLine<'a>>
     match first_part(behind, ':') {
         (second, None) => reason_by(tables, node, line, Some(second)),
         (_, Some(_)) => Some(BadLine {
-            why: Reason::MoreLines,
+            why: ScriptReason::MoreLines,
             word: pair,
         }),
     }
@@ -110,7 +110,7 @@ fn reason_by<'a>(
     match Name::of_text(node) {
         Ok(_) => reason_of_lines(tables, line, second),
         Err(_) => Some(BadLine {
-            why: Reason::BadNode,
+            why: ScriptReason::BadNode,
             word: node,
         }),
     }
@@ -139,7 +139,7 @@ fn reason_of_name<'a>(tables: &Tables, name: &'a str) -> Option<BadLine<'a>>
     match tables.line_owner(name) {
         Some(_) => None,
         None => Some(BadLine {
-            why: Reason::NoLine,
+            why: ScriptReason::NoLine,
             word: name,
         }),
     }

@@ -4,7 +4,7 @@ use njh_table::TableFault;
 
 /// Why a line has no event.
 #[derive(Clone, Copy, Debug, PartialEq, Eq)]
-pub enum Reason {
+pub enum ScriptReason {
     /// The line is no UTF-8.
     NotText,
     /// There is no event of this word.
@@ -45,7 +45,7 @@ pub enum Reason {
 #[derive(Clone, Copy, Debug)]
 pub struct BadLine<'a> {
     /// Why.
-    pub why: Reason,
+    pub why: ScriptReason,
     /// The word, or nothing if it is none alone.
     pub word: &'a str,
 }

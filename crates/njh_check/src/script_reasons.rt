@@ -6,11 +6,11 @@ ghost use Rattle.hex.specs.Hex.{decode_of};
 ghost use Rattle.njh_check.specs.ScriptReasons.{is_event, reason_behind, reason_of, reason_of_bytes};
 ghost use Rattle.njh_check.specs.ScriptReasons.{reason_of_words, reason_on_line, told};
 ghost use Rattle.njh_replay.specs.Script.{script_event, words_of};
-ghost use Rattle.njh_check.specs.declared.script_reason.Reason.TheVariants.{MoreWords};
+ghost use Rattle.njh_check.specs.declared.script_reason.ScriptReason.TheVariants.{MoreWords};
 ghost use Rattle.njh_replay.specs.FirstParts.{parts_behind};
 
 use crate::route_reasons::reason_of_routes;
-use crate::script_reason::{BadLine, Reason};
+use crate::script_reason::{BadLine, ScriptReason};
 use hex::FromHexError;
 use njh_replay::first_part;
 use njh_table::Tables;
@@ -27,7 +27,7 @@ pub(crate) fn reason_of<'a>(
 {
     match str::from_utf8(line) {
         Ok(line) => reason_of_text(alloc, tables, line),
-        Err(_) => Ok(Some(alone(Reason::NotText))),
+        Err(_) => Ok(Some(alone(ScriptReason::NotText))),
     }
 }
 
@@ -45,7 +45,7 @@ fn reason_of_text<'a>(
     }
     if !is_event(word) {
         return Ok(Some(BadLine {
-            why: Reason::NoEvent,
+            why: ScriptReason::NoEvent,
             word,
         }));
     }
@@ -70,13 +70,13 @@ fn reason_on_line<'a>(
         ≡ reason_on_line tables.now word.now (parts_behind 32 behind.entry)) }
 {
     let Some(rest) = behind else {
-        return Ok(Some(alone(Reason::NoName)));
+        return Ok(Some(alone(ScriptReason::NoName)));
     };
     let (name, behind_name) = first_part(rest, ' ');
     match tables.line_owner(name) {
         Some(_) => reason_behind(alloc, word, behind_name),
         None => Ok(Some(BadLine {
-            why: Reason::NoLine,
+            why: ScriptReason::NoLine,
             word: name,
         })),
     }
@@ -92,11 +92,11 @@ fn reason_behind<'a>(
 {
     let takes_bytes = word == "BYTES";
     let Some(rest) = behind else {
-        return Ok(reason_where(takes_bytes, Reason::NoBytes));
+        return Ok(reason_where(takes_bytes, ScriptReason::NoBytes));
     };
     match first_part(rest, ' ') {
         (digits, None) => reason_of_last(alloc, takes_bytes, digits),
-        (_, Some(_)) => Ok(Some(alone(Reason::MoreWords))),
+        (_, Some(_)) => Ok(Some(alone(ScriptReason::MoreWords))),
     }
 }
 
@@ -111,7 +111,7 @@ fn reason_of_last<'a>(
 {
     match takes_bytes {
         true => reason_of_digits(alloc, digits),
-        false => Ok(Some(alone(Reason::MoreWords))),
+        false => Ok(Some(alone(ScriptReason::MoreWords))),
     }
 }
 
@@ -120,18 +120,18 @@ fn reason_of_digits<'a>(alloc: Global, digits: &str) -> Result<Option<BadLine<'a
     ensures { IfOk result (λ bad. option_map told bad ≡ reason_of_bytes (decode_of digits.now)) }
 {
     match hex::decode(alloc, digits.as_bytes()) {
-        Ok(bytes) => Ok(reason_where(bytes.is_empty(), Reason::NoBytes)),
+        Ok(bytes) => Ok(reason_where(bytes.is_empty(), ScriptReason::NoBytes)),
         Err(FromHexError::OutOfMemory) => Err(AllocError),
         Err(FromHexError::InvalidHexCharacter { index, .. }) => {
-            Ok(Some(alone(Reason::BadDigit { index })))
+            Ok(Some(alone(ScriptReason::BadDigit { index })))
         }
-        Err(FromHexError::OddLength) => Ok(Some(alone(Reason::OddDigits))),
-        Err(FromHexError::InvalidStringLength) => Ok(Some(alone(Reason::OddDigits))),
+        Err(FromHexError::OddLength) => Ok(Some(alone(ScriptReason::OddDigits))),
+        Err(FromHexError::InvalidStringLength) => Ok(Some(alone(ScriptReason::OddDigits))),
     }
 }
 
 /// A reason if something is so.
-fn reason_where<'a>(is_so: bool, why: Reason) -> Option<BadLine<'a>>
+fn reason_where<'a>(is_so: bool, why: ScriptReason) -> Option<BadLine<'a>>
     ensures { option_map told result ≡ (if is_so then Some (why, []) else None) }
 {
     match is_so {
@@ -141,7 +141,7 @@ fn reason_where<'a>(is_so: bool, why: Reason) -> Option<BadLine<'a>>
 }
 
 /// A reason that is about no word alone.
-pub(crate) fn alone<'a>(why: Reason) -> BadLine<'a>
+pub(crate) fn alone<'a>(why: ScriptReason) -> BadLine<'a>
     ensures { told result ≡ (why, []) }
 {
     BadLine { why, word: "" }

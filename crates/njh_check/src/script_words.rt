@@ -7,7 +7,7 @@ ghost use Rattle.njh_check.specs.ScriptChecks.{told_words, why_words};
 ghost use Rattle.njh_check.specs.ScriptReasons.{told};
 
 use crate::line::fault_name;
-use crate::script_reason::{BadLine, Reason};
+use crate::script_reason::{BadLine, ScriptReason};
 use std::alloc::{AllocError, Global};
 
 /// What is said of a script without a bad line, by the number of its events.
@@ -58,27 +58,27 @@ fn put_reason(words: &mut Vec<u8>, reason: Option<BadLine<'_>>) -> Result<(), Al
 }
 
 /// Appends why a line is bad, but for the word that is.
-fn put_why(words: &mut Vec<u8>, why: Reason) -> Result<(), AllocError>
+fn put_why(words: &mut Vec<u8>, why: ScriptReason) -> Result<(), AllocError>
     ensures { OnOk result (words.new.items ≡ words.old.items ++ why_words why) }
 {
     match why {
-        Reason::NotText => put_words(words, "not UTF-8"),
-        Reason::NoEvent => put_words(words, "no event "),
-        Reason::NoName => put_words(words, "no line is named"),
-        Reason::NoLine => put_words(words, "no line "),
-        Reason::MoreWords => put_words(words, "more words than the event has"),
-        Reason::NoBytes => put_words(words, "no bytes"),
-        Reason::OddDigits => put_words(words, "an odd number of hex digits"),
-        Reason::BadDigit { index } => {
+        ScriptReason::NotText => put_words(words, "not UTF-8"),
+        ScriptReason::NoEvent => put_words(words, "no event "),
+        ScriptReason::NoName => put_words(words, "no line is named"),
+        ScriptReason::NoLine => put_words(words, "no line "),
+        ScriptReason::MoreWords => put_words(words, "more words than the event has"),
+        ScriptReason::NoBytes => put_words(words, "no bytes"),
+        ScriptReason::OddDigits => put_words(words, "an odd number of hex digits"),
+        ScriptReason::BadDigit { index } => {
             put_words(words, "no hex digit behind the first ")?;
             put_number(words, index)
         }
-        Reason::NoCustomerName => put_words(words, "no customer is named"),
-        Reason::NoCustomer => put_words(words, "no customer "),
-        Reason::NoColon => put_words(words, "no colon in "),
-        Reason::BadNode => put_words(words, "no node's name is "),
-        Reason::MoreLines => put_words(words, "more than two lines in "),
-        Reason::Routes { fault } => {
+        ScriptReason::NoCustomerName => put_words(words, "no customer is named"),
+        ScriptReason::NoCustomer => put_words(words, "no customer "),
+        ScriptReason::NoColon => put_words(words, "no colon in "),
+        ScriptReason::BadNode => put_words(words, "no node's name is "),
+        ScriptReason::MoreLines => put_words(words, "more than two lines in "),
+        ScriptReason::Routes { fault } => {
             put_words(words, "routes: ")?;
             put_words(words, fault_name(fault))
         }
