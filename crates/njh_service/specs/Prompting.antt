@@ -71,9 +71,9 @@ pub record Watched : Type 0 where
   pub noted : List Traffic
   pub now : ℕ
 
--- A line that rests is prompted: that is so, or the hub has a block to send on it (`HasNext`: by its own customer's part
--- alone) and the line doesn't owe for too many. Else this looks at nothing but what was noted of the line itself, and at
--- the time.
+-- A line that rests is prompted: that is so, or the hub has a block to send on it (`HasNext`: by its own customer's
+-- part alone) and the line doesn't owe for too many. Else this looks at nothing but what was noted of the line itself,
+-- and at the time.
 abbrev pub IsPrompted : Traffic → List Part → LineId → ℕ → Type 0
 IsPrompted t parts id now = IsTrue (is_soon t now) ⊎ (IsTrue (may_prompt t now) × HasNext parts id)
 

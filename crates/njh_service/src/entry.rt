@@ -41,7 +41,7 @@ pub enum LogEvent {
     /// The peer ended the connection, or the hub did after the tries.
     Closed,
     /// The connection failed.
-    Failed(Failure),
+    Failed(ConnectionFailure),
     /// Nobody could be connected to at this address.
     DialFailed(SocketAddr),
     /// A connection that waits could not be taken.
@@ -49,7 +49,7 @@ pub enum LogEvent {
     /// The session is up with this node.
     SessionUp(Name),
     /// The session is down.
-    SessionDown(Ending),
+    SessionDown(SessionEnd),
     /// A file came whole, and waits.
     FileIn(FileLine),
     /// A file came whole, and is held.
@@ -74,7 +74,7 @@ pub enum LogEvent {
 
 /// Why a connection failed.
 #[derive(Clone, Copy, Debug, Drop, PartialEq, Eq)]
-pub enum Failure {
+pub enum ConnectionFailure {
     /// A read or a write failed: the connection was reset, or more was to be sent than had room to
     /// wait.
     Broken,
@@ -86,7 +86,7 @@ pub enum Failure {
 
 /// Why a session is down.
 #[derive(Clone, Copy, Debug, Drop, PartialEq, Eq)]
-pub enum Ending {
+pub enum SessionEnd {
     /// Nothing came after the first of five tries in a row.
     NoAnswer,
     /// Five tries in a row were made, and this came last.
@@ -137,7 +137,7 @@ impl fmt::Display for LogEvent {
             LogEvent::DialFailed(address) => write!(f, "no connection to {address}"),
             LogEvent::AcceptFailed => write!(f, "a connection could not be taken"),
             LogEvent::SessionUp(node) => write!(f, "session up with {node}"),
-            LogEvent::SessionDown(ending) => write!(f, "session down: {ending}"),
+            LogEvent::SessionDown(end) => write!(f, "session down: {end}"),
             LogEvent::FileIn(file) => write!(f, "file in: {file}"),
             LogEvent::FileHeld(file) => write!(f, "file held: {file}"),
             LogEvent::FileOut(file) => write!(f, "file out: {file}"),
@@ -161,23 +161,23 @@ impl fmt::Display for LogEvent {
     }
 }
 
-impl fmt::Display for Failure {
+impl fmt::Display for ConnectionFailure {
     fn fmt<W: fmt::Write>(&self, f: &mut fmt::Formatter<W>) -> fmt::Result {
         f.write_str(match self {
-            Failure::Broken => "a read or a write failed",
-            Failure::Stalled => "the peer did not take its bytes within a second",
-            Failure::Replaced => "replaced by another connection",
+            ConnectionFailure::Broken => "a read or a write failed",
+            ConnectionFailure::Stalled => "the peer did not take its bytes within a second",
+            ConnectionFailure::Replaced => "replaced by another connection",
         })
     }
 }
 
-impl fmt::Display for Ending {
+impl fmt::Display for SessionEnd {
     fn fmt<W: fmt::Write>(&self, f: &mut fmt::Formatter<W>) -> fmt::Result {
         match self {
-            Ending::NoAnswer => f.write_str("no answer after five tries"),
-            Ending::Tries(last) => write!(f, "five tries in a row, {last} came last"),
-            Ending::Lost => f.write_str("the line was lost"),
-            Ending::ByPeer => f.write_str("the peer ended it"),
+            SessionEnd::NoAnswer => f.write_str("no answer after five tries"),
+            SessionEnd::Tries(last) => write!(f, "five tries in a row, {last} came last"),
+            SessionEnd::Lost => f.write_str("the line was lost"),
+            SessionEnd::ByPeer => f.write_str("the peer ended it"),
         }
     }
 }

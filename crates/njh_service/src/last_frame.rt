@@ -1,6 +1,6 @@
 //! What came last on a line.
 
-use njh_wire::Ending;
+use njh_wire::LastBytes;
 use std::fmt;
 
 /// What the last bytes that came on a line end (IBM GA27-3004).
@@ -22,8 +22,8 @@ pub enum LastFrame {
 
 impl LastFrame {
     /// What these bytes end.
-    pub(crate) fn of(ending: Ending) -> LastFrame {
-        match (ending.before, ending.last) {
+    pub(crate) fn of(bytes: LastBytes) -> LastFrame {
+        match (bytes.before, bytes.last) {
             (0x10, 0x70) => LastFrame::Ack0,
             (0x01, 0x2D) => LastFrame::Enquiry,
             (0x10, 0x26) => LastFrame::Text,

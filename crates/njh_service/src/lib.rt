@@ -3,6 +3,7 @@
 #![tactic(auto)]
 
 mod attending;
+mod connecting;
 mod customer_routes;
 mod customers;
 mod desk;
@@ -25,6 +26,7 @@ mod revising;
 mod revision;
 mod service;
 mod serving;
+mod sessions;
 mod site;
 mod streams;
 mod table_source;
@@ -34,13 +36,13 @@ mod traffic;
 pub use customer_routes::routes_of;
 pub use difference::{CustomerKey, Difference, LineKey, difference_of};
 pub use endpoints::{Endpoint, endpoints_of};
-pub use entry::{Ending, Failure, FileLine, LogEntry, LogEvent, Place};
+pub use entry::{ConnectionFailure, FileLine, LogEntry, LogEvent, Place, SessionEnd};
 pub use exchange::Exchange;
 pub use fault::ServeFault;
 pub use last_frame::LastFrame;
 pub use log::Log;
 pub use notice_line::NoticeLine;
-pub use opening::{OpenCause, OpenFault, open};
+pub use opening::{ListenCause, ListenFault, open};
 pub use post::LineNames;
 pub use revision::{Revision, SourceOutcome};
 pub use service::Service;

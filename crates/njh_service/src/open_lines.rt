@@ -8,7 +8,7 @@ ghost use Rattle.njh_service.specs.Opened.{IsApart};
 use crate::endpoints::{Endpoint, endpoints_of};
 use crate::exchange::Exchange;
 use crate::fault::ServeFault;
-use crate::opening::{OpenCause, open};
+use crate::opening::{ListenCause, open};
 use crate::post::LineNames;
 use crate::refusal::Refusal;
 use crate::site::Site;
@@ -86,9 +86,9 @@ impl<N: Network + Drop, L: Write + Drop, S: TableSource + Drop> Exchange<N, L, S
 }
 
 /// Why lines aren't served if a socket can't be opened.
-fn fault_of(cause: OpenCause) -> ServeFault {
+fn fault_of(cause: ListenCause) -> ServeFault {
     match cause {
-        OpenCause::Memory => ServeFault::Memory,
+        ListenCause::Memory => ServeFault::Memory,
         _ => ServeFault::Device,
     }
 }

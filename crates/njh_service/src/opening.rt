@@ -2,7 +2,7 @@
 
 ghost use Rattle.std.specs.Prelude.{◌≡◌, ◌≢◌, ◌∷◌, ◌++◌, [], None, map, IfOk, IfErr, IfSome, OnOk};
 ghost use Rattle.std.specs.List.{list_any, Contains};
-ghost use Rattle.njh_service.specs.declared.opening.OpenCause.TheVariants as cause;
+ghost use Rattle.njh_service.specs.declared.opening.ListenCause.TheVariants as cause;
 ghost use Rattle.njh_service.specs.Opened.{IsApart, IsRepeated, is_same_port, site_on, site_opened};
 
 use crate::endpoints::Endpoint;
@@ -15,16 +15,16 @@ use std::net::{IpAddr, SocketAddr};
 
 /// A line whose socket could not be opened.
 #[derive(Clone, Copy, Drop)]
-pub struct OpenFault {
+pub struct ListenFault {
     /// The line, and its port.
     pub endpoint: Endpoint,
     /// Why.
-    pub cause: OpenCause,
+    pub cause: ListenCause,
 }
 
 /// Why a line's socket could not be opened.
 #[derive(Clone, Copy, Debug, PartialEq, Eq)]
-pub enum OpenCause {
+pub enum ListenCause {
     /// Another line before it has the same port.
     SamePort,
     /// Another program listens on the port.
@@ -51,7 +51,7 @@ pub fn open<N: Network>(
     network: &mut N,
     address: IpAddr,
     endpoints: &[Endpoint],
-) -> Result<Vec<Site<N::Listener, SocketAddr>>, OpenFault>
+) -> Result<Vec<Site<N::Listener, SocketAddr>>, ListenFault>
     ensures opened { IfOk result (λ sites. map (site_opened N.address_of) sites.items
         ≡ map (λ endpoint. site_on address endpoint.site) endpoints.now) }
     ensures apart { IfOk result (λ sites. IsApart endpoints.now) }
@@ -60,9 +60,9 @@ pub fn open<N: Network>(
     ensures known { IfErr result (λ fault. Contains endpoints.now fault.endpoint) }
 {
     match repeated(endpoints) {
-        Some(endpoint) => Err(OpenFault {
+        Some(endpoint) => Err(ListenFault {
             endpoint,
-            cause: OpenCause::SamePort,
+            cause: ListenCause::SamePort,
         }),
         None => open_all(alloc, network, address, endpoints),
     }
@@ -104,7 +104,7 @@ fn open_all<N: Network>(
     network: &mut N,
     address: IpAddr,
     endpoints: &[Endpoint],
-) -> Result<Vec<Site<N::Listener, SocketAddr>>, OpenFault>
+) -> Result<Vec<Site<N::Listener, SocketAddr>>, ListenFault>
     ensures opened { IfOk result (λ sites. map (site_opened N.address_of) sites.items
         ≡ map (λ endpoint. site_on address endpoint.site) endpoints.now) }
     ensures cause { IfErr result (λ fault. fault.cause ≢ cause.SamePort) }
@@ -115,7 +115,7 @@ fn open_all<N: Network>(
         let endpoint = endpoints[place];
         match add_site(network, address, endpoint.site, &mut sites) {
             Ok(()) => {}
-            Err(cause) => return Err(OpenFault { endpoint, cause }),
+            Err(cause) => return Err(ListenFault { endpoint, cause }),
         }
     }
     Ok(sites)
@@ -127,7 +127,7 @@ fn add_site<N: Network>(
     address: IpAddr,
     site: Site<u16, SocketAddr>,
     sites: &mut Vec<Site<N::Listener, SocketAddr>>,
-) -> Result<(), OpenCause>
+) -> Result<(), ListenCause>
     ensures opened { OnOk result (map (site_opened N.address_of) sites.new.items
         ≡ map (site_opened N.address_of) sites.old.items ++ site_on address site ∷ []) }
     ensures cause { IfErr result (λ why. why ≢ cause.SamePort) }
@@ -135,7 +135,7 @@ fn add_site<N: Network>(
     let opened = open_site(network, address, site, sites.len())?;
     match sites.push(opened) {
         Ok(()) => Ok(()),
-        Err(_) => Err(OpenCause::Memory),
+        Err(_) => Err(ListenCause::Memory),
     }
 }
 
@@ -145,7 +145,7 @@ fn open_site<N: Network>(
     address: IpAddr,
     site: Site<u16, SocketAddr>,
     place: usize,
-) -> Result<Site<N::Listener, SocketAddr>, OpenCause>
+) -> Result<Site<N::Listener, SocketAddr>, ListenCause>
     ensures opened { IfOk result (λ opened. site_opened N.address_of opened ≡ site_on address site) }
     ensures cause { IfErr result (λ why. why ≢ cause.SamePort) }
 {
@@ -159,11 +159,11 @@ fn open_site<N: Network>(
 }
 
 /// Why a port could not be listened on.
-fn cause_of(error: &io::Error) -> OpenCause
+fn cause_of(error: &io::Error) -> ListenCause
     ensures { result ≢ cause.SamePort }
 {
     match error.raw_os_error() {
-        Some(number) if is_out_of_files(number) => OpenCause::TooManyFiles,
+        Some(number) if is_out_of_files(number) => ListenCause::TooManyFiles,
         _ => cause_by_kind(error.kind()),
     }
 }
@@ -173,14 +173,14 @@ fn is_out_of_files(number: i32) -> bool {
     number == 24 || number == 23
 }
 
-fn cause_by_kind(kind: ErrorKind) -> OpenCause
+fn cause_by_kind(kind: ErrorKind) -> ListenCause
     ensures { result ≢ cause.SamePort }
 {
     match kind {
-        ErrorKind::AddrInUse => OpenCause::PortInUse,
-        ErrorKind::PermissionDenied => OpenCause::NotPermitted,
-        ErrorKind::AddrNotAvailable => OpenCause::NotHere,
-        ErrorKind::OutOfMemory => OpenCause::Memory,
-        _ => OpenCause::Device,
+        ErrorKind::AddrInUse => ListenCause::PortInUse,
+        ErrorKind::PermissionDenied => ListenCause::NotPermitted,
+        ErrorKind::AddrNotAvailable => ListenCause::NotHere,
+        ErrorKind::OutOfMemory => ListenCause::Memory,
+        _ => ListenCause::Device,
     }
 }

@@ -1,7 +1,7 @@
 //! What the log says of a socket that can't be opened.
 
 use crate::endpoints::Endpoint;
-use crate::opening::{OpenCause, OpenFault};
+use crate::opening::{ListenCause, ListenFault};
 use crate::site::Site;
 use njh_table::{LineId, Tables};
 use std::fmt;
@@ -13,12 +13,16 @@ pub(crate) struct Refusal<'a> {
     endpoint: Endpoint,
     /// The line that has the same port, if that is the cause.
     other: Option<LineId>,
-    cause: OpenCause,
+    cause: ListenCause,
 }
 
 impl<'a> Refusal<'a> {
     /// That of one of these lines of the tables.
-    pub(crate) fn of(tables: &'a Tables, endpoints: &[Endpoint], fault: OpenFault) -> Refusal<'a> {
+    pub(crate) fn of(
+        tables: &'a Tables,
+        endpoints: &[Endpoint],
+        fault: ListenFault,
+    ) -> Refusal<'a> {
         let mut other = None;
         for endpoint in endpoints {
             if other.is_none() && port_of(*endpoint) == port_of(fault.endpoint) {
@@ -48,7 +52,7 @@ impl fmt::Display for Refusal<'_> {
             tables: self.tables,
             line: self.endpoint.line,
         };
-        if let (OpenCause::SamePort, Some(other)) = (self.cause, self.other) {
+        if let (ListenCause::SamePort, Some(other)) = (self.cause, self.other) {
             let other = if self.tables.has_line(other) {
                 self.tables.line(other).name()
             } else {
@@ -83,16 +87,16 @@ impl fmt::Display for Named<'_> {
     }
 }
 
-impl fmt::Display for OpenCause {
+impl fmt::Display for ListenCause {
     fn fmt<W: fmt::Write>(&self, f: &mut fmt::Formatter<W>) -> fmt::Result {
         f.write_str(match self {
-            OpenCause::SamePort => "the same port as another line's",
-            OpenCause::PortInUse => "in use",
-            OpenCause::NotPermitted => "not permitted",
-            OpenCause::NotHere => "no address of this machine",
-            OpenCause::TooManyFiles => "too many open files",
-            OpenCause::Device => "refused by the system",
-            OpenCause::Memory => "no memory",
+            ListenCause::SamePort => "the same port as another line's",
+            ListenCause::PortInUse => "in use",
+            ListenCause::NotPermitted => "not permitted",
+            ListenCause::NotHere => "no address of this machine",
+            ListenCause::TooManyFiles => "too many open files",
+            ListenCause::Device => "refused by the system",
+            ListenCause::Memory => "no memory",
         })
     }
 }

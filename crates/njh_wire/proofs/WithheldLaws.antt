@@ -5,8 +5,8 @@ use Rattle.std.proofs.lemmas.List.{append-nil}
 use Rattle.njh_turns.specs.declared.wire_reading.Reading.{Reading}
 use Rattle.njh_turns.specs.declared.wire_reading.Reading.TheVariants as reading
 use Rattle.njh_turns.specs.declared.wire_reading.WireFault.{WireFault}
-use Rattle.njh_wire.specs.declared.end.End.{End}
-use Rattle.njh_wire.specs.declared.end.End.TheVariants as ends
+use Rattle.njh_wire.specs.declared.end.ConnectionEnd.{ConnectionEnd}
+use Rattle.njh_wire.specs.declared.end.ConnectionEnd.TheVariants as ends
 use Rattle.njh_wire.specs.declared.end.Parting.{Parting}
 use Rattle.njh_wire.specs.declared.end.Parting.TheVariants.{Failed}
 use Rattle.njh_wire.specs.declared.end.Stop.{Stop}
@@ -27,8 +27,8 @@ altered moved s new connection next waiting =
     stays s new new [] connection next (waiting ∙ sym (append-nil s.waiting)) (nothing new)
 
 -- the connection is given up, and the next one takes its place
-pub given_up_withholds : {C : Type 0} (moved : C → C → List ℕ → List ℕ → Type 0) (end : End) (s new : Standing C) →
-    new ≡ given_up end s → IsWithheld moved s new
+pub given_up_withholds : {C : Type 0} (moved : C → C → List ℕ → List ℕ → Type 0) (end : ConnectionEnd)
+    (s new : Standing C) → new ≡ given_up end s → IsWithheld moved s new
 given_up_withholds moved end s new same =
     let gone = without_connection Failed end s in
     subst (IsWithheld moved s) (sym same)

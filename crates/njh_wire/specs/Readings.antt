@@ -4,7 +4,7 @@ use Rattle.std.specs.Prelude.{Option, Some, None, IsSome, Result, Ok, Err}
 use Rattle.njh_turns.specs.declared.wire_reading.Reading.{Reading}
 use Rattle.njh_turns.specs.declared.wire_reading.Reading.TheVariants as reading
 use Rattle.njh_turns.specs.declared.wire_reading.WireFault.{WireFault}
-use Rattle.njh_wire.specs.declared.end.End.TheVariants as ends
+use Rattle.njh_wire.specs.declared.end.ConnectionEnd.TheVariants as ends
 use Rattle.njh_wire.specs.declared.end.Parting.TheVariants.{Closed, Failed}
 use Rattle.njh_wire.specs.declared.end.Stop.{Stop}
 use Rattle.njh_wire.specs.declared.end.Stop.TheVariants as why

@@ -2,9 +2,9 @@
 use Rattle.std.specs.Prelude.{ℕ, ◌+◌, ◌-◌, slice_index_or, min, ◌==◌, if◌then◌else◌, ◌++◌, length, Bool, true, false}
 use Rattle.std.specs.Prelude.{List, [], Option, Some}
 use Rattle.std.specs.Prelude.{None}
-use Rattle.njh_wire.specs.declared.end.End.{End}
-use Rattle.njh_wire.specs.declared.ending.Ending.{Ending}
-use Rattle.njh_wire.specs.declared.end.End.TheVariants as ends
+use Rattle.njh_wire.specs.declared.end.ConnectionEnd.{ConnectionEnd}
+use Rattle.njh_wire.specs.declared.last_bytes.LastBytes.{LastBytes}
+use Rattle.njh_wire.specs.declared.end.ConnectionEnd.TheVariants as ends
 use Rattle.njh_wire.specs.declared.end.Parting.{Parting}
 use Rattle.njh_wire.specs.declared.end.Parting.TheVariants.{Closed, Failed}
 use Rattle.njh_wire.specs.declared.end.Stop.{Stop}
@@ -31,9 +31,9 @@ pub record Standing (C : Type 0) : Type 0 where
   pub quiet : ℕ
   -- when bytes last came, and the last two of them
   pub heard : ℕ
-  pub ending : Ending
+  pub last_bytes : LastBytes
   -- why the last connection ended
-  pub end : Option End
+  pub end : Option ConnectionEnd
   pub failures : ℕ
 
 -- when a quiet is due if nothing comes
@@ -54,7 +54,7 @@ first_standing place = record {
   begun = 0;
   quiet = 100;
   heard = 0;
-  ending = record { before = 0; last = 0 };
+  last_bytes = record { before = 0; last = 0 };
   end = None;
   failures = 0;
 }
@@ -72,7 +72,7 @@ with_connection connection s = record s {
 }
 
 -- The connection is dropped with what waits, and the next read is to tell.
-abbrev pub without_connection : {C : Type 0} → Parting → End → Standing C → Standing C
+abbrev pub without_connection : {C : Type 0} → Parting → ConnectionEnd → Standing C → Standing C
 without_connection parting end s = record s { connection = None; waiting = []; parting = Some parting; end = Some end }
 
 -- one failure more
@@ -80,7 +80,7 @@ abbrev pub with_failure : {C : Type 0} → Standing C → Standing C
 with_failure s = record s { failures = min (s.failures + 1) 18446744073709551615 }
 
 -- The connection is given up, which is a failure, and the next takes its place.
-abbrev pub given_up : {C : Type 0} → End → Standing C → Standing C
+abbrev pub given_up : {C : Type 0} → ConnectionEnd → Standing C → Standing C
 given_up end s = with_connection s.next (with_failure (without_connection Failed end s))
 
 -- where somebody is connected, that one is replaced
@@ -106,15 +106,15 @@ after_stop stops.Ended s = record s { parting = Some Closed; end = Some ends.End
 after_stop stops.Failed s = record s { parting = Some Failed; end = Some ends.Failed }
 
 -- the last two bytes, once these came, of which there is at least one
-abbrev pub ending_after : List ℕ → Ending → Ending
-ending_after bytes e = record {
-  before = if length bytes == 1 then e.last else slice_index_or bytes (length bytes - 2) 0;
+abbrev pub last_bytes_after : List ℕ → LastBytes → LastBytes
+last_bytes_after bytes earlier = record {
+  before = if length bytes == 1 then earlier.last else slice_index_or bytes (length bytes - 2) 0;
   last = slice_index_or bytes (length bytes - 1) 0;
 }
 
 -- these bytes came now
 abbrev pub hearing : {C : Type 0} → List ℕ → Standing C → Standing C
-hearing bytes s = record s { begun = s.clock; heard = s.clock; ending = ending_after bytes s.ending }
+hearing bytes s = record s { begun = s.clock; heard = s.clock; last_bytes = last_bytes_after bytes s.last_bytes }
 
 -- a frame waits behind what waited, since now where nothing did
 abbrev pub keeping : {C : Type 0} → List ℕ → Standing C → Standing C

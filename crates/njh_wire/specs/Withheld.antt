@@ -1,6 +1,6 @@
 -- How a wire of a line comes from one standing to another without a byte going out.
 use Rattle.std.specs.Prelude.{◌≡◌, ℕ, List, [], ◌++◌, Some}
-use Rattle.njh_wire.specs.declared.end.End.{End}
+use Rattle.njh_wire.specs.declared.end.ConnectionEnd.{ConnectionEnd}
 use Rattle.njh_wire.specs.declared.end.Parting.{Parting}
 use Rattle.njh_wire.specs.Standing.{Standing, with_connection, without_connection}
 
@@ -16,7 +16,7 @@ pub data IsWithheld {C : Type 0} (moved : C → C → List ℕ → List ℕ → 
       → IsWithheld moved s last
   -- the connection was dropped with what waited
   drops :
-      (s last : Standing C) (parting : Parting) (end : End)
+      (s last : Standing C) (parting : Parting) (end : ConnectionEnd)
       → IsWithheld moved (without_connection parting end s) last → IsWithheld moved s last
   -- the next one took its place, and nothing waits
   follows : (s last : Standing C) → IsWithheld moved (with_connection s.next s) last → IsWithheld moved s last

@@ -2,7 +2,7 @@
 
 /// Why a connection of a line ended.
 #[derive(Clone, Copy, Debug, PartialEq, Eq)]
-pub enum End {
+pub enum ConnectionEnd {
     /// The other end sent no more.
     Ended,
     /// It could not be read or written, or took more answers than there is room for.

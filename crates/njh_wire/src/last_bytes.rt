@@ -2,7 +2,7 @@
 
 /// The last two bytes that came, of whatever frames: 0 for one that didn't come yet.
 #[derive(Clone, Copy, Debug, PartialEq, Eq)]
-pub struct Ending {
+pub struct LastBytes {
     /// The last but one.
     pub before: u8,
     /// The last.

@@ -4,15 +4,15 @@
 mod calls;
 mod connection;
 mod end;
-mod ending;
+mod last_bytes;
 mod line_wire;
 mod network;
 mod outbox;
 mod silence;
 
 pub use connection::{Connection, ConnectionFault, ConnectionRead};
-pub use end::{End, Parting, Stop};
-pub use ending::Ending;
+pub use end::{ConnectionEnd, Parting, Stop};
+pub use last_bytes::LastBytes;
 pub use line_wire::{LineWire, STALL_TIME};
 pub use network::{Network, Readiness};
 pub use outbox::ROOM;

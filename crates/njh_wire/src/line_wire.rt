@@ -4,7 +4,7 @@ ghost use Rattle.std.specs.Prelude.{◌≡◌, ◌+◌, ◌-◌, ◌<◌, ◌≤
 ghost use Rattle.std.specs.Prelude.{IsOk, OnOk, OnErr, IfOk, Ok};
 ghost use Rattle.njh_hub.specs.Sent.{IsCounted};
 ghost use Rattle.njh_turns.specs.Wires.{IsReading};
-ghost use Rattle.njh_wire.specs.declared.end.End.TheVariants.{Failed};
+ghost use Rattle.njh_wire.specs.declared.end.ConnectionEnd.TheVariants.{Failed};
 ghost use Rattle.njh_wire.specs.Standing.{first_standing, with_connection, without_connection, with_failure, given_up};
 ghost use Rattle.njh_wire.specs.Standing.{due};
 ghost use Rattle.njh_wire.specs.Standing.{after_displacement, after_admission, after_close};
@@ -18,8 +18,8 @@ mod writing;
 
 use crate::calls::send_on;
 use crate::connection::Connection;
-use crate::end::{End, Parting};
-use crate::ending::Ending;
+use crate::end::{ConnectionEnd, Parting};
+use crate::last_bytes::LastBytes;
 use crate::outbox::{Outbox, ROOM};
 use crate::silence::Silence;
 use njh_hub::QUIET_TIME;
@@ -45,7 +45,7 @@ pub struct LineWire<C: Connection + Drop> {
     readable: bool,
     clock: u64,
     silence: Silence,
-    end: Option<End>,
+    end: Option<ConnectionEnd>,
     failures: u64,
 }
 
@@ -68,7 +68,7 @@ impl<C: Connection + Drop> Model for LineWire<C> {
       begun = wire.silence.begun;
       quiet = wire.silence.quiet;
       heard = wire.silence.heard;
-      ending = wire.silence.ending;
+      last_bytes = wire.silence.last_bytes;
       end = wire.end;
       failures = wire.failures;
     } };
@@ -96,7 +96,7 @@ impl<C: Connection + Drop> LineWire<C> {
                 begun: 0,
                 quiet: QUIET_TIME,
                 heard: 0,
-                ending: Ending { before: 0, last: 0 },
+                last_bytes: LastBytes { before: 0, last: 0 },
             },
             end: None,
             failures: 0,
@@ -135,7 +135,7 @@ impl<C: Connection + Drop> LineWire<C> {
     }
 
     /// Why its last connection ended, once.
-    pub fn take_end(&mut self) -> Option<End>
+    pub fn take_end(&mut self) -> Option<ConnectionEnd>
         ensures end { result ≡ self.old.end }
         ensures taken { self.new ≡ record self.old { end = None } }
     {
@@ -149,7 +149,7 @@ impl<C: Connection + Drop> LineWire<C> {
         ensures { self.new ≡ after_admission connection (after_displacement self.old) }
     {
         if self.connection.is_some() {
-            self.part(Parting::Closed, End::Replaced);
+            self.part(Parting::Closed, ConnectionEnd::Replaced);
         }
         match self.parting {
             Some(_) => self.next = Some(connection),
@@ -162,7 +162,7 @@ impl<C: Connection + Drop> LineWire<C> {
         ensures { self.new ≡ after_close self.old }
     {
         if self.connection.is_some() {
-            self.part(Parting::Closed, End::Closed);
+            self.part(Parting::Closed, ConnectionEnd::Closed);
         }
         self.next = None;
     }
@@ -215,10 +215,10 @@ impl<C: Connection + Drop> LineWire<C> {
     }
 
     /// The last two bytes that came.
-    pub fn ending(&self) -> Ending
-        ensures { result ≡ self.now.ending }
+    pub fn last_bytes(&self) -> LastBytes
+        ensures { result ≡ self.now.last_bytes }
     {
-        self.silence.ending
+        self.silence.last_bytes
     }
 
     /// For how many milliseconds nothing came on its connection.
@@ -239,7 +239,7 @@ impl<C: Connection + Drop> LineWire<C> {
         }
         match send_on(&mut self.connection, self.waiting.as_slice()) {
             Ok(went) => self.waiting.remove_front(went),
-            Err(_) => self.part(Parting::Failed, End::Failed),
+            Err(_) => self.part(Parting::Failed, ConnectionEnd::Failed),
         }
     }
 
@@ -258,7 +258,7 @@ impl<C: Connection + Drop> LineWire<C> {
     }
 
     /// The connection is dropped with what waits, and the next read is to tell.
-    fn part(&mut self, parting: Parting, end: End)
+    fn part(&mut self, parting: Parting, end: ConnectionEnd)
         ensures { self.new ≡ without_connection parting end self.old }
     {
         self.connection = None;
@@ -292,7 +292,7 @@ impl<C: Connection + Drop> LineWire<C> {
     }
 
     /// Gives the connection up.
-    fn give_up(&mut self, end: End)
+    fn give_up(&mut self, end: ConnectionEnd)
         ensures stands { self.new ≡ given_up end self.old }
         ensures counts { self.old.failures ≤ self.new.failures }
         ensures counted { IsCounted self.old.failures self.new.failures }
@@ -361,7 +361,7 @@ impl<C: Connection + Drop> Wire for LineWire<C> {
         if self.put(frame) {
             return Ok(());
         }
-        self.give_up(End::Failed);
+        self.give_up(ConnectionEnd::Failed);
         Err(WireFault)
     }
 }

@@ -1,6 +1,6 @@
 //! How long nothing comes on a wire.
 
-use crate::ending::Ending;
+use crate::last_bytes::LastBytes;
 
 /// Since when nothing comes on a wire, when that is a quiet, and what came last.
 #[derive(Clone, Copy, Debug, PartialEq, Eq)]
@@ -12,5 +12,5 @@ pub(crate) struct Silence {
     /// When bytes last came, or the connection did.
     pub(crate) heard: u64,
     /// The last two bytes that came.
-    pub(crate) ending: Ending,
+    pub(crate) last_bytes: LastBytes,
 }

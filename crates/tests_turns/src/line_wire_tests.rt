@@ -2,7 +2,7 @@
 
 use crate::play::{Step, play};
 use njh_turns::{Reading, WireFault};
-use njh_wire::End;
+use njh_wire::ConnectionEnd;
 use std::test::Fail;
 
 const QUIET: Step = Step::Read(Ok(Reading::Quiet));
@@ -160,7 +160,7 @@ fn reader_that_stalls(rt: HostRuntime) -> Result<(), Fail> {
         PENDING,
         Step::At(1050),
         FAULT,
-        Step::Ended(Some(End::Stalled)),
+        Step::Ended(Some(ConnectionEnd::Stalled)),
         Step::Ended(None),
         ABSENT,
     ];
@@ -198,7 +198,7 @@ fn no_room(rt: HostRuntime) -> Result<(), Fail> {
         Step::Write(65_535, true),
         Step::Write(1, true),
         Step::Write(1, false),
-        Step::Ended(Some(End::Failed)),
+        Step::Ended(Some(ConnectionEnd::Failed)),
         ABSENT,
         Step::Write(1, false),
     ];
@@ -212,7 +212,7 @@ fn ends(rt: HostRuntime) -> Result<(), Fail> {
         Step::Close,
         Step::Is(true, false),
         CLOSED,
-        Step::Ended(Some(End::Closed)),
+        Step::Ended(Some(ConnectionEnd::Closed)),
         ABSENT,
         Step::Close,
         ABSENT,
@@ -226,7 +226,7 @@ fn ends(rt: HostRuntime) -> Result<(), Fail> {
         Step::Took(0, 2, 1),
         Step::Is(true, false),
         CLOSED,
-        Step::Ended(Some(End::Ended)),
+        Step::Ended(Some(ConnectionEnd::Ended)),
         ABSENT,
     ];
     play(&rt, rt.alloc(), "ends", &steps)
@@ -241,9 +241,9 @@ fn another_takes_its_place(rt: HostRuntime) -> Result<(), Fail> {
         Step::Comes(1, 6),
         Step::Write(2, false),
         bytes(6),
-        Step::Ended(Some(End::Failed)),
+        Step::Ended(Some(ConnectionEnd::Failed)),
         Step::Connect(0),
-        Step::Ended(Some(End::Replaced)),
+        Step::Ended(Some(ConnectionEnd::Replaced)),
         CLOSED,
         PENDING,
         Step::Took(0, 0, 0),
@@ -260,7 +260,7 @@ fn faults(rt: HostRuntime) -> Result<(), Fail> {
         Step::Breaks(0),
         bytes(3),
         FAULT,
-        Step::Ended(Some(End::Failed)),
+        Step::Ended(Some(ConnectionEnd::Failed)),
         ABSENT,
         Step::Connect(1),
         Step::Takes(1, 0),

@@ -2,7 +2,7 @@
 
 use crate::memory_connection::{MemoryConnection, Peer};
 use njh_turns::{Reading, Wire, WireFault};
-use njh_wire::{End, LineWire};
+use njh_wire::{ConnectionEnd, LineWire};
 use std::alloc::Global;
 use std::process::Abort;
 use std::test::Fail;
@@ -39,7 +39,7 @@ pub enum Step {
     /// A peer took so many bytes in so many sends.
     Took(usize, usize, usize),
     /// Why the last connection ended.
-    Ended(Option<End>),
+    Ended(Option<ConnectionEnd>),
 }
 
 /// A wire and the frames that were written on it.

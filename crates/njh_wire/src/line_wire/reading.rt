@@ -3,14 +3,14 @@
 ghost use Rattle.std.specs.Prelude.{◌≡◌, ◌<◌, ◌≤◌, length, take, IfOk, OnErr};
 ghost use Rattle.njh_hub.specs.Sent.{IsCounted};
 ghost use Rattle.njh_turns.specs.Wires.{IsReading};
-ghost use Rattle.njh_wire.specs.Standing.{after_stop, ending_after, hearing};
+ghost use Rattle.njh_wire.specs.Standing.{after_stop, last_bytes_after, hearing};
 ghost use Rattle.njh_wire.specs.Readings.{IsSilence, IsAnswer, IsOpen, IsWait, IsRead, Receives};
 
 use super::{LineWire, STALL_TIME};
 use crate::calls::receive_on;
 use crate::connection::Connection;
-use crate::end::{End, Parting, Stop};
-use crate::ending::Ending;
+use crate::end::{ConnectionEnd, Parting, Stop};
+use crate::last_bytes::LastBytes;
 use njh_turns::{Reading, WireFault};
 
 impl<C: Connection + Drop> LineWire<C> {
@@ -24,7 +24,7 @@ impl<C: Connection + Drop> LineWire<C> {
         if self.clock.saturating_sub(self.since) < STALL_TIME {
             return Ok(Reading::Pending);
         }
-        self.give_up(End::Stalled);
+        self.give_up(ConnectionEnd::Stalled);
         Err(WireFault)
     }
 
@@ -114,11 +114,11 @@ impl<C: Connection + Drop> LineWire<C> {
             Stop::Dry => self.readable = false,
             Stop::Ended => {
                 self.parting = Some(Parting::Closed);
-                self.end = Some(End::Ended);
+                self.end = Some(ConnectionEnd::Ended);
             }
             Stop::Failed => {
                 self.parting = Some(Parting::Failed);
-                self.end = Some(End::Failed);
+                self.end = Some(ConnectionEnd::Failed);
             }
         }
     }
@@ -130,22 +130,22 @@ impl<C: Connection + Drop> LineWire<C> {
     {
         self.silence.begun = self.clock;
         self.silence.heard = self.clock;
-        self.silence.ending = ending_after(bytes, self.silence.ending);
+        self.silence.last_bytes = last_bytes_after(bytes, self.silence.last_bytes);
     }
 }
 
 /// The last two bytes, once these came after the others.
-fn ending_after(bytes: &[u8], ending: Ending) -> Ending
+fn last_bytes_after(bytes: &[u8], earlier: LastBytes) -> LastBytes
     requires { 0 < length bytes.now }
-    ensures { result ≡ ending_after bytes.now ending }
+    ensures { result ≡ last_bytes_after bytes.now earlier }
 {
     let count = bytes.len();
     let before = if count == 1 {
-        ending.last
+        earlier.last
     } else {
         bytes[count - 2]
     };
-    Ending {
+    LastBytes {
         before,
         last: bytes[count - 1],
     }

@@ -24,7 +24,8 @@ returns g c = record {
       (subst Noted (sym c.deref.ensures.value) (ap (λ (seen : Watched). seen.noted) c.self.view_is)) there
       c.in-Some.ensures.lookup.1 known in
       let At : ℕ → Type 0 = λ now. IsTrue c.prompts.result ↔ IsPrompted noted c.args.hub.now line now in
-      let Of : Traffic → Type 0 = λ t. IsTrue c.prompts.result ↔ IsPrompted t c.args.hub.now line c.self.inside.desk.now in
+      let Of : Traffic → Type 0 =
+      λ t. IsTrue c.prompts.result ↔ IsPrompted t c.args.hub.now line c.self.inside.desk.now in
       let On : LineId → Type 0 =
       λ id. IsTrue c.prompts.result ↔ IsPrompted c.in-Some.post.now.traffic c.args.hub.now id c.self.inside.desk.now in
       subst At (ap (λ (seen : Watched). seen.now) c.self.view_is)

@@ -1,6 +1,6 @@
 use Rattle.std.proofs.Common.{refl, ap, ◌∙◌}
 use Rattle.njh_wire.specs.Standing.{given_up}
-use Rattle.njh_wire.specs.declared.end.End.TheVariants as ends
+use Rattle.njh_wire.specs.declared.end.ConnectionEnd.TheVariants as ends
 use Rattle.njh_wire.proofs.WithheldLaws.{written_withholds, given_up_withholds}
 use Rattle.njh_wire.proofs.line_wire.LineWireWire.write.Goals as goal
 
