@@ -3,3 +3,5 @@ mod AlikeLaws
 mod EndpointLaws
 mod OpenedLaws
 mod StillLaws
+mod LineLaws
+mod LoggingLaws

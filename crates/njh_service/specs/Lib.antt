@@ -1,4 +1,5 @@
 pub mod Endpoints
+pub mod Logging
 pub mod Opened
 pub mod Prompting
 pub mod Revisions

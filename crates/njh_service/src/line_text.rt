@@ -1,7 +1,11 @@
 //! The text of one line.
 
+ghost use Rattle.std.specs.Prelude.{◌≡◌, ◌<◌, ◌≤◌, [], drop, length};
+ghost use Rattle.njh_service.specs.Logging.{IsLine};
+
 use arrayvec::ArrayString;
 use std::fmt;
+use std::marker::Model;
 
 /// How many bytes a line of the log has at most, with its end.
 const LONGEST: usize = 512;
@@ -13,36 +17,57 @@ pub(crate) struct LineText {
     text: ArrayString<LONGEST>,
 }
 
+impl Model for LineText {
+    ghost use Rattle.std.specs.Prelude.{List, ℕ};
+
+    ghost Value = { List ℕ };
+
+    ghost view = { λ line. line.text.bytes };
+}
+
 impl LineText {
     /// No text.
-    pub(crate) fn new() -> LineText {
+    pub(crate) fn new() -> LineText
+        ensures { result ≡ [] }
+    {
         LineText {
             text: ArrayString::new(),
         }
     }
 
     /// No text any more.
-    pub(crate) fn clear(&mut self) {
+    pub(crate) fn clear(&mut self)
+        ensures { self.new ≡ [] }
+    {
         self.text.clear();
     }
 
     /// Its bytes but the first so many.
-    pub(crate) fn after(&self, out: usize) -> &[u8] {
+    pub(crate) fn after(&self, out: usize) -> &[u8]
+        ensures bytes { result.now ≡ drop out self.now }
+        ensures fits { length self.now ≤ LONGEST }
+    {
         let bytes = self.text.as_str().as_bytes();
         &bytes[out.min(bytes.len())..]
     }
 
     /// Ends the line.
-    pub(crate) fn end(&mut self) {
-        if self.text.try_push('\n').is_err() {
-            self.text.pop();
-            self.end_short();
-        }
+    #[tactic(auto, using(crate::proofs::LineLaws::one_byte))]
+    pub(crate) fn end(&mut self)
+        ensures { IsLine self.new }
+    {
+        self.make_room();
+        self.text.push('\n');
     }
 
-    /// Ends a line that lost its last character.
-    fn end_short(&mut self) {
-        let _ended = self.text.try_push('\n').is_ok();
+    /// If it is full, drops its last character.
+    fn make_room(&mut self)
+        ensures { length self.new < LONGEST }
+    {
+        if !self.text.is_full() {
+            return;
+        }
+        self.text.pop();
     }
 }
 

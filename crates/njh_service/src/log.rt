@@ -1,10 +1,18 @@
 //! The log: a line of text for each thing that an operator wants to know.
 
+ghost use Rattle.std.specs.Prelude.{◌≡◌, ◌≤◌, ℕ, List, [], None, IsSome, length, take};
+ghost use Rattle.std.specs.Option.{option_copied};
+ghost use Rattle.std.specs.Bool.{OnTrue, OnFalse};
+ghost use Rattle.std.specs.Io.KnownBytes.{Appends};
+ghost use Rattle.njh_service.specs.Logging.{log_onto, one_dropped, IsLine, IsLogged, Begins, GoesOut};
+ghost use Rattle.njh_service.specs.code.Logs.{HasTold, Sends, Tells};
+
 use crate::line_text::LineText;
 use crate::moment::Moment;
 use std::fmt;
 use std::fmt::Write as _;
 use std::io::Write;
+use std::marker::Model;
 
 /// Writes lines, each with its time. It never waits for its writer and never fails.
 ///
@@ -20,9 +28,20 @@ pub struct Log<L: Write + Drop> {
     dropped: u64,
 }
 
+impl<L: Write + Drop> Model for Log<L> {
+    ghost use Rattle.std.specs.Prelude.{drop};
+    ghost use Rattle.njh_service.specs.Logging.{Logging};
+
+    ghost Value = { Logging L };
+
+    ghost view = { λ log. record { writer = log.writer; left = drop log.out log.line; dropped = log.dropped } };
+}
+
 impl<L: Write + Drop> Log<L> {
     /// A log onto a writer, or none.
-    pub fn new(writer: Option<L>) -> Log<L> {
+    pub fn new(writer: Option<L>) -> Log<L>
+        ensures { result ≡ log_onto writer }
+    {
         Log {
             writer,
             line: LineText::new(),
@@ -32,44 +51,101 @@ impl<L: Write + Drop> Log<L> {
     }
 
     /// Where lines go, if anywhere.
-    pub fn writer(&self) -> Option<&L> {
+    pub fn writer(&self) -> Option<&L>
+        ensures { option_copied result ≡ self.now.writer }
+    {
         self.writer.as_ref()
     }
 
     /// How many lines were dropped, of which no line told yet.
-    pub fn dropped(&self) -> u64 {
+    pub fn dropped(&self) -> u64
+        ensures { result ≡ self.now.dropped }
+    {
         self.dropped
     }
 
     /// Writes a line, at so many seconds since 1970.
-    pub fn write<D: fmt::Display>(&mut self, second: i64, text: &D) {
+    pub fn write<D: fmt::Display>(&mut self, second: i64, text: &D)
+        ensures none { self.old.writer ≡ None → self.new ≡ self.old }
+        ensures logged { IsSome self.old.writer → IsLogged L.contents self.old self.new }
+    {
         if self.writer.is_none() {
             return;
         }
-        if self.go_on() && self.tell_dropped(second) && self.go_on() {
-            self.set(second, text);
-            if self.begin() {
-                return;
-            }
+        if !self.tell(second, text) {
+            self.count();
         }
+    }
+
+    /// Counts a line that is dropped.
+    fn count(&mut self)
+        ensures { self.new ≡ one_dropped self.old }
+    {
         self.dropped = self.dropped.saturating_add(1);
     }
 
-    /// Tells how many lines were dropped, if any. Says whether a further line may follow.
-    fn tell_dropped(&mut self, second: i64) -> bool {
+    /// Tells a line. Says whether it goes out, in whole or in part.
+    fn tell<D: fmt::Display>(&mut self, second: i64, text: &D) -> bool
+        requires { IsSome self.old.writer }
+        ensures out { OnTrue result (IsLogged L.contents self.old self.new) }
+        ensures dropped { OnFalse result (IsLogged L.contents self.old (one_dropped self.new)) }
+    {
+        self.make_way(second) && self.begin(second, text)
+    }
+
+    /// Makes way for a line: hands the writer what is left of one, and tells how many were dropped,
+    /// if any. Says whether nothing is left then.
+    fn make_way(&mut self, second: i64) -> bool
+        requires { IsSome self.old.writer }
+        ensures free { OnTrue result ((telling : List ℕ) × HasTold L.contents self.old self.new telling) }
+        ensures dropped { OnFalse result (IsLogged L.contents self.old (one_dropped self.new)) }
+    {
+        if !self.go_on() {
+            return false;
+        }
+        self.tell_dropped(second) && self.go_on()
+    }
+
+    /// Tells how many lines were dropped, if any. Says whether a further line may follow it.
+    fn tell_dropped(&mut self, second: i64) -> bool
+        requires writer { IsSome self.old.writer }
+        requires left { self.old.left ≡ [] }
+        ensures told { OnTrue result ((telling : List ℕ) × Tells L.contents self.old self.new telling) }
+        ensures gone { OnFalse result (GoesOut L.contents self.old self.new [] × (self.new.left ≡ [])) }
+        ensures dropped { OnFalse result (self.new.dropped ≡ self.old.dropped) }
+    {
         if self.dropped == 0 {
             return true;
         }
-        self.set(second, &Dropped(self.dropped));
-        if self.begin() {
+        let dropped = Dropped(self.dropped);
+        if self.begin(second, &dropped) {
             self.dropped = 0;
             return true;
         }
         false
     }
 
+    /// Hands the writer a new line. If it takes nothing of it, the line is gone.
+    fn begin<D: fmt::Display>(&mut self, second: i64, text: &D) -> bool
+        requires writer { IsSome self.old.writer }
+        requires left { self.old.left ≡ [] }
+        ensures begun { OnTrue result ((line : List ℕ) × Begins L.contents self.old self.new [] line) }
+        ensures gone { OnFalse result (GoesOut L.contents self.old self.new [] × (self.new.left ≡ [])) }
+        ensures dropped { self.new.dropped ≡ self.old.dropped }
+    {
+        self.set(second, text);
+        if self.send() == 0 {
+            self.line.clear();
+            return false;
+        }
+        true
+    }
+
     /// Makes a line.
-    fn set<D: fmt::Display>(&mut self, second: i64, text: &D) {
+    fn set<D: fmt::Display>(&mut self, second: i64, text: &D)
+        ensures line { IsLine self.new.left }
+        ensures rest { self.new ≡ record self.old { left = self.new.left } }
+    {
         self.out = 0;
         self.line.clear();
         let time = Moment(second);
@@ -77,32 +153,44 @@ impl<L: Write + Drop> Log<L> {
         self.line.end();
     }
 
-    /// Hands the writer a new line. If it takes nothing of it, the line is gone.
-    fn begin(&mut self) -> bool {
-        self.go_on();
-        if self.out == 0 {
-            self.line.clear();
-            return false;
-        }
-        true
+    /// Hands the writer what is left of the line. Says whether nothing is left then.
+    fn go_on(&mut self) -> bool
+        requires { IsSome self.old.writer }
+        ensures all { OnTrue result (self.new.left ≡ []) }
+        ensures out { GoesOut L.contents self.old self.new [] }
+        ensures left { length self.new.left ≤ length self.old.left }
+        ensures dropped { self.new.dropped ≡ self.old.dropped }
+    {
+        self.send();
+        self.line.after(self.out).is_empty()
     }
 
-    /// Hands the writer what is left of the line. Says whether nothing is left then.
-    fn go_on(&mut self) -> bool {
+    /// Hands the writer what is left of the line, and answers how many bytes it took.
+    fn send(&mut self) -> usize
+        requires { IsSome self.old.writer }
+        ensures { Sends L.contents self.old self.new result }
+    {
         let Some(writer) = &mut self.writer else {
-            return true;
+            return 0;
         };
         let left = self.line.after(self.out);
         if left.is_empty() {
-            return true;
+            return 0;
         }
-        match writer.write(left) {
-            Ok(count) => {
-                self.out = self.out.saturating_add(count);
-                count == left.len()
-            }
-            Err(_) => false,
-        }
+        let count = write_some(writer, left);
+        self.out += count;
+        count
+    }
+}
+
+/// Hands a writer these bytes, and answers how many it took.
+fn write_some<L: Write>(writer: &mut L, bytes: &[u8]) -> usize
+    ensures within { result ≤ length bytes.now }
+    ensures taken { Appends (L.contents writer.old) (L.contents writer.new) (take result bytes.now) }
+{
+    match writer.write(bytes) {
+        Ok(count) => count,
+        Err(_) => 0,
     }
 }
 
