@@ -1,6 +1,7 @@
 //! Keeps the whole files of a hub's customers in a spool file, and opens a hub that has them.
 #![tactic(auto)]
 
+mod adding;
 mod beginning;
 mod fault;
 mod following;
@@ -16,6 +17,7 @@ mod portions;
 mod records;
 mod remembering;
 mod restoring;
+mod rewriting;
 mod rows;
 mod sound;
 mod step;

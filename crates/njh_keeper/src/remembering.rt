@@ -15,8 +15,9 @@ ghost use Rattle.njh_spool.specs.CustomerSpool.{WholeFile};
 ghost use Rattle.njh_spoolfile.specs.Kept.{File, entry_of};
 ghost use Rattle.njh_spoolfile.specs.Shelf.{shown};
 
-use crate::following::{change_row, names_several};
+use crate::adding::names_several;
 use crate::own_files::{HubFile, KeptWhole, OwnFiles};
+use crate::rewriting::change_row;
 use crate::rows::{is_held, name_text, reads_as};
 use crate::writer::{SpoolWriter, astray};
 use njh_ebcdic::Name;

@@ -1,5 +1,5 @@
 use Rattle.{std.proofs.Common.{◌≡◌, take}, njh_keeper.specs.code.Writing.marked_by}
-use Rattle.njh_keeper.proofs.writer.mark_keys.Given as goal
+use Rattle.njh_keeper.proofs.writer.free_numbers.mark_keys.Given as goal
 
 -- those of so many files are marked
 abbrev pub invariant-loop-stored : goal.invariant-loop-stored

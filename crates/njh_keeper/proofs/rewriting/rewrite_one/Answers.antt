@@ -3,7 +3,7 @@ use Words.{◌≡◌, ◌<◌, false, true, length, get_or, set, refl, sym, ap, 
 use Words.{length-map, map-set, with_item, FileSummaryView, Writes, GoesTo, memory_of, numbers_of, whole_of}
 use Rattle.njh_keeper.proofs.{LeadingLaws.{clean_before, leads_by, leads_then, survives_both}, StillLaws.memory_changed}
 use Rattle.njh_keeper.proofs.StillLaws.{now_rewritten, rewritten_goes}
-use Rattle.njh_keeper.proofs.following.rewrite_one.Goals as goal
+use Rattle.njh_keeper.proofs.rewriting.rewrite_one.Goals as goal
 
 pub returns-clause-led : goal.returns-clause-led
 returns-clause-led g c f hub_file kept kept_is one clean =

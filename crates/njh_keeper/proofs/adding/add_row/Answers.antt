@@ -3,7 +3,7 @@ use Words.{rules, ◌≡◌, [], ◌∷◌, map, refl, ap, subst, ◌∙◌, map
 use Words.{FileSummaryView, IsRowFor, memory_of, numbers_of, whole_of, SpoolWriter}
 use Rattle.njh_turns.proofs.KeepingLaws.{on_ok}
 use Rattle.njh_keeper.specs.declared.own_files.KeptWhole as declared
-use Rattle.njh_keeper.proofs.following.add_row.Goals as goal
+use Rattle.njh_keeper.proofs.adding.add_row.Goals as goal
 
 pub returns-clause-added : goal.returns-clause-added
 returns-clause-added g c f hub_file clean =

@@ -2,7 +2,7 @@ use Rattle.std.proofs.{Common.{◌≤◌, map, refl, sym, ap, subst, ◌∙◌, 
 use Rattle.{std.specs.Prelude.string_bytes, njh_keeper.proofs.HandLaws.{key_leads, partial_leads}}
 use Rattle.njh_keeper.{proofs.ListLaws.map-remove, specs.code.{Following.memory_of, Memory.{numbers_of, own_of}}}
 use Rattle.njh_keeper.specs.{code.Memory.partial_of, declared.own_files.OwnFiles.OwnFiles}
-use Rattle.njh_keeper.proofs.following.place_for.Goals as goal
+use Rattle.njh_keeper.proofs.adding.place_for.Goals as goal
 
 pub returns-in-Some-clause-led : goal.returns-in-Some-clause-led
 returns-in-Some-clause-led g c f number records clean =

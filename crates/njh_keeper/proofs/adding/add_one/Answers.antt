@@ -2,7 +2,7 @@ use Rattle.njh_keeper.proofs.Words
 use Words.{◌≡◌, true, ap, subst, AllByRecursion, ok_then, shown, FileSummaryView, Writes, AddsRow, memory_of, Leads}
 use Words.{numbers_of, FitsHub}
 use Rattle.njh_keeper.proofs.{HandLaws.add_leads, LeadingLaws.{clean_before, survives_both}}
-use Rattle.njh_keeper.proofs.following.add_one.Goals as goal
+use Rattle.njh_keeper.proofs.adding.add_one.Goals as goal
 
 pub returns-clause-led : goal.returns-clause-led
 returns-clause-led g c f hub_file clean =

@@ -1,7 +1,7 @@
 use Rattle.std.proofs.Common.{None, sym, ap, subst, ◌∙◌}
 use Rattle.njh_hub.specs.declared.file_summary.FileSummaryView.{FileSummaryView}
 use Rattle.njh_keeper.{proofs.StillLaws.{job_is_named, one_is_named}, specs.code.Nodes.{AreOne, named_nodes}}
-use Rattle.njh_keeper.proofs.following.names_several.Goals as goal
+use Rattle.njh_keeper.proofs.adding.names_several.Goals as goal
 
 pub returns-in-In : goal.returns-in-In
 returns-in-In c f hub_file none = job_is_named f.kind f.records hub_file.headers.destination hub_file.headers.goes

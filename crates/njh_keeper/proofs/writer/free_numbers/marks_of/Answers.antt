@@ -1,6 +1,6 @@
 use Rattle.std.proofs.{Common.{◌≡◌, false, length, replicate, ap, sym, ◌∙◌}, lemmas.List.{take_at, length-replicate}}
 use Rattle.njh_keeper.{proofs.OpeningNumbers.marks_stay, specs.code.Writing.marked_by}
-use Rattle.njh_keeper.proofs.writer.marks_of.Goals as goal
+use Rattle.njh_keeper.proofs.writer.free_numbers.marks_of.Goals as goal
 
 pub returns : goal.returns
 returns c =

@@ -2,10 +2,10 @@ use Rattle.njh_keeper.proofs.Words
 use Words.{◌≡◌, ◌<◌, true, None, length, get_or, set, map, refl, sym, ap, subst, ◌∙◌, arith, get_or-map, get_or_default}
 use Words.{length-map, map-set, with_item, HasCleanDisk, shown, is_held, GoesTo, memory_of, numbers_of, whole_of}
 use Words.{AreOne, named_nodes, SpoolWriter}
-use Rattle.njh_keeper.proofs.following.change_state.Goals.{then-changes_hold+in_ok-change_row, else-changes_hold}
+use Rattle.njh_keeper.proofs.rewriting.change_state.Goals.{then-changes_hold+in_ok-change_row, else-changes_hold}
 use Rattle.njh_keeper.proofs.{LeadingLaws.{leads_by, leads_nothing, leads_weaker}, QuietLaws.quiet_changed}
 use Rattle.njh_keeper.proofs.{QuietLaws.quiet_same, StillLaws.{held_goes, kept_goes, memory_changed, now_kept}}
-use Rattle.njh_keeper.proofs.following.change_state.Goals as goal
+use Rattle.njh_keeper.proofs.rewriting.change_state.Goals as goal
 
 pub returns-clause-led : goal.returns-clause-led
 returns-clause-led g c f hub_file kept kept_is said several clean =

@@ -1,0 +1,164 @@
+//! What changed of a whole file that was kept before is written anew.
+
+ghost use Rattle.std.specs.Prelude.{◌≡◌, ◌<◌, true, false, None, get_or, length, set, string_bytes, OnOk};
+ghost use Rattle.njh_stream.specs.SpoolFiles.{records_in};
+ghost use Rattle.njh_hub.specs.WholeHub.{part};
+ghost use Rattle.njh_turns.specs.Keeping.{is_held};
+ghost use Rattle.njh_spool.specs.CustomerSpool.{WholeFile};
+ghost use Rattle.njh_spoolfile.specs.Shelf.{shown};
+ghost use Rattle.sqlite.specs.State.{HasCleanDisk, Survives};
+ghost use Rattle.njh_keeper.specs.declared.own_files.KeptWhole.{KeptWhole};
+ghost use Rattle.njh_keeper.specs.code.Following.{ChangesRow, IsHubFile, IsQuiet, IsStillAt, LeadsFiles, memory_of};
+ghost use Rattle.njh_keeper.specs.code.Nodes.{AreOne, named_nodes};
+
+use crate::hub_records::{is_mixed, job_of, write_records};
+use crate::own_files::{HubFile, KeptWhole, OwnFiles};
+use crate::rows::{is_held, row_of};
+use crate::writer::SpoolWriter;
+use njh_hub::{FileSummaryView, Hub};
+use njh_spool::State;
+use sqlite::{Alter, Error};
+
+/// Writes anew what changed of a file that was there.
+pub(crate) fn follow_one<S: Alter + Drop>(
+    writer: &mut SpoolWriter<S>,
+    own: &mut OwnFiles,
+    place: usize,
+    hub: &Hub,
+    file: HubFile,
+    summary: &FileSummaryView,
+) -> Result<(), Error>
+    requires { place < length own.old.whole.items }
+    ensures led { (g : WholeFile) → IsHubFile hub.now file summary.now g → HasCleanDisk (shown S.Store writer.new.store)
+        → OnOk result (LeadsFiles (memory_of writer.old own.old) (memory_of writer.new own.new)
+        (λ s files. IsStillAt files place g) (λ files now. now ≡ set files place g)
+        (shown S.Store writer.old.store) (shown S.Store writer.new.store)) }
+    ensures long { length own.new.whole.items ≡ length own.old.whole.items }
+    ensures quiet { OnOk result (IsQuiet writer.old writer.new) }
+    ensures crash { Survives (shown S.Store writer.old.store) (shown S.Store writer.new.store) (λ _. ⊥) }
+{
+    let kept = own.whole[place];
+    let looked_at = file;
+    let is_rewritten = is_rewritten(&kept, hub, looked_at, summary);
+    if is_rewritten {
+        return rewrite_one(writer, own, place, hub, file, summary);
+    }
+    change_state(writer, own, place, hub, file, summary)
+}
+
+/// Writes a file's headers and its row anew.
+fn rewrite_one<S: Alter + Drop>(
+    writer: &mut SpoolWriter<S>,
+    own: &mut OwnFiles,
+    place: usize,
+    hub: &Hub,
+    file: HubFile,
+    summary: &FileSummaryView,
+) -> Result<(), Error>
+    requires { place < length own.old.whole.items }
+    ensures led { (g : WholeFile) → IsHubFile hub.now file summary.now g
+        → (k : KeptWhole) → k ≡ get_or own.old.whole.items place k
+        → (k.destination ≡ summary.now.destination → AreOne (named_nodes None g.records))
+        → HasCleanDisk (shown S.Store writer.new.store)
+        → OnOk result (LeadsFiles (memory_of writer.old own.old) (memory_of writer.new own.new)
+        (λ s files. IsStillAt files place g) (λ files now. now ≡ set files place g)
+        (shown S.Store writer.old.store) (shown S.Store writer.new.store)) }
+    ensures long { length own.new.whole.items ≡ length own.old.whole.items }
+    ensures due { OnOk result (writer.new.is_changed ≡ true) }
+    ensures crash { Survives (shown S.Store writer.old.store) (shown S.Store writer.new.store) (λ _. ⊥) }
+{
+    let kept = own.whole[place];
+    let written = file;
+    write_records(writer, hub, written, kept.key, summary.records, true)?;
+    let now = KeptWhole {
+        state: summary.state,
+        destination: summary.destination,
+        is_mixed: false,
+        ..kept
+    };
+    change_row(writer, own, hub, file, &now, summary)?;
+    own.whole[place] = now;
+    Ok(())
+}
+
+/// Notes a file's state. Where it is Held now and wasn't, or the other way, its row is written
+/// anew.
+fn change_state<S: Alter + Drop>(
+    writer: &mut SpoolWriter<S>,
+    own: &mut OwnFiles,
+    place: usize,
+    hub: &Hub,
+    file: HubFile,
+    summary: &FileSummaryView,
+) -> Result<(), Error>
+    requires { place < length own.old.whole.items }
+    ensures led { (g : WholeFile) → IsHubFile hub.now file summary.now g
+        → (k : KeptWhole) → k ≡ get_or own.old.whole.items place k → k.destination ≡ summary.now.destination
+        → (k.is_mixed ≡ true → ¬ AreOne (named_nodes None g.records)) → HasCleanDisk (shown S.Store writer.new.store)
+        → OnOk result (LeadsFiles (memory_of writer.old own.old) (memory_of writer.new own.new)
+        (λ s files. IsStillAt files place g) (λ files now. now ≡ set files place g)
+        (shown S.Store writer.old.store) (shown S.Store writer.new.store)) }
+    ensures long { length own.new.whole.items ≡ length own.old.whole.items }
+    ensures quiet { OnOk result (IsQuiet writer.old writer.new) }
+    ensures crash { Survives (shown S.Store writer.old.store) (shown S.Store writer.new.store) (λ _. ⊥) }
+{
+    let kept = own.whole[place];
+    let now = KeptWhole {
+        state: summary.state,
+        ..kept
+    };
+    if changes_hold(kept.state, summary.state) {
+        change_row(writer, own, hub, file, &now, summary)?;
+    }
+    own.whole[place] = now;
+    Ok(())
+}
+
+/// Whether a file is Held now and wasn't, or the other way.
+fn changes_hold(before: State, now: State) -> bool
+    ensures { result ≡ false → is_held now ≡ is_held before }
+{
+    is_held(now) != is_held(before)
+}
+
+/// Puts a whole file's row as it is now in the place of the one that it had.
+pub(crate) fn change_row<S: Alter + Drop>(
+    writer: &mut SpoolWriter<S>,
+    own: &OwnFiles,
+    hub: &Hub,
+    file: HubFile,
+    kept: &KeptWhole,
+    summary: &FileSummaryView,
+) -> Result<(), Error>
+    ensures changed { HasCleanDisk (shown S.Store writer.new.store) → OnOk result (ChangesRow
+        (string_bytes own.now.text) kept.now.id kept.now.key summary.now
+        (shown S.Store writer.old.store) (shown S.Store writer.new.store)) }
+    ensures others { writer.new
+        ≡ record writer.old { store = writer.new.store; is_changed = writer.new.is_changed } }
+    ensures due { OnOk result (writer.new.is_changed ≡ true) }
+    ensures crash { Survives (shown S.Store writer.old.store) (shown S.Store writer.new.store) (λ _. ⊥) }
+{
+    let row = row_of(
+        writer.alloc,
+        own.text.as_str(),
+        kept,
+        summary,
+        job_of(hub, file),
+    )?;
+    let changed = writer.change_file(kept.id, &row);
+    drop(row);
+    changed
+}
+
+/// Whether a file's headers were rewritten: its destination is another, or its data set headers
+/// named more than one node and don't any more.
+fn is_rewritten(kept: &KeptWhole, hub: &Hub, file: HubFile, summary: &FileSummaryView) -> bool
+    ensures same { result ≡ false → kept.now.destination ≡ summary.now.destination }
+    ensures several { result ≡ false → kept.now.is_mixed ≡ true
+        → ¬ AreOne (named_nodes None (records_in file.number (part file.customer hub.now).customer.spool)) }
+    ensures one { result ≡ true → kept.now.destination ≡ summary.now.destination
+        → AreOne (named_nodes None (records_in file.number (part file.customer hub.now).customer.spool)) }
+{
+    // One that goes out may have been refused, sent elsewhere and asked for again in one step.
+    kept.destination != summary.destination || kept.is_mixed && !is_mixed(hub, file)
+}

@@ -1,0 +1,137 @@
+//! Which numbers are next and which are free when a spool file was opened.
+
+ghost use Rattle.std.specs.Prelude.{◌≡◌, ◌+◌, ◌-◌, ◌^◌, ◌++◌, ⊤, false, min, replicate, IfOk, OnOk};
+ghost use Rattle.sqlite.specs.State.{HasCleanDisk, Survives};
+ghost use Rattle.njh_spoolfile.specs.Kept.{without_records};
+ghost use Rattle.njh_spoolfile.specs.Shelf.{shown};
+ghost use Rattle.njh_spoolfile.specs.CommitState.{CommitState, Stands};
+ghost use Rattle.njh_spoolfile.specs.Steps.{Changes};
+ghost use Rattle.njh_keeper.specs.code.Writing.{AreBelow, below, emptied_at, free_at, id_behind, is_marked, key_behind};
+ghost use Rattle.njh_keeper.specs.code.Writing.{marked_by, shows_kept, shows_now, unmarked, without_keys};
+
+use crate::writer::{PLACES, SpoolWriter};
+use njh_spoolfile::StoredFile;
+use sqlite::{Alter, Error};
+use std::alloc::{AllocError, Global};
+
+/// Up to which number those are looked for that no file's records stand under, when a spool file is
+/// opened.
+const LOOKED_FOR: u32 = 200_000;
+
+/// How many numbers after those of files are emptied then.
+const MARGIN: u32 = 64;
+
+impl<S: Alter + Drop> SpoolWriter<S> {
+    /// Begins after the numbers of these files, which are all. What stands under numbers of no
+    /// file is dropped, as far as it is looked for.
+    pub(crate) fn begin_numbers(&mut self, files: &[StoredFile]) -> Result<(), Error>
+        ensures begun { HasCleanDisk (shown S.Store self.new.store) → OnOk result ((s : CommitState)
+            → Stands s (shown S.Store self.old.store) → Stands (shows_kept (without_keys (emptied_at files.now
+            (key_behind self.old.next_key files.now))) s) (shown S.Store self.new.store)) }
+        ensures numbers { OnOk result ((self.new.next_id ≡ id_behind self.old.next_id files.now)
+            × (self.new.next_key ≡ key_behind self.old.next_key files.now)
+            × (self.new.free_keys.items ≡ self.old.free_keys.items ++ free_at files.now self.new.next_key)
+            × (self.new.waiting ≡ 0) × (self.new.is_changed ≡ false)) }
+        ensures others { (self.new.sweeps ≡ self.old.sweeps) × (self.new.now ≡ self.old.now) }
+        ensures crash { Survives (shown S.Store self.old.store) (shown S.Store self.new.store) (λ _. ⊤) }
+    {
+        self.go_behind(files);
+        self.empty_others(files)?;
+        self.commit()
+    }
+
+    /// The next numbers are after those of these files.
+    fn go_behind(&mut self, files: &[StoredFile])
+        ensures { self.new ≡ record self.old {
+          next_id = id_behind self.old.next_id files.now;
+          next_key = key_behind self.old.next_key files.now;
+        } }
+    {
+        for stored in files {
+            self.next_id = self.next_id.max(stored.id.saturating_add(1));
+            self.next_key = self.next_key.max(stored.file.key.saturating_add(1));
+        }
+    }
+
+    /// Drops what stands under numbers of none of these files, as far as it is looked for.
+    fn empty_others(&mut self, files: &[StoredFile]) -> Result<(), Error>
+        requires below { AreBelow files.now self.old.next_key }
+        ensures emptied { HasCleanDisk (shown S.Store self.new.store) → OnOk result ((s : CommitState)
+            → Stands s (shown S.Store self.old.store) → Stands (shows_now (without_keys (emptied_at files.now
+            self.old.next_key)) s) (shown S.Store self.new.store)) }
+        ensures free { OnOk result (self.new.free_keys.items
+            ≡ self.old.free_keys.items ++ free_at files.now self.old.next_key) }
+        ensures others { self.new ≡ record self.old { store = self.new.store; free_keys = self.new.free_keys } }
+        ensures crash { Survives (shown S.Store self.old.store) (shown S.Store self.new.store) (λ _. ⊥) }
+    {
+        if self.next_key > LOOKED_FOR {
+            return Ok(());
+        }
+        let marks = marks_of(self.alloc, files)?;
+        let emptied = self.empty_unmarked(&marks);
+        drop(marks);
+        emptied
+    }
+
+    /// Drops what stands under numbers without a mark, up to a few after those of files.
+    fn empty_unmarked(&mut self, marks: &[bool]) -> Result<(), Error>
+        ensures emptied { HasCleanDisk (shown S.Store self.new.store) → OnOk result ((s : CommitState)
+            → Stands s (shown S.Store self.old.store) → Stands (shows_now (without_keys (unmarked marks.now
+            (min (self.old.next_key + 64) (2 ^ 32 - 1)))) s) (shown S.Store self.new.store)) }
+        ensures free { OnOk result (self.new.free_keys.items
+            ≡ self.old.free_keys.items ++ unmarked marks.now self.old.next_key) }
+        ensures others { self.new ≡ record self.old { store = self.new.store; free_keys = self.new.free_keys } }
+        ensures crash { Survives (shown S.Store self.old.store) (shown S.Store self.new.store) (λ _. ⊥) }
+    {
+        for key in 0..self.next_key.saturating_add(MARGIN) {
+            if !is_marked(marks, key) {
+                self.empty_key(key)?;
+            }
+        }
+        Ok(())
+    }
+
+    /// Drops what stands under a number of no file. One that was taken before is free again.
+    fn empty_key(&mut self, key: u32) -> Result<(), Error>
+        ensures emptied { HasCleanDisk (shown S.Store self.new.store) → OnOk result (Changes
+            (without_records key 0 (2 ^ 23)) (shown S.Store self.old.store) (shown S.Store self.new.store)) }
+        ensures free { OnOk result (self.new.free_keys.items
+            ≡ self.old.free_keys.items ++ below self.old.next_key key) }
+        ensures crash { Survives (shown S.Store self.old.store) (shown S.Store self.new.store) (λ _. ⊥) }
+        ensures others { self.new ≡ record self.old { store = self.new.store; free_keys = self.new.free_keys } }
+    {
+        self.store.drop_records(key, 0, PLACES)?;
+        if key < self.next_key {
+            self.free_keys.push(key)?;
+        }
+        Ok(())
+    }
+}
+
+/// Whether a number has a mark.
+fn is_marked(marks: &[bool], key: u32) -> bool
+    ensures { result ≡ is_marked marks.now key }
+{
+    (key as usize) < marks.len() && marks[key as usize]
+}
+
+/// A mark for each number that files' records stand under, of those that are looked for.
+fn marks_of(alloc: Global, files: &[StoredFile]) -> Result<Vec<bool>, AllocError>
+    ensures { IfOk result (λ marks. marks.items ≡ marked_by (replicate 200000 false) files.now) }
+{
+    let mut marks = vec![in alloc; false; LOOKED_FOR as usize]?;
+    mark_keys(&mut marks, files);
+    Ok(marks)
+}
+
+/// Marks the numbers that files' records stand under.
+fn mark_keys(marks: &mut [bool], files: &[StoredFile])
+    ensures { marks.new ≡ marked_by marks.old files.now }
+{
+    for stored in files {
+        let key = stored.file.key as usize;
+        if key < marks.len() {
+            marks[key] = true;
+        }
+    }
+}
