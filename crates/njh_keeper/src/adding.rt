@@ -22,10 +22,11 @@ pub(crate) fn add_one<S: Alter + Drop>(
     writer: &mut SpoolWriter<S>,
     own: &mut OwnFiles,
     hub: &Hub,
-    file: HubFile,
+    file: &HubFile,
     summary: &FileSummaryView,
 ) -> Result<(), Error>
-    ensures led { (g : WholeFile) → IsHubFile hub.now file summary.now g → HasCleanDisk (shown S.Store writer.new.store)
+    ensures led { (g : WholeFile) → IsHubFile hub.now file.now summary.now g
+        → HasCleanDisk (shown S.Store writer.new.store)
         → OnOk result (LeadsFiles (memory_of writer.old own.old) (memory_of writer.new own.new)
         (λ s files. AreFronts s (own_of own.old).partial (g ∷ [])) (λ files now. now ≡ files ++ g ∷ [])
         (shown S.Store writer.old.store) (shown S.Store writer.new.store)) }
@@ -33,10 +34,8 @@ pub(crate) fn add_one<S: Alter + Drop>(
     ensures crash { Survives (shown S.Store writer.old.store) (shown S.Store writer.new.store) (λ _. ⊥) }
 {
     let place = place_for(writer, own, file.number, summary.records)?;
-    let RecordsPlace { key, written } = place;
-    let finished = file;
-    write_records(writer, hub, finished, key, written, true)?;
-    add_row(writer, own, hub, file, key, summary)
+    write_records(writer, hub, file, place.key, place.written, true)?;
+    add_row(writer, own, hub, file, place.key, summary)
 }
 
 /// Where records of a file are to stand, and how many stand there already.
@@ -78,18 +77,17 @@ fn add_row<S: Alter + Drop>(
     writer: &mut SpoolWriter<S>,
     own: &mut OwnFiles,
     hub: &Hub,
-    file: HubFile,
+    file: &HubFile,
     key: u32,
     summary: &FileSummaryView,
 ) -> Result<(), Error>
-    ensures added { (g : WholeFile) → IsHubFile hub.now file summary.now g
+    ensures added { (g : WholeFile) → IsHubFile hub.now file.now summary.now g
         → HasCleanDisk (shown S.Store writer.new.store) → OnOk result (AddsRow key summary.now g
         (memory_of writer.old own.old) (memory_of writer.new own.new)
         (shown S.Store writer.old.store) (shown S.Store writer.new.store)) }
     ensures due { OnOk result (writer.new.is_changed ≡ true) }
     ensures crash { Survives (shown S.Store writer.old.store) (shown S.Store writer.new.store) (λ _. ⊥) }
 {
-    let looked_at = file;
     let kept = KeptWhole {
         id: writer.take_id()?,
         key,
@@ -97,7 +95,7 @@ fn add_row<S: Alter + Drop>(
         records: summary.records,
         state: summary.state,
         destination: summary.destination,
-        is_mixed: names_several(hub, looked_at, summary),
+        is_mixed: names_several(hub, file, summary),
         came: writer.now,
     };
     own.whole.push(kept)?;
@@ -114,8 +112,9 @@ fn add_row<S: Alter + Drop>(
 }
 
 /// Whether a file's headers name more than one node.
-pub(crate) fn names_several(hub: &Hub, file: HubFile, summary: &FileSummaryView) -> bool
-    ensures { (g : WholeFile) → IsHubFile hub.now file summary.now g → result ≡ false → NameOneNode g.kind g.records }
+pub(crate) fn names_several(hub: &Hub, file: &HubFile, summary: &FileSummaryView) -> bool
+    ensures { (g : WholeFile) → IsHubFile hub.now file.now summary.now g → result ≡ false
+        → NameOneNode g.kind g.records }
 {
     match summary.kind {
         Kind::In => false,

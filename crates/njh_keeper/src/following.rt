@@ -104,7 +104,7 @@ fn follow_at<S: Alter + Drop>(
     }
     let summary = hub.summary_at(customer, index);
     let file = HubFile { customer, number };
-    follow_one(writer, own, place, hub, file, &summary)
+    follow_one(writer, own, place, hub, &file, &summary)
 }
 
 /// Adds the files from this index on, which became whole.
@@ -130,7 +130,7 @@ fn add_new<S: Alter + Drop>(
     for index in old..count {
         let summary = hub.summary_at(customer, index);
         let number = hub.number_at(customer, index);
-        add_one(writer, own, hub, HubFile { customer, number }, &summary)?;
+        add_one(writer, own, hub, &HubFile { customer, number }, &summary)?;
     }
     Ok(())
 }

@@ -29,16 +29,16 @@ const BLANKS: [u8; 8] = [0x40; 8];
 pub(crate) fn write_records<S: Alter + Drop>(
     writer: &mut SpoolWriter<S>,
     hub: &Hub,
-    file: HubFile,
+    file: &HubFile,
     key: u32,
     written: u32,
     is_old: bool,
 ) -> Result<(), Error>
     ensures led { HasCleanDisk (shown S.Store writer.new.store) → OnOk result (Leads (Writes is_old key written
-        (records_in file.number (part file.customer hub.now).customer.spool))
+        (records_in file.now.number (part file.now.customer hub.now).customer.spool))
         (shown S.Store writer.old.store) (shown S.Store writer.new.store)) }
     ensures fit { OnOk result (AllByRecursion FitsHub
-        (records_in file.number (part file.customer hub.now).customer.spool)) }
+        (records_in file.now.number (part file.now.customer hub.now).customer.spool)) }
     ensures others { OnOk result (writer.new
         ≡ record writer.old { store = writer.new.store; waiting = writer.new.waiting }) }
     ensures crash { Survives (shown S.Store writer.old.store) (shown S.Store writer.new.store) (λ _. ⊥) }
@@ -76,11 +76,11 @@ fn is_old_header(is_old: bool, srcb: u8) -> bool
 }
 
 /// Whether a file's data set headers name more than one node.
-pub(crate) fn is_mixed(hub: &Hub, file: HubFile) -> bool
+pub(crate) fn is_mixed(hub: &Hub, file: &HubFile) -> bool
     ensures one { result ≡ false
-        → AreOne (named_nodes None (records_in file.number (part file.customer hub.now).customer.spool)) }
+        → AreOne (named_nodes None (records_in file.now.number (part file.now.customer hub.now).customer.spool)) }
     ensures several { result ≡ true
-        → ¬ AreOne (named_nodes None (records_in file.number (part file.customer hub.now).customer.spool)) }
+        → ¬ AreOne (named_nodes None (records_in file.now.number (part file.now.customer hub.now).customer.spool)) }
 {
     let count = hub.record_count(file.customer, file.number);
     match hub.read_file(file.customer, file.number) {
@@ -149,7 +149,7 @@ fn node_of(before: u8, srcb: u8, bytes: &[u8]) -> Option<Name>
 }
 
 /// The job's name, as a file's job header has it; blanks if it doesn't read.
-pub(crate) fn job_of(hub: &Hub, file: HubFile) -> [u8; 8] {
+pub(crate) fn job_of(hub: &Hub, file: &HubFile) -> [u8; 8] {
     let Some(mut records) = hub.read_file(file.customer, file.number) else {
         return BLANKS;
     };

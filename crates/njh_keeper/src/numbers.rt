@@ -48,7 +48,7 @@ fn do_rise(keys: &[u32]) -> bool
     ensures { result ≡ rises 0 keys.now }
 {
     let mut least = 0;
-    for (place, key) in keys.iter().enumerate() {
+    for key in keys {
         if *key < least || *key >= u32::MAX {
             return false;
         }
@@ -61,7 +61,7 @@ fn do_rise(keys: &[u32]) -> bool
 fn ids_are_low(files: &[StoredFile]) -> bool
     ensures { result ≡ have_low_ids files.now }
 {
-    for (place, stored) in files.iter().enumerate() {
+    for stored in files {
         if stored.id >= u32::MAX {
             return false;
         }

@@ -55,11 +55,10 @@ fn find<S: Alter>(
 }
 
 /// What is told of the file at which it stopped.
-fn refusal_of(stop: Stop, files: Vec<StoredFile>) -> OpeningFault
+fn refusal_of(stop: Stop, mut files: Vec<StoredFile>) -> OpeningFault
     requires { stop.at < length files.items }
     ensures { IsRefusalOf stop.cause stop.at files.items result }
 {
-    let mut files = files;
     match stop.cause {
         StopCause::Store(error) => OpeningFault::Store(error),
         StopCause::File(fault) => {
@@ -73,7 +72,7 @@ fn refusal_of(stop: Stop, files: Vec<StoredFile>) -> OpeningFault
 fn fill<S: Alter>(
     alloc: Global,
     store: &mut Store<S>,
-    hub: Hub,
+    mut hub: Hub,
     found: Found,
 ) -> Result<Hub, OpeningFault>
     requires same { length hub ≡ length found.names.items }
@@ -94,7 +93,6 @@ fn fill<S: Alter>(
         → Stays (shown S.Store store.old) (shown S.Store store.new)) }
     ensures crash { Survives (shown S.Store store.old) (shown S.Store store.new) (λ _. ⊥) }
 {
-    let mut hub = hub;
     let Found { names, files } = found;
     match restore_all(alloc, store, &mut hub, names.as_slice(), files.as_slice()) {
         Ok(()) => Ok(hub),

@@ -84,7 +84,7 @@ fn keep_of_line<S: Alter + Drop>(
     for receiver in receivers {
         if let Receiver::Open { file, .. } = *receiver {
             let number = file;
-            keep_portion(writer, own, hub, HubFile { customer, number })?;
+            keep_portion(writer, own, hub, &HubFile { customer, number })?;
         }
     }
     Ok(())
@@ -95,11 +95,11 @@ fn keep_portion<S: Alter + Drop>(
     writer: &mut SpoolWriter<S>,
     own: &mut OwnFiles,
     hub: &Hub,
-    file: HubFile,
+    file: &HubFile,
 ) -> Result<(), Error>
-    requires partial { records_in file.number (part file.customer hub.now).customer.spool
-        ≡ partial_records file.number (part file.customer hub.now).customer.spool }
-    ensures kept { OnOk result (KeepsPartly S.Store (part file.customer hub.now).customer.spool writer.old own.old
+    requires partial { records_in file.now.number (part file.now.customer hub.now).customer.spool
+        ≡ partial_records file.now.number (part file.now.customer hub.now).customer.spool }
+    ensures kept { OnOk result (KeepsPartly S.Store (part file.now.customer hub.now).customer.spool writer.old own.old
         writer.new own.new) }
     ensures crash { Survives (shown S.Store writer.old.store) (shown S.Store writer.new.store) (λ _. ⊥) }
 {
@@ -121,13 +121,13 @@ fn begin<S: Alter + Drop>(
     writer: &mut SpoolWriter<S>,
     own: &mut OwnFiles,
     hub: &Hub,
-    file: HubFile,
+    file: &HubFile,
     key: u32,
 ) -> Result<(), Error>
-    requires partial { records_in file.number (part file.customer hub.now).customer.spool
-        ≡ partial_records file.number (part file.customer hub.now).customer.spool }
-    requires many { 1366 ≤ length (records_in file.number (part file.customer hub.now).customer.spool) }
-    ensures kept { OnOk result (KeepsPartlyNew S.Store key (part file.customer hub.now).customer.spool writer.old
+    requires partial { records_in file.now.number (part file.now.customer hub.now).customer.spool
+        ≡ partial_records file.now.number (part file.now.customer hub.now).customer.spool }
+    requires many { 1366 ≤ length (records_in file.now.number (part file.now.customer hub.now).customer.spool) }
+    ensures kept { OnOk result (KeepsPartlyNew S.Store key (part file.now.customer hub.now).customer.spool writer.old
         own.old writer.new own.new) }
     ensures crash { Survives (shown S.Store writer.old.store) (shown S.Store writer.new.store) (λ _. ⊥) }
 {
@@ -157,26 +157,25 @@ fn go_on<S: Alter + Drop>(
     writer: &mut SpoolWriter<S>,
     own: &mut OwnFiles,
     hub: &Hub,
-    file: HubFile,
+    file: &HubFile,
     place: usize,
 ) -> Result<(), Error>
-    requires partial { records_in file.number (part file.customer hub.now).customer.spool
-        ≡ partial_records file.number (part file.customer hub.now).customer.spool }
+    requires partial { records_in file.now.number (part file.now.customer hub.now).customer.spool
+        ≡ partial_records file.now.number (part file.now.customer hub.now).customer.spool }
     requires within { place < length own.old.partial.items }
-    requires found { IsSomeAnd (slice_get own.old.partial.items place) (λ p. (p.number ≡ file.number)
-        × (p.seen ≤ length (records_in file.number (part file.customer hub.now).customer.spool))) }
-    requires many { 1366 ≤ length (records_in file.number (part file.customer hub.now).customer.spool) }
-    ensures kept { OnOk result (KeepsPartly S.Store (part file.customer hub.now).customer.spool writer.old own.old
+    requires found { IsSomeAnd (slice_get own.old.partial.items place) (λ p. (p.number ≡ file.now.number)
+        × (p.seen ≤ length (records_in file.now.number (part file.now.customer hub.now).customer.spool))) }
+    requires many { 1366 ≤ length (records_in file.now.number (part file.now.customer hub.now).customer.spool) }
+    ensures kept { OnOk result (KeepsPartly S.Store (part file.now.customer hub.now).customer.spool writer.old own.old
         writer.new own.new) }
     ensures crash { Survives (shown S.Store writer.old.store) (shown S.Store writer.new.store) (λ _. ⊥) }
 {
     let partial = own.partial[place];
     let seen = hub.record_count(file.customer, file.number);
-    let is_open = true;
     if seen.saturating_sub(partial.written) < PORTION {
         own.partial[place] = KeptPartial {
             seen,
-            is_open,
+            is_open: true,
             ..partial
         };
         return Ok(());
@@ -185,7 +184,7 @@ fn go_on<S: Alter + Drop>(
     own.partial[place] = KeptPartial {
         seen,
         written: seen,
-        is_open,
+        is_open: true,
         ..partial
     };
     Ok(())

@@ -36,8 +36,7 @@ impl FileContents {
             (λ contents. (are_records_of (file_of file.now) (map contents_of records.items) ≡ true)
             × (contents ≡ map as_stored (map contents_of records.items))) }
     {
-        let count = file.records;
-        if records.len() != count as usize || !are_records(records.as_slice()) {
+        if records.len() != file.records as usize || !are_records(records.as_slice()) {
             return None;
         }
         Some(FileContents { records })

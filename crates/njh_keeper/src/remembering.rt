@@ -178,7 +178,7 @@ fn remember_one<S: Alter + Drop>(
         customer,
         number: kept.number,
     };
-    change_row(writer, own, hub, file, &kept, &summary)
+    change_row(writer, own, hub, &file, &kept, &summary)
 }
 
 /// What is remembered of the whole file of a customer that was put back from this row.
@@ -199,7 +199,7 @@ fn kept_at(hub: &Hub, customer: u16, index: u32, stored: &StoredFile) -> KeptWho
         records: summary.records,
         state: summary.state,
         destination: summary.destination,
-        is_mixed: names_several(hub, file, &summary),
+        is_mixed: names_several(hub, &file, &summary),
         came: stored.file.came,
     }
 }

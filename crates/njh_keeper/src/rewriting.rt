@@ -25,11 +25,12 @@ pub(crate) fn follow_one<S: Alter + Drop>(
     own: &mut OwnFiles,
     place: usize,
     hub: &Hub,
-    file: HubFile,
+    file: &HubFile,
     summary: &FileSummaryView,
 ) -> Result<(), Error>
     requires { place < length own.old.whole.items }
-    ensures led { (g : WholeFile) → IsHubFile hub.now file summary.now g → HasCleanDisk (shown S.Store writer.new.store)
+    ensures led { (g : WholeFile) → IsHubFile hub.now file.now summary.now g
+        → HasCleanDisk (shown S.Store writer.new.store)
         → OnOk result (LeadsFiles (memory_of writer.old own.old) (memory_of writer.new own.new)
         (λ s files. IsStillAt files place g) (λ files now. now ≡ set files place g)
         (shown S.Store writer.old.store) (shown S.Store writer.new.store)) }
@@ -38,9 +39,7 @@ pub(crate) fn follow_one<S: Alter + Drop>(
     ensures crash { Survives (shown S.Store writer.old.store) (shown S.Store writer.new.store) (λ _. ⊥) }
 {
     let kept = own.whole[place];
-    let looked_at = file;
-    let is_rewritten = is_rewritten(&kept, hub, looked_at, summary);
-    if is_rewritten {
+    if is_rewritten(&kept, hub, file, summary) {
         return rewrite_one(writer, own, place, hub, file, summary);
     }
     change_state(writer, own, place, hub, file, summary)
@@ -52,11 +51,11 @@ fn rewrite_one<S: Alter + Drop>(
     own: &mut OwnFiles,
     place: usize,
     hub: &Hub,
-    file: HubFile,
+    file: &HubFile,
     summary: &FileSummaryView,
 ) -> Result<(), Error>
     requires { place < length own.old.whole.items }
-    ensures led { (g : WholeFile) → IsHubFile hub.now file summary.now g
+    ensures led { (g : WholeFile) → IsHubFile hub.now file.now summary.now g
         → (k : KeptWhole) → k ≡ get_or own.old.whole.items place k
         → (k.destination ≡ summary.now.destination → AreOne (named_nodes None g.records))
         → HasCleanDisk (shown S.Store writer.new.store)
@@ -68,8 +67,7 @@ fn rewrite_one<S: Alter + Drop>(
     ensures crash { Survives (shown S.Store writer.old.store) (shown S.Store writer.new.store) (λ _. ⊥) }
 {
     let kept = own.whole[place];
-    let written = file;
-    write_records(writer, hub, written, kept.key, summary.records, true)?;
+    write_records(writer, hub, file, kept.key, summary.records, true)?;
     let now = KeptWhole {
         state: summary.state,
         destination: summary.destination,
@@ -88,11 +86,11 @@ fn change_state<S: Alter + Drop>(
     own: &mut OwnFiles,
     place: usize,
     hub: &Hub,
-    file: HubFile,
+    file: &HubFile,
     summary: &FileSummaryView,
 ) -> Result<(), Error>
     requires { place < length own.old.whole.items }
-    ensures led { (g : WholeFile) → IsHubFile hub.now file summary.now g
+    ensures led { (g : WholeFile) → IsHubFile hub.now file.now summary.now g
         → (k : KeptWhole) → k ≡ get_or own.old.whole.items place k → k.destination ≡ summary.now.destination
         → (k.is_mixed ≡ true → ¬ AreOne (named_nodes None g.records)) → HasCleanDisk (shown S.Store writer.new.store)
         → OnOk result (LeadsFiles (memory_of writer.old own.old) (memory_of writer.new own.new)
@@ -126,7 +124,7 @@ pub(crate) fn change_row<S: Alter + Drop>(
     writer: &mut SpoolWriter<S>,
     own: &OwnFiles,
     hub: &Hub,
-    file: HubFile,
+    file: &HubFile,
     kept: &KeptWhole,
     summary: &FileSummaryView,
 ) -> Result<(), Error>
@@ -152,12 +150,12 @@ pub(crate) fn change_row<S: Alter + Drop>(
 
 /// Whether a file's headers were rewritten: its destination is another, or its data set headers
 /// named more than one node and don't any more.
-fn is_rewritten(kept: &KeptWhole, hub: &Hub, file: HubFile, summary: &FileSummaryView) -> bool
+fn is_rewritten(kept: &KeptWhole, hub: &Hub, file: &HubFile, summary: &FileSummaryView) -> bool
     ensures same { result ≡ false → kept.now.destination ≡ summary.now.destination }
     ensures several { result ≡ false → kept.now.is_mixed ≡ true
-        → ¬ AreOne (named_nodes None (records_in file.number (part file.customer hub.now).customer.spool)) }
+        → ¬ AreOne (named_nodes None (records_in file.now.number (part file.now.customer hub.now).customer.spool)) }
     ensures one { result ≡ true → kept.now.destination ≡ summary.now.destination
-        → AreOne (named_nodes None (records_in file.number (part file.customer hub.now).customer.spool)) }
+        → AreOne (named_nodes None (records_in file.now.number (part file.now.customer hub.now).customer.spool)) }
 {
     // One that goes out may have been refused, sent elsewhere and asked for again in one step.
     kept.destination != summary.destination || kept.is_mixed && !is_mixed(hub, file)

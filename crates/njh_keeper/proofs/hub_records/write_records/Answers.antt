@@ -12,22 +12,22 @@ use Rattle.njh_keeper.proofs.hub_records.write_records.Goals as goal
 
 pub loop-place-init : goal.loop-place-init
 loop-place-init g c =
-    let spool = (part c.args.file.customer c.args.hub.now).customer.spool in
-    let all = records_in c.args.file.number spool in
+    let spool = (part c.args.file.now.customer c.args.hub.now).customer.spool in
+    let all = records_in c.args.file.now.number spool in
     let old = shown g.S.Store c.args.writer.now.store in
     record {
       crash = survives_here old (λ _. ⊥);
       led = λ clean. reach_begins c.args.key (AreBegun c.args.is_old c.args.written all) all
           (begun_front c.args.is_old c.args.written all);
-      left = file_is_read c.args.file.number spool c.in-Some.records
-          (sym {b = records_numbered c.args.file.number spool} c.read_file.ensures ∙ c.in-Some.is);
+      left = file_is_read c.args.file.now.number spool c.in-Some.records
+          (sym {b = records_numbered c.args.file.now.number spool} c.read_file.ensures ∙ c.in-Some.is);
       fit = tt;
       others = refl;
     }
 
 pub loop-place-preserved : goal.loop-place-preserved
 loop-place-preserved g c =
-    let all = records_in c.args.file.number (part c.args.file.customer c.args.hub.now).customer.spool in
+    let all = records_in c.args.file.now.number (part c.args.file.now.customer c.args.hub.now).customer.spool in
     let at = c.loop-place.place in
     let so_far = c.loop-place.invariant in
     let r : Stored = record { srcb = c.in-Some-next.srcb; bytes = c.next.new.into.items } in
@@ -89,7 +89,7 @@ loop-place-preserved g c =
 
 pub returns-in_default-next-clause-led : goal.returns-in_default-next-clause-led
 returns-in_default-next-clause-led g c =
-    let all = records_in c.args.file.number (part c.args.file.customer c.args.hub.now).customer.spool in
+    let all = records_in c.args.file.now.number (part c.args.file.now.customer c.args.hub.now).customer.spool in
     let at = c.loop-place.place in
     let so_far = c.loop-place.invariant in
     let past = none_is_left all at (c.in_default-next.ensures.first
@@ -98,7 +98,7 @@ returns-in_default-next-clause-led g c =
 
 pub returns-in_default-next-clause-fit : goal.returns-in_default-next-clause-fit
 returns-in_default-next-clause-fit g c =
-    let all = records_in c.args.file.number (part c.args.file.customer c.args.hub.now).customer.spool in
+    let all = records_in c.args.file.now.number (part c.args.file.now.customer c.args.hub.now).customer.spool in
     let at = c.loop-place.place in
     let so_far = c.loop-place.invariant in
     let past = none_is_left all at (c.in_default-next.ensures.first

@@ -8,7 +8,7 @@ abbrev pub invariant-loop-place : goal.invariant-loop-place
 invariant-loop-place g l =
     let old = shown g.S.Store l.fn.writer.store in
     let now = shown g.S.Store l.writer.store in
-    let all = records_in l.fn.file.number (part l.fn.file.customer l.hub).customer.spool in
+    let all = records_in l.file.number (part l.file.customer l.hub).customer.spool in
     record {
       crash : Survives old now (λ _. ⊥);
       led : HasCleanDisk now → Leads (Reaches l.key (AreBegun l.is_old l.written all) all l.place) old now;

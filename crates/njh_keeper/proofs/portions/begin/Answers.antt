@@ -7,12 +7,12 @@ use Rattle.njh_keeper.proofs.portions.begin.Goals as goal
 
 pub returns-clause-kept : goal.returns-clause-kept
 returns-clause-kept g c =
-    let now = (part c.args.file.customer c.args.hub.now).customer.spool in
+    let now = (part c.args.file.now.customer c.args.hub.now).customer.spool in
     let count = c.record_count-count.result in
-    let counted : count ≡ length (partial_records c.args.file.number now) =
+    let counted : count ≡ length (partial_records c.args.file.now.number now) =
     c.record_count-count.ensures ∙ ap length c.requires.partial in
     let p : KeptPartial = record {
-      number = c.args.file.number;
+      number = c.args.file.now.number;
       key = c.args.key;
       seen = count;
       written = count;
@@ -26,4 +26,4 @@ returns-clause-kept g c =
     counted (omega (arith, c.record_count-count.ensures, c.requires.many)) counted
     (λ clean. leads_weaker (subst (λ rs. Leads (Writes false c.args.key 0 rs) old new) c.requires.partial
     (c.in_ok-write_records.ensures.led clean)) (λ s t wrote h empty. wrote [] h empty
-    (begun_same 0 (partial_records c.args.file.number now) (omega arith))))) c.remember.ensures.last
+    (begun_same 0 (partial_records c.args.file.now.number now) (omega arith))))) c.remember.ensures.last

@@ -4,7 +4,7 @@ use Rattle.njh_keeper.proofs.portions.keep_portion.Goals as goal
 
 pub returns-in_ok-key-in-None-clause-kept : goal.returns-in_ok-key-in-None-clause-kept
 returns-in_ok-key-in-None-clause-kept g c =
-    let now = (part c.args.file.customer c.args.hub.now).customer.spool in
+    let now = (part c.args.file.now.customer c.args.hub.now).customer.spool in
     ok_then c.begin.result _ _ (λ kept.
     keeps_with_taken g.S.Store now c.args.writer.now c.take_key.new.self c.begin.new.writer c.args.own.now
     c.begin.new.own c.in_ok-key-in-None.key (clean_before c.begin.ensures.crash) c.in_ok-key-in-None.ensures.taken
