@@ -3,7 +3,7 @@ use Rattle.njh_keeper.proofs.Words
 use Words.{◌≡◌, ℕ, ◌+◌, ◌<◌, ◌≤◌, ◌==◌, ◌⊎◌, inl, inr, cond, List, [], length, get_or, count_by, take, Contains, Option}
 use Words.{Some, None, refl, sym, ap, subst, ◌∙◌, arith, length-append, recursion_from_All, AllByRecursion, Stored}
 use Words.{HasHeaders, SpoolContents, CustomerSpool, PartialFile, WholeFile, partial_numbered, partial_records, IsSound}
-use Words.{HaveHeaders, FilesGrow, HasShortRests, TakesGrowFiles, EventsKeepFiles, Survive, TakesKeepFiles, leaves}
+use Words.{HaveHeaders, FilesGrow, HasShortRests, Survive, leaves}
 use Words.{none, IsLed, AreAlike, AreFronts, GoOnIn, IsFrontOf, AllGoOn, AllUpToDate, GoesOn, IsUpToDate, KeptPartial}
 use Words.{OwnFiles}
 use Rattle.std.proofs.{lemmas.List.Elements.{Contains-append_cases, Contains-get_or}, Math.Seq.take-append_seam}
@@ -130,16 +130,16 @@ pub record IsAfter (p after : Part) (s : SpoolContents) (own : OwnFiles) : Type 
   pub go_on : AllGoOn after.customer.spool s own
   pub rests : HasShortRests after
 
-pub is_after : EventsKeepFiles → TakesKeepFiles → TakesGrowFiles → (p after : Part) → IsLed p after
+pub is_after : (p after : Part) → IsLed p after
     → IsSound p.customer.spool → HasShortRests p
     → HaveHeaders after.customer.spool.whole → (s : SpoolContents) (own : OwnFiles) → AllUpToDate p.customer.spool own
     → AllGoOn p.customer.spool s own → IsAfter p after s own
-is_after events takes grow p after is_led sound short headers s own up go_on =
+is_after p after is_led sound short headers s own up go_on =
     let x = p.customer.spool in
     let y = after.customer.spool in
-    let grown = led_grows grow p after is_led short in
+    let grown = led_grows p after is_led short in
     record {
-      goes = goes_on_in events takes p after sound is_led;
+      goes = goes_on_in p after sound is_led;
       fronts = fronts_of_step grown.0 x y grown.1 grown.2 sound s own up go_on headers;
       go_on = partials_go_on grown.0 x y grown.1 grown.2 sound s own up go_on;
       rests = led_rests p after is_led short;

@@ -2,11 +2,12 @@
 use Rattle.njh_keeper.proofs.Words
 use Words.{◌≡◌, ℕ, ◌<◌, ◌≤◌, ◌==◌, List, [], ◌++◌, length, Option, Some, None, refl, sym, ap, subst, ◌∙◌, append-nil}
 use Words.{arith, Kind, Stored, RouteEntry, CustomerSpool, PartialFile, max_arrived, partial_numbered, partial_records}
-use Words.{IsSound, FilesGrow, HasShortRests, TakesGrowFiles, entry_with, part_after_routes, outgoing, OwnSignal}
-use Words.{EventsKeepFiles, TakesKeepFiles, IsLed, GoOnIn, AreNumbered}
+use Words.{IsSound, FilesGrow, HasShortRests, entry_with, part_after_routes, outgoing, OwnSignal, IsLed, GoOnIn}
+use Words.{AreNumbered}
 use Rattle.{njh_stream.specs.Holding.unrouted_held, njh_customer.proofs.FileListLaws.found_one}
 use Rattle.njh_customer.proofs.{GrowingLaws.{many_go_on, quiet, partials_numbered}, RestLengths.events_short}
-use Rattle.njh_customer.proofs.{RestLengths.takes_short, StepsGrow.signals_grow, SurvivingLaws.held_still}
+use Rattle.njh_customer.proofs.{RestLengths.takes_short, StepsGrow.{signals_grow, takes_grow}}
+use Rattle.njh_customer.proofs.SurvivingLaws.{events_keep_files, held_still, takes_keep_files}
 use Rattle.njh_customer.specs.{declared.signal.Signal.Signal, Growing.HasCome, Part.{Part, part_after_bytes}}
 use Rattle.{njh_customer.specs.{Part.part_after_signal, Surviving.FilesGoOn}, njh_turns.specs.Keeping.by_bytes}
 use Rattle.{njh_turns.specs.Keeping.{by_routes, by_signal}, njh_keeper.proofs.NumberedLaws.equal_to}
@@ -45,18 +46,19 @@ routes_grow_none routes p =
 
 -- the whole files are those that there were, but for such as left, and after them others, at most as many as were
 -- counted
-pub led_files_go_on : EventsKeepFiles → TakesKeepFiles → (p after : Part) → IsLed p after
+pub led_files_go_on : (p after : Part) → IsLed p after
     → after.customer.spool.arrived < max_arrived → FilesGoOn (outgoing p.customer) (outgoing after.customer)
-led_files_go_on events takes p after =
+led_files_go_on p after =
     led p (λ x. x.customer.spool.arrived < max_arrived → FilesGoOn (outgoing p.customer) (outgoing x.customer))
-    (takes p) (λ l signal. events p (OwnSignal signal l)) (λ routes below. routes_go_on routes p) after
+    (takes_keep_files p) (λ l signal. events_keep_files p (OwnSignal signal l))
+    (λ routes below. routes_go_on routes p) after
 
 -- fewer than 1,366 records have come
-pub led_grows : TakesGrowFiles → (p after : Part) → IsLed p after → HasShortRests p
+pub led_grows : (p after : Part) → IsLed p after → HasShortRests p
     → (k : ℕ) × (k < 1366) × FilesGrow k p.customer.spool after.customer.spool
-led_grows takes p after is_led short =
+led_grows p after is_led short =
     led p (λ x. (k : ℕ) × (k < 1366) × FilesGrow k p.customer.spool x.customer.spool)
-    (λ l piece there. takes p l piece (short l))
+    (λ l piece there. takes_grow p l piece (short l))
     (λ l signal. (0, omega arith, signals_grow p l signal)) (λ routes. (0, omega arith, routes_grow_none routes p))
     after is_led
 
@@ -72,12 +74,12 @@ pub numbered_of_sound : (s : CustomerSpool) → IsSound s → AreNumbered s.whol
 numbered_of_sound s sound = are_numbered s.whole (λ n. let apart = sound.apart n in omega (arith, apart))
 
 -- the whole files that there were go on to be those that there are
-pub goes_on_in : EventsKeepFiles → TakesKeepFiles → (p after : Part) → IsSound p.customer.spool → IsLed p after
+pub goes_on_in : (p after : Part) → IsSound p.customer.spool → IsLed p after
     → GoOnIn p.customer.spool.arrived p.customer.spool.whole after.customer
-goes_on_in events takes p after sound is_led = record {
+goes_on_in p after sound is_led = record {
   numbered = numbered_of_sound p.customer.spool sound;
   goes = λ below.
-      let go_on = led_files_go_on events takes p after is_led below in
+      let go_on = led_files_go_on p after is_led below in
       record {
         still = go_on.still;
         new = go_on.new;

@@ -8,7 +8,7 @@ use Words.{partial_numbered, Ready, records_in, HaveHeaders, outgoing, Survive, 
 use Words.{file_summary, Part, part, AreFronts, GoesTo, GoOnIn, IsAt, IsFrontOf, IsReached, IsStillAt, LeadsFiles}
 use Words.{Memory, Remain, KeptPartial, one_if, AreNumbered, IsWalkedTo}
 use Rattle.{std.{proofs.Common.find, specs.Option.{option_map, option_or}}, njh_customer.specs.Customer.Customer}
-use Rattle.{njh_customer.specs.Surviving.FirstFilesSurvive, njh_keeper.proofs.FollowingLaws.{all_remain, goes_then}}
+use Rattle.{njh_customer.proofs.SurvivingLaws.first_files, njh_keeper.proofs.FollowingLaws.{all_remain, goes_then}}
 use Rattle.njh_keeper.proofs.{KeyLaws.keyed_at, LeadingLaws.leads_then, ListLaws.all_both, NumberedLaws.all_weaker}
 use Rattle.njh_keeper.proofs.{NumberedLaws.equal, WalkLaws.{walk_ends, walk_finds, walk_goes_on}}
 use Rattle.njh_keeper.specs.{code.Following.{IsFoundAt, IsHubFile}, declared.own_files.HubFile.HubFile}
@@ -182,18 +182,18 @@ module _ {m m1 m2 : Memory} {old mid new : State} where
 
 -- ---- which were there
 
-pub first_survive : FirstFilesSurvive → (c : Customer) (files : List WholeFile) (before count new old : ℕ)
+pub first_survive : (c : Customer) (files : List WholeFile) (before count new old : ℕ)
     → count ≡ length c.spool.whole → count < 4294967296 → c.spool.arrived < 18446744073709551616
     → (c.spool.arrived ≡ max_arrived → new ≡ 2 ^ 32 - 1)
     → (c.spool.arrived < max_arrived → new ≡ min (c.spool.arrived - before) (2 ^ 32 - 1)) → old ≡ count - new
     → GoOnIn before files c → Survive files (take old c.spool.whole)
-first_survive law c files before count new old counted few fits all some is go_on =
+first_survive c files before count new old counted few fits all some is go_on =
     elim (cases_lt c.spool.arrived max_arrived) [
       | inl less ↦
           let here = some less in
           let same : length c.spool.whole - (c.spool.arrived - before) ≡ old = omega (arith, here, counted, few, is) in
           subst (λ n. Survive files (take n c.spool.whole)) same
-          (law (record (outgoing c) { files = files; arrived = before }) (outgoing c) (go_on.goes less))
+          (first_files (record (outgoing c) { files = files; arrived = before }) (outgoing c) (go_on.goes less))
       | inr more ↦
           let here = all (omega (arith, more, fits)) in
           let none_is : 0 ≡ old = omega (arith, here, few, is) in

@@ -3,7 +3,7 @@
 use Rattle.njh_keeper.proofs.Words
 use Words.{◌≡◌, Bool, false, List, [], ◌∷◌, get_or, drop, length, map, Option, Some, None, true, sym, ap, subst, ◌∙◌}
 use Words.{arith, recursion_from_All, State, HasHeaders, CommitState, Stands, Holds, SpoolContents, Whole, WholeFile}
-use Words.{HaveHeaders, TakesGrowFiles, EventsKeepFiles, TakesKeepFiles, Part, IsLed, kept_file, AreFronts, GoOnIn}
+use Words.{HaveHeaders, Part, IsLed, kept_file, AreFronts, GoOnIn}
 use Words.{GoesTo, HasFiles, LeadsFiles, Memory, HasOwn, IsSoundPart, StepGoes, Leads, AllClosed, AllUpToDate}
 use Words.{IsUpToDate, KeepsOn, KeptPartial, Mirrored, file_in, is_name_of, own_files}
 use Rattle.njh_keeper.proofs.{FollowingLaws.all_remain, FrontLaws.is_after, KnowingLaws.has_spool}
@@ -27,7 +27,7 @@ kept_still m m1 s t files now here name before behind =
     ∙ sym (λ i. map (λ (w : Whole). file_in w.file w.records) (own_files (name i) (here i)))
     ∙ mirrored_is_read_back t m1.own now behind)
 
-module _ (events : EventsKeepFiles) (takes : TakesKeepFiles) (grow : TakesGrowFiles) (m m1 m2 : Memory)
+module _ (m m1 m2 : Memory)
     (changed changed2 : Bool) (before now : Part) (led : IsLed before now) (sound : IsSoundPart before)
     (headers_now : HaveHeaders now.customer.spool.whole) (old mid new : State)
     (followed : LeadsFiles m m1 (λ s files. GoOnIn m.own.arrived files now.customer
@@ -46,7 +46,7 @@ module _ (events : EventsKeepFiles) (takes : TakesKeepFiles) (grow : TakesGrowFi
   after s t u stands there one two has =
       let h = has.has in
       let files = before.customer.spool.whole in
-      let by = is_after events takes grow before now led sound.sound sound.rests headers_now s.now m.own h.up_to_date
+      let by = is_after before now led sound.sound sound.rests headers_now s.now m.own h.up_to_date
       h.go_on in
       let given : HasFiles m s.now files = record {
         ordered = has.ordered;

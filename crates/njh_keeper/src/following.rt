@@ -14,7 +14,6 @@ use crate::adding::add_one;
 use crate::own_files::{HubFile, OwnFiles};
 use crate::rewriting::follow_one;
 use crate::writer::{SpoolWriter, astray};
-use njh_customer::files_survive;
 use njh_hub::Hub;
 use njh_spool::FileId;
 use sqlite::{Alter, Error};
@@ -41,7 +40,6 @@ pub(crate) fn follow<S: Alter + Drop>(
     ensures quiet { OnOk result (IsQuiet writer.old writer.new) }
     ensures crash { Survives (shown S.Store writer.old.store) (shown S.Store writer.new.store) (λ _. ⊥) }
 {
-    files_survive();
     let count = hub.file_count(customer);
     let arrived = hub.arrived(customer);
     let old = count.saturating_sub(new_files(own.arrived, arrived));

@@ -16,9 +16,6 @@ ghost use Rattle.njh_spoolfile.specs.CommitState.{CommitState, Stands};
 ghost use Rattle.njh_table.specs.Entries.{CustomerEntry};
 ghost use Rattle.njh_table.specs.TableFile.{TableFile, customer_at, entry_of};
 
-use njh_customer::{
-    customers_stay_in_order, events_keep_entries, lost_lines_leave_files, marks_are_right,
-};
 use njh_spoolfile::only_the_last_commit;
 use sqlite::Alter;
 
@@ -38,12 +35,7 @@ pub fn files_stand_again()
 pub fn opened_again_as_after_the_loss_of_all_lines()
     ensures had { OpenedAsLinesLost }
     ensures left { LeftAsLinesLost }
-{
-    customers_stay_in_order();
-    lost_lines_leave_files();
-    marks_are_right();
-    events_keep_entries();
-}
+{}
 
 /// What a customer has after the opening is decided by its own entry and its own files: on two
 /// hubs, of two tables and two spool files in which these are the same, it has the same.

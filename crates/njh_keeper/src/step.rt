@@ -13,7 +13,6 @@ use crate::following::follow;
 use crate::own_files::OwnFiles;
 use crate::portions::keep_portions;
 use crate::writer::SpoolWriter;
-use njh_customer::{files_grow, files_survive};
 use njh_hub::Hub;
 use sqlite::{Alter, Error};
 
@@ -32,8 +31,6 @@ pub(crate) fn keep_step<S: Alter + Drop>(
         (shown S.Store writer.new.store)) }
     ensures crash { Survives (shown S.Store writer.old.store) (shown S.Store writer.new.store) (λ _. ⊥) }
 {
-    files_survive();
-    files_grow();
     follow(writer, own, hub, customer)?;
     keep_portions(writer, own, hub, customer)
 }

@@ -12,7 +12,7 @@ returns-clause-led g c numbered clean =
     let old = c.saturating_sub-old.result in
     let is : arrived ≡ customer.spool.arrived = c.arrived-arrived.ensures in
     followed_all arrived customer c.args.own.now.arrived old (λ files go_on.
-    first_survive c.files_survive.ensures.first customer files c.args.own.now.arrived count new_files old
+    first_survive customer files c.args.own.now.arrived count new_files old
     c.file_count-count.ensures c.file_count-count.type_inv (omega (arith, is, c.arrived-arrived.type_inv))
     (λ all. c.new_files.ensures.all (is ∙ all))
     (λ less. omega (arith, is, less, c.new_files.ensures.some (omega (arith, is, less))))

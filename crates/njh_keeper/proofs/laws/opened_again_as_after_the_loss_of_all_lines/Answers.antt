@@ -2,11 +2,7 @@ use Rattle.njh_keeper.proofs.LinesLostLaws.{left_as_lines_lost, opened_as_lines_
 use Rattle.njh_keeper.proofs.laws.opened_again_as_after_the_loss_of_all_lines.Goals as goal
 
 pub returns-clause-had : goal.returns-clause-had
-returns-clause-had c =
-    opened_as_lines_lost c.customers_stay_in_order.ensures c.lost_lines_leave_files.ensures
-    c.marks_are_right.ensures c.events_keep_entries.ensures.entry c.events_keep_entries.ensures.lines
+returns-clause-had c = opened_as_lines_lost
 
 pub returns-clause-left : goal.returns-clause-left
-returns-clause-left c =
-    left_as_lines_lost c.customers_stay_in_order.ensures c.lost_lines_leave_files.ensures
-    c.marks_are_right.ensures c.events_keep_entries.ensures.entry c.events_keep_entries.ensures.lines
+returns-clause-left c = left_as_lines_lost
