@@ -1,7 +1,7 @@
 -- The keeper of a spool file goes on to know a hub's files: by a customer's step, and by a commit.
 use Rattle.njh_keeper.proofs.Words
 use Words.{◌≡◌, ◌≢◌, ◌⊎◌, inl, inr, ℕ, zero, suc, ◌<◌, true, List, [], ◌∷◌, length, get_or, set, map, Result, Ok, Err}
-use Words.{OnOk, refl, sym, ap, subst, ◌∙◌, arith, get_or-map, get_or-set_same, get_or_default, length-map, map-set}
+use Words.{OnOk, refl, sym, ap, subst, ◌∙◌, arith, get_or-set_same, get_or_default, length-map, map-set}
 use Words.{set-get_or, map-map, AllByRecursion, AllZip, Database, HasCleanDisk, State, Ghosts, CommitState, Stands}
 use Words.{Holds, SpoolContents, kept, shown, Stays, AreDistinct, NamedCustomer, TableFile, CustomerSpool, KeptFile}
 use Words.{IsSound, HaveHeaders, HasShortRests, Part, no_part, part, IsLed, kept_file, kept_of, AreNamedApart, HasOwn}
@@ -12,7 +12,8 @@ use Rattle.{std.specs.Prelude.string_bytes, njh_table.specs.TableFile.entry_of, 
 use Rattle.{njh_turns.specs.Keeping.{LeavesEither, LeavesOnly}, njh_keeper.proofs.BegunLaws.all_by_place}
 use Rattle.njh_keeper.proofs.{BegunLaws.{begun_is_known, opened_rests, others_by_place}, CustomerLaws.uses_of_one}
 use Rattle.njh_keeper.proofs.{GrowthLaws.led_rests, HubLaws.apart, KnowingLaws.{known_is_left, known_still}}
-use Rattle.njh_keeper.proofs.{ListLaws.{all-set, all_map}, NumberedLaws.all_at, OpeningFound.{all_found, all_read_from}}
+use Rattle.njh_keeper.proofs.{ListLaws.{all-set, all_map, at_place}, NumberedLaws.all_at, OpeningFound.all_found}
+use Rattle.njh_keeper.proofs.OpeningFound.{all_read_from}
 use Rattle.njh_keeper.specs.{code.Remembered.OwnMemory, Keeper.{IsKeptNow, memory_in, owns_in}}
 use Rattle.njh_keeper.specs.declared.own_files.OwnFiles as own_files_type
 
@@ -164,10 +165,6 @@ all_zip_long R [] [] all = refl
 all_zip_long R [] (y ∷ ys) all = absurd all
 all_zip_long R (x ∷ xs) [] all = absurd all
 all_zip_long R (x ∷ xs) (y ∷ ys) all = ap suc (all_zip_long R xs ys all.1)
-
-pub at_place : {X Y : Type 0} (f : X → Y) (xs : List X) (i : ℕ) (x : X) → i < length xs → x ≡ get_or xs i x
-    → f x ≡ get_or (map f xs) i (f x)
-at_place f xs i x there is = ap f is ∙ sym (get_or-map f xs i x (f x) there)
 
 named_apart : (owns : List OwnFiles) → AreDistinct (map (λ (own : OwnFiles). own.name) owns) → AreNamedApart owns
 named_apart owns distinct c own there is =

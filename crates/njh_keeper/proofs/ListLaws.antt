@@ -1,6 +1,6 @@
 -- What holds of each of a list, of one place and the others, and of two lists side by side.
-use Rattle.std.{proofs.Common.{◌≡◌, ℕ, zero, suc, List, [], ◌∷◌, map, set, remove, refl, ap}, specs.List.AllByRecursion}
-use Rattle.std.specs.List.{AllZip}
+use Rattle.std.proofs.Common.{◌≡◌, ◌<◌, ℕ, zero, suc, List, [], ◌∷◌, length, map, get_or, set, remove, refl, sym, ap}
+use Rattle.std.{proofs.{Common.{◌∙◌, arith}, lemmas.List.{get_or-map, length-map}}, specs.List.{AllByRecursion, AllZip}}
 
 module _ {X : Type 0} (P : X → Type 0) where
   pub all_remove : (xs : List X) (i : ℕ) → AllByRecursion P xs → AllByRecursion P (remove xs i)
@@ -23,6 +23,14 @@ pub all_both : {X : Type 0} (P Q R : X → Type 0) → ((x : X) → P x → Q x 
     → AllByRecursion Q xs → AllByRecursion R xs
 all_both P Q R f [] one more = tt
 all_both P Q R f (x ∷ xs) one more = (f x one.0 more.0, all_both P Q R f xs one.1 more.1)
+
+-- the place of one among what they are seen as
+pub at_place : {X Y : Type 0} (f : X → Y) (xs : List X) (i : ℕ) (x : X) → i < length xs → x ≡ get_or xs i x
+    → f x ≡ get_or (map f xs) i (f x)
+at_place f xs i x there is = ap f is ∙ sym (get_or-map f xs i x (f x) there)
+
+pub within_seen : {X Y : Type 0} (f : X → Y) (xs : List X) (i : ℕ) → i < length xs → i < length (map f xs)
+within_seen f xs i there = let long = length-map xs f in omega (arith, long, there)
 
 pub map-remove : {X Y : Type 0} (f : X → Y) (xs : List X) (i : ℕ) → map f (remove xs i) ≡ remove (map f xs) i
 map-remove f [] zero = refl

@@ -6,11 +6,11 @@ use Words.{get_or-take, get_or_default, length-take-le, take_more, All-from_recu
 use Words.{Stored, HasHeaders, SpoolContents, records_of, contents, CustomerSpool, WholeFile, max_arrived}
 use Words.{partial_numbered, Ready, records_in, HaveHeaders, outgoing, Survive, leaves, none, FileSummaryView}
 use Words.{file_summary, Part, part, AreFronts, GoesTo, GoOnIn, IsAt, IsFrontOf, IsReached, IsStillAt, LeadsFiles}
-use Words.{Memory, Remain, KeptPartial, one_if, AreNumbered, IsWalkedTo}
+use Words.{HasFiles, Memory, Remain, KeptPartial, one_if, AreNumbered, IsWalkedTo}
 use Rattle.{std.{proofs.Common.find, specs.Option.{option_map, option_or}}, njh_customer.specs.Customer.Customer}
 use Rattle.{njh_customer.proofs.SurvivingLaws.first_files, njh_keeper.proofs.FollowingLaws.{all_remain, goes_then}}
-use Rattle.njh_keeper.proofs.{KeyLaws.keyed_at, LeadingLaws.leads_then, ListLaws.all_both, NumberedLaws.all_weaker}
-use Rattle.njh_keeper.proofs.{NumberedLaws.equal, WalkLaws.{walk_ends, walk_finds, walk_goes_on}}
+use Rattle.njh_keeper.proofs.{KeyLaws.keyed_at, LeadingLaws.{leads_then, leads_weaker}, ListLaws.all_both}
+use Rattle.njh_keeper.proofs.{NumberedLaws.{all_weaker, equal}, WalkLaws.{walk_ends, walk_finds, walk_goes_on}}
 use Rattle.njh_keeper.specs.{code.Following.{IsFoundAt, IsHubFile}, declared.own_files.HubFile.HubFile}
 
 pub all_have_gone : (fs : List WholeFile) → Survive fs []
@@ -115,6 +115,14 @@ is_at_of_first files n i f within low here = record {
 }
 
 -- ---- the calls one after the other
+
+-- what a call makes of the files says more
+pub says_more : {m m1 : Memory} {old mid : State} {Given : SpoolContents → List WholeFile → Type 0}
+    {P Q : List WholeFile → List WholeFile → Type 0} → LeadsFiles m m1 Given P old mid
+    → ((t : SpoolContents) (files now : List WholeFile) → HasFiles m1 t now → P files now → Q files now)
+    → LeadsFiles m m1 Given Q old mid
+says_more one more = leads_weaker one (λ s t first files has given.
+    let a = first files has given in (a.0, more t files a.0 a.2.has a.1, a.2))
 
 module _ {m m1 m2 : Memory} {old mid new : State} where
   -- the next one is found, and is what the hub has

@@ -1,10 +1,12 @@
 -- A hub that is opened from a spool file, by what was found in it.
-use Rattle.std.proofs.Common.{◌≡◌, ℕ, ◌+◌, ◌<◌, List, [], ◌∷◌, ◌++◌, length, map, take, drop, get_or, sym, ap, subst}
-use Rattle.std.proofs.{Common.{append_assoc, ◌∙◌}, lemmas.List.{take-append-drop, take_more, map-append}}
+use Rattle.std.proofs.Common.{◌≡◌, ℕ, ◌+◌, ◌<◌, List, [], ◌∷◌, ◌++◌, length, map, take, drop, get_or, sym, ap}
+use Rattle.std.proofs.{Common.{append_assoc, subst, ◌∙◌}, lemmas.List.{take-append-drop, take_more, map-append}}
 use Rattle.njh_spoolfile.specs.{declared.kept.StoredFile.StoredFile, Kept.{SpoolContents, Whole, entry_of, kept}}
-use Rattle.{njh_spoolfile.specs.Kept.whole_in, njh_table.specs.{Accepted.AreDistinct, TableFile.entry_of as entry_in}}
-use Rattle.{njh_table.specs.TableFile.{NamedCustomer, TableFile}, njh_hub.specs.WholeHub.{Part, part_at_open}}
-use Rattle.njh_keeper.{proofs.{HubLaws.{all_back, opened, refused}, StepLaws.wholes_are}, specs.code.Refusing.StopsIn}
+use Rattle.{sqlite.specs.{Effect.Database, State.State}, njh_spoolfile.specs.{Kept.{Holds, whole_in}, Steps.Stays}}
+use Rattle.njh_table.specs.{Accepted.AreDistinct, TableFile.{NamedCustomer, TableFile, entry_of as entry_in}}
+use Rattle.njh_hub.specs.WholeHub.{Part, part_at_open}
+use Rattle.njh_keeper.proofs.{HubLaws.{all_back, opened, refused}, StepLaws.wholes_are}
+use Rattle.njh_keeper.specs.code.Refusing.{StopsIn}
 use Rattle.njh_keeper.specs.code.Restoring.{NoneFails, hub_fault, hub_with_all, wholes}
 use Rattle.njh_keeper.specs.declared.fault.OpeningFault.{OpeningFault, TheVariants.{Memory, Store, File as Refused}}
 use Rattle.njh_keeper.specs.{Faults.Tells, Opened.{AllAreBack, hub_opened}}
@@ -16,6 +18,18 @@ pub record Finds (table : TableFile) (spool : SpoolContents) (names : List (List
   pub names_are : names ≡ map (λ c. c.name) table.customers
   pub hub_is : hub ≡ map part_at_open (map entry_in table.customers)
   pub files_are : map entry_of files ≡ spool.files
+
+-- it is so in a spool file that a call left as it was
+pub found_in : (table : TableFile) {names : List (List ℕ)} {hub : List Part} {files : List StoredFile}
+    {old mid : State} → Stays old mid → AreDistinct (map (λ c. c.name) table.customers)
+    → names ≡ map (λ c. c.name) table.customers → hub ≡ map part_at_open (map entry_in table.customers)
+    → ((spool : SpoolContents) → Holds spool old.now.trees → map entry_of files ≡ spool.files)
+    → (spool : SpoolContents) → Holds spool old.now.trees
+    → Finds table spool names hub files × Holds spool mid.now.trees
+found_in table same distinct names_are hub_is files_are spool held = (
+  record { distinct = distinct; names_are = names_are; hub_is = hub_is; files_are = files_are spool held },
+  subst (λ (d : Database). Holds spool d.trees) (sym same.now) held,
+)
 
 around : (files : List StoredFile) (at : ℕ) (f : StoredFile) → at < length files → f ≡ get_or files at f
     → files ≡ take at files ++ f ∷ drop (at + 1) files
@@ -59,5 +73,3 @@ module _ {table : TableFile} {spool : SpoolContents} {names : List (List ℕ)} {
       sym all_are ∙ ap (map G) (around files at it.file h.1.there h.1.is)
       ∙ map-append G (take at files) (it.file ∷ drop (at + 1) files) in
       refused table f.distinct spool before (wholes spool (drop (at + 1) files)) w it.fault split none (sym same ∙ h.2)
-
--- ---- the file at which it stopped

@@ -2,13 +2,14 @@
 use Rattle.njh_keeper.proofs.Words
 use Words.{◌≡◌, ℕ, ◌+◌, ◌-◌, ◌^◌, ◌<◌, ◌≤◌, min, Bool, true, false, cond, ◌⊎◌, inl, inr, Result, Ok, Err, IsOk, OnOk}
 use Words.{List, [], ◌∷◌, ◌++◌, length, get_or, set, remove, take, map, slice_get, refl, sym, ap, subst, ◌∙◌, arith}
-use Words.{get_or-map, length-map, map-append, map-set, take_all, HasCleanDisk, Ghosts, Stored, SpoolContents}
+use Words.{map-append, map-set, take_all, HasCleanDisk, Ghosts, Stored, SpoolContents}
 use Words.{without_records, shown, Changes, CustomerSpool, partial_records, Writes, Leads, numbers_of, own_of}
 use Words.{partial_of, sweep_in, HasRecords, IsOrdered, WritesUnder, AllClosed, AllSeen, IsSeen, IsUpToDate, KeepsNew}
 use Words.{KeepsOn, KeepsPartly, IsPartlyKept, KeptPartial, Numbers, OwnFiles, IsTaken, SpoolWriter}
 use Rattle.std.proofs.{Common.{if◌then◌else◌, IsSomeAnd}, lemmas.{Bool.false≢true, Option.slice_get-get_or}}
 use Rattle.njh_keeper.proofs.{AlikeLaws.begun_same, LeadingLaws.{leads_by, leads_nothing, leads_then, leads_weaker}}
-use Rattle.njh_keeper.proofs.{ListLaws.{all_remove, all_set, map-remove}, NumberedLaws.{all-push, all_weaker}}
+use Rattle.njh_keeper.proofs.ListLaws.{all_remove, all_set, at_place, map-remove, within_seen}
+use Rattle.njh_keeper.proofs.NumberedLaws.{all-push, all_weaker}
 use Rattle.njh_keeper.proofs.PartlyLaws.{Halves, halves_at, halves_remove, halves_set, keeps_begun, keeps_closed}
 use Rattle.njh_keeper.proofs.PartlyLaws.{keeps_gone_on, keeps_on_nothing, keeps_on_then, keeps_swept, keeps_while_swept}
 use Rattle.njh_keeper.proofs.{PartlyLaws.keeps_taken, UsesLaws.uses_as_key_is_taken}
@@ -132,9 +133,8 @@ module _ {S : Type 0} (g : Ghosts S) (now : CustomerSpool) where
         let partial : map partial_of own1.partial.items ≡ set ps i (partial_of q) =
         ap (map partial_of) items ∙ map-set partial_of own.partial.items i q in
         let is : own_of own1 ≡ own' = ap own_of others ∙ (λ j. record (own_of own) { partial = partial j }) in
-        let within : i < length ps = let long = length-map own.partial.items partial_of in omega (arith, there, long) in
-        let here : partial_of p ≡ get_or ps i (partial_of p) =
-        ap partial_of at ∙ sym (get_or-map partial_of own.partial.items i p (partial_of p) there) in
+        let within : i < length ps = within_seen partial_of own.partial.items i there in
+        let here : partial_of p ≡ get_or ps i (partial_of p) = at_place partial_of own.partial.items i p there at in
         record {
           led = λ clean. subst (λ (x : OwnFiles). Leads (KeepsOn (numbers_of w) (own_of own) (numbers_of w1) x now)
               (shown g w.store) (shown g w1.store)) (sym is)
@@ -163,10 +163,10 @@ module _ {S : Type 0} (g : Ghosts S) (now : CustomerSpool) where
     ps = (own_of own).partial
 
     within : i < length ps
-    within = let long = length-map own.partial.items partial_of in omega (arith, there, long)
+    within = within_seen partial_of own.partial.items i there
 
     here : partial_of p ≡ get_or ps i (partial_of p)
-    here = ap partial_of at ∙ sym (get_or-map partial_of own.partial.items i p (partial_of p) there)
+    here = at_place partial_of own.partial.items i p there at
 
     module _ (q : kept_partial.KeptPartial) (items : own1.partial.items ≡ set own.partial.items i q)
         (closed : q ≡ record p { is_open = false }) where

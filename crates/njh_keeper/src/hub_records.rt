@@ -51,12 +51,11 @@ pub(crate) fn write_records<S: Alter + Drop>(
         let Some(srcb) = records.next(&mut record) else {
             return Ok(());
         };
-        let bytes = &record;
         let kept = RecordRow {
             key,
             place,
             srcb,
-            bytes,
+            bytes: &record,
         };
         if place >= written {
             writer.add_record(&kept)?;

@@ -1,6 +1,6 @@
 //! The customers of the tables by their names.
 
-ghost use Rattle.std.specs.Prelude.{◌≡◌, ◌<◌, ◌≤◌, ◌^◌, length, map, IfOk};
+ghost use Rattle.std.specs.Prelude.{◌≡◌, ◌≤◌, ◌^◌, length, map, IfOk};
 ghost use Rattle.njh_keeper.specs.code.Restoring.{number_of};
 ghost use Rattle.njh_table.specs.Accepted.{IsAccepted};
 

@@ -1,6 +1,7 @@
-use Rattle.std.proofs.{Common.{◌≤◌, map, refl, sym, ap, subst, ◌∙◌, arith}, lemmas.List.{get_or-map, length-map}}
+use Rattle.std.proofs.Common.{◌≤◌, map, refl, sym, ap, subst, ◌∙◌}
 use Rattle.{std.specs.Prelude.string_bytes, njh_keeper.proofs.HandLaws.{key_leads, partial_leads}}
-use Rattle.njh_keeper.{proofs.ListLaws.map-remove, specs.code.{Following.memory_of, Memory.{numbers_of, own_of}}}
+use Rattle.njh_keeper.{proofs.ListLaws.{at_place, map-remove, within_seen}, specs.code.Following.memory_of}
+use Rattle.njh_keeper.specs.code.Memory.{numbers_of, own_of}
 use Rattle.njh_keeper.specs.{code.Memory.partial_of, declared.own_files.OwnFiles.OwnFiles}
 use Rattle.njh_keeper.proofs.adding.place_for.Goals as goal
 
@@ -12,10 +13,9 @@ returns-in-Some-clause-led g c f number records clean =
     let p = c.in-Some.partial in
     let taken = c.in-Some.ensures.taken in
     let i = taken.0 in
-    let long = length-map items partial_of in
     let others = c.take_partial.ensures.others in
-    partial_leads m m1 f p.key p.written i (partial_of p) (omega (arith, long, taken.1))
-    (ap partial_of taken.2 ∙ sym (get_or-map partial_of items i p (partial_of p) taken.1))
+    partial_leads m m1 f p.key p.written i (partial_of p) (within_seen partial_of items i taken.1)
+    (at_place partial_of items i p taken.1 taken.2)
     (sym number ∙ sym taken.4) (subst (λ n. p.seen ≤ n) records taken.5) refl refl
     (λ j. record {
       numbers = m.numbers;

@@ -1,9 +1,9 @@
 use Rattle.std.proofs.{Common.{◌≡◌, ◌<◌, length, get_or, ap, ◌∙◌, arith}, lemmas.List.{get_or_default, take_all}}
 use Rattle.{njh_spoolfile.specs.Shelf.shown, njh_spool.specs.CustomerSpool.WholeFile, njh_hub.specs.Views.file_summary}
 use Rattle.{njh_hub.specs.WholeHub.part, njh_keeper.proofs.{FollowingLaws.goes_nowhere, LeadingLaws.clean_before}}
-use Rattle.njh_keeper.proofs.LeadingLaws.{leads_nothing, leads_weaker, survives_both, survives_here}
-use Rattle.njh_keeper.proofs.{NewFilesLaws.{added_further, any_file, hub_file_at, is_at}, QuietLaws.quiet_changed}
-use Rattle.njh_keeper.{proofs.QuietLaws.{quiet_same, quiet_then}, specs.code.Following.memory_of}
+use Rattle.njh_keeper.proofs.LeadingLaws.{leads_nothing, survives_both, survives_here}
+use Rattle.njh_keeper.proofs.NewFilesLaws.{added_further, any_file, hub_file_at, is_at, says_more}
+use Rattle.njh_keeper.{proofs.QuietLaws.{quiet_changed, quiet_same, quiet_then}, specs.code.Following.memory_of}
 use Rattle.njh_keeper.proofs.following.add_new.Goals as goal
 
 pub loop-index-init : goal.loop-index-init
@@ -44,12 +44,8 @@ loop-index-preserved g c =
 pub returns-clause-led : goal.returns-clause-led
 returns-clause-led g c numbered clean =
     let whole = (part c.args.customer c.args.hub.now).customer.spool.whole in
-    leads_weaker (c.loop-index.invariant.led numbered clean) (λ s t led files has given.
-    let a = led files has given in (
-      a.0,
-      a.1 ∙ take_all c.loop-index.index whole (omega (arith, c.loop-index-test.false, c.file_count-count.ensures)),
-      a.2,
-    ))
+    says_more (c.loop-index.invariant.led numbered clean) (λ t files now has is.
+    is ∙ take_all c.loop-index.index whole (omega (arith, c.loop-index-test.false, c.file_count-count.ensures)))
 
 pub returns-clause-quiet : goal.returns-clause-quiet
 returns-clause-quiet g c = c.loop-index.invariant.quiet

@@ -1,8 +1,8 @@
-use Rattle.std.proofs.Common.{◌≡◌, ◌<◌, ◌++◌, [], ◌∷◌, length, get_or, remove, map, refl, sym, ap, subst, ◌∙◌, arith}
-use Rattle.std.{proofs.lemmas.List.{get_or-map, length-map, map-append}, specs.Prelude.⊤}
+use Rattle.std.proofs.Common.{◌≡◌, ◌<◌, ◌++◌, [], ◌∷◌, length, get_or, remove, map, refl, sym, ap, subst, ◌∙◌}
+use Rattle.std.{proofs.lemmas.List.map-append, specs.Prelude.⊤}
 use Rattle.{njh_spoolfile.specs.Shelf.shown, njh_keeper.proofs.FollowingLaws.{file_goes, memory_without, ok_both}}
-use Rattle.njh_keeper.{proofs.{LeadingLaws.{leads_by, leads_weaker}, ListLaws.map-remove}, specs.code.Following.GoesTo}
-use Rattle.njh_keeper.specs.code.{Following.{LeadsFiles, memory_of}, Memory.{numbers_of, sweep_in, whole_of}}
+use Rattle.njh_keeper.proofs.{LeadingLaws.{leads_by, leads_weaker}, ListLaws.{at_place, map-remove, within_seen}}
+use Rattle.njh_keeper.specs.code.{Following.{GoesTo, LeadsFiles, memory_of}, Memory.{numbers_of, sweep_in, whole_of}}
 use Rattle.njh_keeper.specs.{code.Writing.sweep_of, declared.writer.SpoolWriter.SpoolWriter}
 use Rattle.njh_keeper.proofs.following.drop_at.Goals as goal
 
@@ -16,9 +16,8 @@ returns-clause-led g c clean =
     let k = whole_of gone in
     let sweep = sweep_in (sweep_of gone.key gone.records) in
     let items = c.args.own.now.whole.items in
-    let there : i < length m.own.whole = (let long = length-map items whole_of in omega (arith, long, c.requires)) in
-    let is : k ≡ get_or m.own.whole i k = ap whole_of c.remove-gone.ensures.value
-    ∙ sym (get_or-map whole_of items i gone k c.requires) in
+    let there : i < length m.own.whole = within_seen whole_of items i c.requires in
+    let is : k ≡ get_or m.own.whole i k = at_place whole_of items i gone c.requires c.remove-gone.ensures.value in
     let m' = memory_of c.drop_file.new.self (record c.args.own.now { whole = c.remove-gone.new.self }) in
     ok_both c.drop_file.result _ _ _ (λ changed later.
     let sweeps : map sweep_in c.drop_file.new.self.sweeps.items ≡ m.numbers.sweeps ++ sweep ∷ [] =

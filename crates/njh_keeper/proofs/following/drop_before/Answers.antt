@@ -1,9 +1,10 @@
-use Rattle.std.proofs.{Common.{◌≡◌, ◌<◌, length, get_or, Some, sym, ap, subst, ◌∙◌, arith}, lemmas.List.get_or-map}
-use Rattle.{std.proofs.lemmas.List.{length-map, Edits.length-remove}, njh_spoolfile.specs.Shelf.shown}
+use Rattle.std.proofs.{Common.{◌≡◌, ◌<◌, length, get_or, Some, sym, ap, subst, arith}, lemmas.List.length-map}
+use Rattle.{std.proofs.lemmas.List.Edits.length-remove, njh_spoolfile.specs.Shelf.shown}
 use Rattle.njh_keeper.proofs.following.drop_before.Goals.{then-place-len-via-then-place-len}
 use Rattle.njh_keeper.proofs.following.drop_before.Goals.{then-place-len-via-else-place-len+then-eq}
 use Rattle.njh_keeper.proofs.{FollowingLaws.{goes_nowhere, goes_then}, LeadingLaws.{clean_before, leads_nothing}}
-use Rattle.njh_keeper.proofs.LeadingLaws.{leads_then, leads_weaker, survives_both, survives_here}
+use Rattle.njh_keeper.proofs.LeadingLaws.{leads_then, survives_both, survives_here}
+use Rattle.njh_keeper.proofs.{ListLaws.{at_place, within_seen}, NewFilesLaws.says_more}
 use Rattle.njh_keeper.proofs.{QuietLaws.{quiet_changed, quiet_same}, WalkedLaws.{is_another, is_that, passed_here}}
 use Rattle.njh_keeper.{proofs.WalkedLaws.{reached_at_end, reached_here}, specs.code.Following.memory_of}
 use Rattle.njh_keeper.specs.code.{Memory.whole_of, Walking.IsWalkedTo}
@@ -29,9 +30,9 @@ loop-preserved g c =
     let place = c.args.place in
     let k = whole_of c.index.result.now in
     let low : place < length items = omega (arith, c.if-place-len.false, c.len.ensures) in
-    let there : place < length m1.own.whole = (let long = length-map items whole_of in omega (arith, long, low)) in
+    let there : place < length m1.own.whole = within_seen whole_of items place low in
     let is : k ≡ get_or m1.own.whole place k =
-    ap whole_of c.index.ensures ∙ sym (get_or-map whole_of items place c.index.result.now k low) in
+    at_place whole_of items place c.index.result.now low c.index.ensures in
     record {
       crash = survives_both c.loop.invariant.crash c.drop_at.ensures.crash;
       led = λ still next clean.
@@ -56,25 +57,19 @@ returns-then-place-len-clause-led g c still next clean =
     let items = c.loop.own.whole.items in
     let long = length-map items whole_of in
     let place = c.args.place in
-    leads_weaker (c.loop.invariant.led still next clean) (λ s t first files has walk.
-    let one = first files has walk in (
-      one.0,
-      (
-        one.1,
-        elim c.then-place-len.branch [
-          | then-place-len-via-then-place-len w ↦
-              reached_at_end m1 t one.0 one.2.has c.args.number still place next one.1
-              (omega (arith, long, w.if-place-len))
-          | then-place-len-via-else-place-len+then-eq w ↦ (
-              let low : place < length items = omega (arith, w.if-place-len.false, c.len.ensures) in
-              let k = whole_of w.index.result.now in
-              let is : k ≡ get_or m1.own.whole place k =
-              ap whole_of w.index.ensures ∙ sym (get_or-map whole_of items place w.index.result.now k low) in
-              reached_here m1 t one.0 one.2.has place k (omega (arith, long, low)) is c.args.number
-              (is_that k.number c.args.number (sym w.if-eq.ensures)))
-        ],
-      ),
-      one.2,
+    says_more (c.loop.invariant.led still next clean) (λ t files now has walk. (
+      walk,
+      elim c.then-place-len.branch [
+        | then-place-len-via-then-place-len w ↦
+            reached_at_end m1 t now has c.args.number still place next walk (omega (arith, long, w.if-place-len))
+        | then-place-len-via-else-place-len+then-eq w ↦ (
+            let low : place < length items = omega (arith, w.if-place-len.false, c.len.ensures) in
+            let k = whole_of w.index.result.now in
+            let is : k ≡ get_or m1.own.whole place k =
+            at_place whole_of items place w.index.result.now low w.index.ensures in
+            reached_here m1 t now has place k (within_seen whole_of items place low) is c.args.number
+            (is_that k.number c.args.number (sym w.if-eq.ensures)))
+      ],
     ))
 
 pub returns-clause-led : goal.returns-clause-led
@@ -84,15 +79,10 @@ returns-clause-led g c still next clean =
     let long = length-map items whole_of in
     let place = c.args.place in
     let fewer = c.loop.invariant.fewer in
-    leads_weaker (c.loop.invariant.led still next clean) (λ s t first files has walk.
-    let one = first files has walk in (
-      one.0,
-      (
-        one.1,
-        reached_at_end m1 t one.0 one.2.has c.args.number still place next one.1
-            (omega (arith, long, fewer, c.loop-test.false, c.len-end.ensures)),
-      ),
-      one.2,
+    says_more (c.loop.invariant.led still next clean) (λ t files now has walk. (
+      walk,
+      reached_at_end m1 t now has c.args.number still place next walk
+          (omega (arith, long, fewer, c.loop-test.false, c.len-end.ensures)),
     ))
 
 pub returns-then-place-len-clause-quiet : goal.returns-then-place-len-clause-quiet

@@ -1,10 +1,11 @@
 use Rattle.njh_keeper.proofs.Words
-use Words.{◌≡◌, ◌<◌, true, None, length, get_or, set, map, refl, sym, ap, subst, ◌∙◌, arith, get_or-map, get_or_default}
-use Words.{length-map, map-set, with_item, HasCleanDisk, shown, is_held, GoesTo, memory_of, numbers_of, whole_of}
+use Words.{◌≡◌, ◌<◌, true, None, length, get_or, set, map, refl, sym, ap, subst, ◌∙◌, get_or_default}
+use Words.{map-set, with_item, HasCleanDisk, shown, is_held, GoesTo, memory_of, numbers_of, whole_of}
 use Words.{AreOne, named_nodes, SpoolWriter}
 use Rattle.njh_keeper.proofs.rewriting.change_state.Goals.{then-changes_hold+in_ok-change_row, else-changes_hold}
-use Rattle.njh_keeper.proofs.{LeadingLaws.{leads_by, leads_nothing, leads_weaker}, QuietLaws.quiet_changed}
-use Rattle.njh_keeper.proofs.{QuietLaws.quiet_same, StillLaws.{held_goes, kept_goes, memory_changed, now_kept}}
+use Rattle.njh_keeper.proofs.{LeadingLaws.{leads_by, leads_nothing, leads_weaker}, ListLaws.{at_place, within_seen}}
+use Rattle.njh_keeper.proofs.QuietLaws.{quiet_changed, quiet_same}
+use Rattle.njh_keeper.proofs.StillLaws.{held_goes, kept_goes, memory_changed, now_kept}
 use Rattle.njh_keeper.proofs.rewriting.change_state.Goals as goal
 
 pub returns-clause-led : goal.returns-clause-led
@@ -14,9 +15,8 @@ returns-clause-led g c f hub_file kept kept_is said several clean =
     let items = c.args.own.now.whole.items in
     let first = c.index-kept.result.now in
     let k = whole_of first in
-    let there : i < length m.own.whole = (let long = length-map items whole_of in omega (arith, long, c.requires)) in
-    let is : k ≡ get_or m.own.whole i k = ap whole_of c.index-kept.ensures
-    ∙ sym (get_or-map whole_of items i first k c.requires) in
+    let there : i < length m.own.whole = within_seen whole_of items i c.requires in
+    let is : k ≡ get_or m.own.whole i k = at_place whole_of items i first c.requires c.index-kept.ensures in
     let summary = c.args.summary.now in
     let same : kept ≡ first = kept_is ∙ get_or_default items i kept first c.requires ∙ sym c.index-kept.ensures in
     let said_first : first.destination ≡ summary.destination = ap (λ x. x.destination) (sym same) ∙ said in

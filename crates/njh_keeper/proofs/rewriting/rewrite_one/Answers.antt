@@ -1,8 +1,8 @@
 use Rattle.njh_keeper.proofs.Words
-use Words.{◌≡◌, ◌<◌, false, true, length, get_or, set, refl, sym, ap, subst, ◌∙◌, arith, get_or-map, get_or_default}
-use Words.{length-map, map-set, with_item, FileSummaryView, Writes, GoesTo, memory_of, numbers_of, whole_of}
-use Rattle.njh_keeper.proofs.{LeadingLaws.{clean_before, leads_by, leads_then, survives_both}, StillLaws.memory_changed}
-use Rattle.njh_keeper.proofs.StillLaws.{now_rewritten, rewritten_goes}
+use Words.{◌≡◌, ◌<◌, false, true, length, get_or, set, refl, sym, ap, subst, ◌∙◌, get_or_default}
+use Words.{map-set, with_item, FileSummaryView, Writes, GoesTo, memory_of, numbers_of, whole_of}
+use Rattle.njh_keeper.proofs.{LeadingLaws.{clean_before, leads_by, leads_then, survives_both}, ListLaws.at_place}
+use Rattle.njh_keeper.proofs.{ListLaws.within_seen, StillLaws.{memory_changed, now_rewritten, rewritten_goes}}
 use Rattle.njh_keeper.proofs.rewriting.rewrite_one.Goals as goal
 
 pub returns-clause-led : goal.returns-clause-led
@@ -12,9 +12,8 @@ returns-clause-led g c f hub_file kept kept_is one clean =
     let items = c.args.own.now.whole.items in
     let first = c.index-kept.result.now in
     let k = whole_of first in
-    let there : i < length m.own.whole = (let long = length-map items whole_of in omega (arith, long, c.requires)) in
-    let is : k ≡ get_or m.own.whole i k = ap whole_of c.index-kept.ensures
-    ∙ sym (get_or-map whole_of items i first k c.requires) in
+    let there : i < length m.own.whole = within_seen whole_of items i c.requires in
+    let is : k ≡ get_or m.own.whole i k = at_place whole_of items i first c.requires c.index-kept.ensures in
     let summary = c.args.summary.now in
     let same : kept ≡ first = kept_is ∙ get_or_default items i kept first c.requires ∙ sym c.index-kept.ensures in
     let now = record first { state = summary.state; destination = summary.destination; is_mixed = false } in

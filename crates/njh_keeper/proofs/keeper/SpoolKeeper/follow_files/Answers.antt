@@ -1,6 +1,6 @@
-use Rattle.std.proofs.{Common.{◌≡◌, ◌<◌, get_or, length, map, set, refl, subst, sym, arith}, lemmas.List.length-map}
-use Rattle.{std.{proofs.lemmas.List.map-set, specs.Vec.with_item}, njh_keeper.proofs.KnownLaws.{at_place, known_after}}
-use Rattle.njh_keeper.{proofs.{KnownLaws.ok_given, LeadingLaws.clean_before}, specs.code.Memory.own_memory_of}
+use Rattle.std.proofs.{Common.{◌≡◌, ◌<◌, get_or, length, map, set, refl, subst, sym, arith}, lemmas.List.map-set}
+use Rattle.{std.specs.Vec.with_item, njh_keeper.proofs.{KnownLaws.{known_after, ok_given}, LeadingLaws.clean_before}}
+use Rattle.njh_keeper.{proofs.ListLaws.{at_place, within_seen}, specs.code.Memory.own_memory_of}
 use Rattle.njh_keeper.specs.Keeper.{KnowsHub}
 use Rattle.njh_keeper.proofs.keeper.SpoolKeeper.follow_files.Goals as goal
 
@@ -13,8 +13,7 @@ returns-clause-known g c before leads knows =
     let knew = subst (λ k. KnowsHub g.S.Store g.S.Origin.found k before) (sym c.self.view_is) knows in
     let there : i < length items = omega (arith, c.if-from-len.false, c.from.ensures, c.len.ensures, c.from-2.ensures)
     in
-    let long = length-map items own_memory_of in
-    let within : i < length (map own_memory_of items) = omega (arith, there, long) in
+    let within : i < length (map own_memory_of items) = within_seen own_memory_of items i there in
     ok_given c.keep_step.result _ _ _ (c.keep_step.ensures.led c.files_are_sound.ensures.sound
     c.files_are_sound.ensures.headers) (λ led clean began found.
     known_after g.S.Store _ _ before c.args.hub.now c.args.customer
