@@ -1,15 +1,17 @@
 -- A hub that is opened from a spool file, by what was found in it.
-use Rattle.std.proofs.Common.{◌≡◌, ℕ, ◌+◌, ◌<◌, List, [], ◌∷◌, ◌++◌, length, map, take, drop, get_or, sym, ap}
+use Rattle.std.proofs.Common.{◌≡◌, ℕ, ◌+◌, ◌<◌, List, [], ◌∷◌, ◌++◌, length, map, take, drop, get_or, Option, sym, ap}
 use Rattle.std.proofs.{Common.{append_assoc, subst, ◌∙◌}, lemmas.List.{take-append-drop, take_more, map-append}}
 use Rattle.njh_spoolfile.specs.{declared.kept.StoredFile.StoredFile, Kept.{SpoolContents, Whole, entry_of, kept}}
 use Rattle.{sqlite.specs.{Effect.Database, State.State}, njh_spoolfile.specs.{Kept.{Holds, whole_in}, Steps.Stays}}
 use Rattle.njh_table.specs.{Accepted.AreDistinct, TableFile.{NamedCustomer, TableFile, entry_of as entry_in}}
 use Rattle.njh_hub.specs.WholeHub.{Part, part_at_open}
+use Rattle.njh_turns.specs.declared.depot.DepotFault.{DepotFault}
+use Rattle.njh_turns.specs.declared.depot.DepotFault.TheVariants as depot
 use Rattle.njh_keeper.proofs.{HubLaws.{all_back, opened, refused}, StepLaws.wholes_are}
-use Rattle.njh_keeper.specs.code.Refusing.{StopsIn}
+use Rattle.njh_keeper.specs.code.Refusing.{Notes, StopsIn}
 use Rattle.njh_keeper.specs.code.Restoring.{NoneFails, hub_fault, hub_with_all, wholes}
 use Rattle.njh_keeper.specs.declared.fault.OpeningFault.{OpeningFault, TheVariants.{Memory, Store, File as Refused}}
-use Rattle.njh_keeper.specs.{Faults.Tells, Opened.{AllAreBack, hub_opened}}
+use Rattle.njh_keeper.specs.{Faults.Tells, Opened.{AllAreBack, hub_opened}, Refusal.{IsFirstRefused, Refusal}}
 
 -- What was found: the customers' names, the files without their records, and the hub as it was opened.
 pub record Finds (table : TableFile) (spool : SpoolContents) (names : List (List ℕ)) (hub : List Part)
@@ -73,3 +75,14 @@ module _ {table : TableFile} {spool : SpoolContents} {names : List (List ℕ)} {
       sym all_are ∙ ap (map G) (around files at it.file h.1.there h.1.is)
       ∙ map-append G (take at files) (it.file ∷ drop (at + 1) files) in
       refused table f.distinct spool before (wholes spool (drop (at + 1) files)) w it.fault split none (sym same ∙ h.2)
+
+-- ---- the file at which it stopped
+
+-- a whole file that is told is noted
+pub noted_so : (table : TableFile) (spool : SpoolContents) (fault : OpeningFault) (told : DepotFault)
+    (before after : Option Refusal) → Notes fault told before after → told ≡ depot.Refused → Tells table spool fault
+    → IsFirstRefused table spool after
+noted_so table spool Memory told before after noted is tells = absurd (cc (noted.0, is))
+noted_so table spool (Store error) told before after noted is tells = absurd (noted.0 is)
+noted_so table spool (Refused it) told before after noted is tells =
+    subst (IsFirstRefused table spool) (sym noted.1) tells

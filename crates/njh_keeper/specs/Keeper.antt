@@ -1,7 +1,7 @@
 -- What keeps whole files in a spool file, and the hub that it opens.
-use Rattle.std.specs.Prelude.{◌≡◌, ℕ, Bool, true, false, List, map, refl}
+use Rattle.std.specs.Prelude.{◌≡◌, ℕ, Bool, true, false, List, map, Option, refl}
 use Rattle.std.specs.List.{AllByRecursion, filter_map}
-use Rattle.std.specs.Coded.{Coded, code_by, coded×, coded_bool, coded_list, coded_ℕ}
+use Rattle.std.specs.Coded.{Coded, code_by, coded×, coded_bool, coded_list, coded_option, coded_ℕ}
 use Rattle.sqlite.specs.State.{HasCleanDisk}
 use Rattle.sqlite.specs.Store.{Ghosts}
 use Rattle.sqlite.specs.Tree.{Trees}
@@ -14,15 +14,17 @@ use Rattle.njh_spoolfile.specs.CommitState.{CommitState, Stands}
 use Rattle.njh_spool.specs.Restoring.{KeptFile}
 use Rattle.njh_table.specs.TableFile.{TableFile}
 use Rattle.njh_table.specs.Accepted.{AreDistinct}
+use Rattle.njh_keeper.specs.Refusal.{Refusal}
 use Rattle.njh_keeper.specs.Opened.{AllAreBack, file_in, hub_opened, is_name_of, own_files}
-use Rattle.njh_keeper.specs.code.Codes.{numbers_code, own_memory_code}
+use Rattle.njh_keeper.specs.code.Codes.{numbers_code, own_memory_code, refusal_code}
 use Rattle.njh_keeper.specs.code.Following.{Memory}
 use Rattle.njh_keeper.specs.code.Knowing.{IsSoundPart, Knows}
 use Rattle.njh_keeper.specs.code.Remembered.{Numbers, OwnFiles, OwnMemory}
 
 -- The spool file, how often keeping failed, and the names of the customers in the order of the tables. Since the last
 -- commit whole files changed, or didn't, and so many records were written or dropped. What is remembered of each
--- customer's files, and which numbers are next. No hub was opened yet, or one was.
+-- customer's files, and which numbers are next. No hub was opened yet, or one was. The whole file that couldn't be put
+-- back then, if there is one.
 pub record Keeping (S : Type 0) : Type 0 where
   pub store : Shelf S
   pub failures : ℕ
@@ -32,13 +34,36 @@ pub record Keeping (S : Type 0) : Type 0 where
   pub numbers : Numbers
   pub customers : List OwnMemory
   pub is_fresh : Bool
+  pub refused : Option Refusal
 
 abbrev pub keeping_code : {S : Type 0} → Coded S → Coded (Keeping S)
 keeping_code {S} store = code_by
-    (Shelf S × (ℕ × (List (List ℕ) × (Bool × (ℕ × (Numbers × (List OwnMemory × Bool)))))))
+    (Shelf S × (ℕ × (List (List ℕ) × (Bool × (ℕ × (Numbers × (List OwnMemory × (Bool × Option Refusal))))))))
     (coded× (shelf_code store) (coded× coded_ℕ (coded× (coded_list (coded_list coded_ℕ)) (coded× coded_bool
-    (coded× coded_ℕ (coded× numbers_code (coded× (coded_list own_memory_code) coded_bool)))))))
-    (λ k. (k.store, (k.failures, (k.names, (k.is_changed, (k.waiting, (k.numbers, (k.customers, k.is_fresh))))))))
+    (coded× coded_ℕ (coded× numbers_code (coded× (coded_list own_memory_code) (coded× coded_bool
+    (coded_option refusal_code)))))))))
+    (λ k. (
+      k.store,
+      (
+        k.failures,
+        (
+          k.names,
+          (
+            k.is_changed,
+            (
+              k.waiting,
+              (
+                k.numbers,
+                (
+                  k.customers,
+                  (k.is_fresh, k.refused),
+                ),
+              ),
+            ),
+          ),
+        ),
+      ),
+    ))
     (λ p. record {
       store = p.0;
       failures = p.1.0;
@@ -47,7 +72,8 @@ keeping_code {S} store = code_by
       waiting = p.1.1.1.1.0;
       numbers = p.1.1.1.1.1.0;
       customers = p.1.1.1.1.1.1.0;
-      is_fresh = p.1.1.1.1.1.1.1;
+      is_fresh = p.1.1.1.1.1.1.1.0;
+      refused = p.1.1.1.1.1.1.1.1;
     })
     (λ _. refl)
 

@@ -2,5 +2,6 @@ pub mod Opened
 pub mod OpenedFiles
 pub mod LinesLost
 pub mod Faults
+pub mod Refusal
 pub mod Keeper
 pub mod code

@@ -1,25 +1,25 @@
 //! The whole files of a hub's customers are kept in a spool file.
 
-ghost use Rattle.std.specs.Prelude.{◌≡◌, ◌⊎◌, ◌<◌, ◌≤◌, List, [], false, true, length, ⊤, IfOk, OnOk};
+ghost use Rattle.std.specs.Prelude.{◌≡◌, ◌≢◌, ◌⊎◌, ◌≤◌, List, false, true, length, option_map, None, ⊤, IfOk, IfErr};
+ghost use Rattle.std.specs.Prelude.{OnOk};
 ghost use Rattle.std.specs.List.{AllByRecursion};
 ghost use Rattle.sqlite.specs.State.{HasCleanDisk, Survives};
 ghost use Rattle.njh_customer.specs.Growing.{HasShortRests};
 ghost use Rattle.njh_hub.specs.Sent.{IsCounted};
-ghost use Rattle.njh_hub.specs.WholeHub.{Part, part};
+ghost use Rattle.njh_hub.specs.WholeHub.{Part};
 ghost use Rattle.njh_turns.specs.Keeping.{LeadsHub};
+ghost use Rattle.njh_turns.specs.declared.depot.DepotFault.TheVariants.{Refused};
 ghost use Rattle.njh_spool.specs.Restoring.{KeptFile};
-ghost use Rattle.njh_spool.specs.Spools.{IsSound};
 ghost use Rattle.njh_spoolfile.specs.Kept.{SpoolContents, Holds};
 ghost use Rattle.njh_spoolfile.specs.Origin.{StandsAsFound};
 ghost use Rattle.njh_spoolfile.specs.Shelf.{shown};
 ghost use Rattle.njh_spoolfile.specs.CommitState.{CommitState, Stands};
 ghost use Rattle.njh_spoolfile.specs.Steps.{Stays};
-ghost use Rattle.njh_stream.specs.WholeFiles.{HaveHeaders};
+ghost use Rattle.njh_keeper.specs.Refusal.{IsFirstRefused, refusal_of};
 ghost use Rattle.njh_keeper.specs.Keeper.{IsAsKept, IsCommitted, IsKeptNow, IsOpenedFrom, IsSettledFrom, KnowsHub};
 ghost use Rattle.njh_keeper.specs.Keeper.{KnowsNow, MayLeave, left_in};
-ghost use Rattle.njh_keeper.specs.code.Following.{memory_of};
-ghost use Rattle.njh_keeper.specs.code.Knowing.{LeadsStep};
 ghost use Rattle.njh_keeper.specs.code.Opening.{AllAreFound, AllAreRead};
+ghost use Rattle.njh_keeper.specs.code.Refusing.{Notes};
 ghost use Rattle.njh_table.specs.Accepted.{AreDistinct};
 
 use crate::beginning::begin;
@@ -58,8 +58,9 @@ pub struct SpoolKeeper<'a, R, S: Origin + Drop> {
 }
 
 impl<'a, R, S: Origin + Drop> Model for SpoolKeeper<'a, R, S> {
-    ghost use Rattle.std.specs.Prelude.{◌≡◌, map, true};
+    ghost use Rattle.std.specs.Prelude.{◌≡◌, map, option_map, true};
     ghost use Rattle.njh_spoolfile.specs.Origin.{StandsAsFound};
+    ghost use Rattle.njh_keeper.specs.Refusal.{refusal_of};
     ghost use Rattle.njh_keeper.specs.Keeper.{Keeping, keeping_code};
     ghost use Rattle.njh_keeper.specs.code.Memory.{numbers_of, own_memory_of};
 
@@ -76,6 +77,7 @@ impl<'a, R, S: Origin + Drop> Model for SpoolKeeper<'a, R, S> {
       numbers = numbers_of keeper.writer;
       customers = map own_memory_of keeper.customers.items;
       is_fresh = keeper.is_fresh;
+      refused = option_map refusal_of keeper.refused;
     } };
 
     ghost invariant = { λ keeper. keeper.is_fresh ≡ true → StandsAsFound S.Store S.found keeper.writer.store };
@@ -85,7 +87,8 @@ impl<'a, R: Clock, S: Origin + Drop> SpoolKeeper<'a, R, S> {
     /// Keeps files in a spool file that was just opened. Each row has the time by this clock.
     pub fn new(rt: &'a R, alloc: Global, store: Store<S>) -> SpoolKeeper<'a, R, S>
         requires { StandsAsFound S.Store S.found store }
-        ensures { (result.store ≡ store) × (result.failures ≡ 0) × (result.is_fresh ≡ true) }
+        ensures { (result.store ≡ store) × (result.failures ≡ 0) × (result.is_fresh ≡ true)
+            × (result.refused ≡ None) }
     {
         SpoolKeeper {
             rt,
@@ -102,7 +105,9 @@ impl<'a, R: Clock, S: Origin + Drop> SpoolKeeper<'a, R, S> {
 impl<'a, R: Clock, S: Origin + Drop> SpoolKeeper<'a, R, S> {
     /// The whole file that couldn't be put back when a hub was opened, and why; none if there is
     /// no such file.
-    pub fn refused(&self) -> Option<&RefusedFile> {
+    pub fn refused(&self) -> Option<&RefusedFile>
+        ensures { option_map (λ refused. refusal_of refused.now) result ≡ self.now.refused }
+    {
         self.refused.as_ref()
     }
 
@@ -147,7 +152,7 @@ impl<'a, R: Clock, S: Origin + Drop> SpoolKeeper<'a, R, S> {
     /// Writes what a step made of a customer's files. Nothing of it is committed.
     fn follow_files(&mut self, hub: &Hub, customer: u16) -> Result<(), Error>
         ensures same { (self.new.failures ≡ self.old.failures) × (self.new.names ≡ self.old.names)
-            × (self.new.is_fresh ≡ false) }
+            × (self.new.is_fresh ≡ false) × (self.new.refused ≡ self.old.refused) }
         ensures known { (before : List Part) → LeadsHub customer before hub.now
             → KnowsHub S.Store S.found self.old before
             → OnOk result (KnowsHub S.Store S.found self.new hub.now) }
@@ -166,7 +171,8 @@ impl<'a, R: Clock, S: Origin + Drop> SpoolKeeper<'a, R, S> {
     /// Commits what was written, if whole files changed or much waits.
     fn settle_files(&mut self) -> Result<(), Error>
         ensures same { (self.new.failures ≡ self.old.failures) × (self.new.names ≡ self.old.names)
-            × (self.new.customers ≡ self.old.customers) × (self.new.is_fresh ≡ false) }
+            × (self.new.customers ≡ self.old.customers) × (self.new.is_fresh ≡ false)
+            × (self.new.refused ≡ self.old.refused) }
         ensures numbers { OnOk result (self.new.numbers ≡ self.old.numbers) }
         ensures settled { HasCleanDisk (shown S.Store self.new.store) → OnOk result ((s : CommitState)
             → Stands s (shown S.Store self.old.store) → IsAsKept self.old s → IsKeptNow S.Store self.new s.now) }
@@ -194,7 +200,8 @@ impl<'a, R: Clock, S: Origin + Drop> SpoolKeeper<'a, R, S> {
 
     /// Notes why no hub could be opened.
     fn refuse(&mut self, fault: OpeningFault) -> DepotFault
-        ensures { self.new ≡ self.old }
+        ensures noted { Notes fault result self.old.refused self.new.refused }
+        ensures others { self.new ≡ record self.old { refused = self.new.refused } }
     {
         match fault {
             OpeningFault::Memory => DepotFault::Memory,
@@ -239,6 +246,9 @@ impl<'a, R: Clock, S: Origin + Drop> SpoolKeeper<'a, R, S> {
         ensures stood { OnOk result (StandsAsFound S.Store S.found self.old.store) }
         ensures clean { HasCleanDisk (shown S.Store self.new.store)
             → OnOk result (HasCleanDisk (shown S.Store self.old.store)) }
+        ensures refused { HasCleanDisk (shown S.Store self.new.store) → IfErr result (λ fault. fault ≡ Refused
+            → (spool : SpoolContents) → Holds spool (shown S.Store self.old.store).now.trees
+            → IsFirstRefused tables spool self.new.refused) }
     {
         if !self.is_fresh {
             drop(tables);
@@ -266,6 +276,7 @@ impl<'a, R: Clock, S: Origin + Drop> SpoolKeeper<'a, R, S> {
     fn remember_hub(&mut self, hub: Hub, names: Vec<Name>) -> Result<Hub, DepotFault>
         ensures hub { IfOk result (λ remembered. remembered ≡ hub) }
         ensures names { OnOk result (self.new.names ≡ names.items) }
+        ensures told { IfErr result (λ fault. fault ≢ Refused) }
         ensures kept { HasCleanDisk (shown S.Store self.new.store) → OnOk result ((s : CommitState)
             → Stands s (shown S.Store self.old.store) → AreDistinct names.items → AllAreFound names.items hub
             → AllAreRead names.items hub s.now → length names.items ≡ length hub → IsCommitted S.Store self.new hub) }
@@ -334,7 +345,9 @@ impl<'a, R: Clock, S: Origin + Drop> Depot for SpoolKeeper<'a, R, S> {
 }
 
 /// Why no hub is opened, if the spool file fails.
-fn depot_fault(error: Error) -> DepotFault {
+fn depot_fault(error: Error) -> DepotFault
+    ensures { result ≢ Refused }
+{
     match error {
         Error::SqliteFailure(ErrorCode::OutOfMemory) => DepotFault::Memory,
         _ => DepotFault::Device,

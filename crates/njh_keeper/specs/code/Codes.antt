@@ -4,6 +4,11 @@ use Rattle.std.specs.Coded.{Coded, code_by, coded×, coded_bool, coded_list, cod
 use Rattle.njh_ebcdic.specs.Users.{User}
 use Rattle.njh_spool.specs.declared.State.{State}
 use Rattle.njh_spool.specs.declared.State.TheVariants.{Ready, Held, Refused, Sending}
+use Rattle.njh_spool.specs.declared.restoring.fault.RestoreFault.TheVariants as restoring
+use Rattle.njh_spoolfile.specs.Kept.{File}
+use Rattle.njh_keeper.specs.Refusal.{Refusal}
+use Rattle.njh_keeper.specs.declared.fault.FileFault.{FileFault}
+use Rattle.njh_keeper.specs.declared.fault.FileFault.TheVariants as fault
 use Rattle.njh_keeper.specs.code.Remembered.{KeptPartial, KeptWhole, Numbers, OwnFiles, OwnMemory, Sweep}
 
 abbrev text_code : Coded (List ℕ)
@@ -77,3 +82,56 @@ numbers_code = code_by (ℕ × (ℕ × (List ℕ × List Sweep)))
     (coded× coded_ℕ (coded× coded_ℕ (coded× text_code (coded_list sweep_code))))
     (λ w. (w.next_id, (w.next_key, (w.free_keys, w.sweeps))))
     (λ p. record { next_id = p.0; next_key = p.1.0; free_keys = p.1.1.0; sweeps = p.1.1.1 }) (λ _. refl)
+
+abbrev number_of_fault : FileFault → ℕ
+number_of_fault fault.BadFile = 0
+number_of_fault (fault.Refused restoring.QuotaOver) = 1
+number_of_fault (fault.Refused restoring.FilesOver) = 2
+number_of_fault (fault.Refused restoring.BadHeader) = 3
+
+abbrev fault_of_number : ℕ → FileFault
+fault_of_number zero = fault.BadFile
+fault_of_number (suc zero) = fault.Refused restoring.QuotaOver
+fault_of_number (suc (suc zero)) = fault.Refused restoring.FilesOver
+fault_of_number (suc (suc (suc n))) = fault.Refused restoring.BadHeader
+
+pub fault_back : (f : FileFault) → fault_of_number (number_of_fault f) ≡ f
+fault_back fault.BadFile = refl
+fault_back (fault.Refused restoring.QuotaOver) = refl
+fault_back (fault.Refused restoring.FilesOver) = refl
+fault_back (fault.Refused restoring.BadHeader) = refl
+
+abbrev fault_code : Coded FileFault
+fault_code = code_by ℕ coded_ℕ number_of_fault fault_of_number fault_back
+
+abbrev file_code : Coded File
+file_code = code_by
+    ((List ℕ × (ℕ × (List ℕ × (List ℕ × ℕ))))
+    × ((List ℕ × (List ℕ × (List ℕ × List ℕ))) × (Bool × (ℕ × (ℕ × ℕ)))))
+    (coded× (coded× text_code (coded× coded_ℕ (coded× text_code (coded× text_code coded_ℕ))))
+    (coded× (coded× text_code (coded× text_code (coded× text_code text_code)))
+    (coded× coded_bool (coded× coded_ℕ (coded× coded_ℕ coded_ℕ)))))
+    (λ f. (
+      (f.customer, (f.key, (f.kind, (f.job, f.number)))),
+      ((f.owner_node, (f.owner_user, (f.to_node, f.to_user))), (f.held, (f.records, (f.blocks, f.came)))),
+    ))
+    (λ p. record {
+      customer = p.0.0;
+      key = p.0.1.0;
+      kind = p.0.1.1.0;
+      job = p.0.1.1.1.0;
+      number = p.0.1.1.1.1;
+      owner_node = p.1.0.0;
+      owner_user = p.1.0.1.0;
+      to_node = p.1.0.1.1.0;
+      to_user = p.1.0.1.1.1;
+      held = p.1.1.0;
+      records = p.1.1.1.0;
+      blocks = p.1.1.1.1.0;
+      came = p.1.1.1.1.1;
+    }) (λ _. refl)
+
+-- a whole file that isn't put back
+abbrev pub refusal_code : Coded Refusal
+refusal_code = code_by (ℕ × (File × FileFault)) (coded× coded_ℕ (coded× file_code fault_code))
+    (λ r. (r.id, (r.file, r.fault))) (λ p. record { id = p.0; file = p.1.0; fault = p.1.1 }) (λ _. refl)

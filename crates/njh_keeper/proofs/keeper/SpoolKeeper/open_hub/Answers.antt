@@ -2,8 +2,9 @@ use Rattle.njh_keeper.proofs.Words
 use Words.{◌≡◌, List, length, map, Result, Ok, Err, IfOk, OnOk, sym, ap, subst, ◌∙◌, arith, IfOk-weaker, AllByRecursion}
 use Words.{HasCleanDisk, State, CommitState, Stands, Holds, StandsAsFound, shown, AreDistinct, HasShortRests, Part}
 use Words.{SameLines, part_at_open, DepotFault, AllAreFound, AllAreRead, IsSettledFrom, KnowsHub, KnowsNow}
-use Rattle.{njh_hub.specs.Parts.entries_of, njh_keeper.proofs.KnownLaws.{ok_always, opened_so, stood_still}}
-use Rattle.njh_keeper.{proofs.LeadingLaws.clean_before, specs.Keeper.IsCommitted}
+use Rattle.{std.proofs.lemmas.Result.IfErr-weaker, njh_hub.specs.Parts.entries_of}
+use Rattle.njh_keeper.proofs.{KnownLaws.{ok_always, opened_so, stood_still}, LeadingLaws.clean_before}
+use Rattle.njh_keeper.{proofs.OpeningLaws.noted_so, specs.Keeper.IsCommitted}
 use Rattle.njh_keeper.proofs.keeper.SpoolKeeper.open_hub.Goals as goal
 
 pub returns-clause-opened : goal.returns-clause-opened
@@ -74,3 +75,16 @@ pub returns-clause-stood : goal.returns-clause-stood
 returns-clause-stood g c =
     ok_always c.remember_hub.result _ (subst (λ k. StandsAsFound g.S.Store g.S.Origin.found k.store) c.self.view_is
     (c.self.invariant c.if-not-self.false))
+
+pub returns-in-Err-open_from-clause-refused : goal.returns-in-Err-open_from-clause-refused
+returns-in-Err-open_from-clause-refused g c clean is spool held =
+    let before = ap (λ k. shown g.S.Store k.store) (sym c.self.view_is) in
+    let store = ap (λ k. k.store) c.refuse.ensures.others in
+    noted_so c.args.tables spool c.in-Err-open_from.fault c.refuse.result _ c.refuse.new.self.refused
+    c.refuse.ensures.noted is
+    (c.in-Err-open_from.ensures.refused (subst (λ s. HasCleanDisk (shown g.S.Store s)) store clean) spool
+    (subst (λ (at : State). Holds spool at.now.trees) before held))
+
+pub returns-clause-refused : goal.returns-clause-refused
+returns-clause-refused g c clean =
+    IfErr-weaker c.remember_hub.result _ _ (λ fault other is spool held. absurd (other is)) c.remember_hub.ensures.told
