@@ -19,7 +19,7 @@ use crate::print::FrameRoom;
 use crate::printer::Printer;
 use crate::script::{MAX_SCRIPT_BYTES, events_of};
 use njh_ebcdic::Name;
-use njh_hub::{Cause, Event, Hub, HubFault, sent_in_order};
+use njh_hub::{Cause, Event, Hub, HubFault};
 use njh_io::read_text;
 use njh_table::Tables;
 use std::alloc::Global;
@@ -123,10 +123,7 @@ fn print_run<W: Write>(
 {
     match hub.run(events, printer) {
         Ok(()) => Ok(()),
-        Err(fault) => {
-            sent_in_order();
-            Err(fault_after(fault.cause))
-        }
+        Err(fault) => Err(fault_after(fault.cause)),
     }
 }
 

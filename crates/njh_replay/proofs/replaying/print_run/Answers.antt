@@ -2,6 +2,7 @@ use Rattle.std.proofs.Common.{◌≡◌, sym, ◌∙◌}
 use Rattle.njh_hub.specs.declared.fault.HubFault.TheVariants.{Memory}
 use Rattle.njh_hub.specs.OwnEvents.{first_events}
 use Rattle.njh_hub.specs.WholeHub.{hub_run}
+use Rattle.njh_hub.proofs.OrderLaws.{sent_in_order}
 use Rattle.njh_hub.proofs.RunLaws.{each_is_alone}
 use Rattle.njh_replay.specs.declared.fault.ReplayFault.TheVariants.{Hub}
 use Rattle.njh_replay.specs.Replayed.{fault_after}
@@ -27,7 +28,7 @@ returns-in-Err-clause-printed g c =
     let events = c.args.events.now in
     let sent = (hub_run start (first_events events fault.events fault.bytes)).sent in
     let whole = (hub_run start events).sent in
-    let begins = c.sent_in_order.ensures start events fault.events fault.bytes in
+    let begins = sent_in_order start events fault.events fault.bytes in
     let begun : AppendsBeginning (contents c.args.printer.now.out.now) (contents c.run.new.sink.out.now)
     (frames_text names whole) =
     stopped_begun _ _ fault.cause _ _ sent whole _ c.in-Err.ensures.handed begins
@@ -53,6 +54,6 @@ returns-in-Err-clause-same_reference g c =
     let sent = (hub_run start (first_events events fault.events fault.bytes)).sent in
     stopped_begun _ _ fault.cause _ _ sent (hub_run start events).sent
     (c.run.new.sink.out.ghost_name ≡ c.args.printer.now.out.ghost_name) c.in-Err.ensures.handed
-    (c.sent_in_order.ensures start events fault.events fault.bytes)
+    (sent_in_order start events fault.events fault.bytes)
     (λ front more printed all. printed.0)
     (λ front last between more printed part all. part.0 ∙ printed.0)
