@@ -1,6 +1,6 @@
 -- The arguments of the command line.
-use Rattle.std.specs.Prelude.{◌≡◌, ◌↔◌, ◌⊎◌, ℕ, pos, List, [], ◌∷◌, codes, Bool, true, false, Option, Some, None, option_map}
-use Rattle.std.specs.Prelude.{IsSomeAnd, IsTrue, ⊤, is_some}
+use Rattle.std.specs.Prelude.{◌≡◌, ◌↔◌, ◌⊎◌, ℕ, pos, List, [], ◌∷◌, codes, Bool, true, false, option_map}
+use Rattle.std.specs.Prelude.{Option, Some, None, IsSomeAnd, IsTrue, ⊤, is_some}
 use Rattle.std.specs.Net.Grammar.{IsIpText}
 use Rattle.std.specs.declared.net.ip_addr.IpAddr.{IpAddr}
 use Rattle.std.specs.Str.Parse.{IsNumeral, digits_value, without_leading_plus}
