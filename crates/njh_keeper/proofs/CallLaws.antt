@@ -17,17 +17,14 @@ pub record MovesTo (a b : Claim) (own : OwnFiles) (s t : SpoolContents) (files :
 
 module _ (w : Numbers) (own : OwnFiles) (s : SpoolContents) (files : List WholeFile) (h : IsOrdered s)
     (all : Mirrored s own files) where
-  abbrev swept : Sweep → Numbers
-  swept sweep = record w { sweeps = w.sweeps ++ sweep ∷ [] }
-
   -- a file is taken out, and its records are dropped later
   pub drop_follows : (i : ℕ) (k : KeptWhole) (sweep : Sweep) → i < length own.whole → k ≡ get_or own.whole i k
       → sweep.key ≡ k.key
-      → let own' = record own { whole = remove own.whole i } in MovesTo (claim w own) (claim (swept sweep) own') own' s
-      (without_file k.id s) (remove files i)
+      → let own' = record own { whole = remove own.whole i; sweeps = own.sweeps ++ sweep ∷ [] } in
+      MovesTo (claim w own) (claim w own') own' s (without_file k.id s) (remove files i)
   drop_follows i k sweep there is same = record {
     moves = leaving_moves s own files h all i k there is (claim w own)
-        (claim (swept sweep) (record own { whole = remove own.whole i })) refl refl refl
+        (claim w (record own { whole = remove own.whole i; sweeps = own.sweeps ++ sweep ∷ [] })) refl refl refl
         (uses_as_one_leaves w own i k sweep there is same);
     mirrored = file_leaves s own files h all i k there is;
   }

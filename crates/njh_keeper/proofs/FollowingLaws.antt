@@ -1,6 +1,6 @@
 -- Calls of the keeper one after the other, with what is kept of a customer's files.
-use Rattle.std.proofs.Common.{◌≡◌, ℕ, zero, suc, ◌<◌, List, [], ◌∷◌, ◌++◌, length, get_or, remove, Result, Ok, Err}
-use Rattle.{std.{proofs.Common.{OnOk, refl, ◌∙◌}, specs.List.AllByRecursion}, njh_header.specs.WholeFiles.HasHeaders}
+use Rattle.std.proofs.Common.{◌≡◌, ℕ, zero, suc, ◌<◌, List, [], ◌∷◌, ◌++◌, length, get_or, remove}
+use Rattle.{std.{proofs.Common.{refl, ◌∙◌}, specs.List.AllByRecursion}, njh_header.specs.WholeFiles.HasHeaders}
 use Rattle.{njh_spoolfile.specs.Kept.{SpoolContents, records_of, without_file}, njh_spool.specs.CustomerSpool.WholeFile}
 use Rattle.njh_keeper.proofs.{CallLaws.drop_follows, ListLaws.{all_both, all_remove}, MirrorLaws.all_of}
 use Rattle.njh_keeper.{proofs.MovesLaws.{moves_nothing, moves_then, still_apart}, specs.code.Following.{leaves, none}}
@@ -78,8 +78,8 @@ module _ (m : Memory) (i : ℕ) (k : KeptWhole) (sweep : Sweep) (there : i < len
     (is : k ≡ get_or m.own.whole i k) (same : sweep.key ≡ k.key) where
   abbrev pub memory_without : Memory
   memory_without = record {
-    numbers = record m.numbers { sweeps = m.numbers.sweeps ++ sweep ∷ [] };
-    own = record m.own { whole = remove m.own.whole i };
+    numbers = m.numbers;
+    own = record m.own { whole = remove m.own.whole i; sweeps = m.own.sweeps ++ sweep ∷ [] };
     text = m.text;
   }
 
@@ -90,9 +90,3 @@ module _ (m : Memory) (i : ℕ) (k : KeptWhole) (sweep : Sweep) (there : i < len
       goes m memory_without s (without_file k.id s) files (remove files i) has by.moves by.mirrored refl
       (all_remove (λ f. HasHeaders f.kind f.records) files i has.headers) (remain_same m.own.partial)
       (all_of (λ (p : KeptPartial). records_of p.key s ≡ records_of p.key s) (λ p. refl) m.own.partial)
-
--- ---- what a call answers
-
-pub ok_both : {T E : Type 0} (r : Result T E) (P Q R : Type 0) → (P → Q → R) → OnOk r P → OnOk r Q → OnOk r R
-ok_both (Ok x) P Q R f p q = f p q
-ok_both (Err e) P Q R f p q = tt

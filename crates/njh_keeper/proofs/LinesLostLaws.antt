@@ -3,7 +3,7 @@ use Rattle.njh_keeper.proofs.Words
 use Words.{◌≡◌, ℕ, ◌+◌, ◌<◌, ◌≤◌, Bool, true, false, List, [], ◌∷◌, length, map, Option, Some, None, Ok, Err, refl, sym}
 use Words.{ap, subst, ◌∙◌, arith, length-map, length-set, recursion_from_All, sum_by_push, filter_map, Nothing}
 use Words.{HasHeaders, Whole, CustomerEntry, RouteEntry, entry_unmarked, next_number-fresh, WholeFile, cost}
-use Words.{used_blocks, with_arrived, Sending, KeptFile, restore_fault, state_back, Down, is_up, fresh, CustomerLine}
+use Words.{used_blocks, with_arrived, Sending, KeptFile, restore_fault, state_back, Down, is_up, CustomerLine}
 use Words.{config_of, idle_line, line_at, no_customer_line, IsIdle, phase_of, entry_with, part_after_routes, outgoing}
 use Words.{rest_at, OwnSignal, part_with_file, kept_file, bare, file_at_rest, AreBack, file_in, part_opened, HasOpened}
 use Words.{as_opened, opened_of}

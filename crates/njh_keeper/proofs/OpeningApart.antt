@@ -91,7 +91,13 @@ pub customers_use : (n : ℕ) (names : List (List ℕ)) (hub : List Part) (owns 
 customers_use n names hub owns s t distinct long all =
     let same = uses_are n names owns (λ name. keyed_rows n (own_rows name s)) long (λ c own low is.
     let one = all.each c own low is in
-    omega (arith, one.keys n, ap (λ ps. keyed (λ p. p.key) n ps) one.opened.owned.partial)) in
+    let owned = one.opened.owned in
+    omega (
+      arith,
+      one.keys n,
+      ap (λ ps. keyed (λ p. p.key) n ps) owned.partial,
+      ap (λ ss. keyed (λ s. s.key) n ss) owned.sweeps,
+    )) in
     omega (arith, same, rows_most names n s.files (differ names distinct))
 
 -- ---- and the writer's
@@ -159,7 +165,7 @@ may_none next n low =
 module _ (files : List StoredFile) (names : List (List ℕ)) (hub : List Part) (owns : List OwnFiles)
     (s t : SpoolContents) (w : Numbers) (before : ℕ) (each : AreFilesApart files) (rows : entries files ≡ s.files)
     (distinct : AreDistinct names) (long : length owns ≡ length names) (all : AreRemembered names hub owns s t)
-    (sweeps : w.sweeps ≡ []) (free : w.free_keys ≡ free_at files w.next_key)
+    (free : w.free_keys ≡ free_at files w.next_key)
     (next : w.next_key ≡ key_behind before files) where
   used : (n : ℕ) → uses_of_all n owns ≤ keyed (λ f. f.file.key) n files
   used n =
@@ -178,7 +184,6 @@ module _ (files : List StoredFile) (names : List (List ℕ)) (hub : List Part) (
   all_are_apart n =
       let uses = used n in
       let once = each.once n in
-      let none : keyed (λ x. x.key) n w.sweeps ≡ 0 = ap (λ xs. keyed (λ x. x.key) n xs) sweeps in
       let same : keyed (λ x. x) n w.free_keys ≡ keyed (λ x. x) n (free_at files w.next_key) =
       ap (keyed (λ x. x) n) free in
       let are : AreBut (free_at files w.next_key) (is_used files) w.next_key n =
@@ -191,11 +196,11 @@ module _ (files : List StoredFile) (names : List (List ℕ)) (hub : List Part) (
               | inl low ↦ may_none w.next_key n low
               | inr high ↦ absurd (let never : true ≡ false = sym is ∙ unused_high files w.next_key n below high in cc)
             ] in
-            omega (arith, uses, once, none, same, no_free, given)
+            omega (arith, uses, once, same, no_free, given)
         | inr is ↦
             let no_use = used_is files n is in
             elim (cases_lt n w.next_key) [
-              | inl low ↦ omega (arith, uses, none, same, no_use, may_none w.next_key n low, are.once)
-              | inr high ↦ omega (arith, uses, none, same, no_use, most, are.high high)
+              | inl low ↦ omega (arith, uses, same, no_use, may_none w.next_key n low, are.once)
+              | inr high ↦ omega (arith, uses, same, no_use, most, are.high high)
             ]
       ]

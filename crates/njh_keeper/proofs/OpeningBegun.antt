@@ -84,13 +84,13 @@ module _ (files : List StoredFile) (names : List (List ℕ)) (hub : List Part) (
             counted));
       }
 
-  pub has_begun : w.sweeps ≡ [] → w.free_keys ≡ free_at files w.next_key → w.next_key ≡ key_behind key files
+  pub has_begun : w.free_keys ≡ free_at files w.next_key → w.next_key ≡ key_behind key files
       → w.next_id ≡ id_behind id files
       → HasBegun names hub owns w (without_keys (emptied_at files (key_behind key files)) t)
-  has_begun sweeps free next next_id = record {
+  has_begun free next next_id = record {
     count = long;
     each = opened;
-    apart = all_are_apart files names hub owns s t w key each rows distinct long all sweeps free next;
+    apart = all_are_apart files names hub owns s t w key each rows distinct long all free next;
     ordered = empty.ordered;
     below = subst (λ (es : List (ℕ × File)). AllByRecursion (λ e. e.0 < w.next_id) es) (sym empty.files)
         (all.below w.next_id (subst (λ (es : List (ℕ × File)). AllByRecursion (λ e. e.0 < w.next_id) es) rows

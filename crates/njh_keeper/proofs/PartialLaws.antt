@@ -1,6 +1,6 @@
 -- Records of files that aren't whole stand there too.
 use Rattle.njh_keeper.proofs.Words
-use Words.{ℕ, zero, suc, ◌+◌, List, [], ◌∷◌, ◌++◌, set, remove, sym, subst, arith, length-append, take-append-le}
+use Words.{ℕ, zero, suc, List, [], ◌∷◌, ◌++◌, set, remove, sym, subst, arith, length-append, take-append-le}
 use Words.{AllByRecursion, AllZip, Stored, SpoolContents, HasRecords, IsPartlyKept, KeptPartial}
 use Rattle.njh_keeper.proofs.ListLaws.{all_zip_weaker}
 

@@ -71,12 +71,12 @@ in_hand_not_partial : (w : Numbers) (own : OwnFiles) (key : ℕ) → AreApart (w
 in_hand_not_partial w own key apart = let once = apart key in let one = one_itself key in omega (arith, once, one)
 
 -- a number that is swept is no such file's
-swept_not_partial : (w : Numbers) (own : OwnFiles) (rest : List Sweep) (sweep : Sweep) → w.sweeps ≡ rest ++ sweep ∷ []
+swept_not_partial : (w : Numbers) (own : OwnFiles) (rest : List Sweep) (sweep : Sweep) → own.sweeps ≡ rest ++ sweep ∷ []
     → AreApart (claim w own) → keyed (λ (p : KeptPartial). p.key) sweep.key own.partial ≡ 0
 swept_not_partial w own rest sweep are apart =
     let once = apart sweep.key in
     let one = one_itself sweep.key in
-    let all : keyed (λ (x : Sweep). x.key) sweep.key w.sweeps ≡ keyed (λ (x : Sweep). x.key) sweep.key
+    let all : keyed (λ (x : Sweep). x.key) sweep.key own.sweeps ≡ keyed (λ (x : Sweep). x.key) sweep.key
     (rest ++ sweep ∷ []) = ap (keyed (λ (x : Sweep). x.key) sweep.key) are in
     let last = keyed-append (λ (x : Sweep). x.key) sweep.key rest (sweep ∷ []) in
     omega (arith, once, one, all, last)
@@ -146,23 +146,19 @@ module _ (now : CustomerSpool) (w : Numbers) (own : OwnFiles) where
 
   -- some of what a file left that has left are dropped
   pub keeps_while_swept : (rest : List Sweep) (sweep further : Sweep) (b : Bool) (first end : ℕ) (s t : SpoolContents)
-      → w.sweeps ≡ rest ++ sweep ∷ [] → further.key ≡ sweep.key → end ≤ 2 ^ 23
+      → own.sweeps ≡ rest ++ sweep ∷ [] → further.key ≡ sweep.key → end ≤ 2 ^ 23
       → t ≡ without_records sweep.key first end s
-      → KeepsOn w own (record w {
-        sweeps = rest ++ cond b (further ∷ []) [];
-        free_keys = w.free_keys ++ cond b [] (sweep.key ∷ []);
-      }) own now s t
+      → KeepsOn w own (record w { free_keys = w.free_keys ++ cond b [] (sweep.key ∷ []) })
+      (record own { sweeps = rest ++ cond b (further ∷ []) [] }) now s t
   keeps_while_swept rest sweep further b first end s t are same within dropped files h apart all go_on =
-      let w' : Numbers = record w {
-        sweeps = rest ++ cond b (further ∷ []) [];
-        free_keys = w.free_keys ++ cond b [] (sweep.key ∷ []);
-      } in
+      let w' : Numbers = record w { free_keys = w.free_keys ++ cond b [] (sweep.key ∷ []) } in
+      let own' : OwnFiles = record own { sweeps = rest ++ cond b (further ∷ []) [] } in
       let under : WritesUnder sweep.key s t =
       subst (λ u. WritesUnder sweep.key s u) (sym dropped) (drops_records sweep.key first end s h within) in
       let alone = sweep_is_apart w own rest sweep are apart in
       let none = swept_not_partial w own rest sweep are apart in
       record {
-        moves = moves_under (claim w own) (claim w' own) s refl
+        moves = moves_under (claim w own) (claim w' own') s refl
             (λ n. let used = uses_as_one_is_swept w own rest sweep further b are same n in omega (arith, used))
             sweep.key t under alone.1 refl;
         mirrored = mirrored_under s t own files all sweep.key under alone.0;
@@ -211,11 +207,10 @@ module _ (now : CustomerSpool) (w : Numbers) (own : OwnFiles) where
 
     -- it is swept
     pub keeps_swept : (sweep : Sweep) (s : SpoolContents) → sweep.key ≡ p.key
-        → KeepsOn w own (record w { sweeps = w.sweeps ++ sweep ∷ [] }) (record own { partial = remove own.partial i })
-        now s s
+        → KeepsOn w own w (record own { partial = remove own.partial i; sweeps = own.sweeps ++ sweep ∷ [] }) now s s
     keeps_swept sweep s same files h apart all go_on = record {
-      moves = moves_memory (claim w own) (claim (record w { sweeps = w.sweeps ++ sweep ∷ [] })
-          (record own { partial = remove own.partial i })) s refl
+      moves = moves_memory (claim w own)
+          (claim w (record own { partial = remove own.partial i; sweeps = own.sweeps ++ sweep ∷ [] })) s refl
           (λ n. uses_as_partial_is_swept w own i p sweep there is same n) h (omega arith);
       mirrored = all;
       go_on = all_remove (GoesOn now s) own.partial i go_on;

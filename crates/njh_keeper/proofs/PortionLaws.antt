@@ -1,8 +1,8 @@
 -- Records of files that aren't whole are kept, one call after the other.
 use Rattle.njh_keeper.proofs.Words
-use Words.{◌≡◌, ℕ, ◌+◌, ◌-◌, ◌^◌, ◌<◌, ◌≤◌, min, Bool, true, false, cond, ◌⊎◌, inl, inr, Result, Ok, Err, IsOk, OnOk}
+use Words.{◌≡◌, ℕ, ◌+◌, ◌-◌, ◌^◌, ◌<◌, ◌≤◌, min, Bool, true, false, cond}
 use Words.{List, [], ◌∷◌, ◌++◌, length, get_or, set, remove, take, map, slice_get, refl, sym, ap, subst, ◌∙◌, arith}
-use Words.{map-append, map-set, take_all, HasCleanDisk, Ghosts, Stored, SpoolContents}
+use Words.{append-nil, length-append, map-append, map-set, nat_tests, take_all, HasCleanDisk, Ghosts, Stored, SpoolContents}
 use Words.{without_records, shown, Changes, CustomerSpool, partial_records, Writes, Leads, numbers_of, own_of}
 use Words.{partial_of, sweep_in, HasRecords, IsOrdered, WritesUnder, AllClosed, AllSeen, IsSeen, IsUpToDate, KeepsNew}
 use Words.{KeepsOn, KeepsPartly, IsPartlyKept, KeptPartial, Numbers, OwnFiles, IsTaken, SpoolWriter}
@@ -13,24 +13,38 @@ use Rattle.njh_keeper.proofs.NumberedLaws.{all-push, all_weaker}
 use Rattle.njh_keeper.proofs.PartlyLaws.{Halves, halves_at, halves_remove, halves_set, keeps_begun, keeps_closed}
 use Rattle.njh_keeper.proofs.PartlyLaws.{keeps_gone_on, keeps_on_nothing, keeps_on_then, keeps_swept, keeps_while_swept}
 use Rattle.njh_keeper.proofs.{PartlyLaws.keeps_taken, UsesLaws.uses_as_key_is_taken}
-use Rattle.njh_keeper.specs.code.{Partly.{IsSameButNumbers, KeepsPartlyNew}, Writing.{behind_of, first_of, freed_by}}
-use Rattle.njh_keeper.specs.code.Writing.{is_left, left_of, without_swept}
+use Rattle.njh_keeper.specs.code.Partly.{IsSameButNumbers, IsSameButPartial, KeepsPartlyNew, KeepsStill}
+use Rattle.njh_keeper.specs.code.Writing.{behind_of, dead_in, dead_of, end_of, first_of, freed_by, is_left, left_of}
+use Rattle.njh_keeper.specs.code.Writing.{rest_of, without_swept}
 use Rattle.njh_keeper.specs.declared.own_files.KeptPartial as kept_partial
 use Rattle.njh_keeper.specs.declared.own_files.OwnFiles as own_files
-use Rattle.njh_keeper.specs.declared.writer.Sweep as sweep
+use Rattle.njh_keeper.specs.declared.own_files.Sweep as sweep
 
 never : {A : Type 0} (b : Bool) → b ≡ false → b ≡ true → A
 never b closed about = absurd (false≢true (sym closed ∙ about))
 
+-- ---- what is remembered
+
+partly_only : (own own1 : own_files.OwnFiles) → own1 ≡ record own { partial = own1.partial } → IsSameButPartial own own1
+partly_only own own1 same = same ∙ (λ j. record own
+    { partial = own1.partial; sweeps = sym (ap (λ (x : own_files.OwnFiles). x.sweeps) same) j })
+
+swept_only : (own own1 : own_files.OwnFiles) → own1 ≡ record own { sweeps = own1.sweeps } → IsSameButPartial own own1
+swept_only own own1 same = same ∙ (λ j. record own
+    { sweeps = own1.sweeps; partial = sym (ap (λ (x : own_files.OwnFiles). x.partial) same) j })
+
+partly_then : (own own1 own2 : own_files.OwnFiles) → IsSameButPartial own own1 → IsSameButPartial own1 own2
+    → IsSameButPartial own own2
+partly_then own own1 own2 one more =
+    more ∙ ap (λ (x : own_files.OwnFiles). record x { partial = own2.partial; sweeps = own2.sweeps }) one
+
+-- ---- one call after the other
+
 module _ {S : Type 0} (g : Ghosts S) (now : CustomerSpool) where
   same_then : (w w1 w2 : SpoolWriter S) → IsSameButNumbers w w1 → IsSameButNumbers w1 w2 → IsSameButNumbers w w2
   same_then w w1 w2 one more = more ∙ ap (λ (x : SpoolWriter S). record x
-      { store = w2.store; next_key = w2.next_key; free_keys = w2.free_keys; sweeps = w2.sweeps; waiting = w2.waiting })
+      { store = w2.store; next_key = w2.next_key; free_keys = w2.free_keys; waiting = w2.waiting })
       one
-
-  own_then : (own own1 own2 : own_files.OwnFiles) → own1 ≡ record own { partial = own1.partial }
-      → own2 ≡ record own1 { partial = own2.partial } → own2 ≡ record own { partial = own2.partial }
-  own_then own own1 own2 one more = more ∙ ap (λ (x : own_files.OwnFiles). record x { partial = own2.partial }) one
 
   -- one call after the other
   pub keeps_then : (w w1 w2 : SpoolWriter S) (own own1 own2 : own_files.OwnFiles)
@@ -42,7 +56,7 @@ module _ {S : Type 0} (g : Ghosts S) (now : CustomerSpool) where
         (own_of own2) s t u);
     seen = λ seen. more.seen (one.seen seen);
     numbers = same_then w w1 w2 one.numbers more.numbers;
-    others = own_then own own1 own2 one.others more.others;
+    others = partly_then own own1 own2 one.others more.others;
   }
 
   -- a number is taken first
@@ -69,7 +83,6 @@ module _ {S : Type 0} (g : Ghosts S) (now : CustomerSpool) where
           store = w2.store;
           next_key = w2.next_key;
           free_keys = w2.free_keys;
-          sweeps = w2.sweeps;
           waiting = w2.waiting;
         }) same;
         others = new.others;
@@ -91,7 +104,6 @@ module _ {S : Type 0} (g : Ghosts S) (now : CustomerSpool) where
           waiting = w1.waiting;
           next_key = sym (ap (λ (x : SpoolWriter S). x.next_key) same) i;
           free_keys = sym (ap (λ (x : SpoolWriter S). x.free_keys) same) i;
-          sweeps = sym (ap (λ (x : SpoolWriter S). x.sweeps) same) i;
         })
 
     -- those of one come for the first time
@@ -116,7 +128,7 @@ module _ {S : Type 0} (g : Ghosts S) (now : CustomerSpool) where
           seen = λ all. subst (AllSeen now) (sym is)
               (all-push (IsSeen now) (own_of own).partial (partial_of p) all (λ about. (seen, many)));
           numbers = is_same;
-          others = others;
+          others = partly_only own own1 others;
         }
 
     -- more of one come, or none
@@ -148,14 +160,51 @@ module _ {S : Type 0} (g : Ghosts S) (now : CustomerSpool) where
               (all_set (IsSeen now) ps i (partial_of q) (all_remove (IsSeen now) ps i all)
               (λ about. (subst (λ m. q.seen ≡ length (partial_records m now)) (sym (number ∙ mine)) seen, many)));
           numbers = is_same;
-          others = others;
+          others = partly_only own own1 others;
         }
 
-  -- ---- files that were given up
+  -- nothing is written
+  pub keeps_still : (w : SpoolWriter S) (own own1 : own_files.OwnFiles) → KeepsStill now own own1
+      → KeepsPartly g now w own w own1
+  keeps_still w own own1 still = record {
+    led = λ clean. leads_nothing (λ s. still.keeps (numbers_of w) s);
+    seen = still.seen;
+    numbers = refl;
+    others = still.others;
+  }
 
+-- ---- files that were given up
+
+module _ (now : CustomerSpool) where
   pub closed_are_seen : (own : OwnFiles) → AllClosed own → AllSeen now own
   closed_are_seen own all = all_weaker (λ (p : KeptPartial). p.is_open ≡ false) (IsSeen now)
       (λ p closed. never p.is_open closed) own.partial all
+
+  pub still_nothing : (own : own_files.OwnFiles) → KeepsStill now own own
+  still_nothing own =
+      record { keeps = λ w s. keeps_on_nothing now w (own_of own) s; seen = λ seen. seen; others = refl }
+
+  pub still_then : (own own1 own2 : own_files.OwnFiles) → KeepsStill now own own1 → KeepsStill now own1 own2
+      → KeepsStill now own own2
+  still_then own own1 own2 one more = record {
+    keeps = λ w s. keeps_on_then now w (own_of own) w w (own_of own1) (own_of own2) s s s (one.keeps w s)
+        (more.keeps w s);
+    seen = λ seen. more.seen (one.seen seen);
+    others = partly_then own own1 own2 one.others more.others;
+  }
+
+  -- the same is to be dropped
+  pub still_swept : (own own1 : own_files.OwnFiles) → own1 ≡ record own { sweeps = own1.sweeps }
+      → own1.sweeps.items ≡ own.sweeps.items → KeepsStill now own own1
+  still_swept own own1 others same =
+      let is : own_of own1 ≡ own_of own = ap own_of others
+      ∙ (λ j. record (own_of own) { sweeps = map sweep_in (same j) }) in
+      record {
+        keeps = λ w s. subst (λ (x : OwnFiles). KeepsOn w (own_of own) w x now s s) (sym is)
+            (keeps_on_nothing now w (own_of own) s);
+        seen = λ all. subst (AllSeen now) (sym is) all;
+        others = swept_only own own1 others;
+      }
 
   module _ (own own1 : own_files.OwnFiles) (i : ℕ) (p : kept_partial.KeptPartial) (there : i < length own.partial.items)
       (at : p ≡ get_or own.partial.items i p) where
@@ -174,21 +223,17 @@ module _ {S : Type 0} (g : Ghosts S) (now : CustomerSpool) where
       partial_set = ap (map partial_of) items ∙ map-set partial_of own.partial.items i q
 
       -- it is not known any more whether a stream is about it
-      pub keeps_shut : (w : SpoolWriter S) → own1 ≡ record own { partial = own1.partial }
-          → KeepsPartly g now w own w own1
-      keeps_shut w others =
+      pub still_shut : own1 ≡ record own { partial = own1.partial } → KeepsStill now own own1
+      still_shut others =
           let own' : OwnFiles = record (own_of own) { partial = set ps i (partial_of q) } in
           let is : own_of own1 ≡ own' = ap own_of others ∙ (λ j. record (own_of own) { partial = partial_set j }) in
           record {
-            led = λ clean. subst (λ (x : OwnFiles). Leads (KeepsOn (numbers_of w) (own_of own) (numbers_of w) x now)
-                (shown g w.store) (shown g w.store)) (sym is)
-                (leads_nothing (λ s. keeps_closed now (numbers_of w) (own_of own) i (partial_of p) within here
-                (partial_of q) s (ap partial_of closed)));
+            keeps = λ w s. subst (λ (x : OwnFiles). KeepsOn w (own_of own) w x now s s) (sym is)
+                (keeps_closed now w (own_of own) i (partial_of p) within here (partial_of q) s (ap partial_of closed));
             seen = λ all. subst (AllSeen now) (sym is)
                 (all_set (IsSeen now) ps i (partial_of q) (all_remove (IsSeen now) ps i all)
                 (never q.is_open (ap (λ x. x.is_open) closed)));
-            numbers = refl;
-            others = others;
+            others = partly_only own own1 others;
           }
 
       pub halves_shut : p.is_open ≡ true → Halves (IsUpToDate now) (IsSeen now) i ps
@@ -206,35 +251,19 @@ module _ {S : Type 0} (g : Ghosts S) (now : CustomerSpool) where
       partial_removed = ap (map partial_of) items ∙ map-remove partial_of own.partial.items i
 
       -- its records are to be dropped
-      pub keeps_dropped : (w w1 : SpoolWriter S) (gone : sweep.Sweep) → own1 ≡ record own { partial = own1.partial }
-          → w1.sweeps.items ≡ w.sweeps.items ++ gone ∷ []
-          → w1 ≡ record w { sweeps = w1.sweeps } → gone.key ≡ p.key → KeepsPartly g now w own w1 own1
-      keeps_dropped w w1 gone others later same key =
-          let own' : OwnFiles = record (own_of own) { partial = remove ps i } in
-          let is : own_of own1 ≡ own' = ap own_of others ∙ (λ j. record (own_of own) { partial = partial_removed j }) in
-          let n' : Numbers = record (numbers_of w) { sweeps = (numbers_of w).sweeps ++ sweep_in gone ∷ [] } in
-          let swept : map sweep_in w1.sweeps.items ≡ (numbers_of w).sweeps ++ sweep_in gone ∷ [] =
-          ap (map sweep_in) later ∙ map-append sweep_in w.sweeps.items (gone ∷ []) in
-          let numbers : numbers_of w1 ≡ n' = ap numbers_of same ∙ (λ j. record (numbers_of w) { sweeps = swept j }) in
-          let store : w1.store ≡ w.store = ap (λ (x : SpoolWriter S). x.store) same in
+      pub still_dropped : (gone : sweep.Sweep) → IsSameButPartial own own1
+          → own1.sweeps.items ≡ own.sweeps.items ++ gone ∷ [] → gone.key ≡ p.key → KeepsStill now own own1
+      still_dropped gone others later key =
+          let own' : OwnFiles = record (own_of own)
+          { partial = remove ps i; sweeps = (own_of own).sweeps ++ sweep_in gone ∷ [] } in
+          let swept : map sweep_in own1.sweeps.items ≡ (own_of own).sweeps ++ sweep_in gone ∷ [] =
+          ap (map sweep_in) later ∙ map-append sweep_in own.sweeps.items (gone ∷ []) in
+          let is : own_of own1 ≡ own' = ap own_of others
+          ∙ (λ j. record (own_of own) { partial = partial_removed j; sweeps = swept j }) in
           record {
-            led = λ clean. subst (λ (x : OwnFiles). Leads (KeepsOn (numbers_of w) (own_of own) (numbers_of w1) x now)
-                (shown g w.store) (shown g w1.store)) (sym is)
-                (subst (λ (m : Numbers). Leads (KeepsOn (numbers_of w) (own_of own) m own' now) (shown g w.store)
-                (shown g w1.store)) (sym numbers)
-                (subst (λ x. Leads (KeepsOn (numbers_of w) (own_of own) n' own' now) (shown g w.store) (shown g x))
-                (sym store)
-                (leads_nothing (λ s. keeps_swept now (numbers_of w) (own_of own) i (partial_of p) within here
-                (sweep_in gone) s key))));
+            keeps = λ w s. subst (λ (x : OwnFiles). KeepsOn w (own_of own) w x now s s) (sym is)
+                (keeps_swept now w (own_of own) i (partial_of p) within here (sweep_in gone) s key);
             seen = λ all. subst (AllSeen now) (sym is) (all_remove (IsSeen now) ps i all);
-            numbers =
-                same ∙ (λ j. record w {
-                  sweeps = w1.sweeps;
-                  store = sym store j;
-                  next_key = sym (ap (λ (x : SpoolWriter S). x.next_key) same) j;
-                  free_keys = sym (ap (λ (x : SpoolWriter S). x.free_keys) same) j;
-                  waiting = sym (ap (λ (x : SpoolWriter S). x.waiting) same) j;
-                });
             others = others;
           }
 
@@ -243,106 +272,104 @@ module _ {S : Type 0} (g : Ghosts S) (now : CustomerSpool) where
       halves_gone h = subst (Halves (IsUpToDate now) (IsSeen now) i) (sym partial_removed)
           (halves_remove (IsUpToDate now) (IsSeen now) i ps h)
 
--- a list is empty, or has a last element
-split_last : {X : Type 0} (xs : List X) → (xs ≡ []) ⊎ ((before : List X) × (last : X) × (xs ≡ before ++ last ∷ []))
-split_last [] = inl refl
-split_last {X} (x ∷ xs) = inr (go x xs)
-  where
-    go : (y : X) (ys : List X) → (before : List X) × (last : X) × (y ∷ ys ≡ before ++ last ∷ [])
-    go y [] = ([], y, refl)
-    go y (z ∷ zs) = let rest = go z zs in (y ∷ rest.0, rest.1, ap (λ xs'. y ∷ xs') rest.2)
+-- ---- files that have left
 
-left_in_memory : (b : Bool) (further : sweep.Sweep)
-    → map sweep_in (if b then further ∷ [] else []) ≡ cond b (sweep_in further ∷ []) []
-left_in_memory true further = refl
-left_in_memory false further = refl
+left_in_memory : (b : Bool) (rest : sweep.Sweep)
+    → map sweep_in (if b then rest ∷ [] else []) ≡ cond b (sweep_in rest ∷ []) []
+left_in_memory true rest = refl
+left_in_memory false rest = refl
 
 freed_in_memory : (b : Bool) (key : ℕ) → (if b then [] else key ∷ []) ≡ cond b [] (key ∷ [])
 freed_in_memory true key = refl
 freed_in_memory false key = refl
 
-module _ {S : Type 0} (g : Ghosts S) (now : CustomerSpool) (w w1 : SpoolWriter S) (own : own_files.OwnFiles)
-    (others : w1 ≡ record w {
-      store = w1.store;
-      free_keys = w1.free_keys;
-      sweeps = w1.sweeps;
-      waiting = w1.waiting;
-    }) where
+-- records of the last of them are dropped
+module _ {S : Type 0} (g : Ghosts S) (now : CustomerSpool) (w w1 : SpoolWriter S) (own own1 : own_files.OwnFiles)
+    (same : w1 ≡ record w { store = w1.store; free_keys = w1.free_keys; waiting = w1.waiting })
+    (others : own1 ≡ record own { sweeps = own1.sweeps }) where
   only_swept : IsSameButNumbers w w1
   only_swept =
-      others ∙ (λ j. record w {
+      same ∙ (λ j. record w {
         store = w1.store;
         free_keys = w1.free_keys;
-        sweeps = w1.sweeps;
         waiting = w1.waiting;
-        next_key = sym (ap (λ (x : SpoolWriter S). x.next_key) others) j;
+        next_key = sym (ap (λ (x : SpoolWriter S). x.next_key) same) j;
       })
 
-  none_is_swept : w.sweeps.items ≡ [] → w1.sweeps.items ≡ [] → w1 ≡ record w { sweeps = w1.sweeps }
-      → KeepsPartly g now w own w1 own
-  none_is_swept empty still same =
-      let sweeps : map sweep_in w1.sweeps.items ≡ (numbers_of w).sweeps = ap (map sweep_in) (still ∙ sym empty) in
-      let numbers : numbers_of w1 ≡ numbers_of w =
-      ap numbers_of same ∙ (λ j. record (numbers_of w) { sweeps = sweeps j }) in
-      let store : w1.store ≡ w.store = ap (λ (x : SpoolWriter S). x.store) same in
-      let K : Numbers → SpoolContents → SpoolContents → Type 0 =
-      λ m. KeepsOn (numbers_of w) (own_of own) m (own_of own) now in
-      record {
-        led = λ clean. subst (λ (m : Numbers). Leads (K m) (shown g w.store) (shown g w1.store)) (sym numbers)
-            (subst (λ x. Leads (K (numbers_of w)) (shown g w.store) (shown g x)) (sym store)
-            (leads_nothing (λ s. keeps_on_nothing now (numbers_of w) (own_of own) s)));
-        seen = λ seen. seen;
-        numbers = only_swept;
-        others = refl;
-      }
-
-  some_is_swept : (before : List sweep.Sweep) (last : sweep.Sweep) → w.sweeps.items ≡ before ++ last ∷ []
-      → w1.sweeps.items ≡ before ++ left_of last → w1.free_keys.items ≡ w.free_keys.items ++ freed_by last
-      → (HasCleanDisk (shown g w1.store) → Changes (without_swept last) (shown g w.store) (shown g w1.store))
-      → KeepsPartly g now w own w1 own
-  some_is_swept before last are left freed dropped =
+  pub keeps_one_swept : (most : ℕ) (before : List sweep.Sweep) (last : sweep.Sweep)
+      → own.sweeps.items ≡ before ++ last ∷ [] → own1.sweeps.items ≡ before ++ left_of most last
+      → w1.free_keys.items ≡ w.free_keys.items ++ freed_by most last
+      → (HasCleanDisk (shown g w1.store) → Changes (without_swept most last) (shown g w.store) (shown g w1.store))
+      → KeepsPartly g now w own w1 own1
+  keeps_one_swept most before last are left freed dropped =
       let n = numbers_of w in
-      let b = is_left last in
-      let further : sweep.Sweep = record last { next = behind_of last } in
-      let n' : Numbers = record n {
-        sweeps = map sweep_in before ++ cond b (sweep_in further ∷ []) [];
-        free_keys = n.free_keys ++ cond b [] (last.key ∷ []);
-      } in
-      let sweeps : map sweep_in w1.sweeps.items ≡ n'.sweeps =
-      ap (map sweep_in) left ∙ map-append sweep_in before (left_of last)
-      ∙ ap (λ xs. map sweep_in before ++ xs) (left_in_memory b further) in
+      let b = is_left most last in
+      let rest = rest_of most last in
+      let n' : Numbers = record n { free_keys = n.free_keys ++ cond b [] (last.key ∷ []) } in
+      let own' : OwnFiles =
+      record (own_of own) { sweeps = map sweep_in before ++ cond b (sweep_in rest ∷ []) [] } in
+      let sweeps : map sweep_in own1.sweeps.items ≡ own'.sweeps =
+      ap (map sweep_in) left ∙ map-append sweep_in before (left_of most last)
+      ∙ ap (λ xs. map sweep_in before ++ xs) (left_in_memory b rest) in
       let free : w1.free_keys.items ≡ n'.free_keys =
       freed ∙ ap (λ xs. w.free_keys.items ++ xs) (freed_in_memory b last.key) in
-      let numbers : numbers_of w1 ≡ n' = ap numbers_of others
-      ∙ (λ j. record n { sweeps = sweeps j; free_keys = free j }) in
-      let mine : n.sweeps ≡ map sweep_in before ++ sweep_in last ∷ [] =
+      let numbers : numbers_of w1 ≡ n' = ap numbers_of same ∙ (λ j. record n { free_keys = free j }) in
+      let files : own_of own1 ≡ own' = ap own_of others ∙ (λ j. record (own_of own) { sweeps = sweeps j }) in
+      let mine : (own_of own).sweeps ≡ map sweep_in before ++ sweep_in last ∷ [] =
       ap (map sweep_in) are ∙ map-append sweep_in before (last ∷ []) in
       record {
-        led = λ clean. subst (λ (m : Numbers). Leads (KeepsOn n (own_of own) m (own_of own) now) (shown g w.store)
-            (shown g w1.store)) (sym numbers) (leads_weaker (leads_by (dropped clean)) (λ s t is.
-            keeps_while_swept now n (own_of own) (map sweep_in before) (sweep_in last) (sweep_in further) b
-            (first_of last) (behind_of last) s t mine refl (omega arith) is));
-        seen = λ seen. seen;
+        led = λ clean. subst (λ (x : OwnFiles). Leads (KeepsOn n (own_of own) (numbers_of w1) x now) (shown g w.store)
+            (shown g w1.store)) (sym files)
+            (subst (λ (m : Numbers). Leads (KeepsOn n (own_of own) m own' now) (shown g w.store) (shown g w1.store))
+            (sym numbers) (leads_weaker (leads_by (dropped clean)) (λ s t is.
+            keeps_while_swept now n (own_of own) (map sweep_in before) (sweep_in last) (sweep_in rest) b
+            (first_of last) (behind_of most last) s t mine refl (omega arith) is)));
+        seen = λ seen. subst (AllSeen now) (sym files) seen;
         numbers = only_swept;
-        others = refl;
+        others = swept_only own own1 others;
       }
 
-  -- a sweep, where there is one
-  pub keeps_one_swept : {A E : Type 0} (result : Result A E)
-      → (w.sweeps.items ≡ [] → IsOk result × (w1.sweeps.items ≡ []) × (w1 ≡ record w { sweeps = w1.sweeps }))
-      → ((before : List sweep.Sweep) → (last : sweep.Sweep) → w.sweeps.items ≡ before ++ last ∷ []
-      → HasCleanDisk (shown g w1.store)
-      → OnOk result (Changes (without_swept last) (shown g w.store) (shown g w1.store)))
-      → ((before : List sweep.Sweep) → (last : sweep.Sweep) → w.sweeps.items ≡ before ++ last ∷ []
-      → OnOk result ((w1.sweeps.items ≡ before ++ left_of last)
-      × (w1.free_keys.items ≡ w.free_keys.items ++ freed_by last) × (w1.waiting ≡ min (w.waiting + 512) (2 ^ 32 - 1))))
-      → OnOk result (KeepsPartly g now w own w1 own)
-  keeps_one_swept (Err e) none dropped left = tt
-  keeps_one_swept (Ok a) none dropped left = elim (split_last w.sweeps.items) [
-    | inl empty ↦ (let h = none empty in none_is_swept empty h.1 h.2)
-    | inr some ↦ (let h = left some.0 some.1 some.2 in some_is_swept some.0 some.1 some.2 h.0 h.1
-        (dropped some.0 some.1 some.2))
-  ]
+-- ---- how many records are to be dropped
+
+pub dead_push : (before : List sweep.Sweep) (last : sweep.Sweep)
+    → dead_of (before ++ last ∷ []) ≡ dead_of before + dead_in last
+dead_push [] last = omega arith
+dead_push (s ∷ before) last = let rest = dead_push before last in omega (arith, rest)
+
+-- as many fewer as are dropped
+pub dead_after : (most : ℕ) (before : List sweep.Sweep) (last : sweep.Sweep)
+    → dead_of (before ++ left_of most last) + min most (dead_in last) ≡ dead_of before + dead_in last
+dead_after most before last = by (is_left most last) refl
+  where
+    by : (b : Bool) → is_left most last ≡ b
+        → dead_of (before ++ (if b then rest_of most last ∷ [] else [])) + min most (dead_in last)
+        ≡ dead_of before + dead_in last
+    by true is =
+        let more = dead_push before (rest_of most last) in
+        let less : behind_of most last < end_of last = grind (arith, nat_tests, is) in
+        omega (arith, more, less)
+    by false is =
+        let none : end_of last ≤ behind_of most last = grind (arith, nat_tests, is) in
+        let same : dead_of (before ++ []) ≡ dead_of before = ap dead_of (append-nil before) in
+        omega (arith, none, same)
+
+-- one fewer file, or no more than are dropped
+pub sweeps_fewer : (most : ℕ) (before : List sweep.Sweep) (last : sweep.Sweep) → 0 < most
+    → length (before ++ left_of most last) + (most - min most (dead_in last)) < length (before ++ last ∷ []) + most
+sweeps_fewer most before last some = by (is_left most last) refl
+  where
+    by : (b : Bool) → is_left most last ≡ b
+        → length (before ++ (if b then rest_of most last ∷ [] else [])) + (most - min most (dead_in last))
+        < length (before ++ last ∷ []) + most
+    by true is =
+        let less : behind_of most last < end_of last = grind (arith, nat_tests, is) in
+        let now = length-append before (rest_of most last ∷ []) in
+        let all = length-append before (last ∷ []) in
+        omega (arith, some, less, now, all)
+    by false is =
+        let now = ap length (append-nil before) in
+        let all = length-append before (last ∷ []) in
+        omega (arith, now, all)
 
 -- what stands of one
 module _ (p q : kept_partial.KeptPartial) (rs : List Stored) (key : q.key ≡ p.key) (s : SpoolContents) where

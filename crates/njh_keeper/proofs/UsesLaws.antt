@@ -19,11 +19,11 @@ module _ (w : Numbers) (own : OwnFiles) where
 
   pub uses_as_one_leaves : (i : ℕ) (k : KeptWhole) (sweep : Sweep) → i < length own.whole → k ≡ get_or own.whole i k
       → sweep.key ≡ k.key
-      → (n : ℕ) → uses n (record w { sweeps = w.sweeps ++ sweep ∷ [] }) (record own { whole = remove own.whole i })
+      → (n : ℕ) → uses n w (record own { whole = remove own.whole i; sweeps = own.sweeps ++ sweep ∷ [] })
       ≤ uses n w own
   uses_as_one_leaves i k sweep there is same n =
       let gone = keyed-remove (λ (x : KeptWhole). x.key) n own.whole i k there is in
-      let more = keyed-append (λ (x : Sweep). x.key) n w.sweeps (sweep ∷ []) in
+      let more = keyed-append (λ (x : Sweep). x.key) n own.sweeps (sweep ∷ []) in
       let alike = same_key n sweep.key k.key same in
       omega (arith, gone, more, alike)
 
@@ -57,11 +57,11 @@ module _ (w : Numbers) (own : OwnFiles) where
 
   pub uses_as_partial_is_swept : (i : ℕ) (p : KeptPartial) (sweep : Sweep) → i < length own.partial
       → p ≡ get_or own.partial i p → sweep.key ≡ p.key
-      → (n : ℕ) → uses n (record w { sweeps = w.sweeps ++ sweep ∷ [] }) (record own { partial = remove own.partial i })
+      → (n : ℕ) → uses n w (record own { partial = remove own.partial i; sweeps = own.sweeps ++ sweep ∷ [] })
       ≤ uses n w own
   uses_as_partial_is_swept i p sweep there is same n =
       let gone = keyed-remove (λ (x : KeptPartial). x.key) n own.partial i p there is in
-      let more = keyed-append (λ (x : Sweep). x.key) n w.sweeps (sweep ∷ []) in
+      let more = keyed-append (λ (x : Sweep). x.key) n own.sweeps (sweep ∷ []) in
       let alike = same_key n sweep.key p.key same in
       omega (arith, gone, more, alike)
 
@@ -92,14 +92,12 @@ module _ (w : Numbers) (own : OwnFiles) where
       omega (arith, none, still, first, next, further)
 
   -- a sweep goes on, or its number is free
-  pub uses_as_one_is_swept : (rest : List Sweep) (sweep further : Sweep) (b : Bool) → w.sweeps ≡ rest ++ sweep ∷ []
+  pub uses_as_one_is_swept : (rest : List Sweep) (sweep further : Sweep) (b : Bool) → own.sweeps ≡ rest ++ sweep ∷ []
       → further.key ≡ sweep.key
-      → (n : ℕ) → uses n (record w {
-        sweeps = rest ++ cond b (further ∷ []) [];
-        free_keys = w.free_keys ++ cond b [] (sweep.key ∷ []);
-      }) own ≡ uses n w own
+      → (n : ℕ) → uses n (record w { free_keys = w.free_keys ++ cond b [] (sweep.key ∷ []) })
+      (record own { sweeps = rest ++ cond b (further ∷ []) [] }) ≡ uses n w own
   uses_as_one_is_swept rest sweep further b are same n =
-      let all : keyed (λ (x : Sweep). x.key) n w.sweeps ≡ keyed (λ (x : Sweep). x.key) n (rest ++ sweep ∷ []) =
+      let all : keyed (λ (x : Sweep). x.key) n own.sweeps ≡ keyed (λ (x : Sweep). x.key) n (rest ++ sweep ∷ []) =
       ap (keyed (λ (x : Sweep). x.key) n) are in
       let before = keyed-append (λ (x : Sweep). x.key) n rest (sweep ∷ []) in
       let behind = keyed-append (λ (x : Sweep). x.key) n rest (cond b (further ∷ []) []) in
@@ -132,12 +130,12 @@ module _ (w : Numbers) (own : OwnFiles) where
       let has = keyed_at (λ (x : KeptPartial). x.key) own.partial i p there is in
       (omega (arith, once, has), omega (arith, has))
 
-  pub sweep_is_apart : (rest : List Sweep) (sweep : Sweep) → w.sweeps ≡ rest ++ sweep ∷ [] → AreApart (claim w own)
+  pub sweep_is_apart : (rest : List Sweep) (sweep : Sweep) → own.sweeps ≡ rest ++ sweep ∷ [] → AreApart (claim w own)
       → (keyed (λ (k : KeptWhole). k.key) sweep.key own.whole ≡ 0) × (1 ≤ uses sweep.key w own)
   sweep_is_apart rest sweep are apart =
       let once = apart sweep.key in
       let one = one_itself sweep.key in
-      let all : keyed (λ (x : Sweep). x.key) sweep.key w.sweeps ≡ keyed (λ (x : Sweep). x.key) sweep.key
+      let all : keyed (λ (x : Sweep). x.key) sweep.key own.sweeps ≡ keyed (λ (x : Sweep). x.key) sweep.key
       (rest ++ sweep ∷ []) = ap (keyed (λ (x : Sweep). x.key) sweep.key) are in
       let last = keyed-append (λ (x : Sweep). x.key) sweep.key rest (sweep ∷ []) in
       (omega (arith, once, one, all, last), omega (arith, one, all, last))

@@ -13,6 +13,7 @@ ghost use Rattle.njh_keeper.specs.code.Walking.{AreNumbered, IsWalkedTo};
 use crate::adding::add_one;
 use crate::own_files::{HubFile, OwnFiles};
 use crate::rewriting::follow_one;
+use crate::sweeping::sweep_later;
 use crate::writer::{SpoolWriter, astray};
 use njh_hub::Hub;
 use njh_spool::FileId;
@@ -169,7 +170,7 @@ fn drop_before<S: Alter + Drop>(
     Ok(())
 }
 
-/// Takes out the file at a place.
+/// Takes out the file at a place. Its records are dropped step by step.
 fn drop_at<S: Alter + Drop>(
     writer: &mut SpoolWriter<S>,
     own: &mut OwnFiles,
@@ -185,5 +186,6 @@ fn drop_at<S: Alter + Drop>(
     ensures crash { Survives (shown S.Store writer.old.store) (shown S.Store writer.new.store) (λ _. ⊥) }
 {
     let gone = own.whole.remove(place);
-    writer.drop_file(&gone)
+    writer.drop_file(gone.id)?;
+    sweep_later(own, gone.key, gone.records)
 }

@@ -21,6 +21,7 @@ mod rewriting;
 mod rows;
 mod sound;
 mod step;
+mod sweeping;
 mod writer;
 
 pub use fault::{FileFault, OpeningFault, RefusedFile};

@@ -44,6 +44,18 @@ pub(crate) struct KeptPartial {
     pub(crate) is_open: bool,
 }
 
+/// Records of a file that has left, which are still to be dropped: those at places from `next` on
+/// and before `end`.
+#[derive(Clone, Copy)]
+pub(crate) struct Sweep {
+    /// The number that they stand under.
+    pub(crate) key: u32,
+    /// The place of the first.
+    pub(crate) next: u32,
+    /// The place after the last.
+    pub(crate) end: u32,
+}
+
 /// The files of a customer.
 #[derive(Drop)]
 pub(crate) struct OwnFiles {
@@ -57,6 +69,8 @@ pub(crate) struct OwnFiles {
     pub(crate) whole: Vec<KeptWhole>,
     /// Those that aren't, of which records are kept.
     pub(crate) partial: Vec<KeptPartial>,
+    /// Those that have left, whose records are still to be dropped.
+    pub(crate) sweeps: Vec<Sweep>,
 }
 
 /// A file of a hub.

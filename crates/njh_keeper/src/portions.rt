@@ -6,6 +6,7 @@ ghost use Rattle.njh_hub.specs.Views.{IsPartialOn};
 ghost use Rattle.njh_hub.specs.WholeHub.{part};
 ghost use Rattle.njh_keeper.specs.code.Memory.{own_of};
 ghost use Rattle.njh_keeper.specs.code.Partly.{AllClosed, AllUpToDate, AllSeen, KeepsPartly, KeepsPartlyNew};
+ghost use Rattle.njh_keeper.specs.code.Partly.{KeepsStill};
 ghost use Rattle.njh_spool.specs.CustomerSpool.{CustomerSpool, partial_records};
 ghost use Rattle.njh_stream.specs.SpoolFiles.{records_in};
 ghost use Rattle.njh_spoolfile.specs.Shelf.{shown};
@@ -13,6 +14,7 @@ ghost use Rattle.sqlite.specs.State.{Survives};
 
 use crate::hub_records::write_records;
 use crate::own_files::{HubFile, KeptPartial, OwnFiles};
+use crate::sweeping::{sweep, sweep_later};
 use crate::writer::SpoolWriter;
 use njh_hub::Hub;
 use njh_spool::FileId;
@@ -30,12 +32,14 @@ const MANY: u32 = 1_366;
 const PORTION: u32 = 256;
 
 /// Keeps records of a customer's files that aren't whole. Those of files that were given up are
-/// dropped step by step, as those of files that have left: some of them now.
+/// dropped step by step, as those of files that have left: at least as many now as this step wrote.
+/// Before the step so many records waited for a commit.
 pub(crate) fn keep_portions<S: Alter + Drop>(
     writer: &mut SpoolWriter<S>,
     own: &mut OwnFiles,
     hub: &Hub,
     customer: u16,
+    before: u32,
 ) -> Result<(), Error>
     ensures kept { OnOk result (KeepsPartly S.Store (part customer hub.now).customer.spool writer.old own.old writer.new
         own.new) }
@@ -44,8 +48,9 @@ pub(crate) fn keep_portions<S: Alter + Drop>(
     ensures crash { Survives (shown S.Store writer.old.store) (shown S.Store writer.new.store) (λ _. ⊥) }
 {
     keep_of_lines(writer, own, hub, customer)?;
-    drop_given_up(writer, own)?;
-    writer.sweep()
+    drop_given_up(own)?;
+    let wrote = writer.waiting.saturating_sub(before);
+    sweep(writer, own, wrote)
 }
 
 /// Keeps records of the files that the streams of a customer's lines are about.
@@ -191,14 +196,10 @@ fn go_on<S: Alter + Drop>(
 }
 
 /// Has the records of files dropped that no stream is about any more.
-fn drop_given_up<S: Alter + Drop>(
-    writer: &mut SpoolWriter<S>,
-    own: &mut OwnFiles,
-) -> Result<(), Error>
-    ensures kept { (now : CustomerSpool) → OnOk result (KeepsPartly S.Store now writer.old own.old writer.new own.new) }
+fn drop_given_up(own: &mut OwnFiles) -> Result<(), Error>
+    ensures kept { (now : CustomerSpool) → OnOk result (KeepsStill now own.old own.new) }
     ensures seen { (now : CustomerSpool) → AllSeen now (own_of own.old)
         → OnOk result (AllUpToDate now (own_of own.new)) }
-    ensures crash { Survives (shown S.Store writer.old.store) (shown S.Store writer.new.store) (λ _. ⊥) }
 {
     let mut place = 0;
     while place < own.partial.len() {
@@ -207,7 +208,7 @@ fn drop_given_up<S: Alter + Drop>(
             place += 1;
         } else {
             let gone = own.partial.remove(place);
-            writer.sweep_later(gone.key, gone.written)?;
+            sweep_later(own, gone.key, gone.written)?;
         }
     }
     Ok(())

@@ -85,7 +85,7 @@ fn customer_named(
 ) -> Result<OwnFiles, AllocError>
     ensures { IfOk result (λ own. (own.name ≡ name) × (is_name_of (string_bytes own.text) name ≡ true)
         × (own.arrived ≡ (part customer hub.now).customer.spool.arrived) × (own.whole.items ≡ [])
-        × (own.partial.items ≡ [])) }
+        × (own.partial.items ≡ []) × (own.sweeps.items ≡ [])) }
 {
     let text = name_text(alloc, name)?;
     Ok(OwnFiles {
@@ -94,6 +94,7 @@ fn customer_named(
         arrived: hub.arrived(customer),
         whole: Vec::new(alloc),
         partial: Vec::new(alloc),
+        sweeps: Vec::new(alloc),
     })
 }
 

@@ -31,6 +31,7 @@ pub(crate) fn keep_step<S: Alter + Drop>(
         (shown S.Store writer.new.store)) }
     ensures crash { Survives (shown S.Store writer.old.store) (shown S.Store writer.new.store) (λ _. ⊥) }
 {
+    let before = writer.waiting;
     follow(writer, own, hub, customer)?;
-    keep_portions(writer, own, hub, customer)
+    keep_portions(writer, own, hub, customer, before)
 }

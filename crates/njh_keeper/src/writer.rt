@@ -1,18 +1,16 @@
 //! Writes into a spool file.
 
-ghost use Rattle.std.specs.Prelude.{◌≡◌, ◌<◌, ◌+◌, ◌-◌, ◌^◌, ◌++◌, List, [], ◌∷◌, true, false, min, IfOk, OnOk, OnErr};
+ghost use Rattle.std.specs.Prelude.{◌≡◌, ◌<◌, ◌≤◌, ◌+◌, ◌-◌, ◌^◌, ◌++◌, [], ◌∷◌, true, false, min, IfOk, OnOk, OnErr};
 ghost use Rattle.std.specs.Prelude.{IsOk};
 ghost use Rattle.sqlite.specs.State.{HasCleanDisk, Survives};
 ghost use Rattle.njh_spoolfile.specs.Kept.{file_of, record_of, with_file, with_changed, with_record, without_file};
 ghost use Rattle.njh_spoolfile.specs.Kept.{without_records};
 ghost use Rattle.njh_spoolfile.specs.Shelf.{shown};
 ghost use Rattle.njh_spoolfile.specs.Steps.{Changes, Commits};
-ghost use Rattle.njh_keeper.specs.code.Writing.{IsTaken, behind_of, freed_by, is_due, left_of, sweep_of, with_replaced};
-ghost use Rattle.njh_keeper.specs.code.Writing.{without_swept};
+ghost use Rattle.njh_keeper.specs.code.Writing.{IsTaken, is_due, with_replaced};
 
 mod free_numbers;
 
-use crate::own_files::KeptWhole;
 use njh_spoolfile::{FileRow, RecordRow, Store};
 use sqlite::{Alter, Error, ErrorCode};
 use std::alloc::Global;
@@ -20,19 +18,8 @@ use std::alloc::Global;
 /// A file has fewer records than this.
 pub(crate) const PLACES: u32 = 1 << 23;
 
-/// How many records of files that have left are dropped at once.
-const SWEPT_AT_ONCE: u32 = 512;
-
 /// How many records wait for a commit at most, if no whole file changes.
 const WAITING: u32 = 4096;
-
-/// Records of a file that has left, from a place on.
-#[derive(Clone, Copy)]
-struct Sweep {
-    key: u32,
-    next: u32,
-    end: u32,
-}
 
 /// A spool file, and what is next to be written there.
 #[derive(Drop)]
@@ -44,10 +31,8 @@ pub(crate) struct SpoolWriter<S: Alter + Drop> {
     pub(crate) next_key: u32,
     /// Numbers below it that no file's records stand under.
     pub(crate) free_keys: Vec<u32>,
-    /// Records of files that have left, which are still to be dropped.
-    sweeps: Vec<Sweep>,
     /// How many records were written or dropped since the last commit.
-    waiting: u32,
+    pub(crate) waiting: u32,
     /// Whether whole files changed since then.
     is_changed: bool,
     /// The time of this step, in seconds since 1970.
@@ -75,7 +60,6 @@ impl<S: Alter + Drop> SpoolWriter<S> {
             next_id: 1,
             next_key: 1,
             free_keys: Vec::new(alloc),
-            sweeps: Vec::new(alloc),
             waiting: 0,
             is_changed: false,
             now: 0,
@@ -180,61 +164,40 @@ impl<S: Alter + Drop> SpoolWriter<S> {
         self.store.change_file(id, row)
     }
 
-    /// Takes a whole file out. Its records are dropped step by step.
-    pub(crate) fn drop_file(&mut self, kept: &KeptWhole) -> Result<(), Error>
+    /// Takes the whole file of this row out. Its records stay.
+    pub(crate) fn drop_file(&mut self, id: u32) -> Result<(), Error>
         ensures changed { HasCleanDisk (shown S.Store self.new.store)
-            → OnOk result (Changes (without_file kept.now.id) (shown S.Store self.old.store)
-            (shown S.Store self.new.store)) }
+            → OnOk result (Changes (without_file id) (shown S.Store self.old.store) (shown S.Store self.new.store)) }
         ensures crash { Survives (shown S.Store self.old.store) (shown S.Store self.new.store) (λ _. ⊥) }
-        ensures later { OnOk result (self.new.sweeps.items
-            ≡ self.old.sweeps.items ++ sweep_of kept.now.key kept.now.records ∷ []) }
-        ensures others { self.new ≡ record self.old {
-          store = self.new.store;
-          is_changed = true;
-          sweeps = self.new.sweeps;
-        } }
+        ensures others { self.new ≡ record self.old { store = self.new.store; is_changed = true } }
     {
         self.is_changed = true;
-        self.store.drop_file(kept.id)?;
-        self.sweep_later(kept.key, kept.records)
+        self.store.drop_file(id)
     }
 
-    /// Has so many records under this number dropped step by step.
-    pub(crate) fn sweep_later(&mut self, key: u32, end: u32) -> Result<(), Error>
-        ensures later { OnOk result (self.new.sweeps.items ≡ self.old.sweeps.items ++ sweep_of key end ∷ []) }
-        ensures others { self.new ≡ record self.old { sweeps = self.new.sweeps } }
-    {
-        let end = end.min(PLACES);
-        self.sweeps.push(Sweep { key, next: 0, end })?;
-        Ok(())
-    }
-
-    /// Drops some records of a file that has left.
-    pub(crate) fn sweep(&mut self) -> Result<(), Error>
-        ensures none { self.old.sweeps.items ≡ [] → IsOk result × (self.new.sweeps.items ≡ [])
-            × (self.new ≡ record self.old { sweeps = self.new.sweeps }) }
-        ensures dropped { (before : List Sweep) → (last : Sweep) → self.old.sweeps.items ≡ before ++ last ∷ []
-            → HasCleanDisk (shown S.Store self.new.store) → OnOk result (Changes (without_swept last)
-            (shown S.Store self.old.store) (shown S.Store self.new.store)) }
-        ensures left { (before : List Sweep) → (last : Sweep) → self.old.sweeps.items ≡ before ++ last ∷ []
-            → OnOk result ((self.new.sweeps.items ≡ before ++ left_of last)
-            × (self.new.free_keys.items ≡ self.old.free_keys.items ++ freed_by last)
-            × (self.new.waiting ≡ min (self.old.waiting + 512) (2 ^ 32 - 1))) }
+    /// Drops the records that stand under this number at places from `first` on and before `end`.
+    pub(crate) fn drop_records(&mut self, key: u32, first: u32, end: u32) -> Result<(), Error>
+        requires places { (first ≤ end) × (end ≤ 2 ^ 23) }
+        ensures changed { HasCleanDisk (shown S.Store self.new.store)
+            → OnOk result (Changes (without_records key first end) (shown S.Store self.old.store)
+            (shown S.Store self.new.store)) }
         ensures crash { Survives (shown S.Store self.old.store) (shown S.Store self.new.store) (λ _. ⊥) }
         ensures others { self.new ≡ record self.old {
           store = self.new.store;
-          free_keys = self.new.free_keys;
-          sweeps = self.new.sweeps;
-          waiting = self.new.waiting;
+          waiting = min (self.old.waiting + (end - first)) (2 ^ 32 - 1);
         } }
     {
-        let Some(sweep) = self.sweeps.pop() else {
-            return Ok(());
-        };
-        let first = sweep.next.min(PLACES);
-        self.store.drop_records(sweep.key, first, behind_of(sweep))?;
-        self.waiting = self.waiting.saturating_add(SWEPT_AT_ONCE);
-        keep_rest(&mut self.sweeps, &mut self.free_keys, sweep)
+        self.waiting = self.waiting.saturating_add(end - first);
+        self.store.drop_records(key, first, end)
+    }
+
+    /// No file's records stand under this number any more.
+    pub(crate) fn free_key(&mut self, key: u32) -> Result<(), Error>
+        ensures freed { OnOk result (self.new.free_keys.items ≡ self.old.free_keys.items ++ key ∷ []) }
+        ensures others { self.new ≡ record self.old { free_keys = self.new.free_keys } }
+    {
+        self.free_keys.push(key)?;
+        Ok(())
     }
 
     /// Commits what waits, if whole files changed or much waits.
@@ -280,44 +243,17 @@ impl<S: Alter + Drop> SpoolWriter<S> {
         let SpoolWriter {
             store,
             free_keys,
-            sweeps,
             ..
         } = self;
         drop(free_keys);
-        drop(sweeps);
         store
     }
 
-    /// No number is free, and nothing of a file that has left is to be dropped.
+    /// No number is free.
     pub(crate) fn forget_numbers(&mut self)
-        ensures none { (self.new.free_keys.items ≡ []) × (self.new.sweeps.items ≡ []) }
-        ensures others { self.new ≡ record self.old { free_keys = self.new.free_keys; sweeps = self.new.sweeps } }
+        ensures none { self.new.free_keys.items ≡ [] }
+        ensures others { self.new ≡ record self.old { free_keys = self.new.free_keys } }
     {
         self.free_keys.clear();
-        self.sweeps.clear();
     }
-}
-
-/// The place after those records of a file that has left which are dropped at once.
-fn behind_of(sweep: Sweep) -> u32
-    ensures { result ≡ behind_of sweep }
-{
-    let first = sweep.next.min(PLACES);
-    (first + SWEPT_AT_ONCE).min(sweep.end).min(PLACES)
-}
-
-/// Has the records dropped later that are left of a file that has left. If none is, its number
-/// is free.
-fn keep_rest(sweeps: &mut Vec<Sweep>, free_keys: &mut Vec<u32>, sweep: Sweep) -> Result<(), Error>
-    ensures left { OnOk result (sweeps.new.items ≡ sweeps.old.items ++ left_of sweep) }
-    ensures freed { OnOk result (free_keys.new.items ≡ free_keys.old.items ++ freed_by sweep) }
-{
-    let Sweep { key, end, .. } = sweep;
-    let next = behind_of(sweep);
-    if next < end {
-        sweeps.push(Sweep { key, next, end })?;
-    } else {
-        free_keys.push(key)?;
-    }
-    Ok(())
 }

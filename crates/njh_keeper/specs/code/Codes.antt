@@ -61,27 +61,27 @@ partial_code = code_by (ℕ × (ℕ × (ℕ × (ℕ × Bool))))
     (λ p. record { number = p.0; key = p.1.0; seen = p.1.1.0; written = p.1.1.1.0; is_open = p.1.1.1.1 })
     (λ _. refl)
 
+abbrev sweep_code : Coded Sweep
+sweep_code = code_by (ℕ × (ℕ × ℕ)) (coded× coded_ℕ (coded× coded_ℕ coded_ℕ)) (λ s. (s.key, (s.next, s.end)))
+    (λ p. record { key = p.0; next = p.1.0; end = p.1.1 }) (λ _. refl)
+
 abbrev own_code : Coded OwnFiles
-own_code = code_by (List ℕ × (ℕ × (List KeptWhole × List KeptPartial)))
-    (coded× text_code (coded× coded_ℕ (coded× (coded_list whole_code) (coded_list partial_code))))
-    (λ o. (o.name, (o.arrived, (o.whole, o.partial))))
-    (λ p. record { name = p.0; arrived = p.1.0; whole = p.1.1.0; partial = p.1.1.1 }) (λ _. refl)
+own_code = code_by (List ℕ × (ℕ × (List KeptWhole × (List KeptPartial × List Sweep))))
+    (coded× text_code (coded× coded_ℕ (coded× (coded_list whole_code) (coded× (coded_list partial_code)
+    (coded_list sweep_code)))))
+    (λ o. (o.name, (o.arrived, (o.whole, (o.partial, o.sweeps)))))
+    (λ p. record { name = p.0; arrived = p.1.0; whole = p.1.1.0; partial = p.1.1.1.0; sweeps = p.1.1.1.1 }) (λ _. refl)
 
 -- a customer
 abbrev pub own_memory_code : Coded OwnMemory
 own_memory_code = code_by (OwnFiles × List ℕ) (coded× own_code text_code) (λ m. (m.own, m.text))
     (λ p. record { own = p.0; text = p.1 }) (λ _. refl)
 
-abbrev sweep_code : Coded Sweep
-sweep_code = code_by (ℕ × (ℕ × ℕ)) (coded× coded_ℕ (coded× coded_ℕ coded_ℕ)) (λ s. (s.key, (s.next, s.end)))
-    (λ p. record { key = p.0; next = p.1.0; end = p.1.1 }) (λ _. refl)
-
 -- the numbers that the writer may give out
 abbrev pub numbers_code : Coded Numbers
-numbers_code = code_by (ℕ × (ℕ × (List ℕ × List Sweep)))
-    (coded× coded_ℕ (coded× coded_ℕ (coded× text_code (coded_list sweep_code))))
-    (λ w. (w.next_id, (w.next_key, (w.free_keys, w.sweeps))))
-    (λ p. record { next_id = p.0; next_key = p.1.0; free_keys = p.1.1.0; sweeps = p.1.1.1 }) (λ _. refl)
+numbers_code = code_by (ℕ × (ℕ × List ℕ)) (coded× coded_ℕ (coded× coded_ℕ text_code))
+    (λ w. (w.next_id, (w.next_key, w.free_keys))) (λ p. record { next_id = p.0; next_key = p.1.0; free_keys = p.1.1 })
+    (λ _. refl)
 
 abbrev number_of_fault : FileFault → ℕ
 number_of_fault fault.BadFile = 0

@@ -3,8 +3,8 @@ use Rattle.std.specs.Prelude.{map, string_bytes}
 use Rattle.njh_keeper.specs.declared.own_files.KeptPartial as kept_partial
 use Rattle.njh_keeper.specs.declared.own_files.KeptWhole as kept_whole
 use Rattle.njh_keeper.specs.declared.own_files.OwnFiles as own_files
+use Rattle.njh_keeper.specs.declared.own_files.Sweep as sweep
 use Rattle.njh_keeper.specs.declared.writer.SpoolWriter as spool_writer
-use Rattle.njh_keeper.specs.declared.writer.Sweep as sweep
 use Rattle.njh_keeper.specs.code.Remembered.{KeptPartial, KeptWhole, Numbers, OwnFiles, OwnMemory, Sweep}
 
 -- a whole file
@@ -23,6 +23,10 @@ whole_of k = record {
 abbrev pub partial_of : kept_partial.KeptPartial → KeptPartial
 partial_of p = record { number = p.number; key = p.key; seen = p.seen; written = p.written; is_open = p.is_open }
 
+-- records of a file that has left
+abbrev pub sweep_in : sweep.Sweep → Sweep
+sweep_in s = record { key = s.key; next = s.next; end = s.end }
+
 -- the files of a customer
 abbrev pub own_of : own_files.OwnFiles → OwnFiles
 own_of own = record {
@@ -30,15 +34,12 @@ own_of own = record {
   arrived = own.arrived;
   whole = map whole_of own.whole.items;
   partial = map partial_of own.partial.items;
+  sweeps = map sweep_in own.sweeps.items;
 }
 
 -- a customer
 abbrev pub own_memory_of : own_files.OwnFiles → OwnMemory
 own_memory_of own = record { own = own_of own; text = string_bytes own.text }
-
--- records of a file that has left
-abbrev pub sweep_in : sweep.Sweep → Sweep
-sweep_in s = record { key = s.key; next = s.next; end = s.end }
 
 -- the numbers that a writer may give out
 abbrev pub numbers_of : {S : Type 0} → spool_writer.SpoolWriter S → Numbers
@@ -46,5 +47,4 @@ numbers_of w = record {
   next_id = w.next_id;
   next_key = w.next_key;
   free_keys = w.free_keys.items;
-  sweeps = map sweep_in w.sweeps.items;
 }

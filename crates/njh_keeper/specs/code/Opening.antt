@@ -61,11 +61,12 @@ pub record IsRemembered (own : OwnFiles) (files : List WholeFile) (s t : SpoolCo
   pub below : (end : ℕ) → AreBelow end s → AreBelow end t
   pub keys : (n : ℕ) → keyed (λ k. k.key) n own.whole ≡ keyed_rows n (own_rows own.name s)
 
--- it is this customer's, and no file is remembered that isn't whole
+-- it is this customer's, no file is remembered that isn't whole, and none that has left
 pub record IsOwnOf (name : List ℕ) (spool : CustomerSpool) (own : OwnFiles) : Type 0 where
   pub name_is : own.name ≡ name
   pub arrived : own.arrived ≡ spool.arrived
   pub partial : own.partial ≡ []
+  pub sweeps : own.sweeps ≡ []
 
 -- these are its rows, and the hub's files were read from them
 abbrev pub Remembering : (name : List ℕ) (rows : List (ℕ × File)) (files : List WholeFile) (own : OwnFiles)

@@ -82,9 +82,18 @@ IsSameButNumbers old new = new ≡ record old {
   store = new.store;
   next_key = new.next_key;
   free_keys = new.free_keys;
-  sweeps = new.sweeps;
   waiting = new.waiting;
 }
+
+-- Files that aren't whole are remembered otherwise, and what is to be dropped of those that have left.
+abbrev pub IsSameButPartial : own_files.OwnFiles → own_files.OwnFiles → Type 0
+IsSameButPartial old new = new ≡ record old { partial = new.partial; sweeps = new.sweeps }
+
+-- Nothing is written, and records of files that aren't whole stand there still, whichever spool it is.
+pub record KeepsStill (now : CustomerSpool) (own new_own : own_files.OwnFiles) : Type 0 where
+  pub keeps : (w : Numbers) (s : SpoolContents) → KeepsOn w (own_of own) w (own_of new_own) now s s
+  pub seen : AllSeen now (own_of own) → AllSeen now (own_of new_own)
+  pub others : IsSameButPartial own new_own
 
 -- Records of files that aren't whole are kept as they are now.
 pub record KeepsPartly {S : Type 0} (g : Ghosts S) (now : CustomerSpool) (w : SpoolWriter S) (own : own_files.OwnFiles)
@@ -94,7 +103,7 @@ pub record KeepsPartly {S : Type 0} (g : Ghosts S) (now : CustomerSpool) (w : Sp
       (shown g new_w.store)
   pub seen : AllSeen now (own_of own) → AllSeen now (own_of new_own)
   pub numbers : IsSameButNumbers w new_w
-  pub others : new_own ≡ record own { partial = new_own.partial }
+  pub others : IsSameButPartial own new_own
 
 -- the same, if a number is in hand
 pub record KeepsPartlyNew {S : Type 0} (g : Ghosts S) (key : ℕ) (now : CustomerSpool) (w : SpoolWriter S)
@@ -104,4 +113,4 @@ pub record KeepsPartlyNew {S : Type 0} (g : Ghosts S) (key : ℕ) (now : Custome
       (shown g new_w.store)
   pub seen : AllSeen now (own_of own) → AllSeen now (own_of new_own)
   pub numbers : IsSameButNumbers w new_w
-  pub others : new_own ≡ record own { partial = new_own.partial }
+  pub others : IsSameButPartial own new_own

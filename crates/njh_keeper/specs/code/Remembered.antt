@@ -35,30 +35,30 @@ pub record KeptPartial : Type 0 where
   pub written : ℕ
   pub is_open : Bool
 
--- a customer's files
-pub record OwnFiles : Type 0 where
-  pub name : List ℕ
-  pub arrived : ℕ
-  pub whole : List KeptWhole
-  pub partial : List KeptPartial
-
--- a customer's files, and its name as each row has it
-pub record OwnMemory : Type 0 where
-  pub own : OwnFiles
-  pub text : List ℕ
-
 -- records of a file that has left, from a place on
 pub record Sweep : Type 0 where
   pub key : ℕ
   pub next : ℕ
   pub end : ℕ
 
--- the numbers that the writer may give out, and those of files that have left
+-- a customer's files, and what is still to be dropped of those that have left
+pub record OwnFiles : Type 0 where
+  pub name : List ℕ
+  pub arrived : ℕ
+  pub whole : List KeptWhole
+  pub partial : List KeptPartial
+  pub sweeps : List Sweep
+
+-- a customer's files, and its name as each row has it
+pub record OwnMemory : Type 0 where
+  pub own : OwnFiles
+  pub text : List ℕ
+
+-- the numbers that the writer may give out
 pub record Numbers : Type 0 where
   pub next_id : ℕ
   pub next_key : ℕ
   pub free_keys : List ℕ
-  pub sweeps : List Sweep
 
 -- three lists of one length side by side
 pub data AllBeside {X Y Z : Type 0} (R : X → Y → Z → Type 0) : List X → List Y → List Z → Type 0 where
@@ -114,17 +114,18 @@ abbrev pub keyed : {X : Type 0} → (X → ℕ) → ℕ → List X → ℕ
 keyed key n [] = 0
 keyed key n (x ∷ xs) = one_if (key x == n) + keyed key n xs
 
--- how often it is the number of a customer's files,
+-- how often it is the number of a customer's files, of those too that have left,
 abbrev pub uses_of_files : ℕ → OwnFiles → ℕ
-uses_of_files n own = keyed (λ k. k.key) n own.whole + keyed (λ p. p.key) n own.partial
+uses_of_files n own =
+    keyed (λ k. k.key) n own.whole + keyed (λ p. p.key) n own.partial + keyed (λ s. s.key) n own.sweeps
 
 -- whether the writer may still give it out for the first time
 abbrev pub may_be_given : ℕ → ℕ → Bool
 may_be_given next n = nat_le next n && nat_lt n (2 ^ 32 - 1)
 
--- how often it is one of the writer's: of a file that has left, free, or not given out yet,
+-- how often it is one of the writer's: free, or not given out yet,
 abbrev pub uses_of_numbers : ℕ → Numbers → ℕ
-uses_of_numbers n w = keyed (λ s. s.key) n w.sweeps + keyed (λ k. k) n w.free_keys + one_if (may_be_given w.next_key n)
+uses_of_numbers n w = keyed (λ k. k) n w.free_keys + one_if (may_be_given w.next_key n)
 
 -- and both
 abbrev pub uses : ℕ → Numbers → OwnFiles → ℕ

@@ -5,7 +5,7 @@ use Rattle.std.specs.List.{AllByRecursion, list_any}
 use Rattle.njh_spoolfile.specs.Kept.{Record, SpoolContents, with_record, without_records}
 use Rattle.njh_spoolfile.specs.CommitState.{CommitState}
 use Rattle.njh_spoolfile.specs.declared.kept.StoredFile.{StoredFile}
-use Rattle.njh_keeper.specs.declared.writer.Sweep.{Sweep}
+use Rattle.njh_keeper.specs.declared.own_files.Sweep.{Sweep}
 
 -- a record in the place of the one that stood there
 abbrev pub with_replaced : Record → SpoolContents → SpoolContents
@@ -21,25 +21,40 @@ IsTaken free next key left behind =
 abbrev pub sweep_of : (key end : ℕ) → Sweep
 sweep_of key end = record { key = key; next = 0; end = min end (2 ^ 23) }
 
--- from where on records are dropped next, and which aren't any more: 512 at once
+-- the places of the records that are still to be dropped: from one on and before another
+abbrev pub end_of : Sweep → ℕ
+end_of sweep = min sweep.end (2 ^ 23)
+
 abbrev pub first_of : Sweep → ℕ
-first_of sweep = min sweep.next (2 ^ 23)
+first_of sweep = min sweep.next (end_of sweep)
 
-abbrev pub behind_of : Sweep → ℕ
-behind_of sweep = min (min (first_of sweep + 512) sweep.end) (2 ^ 23)
+-- how many those are, of one file that has left and of all
+abbrev pub dead_in : Sweep → ℕ
+dead_in sweep = end_of sweep - first_of sweep
 
-abbrev pub without_swept : Sweep → SpoolContents → SpoolContents
-without_swept sweep spool = without_records sweep.key (first_of sweep) (behind_of sweep) spool
+abbrev pub dead_of : List Sweep → ℕ
+dead_of [] = 0
+dead_of (sweep ∷ sweeps) = dead_in sweep + dead_of sweeps
+
+-- of them so many at most are dropped, up to this place
+abbrev pub behind_of : (most : ℕ) → Sweep → ℕ
+behind_of most sweep = first_of sweep + min most (dead_in sweep)
+
+abbrev pub without_swept : (most : ℕ) → Sweep → SpoolContents → SpoolContents
+without_swept most sweep spool = without_records sweep.key (first_of sweep) (behind_of most sweep) spool
 
 -- what is to be dropped then, and the key that is free if that is nothing
-abbrev pub is_left : Sweep → Bool
-is_left sweep = nat_lt (behind_of sweep) sweep.end
+abbrev pub is_left : (most : ℕ) → Sweep → Bool
+is_left most sweep = nat_lt (behind_of most sweep) (end_of sweep)
 
-abbrev pub left_of : Sweep → List Sweep
-left_of sweep = if is_left sweep then record sweep { next = behind_of sweep } ∷ [] else []
+abbrev pub rest_of : (most : ℕ) → Sweep → Sweep
+rest_of most sweep = record { key = sweep.key; next = behind_of most sweep; end = end_of sweep }
 
-abbrev pub freed_by : Sweep → List ℕ
-freed_by sweep = if is_left sweep then [] else sweep.key ∷ []
+abbrev pub left_of : (most : ℕ) → Sweep → List Sweep
+left_of most sweep = if is_left most sweep then rest_of most sweep ∷ [] else []
+
+abbrev pub freed_by : (most : ℕ) → Sweep → List ℕ
+freed_by most sweep = if is_left most sweep then [] else sweep.key ∷ []
 
 -- whole files changed since the last commit, or 4,096 records were written or dropped
 abbrev pub is_due : (is_changed : Bool) (waiting : ℕ) → Bool

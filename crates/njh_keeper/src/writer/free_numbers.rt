@@ -32,7 +32,7 @@ impl<S: Alter + Drop> SpoolWriter<S> {
             × (self.new.next_key ≡ key_behind self.old.next_key files.now)
             × (self.new.free_keys.items ≡ self.old.free_keys.items ++ free_at files.now self.new.next_key)
             × (self.new.waiting ≡ 0) × (self.new.is_changed ≡ false)) }
-        ensures others { (self.new.sweeps ≡ self.old.sweeps) × (self.new.now ≡ self.old.now) }
+        ensures others { self.new.now ≡ self.old.now }
         ensures crash { Survives (shown S.Store self.old.store) (shown S.Store self.new.store) (λ _. ⊤) }
     {
         self.go_behind(files);

@@ -1,6 +1,6 @@
 use Rattle.njh_keeper.proofs.Words
-use Words.{◌≡◌, ◌++◌, [], length, map, sym, ap, subst, ◌∙◌, arith, length-map, ⊤, Database, HasCleanDisk, State}
-use Words.{Survives, Stands, Holds, shown, AreFilesApart, have_low_ids, numbers_of, own_of, sweep_in, AreRemembered}
+use Words.{◌≡◌, ◌++◌, length, map, sym, ap, subst, ◌∙◌, arith, length-map, ⊤, Database, HasCleanDisk, State}
+use Words.{Survives, Stands, Holds, shown, AreFilesApart, have_low_ids, numbers_of, own_of, AreRemembered}
 use Words.{HasBegun, entries, emptied_at, free_at, key_behind, without_keys, SpoolWriter}
 use Rattle.njh_keeper.proofs.{LeadingLaws.survives_any, OpeningBegun.has_begun, RowLaws.is_ordered}
 use Rattle.njh_keeper.proofs.beginning.begin.Goals as goal
@@ -40,13 +40,11 @@ returns-clause-begun g c clean s stands distinct found reads =
     let key = c.forget_numbers.new.self.next_key in
     let id = c.forget_numbers.new.self.next_id in
     let numbers = c.in_ok-begin_numbers.ensures.numbers in
-    let sweeps : w.sweeps ≡ [] = ap (λ xs. map sweep_in xs.items) c.begin_numbers.ensures.others.0
-    ∙ ap (map sweep_in) c.forget_numbers.ensures.none.1 in
     let free : w.free_keys ≡ free_at files w.next_key =
-    numbers.2 ∙ ap (λ xs. xs ++ free_at files w.next_key) c.forget_numbers.ensures.none.0 in
+    numbers.2 ∙ ap (λ xs. xs ++ free_at files w.next_key) c.forget_numbers.ensures.none in
     let begun : HasBegun names hub owns w (without_keys (emptied_at files (key_behind key files)) led.0) =
     has_begun files names hub owns s.now led.0 w id key (subst AreFilesApart same_files c.in_ok-check_numbers.ensures.0)
-    (sym (ap have_low_ids same_files) ∙ c.in_ok-check_numbers.ensures.1) rows distinct long all sweeps free numbers.1
+    (sym (ap have_low_ids same_files) ∙ c.in_ok-check_numbers.ensures.1) rows distinct long all free numbers.1
     numbers.0 in
     let moved : Stands (record s { now = led.0 }) third =
     subst (λ (x : State). Stands (record s { now = led.0 }) x) (sym same) led.1 in (

@@ -1,6 +1,6 @@
 use Rattle.{std.proofs.Common.{◌≡◌, true, [], map, string_bytes, ap, subst, ◌∙◌}, njh_spoolfile.specs.Shelf.shown}
 use Rattle.{njh_hub.specs.WholeHub.part, njh_keeper.proofs.{LeadingLaws.leads_weaker, OpeningLists.remembered}}
-use Rattle.njh_keeper.specs.code.{Leading.Leads, Memory.{own_of, partial_of, whole_of}, Opening.{Reads, entries}}
+use Rattle.njh_keeper.specs.code.{Leading.Leads, Memory.{own_of, partial_of, sweep_in, whole_of}, Opening.{Reads, entries}}
 use Rattle.njh_keeper.specs.{code.Opening.owned_of, Opened.is_name_of}
 use Rattle.njh_keeper.proofs.remembering.remember_customer.Goals as goal
 
@@ -12,6 +12,7 @@ returns-clause-own g c =
       name_is = ap (λ o. o.name) others ∙ first.0;
       arrived = ap (λ o. o.arrived) others ∙ first.2;
       partial = ap (λ o. map partial_of o.partial.items) others ∙ ap (map partial_of) first.4;
+      sweeps = ap (λ o. map sweep_in o.sweeps.items) others ∙ ap (map sweep_in) first.5;
     }
 
 pub returns-clause-text : goal.returns-clause-text
