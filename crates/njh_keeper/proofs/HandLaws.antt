@@ -3,7 +3,7 @@ use Rattle.njh_keeper.proofs.Words
 use Words.{◌≡◌, ◌≢◌, ℕ, ◌+◌, ◌^◌, ◌<◌, ◌≤◌, true, List, [], ◌∷◌, ◌++◌, length, get_or, remove, refl, sym, subst, ◌∙◌}
 use Words.{arith, All-from_recursion, AllByRecursion, State, HasHeaders, File, SpoolContents, records_of, with_file}
 use Words.{without_records, Changes, WholeFile, FileSummaryView, file_summary, Writes, AddsRow, AreFronts, GoesTo}
-use Words.{HasFiles, IsFrontOf, IsRowFor, LeadsFiles, Memory, claim_of, Leads, FitsHub, AreApart, KeptPartial}
+use Words.{HasFiles, IsFrontOf, IsRowFor, LeadsFiles, Memory, Stage, claim_of, Leads, FitsHub, AreApart, KeptPartial}
 use Words.{KeptWhole, Numbers, Remembers, claim, with_key, IsTaken, is_name_of}
 use Rattle.njh_keeper.proofs.{CallLaws.{add_follows, take_follows, taken_is_empty}, FollowingLaws.goes}
 use Rattle.njh_keeper.proofs.{FollowingLaws.{remain_removed, remain_same}, FrameLaws.drops_records, KeyLaws.keyed_none}
@@ -114,10 +114,11 @@ module _ (m m1 : Memory) (s t u : SpoolContents) (files : List WholeFile) (has :
       (λ p. records_of p.key v ≡ records_of p.key s)
       (λ p other before. done.0.others p.key other ∙ before) m1.own.partial (no_partial k.key m1 apart) hand.records)
 
-  pub added_goes : (key : ℕ) (m2 : Memory) (old new : State) (row : AddsRow key summary g m1 m2 old new)
+  pub added_goes : (key : ℕ) (old : State) (c : Stage)
+      (row : AddsRow key summary g (record { memory = m1; shows = old }) c)
       → IsInHand key written m m1 s t files g.records
-      → Writes true key written g.records t u → GoesTo m m2 s (with_file row.kept.id row.row u) (files ++ g ∷ [])
-  added_goes key m2 old new row hand finishes =
+      → Writes true key written g.records t u → GoesTo m c.memory s (with_file row.kept.id row.row u) (files ++ g ∷ [])
+  added_goes key old c row hand finishes =
       subst (λ x. GoesTo m x s (with_file row.kept.id row.row u) (files ++ g ∷ [])) (sym row.memory)
       (row_added row.kept row.row (subst (λ n. IsInHand n written m m1 s t files g.records) (sym row.key_is) hand)
       row.id row.remembers (subst (λ n. IsRowFor m1.text n summary row.row) (sym row.key_is) row.is_row)
@@ -125,13 +126,19 @@ module _ (m m1 : Memory) (s t u : SpoolContents) (files : List WholeFile) (has :
 
 -- ---- the calls one after the other
 
-module _ (m m1 : Memory) (g : WholeFile) (key written : ℕ) where
-  pub add_leads : (m2 : Memory) (summary : FileSummaryView) {old mid mid2 new : State} → summary ≡ file_summary g
+module _ (a b : Stage) (g : WholeFile) (key written : ℕ) where
+  abbrev m : Memory
+  m = a.memory
+
+  abbrev m1 : Memory
+  m1 = b.memory
+
+  pub add_leads : (c : Stage) (summary : FileSummaryView) {mid : State} → summary ≡ file_summary g
       → HasHeaders g.kind g.records → AllByRecursion FitsHub g.records
-      → LeadsInHand key written g m m1 old mid → Leads (Writes true key written g.records) mid mid2
-      → AddsRow key summary g m1 m2 mid2 new
-      → LeadsFiles m m2 (λ s files. AreFronts s m.own.partial (g ∷ [])) (λ files now. now ≡ files ++ g ∷ []) old new
-  add_leads m2 summary {old} {mid} {mid2} {new} summary_is headers fits hand finish row =
+      → LeadsInHand key written g a b → Leads (Writes true key written g.records) b.shows mid
+      → AddsRow key summary g (record b { shows = mid }) c
+      → LeadsFiles (λ s files. AreFronts s m.own.partial (g ∷ [])) (λ files now. now ≡ files ++ g ∷ []) a c
+  add_leads c summary {mid} summary_is headers fits hand finish row =
       leads_then
       (leads_then {R = λ s u. (files : List WholeFile) → HasFiles m s files → AreFronts s m.own.partial (g ∷ [])
       → (t : SpoolContents) × IsInHand key written m m1 s t files g.records × Writes true key written g.records t u}
@@ -140,25 +147,26 @@ module _ (m m1 : Memory) (g : WholeFile) (key written : ℕ) where
       let found = both files has fronts in (
         files ++ g ∷ [],
         refl,
-        subst (λ x. GoesTo m m2 s x (files ++ g ∷ [])) (sym same)
-            (added_goes m m1 s found.0 u files has g summary summary_is headers fits written key m2 mid2 new row found.1
+        subst (λ x. GoesTo m c.memory s x (files ++ g ∷ [])) (sym same)
+            (added_goes m m1 s found.0 u files has g summary summary_is headers fits written key mid c row found.1
             found.2),
       ))
 
-  pub partial_leads : (i : ℕ) (p : KeptPartial) {at : State} → i < length m.own.partial → p ≡ get_or m.own.partial i p
+  pub partial_leads : (i : ℕ) (p : KeptPartial) → i < length m.own.partial → p ≡ get_or m.own.partial i p
       → g.number ≡ p.number → p.seen ≤ length g.records → p.key ≡ key → p.written ≡ written
       → m1 ≡ record { numbers = m.numbers; own = record m.own { partial = remove m.own.partial i }; text = m.text }
-      → LeadsInHand key written g m m1 at at
-  partial_leads i p there is same seen key_is written_is left =
-      leads_nothing (λ s files has fronts. subst (λ x. IsInHand key written m x s s files g.records) (sym left)
+      → b.shows ≡ a.shows → LeadsInHand key written g a b
+  partial_leads i p there is same seen key_is written_is left at =
+      subst (λ x. LeadsInHand key written g a (record { memory = m1; shows = x })) (sym at)
+      (leads_nothing (λ s files has fronts. subst (λ x. IsInHand key written m x s s files g.records) (sym left)
       (subst (λ n. IsInHand n written m (memory_left m g s files has i) s s files g.records) key_is
       (subst (λ n. IsInHand p.key n m (memory_left m g s files has i) s s files g.records) written_is
-      (partial_in_hand m g s files has i p there is same seen fronts))))
+      (partial_in_hand m g s files has i p there is same seen fronts)))))
 
-  pub key_leads : (left : List ℕ) (behind : ℕ) {old new : State}
+  pub key_leads : (left : List ℕ) (behind : ℕ)
       → IsTaken m.numbers.free_keys m.numbers.next_key key left behind → written ≡ 0
       → m1 ≡ record { numbers = record m.numbers { free_keys = left; next_key = behind }; own = m.own; text = m.text }
-      → Changes (without_records key 0 (2 ^ 23)) old new → LeadsInHand key written g m m1 old new
+      → Changes (without_records key 0 (2 ^ 23)) a.shows b.shows → LeadsInHand key written g a b
   key_leads left behind taken none is changes =
       leads_weaker (leads_by changes) (λ s t same files has fronts.
       subst (λ x. IsInHand key written m x s t files g.records) (sym is)

@@ -2,11 +2,11 @@
 use Rattle.njh_keeper.proofs.Words
 use Words.{◌≡◌, ℕ, zero, suc, ◌+◌, ◌-◌, ◌^◌, ◌<◌, ◌≤◌, ◌==◌, inl, inr, Bool, true, false, cond, List, [], ◌∷◌, ◌++◌}
 use Words.{length, map, get_or, set, take, Option, Some, None, min, refl, sym, ap, subst, ◌∙◌, arith, cases_lt}
-use Words.{get_or-take, get_or_default, length-take-le, take_more, All-from_recursion, AllByRecursion, State, In}
+use Words.{get_or-take, get_or_default, length-take-le, take_more, All-from_recursion, AllByRecursion, In}
 use Words.{Stored, HasHeaders, SpoolContents, records_of, contents, CustomerSpool, WholeFile, max_arrived}
 use Words.{partial_numbered, Ready, records_in, HaveHeaders, outgoing, Survive, leaves, none, FileSummaryView}
 use Words.{file_summary, Part, part, AreFronts, GoesTo, GoOnIn, IsAt, IsFrontOf, IsReached, IsStillAt, LeadsFiles}
-use Words.{HasFiles, Memory, Remain, KeptPartial, one_if, AreNumbered, IsWalkedTo}
+use Words.{HasFiles, Memory, Remain, Stage, KeptPartial, one_if, AreNumbered, IsWalkedTo}
 use Rattle.{std.{proofs.Common.find, specs.Option.{option_map, option_or}}, njh_customer.specs.Customer.Customer}
 use Rattle.{njh_customer.proofs.SurvivingLaws.first_files, njh_keeper.proofs.FollowingLaws.{all_remain, goes_then}}
 use Rattle.njh_keeper.proofs.{KeyLaws.keyed_at, LeadingLaws.{leads_then, leads_weaker}, ListLaws.all_both}
@@ -117,75 +117,74 @@ is_at_of_first files n i f within low here = record {
 -- ---- the calls one after the other
 
 -- what a call makes of the files says more
-pub says_more : {m m1 : Memory} {old mid : State} {Given : SpoolContents → List WholeFile → Type 0}
-    {P Q : List WholeFile → List WholeFile → Type 0} → LeadsFiles m m1 Given P old mid
-    → ((t : SpoolContents) (files now : List WholeFile) → HasFiles m1 t now → P files now → Q files now)
-    → LeadsFiles m m1 Given Q old mid
+pub says_more : {a b : Stage} {Given : SpoolContents → List WholeFile → Type 0}
+    {P Q : List WholeFile → List WholeFile → Type 0} → LeadsFiles Given P a b
+    → ((t : SpoolContents) (files now : List WholeFile) → HasFiles b.memory t now → P files now → Q files now)
+    → LeadsFiles Given Q a b
 says_more one more = leads_weaker one (λ s t first files has given.
-    let a = first files has given in (a.0, more t files a.0 a.2.has a.1, a.2))
+    let x = first files has given in (x.0, more t files x.0 x.2.has x.1, x.2))
 
-module _ {m m1 m2 : Memory} {old mid new : State} where
+module _ {a b c : Stage} where
   -- the next one is found, and is what the hub has
   pub walked_on : (still : List WholeFile) (place number : ℕ) (f : WholeFile) → IsAt still place f → number ≡ f.number
-      → LeadsFiles m m1 (λ s files. IsWalkedTo still files place)
-      (λ files now. IsWalkedTo still now place × IsReached (Some number) now place) old mid
-      → LeadsFiles m1 m2 (λ s files. IsStillAt files place f) (λ files now. now ≡ set files place f) mid new
-      → LeadsFiles m m2 (λ s files. IsWalkedTo still files place) (λ files now. IsWalkedTo still now (place + 1)) old
-      new
+      → LeadsFiles (λ s files. IsWalkedTo still files place)
+      (λ files now. IsWalkedTo still now place × IsReached (Some number) now place) a b
+      → LeadsFiles (λ s files. IsStillAt files place f) (λ files now. now ≡ set files place f) b c
+      → LeadsFiles (λ s files. IsWalkedTo still files place) (λ files now. IsWalkedTo still now (place + 1)) a c
   walked_on still place number f next number_is one more =
       leads_then one more (λ s t u first second files has walk.
-      let a = first files has walk in
-      let found : IsFoundAt number a.0 place = a.1.1 in
+      let x = first files has walk in
+      let found : IsFoundAt number x.0 place = x.1.1 in
       let same : found.file.number ≡ f.number = found.number_is ∙ number_is in
-      let b = second a.0 a.2.has (record {
+      let y = second x.0 x.2.has (record {
         before = found.file;
         is = found.is;
-        still = walk_finds still a.0 place a.1.0 found.file found.there found.is f next.there next.is same;
+        still = walk_finds still x.0 place x.1.0 found.file found.there found.is f next.there next.is same;
       }) in (
-        b.0,
-        subst (λ x. IsWalkedTo still x (place + 1)) (sym b.1)
-            (walk_goes_on still a.0 place a.1.0 found.file found.there found.is f next.there next.is same),
-        goes_then m m1 m2 s t u a.0 b.0 a.2 b.2,
+        y.0,
+        subst (λ fs. IsWalkedTo still fs (place + 1)) (sym y.1)
+            (walk_goes_on still x.0 place x.1.0 found.file found.there found.is f next.there next.is same),
+        goes_then a.memory b.memory c.memory s t u x.0 y.0 x.2 y.2,
       ))
 
   -- one more is followed
   pub walked_further : (Given : SpoolContents → List WholeFile → Type 0) (still : List WholeFile) (place index : ℕ)
-      → place ≡ index → LeadsFiles m m1 Given (λ files now. IsWalkedTo still now index) old mid
-      → LeadsFiles m1 m2 (λ s files. IsWalkedTo still files place) (λ files now. IsWalkedTo still now (place + 1)) mid
-      new → LeadsFiles m m2 Given (λ files now. IsWalkedTo still now (index + 1)) old new
+      → place ≡ index → LeadsFiles Given (λ files now. IsWalkedTo still now index) a b
+      → LeadsFiles (λ s files. IsWalkedTo still files place) (λ files now. IsWalkedTo still now (place + 1)) b c
+      → LeadsFiles Given (λ files now. IsWalkedTo still now (index + 1)) a c
   walked_further Given still place index same one more =
       leads_then one more (λ s t u first second files has given.
-      let a = first files has given in
-      let b = second a.0 a.2.has (subst (IsWalkedTo still a.0) (sym same) a.1) in
-      (b.0, subst (λ n. IsWalkedTo still b.0 (n + 1)) same b.1, goes_then m m1 m2 s t u a.0 b.0 a.2 b.2))
+      let x = first files has given in
+      let y = second x.0 x.2.has (subst (IsWalkedTo still x.0) (sym same) x.1) in
+      (y.0, subst (λ n. IsWalkedTo still y.0 (n + 1)) same y.1, goes_then a.memory b.memory c.memory s t u x.0 y.0 x.2 y.2))
 
   -- after the last one all others have left
   pub walked_to_end : (Given : SpoolContents → List WholeFile → Type 0) (still : List WholeFile) (place index : ℕ)
-      → place ≡ index → length still ≤ place → LeadsFiles m m1 Given (λ files now. IsWalkedTo still now index) old mid
-      → LeadsFiles m1 m2 (λ s files. IsWalkedTo still files place)
-      (λ files now. IsWalkedTo still now place × IsReached None now place) mid new
-      → LeadsFiles m m2 Given (λ files now. now ≡ still) old new
+      → place ≡ index → length still ≤ place → LeadsFiles Given (λ files now. IsWalkedTo still now index) a b
+      → LeadsFiles (λ s files. IsWalkedTo still files place)
+      (λ files now. IsWalkedTo still now place × IsReached None now place) b c
+      → LeadsFiles Given (λ files now. now ≡ still) a c
   walked_to_end Given still place index same last one more =
       leads_then one more (λ s t u first second files has given.
-      let a = first files has given in
-      let b = second a.0 a.2.has (subst (IsWalkedTo still a.0) (sym same) a.1) in
-      (b.0, walk_ends still b.0 place b.1.0 last b.1.1, goes_then m m1 m2 s t u a.0 b.0 a.2 b.2))
+      let x = first files has given in
+      let y = second x.0 x.2.has (subst (IsWalkedTo still x.0) (sym same) x.1) in
+      (y.0, walk_ends still y.0 place y.1.0 last y.1.1, goes_then a.memory b.memory c.memory s t u x.0 y.0 x.2 y.2))
 
   -- one more is added
   pub added_further : (whole : List WholeFile) (before index : ℕ) (f : WholeFile) → IsAt whole index f
-      → LeadsFiles m m1 (λ s files. (files ≡ take before whole) × AreFronts s m.own.partial whole)
-      (λ files now. now ≡ take index whole) old mid
-      → LeadsFiles m1 m2 (λ s files. AreFronts s m1.own.partial (f ∷ [])) (λ files now. now ≡ files ++ f ∷ []) mid new
-      → LeadsFiles m m2 (λ s files. (files ≡ take before whole) × AreFronts s m.own.partial whole)
-      (λ files now. now ≡ take (index + 1) whole) old new
+      → LeadsFiles (λ s files. (files ≡ take before whole) × AreFronts s a.memory.own.partial whole)
+      (λ files now. now ≡ take index whole) a b
+      → LeadsFiles (λ s files. AreFronts s b.memory.own.partial (f ∷ [])) (λ files now. now ≡ files ++ f ∷ []) b c
+      → LeadsFiles (λ s files. (files ≡ take before whole) × AreFronts s a.memory.own.partial whole)
+      (λ files now. now ≡ take (index + 1) whole) a c
   added_further whole before index f here one more =
       leads_then one more (λ s t u first second files has given.
-      let a = first files has given in
-      let b = second a.0 a.2.has (front_at t m1.own.partial whole index f here.there here.is
-      (fronts_stay s t whole m.own.partial m1.own.partial a.2.remain a.2.records given.1)) in (
-        b.0,
-        b.1 ∙ (λ i. a.1 i ++ here.is i ∷ []) ∙ sym (take_more whole index f here.there),
-        goes_then m m1 m2 s t u a.0 b.0 a.2 b.2,
+      let x = first files has given in
+      let y = second x.0 x.2.has (front_at t b.memory.own.partial whole index f here.there here.is
+      (fronts_stay s t whole a.memory.own.partial b.memory.own.partial x.2.remain x.2.records given.1)) in (
+        y.0,
+        y.1 ∙ (λ i. x.1 i ++ here.is i ∷ []) ∙ sym (take_more whole index f here.there),
+        goes_then a.memory b.memory c.memory s t u x.0 y.0 x.2 y.2,
       ))
 
 -- ---- which were there
@@ -224,20 +223,34 @@ goes_arrived a m m2 s t files one = record {
   records = one.records;
 }
 
-pub followed_all : (a : ℕ) {m m1 m2 : Memory} {first mid new : State} (c : Customer) (before old : ℕ)
+-- so many have become whole then
+abbrev pub with_arrived : ℕ → Stage → Stage
+with_arrived n at = record {
+  memory = record {
+    numbers = at.memory.numbers;
+    own = record at.memory.own { arrived = n };
+    text = at.memory.text;
+  };
+  shows = at.shows;
+}
+
+pub followed_all : (n : ℕ) {a b d : Stage} (c : Customer) (before old : ℕ)
     → ((files : List WholeFile) → GoOnIn before files c → Survive files (take old c.spool.whole))
-    → LeadsFiles m m1 (λ s files. Survive files (take old c.spool.whole) × AreNumbered files)
-    (λ files now. now ≡ take old c.spool.whole) first mid
-    → LeadsFiles m1 m2 (λ s files. (files ≡ take old c.spool.whole) × AreFronts s m1.own.partial c.spool.whole)
-    (λ files now. now ≡ c.spool.whole) mid new
-    → LeadsFiles m (record { numbers = m2.numbers; own = record m2.own { arrived = a }; text = m2.text })
-    (λ s files. GoOnIn before files c × AreFronts s m.own.partial c.spool.whole)
-    (λ files now. now ≡ c.spool.whole) first new
-followed_all a {m} {m1} {m2} c before old survive one more =
+    → LeadsFiles (λ s files. Survive files (take old c.spool.whole) × AreNumbered files)
+    (λ files now. now ≡ take old c.spool.whole) a b
+    → LeadsFiles (λ s files. (files ≡ take old c.spool.whole) × AreFronts s b.memory.own.partial c.spool.whole)
+    (λ files now. now ≡ c.spool.whole) b d
+    → LeadsFiles (λ s files. GoOnIn before files c × AreFronts s a.memory.own.partial c.spool.whole)
+    (λ files now. now ≡ c.spool.whole) a (with_arrived n d)
+followed_all n {a} {b} {d} c before old survive one more =
     leads_then one more (λ s t u was_led is_led files has given.
     let x = was_led files has (survive files given.0, given.0.numbered) in
     let y = is_led x.0 x.2.has (
       x.1,
-      fronts_stay s t c.spool.whole m.own.partial m1.own.partial x.2.remain x.2.records given.1,
-    ) in
-    (y.0, y.1, goes_arrived a m m2 s u y.0 (goes_then m m1 m2 s t u x.0 y.0 x.2 y.2)))
+      fronts_stay s t c.spool.whole a.memory.own.partial b.memory.own.partial x.2.remain x.2.records given.1,
+    ) in (
+      y.0,
+      y.1,
+      goes_arrived n a.memory d.memory s u y.0
+          (goes_then a.memory b.memory d.memory s t u x.0 y.0 x.2 y.2),
+    ))

@@ -30,8 +30,9 @@ kept_still m m1 s t files now here name before behind =
 module _ (m m1 m2 : Memory)
     (changed changed2 : Bool) (before now : Part) (led : IsLed before now) (sound : IsSoundPart before)
     (headers_now : HaveHeaders now.customer.spool.whole) (old mid new : State)
-    (followed : LeadsFiles m m1 (λ s files. GoOnIn m.own.arrived files now.customer
-    × AreFronts s m.own.partial now.customer.spool.whole) (λ files fs. fs ≡ now.customer.spool.whole) old mid)
+    (followed : LeadsFiles (λ s files. GoOnIn m.own.arrived files now.customer
+    × AreFronts s m.own.partial now.customer.spool.whole) (λ files fs. fs ≡ now.customer.spool.whole)
+    (record { memory = m; shows = old }) (record { memory = m1; shows = mid }))
     (arrived : m1.own.arrived ≡ now.customer.spool.arrived)
     (kept : Leads (KeepsOn m1.numbers m1.own m2.numbers m2.own now.customer.spool) mid new)
     (seen : AllClosed m1.own → AllUpToDate now.customer.spool m2.own)

@@ -49,6 +49,7 @@ pub use Rattle.{njh_turns.specs.Keeping.{is_held, IsLed, kept_file, kept_of}, nj
 pub use Rattle.njh_keeper.specs.code.{Alike.{AreBegun, Writes}, Apart.{AreFilesApart, have_low_ids, rises}}
 pub use Rattle.njh_keeper.specs.code.Following.{AddsRow, AreFronts, claim_of, GoesTo, GoOnIn, HasFiles, IsAt, IsFrontOf}
 pub use Rattle.njh_keeper.specs.code.Following.{IsQuiet, IsReached, IsRowFor, IsStillAt, LeadsFiles, Memory, memory_of}
+pub use Rattle.njh_keeper.specs.code.Following.{Stage, stage_of}
 pub use Rattle.njh_keeper.specs.code.{Following.Remain, Knowing.{AreNamedApart, HasOwn, HasSpool, IsSoundPart, Knows}}
 pub use Rattle.njh_keeper.specs.code.{Knowing.{LeadsStep, StepGoes}, Leading.Leads, Memory.{numbers_of, own_memory_of}}
 pub use Rattle.njh_keeper.specs.code.{Memory.{own_of, partial_of, sweep_in, whole_of}, Mirrored.contents_from}

@@ -4,7 +4,7 @@ ghost use Rattle.std.specs.Prelude.{◌≡◌, ◌++◌, [], ◌∷◌, true, fa
 ghost use Rattle.njh_spool.specs.CustomerSpool.{WholeFile};
 ghost use Rattle.njh_spoolfile.specs.Shelf.{shown};
 ghost use Rattle.sqlite.specs.State.{HasCleanDisk, Survives};
-ghost use Rattle.njh_keeper.specs.code.Following.{AddsRow, AreFronts, IsHubFile, LeadsFiles, LeadsInHand, memory_of};
+ghost use Rattle.njh_keeper.specs.code.Following.{AddsRow, AreFronts, IsHubFile, LeadsFiles, LeadsInHand, stage_of};
 ghost use Rattle.njh_keeper.specs.code.Memory.{own_of};
 ghost use Rattle.njh_keeper.specs.code.Remembered.{NameOneNode};
 
@@ -27,9 +27,8 @@ pub(crate) fn add_one<S: Alter + Drop>(
 ) -> Result<(), Error>
     ensures led { (g : WholeFile) → IsHubFile hub.now file.now summary.now g
         → HasCleanDisk (shown S.Store writer.new.store)
-        → OnOk result (LeadsFiles (memory_of writer.old own.old) (memory_of writer.new own.new)
-        (λ s files. AreFronts s (own_of own.old).partial (g ∷ [])) (λ files now. now ≡ files ++ g ∷ [])
-        (shown S.Store writer.old.store) (shown S.Store writer.new.store)) }
+        → OnOk result (LeadsFiles (λ s files. AreFronts s (own_of own.old).partial (g ∷ [])) (λ files now. now ≡ files ++ g ∷ [])
+        (stage_of S.Store writer.old own.old) (stage_of S.Store writer.new own.new)) }
     ensures due { OnOk result (writer.new.is_changed ≡ true) }
     ensures crash { Survives (shown S.Store writer.old.store) (shown S.Store writer.new.store) (λ _. ⊥) }
 {
@@ -56,8 +55,7 @@ fn place_for<S: Alter + Drop>(
     ensures led { (g : WholeFile) → number ≡ g.number → records ≡ length g.records
         → HasCleanDisk (shown S.Store writer.new.store)
         → IfOk result (λ place. LeadsInHand place.key place.written g
-        (memory_of writer.old own.old) (memory_of writer.new own.new)
-        (shown S.Store writer.old.store) (shown S.Store writer.new.store)) }
+        (stage_of S.Store writer.old own.old) (stage_of S.Store writer.new own.new)) }
     ensures crash { Survives (shown S.Store writer.old.store) (shown S.Store writer.new.store) (λ _. ⊥) }
 {
     match own.take_partial(number, records) {
@@ -83,8 +81,7 @@ fn add_row<S: Alter + Drop>(
 ) -> Result<(), Error>
     ensures added { (g : WholeFile) → IsHubFile hub.now file.now summary.now g
         → HasCleanDisk (shown S.Store writer.new.store) → OnOk result (AddsRow key summary.now g
-        (memory_of writer.old own.old) (memory_of writer.new own.new)
-        (shown S.Store writer.old.store) (shown S.Store writer.new.store)) }
+        (stage_of S.Store writer.old own.old) (stage_of S.Store writer.new own.new)) }
     ensures due { OnOk result (writer.new.is_changed ≡ true) }
     ensures crash { Survives (shown S.Store writer.old.store) (shown S.Store writer.new.store) (λ _. ⊥) }
 {

@@ -6,7 +6,7 @@ ghost use Rattle.njh_hub.specs.WholeHub.{part};
 ghost use Rattle.njh_spool.specs.CustomerSpool.{WholeFile, max_arrived};
 ghost use Rattle.njh_spoolfile.specs.Shelf.{shown};
 ghost use Rattle.sqlite.specs.State.{HasCleanDisk, Survives};
-ghost use Rattle.njh_keeper.specs.code.Following.{AreFronts, GoOnIn, IsAt, IsQuiet, IsReached, LeadsFiles, memory_of};
+ghost use Rattle.njh_keeper.specs.code.Following.{AreFronts, GoOnIn, IsAt, IsQuiet, IsReached, LeadsFiles, stage_of};
 ghost use Rattle.njh_keeper.specs.code.Memory.{own_of};
 ghost use Rattle.njh_keeper.specs.code.Walking.{AreNumbered, IsWalkedTo};
 
@@ -32,11 +32,10 @@ pub(crate) fn follow<S: Alter + Drop>(
 ) -> Result<(), Error>
     ensures led { AreNumbered (part customer hub.now).customer.spool.whole
         → HasCleanDisk (shown S.Store writer.new.store)
-        → OnOk result (LeadsFiles (memory_of writer.old own.old) (memory_of writer.new own.new)
-        (λ s files. GoOnIn own.old.arrived files (part customer hub.now).customer
+        → OnOk result (LeadsFiles (λ s files. GoOnIn own.old.arrived files (part customer hub.now).customer
         × AreFronts s (own_of own.old).partial (part customer hub.now).customer.spool.whole)
         (λ files now. now ≡ (part customer hub.now).customer.spool.whole)
-        (shown S.Store writer.old.store) (shown S.Store writer.new.store)) }
+        (stage_of S.Store writer.old own.old) (stage_of S.Store writer.new own.new)) }
     ensures arrived { OnOk result (own.new.arrived ≡ (part customer hub.now).customer.spool.arrived) }
     ensures quiet { OnOk result (IsQuiet writer.old writer.new) }
     ensures crash { Survives (shown S.Store writer.old.store) (shown S.Store writer.new.store) (λ _. ⊥) }
@@ -61,10 +60,9 @@ fn follow_old<S: Alter + Drop>(
     requires { old ≤ length (part customer hub.now).customer.spool.whole }
     ensures led { AreNumbered (part customer hub.now).customer.spool.whole
         → HasCleanDisk (shown S.Store writer.new.store)
-        → OnOk result (LeadsFiles (memory_of writer.old own.old) (memory_of writer.new own.new)
-        (λ s files. Survive files (take old (part customer hub.now).customer.spool.whole) × AreNumbered files)
+        → OnOk result (LeadsFiles (λ s files. Survive files (take old (part customer hub.now).customer.spool.whole) × AreNumbered files)
         (λ files now. now ≡ take old (part customer hub.now).customer.spool.whole)
-        (shown S.Store writer.old.store) (shown S.Store writer.new.store)) }
+        (stage_of S.Store writer.old own.old) (stage_of S.Store writer.new own.new)) }
     ensures quiet { OnOk result (IsQuiet writer.old writer.new) }
     ensures crash { Survives (shown S.Store writer.old.store) (shown S.Store writer.new.store) (λ _. ⊥) }
 {
@@ -90,9 +88,8 @@ fn follow_at<S: Alter + Drop>(
         → AreNumbered (part customer hub.now).customer.spool.whole
         → IsAt (part customer hub.now).customer.spool.whole index f → IsAt still place f
         → HasCleanDisk (shown S.Store writer.new.store)
-        → OnOk result (LeadsFiles (memory_of writer.old own.old) (memory_of writer.new own.new)
-        (λ s files. IsWalkedTo still files place) (λ files now. IsWalkedTo still now (place + 1))
-        (shown S.Store writer.old.store) (shown S.Store writer.new.store)) }
+        → OnOk result (LeadsFiles (λ s files. IsWalkedTo still files place) (λ files now. IsWalkedTo still now (place + 1))
+        (stage_of S.Store writer.old own.old) (stage_of S.Store writer.new own.new)) }
     ensures quiet { OnOk result (IsQuiet writer.old writer.new) }
     ensures crash { Survives (shown S.Store writer.old.store) (shown S.Store writer.new.store) (λ _. ⊥) }
 {
@@ -117,11 +114,10 @@ fn add_new<S: Alter + Drop>(
     requires { old ≤ length (part customer hub.now).customer.spool.whole }
     ensures led { AreNumbered (part customer hub.now).customer.spool.whole
         → HasCleanDisk (shown S.Store writer.new.store)
-        → OnOk result (LeadsFiles (memory_of writer.old own.old) (memory_of writer.new own.new)
-        (λ s files. (files ≡ take old (part customer hub.now).customer.spool.whole)
+        → OnOk result (LeadsFiles (λ s files. (files ≡ take old (part customer hub.now).customer.spool.whole)
         × AreFronts s (own_of own.old).partial (part customer hub.now).customer.spool.whole)
         (λ files now. now ≡ (part customer hub.now).customer.spool.whole)
-        (shown S.Store writer.old.store) (shown S.Store writer.new.store)) }
+        (stage_of S.Store writer.old own.old) (stage_of S.Store writer.new own.new)) }
     ensures quiet { OnOk result (IsQuiet writer.old writer.new) }
     ensures crash { Survives (shown S.Store writer.old.store) (shown S.Store writer.new.store) (λ _. ⊥) }
 {
@@ -155,9 +151,8 @@ fn drop_before<S: Alter + Drop>(
 ) -> Result<(), Error>
     ensures led { (still : List WholeFile) → IsReached number still place
         → HasCleanDisk (shown S.Store writer.new.store)
-        → OnOk result (LeadsFiles (memory_of writer.old own.old) (memory_of writer.new own.new)
-        (λ s files. IsWalkedTo still files place) (λ files now. IsWalkedTo still now place × IsReached number now place)
-        (shown S.Store writer.old.store) (shown S.Store writer.new.store)) }
+        → OnOk result (LeadsFiles (λ s files. IsWalkedTo still files place) (λ files now. IsWalkedTo still now place × IsReached number now place)
+        (stage_of S.Store writer.old own.old) (stage_of S.Store writer.new own.new)) }
     ensures quiet { OnOk result (IsQuiet writer.old writer.new) }
     ensures crash { Survives (shown S.Store writer.old.store) (shown S.Store writer.new.store) (λ _. ⊥) }
 {
@@ -177,10 +172,8 @@ fn drop_at<S: Alter + Drop>(
     place: usize,
 ) -> Result<(), Error>
     requires { place < length own.old.whole.items }
-    ensures led { HasCleanDisk (shown S.Store writer.new.store) → OnOk result (LeadsFiles
-        (memory_of writer.old own.old) (memory_of writer.new own.new)
-        (λ _ _. ⊤) (λ files now. now ≡ remove files place)
-        (shown S.Store writer.old.store) (shown S.Store writer.new.store)) }
+    ensures led { HasCleanDisk (shown S.Store writer.new.store) → OnOk result (LeadsFiles (λ _ _. ⊤) (λ files now. now ≡ remove files place)
+        (stage_of S.Store writer.old own.old) (stage_of S.Store writer.new own.new)) }
     ensures memory { own.new.whole.items ≡ remove own.old.whole.items place }
     ensures due { writer.new.is_changed ≡ true }
     ensures crash { Survives (shown S.Store writer.old.store) (shown S.Store writer.new.store) (λ _. ⊥) }

@@ -8,7 +8,7 @@ ghost use Rattle.njh_spool.specs.CustomerSpool.{WholeFile};
 ghost use Rattle.njh_spoolfile.specs.Shelf.{shown};
 ghost use Rattle.sqlite.specs.State.{HasCleanDisk, Survives};
 ghost use Rattle.njh_keeper.specs.declared.own_files.KeptWhole.{KeptWhole};
-ghost use Rattle.njh_keeper.specs.code.Following.{ChangesRow, IsHubFile, IsQuiet, IsStillAt, LeadsFiles, memory_of};
+ghost use Rattle.njh_keeper.specs.code.Following.{ChangesRow, IsHubFile, IsQuiet, IsStillAt, LeadsFiles, stage_of};
 ghost use Rattle.njh_keeper.specs.code.Nodes.{AreOne, named_nodes};
 
 use crate::hub_records::{is_mixed, job_of, write_records};
@@ -31,9 +31,8 @@ pub(crate) fn follow_one<S: Alter + Drop>(
     requires { place < length own.old.whole.items }
     ensures led { (g : WholeFile) → IsHubFile hub.now file.now summary.now g
         → HasCleanDisk (shown S.Store writer.new.store)
-        → OnOk result (LeadsFiles (memory_of writer.old own.old) (memory_of writer.new own.new)
-        (λ s files. IsStillAt files place g) (λ files now. now ≡ set files place g)
-        (shown S.Store writer.old.store) (shown S.Store writer.new.store)) }
+        → OnOk result (LeadsFiles (λ s files. IsStillAt files place g) (λ files now. now ≡ set files place g)
+        (stage_of S.Store writer.old own.old) (stage_of S.Store writer.new own.new)) }
     ensures long { length own.new.whole.items ≡ length own.old.whole.items }
     ensures quiet { OnOk result (IsQuiet writer.old writer.new) }
     ensures crash { Survives (shown S.Store writer.old.store) (shown S.Store writer.new.store) (λ _. ⊥) }
@@ -59,9 +58,8 @@ fn rewrite_one<S: Alter + Drop>(
         → (k : KeptWhole) → k ≡ get_or own.old.whole.items place k
         → (k.destination ≡ summary.now.destination → AreOne (named_nodes None g.records))
         → HasCleanDisk (shown S.Store writer.new.store)
-        → OnOk result (LeadsFiles (memory_of writer.old own.old) (memory_of writer.new own.new)
-        (λ s files. IsStillAt files place g) (λ files now. now ≡ set files place g)
-        (shown S.Store writer.old.store) (shown S.Store writer.new.store)) }
+        → OnOk result (LeadsFiles (λ s files. IsStillAt files place g) (λ files now. now ≡ set files place g)
+        (stage_of S.Store writer.old own.old) (stage_of S.Store writer.new own.new)) }
     ensures long { length own.new.whole.items ≡ length own.old.whole.items }
     ensures due { OnOk result (writer.new.is_changed ≡ true) }
     ensures crash { Survives (shown S.Store writer.old.store) (shown S.Store writer.new.store) (λ _. ⊥) }
@@ -93,9 +91,8 @@ fn change_state<S: Alter + Drop>(
     ensures led { (g : WholeFile) → IsHubFile hub.now file.now summary.now g
         → (k : KeptWhole) → k ≡ get_or own.old.whole.items place k → k.destination ≡ summary.now.destination
         → (k.is_mixed ≡ true → ¬ AreOne (named_nodes None g.records)) → HasCleanDisk (shown S.Store writer.new.store)
-        → OnOk result (LeadsFiles (memory_of writer.old own.old) (memory_of writer.new own.new)
-        (λ s files. IsStillAt files place g) (λ files now. now ≡ set files place g)
-        (shown S.Store writer.old.store) (shown S.Store writer.new.store)) }
+        → OnOk result (LeadsFiles (λ s files. IsStillAt files place g) (λ files now. now ≡ set files place g)
+        (stage_of S.Store writer.old own.old) (stage_of S.Store writer.new own.new)) }
     ensures long { length own.new.whole.items ≡ length own.old.whole.items }
     ensures quiet { OnOk result (IsQuiet writer.old writer.new) }
     ensures crash { Survives (shown S.Store writer.old.store) (shown S.Store writer.new.store) (λ _. ⊥) }

@@ -4,6 +4,7 @@ use Rattle.std.specs.Prelude.{string_bytes}
 use Rattle.std.specs.Prelude.{Option, Some, None}
 use Rattle.std.specs.List.{AllByRecursion}
 use Rattle.sqlite.specs.State.{State}
+use Rattle.sqlite.specs.Store.{Ghosts}
 use Rattle.njh_customer.specs.Surviving.{FilesGoOn, IsStill}
 use Rattle.njh_customer.specs.Customer.{Customer}
 use Rattle.njh_customer.specs.OutgoingFiles.{outgoing}
@@ -11,6 +12,7 @@ use Rattle.njh_stream.specs.SpoolFiles.{records_in}
 use Rattle.njh_hub.specs.Views.{file_summary}
 use Rattle.njh_hub.specs.WholeHub.{Part, part}
 use Rattle.njh_hub.specs.declared.file_summary.FileSummaryView.{FileSummaryView}
+use Rattle.njh_spoolfile.specs.Shelf.{shown}
 use Rattle.njh_spoolfile.specs.Steps.{Changes}
 use Rattle.njh_header.specs.WholeFiles.{HasHeaders}
 use Rattle.njh_record.specs.Stored.{Stored}
@@ -64,13 +66,20 @@ pub record GoesTo (m m' : Memory) (s t : SpoolContents) (files : List WholeFile)
   pub remain : Remain m.own.partial m'.own.partial
   pub records : AllByRecursion (λ p. records_of p.key t ≡ records_of p.key s) m'.own.partial
 
--- the same of a connection, if these whole files are given on the spool file
-abbrev pub LeadsFiles : (m m' : Memory) → (SpoolContents → List WholeFile → Type 0)
-    → (List WholeFile → List WholeFile → Type 0)
-    → State → State → Type 0
-LeadsFiles m m' Given Becomes old new =
-    Leads (λ s t. (files : List WholeFile) → HasFiles m s files → Given s files
-    → (now : List WholeFile) × Becomes files now × GoesTo m m' s t now) old new
+-- a stage of a step: what is remembered then, and what the spool file shows
+pub record Stage : Type 1 where
+  pub memory : Memory
+  pub shows : State
+
+abbrev pub stage_of : {S : Type 0} → Ghosts S → spool_writer.SpoolWriter S → own_files.OwnFiles → Stage
+stage_of g w own = record { memory = memory_of w own; shows = shown g w.store }
+
+-- the same from one stage to another, if these whole files are given on the spool file
+abbrev pub LeadsFiles : (Given : SpoolContents → List WholeFile → Type 0)
+    → (Becomes : List WholeFile → List WholeFile → Type 0) → (before after : Stage) → Type 0
+LeadsFiles Given Becomes before after =
+    Leads (λ s t. (files : List WholeFile) → HasFiles before.memory s files → Given s files
+    → (now : List WholeFile) × Becomes files now × GoesTo before.memory after.memory s t now) before.shows after.shows
 
 -- ---- beside the hub's files
 
@@ -126,20 +135,19 @@ pub record ChangesRow (text : List ℕ) (id key : ℕ) (summary : FileSummaryVie
   pub changes : Changes (with_changed id row) old new
 
 -- It is remembered as one more, under the number in hand, and so is its row added.
-pub record AddsRow (key : ℕ) (summary : FileSummaryView) (g : WholeFile) (m m' : Memory)
-    (old new : State) : Type 0 where
+pub record AddsRow (key : ℕ) (summary : FileSummaryView) (g : WholeFile) (before after : Stage) : Type 0 where
   pub kept : KeptWhole
   pub row : File
-  pub id : kept.id ≡ m.numbers.next_id
+  pub id : kept.id ≡ before.memory.numbers.next_id
   pub key_is : kept.key ≡ key
   pub remembers : Remembers kept g
-  pub memory : m' ≡ record {
+  pub memory : let m = before.memory in after.memory ≡ record {
     numbers = record m.numbers { next_id = m.numbers.next_id + 1 };
     own = record m.own { whole = m.own.whole ++ kept ∷ [] };
     text = m.text;
   }
-  pub is_row : IsRowFor m.text key summary row
-  pub changes : Changes (with_file kept.id row) old new
+  pub is_row : IsRowFor before.memory.text key summary row
+  pub changes : Changes (with_file kept.id row) before.shows after.shows
 
 -- ---- a number in hand
 
@@ -158,10 +166,11 @@ pub record IsInHand (key written : ℕ) (m m' : Memory) (s t : SpoolContents) (f
   pub stored : HasRecords key before t
   pub alike : AreAlike before (take written now)
 
-abbrev pub LeadsInHand : (key written : ℕ) → WholeFile → (m m' : Memory) → State → State → Type 0
-LeadsInHand key written g m m' old new =
-    Leads (λ s t. (files : List WholeFile) → HasFiles m s files → AreFronts s m.own.partial (g ∷ [])
-    → IsInHand key written m m' s t files g.records) old new
+abbrev pub LeadsInHand : (key written : ℕ) → WholeFile → (before after : Stage) → Type 0
+LeadsInHand key written g before after =
+    Leads (λ s t. (files : List WholeFile) → HasFiles before.memory s files
+    → AreFronts s before.memory.own.partial (g ∷ [])
+    → IsInHand key written before.memory after.memory s t files g.records) before.shows after.shows
 
 -- ---- all of a hub's files
 

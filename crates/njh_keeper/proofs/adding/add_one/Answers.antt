@@ -1,5 +1,5 @@
 use Rattle.njh_keeper.proofs.Words
-use Words.{◌≡◌, true, ap, subst, AllByRecursion, ok_then, shown, FileSummaryView, Writes, AddsRow, memory_of, Leads}
+use Words.{◌≡◌, true, ap, subst, AllByRecursion, ok_then, shown, FileSummaryView, Writes, AddsRow, Leads, memory_of, stage_of}
 use Words.{numbers_of, FitsHub}
 use Rattle.njh_keeper.proofs.{HandLaws.add_leads, LeadingLaws.{clean_before, survives_both}}
 use Rattle.njh_keeper.proofs.adding.add_one.Goals as goal
@@ -8,12 +8,12 @@ pub returns-clause-led : goal.returns-clause-led
 returns-clause-led g c f hub_file clean =
     let mid = shown g.S.Store c.place_for.new.writer.store in
     let mid2 = shown g.S.Store c.write_records.new.writer.store in
-    let new = shown g.S.Store c.add_row.new.writer.store in
     let later = clean_before c.add_row.ensures.crash clean in
     let summary = c.args.summary.now in
-    let m = memory_of c.args.writer.now c.args.own.now in
-    let m1 = memory_of c.place_for.new.writer c.place_for.new.own in
-    let m2 = memory_of c.add_row.new.writer c.add_row.new.own in
+    let before = stage_of g.S.Store c.args.writer.now c.args.own.now in
+    let placed = stage_of g.S.Store c.place_for.new.writer c.place_for.new.own in
+    let after = stage_of g.S.Store c.add_row.new.writer c.add_row.new.own in
+    let m1 = placed.memory in
     let same : memory_of c.write_records.new.writer c.place_for.new.own ≡ m1 =
     λ j. record { numbers = ap numbers_of c.in_ok-write_records.ensures.others j; own = m1.own; text = m1.text } in
     let place = c.in_ok-place.place in
@@ -23,8 +23,9 @@ returns-clause-led g c f hub_file clean =
     (c.in_ok-write_records.ensures.led later) in
     let fits = subst (AllByRecursion FitsHub) hub_file.records_are c.in_ok-write_records.ensures.fit in
     ok_then c.add_row.result _ _ (λ row.
-    add_leads m m1 f place.key place.written m2 summary hub_file.summary_is hub_file.headers fits hand finish
-    (subst (λ x. AddsRow place.key summary f x m2 mid2 new) same row)) (c.add_row.ensures.added f hub_file clean)
+    add_leads before placed f place.key place.written after summary hub_file.summary_is hub_file.headers fits hand finish
+    (subst (λ x. AddsRow place.key summary f (record { memory = x; shows = mid2 }) after) same row))
+    (c.add_row.ensures.added f hub_file clean)
 
 pub returns-in_err-write_records-clause-crash : goal.returns-in_err-write_records-clause-crash
 returns-in_err-write_records-clause-crash g c =

@@ -1,6 +1,6 @@
 use Rattle.std.proofs.Common.{◌≤◌, map, refl, sym, ap, subst, ◌∙◌}
 use Rattle.{std.specs.Prelude.string_bytes, njh_keeper.proofs.HandLaws.{key_leads, partial_leads}}
-use Rattle.njh_keeper.{proofs.ListLaws.{at_place, map-remove, within_seen}, specs.code.Following.memory_of}
+use Rattle.njh_keeper.{proofs.ListLaws.{at_place, map-remove, within_seen}, specs.code.Following.{memory_of, stage_of}}
 use Rattle.njh_keeper.specs.code.Memory.{numbers_of, own_of}
 use Rattle.njh_keeper.specs.{code.Memory.partial_of, declared.own_files.OwnFiles.OwnFiles}
 use Rattle.njh_keeper.proofs.adding.place_for.Goals as goal
@@ -8,13 +8,14 @@ use Rattle.njh_keeper.proofs.adding.place_for.Goals as goal
 pub returns-in-Some-clause-led : goal.returns-in-Some-clause-led
 returns-in-Some-clause-led g c f number records clean =
     let m = memory_of c.args.writer.now c.args.own.now in
-    let m1 = memory_of c.args.writer.now c.take_partial.new.self in
+    let before = stage_of g.S.Store c.args.writer.now c.args.own.now in
+    let after = stage_of g.S.Store c.args.writer.now c.take_partial.new.self in
     let items = c.args.own.now.partial.items in
     let p = c.in-Some.partial in
     let taken = c.in-Some.ensures.taken in
     let i = taken.0 in
     let others = c.take_partial.ensures.others in
-    partial_leads m m1 f p.key p.written i (partial_of p) (within_seen partial_of items i taken.1)
+    partial_leads before after f p.key p.written i (partial_of p) (within_seen partial_of items i taken.1)
     (at_place partial_of items i p taken.1 taken.2)
     (sym number ∙ sym taken.4) (subst (λ n. p.seen ≤ n) records taken.5) refl refl
     (λ j. record {
@@ -22,14 +23,14 @@ returns-in-Some-clause-led g c f number records clean =
       own = (ap own_of others ∙ ap (λ xs. record m.own { partial = xs })
           (ap (map partial_of) taken.3 ∙ map-remove partial_of items i)) j;
       text = ap (λ (x : OwnFiles). string_bytes x.text) others j;
-    })
+    }) refl
 
 pub returns-in_ok-take_key-in-None-clause-led : goal.returns-in_ok-take_key-in-None-clause-led
 returns-in_ok-take_key-in-None-clause-led g c f number records clean =
-    let m = memory_of c.args.writer.now c.args.own.now in
-    let m1 = memory_of c.take_key.new.self c.take_partial.new.self in
+    let before = stage_of g.S.Store c.args.writer.now c.args.own.now in
+    let after = stage_of g.S.Store c.take_key.new.self c.take_partial.new.self in
     let same = (c.take_partial.ensures.none c.in-None.is).0 in
-    key_leads m m1 f c.in_ok-take_key-in-None.field-0 0 c.take_key.new.self.free_keys.items c.take_key.new.self.next_key
+    key_leads before after f c.in_ok-take_key-in-None.field-0 0 c.take_key.new.self.free_keys.items c.take_key.new.self.next_key
     c.in_ok-take_key-in-None.ensures.taken refl
     (λ j. record {
       numbers = ap numbers_of c.take_key.ensures.others j;

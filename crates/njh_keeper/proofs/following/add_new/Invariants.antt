@@ -1,5 +1,5 @@
 use Rattle.{std.proofs.Common.{◌≡◌, take}, sqlite.specs.State.{HasCleanDisk, Survives}, njh_spoolfile.specs.Shelf.shown}
-use Rattle.{njh_hub.specs.WholeHub.part, njh_keeper.specs.code.Following.{AreFronts, IsQuiet, LeadsFiles, memory_of}}
+use Rattle.{njh_hub.specs.WholeHub.part, njh_keeper.specs.code.Following.{AreFronts, IsQuiet, LeadsFiles, stage_of}}
 use Rattle.njh_keeper.specs.code.{Memory.own_of, Walking.AreNumbered}
 use Rattle.njh_keeper.proofs.following.add_new.Given as goal
 
@@ -12,8 +12,8 @@ invariant-loop-index g l =
     record {
       crash : Survives first now (λ _. ⊥);
       led : AreNumbered whole → HasCleanDisk now
-          → LeadsFiles (memory_of l.fn.writer l.fn.own) (memory_of l.writer l.own)
-          (λ s files. (files ≡ take l.old whole) × AreFronts s (own_of l.fn.own).partial whole)
-          (λ files here. here ≡ take l.index whole) first now;
+          → LeadsFiles (λ s files. (files ≡ take l.old whole) × AreFronts s (own_of l.fn.own).partial whole)
+          (λ files here. here ≡ take l.index whole)
+          (stage_of g.S.Store l.fn.writer l.fn.own) (stage_of g.S.Store l.writer l.own);
       quiet : IsQuiet l.fn.writer l.writer;
     }

@@ -33,7 +33,8 @@ returns-clause-led g c clean =
       own = (ap own_of others ∙ (λ l. record m.own { whole = whole l; sweeps = sweeps l })) j;
       text = ap (λ (x : OwnFiles). string_bytes x.text) others j;
     } in
-    subst (λ x. LeadsFiles m x (λ s files. ⊤) (λ files now. now ≡ remove files i) old new) (sym led)
+    subst (λ x. LeadsFiles (λ s files. ⊤) (λ files now. now ≡ remove files i) (record { memory = m; shows = old })
+    (record { memory = x; shows = new })) (sym led)
     (leads_weaker (leads_by (c.in_ok-drop_file.ensures.changed clean)) (λ s t same files has given. (
       remove files i,
       refl,

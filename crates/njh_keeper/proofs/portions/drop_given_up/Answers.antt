@@ -6,8 +6,8 @@ use Rattle.njh_keeper.specs.code.{Memory.partial_of, Partly.{IsSameButPartial, I
 use Rattle.njh_keeper.specs.declared.own_files.{KeptPartial.KeptPartial, OwnFiles.OwnFiles}
 use Rattle.njh_keeper.proofs.portions.drop_given_up.Goals as goal
 
-pub loop-place-begins : goal.loop-place-begins
-loop-place-begins c = record {
+pub loop-place-init : goal.loop-place-init
+loop-place-init c = record {
   kept = λ now. still_nothing now c.args.own.now;
   seen = λ now all. all;
 }
