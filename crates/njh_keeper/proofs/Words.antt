@@ -67,7 +67,7 @@ pub use Rattle.njh_keeper.specs.code.{Remembered.{uses, uses_of_all, uses_of_fil
 pub use Rattle.njh_keeper.specs.code.Restoring.{hub_with, hub_with_all, NoneFails, number_from, number_of, wholes}
 pub use Rattle.njh_keeper.specs.code.{Walking.{AreNumbered, IsWalkedTo}, Writing.{emptied_at, free_at, id_behind}}
 pub use Rattle.njh_keeper.specs.code.Writing.{is_marked, is_used, IsTaken, key_behind, marked_by, numbers_but}
-pub use Rattle.njh_keeper.specs.code.Writing.{shows_now, sweep_of, unmarked, without_keys}
+pub use Rattle.njh_keeper.specs.code.Writing.{ShowsNow, sweep_of, unmarked, without_keys}
 pub use Rattle.njh_keeper.specs.declared.fault.FileFault.{FileFault, TheVariants.{BadFile, Refused}}
 pub use Rattle.njh_keeper.specs.{declared.writer.SpoolWriter.SpoolWriter, Keeper.{IsSettledFrom, Keeping, KnowsHub}}
 pub use Rattle.njh_keeper.specs.{Keeper.{KnowsNow, left_in, MayLeave, MayLeaveOf}, LinesLost.{bare, file_at_rest}}

@@ -1,18 +1,80 @@
 -- What a writer's calls do to a spool, one after the other.
 use Rattle.njh_keeper.proofs.Words
-use Words.{◌≡◌, ℕ, suc, ◌+◌, ◌<◌, ◌≤◌, ◌^◌, min, Bool, true, false, List, [], ◌∷◌, ◌++◌, slice_index_or, refl, inl, inr}
-use Words.{sym, ap, subst, ◌∙◌, arith, cases_lt, Database, State, CommitState, Stands, SpoolContents, Holds}
-use Words.{without_records, Changes, is_marked, numbers_but, shows_now, unmarked, without_keys}
-use Rattle.{std.proofs.lemmas.List.{append-nil, append_assoc}, njh_keeper.specs.code.Writing.below}
+use Words.{◌≡◌, ℕ, suc, ◌+◌, ◌-◌, ◌<◌, ◌≤◌, ◌^◌, ◌&&◌, min, nat_le, nat_lt, Bool, true, false, not, cond, List, []}
+use Words.{◌∷◌, ◌++◌, filter, length, slice_index_or, refl, inl, inr, sym, ap, subst, ◌∙◌, arith, cases_lt, nat_tests}
+use Words.{Database, State, CommitState, Stands, Record, SpoolContents, Holds, without_records, Changes, is_marked}
+use Words.{numbers_but, ShowsNow, unmarked, without_keys}
+use Rattle.{std.proofs.lemmas.List.{append-nil, append_assoc}, njh_spoolfile.specs.Steps.Commits}
+use Rattle.njh_spoolfile.specs.Kept.{record_number, records_between}
+use Rattle.njh_keeper.specs.code.Writing.{below, Drops, is_due}
 
 -- a change that waits
-pub stands_changed : (change : SpoolContents → SpoolContents) (s : CommitState) (old new : State)
-    → Changes change old new → Stands s old → Stands (shows_now change s) new
+stands_changed : (change : SpoolContents → SpoolContents) (s : CommitState) (old new : State)
+    → Changes change old new → Stands s old → Stands (record s { now = change s.now }) new
 stands_changed change s old new made at = record {
   is_open = made.is_open;
   now = made.holds s.now at.now;
   kept = subst (λ (d : Database). Holds s.kept d.trees) (sym made.committed) at.kept;
 }
+
+-- what waits is committed
+pub stands_kept : (s : CommitState) (old new : State) → Commits old new → Stands s old
+    → Stands (record { now = s.now; kept = s.now }) new
+stands_kept s old new by at = record {
+  is_open = by.is_open;
+  now = subst (λ (d : Database). Holds s.now d.trees) (sym by.now) at.now;
+  kept = subst (λ (d : Database). Holds s.now d.trees) (sym by.committed) at.now;
+}
+
+-- ---- how many wait
+
+-- those that leave and those that stay are all
+parted : {X : Type 0} (p : X → Bool) (xs : List X)
+    → length (filter (λ x. not (p x)) xs) + length (filter p xs) ≡ length xs
+parted p [] = refl
+parted p (x ∷ xs) = by (p x) (parted p xs)
+  where
+    by : (b : Bool) → length (filter (λ y. not (p y)) xs) + length (filter p xs) ≡ length xs
+        → length (cond (not b) (x ∷ filter (λ y. not (p y)) xs) (filter (λ y. not (p y)) xs))
+        + length (cond b (x ∷ filter p xs) (filter p xs)) ≡ length (x ∷ xs)
+    by true rest = omega (arith, rest)
+    by false rest = omega (arith, rest)
+
+few_wait : (kept now left count waited waiting : ℕ) → left + count ≡ now → waiting ≡ min (waited + count) (2 ^ 32 - 1)
+    → waiting < 4096 → kept ≤ now + waited → kept ≤ left + waiting
+few_wait kept now left count waited waiting all is few within = omega (arith, all, is, few, within)
+
+pub not_due : (is_changed : Bool) (waiting : ℕ) → is_due is_changed waiting ≡ false → waiting < 4096
+not_due true waiting is = absurd (cc is)
+not_due false waiting is = let low : nat_le 4096 waiting ≡ false = is in grind (arith, nat_tests, low)
+
+-- The records under a number are dropped. They wait, or all is committed.
+module _ (key : ℕ) (s : CommitState) (old mid : State) (count waited waiting : ℕ)
+    (made : Changes (without_records key 0 (2 ^ 23)) old mid)
+    (counted : (spool : SpoolContents) → Holds spool old.now.trees
+    → count ≡ length (records_between key 0 (2 ^ 23) spool)) (at : Stands s old) where
+  pub drops_waiting : waiting ≡ min (waited + count) (2 ^ 32 - 1) → waiting < 4096
+      → Drops (without_records key 0 (2 ^ 23)) waited waiting s mid
+  drops_waiting is few =
+      let left = length (without_records key 0 (2 ^ 23) s.now).records in
+      let all : left + count ≡ length s.now.records = ap (λ n. left + n) (counted s.now at.now)
+      ∙ parted (λ (e : ℕ × Record). nat_le (record_number key 0) e.0 && nat_lt e.0 (record_number key (2 ^ 23)))
+      s.now.records in
+      record {
+        kept = s.kept;
+        stands = stands_changed (without_records key 0 (2 ^ 23)) s old mid made at;
+        few = few_wait (length s.kept.records) (length s.now.records) left count waited waiting all is few;
+      }
+
+  pub drops_kept : (new : State) → Commits mid new → Drops (without_records key 0 (2 ^ 23)) waited waiting s new
+  drops_kept new by = record {
+    kept = without_records key 0 (2 ^ 23) s.now;
+    stands = stands_kept (record s { now = without_records key 0 (2 ^ 23) s.now }) mid new by
+        (stands_changed (without_records key 0 (2 ^ 23)) s old mid made at);
+    few = λ within. omega arith;
+  }
+
+-- ---- numbers without a mark
 
 -- one number more
 pub keys_more : (keys : List ℕ) (key : ℕ) (s : SpoolContents)
@@ -40,17 +102,19 @@ pub unmarked_more : (marks : List Bool) (key : ℕ) → slice_index_or marks key
     → unmarked marks (key + 1) ≡ unmarked marks key ++ key ∷ []
 unmarked_more marks key is = fails_more (is_marked marks) key is
 
-pub emptied_more : (marks : List Bool) (key : ℕ) (s : CommitState) (mid new : State)
-    → slice_index_or marks key false ≡ false
-    → Stands (shows_now (without_keys (unmarked marks key)) s) mid → Changes (without_records key 0 (2 ^ 23)) mid new
-    → Stands (shows_now (without_keys (unmarked marks (key + 1))) s) new
-emptied_more marks key s mid new is at made =
+pub emptied_more : (marks : List Bool) (key waited waiting : ℕ) (s : CommitState) (mid new : State)
+    → slice_index_or marks key false ≡ false → ShowsNow (without_keys (unmarked marks key)) s mid
+    → ((t : CommitState) → Stands t mid → Drops (without_records key 0 (2 ^ 23)) waited waiting t new)
+    → ShowsNow (without_keys (unmarked marks (key + 1))) s new
+emptied_more marks key waited waiting s mid new is at made =
     let so_far = unmarked marks key in
     let same : without_records key 0 (2 ^ 23) (without_keys so_far s.now) ≡ without_keys (unmarked marks (key + 1))
     s.now = sym (keys_more so_far key s.now)
     ∙ ap (λ keys. without_keys keys s.now) (sym (unmarked_more marks key is)) in
-    subst (λ now. Stands (record { now = now; kept = s.kept }) new) same
-    (stands_changed (without_records key 0 (2 ^ 23)) (shows_now (without_keys so_far) s) mid new made at)
+    let more = made (record { now = without_keys so_far s.now; kept = at.0 }) at.1 in (
+      more.kept,
+      subst (λ now. Stands (record { now = now; kept = more.kept }) new) same more.stands,
+    )
 
 -- of the numbers below another one too
 low : (a b : ℕ) → a < b → (min a b ≡ a) × (min (a + 1) b ≡ a + 1) × (below b a ≡ a ∷ [])

@@ -188,7 +188,8 @@ impl<S: Alter + Drop> SpoolWriter<S> {
         } }
     {
         self.waiting = self.waiting.saturating_add(end - first);
-        self.store.drop_records(key, first, end)
+        self.store.drop_records(key, first, end)?;
+        Ok(())
     }
 
     /// No file's records stand under this number any more.
@@ -208,6 +209,12 @@ impl<S: Alter + Drop> SpoolWriter<S> {
             (shown S.Store self.new.store)) }
         ensures others { is_due self.old.is_changed self.old.waiting ≡ true → OnOk result (self.new ≡
             record self.old { store = self.new.store; waiting = 0; is_changed = false }) }
+        ensures few { OnOk result (self.new.waiting < 4096) }
+        ensures rest { self.new ≡ record self.old {
+          store = self.new.store;
+          waiting = self.new.waiting;
+          is_changed = self.new.is_changed;
+        } }
         ensures crash { Survives (shown S.Store self.old.store) (shown S.Store self.new.store) (λ trees. trees ≡
             (shown S.Store self.old.store).now.trees) }
     {

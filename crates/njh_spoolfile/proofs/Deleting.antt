@@ -5,7 +5,8 @@ use Rattle.std.specs.List.{list_any, list_all}
 use Rattle.std.specs.Ordering.{nat_cmp, is_eq}
 use Rattle.std.proofs.lemmas.Bool.Decides.{nat_tests}
 use Rattle.std.proofs.lemmas.List.Folds.{list_any_at, list_any_none}
-use Rattle.std.proofs.lemmas.List.Sorted.{list_any-IsPermutation}
+use Rattle.std.proofs.lemmas.List.{length-map}
+use Rattle.std.proofs.lemmas.List.Sorted.{length_permutation, list_any-IsPermutation}
 use Rattle.sqlite_value.specs.declared.value.Value.TheVariants.{Int}
 use Rattle.sqlite_value.specs.Order.{Row}
 use Rattle.sqlite.specs.Tree.{Trees, rowid, without_rowid, has_rowid}
@@ -117,6 +118,30 @@ module _ {X : Type 0} (row : ℕ × X → Row) (ids : (e : ℕ × X) → rowid (
           ≡ ((b && q (pos e.0)) || list_any (λ x. p x.0 && q (pos x.0)) es)
       by_case true rest = rw (ids e, rest)
       by_case false rest = rest
+
+  staged_count : (es : List (ℕ × X)) → length (flat_map step (map row es)) ≡ length (filter (λ e. p e.0) es)
+  staged_count [] = refl
+  staged_count (e ∷ es) =
+      ap (λ b. length (cond b ((params ∷ row e ∷ []) ∷ []) [] ++ flat_map step (map row es))) (agree e)
+      ∙ by_case (p e.0) (staged_count es)
+    where
+      by_case : (b : Bool) → length (flat_map step (map row es)) ≡ length (filter (λ x. p x.0) es)
+          → length (cond b ((params ∷ row e ∷ []) ∷ []) [] ++ flat_map step (map row es))
+          ≡ length (cond b (e ∷ filter (λ x. p x.0) es) (filter (λ x. p x.0) es))
+      by_case true rest = omega (arith, rest)
+      by_case false rest = rest
+
+  -- as many rows are taken as values pass
+  pub deleted_count : (db : Trees) (es : List (ℕ × X)) (rows : List Row) → db tree ≡ map row es
+      → matches db passes query.from (params ∷ []) ≡ flat_map step (db tree)
+      → IsAnswer query db params rows → length (ids_of rows) ≡ length (filter (λ e. p e.0) es)
+  deleted_count db es rows has from answer =
+      let staged : answer.staged ≡ flat_map step (map row es) = answer.grouped ∙ from ∙ ap (flat_map step) has in
+      length-map rows (λ r. id_in (rowid r)) ∙ ap (λ (rs : List Row). length rs) answer.shown
+      ∙ length-map answer.ordered (λ (o : Output). o.1)
+      ∙ length_permutation answer.kept answer.ordered answer.same
+      ∙ ap (λ (os : List Output). length os) (answer.distinct ∙ ap (map (output query)) staged)
+      ∙ length-map (flat_map step (map row es)) (output query) ∙ staged_count es
 
   pub deleted : (db : Trees) (es : List (ℕ × X)) (rows : List Row) → db tree ≡ map row es
       → matches db passes query.from (params ∷ []) ≡ flat_map step (db tree)

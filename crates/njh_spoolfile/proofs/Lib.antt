@@ -1,6 +1,7 @@
 pub mod CopiedFiles
 pub mod CopyFaults
 pub mod CopyLaws
+pub mod CountLaws
 pub mod Deleting
 pub mod ListLaws
 pub mod Loops

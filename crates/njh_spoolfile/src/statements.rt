@@ -1,10 +1,11 @@
 //! The statements of a spool, one a function.
 
-ghost use Rattle.std.specs.Prelude.{◌≡◌, ◌<◌, ◌≤◌, ◌^◌, IsTrue, OnOk};
+ghost use Rattle.std.specs.Prelude.{◌≡◌, ◌<◌, ◌≤◌, ◌^◌, length, IfOk, IsTrue, OnOk};
 ghost use Rattle.sqlite.specs.State.{HasCleanDisk, Survives};
 ghost use Rattle.sqlite.specs.Held.{Held, state};
 ghost use Rattle.sqlite.specs.Tree.{Trees};
 ghost use Rattle.njh_spoolfile.specs.Kept.{file_of, record_of, with_file, with_record, without_file, without_records};
+ghost use Rattle.njh_spoolfile.specs.Kept.{SpoolContents, Holds, records_between};
 ghost use Rattle.njh_spoolfile.specs.Tables.{spool_schema};
 ghost use Rattle.njh_spoolfile.specs.Steps.{IsWriting, Begins, Changes, Commits};
 
@@ -74,22 +75,25 @@ pub fn delete_file<S: Alter>(conn: &mut Connection<S>, id: u32) -> Result<(), Er
     Ok(())
 }
 
-/// Drops the records of the file of this key at places from `first` on and before `end`.
+/// Drops the records of the file of this key at places from `first` on and before `end`, and says
+/// how many.
 pub fn delete_records<S: Alter>(
     conn: &mut Connection<S>,
     key: u32,
     first: u32,
     end: u32,
-) -> Result<(), Error>
+) -> Result<usize, Error>
     requires ready { IsWriting spool_schema (state S.Store conn.old) }
     requires places { (first ≤ 2 ^ 23) × (end ≤ 2 ^ 23) }
     ensures dropped { HasCleanDisk (state S.Store conn.new)
         → OnOk result (Changes (without_records key first end) (state S.Store conn.old) (state S.Store conn.new)) }
+    ensures counted { HasCleanDisk (state S.Store conn.new) → IfOk result (λ count. (spool : SpoolContents)
+        → Holds spool (state S.Store conn.old).now.trees → count ≡ length (records_between key first end spool)) }
     ensures crash { Survives (state S.Store conn.old) (state S.Store conn.new) (λ _. ⊥) }
 {
     let values = values_of_places(key, first, end);
-    let _ = conn.execute("DELETE FROM records WHERE id >= ?1 AND id < ?2", &values)?;
-    Ok(())
+    let count = conn.execute("DELETE FROM records WHERE id >= ?1 AND id < ?2", &values)?;
+    Ok(count)
 }
 
 /// While the connection is open, a crash leaves what was last kept, and nothing else.

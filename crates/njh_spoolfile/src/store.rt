@@ -1,6 +1,6 @@
 //! A spool that outlives the program.
 
-ghost use Rattle.std.specs.Prelude.{◌≡◌, ◌<◌, ◌≤◌, ◌^◌, true, false, map, IfOk, IsTrue, OnOk, OnErr};
+ghost use Rattle.std.specs.Prelude.{◌≡◌, ◌<◌, ◌≤◌, ◌^◌, true, false, length, map, IfOk, IsTrue, OnOk, OnErr};
 ghost use Rattle.sqlite.specs.State.{HasCleanDisk, Survives};
 ghost use Rattle.sqlite.specs.Held.{state};
 ghost use Rattle.sqlite_trees.specs.View.{IsClean};
@@ -190,11 +190,14 @@ impl<S: Alter> Store<S> {
         done
     }
 
-    /// Drops the records of the file of this key at places from `first` on and before `end`.
-    pub fn drop_records(&mut self, key: u32, first: u32, end: u32) -> Result<(), Error>
+    /// Drops the records of the file of this key at places from `first` on and before `end`, and
+    /// says how many.
+    pub fn drop_records(&mut self, key: u32, first: u32, end: u32) -> Result<usize, Error>
         requires places { (first ≤ 2 ^ 23) × (end ≤ 2 ^ 23) }
         ensures changed { HasCleanDisk (shown S.Store self.new)
             → OnOk result (Changes (without_records key first end) (shown S.Store self.old) (shown S.Store self.new)) }
+        ensures counted { HasCleanDisk (shown S.Store self.new) → IfOk result (λ count. (spool : SpoolContents)
+            → Holds spool (shown S.Store self.old).now.trees → count ≡ length (records_between key first end spool)) }
         ensures crash { Survives (shown S.Store self.old) (shown S.Store self.new) (λ _. ⊥) }
         ensures failed { OnErr result (self.new.failed ≡ true) }
         ensures works { OnOk result ((self.old.failed ≡ false) × (self.new.failed ≡ false)) }

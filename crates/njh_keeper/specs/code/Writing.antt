@@ -1,9 +1,11 @@
 -- What the calls of a writer do to a spool, and to what is next to be written.
 use Rattle.std.specs.Prelude.{◌≡◌, ℕ, zero, suc, ◌+◌, ◌-◌, ◌<◌, ◌≤◌, ◌^◌, ◌==◌, ◌||◌, ◌⊎◌, min, max, nat_le, nat_lt}
-use Rattle.std.specs.Prelude.{Bool, true, false, if◌then◌else◌, List, [], ◌∷◌, ◌++◌, fold, slice_index_or, slice_set}
+use Rattle.std.specs.Prelude.{Bool, true, false, if◌then◌else◌, List, [], ◌∷◌, ◌++◌, fold, length, slice_index_or}
+use Rattle.std.specs.Prelude.{slice_set}
 use Rattle.std.specs.List.{AllByRecursion, list_any}
+use Rattle.sqlite.specs.State.{State}
 use Rattle.njh_spoolfile.specs.Kept.{Record, SpoolContents, with_record, without_records}
-use Rattle.njh_spoolfile.specs.CommitState.{CommitState}
+use Rattle.njh_spoolfile.specs.CommitState.{CommitState, Stands}
 use Rattle.njh_spoolfile.specs.declared.kept.StoredFile.{StoredFile}
 use Rattle.njh_keeper.specs.declared.own_files.Sweep.{Sweep}
 
@@ -111,9 +113,17 @@ below end key = if nat_lt key end then key ∷ [] else []
 abbrev pub without_keys : List ℕ → SpoolContents → SpoolContents
 without_keys keys spool = fold (λ s key. without_records key 0 (2 ^ 23) s) spool keys
 
--- the spool is another one, and what was committed stays
-abbrev pub shows_now : (SpoolContents → SpoolContents) → CommitState → CommitState
-shows_now change s = record s { now = change s.now }
+-- the spool is another one, whatever was committed
+abbrev pub ShowsNow : (SpoolContents → SpoolContents) → CommitState → State → Type 0
+ShowsNow change s at = (kept : SpoolContents) × Stands (record { now = change s.now; kept = kept }) at
+
+-- It is, and where no more than so many committed records were dropped before, no more than so many are now.
+pub record Drops (change : SpoolContents → SpoolContents) (waited waiting : ℕ) (s : CommitState) (at : State) : Type 0
+  where
+    pub kept : SpoolContents
+    pub stands : Stands (record { now = change s.now; kept = kept }) at
+    pub few : length s.kept.records ≤ length s.now.records + waited
+        → length kept.records ≤ length (change s.now).records + waiting
 
 -- another one, and it is committed
 abbrev pub shows_kept : (SpoolContents → SpoolContents) → CommitState → CommitState

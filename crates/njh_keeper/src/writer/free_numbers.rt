@@ -1,13 +1,12 @@
 //! Which numbers are next and which are free when a spool file was opened.
 
-ghost use Rattle.std.specs.Prelude.{◌≡◌, ◌+◌, ◌-◌, ◌^◌, ◌++◌, ⊤, false, min, replicate, IfOk, OnOk};
+ghost use Rattle.std.specs.Prelude.{◌≡◌, ◌<◌, ◌+◌, ◌-◌, ◌^◌, ◌++◌, ⊤, false, min, replicate, IfOk, OnOk};
 ghost use Rattle.sqlite.specs.State.{HasCleanDisk, Survives};
 ghost use Rattle.njh_spoolfile.specs.Kept.{without_records};
 ghost use Rattle.njh_spoolfile.specs.Shelf.{shown};
 ghost use Rattle.njh_spoolfile.specs.CommitState.{CommitState, Stands};
-ghost use Rattle.njh_spoolfile.specs.Steps.{Changes};
-ghost use Rattle.njh_keeper.specs.code.Writing.{AreBelow, below, emptied_at, free_at, id_behind, is_marked, key_behind};
-ghost use Rattle.njh_keeper.specs.code.Writing.{marked_by, shows_kept, shows_now, unmarked, without_keys};
+ghost use Rattle.njh_keeper.specs.code.Writing.{AreBelow, Drops, ShowsNow, below, emptied_at, free_at, id_behind};
+ghost use Rattle.njh_keeper.specs.code.Writing.{is_marked, key_behind, marked_by, shows_kept, unmarked, without_keys};
 
 use crate::writer::{PLACES, SpoolWriter};
 use njh_spoolfile::StoredFile;
@@ -23,7 +22,7 @@ const MARGIN: u32 = 64;
 
 impl<S: Alter + Drop> SpoolWriter<S> {
     /// Begins after the numbers of these files, which are all. What stands under numbers of no
-    /// file is dropped, as far as it is looked for.
+    /// file is dropped, as far as it is looked for, with a commit each time that many records were.
     pub(crate) fn begin_numbers(&mut self, files: &[StoredFile]) -> Result<(), Error>
         ensures begun { HasCleanDisk (shown S.Store self.new.store) → OnOk result ((s : CommitState)
             → Stands s (shown S.Store self.old.store) → Stands (shows_kept (without_keys (emptied_at files.now
@@ -57,12 +56,17 @@ impl<S: Alter + Drop> SpoolWriter<S> {
     fn empty_others(&mut self, files: &[StoredFile]) -> Result<(), Error>
         requires below { AreBelow files.now self.old.next_key }
         ensures emptied { HasCleanDisk (shown S.Store self.new.store) → OnOk result ((s : CommitState)
-            → Stands s (shown S.Store self.old.store) → Stands (shows_now (without_keys (emptied_at files.now
-            self.old.next_key)) s) (shown S.Store self.new.store)) }
+            → Stands s (shown S.Store self.old.store) → ShowsNow (without_keys (emptied_at files.now
+            self.old.next_key)) s (shown S.Store self.new.store)) }
         ensures free { OnOk result (self.new.free_keys.items
             ≡ self.old.free_keys.items ++ free_at files.now self.old.next_key) }
-        ensures others { self.new ≡ record self.old { store = self.new.store; free_keys = self.new.free_keys } }
-        ensures crash { Survives (shown S.Store self.old.store) (shown S.Store self.new.store) (λ _. ⊥) }
+        ensures others { self.new ≡ record self.old {
+          store = self.new.store;
+          free_keys = self.new.free_keys;
+          waiting = self.new.waiting;
+          is_changed = self.new.is_changed;
+        } }
+        ensures crash { Survives (shown S.Store self.old.store) (shown S.Store self.new.store) (λ _. ⊤) }
     {
         if self.next_key > LOOKED_FOR {
             return Ok(());
@@ -76,12 +80,17 @@ impl<S: Alter + Drop> SpoolWriter<S> {
     /// Drops what stands under numbers without a mark, up to a few after those of files.
     fn empty_unmarked(&mut self, marks: &[bool]) -> Result<(), Error>
         ensures emptied { HasCleanDisk (shown S.Store self.new.store) → OnOk result ((s : CommitState)
-            → Stands s (shown S.Store self.old.store) → Stands (shows_now (without_keys (unmarked marks.now
-            (min (self.old.next_key + 64) (2 ^ 32 - 1)))) s) (shown S.Store self.new.store)) }
+            → Stands s (shown S.Store self.old.store) → ShowsNow (without_keys (unmarked marks.now
+            (min (self.old.next_key + 64) (2 ^ 32 - 1)))) s (shown S.Store self.new.store)) }
         ensures free { OnOk result (self.new.free_keys.items
             ≡ self.old.free_keys.items ++ unmarked marks.now self.old.next_key) }
-        ensures others { self.new ≡ record self.old { store = self.new.store; free_keys = self.new.free_keys } }
-        ensures crash { Survives (shown S.Store self.old.store) (shown S.Store self.new.store) (λ _. ⊥) }
+        ensures others { self.new ≡ record self.old {
+          store = self.new.store;
+          free_keys = self.new.free_keys;
+          waiting = self.new.waiting;
+          is_changed = self.new.is_changed;
+        } }
+        ensures crash { Survives (shown S.Store self.old.store) (shown S.Store self.new.store) (λ _. ⊤) }
     {
         for key in 0..self.next_key.saturating_add(MARGIN) {
             if !is_marked(marks, key) {
@@ -93,19 +102,51 @@ impl<S: Alter + Drop> SpoolWriter<S> {
 
     /// Drops what stands under a number of no file. One that was taken before is free again.
     fn empty_key(&mut self, key: u32) -> Result<(), Error>
-        ensures emptied { HasCleanDisk (shown S.Store self.new.store) → OnOk result (Changes
-            (without_records key 0 (2 ^ 23)) (shown S.Store self.old.store) (shown S.Store self.new.store)) }
+        ensures emptied { HasCleanDisk (shown S.Store self.new.store) → OnOk result ((s : CommitState)
+            → Stands s (shown S.Store self.old.store) → Drops (without_records key 0 (2 ^ 23)) self.old.waiting
+            self.new.waiting s (shown S.Store self.new.store)) }
         ensures free { OnOk result (self.new.free_keys.items
             ≡ self.old.free_keys.items ++ below self.old.next_key key) }
-        ensures crash { Survives (shown S.Store self.old.store) (shown S.Store self.new.store) (λ _. ⊥) }
-        ensures others { self.new ≡ record self.old { store = self.new.store; free_keys = self.new.free_keys } }
+        ensures crash { Survives (shown S.Store self.old.store) (shown S.Store self.new.store) (λ _. ⊤) }
+        ensures others { self.new ≡ record self.old {
+          store = self.new.store;
+          free_keys = self.new.free_keys;
+          waiting = self.new.waiting;
+          is_changed = self.new.is_changed;
+        } }
     {
-        self.store.drop_records(key, 0, PLACES)?;
+        self.drop_key(key)?;
         if key < self.next_key {
             self.free_keys.push(key)?;
         }
         Ok(())
     }
+
+    /// Drops what stands under a number, and commits if many records were dropped since the last
+    /// commit.
+    fn drop_key(&mut self, key: u32) -> Result<(), Error>
+        ensures dropped { HasCleanDisk (shown S.Store self.new.store) → OnOk result ((s : CommitState)
+            → Stands s (shown S.Store self.old.store) → Drops (without_records key 0 (2 ^ 23)) self.old.waiting
+            self.new.waiting s (shown S.Store self.new.store)) }
+        ensures few { OnOk result (self.new.waiting < 4096) }
+        ensures crash { Survives (shown S.Store self.old.store) (shown S.Store self.new.store) (λ _. ⊤) }
+        ensures others { self.new ≡ record self.old {
+          store = self.new.store;
+          waiting = self.new.waiting;
+          is_changed = self.new.is_changed;
+        } }
+    {
+        let dropped = self.store.drop_records(key, 0, PLACES)?;
+        self.waiting = with_dropped(self.waiting, dropped);
+        self.settle()
+    }
+}
+
+/// How many records wait for a commit once so many more were dropped.
+fn with_dropped(waiting: u32, dropped: usize) -> u32
+    ensures { result ≡ min (waiting + dropped) (2 ^ 32 - 1) }
+{
+    waiting.saturating_add(u32::try_from(dropped).unwrap_or(u32::MAX))
 }
 
 /// Whether a number has a mark.

@@ -1,10 +1,22 @@
-use Rattle.{std.proofs.Common.{◌≡◌, ◌++◌, slice_index_or, false, true, sym, ap, ◌∙◌}, njh_spoolfile.specs.Shelf.shown}
-use Rattle.njh_keeper.proofs.LeadingLaws.{clean_before, survives_both}
+use Rattle.std.proofs.Common.{◌≡◌, ◌++◌, min, slice_index_or, false, true, refl, sym, ap, ◌∙◌, append-nil, arith}
+use Rattle.{std.specs.Prelude.⊤, njh_spoolfile.specs.Shelf.shown, njh_keeper.specs.code.Writing.unmarked}
+use Rattle.njh_keeper.proofs.LeadingLaws.{clean_before, survives_any, survives_here}
 use Rattle.njh_keeper.proofs.writer.SpoolWriter.empty_unmarked.Goals.{then-not-is_marked+in_ok-empty_key}
 use Rattle.njh_keeper.proofs.{writer.SpoolWriter.empty_unmarked.Goals.else-not-is_marked, WriterLaws.emptied_more}
 use Rattle.njh_keeper.proofs.WriterLaws.{free_more, marked_below, marked_more}
 use Rattle.njh_keeper.specs.declared.writer.SpoolWriter.{SpoolWriter}
 use Rattle.njh_keeper.proofs.writer.SpoolWriter.empty_unmarked.Goals as goal
+
+pub loop-key-init : goal.loop-key-init
+loop-key-init g c =
+    let keys = c.args.self.now.free_keys.items in
+    let none : min 0 c.args.self.now.next_key ≡ 0 = omega arith in
+    record {
+      crash = survives_here (shown g.S.Store c.args.self.now.store) (λ _. ⊤);
+      emptied = λ clean s at. (s.kept, at);
+      free = sym (append-nil keys) ∙ ap (λ n. keys ++ unmarked c.args.marks.now n) (sym none);
+      others = refl;
+    }
 
 pub loop-key-preserved : goal.loop-key-preserved
 loop-key-preserved g c =
@@ -18,15 +30,19 @@ loop-key-preserved g c =
           let new = shown g.S.Store w.empty_key.new.self.store in
           let is : slice_index_or marks key false ≡ false = sym c.is_marked.ensures ∙ w.if-not-is_marked.true in
           rw w.self-is (record {
-            crash = survives_both so_far.crash w.empty_key.ensures.crash;
-            emptied = λ clean s at. emptied_more marks key s mid new is
+            crash = survives_any so_far.crash w.empty_key.ensures.crash;
+            emptied = λ clean s at. emptied_more marks key _ _ s mid new is
                 (so_far.emptied (clean_before w.empty_key.ensures.crash clean) s at)
                 (w.in_ok-empty_key.ensures.emptied clean);
             free = free_more marks key next c.loop-key.self.next_key c.args.self.now.free_keys.items
                 c.loop-key.self.free_keys.items w.empty_key.new.self.free_keys.items is
                 (ap (λ x. x.next_key) so_far.others) so_far.free w.in_ok-empty_key.ensures.free;
-            others = w.empty_key.ensures.others ∙ ap (λ (x : SpoolWriter g.row.S.Denot). record x
-                { store = w.empty_key.new.self.store; free_keys = w.empty_key.new.self.free_keys }) so_far.others;
+            others = w.empty_key.ensures.others ∙ ap (λ (x : SpoolWriter g.row.S.Denot). record x {
+              store = w.empty_key.new.self.store;
+              free_keys = w.empty_key.new.self.free_keys;
+              waiting = w.empty_key.new.self.waiting;
+              is_changed = w.empty_key.new.self.is_changed;
+            }) so_far.others;
           })
       | else-not-is_marked w ↦
           let is : slice_index_or marks key false ≡ true = sym c.is_marked.ensures ∙ w.if-not-is_marked.false in
@@ -40,4 +56,4 @@ loop-key-preserved g c =
     ]
 
 pub returns-in_err-empty_key-clause-crash : goal.returns-in_err-empty_key-clause-crash
-returns-in_err-empty_key-clause-crash g c = survives_both c.loop-key.invariant.crash c.empty_key.ensures.crash
+returns-in_err-empty_key-clause-crash g c = survives_any c.loop-key.invariant.crash c.empty_key.ensures.crash
