@@ -178,7 +178,7 @@ module _ (files : List StoredFile) (names : List (List ℕ)) (hub : List Part) (
   below =
       all_both (λ (f : StoredFile). f.file.key < 2 ^ 32 - 1) (λ f. min (f.file.key + 1) (2 ^ 32 - 1) ≤ w.next_key)
       (λ f. f.file.key < w.next_key) (λ f low most. omega (arith, low, most)) files each.low
-      (after_all (λ f. f.file.key) before files w.next_key (omega (arith, next))).1
+      (after_all (2 ^ 32 - 1) (λ f. f.file.key) before files w.next_key (omega (arith, next))).1
 
   pub all_are_apart : AllAreApart w owns
   all_are_apart n =

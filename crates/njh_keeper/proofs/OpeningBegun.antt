@@ -38,13 +38,13 @@ is_used_by files n least = elim (cases_Bool (is_used files n)) [
 ]
 
 -- the numbers of rows
-low_ids : (files : List StoredFile) → have_low_ids files ≡ true → AllByRecursion (λ f. f.id < 2 ^ 32 - 1) files
+low_ids : (files : List StoredFile) → have_low_ids files ≡ true → AllByRecursion (λ f. f.id < 2 ^ 63 - 1) files
 low_ids [] low = tt
-low_ids (f ∷ fs) low = by (nat_le (2 ^ 32 - 1) f.id) refl low (low_ids fs)
+low_ids (f ∷ fs) low = by (nat_le (2 ^ 63 - 1) f.id) refl low (low_ids fs)
   where
-    by : (b : Bool) → nat_le (2 ^ 32 - 1) f.id ≡ b → cond b false (have_low_ids fs) ≡ true
-        → (have_low_ids fs ≡ true → AllByRecursion (λ f. f.id < 2 ^ 32 - 1) fs)
-        → AllByRecursion (λ f. f.id < 2 ^ 32 - 1) (f ∷ fs)
+    by : (b : Bool) → nat_le (2 ^ 63 - 1) f.id ≡ b → cond b false (have_low_ids fs) ≡ true
+        → (have_low_ids fs ≡ true → AllByRecursion (λ f. f.id < 2 ^ 63 - 1) fs)
+        → AllByRecursion (λ f. f.id < 2 ^ 63 - 1) (f ∷ fs)
     by true is low rest = absurd (cc low)
     by false is low rest = (grind (arith, nat_tests, is), rest low)
 
@@ -95,7 +95,7 @@ module _ (files : List StoredFile) (names : List (List ℕ)) (hub : List Part) (
     below = subst (λ (es : List (ℕ × File)). AllByRecursion (λ e. e.0 < w.next_id) es) (sym empty.files)
         (all.below w.next_id (subst (λ (es : List (ℕ × File)). AllByRecursion (λ e. e.0 < w.next_id) es) rows
         (all_map (λ (e : ℕ × File). e.0 < w.next_id) entry_of files
-        (all_both (λ (f : StoredFile). f.id < 2 ^ 32 - 1) (λ f. min (f.id + 1) (2 ^ 32 - 1) ≤ w.next_id)
+        (all_both (λ (f : StoredFile). f.id < 2 ^ 63 - 1) (λ f. min (f.id + 1) (2 ^ 63 - 1) ≤ w.next_id)
         (λ f. f.id < w.next_id) (λ f low most. omega (arith, low, most)) files (low_ids files low)
-        (after_all (λ f. f.id) id files w.next_id (omega (arith, next_id))).1))));
+        (after_all (2 ^ 63 - 1) (λ f. f.id) id files w.next_id (omega (arith, next_id))).1))));
   }

@@ -68,19 +68,19 @@ marks_of_files files next n all few =
     ])
 
 -- the next number comes after those of the files
-pub after_all : (number : StoredFile → ℕ) (next : ℕ) (files : List StoredFile) (end : ℕ)
-    → number_after number next files ≤ end
-    → (next ≤ end) × AllByRecursion (λ f. min (number f + 1) (2 ^ 32 - 1) ≤ end) files
-after_all number next [] end most = (most, tt)
-after_all number next (f ∷ fs) end most =
-    let rest = after_all number (max next (min (number f + 1) (2 ^ 32 - 1))) fs end most in
+pub after_all : (greatest : ℕ) (number : StoredFile → ℕ) (next : ℕ) (files : List StoredFile) (end : ℕ)
+    → number_after greatest number next files ≤ end
+    → (next ≤ end) × AllByRecursion (λ f. min (number f + 1) greatest ≤ end) files
+after_all greatest number next [] end most = (most, tt)
+after_all greatest number next (f ∷ fs) end most =
+    let rest = after_all greatest number (max next (min (number f + 1) greatest)) fs end most in
     (omega (arith, rest.0), (omega (arith, rest.0), rest.1))
 
 pub are_below : (next : ℕ) (files : List StoredFile) (end : ℕ) → key_behind next files ≤ end → end ≤ 200000
     → AllByRecursion (λ f. f.file.key < end) files
 are_below next files end most few =
     all_weaker (λ (f : StoredFile). min (f.file.key + 1) (2 ^ 32 - 1) ≤ end) (λ f. f.file.key < end)
-    (λ f here. omega (arith, here, few)) files (after_all (λ f. f.file.key) next files end most).1
+    (λ f here. omega (arith, here, few)) files (after_all (2 ^ 32 - 1) (λ f. f.file.key) next files end most).1
 
 -- what is emptied, and what is free then
 looked_for : (next : ℕ) → next ≤ 200000 → (nat_lt 200000 next ≡ false) × (min (next + 64) (2 ^ 32 - 1) ≡ next + 64)

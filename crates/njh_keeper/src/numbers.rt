@@ -4,7 +4,7 @@ ghost use Rattle.std.specs.Prelude.{◌≡◌, true, map, IfOk, OnOk};
 ghost use Rattle.njh_keeper.specs.code.Apart.{AreFilesApart, have_low_ids, rises};
 
 use crate::writer::astray;
-use njh_spoolfile::StoredFile;
+use njh_spoolfile::{GREATEST_ID, StoredFile};
 use sqlite::Error;
 use std::alloc::{AllocError, Global};
 
@@ -62,7 +62,7 @@ fn ids_are_low(files: &[StoredFile]) -> bool
     ensures { result ≡ have_low_ids files.now }
 {
     for stored in files {
-        if stored.id >= u32::MAX {
+        if stored.id >= GREATEST_ID {
             return false;
         }
     }

@@ -12,7 +12,7 @@ use njh_spool::{FileId, State};
 #[derive(Clone, Copy)]
 pub(crate) struct KeptWhole {
     /// The number of its row, which says where it stands in the order of arrival.
-    pub(crate) id: u32,
+    pub(crate) id: u64,
     /// The number that its records stand under.
     pub(crate) key: u32,
     /// Its number in the hub.

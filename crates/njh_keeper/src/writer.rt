@@ -11,7 +11,7 @@ ghost use Rattle.njh_keeper.specs.code.Writing.{IsTaken, is_due, with_replaced};
 
 mod free_numbers;
 
-use njh_spoolfile::{FileRow, RecordRow, Store};
+use njh_spoolfile::{FileRow, GREATEST_ID, RecordRow, Store};
 use sqlite::{Alter, Error, ErrorCode};
 use std::alloc::Global;
 
@@ -26,7 +26,7 @@ const WAITING: u32 = 4096;
 pub(crate) struct SpoolWriter<S: Alter + Drop> {
     pub(crate) store: Store<S>,
     /// The number of the next whole file's row.
-    pub(crate) next_id: u32,
+    pub(crate) next_id: u64,
     /// The first number that no file's records have stood under.
     pub(crate) next_key: u32,
     /// Numbers below it that no file's records stand under.
@@ -95,12 +95,14 @@ impl<S: Alter + Drop> SpoolWriter<S> {
     }
 
     /// The number of a row after all others.
-    pub(crate) fn take_id(&mut self) -> Result<u32, Error>
+    pub(crate) fn take_id(&mut self) -> Result<u64, Error>
         ensures taken { IfOk result (λ id. id ≡ self.old.next_id) }
+        ensures low { IfOk result (λ id. id < 2 ^ 63 - 1) }
+        ensures full { OnErr result (2 ^ 63 - 1 ≤ self.old.next_id) }
         ensures others { OnOk result (self.new ≡ record self.old { next_id = self.old.next_id + 1 }) }
         ensures same { OnErr result (self.new ≡ self.old) }
     {
-        if self.next_id == u32::MAX {
+        if self.next_id >= GREATEST_ID {
             return Err(full());
         }
         self.next_id += 1;
@@ -141,7 +143,7 @@ impl<S: Alter + Drop> SpoolWriter<S> {
     }
 
     /// Adds a whole file, whose records are kept.
-    pub(crate) fn add_file(&mut self, id: u32, row: &FileRow) -> Result<(), Error>
+    pub(crate) fn add_file(&mut self, id: u64, row: &FileRow) -> Result<(), Error>
         ensures changed { HasCleanDisk (shown S.Store self.new.store)
             → OnOk result (Changes (with_file id (file_of row.now)) (shown S.Store self.old.store)
             (shown S.Store self.new.store)) }
@@ -153,7 +155,7 @@ impl<S: Alter + Drop> SpoolWriter<S> {
     }
 
     /// Puts a row in the place of a whole file's.
-    pub(crate) fn change_file(&mut self, id: u32, row: &FileRow) -> Result<(), Error>
+    pub(crate) fn change_file(&mut self, id: u64, row: &FileRow) -> Result<(), Error>
         ensures changed { HasCleanDisk (shown S.Store self.new.store)
             → OnOk result (Changes (with_changed id (file_of row.now)) (shown S.Store self.old.store)
             (shown S.Store self.new.store)) }
@@ -165,7 +167,7 @@ impl<S: Alter + Drop> SpoolWriter<S> {
     }
 
     /// Takes the whole file of this row out. Its records stay.
-    pub(crate) fn drop_file(&mut self, id: u32) -> Result<(), Error>
+    pub(crate) fn drop_file(&mut self, id: u64) -> Result<(), Error>
         ensures changed { HasCleanDisk (shown S.Store self.new.store)
             → OnOk result (Changes (without_file id) (shown S.Store self.old.store) (shown S.Store self.new.store)) }
         ensures crash { Survives (shown S.Store self.old.store) (shown S.Store self.new.store) (λ _. ⊥) }

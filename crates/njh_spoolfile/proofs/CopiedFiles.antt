@@ -225,7 +225,7 @@ module _ (customer : Option (List ℕ)) (spool : SpoolContents) where
 pub copied_there : (customer : Option (List ℕ)) (id key count : ℕ) (spool before : SpoolContents) (old one mid : State)
     → Stays old one → AreBelow id key (kept before) × (asked customer before ≡ [])
     → (count ≡ length (asked customer spool)) × LeadsTo (AddsAsked id key (asked customer spool)) one mid
-    → (id + count < 2 ^ 32) × (key + count < 2 ^ 32) → Holds before old.now.trees
+    → (id + count < 2 ^ 63) × (key + count < 2 ^ 32) → Holds before old.now.trees
     → (after : SpoolContents) × Holds after mid.now.trees × IsCopied customer spool before after
 copied_there customer id key count spool before old one mid same told copied room held =
     let led = copied.1.leads before (holds_still same held) in (
@@ -236,7 +236,7 @@ copied_there customer id key count spool before old one mid same told copied roo
         key = key;
         behind = told.0;
         copies = led.2 told.0;
-        low = copied_below id key (asked customer spool) before led.0 (2 ^ 32 - 1) (2 ^ 32 - 1)
+        low = copied_below id key (asked customer spool) before led.0 (2 ^ 63 - 1) (2 ^ 32 - 1)
             (omega (arith, room.0, copied.0)) (omega (arith, room.1, copied.0)) told.0 led.2;
         none = told.1;
       },
@@ -250,7 +250,7 @@ pub crash_there : (customer : Option (List ℕ)) (id key count : ℕ) (from_old 
     → AreBelow id key (kept before) × (asked customer before ≡ []))
     → (HasCleanDisk from_new → HasCleanDisk mid → (spool : SpoolContents) → Holds spool from_old.now.trees
     → (count ≡ length (asked customer spool)) × LeadsTo (AddsAsked id key (asked customer spool)) one mid)
-    → (id + count < 2 ^ 32) × (key + count < 2 ^ 32)
+    → (id + count < 2 ^ 63) × (key + count < 2 ^ 32)
     → Survives old new (λ trees. HasCleanDisk from_new → (spool before : SpoolContents)
     → Holds spool from_old.now.trees → Holds before old.now.trees → (after : SpoolContents) × Holds after trees
     × IsCopied customer spool before after)

@@ -49,8 +49,8 @@ below_files id key spool files is low =
     below_each id key spool files
     (subst (λ (es : List (ℕ × File)). AreBelow id key (map (whole_in spool) es)) (sym is) low)
 
-pub lacks_any : (id key count : ℕ) → (2 ^ 32 ≤ id) ⊎ (2 ^ 32 ≤ key)
-    → (id + count < 2 ^ 32) × (key + count < 2 ^ 32) → ⊥
+pub lacks_any : (id key count : ℕ) → (2 ^ 63 ≤ id) ⊎ (2 ^ 32 ≤ key)
+    → (id + count < 2 ^ 63) × (key + count < 2 ^ 32) → ⊥
 lacks_any id key count (inl h) low = omega (arith, h, low.0)
 lacks_any id key count (inr h) low = omega (arith, h, low.1)
 
@@ -151,6 +151,6 @@ all_fits customer spool before first none least faults.Full h = (
 )
   where
     lacks_still : (first : Numbers) (id key count : ℕ) → LacksRoom first count → (first.id ≤ id) × (first.key ≤ key)
-        → (id + count < 2 ^ 32) × (key + count < 2 ^ 32) → ⊥
+        → (id + count < 2 ^ 63) × (key + count < 2 ^ 32) → ⊥
     lacks_still first id key count (inl h) low room = omega (arith, h, low.0, room.0)
     lacks_still first id key count (inr h) low room = omega (arith, h, low.1, room.1)

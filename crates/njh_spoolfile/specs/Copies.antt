@@ -38,7 +38,7 @@ pub record IsCopied (customer : Option (List ℕ)) (from before after : SpoolCon
   pub key : ℕ
   pub behind : AreBelow id key (kept before)
   pub copies : kept after ≡ kept before ++ numbered id key (asked customer from)
-  pub low : AreBelow (2 ^ 32 - 1) (2 ^ 32 - 1) (kept after)
+  pub low : AreBelow (2 ^ 63 - 1) (2 ^ 32 - 1) (kept after)
   pub none : asked customer before ≡ []
 
 -- so many did, and all is committed
@@ -59,7 +59,7 @@ pub record HasRoom (count : ℕ) (ws : List Whole) : Type 0 where
   pub key : ℕ
   pub some : (0 < id) × (0 < key)
   pub behind : AreBelow id key ws
-  pub low : (id + count < 2 ^ 32) × (key + count < 2 ^ 32)
+  pub low : (id + count < 2 ^ 63) × (key + count < 2 ^ 32)
 
 -- what a fault says of the two spools
 abbrev pub FitsFault : Option (List ℕ) → (from before : SpoolContents) → CopyFault → Type 0

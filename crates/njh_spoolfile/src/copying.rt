@@ -13,7 +13,7 @@ ghost use Rattle.njh_spoolfile.specs.Steps.{Changes, Stays};
 ghost use Rattle.njh_spoolfile.specs.code.CopySteps.{Adds, AddsAsked, Fills, FillsEmpty, FitsFiles, FitsStep, IsBehind};
 ghost use Rattle.njh_spoolfile.specs.code.CopySteps.{LacksRoom, LeadsTo, asked_of, record_under};
 
-use crate::kept::{FileRow, RecordRow, StoredFile, StoredRecord};
+use crate::kept::{FileRow, GREATEST_ID, RecordRow, StoredFile, StoredRecord};
 use crate::store::Store;
 use sqlite::{Alter, Error};
 use std::alloc::Global;
@@ -49,7 +49,7 @@ impl From<Error> for CopyFault {
 #[derive(Clone, Copy)]
 struct Numbers {
     /// Its row's number.
-    id: u32,
+    id: u64,
     /// The number that its records stand under.
     key: u32,
 }
@@ -76,16 +76,28 @@ fn has_asked(files: &[StoredFile], customer: Option<&str>) -> bool
     false
 }
 
+/// The number behind this one of a row, if there is one.
+fn id_behind(id: u64) -> Option<u64>
+    ensures behind { IfSome result (λ next. (next ≡ id + 1) × (next < 2 ^ 63)) }
+    ensures none { result ≡ None → 2 ^ 63 ≤ id + 1 }
+{
+    if id >= GREATEST_ID {
+        return None;
+    }
+    Some(id + 1)
+}
+
 /// The numbers above these and those of one more file, if there are any.
 fn above(next: Numbers, stored: &StoredFile) -> Option<Numbers>
     ensures above { IfSome result (λ after. (next.id ≤ after.id) × (next.key ≤ after.key)
         × (stored.now.id < after.id) × (stored.now.file.key < after.key)) }
     ensures least { IfSome result (λ after. (id key : ℕ) → next.id ≤ id → next.key ≤ key → stored.now.id < id
         → stored.now.file.key < key → (after.id ≤ id) × (after.key ≤ key)) }
+    ensures low { IfSome result (λ after. next.id < 2 ^ 63 → after.id < 2 ^ 63) }
     ensures none { result ≡ None → (id key : ℕ) → stored.now.id < id → stored.now.file.key < key
-        → (2 ^ 32 ≤ id) ⊎ (2 ^ 32 ≤ key) }
+        → (2 ^ 63 ≤ id) ⊎ (2 ^ 32 ≤ key) }
 {
-    let id = stored.id.checked_add(1)?;
+    let id = id_behind(stored.id)?;
     let key = stored.file.key.checked_add(1)?;
     Some(Numbers {
         id: if id > next.id { id } else { next.id },
@@ -99,8 +111,9 @@ fn numbers_behind(files: &[StoredFile]) -> Option<Numbers>
         files.now) }
     ensures least { IfSome result (λ first. (id key : ℕ) → (0 < id) × (0 < key)
         → AllByRecursion (λ f. (f.id < id) × (f.file.key < key)) files.now → (first.id ≤ id) × (first.key ≤ key)) }
+    ensures low { IfSome result (λ first. first.id < 2 ^ 63) }
     ensures none { result ≡ None → (id key : ℕ) → AllByRecursion (λ f. (f.id < id) × (f.file.key < key)) files.now
-        → (2 ^ 32 ≤ id) ⊎ (2 ^ 32 ≤ key) }
+        → (2 ^ 63 ≤ id) ⊎ (2 ^ 32 ≤ key) }
 {
     let mut next = Numbers { id: 1, key: 1 };
     for stored in files {
@@ -121,6 +134,7 @@ fn first_numbers<T: Alter>(
     ensures least { HasCleanDisk (shown T.Store into.new) → IfOk result (λ first. (before : SpoolContents)
         → Holds before (shown T.Store into.old).now.trees → (id key : ℕ) → (0 < id) × (0 < key)
         → AreBelow id key (kept before) → (first.id ≤ id) × (first.key ≤ key)) }
+    ensures low { IfOk result (λ first. first.id < 2 ^ 63) }
     ensures fault { HasCleanDisk (shown T.Store into.new) → IfErr result (λ fault. (spool before : SpoolContents)
         → Holds before (shown T.Store into.old).now.trees
         → FitsFault (option_map (λ c. c.now) customer.entry) spool before fault) }
@@ -272,6 +286,7 @@ fn copy_asked<S: Alter, T: Alter>(
         (shown T.Store into.new)) }
     ensures counted { IfOk result (λ after. IsBehind next
         (asked_of (option_map (λ c. c.now) customer.entry) (entry_of stored.now ∷ [])) after) }
+    ensures low { IfOk result (λ after. next.id < 2 ^ 63 → after.id < 2 ^ 63) }
     ensures same { HasCleanDisk (shown S.Store from.new) → OnOk result (Stays (shown S.Store from.old)
         (shown S.Store from.new)) }
     ensures fault { HasCleanDisk (shown S.Store from.new) → IfErr result (λ fault. (spool : SpoolContents)
@@ -283,7 +298,7 @@ fn copy_asked<S: Alter, T: Alter>(
     if !is_asked(&stored.file, customer) {
         return Ok(next);
     }
-    if next.id == u32::MAX || next.key == u32::MAX {
+    if next.id >= GREATEST_ID || next.key == u32::MAX {
         return Err(CopyFault::Full);
     }
     copy_one(alloc, from, into, stored, next)?;
@@ -310,6 +325,7 @@ fn copy_each<S: Alter, T: Alter>(
         (shown T.Store into.new)) }
     ensures counted { IfOk result (λ after. IsBehind first
         (asked_of (option_map (λ c. c.now) customer.entry) (map entry_of files.now)) after) }
+    ensures low { IfOk result (λ after. first.id < 2 ^ 63 → after.id < 2 ^ 63) }
     ensures same { HasCleanDisk (shown S.Store from.new) → OnOk result (Stays (shown S.Store from.old)
         (shown S.Store from.new)) }
     ensures fault { HasCleanDisk (shown S.Store from.new) → IfErr result (λ fault. (spool : SpoolContents)
@@ -338,7 +354,8 @@ fn copy_behind<S: Alter, T: Alter>(
         → (count ≡ length (asked (option_map (λ c. c.now) customer.entry) spool))
         × LeadsTo (AddsAsked first.id first.key (asked (option_map (λ c. c.now) customer.entry) spool))
         (shown T.Store into.old) (shown T.Store into.new)) }
-    ensures room { IfOk result (λ count. (first.id + count < 2 ^ 32) × (first.key + count < 2 ^ 32)) }
+    ensures room { IfOk result (λ count. first.id < 2 ^ 63
+        → (first.id + count < 2 ^ 63) × (first.key + count < 2 ^ 32)) }
     ensures same { HasCleanDisk (shown S.Store from.new) → OnOk result (Stays (shown S.Store from.old)
         (shown S.Store from.new)) }
     ensures fault { HasCleanDisk (shown S.Store from.new) → IfErr result (λ fault. (spool : SpoolContents)
@@ -350,7 +367,7 @@ fn copy_behind<S: Alter, T: Alter>(
 {
     let files = from.files(alloc)?;
     let after = copy_each(alloc, from, into, customer, files.as_slice(), first)?;
-    Ok(after.id - first.id)
+    Ok(after.key - first.key)
 }
 
 /// Copies whole files with all their records behind those of another spool file, in their order,

@@ -1,11 +1,15 @@
 //! A file and a record as they are kept.
 
-ghost use Rattle.std.specs.Prelude.{◌≡◌, ◌<◌, ◌≤◌, ◌^◌, pos, [], ◌∷◌};
+ghost use Rattle.std.specs.Prelude.{◌≡◌, ◌<◌, ◌≤◌, ◌^◌, pos, [], ◌∷◌, OnErr, OnOk};
 ghost use Rattle.sqlite_value.specs.declared.value.Value.TheVariants.{Int};
 ghost use Rattle.sqlite.specs.Values.{bound};
 ghost use Rattle.njh_spoolfile.specs.Kept.{file_of, file_values, record_of, record_values, record_number};
 
 use sqlite::types::ValueRef;
+use sqlite::{Error, ErrorCode};
+
+/// The greatest number that a row may have.
+pub const GREATEST_ID: u64 = (1 << 63) - 1;
 
 /// A whole file without its records. Names are in characters, as users see them.
 #[derive(Debug, Drop)]
@@ -54,8 +58,8 @@ pub struct RecordRow<'a> {
 /// A whole file under its number, which says where it stands in the order of arrival.
 #[derive(Debug, Drop)]
 pub struct StoredFile {
-    /// The number.
-    pub id: u32,
+    /// The number, below 2^63.
+    pub id: u64,
     /// What is known of it.
     pub file: FileRow,
 }
@@ -71,12 +75,32 @@ pub struct StoredRecord {
     pub bytes: Vec<u8>,
 }
 
+/// Whether a row may have this number: there are none from 2^63 on.
+pub(crate) fn check_id(id: u64) -> Result<(), Error>
+    ensures low { OnOk result (id < 2 ^ 63) }
+    ensures high { OnErr result (2 ^ 63 ≤ id) }
+{
+    if id > GREATEST_ID {
+        return Err(Error::SqliteFailure(ErrorCode::DiskFull));
+    }
+    Ok(())
+}
+
+/// A row's number as a database has it.
+fn number_of_row(id: u64) -> i64
+    requires { id < 2 ^ 63 }
+    ensures { result ≡ pos id }
+{
+    id as i64
+}
+
 /// The values of a file's row, in the order of the columns.
-pub(crate) fn values_of_file(id: u32, file: &FileRow) -> [ValueRef<'_>; 14]
+pub(crate) fn values_of_file(id: u64, file: &FileRow) -> [ValueRef<'_>; 14]
+    requires { id < 2 ^ 63 }
     ensures { bound result ≡ file_values id (file_of file.now) }
 {
     [
-        ValueRef::Int(i64::from(id)),
+        ValueRef::Int(number_of_row(id)),
         ValueRef::Text(file.customer.as_bytes()),
         ValueRef::Int(i64::from(file.key)),
         ValueRef::Text(file.kind.as_bytes()),
@@ -115,11 +139,12 @@ pub(crate) fn values_of_record<'a>(kept: &RecordRow<'a>) -> [ValueRef<'a>; 5]
     ]
 }
 
-/// The number of a file, as the value of a statement.
-pub(crate) fn values_of_number(id: u32) -> [ValueRef<'static>; 1]
+/// The number of a row, as the value of a statement.
+pub(crate) fn values_of_number(id: u64) -> [ValueRef<'static>; 1]
+    requires { id < 2 ^ 63 }
     ensures { bound result ≡ Int (pos id) ∷ [] }
 {
-    [ValueRef::Int(i64::from(id))]
+    [ValueRef::Int(number_of_row(id))]
 }
 
 /// The numbers of a file's records at places from `first` on and before `end`.

@@ -14,7 +14,7 @@ mod store;
 mod tables;
 
 pub use copying::{CopyFault, copy_files};
-pub use kept::{FileRow, RecordRow, StoredFile, StoredRecord};
+pub use kept::{FileRow, GREATEST_ID, RecordRow, StoredFile, StoredRecord};
 pub use laws::{
     a_file_comes_last, a_file_keeps_its_place, a_file_leaves, a_record_comes_last,
     others_do_not_show, records_in_part_do_not_show, what_is_left_is_found,

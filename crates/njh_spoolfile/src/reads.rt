@@ -32,6 +32,12 @@ fn number_at(row: &Row, at: usize) -> Result<u32, Error>
     row.get(at)
 }
 
+fn id_at(row: &Row, at: usize) -> Result<u64, Error>
+    ensures { IfOk result (λ id. (n : ℕ) → column row.now at ≡ Int (pos n) → id ≡ n) }
+{
+    row.get(at)
+}
+
 fn flag_at(row: &Row, at: usize) -> Result<bool, Error>
     ensures { IfOk result (λ is_set. (b : Bool) → column row.now at ≡ Int (flag b) → is_set ≡ b) }
 {
@@ -56,7 +62,7 @@ fn record_in(row: &Row) -> Result<StoredRecord, Error>
 fn file_in(row: &Row) -> Result<StoredFile, Error>
     ensures { IfOk result (λ stored. (e : ℕ × File) → row.now ≡ file_shown e → entry_of stored ≡ e) }
 {
-    let id = number_at(row, 0)?;
+    let id = id_at(row, 0)?;
     let key = number_at(row, 2)?;
     let number = number_at(row, 5)?;
     let held = flag_at(row, 10)?;

@@ -10,7 +10,8 @@ ghost use Rattle.njh_spoolfile.specs.Tables.{spool_schema};
 ghost use Rattle.njh_spoolfile.specs.Steps.{IsWriting, Begins, Changes, Commits};
 
 use crate::kept::{
-    FileRow, RecordRow, values_of_file, values_of_number, values_of_places, values_of_record,
+    FileRow, RecordRow, check_id, values_of_file, values_of_number, values_of_places,
+    values_of_record,
 };
 use sqlite::{Alter, Connection, Error};
 
@@ -35,13 +36,14 @@ pub fn commit<S: Alter>(conn: &mut Connection<S>) -> Result<(), Error>
     Ok(())
 }
 
-/// Adds a whole file under this number, in the order of arrival.
-pub fn insert_file<S: Alter>(conn: &mut Connection<S>, id: u32, file: &FileRow) -> Result<(), Error>
+/// Adds a whole file under this number, in the order of arrival. There are none from 2^63 on.
+pub fn insert_file<S: Alter>(conn: &mut Connection<S>, id: u64, file: &FileRow) -> Result<(), Error>
     requires ready { IsWriting spool_schema (state S.Store conn.old) }
     ensures added { HasCleanDisk (state S.Store conn.new)
         → OnOk result (Changes (with_file id (file_of file.now)) (state S.Store conn.old) (state S.Store conn.new)) }
     ensures crash { Survives (state S.Store conn.old) (state S.Store conn.new) (λ _. ⊥) }
 {
+    check_id(id)?;
     let values = values_of_file(id, file);
     let _ = conn.execute(
         "INSERT INTO files VALUES (?1, ?2, ?3, ?4, ?5, ?6, ?7, ?8, ?9, ?10, ?11, ?12, ?13, ?14)",
@@ -64,12 +66,13 @@ pub fn insert_record<S: Alter>(conn: &mut Connection<S>, kept: &RecordRow<'_>) -
 }
 
 /// Takes the whole file of this number out. Its records stay, and are dropped later.
-pub fn delete_file<S: Alter>(conn: &mut Connection<S>, id: u32) -> Result<(), Error>
+pub fn delete_file<S: Alter>(conn: &mut Connection<S>, id: u64) -> Result<(), Error>
     requires ready { IsWriting spool_schema (state S.Store conn.old) }
     ensures dropped { HasCleanDisk (state S.Store conn.new) → OnOk result (Changes (without_file id)
         (state S.Store conn.old) (state S.Store conn.new)) }
     ensures crash { Survives (state S.Store conn.old) (state S.Store conn.new) (λ _. ⊥) }
 {
+    check_id(id)?;
     let values = values_of_number(id);
     let _ = conn.execute("DELETE FROM files WHERE id = ?1", &values)?;
     Ok(())

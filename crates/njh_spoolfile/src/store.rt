@@ -66,7 +66,7 @@ fn begin<S: Alter>(conn: &mut Connection<S>) -> Result<(), Error>
 }
 
 /// Puts a row in the place of the one of this number.
-fn replace_file<S: Alter>(conn: &mut Connection<S>, id: u32, file: &FileRow) -> Result<(), Error>
+fn replace_file<S: Alter>(conn: &mut Connection<S>, id: u64, file: &FileRow) -> Result<(), Error>
     requires ready { IsWriting spool_schema (state S.Store conn.old) }
     ensures changed { HasCleanDisk (state S.Store conn.new)
         → OnOk result (Changes (with_changed id (file_of file.now)) (state S.Store conn.old) (state S.Store conn.new)) }
@@ -129,8 +129,8 @@ impl<S: Alter> Store<S> {
         done
     }
 
-    /// Adds a whole file under this number, in the order of arrival.
-    pub fn add_file(&mut self, id: u32, file: &FileRow) -> Result<(), Error>
+    /// Adds a whole file under this number, in the order of arrival. There are none from 2^63 on.
+    pub fn add_file(&mut self, id: u64, file: &FileRow) -> Result<(), Error>
         ensures changed { HasCleanDisk (shown S.Store self.new)
             → OnOk result (Changes (with_file id (file_of file.now)) (shown S.Store self.old)
             (shown S.Store self.new)) }
@@ -146,7 +146,7 @@ impl<S: Alter> Store<S> {
 
     /// Puts a file in the place of the one of this number, as where it is held, released or sent
     /// elsewhere.
-    pub fn change_file(&mut self, id: u32, file: &FileRow) -> Result<(), Error>
+    pub fn change_file(&mut self, id: u64, file: &FileRow) -> Result<(), Error>
         ensures changed { HasCleanDisk (shown S.Store self.new)
             → OnOk result (Changes (with_changed id (file_of file.now)) (shown S.Store self.old)
             (shown S.Store self.new)) }
@@ -177,7 +177,7 @@ impl<S: Alter> Store<S> {
     }
 
     /// Takes the whole file of this number out. Its records stay, and are dropped later.
-    pub fn drop_file(&mut self, id: u32) -> Result<(), Error>
+    pub fn drop_file(&mut self, id: u64) -> Result<(), Error>
         ensures changed { HasCleanDisk (shown S.Store self.new)
             → OnOk result (Changes (without_file id) (shown S.Store self.old) (shown S.Store self.new)) }
         ensures crash { Survives (shown S.Store self.old) (shown S.Store self.new) (λ _. ⊥) }

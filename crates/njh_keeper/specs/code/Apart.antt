@@ -18,4 +18,4 @@ pub record AreFilesApart (files : List StoredFile) : Type 0 where
 -- no row has the greatest number
 abbrev pub have_low_ids : List StoredFile → Bool
 have_low_ids [] = true
-have_low_ids (f ∷ fs) = if nat_le (2 ^ 32 - 1) f.id then false else have_low_ids fs
+have_low_ids (f ∷ fs) = if nat_le (2 ^ 63 - 1) f.id then false else have_low_ids fs

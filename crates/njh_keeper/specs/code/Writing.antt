@@ -65,14 +65,14 @@ is_due is_changed waiting = is_changed || nat_le 4096 waiting
 -- ---- the opening
 
 -- the first number, not below this one, after those of whole files, and after those that their records stand under
-abbrev pub number_after : (StoredFile → ℕ) → ℕ → List StoredFile → ℕ
-number_after number next files = fold (λ n f. max n (min (number f + 1) (2 ^ 32 - 1))) next files
+abbrev pub number_after : (greatest : ℕ) → (StoredFile → ℕ) → ℕ → List StoredFile → ℕ
+number_after greatest number next files = fold (λ n f. max n (min (number f + 1) greatest)) next files
 
 abbrev pub id_behind : ℕ → List StoredFile → ℕ
-id_behind next files = number_after (λ f. f.id) next files
+id_behind next files = number_after (2 ^ 63 - 1) (λ f. f.id) next files
 
 abbrev pub key_behind : ℕ → List StoredFile → ℕ
-key_behind next files = number_after (λ f. f.file.key) next files
+key_behind next files = number_after (2 ^ 32 - 1) (λ f. f.file.key) next files
 
 -- records of one of these files stand under this number
 abbrev pub is_used : List StoredFile → ℕ → Bool

@@ -9,7 +9,7 @@ ghost use Rattle.njh_keeper.specs.code.Writing.{AreBelow, Drops, ShowsNow, below
 ghost use Rattle.njh_keeper.specs.code.Writing.{is_marked, key_behind, marked_by, shows_kept, unmarked, without_keys};
 
 use crate::writer::{PLACES, SpoolWriter};
-use njh_spoolfile::StoredFile;
+use njh_spoolfile::{GREATEST_ID, StoredFile};
 use sqlite::{Alter, Error};
 use std::alloc::{AllocError, Global};
 
@@ -47,7 +47,7 @@ impl<S: Alter + Drop> SpoolWriter<S> {
         } }
     {
         for stored in files {
-            self.next_id = self.next_id.max(stored.id.saturating_add(1));
+            self.next_id = self.next_id.max(id_after(stored.id));
             self.next_key = self.next_key.max(stored.file.key.saturating_add(1));
         }
     }
@@ -140,6 +140,13 @@ impl<S: Alter + Drop> SpoolWriter<S> {
         self.waiting = with_dropped(self.waiting, dropped);
         self.settle()
     }
+}
+
+/// The number after this one of a row; after the greatest comes none.
+fn id_after(id: u64) -> u64
+    ensures { result ≡ min (id + 1) (2 ^ 63 - 1) }
+{
+    id.saturating_add(1).min(GREATEST_ID)
 }
 
 /// How many records wait for a commit once so many more were dropped.

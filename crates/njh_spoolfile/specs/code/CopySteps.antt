@@ -50,7 +50,7 @@ IsBehind first es after = (after.id ≡ first.id + length es) × (after.key ≡ 
 
 -- there are no numbers for so many files from these on
 abbrev pub LacksRoom : Numbers → ℕ → Type 0
-LacksRoom first count = (2 ^ 32 ≤ first.id + count) ⊎ (2 ^ 32 ≤ first.key + count)
+LacksRoom first count = (2 ^ 63 ≤ first.id + count) ⊎ (2 ^ 32 ≤ first.key + count)
 
 -- what a fault says once none of the files that are there is asked for
 abbrev pub FitsStep : (full damaged : Type 0) → CopyFault → Type 0

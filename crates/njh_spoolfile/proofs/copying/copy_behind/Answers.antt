@@ -21,11 +21,17 @@ returns-clause-copied g c clean_from clean spool held =
     let asked_is : map (whole_in spool) (asked_of customer es) ≡ asked customer spool = asked_in customer spool es is in
     let long : length (asked customer spool) ≡ length (asked_of customer es) =
     ap (λ (ws : List Whole). length ws) (sym asked_is) ∙ length-map (asked_of customer es) (whole_in spool) in (
-      omega (arith, long, c.in_ok-after.ensures.counted.0),
+      omega (arith, long, c.in_ok-after.ensures.counted.1),
       subst (λ (ws : List Whole). LeadsTo (AddsAsked first.id first.key ws) (shown g.T.Store c.args.into.now)
           (shown g.T.Store c.copy_each.new.into)) asked_is
           (c.in_ok-after.ensures.copied clean_from clean spool (holds_still (c.in_ok-files.ensures.same early) held)),
     )
+
+pub returns-clause-room : goal.returns-clause-room
+returns-clause-room g c low = (
+  omega (arith, c.in_ok-after.ensures.counted.0, c.in_ok-after.ensures.counted.1, c.in_ok-after.ensures.low low),
+  omega (arith, c.in_ok-after.ensures.counted.1),
+)
 
 pub returns-in_err-after-clause-fault : goal.returns-in_err-after-clause-fault
 returns-in_err-after-clause-fault g c clean_from =

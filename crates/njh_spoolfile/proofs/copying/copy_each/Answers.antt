@@ -14,6 +14,7 @@ pub loop-stored-init : goal.loop-stored-init
 loop-stored-init g c = record {
   copied = λ clean_from clean spool held. leads_nothing (adds_nothing c.args.first.id c.args.first.key spool);
   counted = (omega arith, omega arith);
+  low = λ first. first;
   same = λ clean. stays_here (shown g.S.Store c.args.from.now);
   crash_from = survives_here (shown g.S.Store c.args.from.now) (λ _. ⊥);
   crash = survives_here (shown g.T.Store c.args.into.now) (λ _. ⊥);
@@ -42,6 +43,7 @@ loop-stored-preserved g c =
           (λ s t u held_before held_then one two. adds_more first.id first.key next.id next.key spool done more s t u
           so_far.counted.0 so_far.counted.1 one two));
       counted = behind_more first next c.in_ok-next.next done more after is so_far.counted c.in_ok-next.ensures.counted;
+      low = λ first_low. c.in_ok-next.ensures.low (so_far.low first_low);
       same = λ clean. stays_both (so_far.same (clean_before c.copy_asked.ensures.crash_from clean))
           (c.in_ok-next.ensures.same clean);
       crash_from = survives_both so_far.crash_from c.copy_asked.ensures.crash_from;

@@ -1,4 +1,4 @@
-use Rattle.std.proofs.Common.{map, option_map, take}
+use Rattle.std.proofs.Common.{◌<◌, ◌^◌, map, option_map, take}
 use Rattle.sqlite.specs.State.{HasCleanDisk, Survives}
 use Rattle.njh_spoolfile.specs.Kept.{Holds, SpoolContents, entry_of}
 use Rattle.njh_spoolfile.specs.Shelf.{shown}
@@ -18,6 +18,7 @@ invariant-loop-stored g l =
       copied : HasCleanDisk first_now → HasCleanDisk now → (spool : SpoolContents) → Holds spool first_old.now.trees
           → LeadsTo (Adds l.fn.first.id l.fn.first.key spool done) old now;
       counted : IsBehind l.fn.first done l.next;
+      low : l.fn.first.id < 2 ^ 63 → l.next.id < 2 ^ 63;
       same : HasCleanDisk first_now → Stays first_old first_now;
       crash_from : Survives first_old first_now (λ _. ⊥);
       crash : Survives old now (λ _. ⊥);

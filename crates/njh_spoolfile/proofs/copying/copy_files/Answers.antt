@@ -19,7 +19,8 @@ returns-clause-copied g c clean_from clean spool before held held_into =
     c.in_ok-count.count spool before (shown g.T.Store c.args.into.now) (shown g.T.Store c.first_numbers.new.into)
     (shown g.T.Store c.copy_behind.new.into) (c.in_ok-first.ensures.same clean_first)
     (c.in_ok-first.ensures.behind clean_first before held_into)
-    (c.in_ok-count.ensures.copied clean_from clean_mid spool held) c.in_ok-count.ensures.room held_into in
+    (c.in_ok-count.ensures.copied clean_from clean_mid spool held)
+    (c.in_ok-count.ensures.room c.in_ok-first.ensures.low) held_into in
     record {
       after = there.0;
       stands = record {
@@ -38,7 +39,7 @@ returns-clause-crash g c =
     (shown g.T.Store c.args.into.now) (shown g.T.Store c.first_numbers.new.into)
     (shown g.T.Store c.copy_behind.new.into) (shown g.T.Store c.commit.new.self) c.first_numbers.ensures.crash
     c.copy_behind.ensures.crash c.commit.ensures.crash c.in_ok-first.ensures.same c.in_ok-first.ensures.behind
-    c.in_ok-count.ensures.copied c.in_ok-count.ensures.room
+    c.in_ok-count.ensures.copied (c.in_ok-count.ensures.room c.in_ok-first.ensures.low)
 
 pub returns-in_err-commit-clause-crash : goal.returns-in_err-commit-clause-crash
 returns-in_err-commit-clause-crash g c =
@@ -47,7 +48,7 @@ returns-in_err-commit-clause-crash g c =
     (shown g.T.Store c.args.into.now) (shown g.T.Store c.first_numbers.new.into)
     (shown g.T.Store c.copy_behind.new.into) (shown g.T.Store c.commit.new.self) c.first_numbers.ensures.crash
     c.copy_behind.ensures.crash c.commit.ensures.crash c.in_ok-first.ensures.same c.in_ok-first.ensures.behind
-    c.in_ok-count.ensures.copied c.in_ok-count.ensures.room
+    c.in_ok-count.ensures.copied (c.in_ok-count.ensures.room c.in_ok-first.ensures.low)
 
 pub returns-in_err-count-clause-fault : goal.returns-in_err-count-clause-fault
 returns-in_err-count-clause-fault g c clean_from clean =

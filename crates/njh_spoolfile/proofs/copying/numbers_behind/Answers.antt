@@ -7,6 +7,7 @@ pub loop-stored-init : goal.loop-stored-init
 loop-stored-init c = record {
   behind = tt;
   least = λ id key some low. (omega (arith, some.0), omega (arith, some.1));
+  low = omega arith;
 }
 
 pub loop-stored-preserved : goal.loop-stored-preserved
@@ -19,4 +20,5 @@ loop-stored-preserved c = record {
       let here = one_below id key c.args.files.now c.loop-stored.stored-index c.stored-item.result
       c.loop-stored-test.true c.stored-item.is low in
       c.in_ok-next.ensures.least id key so_far.0 so_far.1 here.0 here.1;
+  low = c.in_ok-next.ensures.low c.loop-stored.invariant.low;
 }

@@ -1,4 +1,4 @@
-use Rattle.std.proofs.Common.{ℕ, ◌<◌, ◌≤◌, take}
+use Rattle.std.proofs.Common.{ℕ, ◌<◌, ◌≤◌, ◌^◌, take}
 use Rattle.std.specs.List.{AllByRecursion}
 use Rattle.njh_spoolfile.proofs.copying.numbers_behind.Given as goal
 
@@ -8,4 +8,5 @@ invariant-loop-stored l = record {
   behind : AllByRecursion (λ f. (f.id < l.next.id) × (f.file.key < l.next.key)) (take l.stored-index l.files);
   least : (id key : ℕ) → (0 < id) × (0 < key) → AllByRecursion (λ f. (f.id < id) × (f.file.key < key)) l.files
       → (l.next.id ≤ id) × (l.next.key ≤ key);
+  low : l.next.id < 2 ^ 63;
 }
