@@ -1,17 +1,21 @@
 -- What is found by the next open.
-use Rattle.std.proofs.Common.{◌≡◌, inl, inr, IsTrue, sym, ap, subst, ◌∙◌}
+use Rattle.std.proofs.Common.{◌≡◌, [], inl, inr, IsTrue, sym, ap, subst, ◌∙◌}
 use Rattle.std.proofs.Math.Logic.{∥∥₁_elim, ∥∥₁_map}
 use Rattle.sqlite.specs.Recovery.{Image}
 use Rattle.sqlite.specs.Tree.{Trees}
 use Rattle.sqlite.specs.Schema.{Schema}
-use Rattle.sqlite.specs.Files.{HoldsDatabase}
+use Rattle.sqlite.specs.Closing.{HoldsAlone, IsCopied}
+use Rattle.sqlite.specs.Files.{HoldsDatabase, file_state}
+use Rattle.sqlite.specs.Held.{Held}
 use Rattle.sqlite_trees.specs.Props.{Trees-set}
 use Rattle.sqlite_disk.specs.declared.Disk.{Ghosts}
+use Rattle.sqlite_disk.specs.declared.Files.{Files}
 use Rattle.sqlite_store.specs.declared.store.FileStore.{FileStore}
 use Rattle.sqlite_store.specs.FileStore.{state, view, recovers}
 use Rattle.sqlite.proofs.Theorems.{opens_again}
 use Rattle.njh_spoolfile.specs.Kept.{SpoolContents, Holds}
 use Rattle.njh_spoolfile.specs.Tables.{spool_schema, no_tables}
+use Rattle.njh_spoolfile.specs.Origin.{IsFoundAlone, IsFoundIn, StandsAlone}
 use Rattle.njh_spoolfile.specs.Reopened.{OpensFrom, IsOrBecomes}
 use Rattle.njh_spoolfile.proofs.NewTables.{one_schema}
 
@@ -47,3 +51,22 @@ pub leaves_spools : {D : Type 0} {g : Ghosts D} (it : FileStore D g) → IsTrue 
     → ((trees : Trees) → recovers it trees → ((spool : SpoolContents) × Holds spool trees))
     → (left : Image) → (state it).may_leave left → ∥ ((trees : Trees) × recovers it trees × HoldsDatabase left trees) ∥₁
 leaves_spools it numbered spools = opens_again it numbered (λ db r. (spool_schema, (spools db r).1.sound))
+
+-- ---- what a close leaves
+
+found_in : (spool : SpoolContents) (image : Image) (db : Trees) → Holds spool db → ∥ HoldsDatabase image db ∥₁
+    → IsFoundIn image spool
+found_in spool image db held all = λ now sound o.
+    subst (Holds spool) (sym (∥∥₁_elim all (Trees-set _ _) (λ has. opened spool image db now held has o))) held
+
+found_alone : (spool : SpoolContents) (image : Image) (db : Trees) → Holds spool db → HoldsAlone image db
+    → IsFoundAlone image spool
+found_alone spool image db held has =
+    (found_in spool image db held has.both, found_in spool (record image { log = [] }) db held has.alone)
+
+pub stands_alone : {D : Type 0} {g : Ghosts D} (conn : Held (FileStore D g)) (files : Files D) → IsCopied conn files
+    → (spool : SpoolContents) → Holds spool (file_state conn).committed.trees → StandsAlone g files spool
+stands_alone conn files is spool held = record {
+  seen = found_alone spool _ _ held is.seen;
+  left = λ image may. found_alone spool image _ held (is.left image may);
+}

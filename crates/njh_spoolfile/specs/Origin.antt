@@ -1,8 +1,13 @@
--- The spool that files held when they were opened.
+-- The spool that files held when they were opened, or hold after they were closed.
+use Rattle.std.specs.Prelude.{[]}
 use Rattle.sqlite.specs.State.{HasCleanDisk}
 use Rattle.sqlite.specs.Store.{Ghosts}
+use Rattle.sqlite.specs.Files.{image_of}
 use Rattle.sqlite.specs.Recovery.{Image}
 use Rattle.sqlite.specs.Tree.{Trees}
+use Rattle.sqlite.specs.WalFiles.{outcomes}
+use Rattle.sqlite_disk.specs.declared.Disk as disk
+use Rattle.sqlite_disk.specs.declared.Files.{Files}
 use Rattle.sqlite_catalog.specs.Listing.{IsSound}
 use Rattle.njh_spoolfile.specs.Kept.{SpoolContents, Holds}
 use Rattle.njh_spoolfile.specs.Reopened.{OpensFrom}
@@ -19,3 +24,12 @@ abbrev pub StandsAsFound : {S : Type 0} → Ghosts S → (SpoolContents → Type
 StandsAsFound g found store =
     HasCleanDisk (shown g store) → (spool : SpoolContents) → found spool
     → Stands (record { now = spool; kept = spool }) (shown g store)
+
+-- Whoever opens files of this image finds this spool, and so does whoever opens the spool file without its log.
+abbrev pub IsFoundAlone : Image → SpoolContents → Type 0
+IsFoundAlone image spool = IsFoundIn image spool × IsFoundIn (record image { log = [] }) spool
+
+-- It is so as the files read, and of all that a crash may leave of them.
+pub record StandsAlone {D : Type 0} (g : disk.Ghosts D) (files : Files D) (spool : SpoolContents) : Type 0 where
+  pub seen : IsFoundAlone (image_of g files) spool
+  pub left : (image : Image) → outcomes g files.log files.db image → IsFoundAlone image spool

@@ -1,20 +1,26 @@
 //! A spool that outlives the program.
 
 ghost use Rattle.std.specs.Prelude.{◌≡◌, ◌<◌, ◌≤◌, ◌^◌, true, false, length, map, IfOk, IsTrue, OnOk, OnErr};
+ghost use Rattle.std.specs.Prelude.{IfErr};
 ghost use Rattle.sqlite.specs.State.{HasCleanDisk, Survives};
 ghost use Rattle.sqlite.specs.Held.{state};
+ghost use Rattle.sqlite.specs.Files.{file_state};
+ghost use Rattle.sqlite.specs.State.{store_error};
+ghost use Rattle.sqlite.specs.WalReads.{AreClean};
 ghost use Rattle.sqlite_trees.specs.View.{IsClean};
 ghost use Rattle.njh_spoolfile.specs.Kept.{SpoolContents, Holds, file_of, record_of, with_file, with_changed};
 ghost use Rattle.njh_spoolfile.specs.Kept.{with_record};
 ghost use Rattle.njh_spoolfile.specs.Kept.{without_file, without_records, entry_of, contents, contents_of};
 ghost use Rattle.njh_spoolfile.specs.Kept.{records_between};
+ghost use Rattle.njh_spoolfile.specs.Origin.{StandsAlone};
 ghost use Rattle.njh_spoolfile.specs.Shelf.{shown, IsUsable};
 ghost use Rattle.njh_spoolfile.specs.Steps.{Begins, Changes, Commits, IsWriting, Stays};
 ghost use Rattle.njh_spoolfile.specs.Tables.{spool_schema};
 
 use crate::kept::{FileRow, RecordRow, StoredFile, StoredRecord};
 use crate::{reads, statements};
-use sqlite::{Alter, Connection, Error, ErrorCode};
+use sqlite::{Alter, Connection, Error, ErrorCode, FileStore, Files};
+use sqlite_disk::Disk;
 use std::alloc::Global;
 use std::marker::Model;
 
@@ -49,6 +55,26 @@ impl<S: Alter + Drop> Store<S> {
         ensures { IsClean (S.Store.view result) → IsTrue (S.Store.view self.conn.store).is_numbered }
     {
         self.into_conn().into_store()
+    }
+}
+
+impl<D: Disk + Drop> Store<FileStore<D>> {
+    /// Copies the log into the spool file and gives both back, to be dropped. What was committed is
+    /// in the spool file without its log then; what waited is gone. After an `Err` what was
+    /// committed is in the two together, as it was before.
+    pub fn close(self) -> Result<Files<D>, Error>
+        ensures alone { IfOk result (λ files. AreClean D.Disk files.log files.db → (spool : SpoolContents)
+            → Holds spool (file_state self.conn).committed.trees → StandsAlone D.Disk files spool) }
+        ensures fault { IfErr result (λ error. (cause : _) × (error ≡ store_error cause)) }
+    {
+        let Store { conn, failed: _ } = self;
+        match conn.close_files() {
+            Ok(files) => Ok(files),
+            Err((error, store)) => {
+                drop(store.close());
+                Err(error)
+            }
+        }
     }
 }
 
