@@ -44,6 +44,7 @@ pub mod StillLaws
 pub mod HandLaws
 pub mod NewFilesLaws
 pub mod KeeperLaws
+pub mod CountingLaws
 pub mod PortionLaws
 pub mod KnowingLaws
 pub mod StepsLaws

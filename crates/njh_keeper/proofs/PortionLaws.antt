@@ -7,12 +7,15 @@ use Words.{without_records, shown, Changes, CustomerSpool, partial_records, Writ
 use Words.{partial_of, sweep_in, HasRecords, IsOrdered, WritesUnder, AllClosed, AllSeen, IsSeen, IsUpToDate, KeepsNew}
 use Words.{KeepsOn, KeepsPartly, IsPartlyKept, KeptPartial, Numbers, OwnFiles, IsTaken, SpoolWriter}
 use Rattle.std.proofs.{Common.{if◌then◌else◌, IsSomeAnd}, lemmas.{Bool.false≢true, Option.slice_get-get_or}}
+use Rattle.njh_keeper.proofs.CountingLaws.{rows_as_partial_changes, rows_as_partial_is_swept}
+use Rattle.njh_keeper.proofs.CountingLaws.{rows_as_partial_comes, sum-push}
 use Rattle.njh_keeper.proofs.{AlikeLaws.begun_same, LeadingLaws.{leads_by, leads_nothing, leads_then, leads_weaker}}
 use Rattle.njh_keeper.proofs.ListLaws.{all_remove, all_set, at_place, map-remove, within_seen}
 use Rattle.njh_keeper.proofs.NumberedLaws.{all-push, all_weaker}
 use Rattle.njh_keeper.proofs.PartlyLaws.{Halves, halves_at, halves_remove, halves_set, keeps_begun, keeps_closed}
 use Rattle.njh_keeper.proofs.PartlyLaws.{keeps_gone_on, keeps_on_nothing, keeps_on_then, keeps_swept, keeps_while_swept}
 use Rattle.njh_keeper.proofs.{PartlyLaws.keeps_taken, UsesLaws.uses_as_key_is_taken}
+use Rattle.njh_keeper.specs.code.Counting.{CountsMore, rows_for, rows_in, rows_of}
 use Rattle.njh_keeper.specs.code.Partly.{IsSameButNumbers, IsSameButPartial, KeepsPartlyNew, KeepsStill}
 use Rattle.njh_keeper.specs.code.Writing.{behind_of, dead_in, dead_of, end_of, first_of, freed_by, is_left, left_of}
 use Rattle.njh_keeper.specs.code.Writing.{rest_of, without_swept}
@@ -55,6 +58,7 @@ module _ {S : Type 0} (g : Ghosts S) (now : CustomerSpool) where
         (λ s t u. keeps_on_then now (numbers_of w) (own_of own) (numbers_of w1) (numbers_of w2) (own_of own1)
         (own_of own2) s t u);
     seen = λ seen. more.seen (one.seen seen);
+    grows = omega (arith, one.grows, more.grows);
     numbers = same_then w w1 w2 one.numbers more.numbers;
     others = partly_then own own1 own2 one.others more.others;
   }
@@ -79,6 +83,7 @@ module _ {S : Type 0} (g : Ghosts S) (now : CustomerSpool) where
             (subst (λ (x : SpoolContents). KeepsNew key n1 (own_of own) (numbers_of w2) (own_of own2) now x u) here
             wrote));
         seen = new.seen;
+        grows = let waits = ap (λ (x : SpoolWriter S). x.waiting) same in omega (arith, waits, new.grows);
         numbers = new.numbers ∙ ap (λ (x : SpoolWriter S). record x {
           store = w2.store;
           next_key = w2.next_key;
@@ -109,11 +114,11 @@ module _ {S : Type 0} (g : Ghosts S) (now : CustomerSpool) where
     -- those of one come for the first time
     pub keeps_first : (p : kept_partial.KeptPartial) → own1.partial.items ≡ own.partial.items ++ p ∷ []
         → p.is_open ≡ true → p.seen ≡ length (partial_records p.number now) → 1366 ≤ p.seen
-        → p.written ≡ length (partial_records p.number now) → (HasCleanDisk (shown g w1.store)
-        → Leads (λ s t. IsOrdered s → HasRecords p.key [] s
+        → p.written ≡ length (partial_records p.number now) → CountsMore p.written w w1
+        → (HasCleanDisk (shown g w1.store) → Leads (λ s t. IsOrdered s → HasRecords p.key [] s
         → WritesUnder p.key s t × HasRecords p.key (partial_records p.number now) t) (shown g w.store)
         (shown g w1.store)) → KeepsPartlyNew g p.key now w own w1 own1
-    keeps_first p items is_open seen many whole wrote =
+    keeps_first p items is_open seen many whole counted wrote =
         let own' : OwnFiles = record (own_of own) { partial = (own_of own).partial ++ partial_of p ∷ [] } in
         let partial : map partial_of own1.partial.items ≡ (own_of own).partial ++ partial_of p ∷ [] =
         ap (map partial_of) items ∙ map-append partial_of own.partial.items (p ∷ []) in
@@ -127,6 +132,8 @@ module _ {S : Type 0} (g : Ghosts S) (now : CustomerSpool) where
               (λ s t written. keeps_begun now (numbers_of w) (own_of own) (partial_of p) s t whole written)));
           seen = λ all. subst (AllSeen now) (sym is)
               (all-push (IsSeen now) (own_of own).partial (partial_of p) all (λ about. (seen, many)));
+          grows = let rows = ap rows_of others ∙ rows_as_partial_comes own p own1.partial.items items in omega
+              (arith, rows, counted);
           numbers = is_same;
           others = partly_only own own1 others;
         }
@@ -135,11 +142,12 @@ module _ {S : Type 0} (g : Ghosts S) (now : CustomerSpool) where
     pub keeps_more : (i : ℕ) (p q : kept_partial.KeptPartial) (n : ℕ) → i < length own.partial.items
         → p ≡ get_or own.partial.items i p → own1.partial.items ≡ set own.partial.items i q
         → p.number ≡ n → q.key ≡ p.key → q.number ≡ p.number → p.seen ≤ length (partial_records n now)
-        → q.seen ≡ length (partial_records n now) → 1366 ≤ q.seen → (HasCleanDisk (shown g w1.store)
+        → q.seen ≡ length (partial_records n now) → 1366 ≤ q.seen → CountsMore (q.written - p.written) w w1
+        → (HasCleanDisk (shown g w1.store)
         → Leads (λ s t. IsOrdered s → IsPartlyKept s (partial_of p) (partial_records n now)
         → WritesUnder p.key s t × IsPartlyKept t (partial_of q) (partial_records n now))
         (shown g w.store) (shown g w1.store)) → KeepsPartly g now w own w1 own1
-    keeps_more i p q n there at items mine key number grown seen many wrote =
+    keeps_more i p q n there at items mine key number grown seen many counted wrote =
         let ps = (own_of own).partial in
         let own' : OwnFiles = record (own_of own) { partial = set ps i (partial_of q) } in
         let partial : map partial_of own1.partial.items ≡ set ps i (partial_of q) =
@@ -159,6 +167,10 @@ module _ {S : Type 0} (g : Ghosts S) (now : CustomerSpool) where
           seen = λ all. subst (AllSeen now) (sym is)
               (all_set (IsSeen now) ps i (partial_of q) (all_remove (IsSeen now) ps i all)
               (λ about. (subst (λ m. q.seen ≡ length (partial_records m now)) (sym (number ∙ mine)) seen, many)));
+          grows =
+              let is_now = ap rows_of others ∙ ap (λ xs. rows_in own.whole.items xs own.sweeps.items) items in
+              let changed = rows_as_partial_changes own i p there at q in
+              omega (arith, is_now, changed, counted);
           numbers = is_same;
           others = partly_only own own1 others;
         }
@@ -169,6 +181,7 @@ module _ {S : Type 0} (g : Ghosts S) (now : CustomerSpool) where
   keeps_still w own own1 still = record {
     led = λ clean. leads_nothing (λ s. still.keeps (numbers_of w) s);
     seen = still.seen;
+    grows = omega (arith, still.rows);
     numbers = refl;
     others = still.others;
   }
@@ -182,7 +195,7 @@ module _ (now : CustomerSpool) where
 
   pub still_nothing : (own : own_files.OwnFiles) → KeepsStill now own own
   still_nothing own =
-      record { keeps = λ w s. keeps_on_nothing now w (own_of own) s; seen = λ seen. seen; others = refl }
+      record { keeps = λ w s. keeps_on_nothing now w (own_of own) s; seen = λ seen. seen; rows = refl; others = refl }
 
   pub still_then : (own own1 own2 : own_files.OwnFiles) → KeepsStill now own own1 → KeepsStill now own1 own2
       → KeepsStill now own own2
@@ -190,6 +203,7 @@ module _ (now : CustomerSpool) where
     keeps = λ w s. keeps_on_then now w (own_of own) w w (own_of own1) (own_of own2) s s s (one.keeps w s)
         (more.keeps w s);
     seen = λ seen. more.seen (one.seen seen);
+    rows = more.rows ∙ one.rows;
     others = partly_then own own1 own2 one.others more.others;
   }
 
@@ -203,6 +217,7 @@ module _ (now : CustomerSpool) where
         keeps = λ w s. subst (λ (x : OwnFiles). KeepsOn w (own_of own) w x now s s) (sym is)
             (keeps_on_nothing now w (own_of own) s);
         seen = λ all. subst (AllSeen now) (sym is) all;
+        rows = ap rows_of others ∙ ap (rows_in own.whole.items own.partial.items) same;
         others = swept_only own own1 others;
       }
 
@@ -233,6 +248,11 @@ module _ (now : CustomerSpool) where
             seen = λ all. subst (AllSeen now) (sym is)
                 (all_set (IsSeen now) ps i (partial_of q) (all_remove (IsSeen now) ps i all)
                 (never q.is_open (ap (λ x. x.is_open) closed)));
+            rows =
+                let is_now = ap rows_of others ∙ ap (λ xs. rows_in own.whole.items xs own.sweeps.items) items in
+                let changed = rows_as_partial_changes own i p there at q in
+                let same = ap (λ x. x.written) closed in
+                omega (arith, is_now, changed, same);
             others = partly_only own own1 others;
           }
 
@@ -252,8 +272,9 @@ module _ (now : CustomerSpool) where
 
       -- its records are to be dropped
       pub still_dropped : (gone : sweep.Sweep) → IsSameButPartial own own1
-          → own1.sweeps.items ≡ own.sweeps.items ++ gone ∷ [] → gone.key ≡ p.key → KeepsStill now own own1
-      still_dropped gone others later key =
+          → own1.sweeps.items ≡ own.sweeps.items ++ gone ∷ [] → gone.key ≡ p.key → dead_in gone ≡ rows_for p.written
+          → KeepsStill now own own1
+      still_dropped gone others later key all_of_it =
           let own' : OwnFiles = record (own_of own)
           { partial = remove ps i; sweeps = (own_of own).sweeps ++ sweep_in gone ∷ [] } in
           let swept : map sweep_in own1.sweeps.items ≡ (own_of own).sweeps ++ sweep_in gone ∷ [] =
@@ -264,6 +285,8 @@ module _ (now : CustomerSpool) where
             keeps = λ w s. subst (λ (x : OwnFiles). KeepsOn w (own_of own) w x now s s) (sym is)
                 (keeps_swept now w (own_of own) i (partial_of p) within here (sweep_in gone) s key);
             seen = λ all. subst (AllSeen now) (sym is) (all_remove (IsSeen now) ps i all);
+            rows = ap rows_of others ∙ rows_as_partial_is_swept own i p there at own1.partial.items items gone all_of_it
+                own1.sweeps.items later;
             others = others;
           }
 
@@ -298,10 +321,11 @@ module _ {S : Type 0} (g : Ghosts S) (now : CustomerSpool) (w w1 : SpoolWriter S
 
   pub keeps_one_swept : (most : ℕ) (before : List sweep.Sweep) (last : sweep.Sweep)
       → own.sweeps.items ≡ before ++ last ∷ [] → own1.sweeps.items ≡ before ++ left_of most last
-      → w1.free_keys.items ≡ w.free_keys.items ++ freed_by most last
+      → w1.free_keys.items ≡ w.free_keys.items ++ freed_by most last → CountsMore 0 w w1
+      → dead_of own1.sweeps.items ≤ dead_of own.sweeps.items
       → (HasCleanDisk (shown g w1.store) → Changes (without_swept most last) (shown g w.store) (shown g w1.store))
       → KeepsPartly g now w own w1 own1
-  keeps_one_swept most before last are left freed dropped =
+  keeps_one_swept most before last are left freed counts less dropped =
       let n = numbers_of w in
       let b = is_left most last in
       let rest = rest_of most last in
@@ -325,16 +349,12 @@ module _ {S : Type 0} (g : Ghosts S) (now : CustomerSpool) (w w1 : SpoolWriter S
             keeps_while_swept now n (own_of own) (map sweep_in before) (sweep_in last) (sweep_in rest) b
             (first_of last) (behind_of most last) s t mine refl (omega arith) is)));
         seen = λ seen. subst (AllSeen now) (sym files) seen;
+        grows = let rows = ap rows_of others in omega (arith, rows, less, counts);
         numbers = only_swept;
         others = swept_only own own1 others;
       }
 
 -- ---- how many records are to be dropped
-
-pub dead_push : (before : List sweep.Sweep) (last : sweep.Sweep)
-    → dead_of (before ++ last ∷ []) ≡ dead_of before + dead_in last
-dead_push [] last = omega arith
-dead_push (s ∷ before) last = let rest = dead_push before last in omega (arith, rest)
 
 -- as many fewer as are dropped
 pub dead_after : (most : ℕ) (before : List sweep.Sweep) (last : sweep.Sweep)
@@ -345,7 +365,7 @@ dead_after most before last = by (is_left most last) refl
         → dead_of (before ++ (if b then rest_of most last ∷ [] else [])) + min most (dead_in last)
         ≡ dead_of before + dead_in last
     by true is =
-        let more = dead_push before (rest_of most last) in
+        let more = sum-push dead_in before (rest_of most last) in
         let less : behind_of most last < end_of last = grind (arith, nat_tests, is) in
         omega (arith, more, less)
     by false is =

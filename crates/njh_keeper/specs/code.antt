@@ -12,6 +12,7 @@ pub mod Leading
 pub mod Memory
 pub mod Codes
 pub mod Following
+pub mod Counting
 pub mod Partly
 pub mod Knowing
 pub mod Opening

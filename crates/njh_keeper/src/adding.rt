@@ -1,9 +1,10 @@
 //! A file that became whole is added.
 
-ghost use Rattle.std.specs.Prelude.{◌≡◌, ◌++◌, [], ◌∷◌, true, false, length, IfOk, OnOk};
+ghost use Rattle.std.specs.Prelude.{◌≡◌, ◌+◌, ◌++◌, [], ◌∷◌, true, false, length, IfOk, OnOk};
 ghost use Rattle.njh_spool.specs.CustomerSpool.{WholeFile};
 ghost use Rattle.njh_spoolfile.specs.Shelf.{shown};
 ghost use Rattle.sqlite.specs.State.{HasCleanDisk, Survives};
+ghost use Rattle.njh_keeper.specs.code.Counting.{Grows, rows_for, rows_of};
 ghost use Rattle.njh_keeper.specs.code.Following.{AddsRow, AreFronts, IsHubFile, LeadsFiles, LeadsInHand, stage_of};
 ghost use Rattle.njh_keeper.specs.code.Memory.{own_of};
 ghost use Rattle.njh_keeper.specs.code.Remembered.{NameOneNode};
@@ -29,6 +30,8 @@ pub(crate) fn add_one<S: Alter + Drop>(
         → HasCleanDisk (shown S.Store writer.new.store)
         → OnOk result (LeadsFiles (λ s files. AreFronts s (own_of own.old).partial (g ∷ [])) (λ files now. now ≡ files ++ g ∷ [])
         (stage_of S.Store writer.old own.old) (stage_of S.Store writer.new own.new)) }
+    ensures grows { (g : WholeFile) → IsHubFile hub.now file.now summary.now g
+        → OnOk result (Grows writer.old own.old writer.new own.new) }
     ensures due { OnOk result (writer.new.is_changed ≡ true) }
     ensures crash { Survives (shown S.Store writer.old.store) (shown S.Store writer.new.store) (λ _. ⊥) }
 {
@@ -56,6 +59,8 @@ fn place_for<S: Alter + Drop>(
         → HasCleanDisk (shown S.Store writer.new.store)
         → IfOk result (λ place. LeadsInHand place.key place.written g
         (stage_of S.Store writer.old own.old) (stage_of S.Store writer.new own.new)) }
+    ensures rows { IfOk result (λ place. rows_of own.new + rows_for place.written ≡ rows_of own.old) }
+    ensures waits { OnOk result (writer.new.waiting ≡ writer.old.waiting) }
     ensures crash { Survives (shown S.Store writer.old.store) (shown S.Store writer.new.store) (λ _. ⊥) }
 {
     match own.take_partial(number, records) {
@@ -82,6 +87,8 @@ fn add_row<S: Alter + Drop>(
     ensures added { (g : WholeFile) → IsHubFile hub.now file.now summary.now g
         → HasCleanDisk (shown S.Store writer.new.store) → OnOk result (AddsRow key summary.now g
         (stage_of S.Store writer.old own.old) (stage_of S.Store writer.new own.new)) }
+    ensures rows { OnOk result ((rows_of own.new ≡ rows_of own.old + rows_for summary.now.records)
+        × (writer.new.waiting ≡ writer.old.waiting)) }
     ensures due { OnOk result (writer.new.is_changed ≡ true) }
     ensures crash { Survives (shown S.Store writer.old.store) (shown S.Store writer.new.store) (λ _. ⊥) }
 {

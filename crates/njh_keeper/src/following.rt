@@ -6,6 +6,7 @@ ghost use Rattle.njh_hub.specs.WholeHub.{part};
 ghost use Rattle.njh_spool.specs.CustomerSpool.{WholeFile, max_arrived};
 ghost use Rattle.njh_spoolfile.specs.Shelf.{shown};
 ghost use Rattle.sqlite.specs.State.{HasCleanDisk, Survives};
+ghost use Rattle.njh_keeper.specs.code.Counting.{Grows, rows_of};
 ghost use Rattle.njh_keeper.specs.code.Following.{AreFronts, GoOnIn, IsAt, IsQuiet, IsReached, LeadsFiles, stage_of};
 ghost use Rattle.njh_keeper.specs.code.Memory.{own_of};
 ghost use Rattle.njh_keeper.specs.code.Walking.{AreNumbered, IsWalkedTo};
@@ -36,6 +37,8 @@ pub(crate) fn follow<S: Alter + Drop>(
         × AreFronts s (own_of own.old).partial (part customer hub.now).customer.spool.whole)
         (λ files now. now ≡ (part customer hub.now).customer.spool.whole)
         (stage_of S.Store writer.old own.old) (stage_of S.Store writer.new own.new)) }
+    ensures grows { AreNumbered (part customer hub.now).customer.spool.whole
+        → OnOk result (Grows writer.old own.old writer.new own.new) }
     ensures arrived { OnOk result (own.new.arrived ≡ (part customer hub.now).customer.spool.arrived) }
     ensures quiet { OnOk result (IsQuiet writer.old writer.new) }
     ensures crash { Survives (shown S.Store writer.old.store) (shown S.Store writer.new.store) (λ _. ⊥) }
@@ -63,6 +66,7 @@ fn follow_old<S: Alter + Drop>(
         → OnOk result (LeadsFiles (λ s files. Survive files (take old (part customer hub.now).customer.spool.whole) × AreNumbered files)
         (λ files now. now ≡ take old (part customer hub.now).customer.spool.whole)
         (stage_of S.Store writer.old own.old) (stage_of S.Store writer.new own.new)) }
+    ensures grows { OnOk result (Grows writer.old own.old writer.new own.new) }
     ensures quiet { OnOk result (IsQuiet writer.old writer.new) }
     ensures crash { Survives (shown S.Store writer.old.store) (shown S.Store writer.new.store) (λ _. ⊥) }
 {
@@ -90,6 +94,7 @@ fn follow_at<S: Alter + Drop>(
         → HasCleanDisk (shown S.Store writer.new.store)
         → OnOk result (LeadsFiles (λ s files. IsWalkedTo still files place) (λ files now. IsWalkedTo still now (place + 1))
         (stage_of S.Store writer.old own.old) (stage_of S.Store writer.new own.new)) }
+    ensures grows { OnOk result (Grows writer.old own.old writer.new own.new) }
     ensures quiet { OnOk result (IsQuiet writer.old writer.new) }
     ensures crash { Survives (shown S.Store writer.old.store) (shown S.Store writer.new.store) (λ _. ⊥) }
 {
@@ -118,6 +123,8 @@ fn add_new<S: Alter + Drop>(
         × AreFronts s (own_of own.old).partial (part customer hub.now).customer.spool.whole)
         (λ files now. now ≡ (part customer hub.now).customer.spool.whole)
         (stage_of S.Store writer.old own.old) (stage_of S.Store writer.new own.new)) }
+    ensures grows { AreNumbered (part customer hub.now).customer.spool.whole
+        → OnOk result (Grows writer.old own.old writer.new own.new) }
     ensures quiet { OnOk result (IsQuiet writer.old writer.new) }
     ensures crash { Survives (shown S.Store writer.old.store) (shown S.Store writer.new.store) (λ _. ⊥) }
 {
@@ -153,6 +160,7 @@ fn drop_before<S: Alter + Drop>(
         → HasCleanDisk (shown S.Store writer.new.store)
         → OnOk result (LeadsFiles (λ s files. IsWalkedTo still files place) (λ files now. IsWalkedTo still now place × IsReached number now place)
         (stage_of S.Store writer.old own.old) (stage_of S.Store writer.new own.new)) }
+    ensures grows { OnOk result (Grows writer.old own.old writer.new own.new) }
     ensures quiet { OnOk result (IsQuiet writer.old writer.new) }
     ensures crash { Survives (shown S.Store writer.old.store) (shown S.Store writer.new.store) (λ _. ⊥) }
 {
@@ -174,6 +182,7 @@ fn drop_at<S: Alter + Drop>(
     requires { place < length own.old.whole.items }
     ensures led { HasCleanDisk (shown S.Store writer.new.store) → OnOk result (LeadsFiles (λ _ _. ⊤) (λ files now. now ≡ remove files place)
         (stage_of S.Store writer.old own.old) (stage_of S.Store writer.new own.new)) }
+    ensures rows { OnOk result ((rows_of own.new ≡ rows_of own.old) × (writer.new.waiting ≡ writer.old.waiting)) }
     ensures memory { own.new.whole.items ≡ remove own.old.whole.items place }
     ensures due { writer.new.is_changed ≡ true }
     ensures crash { Survives (shown S.Store writer.old.store) (shown S.Store writer.new.store) (λ _. ⊥) }

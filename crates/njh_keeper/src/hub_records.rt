@@ -1,12 +1,13 @@
 //! The records of a hub's file, as they are written into a spool file.
 
-ghost use Rattle.std.specs.Prelude.{◌≡◌, ◌≤◌, ◌<◌, ◌&&◌, true, false, [], length, IsSome, OnOk, Some, None};
+ghost use Rattle.std.specs.Prelude.{◌≡◌, ◌≤◌, ◌<◌, ◌-◌, ◌&&◌, true, false, [], length, IsSome, OnOk, Some, None};
 ghost use Rattle.std.specs.List.{AllByRecursion};
 ghost use Rattle.sqlite.specs.State.{HasCleanDisk, Survives};
 ghost use Rattle.njh_stream.specs.SpoolFiles.{records_in};
 ghost use Rattle.njh_hub.specs.WholeHub.{part};
 ghost use Rattle.njh_spoolfile.specs.Shelf.{shown};
 ghost use Rattle.njh_keeper.specs.code.Alike.{Writes, is_header};
+ghost use Rattle.njh_keeper.specs.code.Counting.{CountsMore};
 ghost use Rattle.njh_keeper.specs.code.Leading.{Leads};
 ghost use Rattle.njh_keeper.specs.code.Mirrored.{FitsHub};
 ghost use Rattle.njh_keeper.specs.code.Nodes.{AreOne, named_node, named_nodes, with_first};
@@ -41,6 +42,9 @@ pub(crate) fn write_records<S: Alter + Drop>(
         (records_in file.now.number (part file.now.customer hub.now).customer.spool)) }
     ensures others { OnOk result (writer.new
         ≡ record writer.old { store = writer.new.store; waiting = writer.new.waiting }) }
+    ensures counted { OnOk result (CountsMore
+        (length (records_in file.now.number (part file.now.customer hub.now).customer.spool) - written)
+        writer.old writer.new) }
     ensures crash { Survives (shown S.Store writer.old.store) (shown S.Store writer.new.store) (λ _. ⊥) }
 {
     let Some(mut records) = hub.read_file(file.customer, file.number) else {

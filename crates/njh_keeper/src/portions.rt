@@ -1,9 +1,11 @@
 //! The records of a file are kept as they come, before it is whole.
 
-ghost use Rattle.std.specs.Prelude.{◌≡◌, ◌<◌, ◌≤◌, ◌++◌, ◌∷◌, [], length, slice_get, IsSomeAnd, OnOk};
+ghost use Rattle.std.specs.Prelude.{◌≡◌, ◌<◌, ◌≤◌, ◌+◌, ◌-◌, ◌^◌, ◌⊎◌, ◌++◌, ◌∷◌, [], length, slice_get, IsSomeAnd};
+ghost use Rattle.std.specs.Prelude.{OnOk};
 ghost use Rattle.std.specs.List.{AllByRecursion};
 ghost use Rattle.njh_hub.specs.Views.{IsPartialOn};
 ghost use Rattle.njh_hub.specs.WholeHub.{part};
+ghost use Rattle.njh_keeper.specs.code.Counting.{rows_of};
 ghost use Rattle.njh_keeper.specs.code.Memory.{own_of};
 ghost use Rattle.njh_keeper.specs.code.Partly.{AllClosed, AllUpToDate, AllSeen, KeepsPartly, KeepsPartlyNew};
 ghost use Rattle.njh_keeper.specs.code.Partly.{KeepsStill};
@@ -45,6 +47,8 @@ pub(crate) fn keep_portions<S: Alter + Drop>(
         own.new) }
     ensures seen { AllClosed (own_of own.old) → OnOk result (AllUpToDate (part customer hub.now).customer.spool
         (own_of own.new)) }
+    ensures bounded { writer.new.waiting < 2 ^ 32 - 1 → OnOk result ((own.new.sweeps.items ≡ [])
+        ⊎ (rows_of own.new + writer.old.waiting ≤ rows_of own.old + before)) }
     ensures crash { Survives (shown S.Store writer.old.store) (shown S.Store writer.new.store) (λ _. ⊥) }
 {
     keep_of_lines(writer, own, hub, customer)?;

@@ -8,6 +8,7 @@ ghost use Rattle.njh_spool.specs.CustomerSpool.{WholeFile};
 ghost use Rattle.njh_spoolfile.specs.Shelf.{shown};
 ghost use Rattle.sqlite.specs.State.{HasCleanDisk, Survives};
 ghost use Rattle.njh_keeper.specs.declared.own_files.KeptWhole.{KeptWhole};
+ghost use Rattle.njh_keeper.specs.code.Counting.{Grows};
 ghost use Rattle.njh_keeper.specs.code.Following.{ChangesRow, IsHubFile, IsQuiet, IsStillAt, LeadsFiles, stage_of};
 ghost use Rattle.njh_keeper.specs.code.Nodes.{AreOne, named_nodes};
 
@@ -34,6 +35,7 @@ pub(crate) fn follow_one<S: Alter + Drop>(
         → OnOk result (LeadsFiles (λ s files. IsStillAt files place g) (λ files now. now ≡ set files place g)
         (stage_of S.Store writer.old own.old) (stage_of S.Store writer.new own.new)) }
     ensures long { length own.new.whole.items ≡ length own.old.whole.items }
+    ensures grows { OnOk result (Grows writer.old own.old writer.new own.new) }
     ensures quiet { OnOk result (IsQuiet writer.old writer.new) }
     ensures crash { Survives (shown S.Store writer.old.store) (shown S.Store writer.new.store) (λ _. ⊥) }
 {
@@ -61,6 +63,7 @@ fn rewrite_one<S: Alter + Drop>(
         → OnOk result (LeadsFiles (λ s files. IsStillAt files place g) (λ files now. now ≡ set files place g)
         (stage_of S.Store writer.old own.old) (stage_of S.Store writer.new own.new)) }
     ensures long { length own.new.whole.items ≡ length own.old.whole.items }
+    ensures grows { OnOk result (Grows writer.old own.old writer.new own.new) }
     ensures due { OnOk result (writer.new.is_changed ≡ true) }
     ensures crash { Survives (shown S.Store writer.old.store) (shown S.Store writer.new.store) (λ _. ⊥) }
 {
@@ -94,6 +97,7 @@ fn change_state<S: Alter + Drop>(
         → OnOk result (LeadsFiles (λ s files. IsStillAt files place g) (λ files now. now ≡ set files place g)
         (stage_of S.Store writer.old own.old) (stage_of S.Store writer.new own.new)) }
     ensures long { length own.new.whole.items ≡ length own.old.whole.items }
+    ensures grows { OnOk result (Grows writer.old own.old writer.new own.new) }
     ensures quiet { OnOk result (IsQuiet writer.old writer.new) }
     ensures crash { Survives (shown S.Store writer.old.store) (shown S.Store writer.new.store) (λ _. ⊥) }
 {

@@ -5,6 +5,7 @@ ghost use Rattle.sqlite.specs.State.{HasCleanDisk, Survives};
 ghost use Rattle.njh_spool.specs.CustomerSpool.{CustomerSpool};
 ghost use Rattle.njh_spoolfile.specs.Shelf.{shown};
 ghost use Rattle.njh_spoolfile.specs.Steps.{Changes};
+ghost use Rattle.njh_keeper.specs.code.Counting.{CountsMore};
 ghost use Rattle.njh_keeper.specs.code.Partly.{KeepsPartly};
 ghost use Rattle.njh_keeper.specs.code.Writing.{dead_in, dead_of, freed_by, left_of, sweep_of, without_swept};
 
@@ -66,6 +67,7 @@ fn sweep_some<S: Alter + Drop>(
       free_keys = writer.new.free_keys;
       waiting = writer.new.waiting;
     } }
+    ensures counts { CountsMore 0 writer.old writer.new }
     ensures others { own.new ≡ record own.old { sweeps = own.new.sweeps } }
     ensures crash { Survives (shown S.Store writer.old.store) (shown S.Store writer.new.store) (λ _. ⊥) }
 {

@@ -9,6 +9,7 @@ use Rattle.sqlite.specs.Store.{Ghosts}
 use Rattle.njh_keeper.specs.declared.own_files.KeptPartial as kept_partial
 use Rattle.njh_keeper.specs.declared.own_files.OwnFiles as own_files
 use Rattle.njh_keeper.specs.declared.writer.SpoolWriter.{SpoolWriter}
+use Rattle.njh_keeper.specs.code.Counting.{Grows, rows_of}
 use Rattle.njh_keeper.specs.code.Leading.{Leads}
 use Rattle.njh_keeper.specs.code.Memory.{numbers_of, own_of}
 use Rattle.njh_keeper.specs.code.Mirrored.{HasRecords, IsOrdered}
@@ -93,6 +94,7 @@ IsSameButPartial old new = new ≡ record old { partial = new.partial; sweeps = 
 pub record KeepsStill (now : CustomerSpool) (own new_own : own_files.OwnFiles) : Type 0 where
   pub keeps : (w : Numbers) (s : SpoolContents) → KeepsOn w (own_of own) w (own_of new_own) now s s
   pub seen : AllSeen now (own_of own) → AllSeen now (own_of new_own)
+  pub rows : rows_of new_own ≡ rows_of own
   pub others : IsSameButPartial own new_own
 
 -- Records of files that aren't whole are kept as they are now.
@@ -102,6 +104,7 @@ pub record KeepsPartly {S : Type 0} (g : Ghosts S) (now : CustomerSpool) (w : Sp
       → Leads (KeepsOn (numbers_of w) (own_of own) (numbers_of new_w) (own_of new_own) now) (shown g w.store)
       (shown g new_w.store)
   pub seen : AllSeen now (own_of own) → AllSeen now (own_of new_own)
+  pub grows : Grows w own new_w new_own
   pub numbers : IsSameButNumbers w new_w
   pub others : IsSameButPartial own new_own
 
@@ -112,5 +115,6 @@ pub record KeepsPartlyNew {S : Type 0} (g : Ghosts S) (key : ℕ) (now : Custome
       → Leads (KeepsNew key (numbers_of w) (own_of own) (numbers_of new_w) (own_of new_own) now) (shown g w.store)
       (shown g new_w.store)
   pub seen : AllSeen now (own_of own) → AllSeen now (own_of new_own)
+  pub grows : Grows w own new_w new_own
   pub numbers : IsSameButNumbers w new_w
   pub others : IsSameButPartial own new_own

@@ -34,9 +34,12 @@ first_of sweep = min sweep.next (end_of sweep)
 abbrev pub dead_in : Sweep → ℕ
 dead_in sweep = end_of sweep - first_of sweep
 
+abbrev pub sum_of : {X : Type 0} → (X → ℕ) → List X → ℕ
+sum_of count [] = 0
+sum_of count (x ∷ xs) = count x + sum_of count xs
+
 abbrev pub dead_of : List Sweep → ℕ
-dead_of [] = 0
-dead_of (sweep ∷ sweeps) = dead_in sweep + dead_of sweeps
+dead_of sweeps = sum_of dead_in sweeps
 
 -- of them so many at most are dropped, up to this place
 abbrev pub behind_of : (most : ℕ) → Sweep → ℕ

@@ -1,6 +1,6 @@
 use Rattle.njh_keeper.proofs.Words
-use Words.{◌≡◌, true, ap, subst, AllByRecursion, ok_then, shown, FileSummaryView, Writes, AddsRow, Leads, memory_of, stage_of}
-use Words.{numbers_of, FitsHub}
+use Words.{◌≡◌, true, length, sym, ap, subst, ◌∙◌, arith, AllByRecursion, ok_then, shown, FileSummaryView, Writes}
+use Words.{AddsRow, Leads, memory_of, stage_of, numbers_of, FitsHub, part, records_in}
 use Rattle.njh_keeper.proofs.{HandLaws.add_leads, LeadingLaws.{clean_before, survives_both}}
 use Rattle.njh_keeper.proofs.adding.add_one.Goals as goal
 
@@ -26,6 +26,15 @@ returns-clause-led g c f hub_file clean =
     add_leads before placed f place.key place.written after summary hub_file.summary_is hub_file.headers fits hand finish
     (subst (λ x. AddsRow place.key summary f (record { memory = x; shows = mid2 }) after) same row))
     (c.add_row.ensures.added f hub_file clean)
+
+pub returns-clause-grows : goal.returns-clause-grows
+returns-clause-grows g c f hub_file =
+    let all = records_in c.args.file.now.number (part c.args.file.now.customer c.args.hub.now).customer.spool in
+    let long : c.args.summary.now.records ≡ length all =
+    ap (λ (x : FileSummaryView). x.records) hub_file.summary_is ∙ sym (ap length hub_file.records_are) in
+    let placed = c.in_ok-place.ensures in
+    let counted = c.in_ok-write_records.ensures.counted in
+    ok_then c.add_row.result _ _ (λ added. omega (arith, placed.rows, placed.waits)) c.add_row.ensures.rows
 
 pub returns-in_err-write_records-clause-crash : goal.returns-in_err-write_records-clause-crash
 returns-in_err-write_records-clause-crash g c =

@@ -1,7 +1,7 @@
 use Rattle.njh_keeper.proofs.Words
 use Words.{rules, ◌≡◌, [], ◌∷◌, map, refl, ap, subst, ◌∙◌, map-append, ok_then, file_of, with_file, shown, Changes}
 use Words.{FileSummaryView, IsRowFor, memory_of, numbers_of, whole_of, SpoolWriter}
-use Rattle.njh_turns.proofs.KeepingLaws.{on_ok}
+use Rattle.{njh_turns.proofs.KeepingLaws.on_ok, njh_keeper.proofs.CountingLaws.rows_as_one_comes}
 use Rattle.njh_keeper.specs.declared.own_files.KeptWhole as declared
 use Rattle.njh_keeper.proofs.adding.add_row.Goals as goal
 
@@ -47,6 +47,13 @@ returns-clause-added g c f hub_file clean =
       is_row = (let is : IsRowFor m.text c.args.key summary row = search rules in is);
       changes = subst (λ x. Changes (with_file now.id row) x new) before changed;
     }) (c.add_file-added.ensures.changed clean)
+
+pub returns-clause-rows : goal.returns-clause-rows
+returns-clause-rows g c = on_ok c.add_file-added.result (
+  rows_as_one_comes c.args.own.now _ _ c.in_ok-push.ensures.items,
+  ap (λ (x : SpoolWriter g.row.S.Denot). x.waiting) c.add_file-added.ensures.others
+      ∙ ap (λ (x : SpoolWriter g.row.S.Denot). x.waiting) c.in_ok-take_id.ensures.others,
+)
 
 pub returns-clause-due : goal.returns-clause-due
 returns-clause-due g c = on_ok c.add_file-added.result

@@ -1,5 +1,6 @@
-use Rattle.std.proofs.Common.{◌≤◌, map, refl, sym, ap, subst, ◌∙◌}
-use Rattle.{std.specs.Prelude.string_bytes, njh_keeper.proofs.HandLaws.{key_leads, partial_leads}}
+use Rattle.std.proofs.Common.{◌≤◌, arith, map, refl, sym, ap, subst, ◌∙◌}
+use Rattle.{std.specs.Prelude.string_bytes, njh_keeper.proofs.CountingLaws.rows_as_partial_goes}
+use Rattle.njh_keeper.{proofs.HandLaws.{key_leads, partial_leads}, specs.code.Counting.rows_of}
 use Rattle.njh_keeper.{proofs.ListLaws.{at_place, map-remove, within_seen}, specs.code.Following.{memory_of, stage_of}}
 use Rattle.njh_keeper.specs.code.Memory.{numbers_of, own_of}
 use Rattle.njh_keeper.specs.{code.Memory.partial_of, declared.own_files.OwnFiles.OwnFiles}
@@ -37,3 +38,10 @@ returns-in_ok-take_key-in-None-clause-led g c f number records clean =
       own = ap own_of same j;
       text = ap (λ (x : OwnFiles). string_bytes x.text) same j;
     }) (c.in_ok-take_key-in-None.ensures.emptied clean)
+
+pub returns-in-Some-clause-rows : goal.returns-in-Some-clause-rows
+returns-in-Some-clause-rows g c =
+    let taken = c.in-Some.ensures.taken in
+    let gone = rows_as_partial_goes c.args.own.now taken.0 c.in-Some.partial taken.1 taken.2 _ taken.3 in
+    let is = ap rows_of c.take_partial.ensures.others in
+    omega (arith, gone, is)

@@ -1,6 +1,7 @@
 use Rattle.std.proofs.{Common.{◌≡◌, ◌<◌, length, get_or, ap, ◌∙◌, arith}, lemmas.List.{get_or_default, take_all}}
 use Rattle.{njh_spoolfile.specs.Shelf.shown, njh_spool.specs.CustomerSpool.WholeFile, njh_hub.specs.Views.file_summary}
 use Rattle.{njh_hub.specs.WholeHub.part, njh_keeper.proofs.{FollowingLaws.goes_nowhere, LeadingLaws.clean_before}}
+use Rattle.njh_keeper.specs.code.Walking.{AreNumbered}
 use Rattle.njh_keeper.proofs.LeadingLaws.{leads_nothing, survives_both, survives_here}
 use Rattle.njh_keeper.proofs.NewFilesLaws.{added_further, any_file, hub_file_at, is_at, says_more}
 use Rattle.njh_keeper.{proofs.QuietLaws.{quiet_changed, quiet_same, quiet_then}, specs.code.Following.memory_of}
@@ -13,6 +14,7 @@ loop-index-init g c =
     record {
       crash = survives_here at (λ _. ⊥);
       led = λ numbered clean. leads_nothing (λ s files has given. (files, given.0, goes_nowhere m s files has));
+      grows = λ numbered. omega arith;
       quiet = quiet_same c.args.writer.now;
     }
 
@@ -29,14 +31,17 @@ loop-index-preserved g c =
     ∙ ap (λ (x : WholeFile). x.number) (get_or_default whole index _ any_file there) in
     let summary_is : c.summary_at-summary.result ≡ file_summary f =
     c.summary_at-summary.ensures.summary ∙ ap file_summary (get_or_default whole index _ any_file there) in
+    let hub_file = λ (numbered : AreNumbered whole).
+    hub_file_at parts (record { customer = c.args.customer; number = number })
+    c.summary_at-summary.result index f numbered c.summary_at-summary.ensures.headers here number_is summary_is in
     record {
       crash = survives_both c.loop-index.invariant.crash c.add_one.ensures.crash;
       led = λ numbered clean.
-          let hub_file = hub_file_at parts (record { customer = c.args.customer; number = number })
-          c.summary_at-summary.result index f numbered c.summary_at-summary.ensures.headers here number_is summary_is in
           added_further whole c.args.old index f here
           (c.loop-index.invariant.led numbered (clean_before c.add_one.ensures.crash clean))
-          (c.in_ok-add_one.ensures.led f hub_file clean);
+          (c.in_ok-add_one.ensures.led f (hub_file numbered) clean);
+      grows = λ numbered. omega
+          (arith, c.loop-index.invariant.grows numbered, c.in_ok-add_one.ensures.grows f (hub_file numbered));
       quiet = quiet_then c.args.writer.now c.loop-index.writer c.add_one.new.writer c.loop-index.invariant.quiet
           (quiet_changed c.loop-index.writer c.add_one.new.writer c.in_ok-add_one.ensures.due);
     }

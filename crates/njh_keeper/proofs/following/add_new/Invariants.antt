@@ -1,6 +1,6 @@
 use Rattle.{std.proofs.Common.{◌≡◌, take}, sqlite.specs.State.{HasCleanDisk, Survives}, njh_spoolfile.specs.Shelf.shown}
 use Rattle.{njh_hub.specs.WholeHub.part, njh_keeper.specs.code.Following.{AreFronts, IsQuiet, LeadsFiles, stage_of}}
-use Rattle.njh_keeper.specs.code.{Memory.own_of, Walking.AreNumbered}
+use Rattle.njh_keeper.specs.code.{Counting.Grows, Memory.own_of, Walking.AreNumbered}
 use Rattle.njh_keeper.proofs.following.add_new.Given as goal
 
 -- so many files are there
@@ -15,5 +15,6 @@ invariant-loop-index g l =
           → LeadsFiles (λ s files. (files ≡ take l.old whole) × AreFronts s (own_of l.fn.own).partial whole)
           (λ files here. here ≡ take l.index whole)
           (stage_of g.S.Store l.fn.writer l.fn.own) (stage_of g.S.Store l.writer l.own);
+      grows : AreNumbered whole → Grows l.fn.writer l.fn.own l.writer l.own;
       quiet : IsQuiet l.fn.writer l.writer;
     }

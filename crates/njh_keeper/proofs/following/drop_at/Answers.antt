@@ -1,11 +1,12 @@
 use Rattle.std.proofs.Common.{◌≡◌, ◌<◌, ◌++◌, [], ◌∷◌, length, get_or, remove, map, refl, sym, ap, subst, ◌∙◌}
 use Rattle.std.{proofs.lemmas.List.map-append, specs.Prelude.{string_bytes, ⊤}}
 use Rattle.njh_spoolfile.{proofs.ReadingLaws.ok_then, specs.Shelf.shown}
+use Rattle.njh_keeper.{proofs.CountingLaws.rows_as_one_leaves, specs.code.Counting.rows_of}
 use Rattle.njh_keeper.proofs.{FollowingLaws.{file_goes, memory_without}, LeadingLaws.{leads_by, leads_weaker}}
 use Rattle.njh_keeper.proofs.ListLaws.{at_place, map-remove, within_seen}
 use Rattle.njh_keeper.specs.code.{Following.{GoesTo, LeadsFiles, memory_of}, Memory.{numbers_of, own_of, sweep_in}}
 use Rattle.njh_keeper.specs.code.{Memory.whole_of, Writing.sweep_of}
-use Rattle.njh_keeper.specs.declared.own_files.OwnFiles.{OwnFiles}
+use Rattle.njh_keeper.specs.declared.{own_files.OwnFiles.OwnFiles, writer.SpoolWriter.SpoolWriter}
 use Rattle.njh_keeper.proofs.following.drop_at.Goals as goal
 
 pub returns-clause-led : goal.returns-clause-led
@@ -41,6 +42,15 @@ returns-clause-led g c clean =
       subst (λ u. GoesTo m (memory_without m i k sweep there is refl) s u (remove files i))
           (sym same) (file_goes m i k sweep there is refl s files has),
     )))) c.sweep_later.ensures.later
+
+pub returns-clause-rows : goal.returns-clause-rows
+returns-clause-rows g c =
+    let gone = c.remove-gone.ensures in
+    ok_then c.sweep_later.result _ _ (λ later. (
+      ap rows_of c.sweep_later.ensures.others ∙ rows_as_one_leaves c.args.own.now c.args.place c.remove-gone.result
+          c.requires gone.value _ gone.items _ later,
+      ap (λ (x : SpoolWriter g.row.S.Denot). x.waiting) c.drop_file.ensures.others,
+    )) c.sweep_later.ensures.later
 
 pub returns-clause-memory : goal.returns-clause-memory
 returns-clause-memory g c =

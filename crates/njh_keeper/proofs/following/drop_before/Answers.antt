@@ -17,6 +17,7 @@ loop-init g c =
     record {
       crash = survives_here at (λ _. ⊥);
       led = λ still next clean. leads_nothing (λ s files has walk. (files, walk, goes_nowhere m s files has));
+      grows = omega arith;
       fewer = omega arith;
       quiet = quiet_same c.args.writer.now;
     }
@@ -46,6 +47,7 @@ loop-preserved g c =
                 (passed_here m1 t one.0 one.2.has place k there is c.args.number still next one.1 other),
             goes_then m m1 m2 s t u one.0 two.0 one.2 two.2,
           ));
+      grows = omega (arith, c.loop.invariant.grows, c.in_ok-drop_at.ensures.rows);
       fewer = let less = length-remove items place low in let now =
           ap length c.drop_at.ensures.memory in omega (arith, c.loop.invariant.fewer, less, now);
       quiet = quiet_changed c.args.writer.now c.drop_at.new.writer c.drop_at.ensures.due;

@@ -1,6 +1,7 @@
 use Rattle.{std.proofs.Common.{◌+◌, ◌≤◌, List, length}, sqlite.specs.State.{HasCleanDisk, Survives}}
 use Rattle.{njh_spoolfile.specs.Shelf.shown, njh_spool.specs.CustomerSpool.WholeFile}
-use Rattle.njh_keeper.specs.code.{Following.{IsQuiet, IsReached, LeadsFiles, stage_of}, Walking.IsWalkedTo}
+use Rattle.njh_keeper.specs.code.{Counting.Grows, Following.{IsQuiet, IsReached, LeadsFiles, stage_of}}
+use Rattle.njh_keeper.specs.code.Walking.{IsWalkedTo}
 use Rattle.njh_keeper.proofs.following.drop_before.Given as goal
 
 -- so many files were taken out
@@ -13,6 +14,7 @@ invariant-loop g l =
       led : (still : List WholeFile) → IsReached l.number still l.place → HasCleanDisk now
           → LeadsFiles (λ s files. IsWalkedTo still files l.place) (λ files here. IsWalkedTo still here l.place)
           (stage_of g.S.Store l.fn.writer l.fn.own) (stage_of g.S.Store l.writer l.own);
+      grows : Grows l.fn.writer l.fn.own l.writer l.own;
       fewer : length l.own.whole.items + l.counter ≤ length l.fn.own.whole.items;
       quiet : IsQuiet l.fn.writer l.writer;
     }

@@ -16,6 +16,7 @@ loop-index-init g c =
       place = refl;
       led = λ numbered clean. leads_nothing (λ s files has given.
           (files, walk_begins still files given.0 given.1, goes_nowhere m s files has));
+      grows = omega arith;
       quiet = quiet_same c.args.writer.now;
     }
 
@@ -36,6 +37,7 @@ loop-index-preserved g c =
       led = λ numbered clean. walked_further _ still c.loop-index.place index place
           (c.loop-index.invariant.led numbered (clean_before c.follow_at.ensures.crash clean))
           (c.in_ok-follow_at.ensures.led still f numbered here (subst (λ n. IsAt still n f) (sym place) next) clean);
+      grows = omega (arith, c.loop-index.invariant.grows, c.in_ok-follow_at.ensures.grows);
       quiet = quiet_then c.args.writer.now c.loop-index.writer c.follow_at.new.writer c.loop-index.invariant.quiet
           c.in_ok-follow_at.ensures.quiet;
     }

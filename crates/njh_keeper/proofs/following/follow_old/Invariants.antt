@@ -1,6 +1,6 @@
 use Rattle.{std.proofs.Common.{◌≡◌, take}, sqlite.specs.State.{HasCleanDisk, Survives}, njh_spoolfile.specs.Shelf.shown}
 use Rattle.{njh_customer.specs.Surviving.Survive, njh_hub.specs.WholeHub.part, njh_keeper.specs.code.Following.IsQuiet}
-use Rattle.njh_keeper.specs.code.{Following.{LeadsFiles, stage_of}, Walking.{AreNumbered, IsWalkedTo}}
+use Rattle.njh_keeper.specs.code.{Counting.Grows, Following.{LeadsFiles, stage_of}, Walking.{AreNumbered, IsWalkedTo}}
 use Rattle.njh_keeper.proofs.following.follow_old.Given as goal
 
 -- so many files were followed
@@ -16,5 +16,6 @@ invariant-loop-index g l =
           → LeadsFiles (λ s files. Survive files (take l.old whole) × AreNumbered files)
           (λ files here. IsWalkedTo (take l.old whole) here l.index)
           (stage_of g.S.Store l.fn.writer l.fn.own) (stage_of g.S.Store l.writer l.own);
+      grows : Grows l.fn.writer l.fn.own l.writer l.own;
       quiet : IsQuiet l.fn.writer l.writer;
     }

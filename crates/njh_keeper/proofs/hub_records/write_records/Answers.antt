@@ -1,6 +1,7 @@
 use Rattle.njh_keeper.proofs.Words
 use Words.{◌≡◌, ℕ, ◌+◌, ◌^◌, ◌-◌, ◌<◌, ◌≤◌, List, length, drop, slice_get, refl, sym, ap, subst, ◌∙◌, min, arith}
 use Words.{take_all, AllByRecursion, Stored, Record, shown, records_numbered, records_in, part, AreBegun, FitsHub}
+use Words.{SpoolWriter}
 use Rattle.njh_keeper.proofs.hub_records.write_records.Goals.{then-place-written+in_ok-add_record}
 use Rattle.njh_keeper.proofs.hub_records.write_records.Goals.{else-place-written+then-is_old_header+in_ok-replace_record}
 use Rattle.njh_keeper.proofs.hub_records.write_records.Goals.{else-place-written+else-is_old_header}
@@ -9,6 +10,9 @@ use Rattle.njh_keeper.proofs.ReachLaws.{begun_is_same, bytes_read, file_is_read,
 use Rattle.njh_keeper.proofs.ReachLaws.{one_fewer_left, one_more_fits, only_waits, reach_adds, reach_begins}
 use Rattle.njh_keeper.proofs.ReachLaws.{reach_passes, reach_rewrites, write_done}
 use Rattle.njh_keeper.proofs.hub_records.write_records.Goals as goal
+
+abbrev waiting_of : (S : Type 0) → SpoolWriter S → ℕ
+waiting_of S w = w.waiting
 
 pub loop-place-init : goal.loop-place-init
 loop-place-init g c =
@@ -23,6 +27,7 @@ loop-place-init g c =
           (sym {b = records_numbered c.args.file.now.number spool} c.read_file.ensures ∙ c.in-Some.is);
       fit = tt;
       others = refl;
+      counted = omega arith;
     }
 
 pub loop-place-preserved : goal.loop-place-preserved
@@ -62,6 +67,7 @@ loop-place-preserved g c =
             fit = fit;
             others = only_waits c.args.writer.now c.loop-place.writer w.add_record.new.self waiting so_far.others
                 w.add_record.ensures.others;
+            counted = (let one = ap (waiting_of g.row.S.Denot) w.add_record.ensures.others in omega arith);
           })
       | else-place-written+then-is_old_header+in_ok-replace_record w ↦
           rw w.writer-is (record {
@@ -74,6 +80,7 @@ loop-place-preserved g c =
             fit = fit;
             others = only_waits c.args.writer.now c.loop-place.writer w.replace_record.new.self waiting so_far.others
                 w.in_ok-replace_record.ensures.others;
+            counted = (let one = ap (waiting_of g.row.S.Denot) w.in_ok-replace_record.ensures.others in omega arith);
           })
       | else-place-written+else-is_old_header w ↦
           rw w.writer-is (record {
@@ -84,6 +91,7 @@ loop-place-preserved g c =
             left = left;
             fit = fit;
             others = so_far.others;
+            counted = omega arith;
           })
     ]
 
@@ -107,6 +115,15 @@ returns-in_default-next-clause-fit g c =
 
 pub returns-in_default-next-clause-others : goal.returns-in_default-next-clause-others
 returns-in_default-next-clause-others g c = c.loop-place.invariant.others
+
+pub returns-in_default-next-clause-counted : goal.returns-in_default-next-clause-counted
+returns-in_default-next-clause-counted g c =
+    let all = records_in c.args.file.now.number (part c.args.file.now.customer c.args.hub.now).customer.spool in
+    let at = c.loop-place.place in
+    let so_far = c.loop-place.invariant in
+    let past = none_is_left all at (c.in_default-next.ensures.first
+    ∙ ap (λ (rs : List Stored). slice_get rs 0) so_far.left) in
+    omega arith
 
 pub returns-in_default-next-clause-crash : goal.returns-in_default-next-clause-crash
 returns-in_default-next-clause-crash g c = c.loop-place.invariant.crash

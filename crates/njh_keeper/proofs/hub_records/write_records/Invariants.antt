@@ -1,6 +1,7 @@
 use Rattle.njh_keeper.proofs.Words
-use Words.{◌≡◌, drop, take, AllByRecursion, HasCleanDisk, Survives, shown, records_in, part, AreBegun, Leads, FitsHub}
-use Rattle.njh_keeper.proofs.ReachLaws.{Reaches}
+use Words.{◌≡◌, ◌-◌, drop, take, AllByRecursion, HasCleanDisk, Survives, shown, records_in, part, AreBegun, Leads}
+use Words.{FitsHub}
+use Rattle.njh_keeper.{proofs.ReachLaws.Reaches, specs.code.Counting.CountsMore}
 use Rattle.njh_keeper.proofs.hub_records.write_records.Given as goal
 
 -- so many records were gone through, and those are left
@@ -15,4 +16,5 @@ invariant-loop-place g l =
       left : l.records ≡ drop l.place all;
       fit : AllByRecursion FitsHub (take l.place all);
       others : l.writer ≡ record l.fn.writer { store = l.writer.store; waiting = l.writer.waiting };
+      counted : CountsMore (l.place - l.written) l.fn.writer l.writer;
     }

@@ -50,7 +50,7 @@ loop-place-preserved c =
     record {
       kept = λ now. still_then now c.args.own.now own own1 (c.loop-place.invariant.kept now)
           (still_dropped now own own1 place p there at items1 (sweep_of p.key p.written) partly
-          c.in_ok-sweep_later.ensures.later refl);
+          c.in_ok-sweep_later.ensures.later refl (omega arith));
       seen = λ now all. halves_gone now own own1 place p there at items1 (c.loop-place.invariant.seen now all);
     }
 

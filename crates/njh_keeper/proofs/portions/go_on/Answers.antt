@@ -20,7 +20,7 @@ returns-then-saturating_sub-lt-PORTION-clause-kept g c =
     let counted : seen ≡ length rs = c.record_count-seen.ensures ∙ ap length c.requires.partial in
     keeps_more g.S.Store now c.args.writer.now c.args.writer.now c.args.own.now _ refl refl c.args.place p q
     c.args.file.now.number c.requires.within c.index-partial.ensures refl found.0 refl refl grown
-    counted (omega (arith, c.record_count-seen.ensures, c.requires.many))
+    counted (omega (arith, c.record_count-seen.ensures, c.requires.many)) (omega arith)
     (λ clean. leads_nothing (λ s. waits_still p q rs refl s refl))
 
 pub returns-clause-kept : goal.returns-clause-kept
@@ -41,5 +41,6 @@ returns-clause-kept g c =
     c.in_ok-write_records.ensures.others refl c.args.place p q c.args.file.now.number c.requires.within
     c.index-partial.ensures refl found.0 refl refl grown counted
     (omega (arith, c.record_count-seen.ensures, c.requires.many))
+    (omega (arith, c.record_count-seen.ensures, c.in_ok-write_records.ensures.counted))
     (λ clean. leads_weaker (subst (λ xs. Leads (Writes false p.key p.written xs) old new) c.requires.partial
     (c.in_ok-write_records.ensures.led clean)) (λ s t wrote. rest_is_written p q rs refl s t counted wrote))

@@ -1,10 +1,10 @@
-use Rattle.std.proofs.Common.{map, sym, ap, subst}
-use Rattle.std.{specs.List.AllByRecursion}
+use Rattle.std.{proofs.Common.{map, sym, ap, subst, arith}, specs.List.AllByRecursion}
 use Rattle.{sqlite.specs.State.HasCleanDisk, njh_spoolfile.{proofs.ReadingLaws.ok_then, specs.Shelf.shown}}
 use Rattle.{njh_hub.specs.WholeHub.part, njh_turns.proofs.KeepingLaws.on_ok}
-use Rattle.njh_keeper.proofs.LeadingLaws.{clean_before, survives_both}
+use Rattle.njh_keeper.proofs.{CountingLaws.{inr_then, ok_both}, LeadingLaws.clean_before}
+use Rattle.njh_keeper.proofs.LeadingLaws.{survives_both}
 use Rattle.njh_keeper.proofs.PortionLaws.{closed_are_seen, keeps_still, keeps_then}
-use Rattle.njh_keeper.specs.code.{Memory.{own_of, partial_of}, Partly.IsUpToDate}
+use Rattle.njh_keeper.specs.code.{Counting.rows_of, Memory.{own_of, partial_of}, Partly.IsUpToDate}
 use Rattle.njh_keeper.specs.declared.own_files.OwnFiles.{OwnFiles}
 use Rattle.njh_keeper.proofs.portions.keep_portions.Goals as goal
 
@@ -29,6 +29,15 @@ returns-clause-seen g c closed =
     (c.in_ok-keep_of_lines.ensures.kept.seen (closed_are_seen now (own_of c.args.own.now) closed)) in
     on_ok c.sweep.result (subst (AllByRecursion (IsUpToDate now))
     (sym (ap (λ (o : OwnFiles). map partial_of o.partial.items) c.sweep.ensures.others)) seen)
+
+pub returns-clause-bounded : goal.returns-clause-bounded
+returns-clause-bounded g c low =
+    let now = (part c.args.customer c.args.hub.now).customer.spool in
+    let still = c.in_ok-drop_given_up.ensures.kept now in
+    let rows = ap rows_of c.sweep.ensures.others in
+    ok_then c.sweep.result _ _ (λ swept. inr_then (λ less. omega
+    (arith, c.in_ok-keep_of_lines.ensures.kept.grows, still.rows, swept.0.grows)) swept.1)
+    (ok_both c.sweep.result _ _ (c.sweep.ensures.kept now) c.sweep.ensures.swept)
 
 pub returns-clause-crash : goal.returns-clause-crash
 returns-clause-crash g c = survives_both c.keep_of_lines.ensures.crash c.sweep.ensures.crash

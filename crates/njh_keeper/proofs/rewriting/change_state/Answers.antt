@@ -1,8 +1,9 @@
 use Rattle.njh_keeper.proofs.Words
-use Words.{◌≡◌, ◌<◌, true, None, length, get_or, set, map, refl, sym, ap, subst, ◌∙◌, get_or_default}
+use Words.{◌≡◌, ◌<◌, arith, true, None, length, get_or, set, map, refl, sym, ap, subst, ◌∙◌, get_or_default}
 use Words.{map-set, with_item, HasCleanDisk, shown, is_held, GoesTo, memory_of, numbers_of, whole_of}
 use Words.{AreOne, named_nodes, SpoolWriter}
 use Rattle.njh_keeper.proofs.rewriting.change_state.Goals.{then-changes_hold+in_ok-change_row, else-changes_hold}
+use Rattle.njh_keeper.proofs.CountingLaws.{rows_as_one_changes}
 use Rattle.njh_keeper.proofs.{LeadingLaws.{leads_by, leads_nothing, leads_weaker}, ListLaws.{at_place, within_seen}}
 use Rattle.njh_keeper.proofs.QuietLaws.{quiet_changed, quiet_same}
 use Rattle.njh_keeper.proofs.StillLaws.{held_goes, kept_goes, memory_changed, now_kept}
@@ -58,6 +59,18 @@ returns-clause-led g c f hub_file kept kept_is said several clean =
                 (kept_goes m i k there is f summary hub_file.summary_is hub_file.headers s files has before said_first
                 several_first held),
           )))
+    ]
+
+pub returns-clause-grows : goal.returns-clause-grows
+returns-clause-grows g c =
+    let first = c.index-kept.result.now in
+    let now = record first { state = c.args.summary.now.state } in
+    let rows = rows_as_one_changes c.args.own.now c.args.place first now c.requires c.index-kept.ensures refl in
+    elim c.if-changes_hold.branch [
+      | then-changes_hold+in_ok-change_row w ↦
+          let waits = ap (λ (x : SpoolWriter g.row.S.Denot). x.waiting) w.change_row.ensures.others in
+          rw w.writer-is (omega (arith, rows, waits))
+      | else-changes_hold w ↦ rw w.writer-is (omega (arith, rows))
     ]
 
 pub returns-clause-quiet : goal.returns-clause-quiet

@@ -1,6 +1,7 @@
 use Rattle.njh_keeper.proofs.Words
-use Words.{◌≡◌, ◌<◌, false, true, length, get_or, set, refl, sym, ap, subst, ◌∙◌, get_or_default}
+use Words.{◌≡◌, ◌<◌, SpoolWriter, arith, false, true, length, get_or, set, refl, sym, ap, subst, ◌∙◌, get_or_default}
 use Words.{map-set, with_item, FileSummaryView, Writes, GoesTo, memory_of, numbers_of, whole_of}
+use Rattle.njh_keeper.proofs.CountingLaws.{rows_as_one_changes}
 use Rattle.njh_keeper.proofs.{LeadingLaws.{clean_before, leads_by, leads_then, survives_both}, ListLaws.at_place}
 use Rattle.njh_keeper.proofs.{ListLaws.within_seen, StillLaws.{memory_changed, now_rewritten, rewritten_goes}}
 use Rattle.njh_keeper.proofs.rewriting.rewrite_one.Goals as goal
@@ -39,6 +40,15 @@ returns-clause-led g c f hub_file kept kept_is one clean =
           (subst (λ n. Writes true k.key n f.records s t) (ap (λ (x : FileSummaryView). x.records) hub_file.summary_is)
           (subst (λ rs. Writes true k.key summary.records rs s t) hub_file.records_are writes)) changed.is_row)),
     ))
+
+pub returns-clause-grows : goal.returns-clause-grows
+returns-clause-grows g c =
+    let first = c.index-kept.result.now in
+    let summary = c.args.summary.now in
+    let now = record first { state = summary.state; destination = summary.destination; is_mixed = false } in
+    let rows = rows_as_one_changes c.args.own.now c.args.place first now c.requires c.index-kept.ensures refl in
+    let waits = ap (λ (x : SpoolWriter g.row.S.Denot). x.waiting) c.change_row.ensures.others in
+    omega (arith, rows, waits, c.in_ok-write_records.ensures.counted)
 
 pub returns-in_err-change_row-clause-crash : goal.returns-in_err-change_row-clause-crash
 returns-in_err-change_row-clause-crash g c =

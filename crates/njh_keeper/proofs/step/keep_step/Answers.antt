@@ -1,5 +1,7 @@
 use Rattle.std.{proofs.Common.{Result, Ok, Err, OnOk, sym, ap, ◌∙◌, arith}, specs.Prelude.string_bytes}
-use Rattle.{sqlite.specs.{declared.error.Error.Error, State.HasCleanDisk}, njh_spoolfile.specs.Shelf.shown}
+use Rattle.sqlite.specs.{declared.error.Error.Error, State.HasCleanDisk}
+use Rattle.njh_spoolfile.{proofs.ReadingLaws.ok_then, specs.Shelf.shown}
+use Rattle.njh_keeper.proofs.CountingLaws.{inr_then, ok_both}
 use Rattle.{njh_hub.specs.WholeHub.part, njh_keeper.proofs.{GrowthLaws.numbered_of_sound, LeadingLaws.survives_both}}
 use Rattle.njh_keeper.{proofs.OneStepLaws.step_leads, specs.code.{Following.memory_of, Knowing.LeadsStep}}
 use Rattle.njh_keeper.specs.code.{Memory.own_of, Partly.{AllClosed, AllUpToDate, KeepsPartly}}
@@ -37,6 +39,13 @@ returns-clause-led g c sound headers clean =
         (ap (λ (o : OwnFiles). o.arrived) kept.others)
         (λ unchanged. let q = c.in_ok-follow.ensures.quiet (sym (ap (λ x. x.is_changed) kept.numbers) ∙ unchanged)
         in (q.0, ap (λ st. shown g.S.Store st) q.1))
+
+pub returns-clause-bounded : goal.returns-clause-bounded
+returns-clause-bounded g c sound low =
+    let numbered = numbered_of_sound (part c.args.customer c.args.hub.now).customer.spool sound in
+    ok_then c.keep_portions.result _ _ (λ kept. inr_then (λ less. omega
+    (arith, c.in_ok-follow.ensures.grows numbered, kept.0.grows)) kept.1)
+    (ok_both c.keep_portions.result _ _ c.keep_portions.ensures.kept (c.keep_portions.ensures.bounded low))
 
 pub returns-clause-crash : goal.returns-clause-crash
 returns-clause-crash g c = survives_both c.follow.ensures.crash c.keep_portions.ensures.crash

@@ -1,8 +1,8 @@
 use Rattle.std.proofs.{Common.{◌≡◌, ◌++◌, [], ◌∷◌, length, refl, sym, ap, ◌∙◌, arith}, lemmas.List.append-nil}
 use Rattle.{sqlite.specs.State.HasCleanDisk, njh_spoolfile.specs.Shelf.shown}
-use Rattle.njh_keeper.proofs.{LeadingLaws.{clean_before, survives_both}, PortionLaws.{dead_after, dead_push}}
+use Rattle.njh_keeper.proofs.{CountingLaws.sum-push, LeadingLaws.{clean_before, survives_both}, PortionLaws.dead_after}
 use Rattle.njh_keeper.proofs.PortionLaws.{keeps_one_swept, keeps_still, keeps_then, still_swept, sweeps_fewer}
-use Rattle.njh_keeper.specs.code.Writing.{dead_of}
+use Rattle.njh_keeper.specs.code.Writing.{dead_in, dead_of}
 use Rattle.njh_keeper.specs.declared.own_files.OwnFiles.{OwnFiles}
 use Rattle.njh_keeper.proofs.sweeping.sweep.Goals as goal
 
@@ -20,13 +20,14 @@ loop-left-preserved g c =
     let most = c.loop-left.left in
     let less = ap dead_of left.0 in
     let after = dead_after most before last in
-    let all = ap dead_of are ∙ dead_push before last in
+    let all = ap dead_of are ∙ sum-push dead_in before last in
     record {
       crash = survives_both so_far.crash c.sweep_some.ensures.crash;
       kept = λ now. keeps_then g.S.Store now c.args.writer.now w w1 c.args.own.now own own1
           (clean_before c.sweep_some.ensures.crash) (so_far.kept now)
           (keeps_one_swept g.S.Store now w w1 own own1 c.sweep_some.ensures.writer c.sweep_some.ensures.others most
-          before last are left.0 left.1 c.in_ok-left.ensures.dropped);
+          before last are left.0 left.1 c.sweep_some.ensures.counts (omega (arith, less, after, all))
+          c.in_ok-left.ensures.dropped);
       others = c.sweep_some.ensures.others ∙ ap (λ (x : OwnFiles). record x { sweeps = own1.sweeps }) so_far.others;
       dead = omega (arith, so_far.dead, less, after, all, c.in_ok-left.ensures.count);
     }
