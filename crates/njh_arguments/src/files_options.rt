@@ -227,6 +227,6 @@ fn compact_option<'a>(alloc: Global) -> Arg<'a>
         alloc,
         "compact",
         "NEW",
-        "Copies the files into a new spool file, which is as small as can be",
+        "Copies the files into a new spool file, which has nothing of files that are gone",
     )
 }

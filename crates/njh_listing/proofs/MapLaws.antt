@@ -10,7 +10,8 @@ use Rattle.std.proofs.lemmas.Option.{slice_get-map, slice_get-get_or}
 use Rattle.njh_io.specs.Written.{AppendsBeginning}
 use Rattle.njh_spoolfile.specs.Kept.{File, entry_of}
 use Rattle.njh_spoolfile.specs.declared.kept.StoredFile.{StoredFile}
-use Rattle.njh_listing.specs.Listed.{IsListedInPart, first_listing, first_listing_of, has_customer, line_of, listing_of}
+use Rattle.njh_listing.specs.Listed.{IsListed, IsListedInPart, first_listing, first_listing_of, has_customer, line_of}
+use Rattle.njh_listing.specs.Listed.{listing_of}
 use Rattle.njh_listing.specs.Listed.{listing_text}
 use Rattle.njh_listing.specs.Exported.{Contents, IsExportedInPart, export_text}
 
@@ -106,3 +107,10 @@ pub exported_in_part : {T E : Type 0} (r : Result T E) (raw : Bool) (text given 
 exported_in_part (Ok x) raw text given old new same some begun = tt
 exported_in_part (Err e) raw text given old new same some begun =
     let P : List ℕ → Type 0 = λ t. AppendsBeginning old new t in inr (some.0, subst P (same ∙ some.1) begun)
+
+-- the whole listing is a beginning of it
+pub listed_whole : {T E : Type 0} (r : Result T E) (customer : Option (List ℕ)) (old new : Option (List ℕ))
+    → IsListed customer old new → OnErr r (Keeps old new ⊎ IsListedInPart customer old new)
+listed_whole (Ok x) customer old new is = tt
+listed_whole (Err e) customer old new is =
+    let text = listing_text customer is.0 in inr (is.0, (text, [], append-nil text, is.1))

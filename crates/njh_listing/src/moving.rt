@@ -14,7 +14,7 @@ use crate::fault::FilesFault;
 use crate::listing::print_files;
 use crate::opening::SpoolFiles;
 use njh_spoolfile::{CopyFault, Store, copy_files};
-use sqlite::{Alter, Start};
+use sqlite::{Alter, FileFrom, FileStore, Start};
 use std::alloc::{AllocError, Global};
 use std::io::Write;
 
@@ -78,7 +78,9 @@ pub fn copy<S: Alter, T: Alter, W: Write>(
 }
 
 /// Copies whole files of the spool file at a path, which has to be there and stays as it is
-/// (`copy`). `start` and `other` are what a proof knows of the two before they are opened.
+/// (`copy`), and closes the other one: it has all that it holds without its log then. If it is the
+/// closing that failed, the files were copied and listed, and it has them together with its log.
+/// `start` and `other` are what a proof knows of the two before they are opened.
 pub fn copy_spool<F: SpoolFiles + AllocGlobal, S: Start, T: Start, W: Write>(
     rt: &F,
     path: &str,
@@ -120,7 +122,7 @@ fn copy_opened<F: SpoolFiles + AllocGlobal, A: Alter + Drop, S: Start, W: Write>
     done
 }
 
-/// Copies whole files of a spool file into another, which is opened or made for it.
+/// Copies whole files of a spool file into another, which is opened or made for it, and closed.
 fn copy_from<F: SpoolFiles + AllocGlobal, A: Alter, S: Start, W: Write>(
     rt: &F,
     from: &mut Store<A>,
@@ -139,17 +141,35 @@ fn copy_from<F: SpoolFiles + AllocGlobal, A: Alter, S: Start, W: Write>(
     } else {
         rt.open_spool(moved.into, start)
     };
-    copy_into(rt.alloc(), from, opened, moved.customer, out)
+    match copy_into(rt.alloc(), from, opened, moved.customer, out) {
+        Ok(into) => close(into),
+        Err(fault) => Err(fault),
+    }
 }
 
-/// Copies whole files into a spool file that was opened, and drops it.
+/// Closes a spool file, whose log it has in itself then.
+fn close<S: Start>(store: Store<FileStore<FileFrom<S>>>) -> Result<(), FilesFault>
+    ensures { IfErr result IsOfSpool }
+{
+    match store.close() {
+        Ok(files) => {
+            drop(files);
+            Ok(())
+        }
+        Err(error) => Err(FilesFault::from(error)),
+    }
+}
+
+/// Copies whole files into a spool file that was opened, and gives it back; after a fault it is
+/// dropped. It names no type of a store, since each call that does so is proved at the price of all
+/// that the type's calls promise.
 fn copy_into<A: Alter, B: Alter + Drop, W: Write>(
     alloc: Global,
     from: &mut Store<A>,
     opened: Result<Store<B>, FilesFault>,
     customer: Option<&str>,
     out: &mut W,
-) -> Result<(), FilesFault>
+) -> Result<Store<B>, FilesFault>
     requires { IfErr opened IsOfSpool }
     ensures done { OnOk result (IsListed (option_map (λ c. c.now) customer.entry) (W.contents out.old)
         (W.contents out.new)) }
@@ -161,7 +181,11 @@ fn copy_into<A: Alter, B: Alter + Drop, W: Write>(
         Ok(store) => store,
         Err(fault) => return Err(fault),
     };
-    let done = copy(alloc, from, &mut into, customer, out);
-    drop(into);
-    done
+    match copy(alloc, from, &mut into, customer, out) {
+        Ok(()) => Ok(into),
+        Err(fault) => {
+            drop(into);
+            Err(fault)
+        }
+    }
 }

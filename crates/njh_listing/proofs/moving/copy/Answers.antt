@@ -1,4 +1,4 @@
-use Rattle.std.proofs.Common.{option_map, rules}
+use Rattle.std.proofs.Common.{option_map}
 use Rattle.njh_spoolfile.specs.Shelf.{shown}
 use Rattle.njh_listing.proofs.MovedLaws.{clean_before, moved}
 use Rattle.njh_listing.proofs.moving.copy.Goals as goal
