@@ -31,8 +31,8 @@ Examples:
 
 /// What the help says of `--number`.
 const NUMBER_HELP: &str =
-    "With --export: its number, as the list of several shows it, counted from 1 by arrival among \
-     all files, or all of the customer's";
+    "With --export: the number of its line in what files prints of all files, or of the \
+     customer's, counted from 1; the list of several shows it";
 
 /// What the options of `files` ask for.
 pub(crate) fn files_in<'a>(options: &ArgMatches<'a>) -> Result<Request<'a>, Unasked<'a>>

@@ -2,3 +2,4 @@ mod AskedLaws
 mod FaultLaws
 mod MapLaws
 mod MovedLaws
+mod OrderLaws

@@ -1,5 +1,5 @@
 -- What was copied is there and listed, also after the listing was printed.
-use Rattle.std.proofs.Common.{◌≡◌, ℕ, List, Option, Result, Ok, Err, OnOk, subst, sym, arith}
+use Rattle.std.proofs.Common.{ℕ, List, Option, Result, Ok, Err, OnOk, subst, sym, arith}
 use Rattle.std.specs.Io.KnownBytes.{Appends}
 use Rattle.sqlite.specs.Effect.{Database}
 use Rattle.sqlite.specs.State.{HasCleanDisk, State, Survives}

@@ -1,15 +1,10 @@
 -- Which of the files of a spool file is asked for.
-use Rattle.std.specs.Prelude.{map, ◌≡◌, ℕ, ◌<◌, ◌-◌, Bool, true, List, [], filter, take, drop, length, bytes_eq}
+use Rattle.std.specs.Prelude.{map, ◌≡◌, ℕ, ◌<◌, ◌-◌, Bool, List, [], filter, take, drop, length, bytes_eq}
 use Rattle.std.specs.Prelude.{Option, None, Some, ⊤}
 use Rattle.njh_spoolfile.specs.Kept.{File}
-use Rattle.njh_listing.specs.Listed.{name_text}
+use Rattle.njh_listing.specs.Listed.{listed_files, name_text}
 use Rattle.njh_listing.specs.declared.fault.FilesFault.{FilesFault}
 use Rattle.njh_listing.specs.declared.fault.FilesFault.TheVariants.{NoFile, Several}
-
--- a customer's; any if no customer is named
-abbrev pub is_own : Option (List ℕ) → ℕ × File → Bool
-is_own None e = true
-is_own (Some customer) e = bytes_eq e.1.customer customer
 
 -- called so, as LYON.42
 abbrev pub is_called : List ℕ → ℕ × File → Bool
@@ -20,10 +15,14 @@ abbrev pub at_number : {X : Type 0} → Option ℕ → List X → List X
 at_number None xs = xs
 at_number (Some n) xs = drop (n - 1) (take n xs)
 
--- of the customer's files, in their order of arrival, those of the name; with a number none but the one of that number
+-- of files in the order of their list those of the name; with a number none but the one of that number
+abbrev pub asked_in : (number : Option ℕ) → (name : List ℕ) → List (ℕ × File) → List (ℕ × File)
+asked_in number name es = filter (is_called name) (at_number number es)
+
+-- of all files, or the customer's: a file's number is that of its line in their listing
 abbrev pub asked_of : (customer : Option (List ℕ)) → (number : Option ℕ) → (name : List ℕ) → List (ℕ × File)
     → List (ℕ × File)
-asked_of customer number name es = filter (is_called name) (at_number number (filter (is_own customer) es))
+asked_of customer number name es = asked_in number name (listed_files customer es)
 
 -- the number under which a file's records are kept
 abbrev pub key_in : ℕ × File → ℕ

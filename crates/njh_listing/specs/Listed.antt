@@ -1,6 +1,6 @@
 -- What is printed of the whole files of a spool file: a line a file.
 use Rattle.std.specs.Prelude.{ℕ, zero, suc, Bool, cond, List, [], ◌++◌, codes, bytes_eq, flat_map}
-use Rattle.std.specs.Prelude.{Option, None, Some, length, slice_get, take}
+use Rattle.std.specs.Prelude.{Option, None, Some, filter, length, slice_get, take}
 use Rattle.std.specs.Fmt.{decimal}
 use Rattle.std.specs.List.{list_any}
 use Rattle.std.specs.Io.KnownBytes.{Appends}
@@ -36,34 +36,38 @@ said_of f = name_text f +++ codes " TO " +++ f.to_node +++ user_words f.to_user 
 unfoldable pub file_line : File → List ℕ
 file_line f = f.customer +++ codes " " +++ said_of f +++ codes "\n"
 
--- a file's line if it is this customer's
-unfoldable pub line_of : List ℕ → ℕ × File → List ℕ
-line_of customer e = cond (bytes_eq e.1.customer customer) (file_line e.1) []
+-- whether a file is this customer's
+abbrev pub is_of : List ℕ → ℕ × File → Bool
+is_of customer e = bytes_eq e.1.customer customer
 
 -- the files of a customer, in their order of arrival
-abbrev pub listing_of : List ℕ → List (ℕ × File) → List ℕ
-listing_of customer es = flat_map (line_of customer) es
+abbrev pub files_of : List ℕ → List (ℕ × File) → List (ℕ × File)
+files_of customer es = filter (is_of customer) es
 
 abbrev pub has_customer : List ℕ → List (ℕ × File) → Bool
-has_customer customer es = list_any (λ e. bytes_eq e.1.customer customer) es
+has_customer customer es = list_any (is_of customer) es
 
 -- the files of the customer of the file at a place, if no earlier file is this customer's
-abbrev pub first_listing_of : (all before : List (ℕ × File)) → Option (ℕ × File) → List ℕ
-first_listing_of all before None = []
-first_listing_of all before (Some e) = cond (has_customer e.1.customer before) [] (listing_of e.1.customer all)
+abbrev pub first_files_of : (all before : List (ℕ × File)) → Option (ℕ × File) → List (ℕ × File)
+first_files_of all before None = []
+first_files_of all before (Some e) = cond (has_customer e.1.customer before) [] (files_of e.1.customer all)
 
-unfoldable pub first_listing : ℕ → List (ℕ × File) → List ℕ
-first_listing at all = first_listing_of all (take at all) (slice_get all at)
+unfoldable pub first_files : ℕ → List (ℕ × File) → List (ℕ × File)
+first_files at all = first_files_of all (take at all) (slice_get all at)
 
 -- the files of the customers of so many first files
-abbrev pub listing_up_to : ℕ → List (ℕ × File) → List ℕ
-listing_up_to zero all = []
-listing_up_to (suc n) all = listing_up_to n all ++ first_listing n all
+abbrev pub files_up_to : ℕ → List (ℕ × File) → List (ℕ × File)
+files_up_to zero all = []
+files_up_to (suc n) all = files_up_to n all ++ first_files n all
 
 -- all files, the customers in the order of their first files; or those of one customer
+abbrev pub listed_files : Option (List ℕ) → List (ℕ × File) → List (ℕ × File)
+listed_files None es = files_up_to (length es) es
+listed_files (Some customer) es = files_of customer es
+
+-- a line for each of them
 abbrev pub listing_text : Option (List ℕ) → List (ℕ × File) → List ℕ
-listing_text None es = listing_up_to (length es) es
-listing_text (Some customer) es = listing_of customer es
+listing_text customer es = flat_map (λ e. file_line e.1) (listed_files customer es)
 
 -- The listing of some files came after what had been written; or a beginning of it did.
 abbrev pub IsListed : Option (List ℕ) → (old new : Option (List ℕ)) → Type 0

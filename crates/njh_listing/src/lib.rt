@@ -9,6 +9,7 @@ mod finding;
 mod listing;
 mod moving;
 mod opening;
+mod order;
 mod printing;
 mod writing;
 

@@ -1,19 +1,18 @@
 //! Prints the whole files of a spool file.
 
 ghost use Rattle.std.specs.Prelude.{◌≡◌, ◌++◌, ◌⊎◌, ℕ, List, map, option_map, string_bytes, IfErr, IfOk};
-ghost use Rattle.std.specs.Prelude.{OnErr, OnOk, bytes_eq, flat_map, length, ◌<◌, take};
-ghost use Rattle.std.specs.List.{list_any};
+ghost use Rattle.std.specs.Prelude.{OnErr, OnOk, flat_map};
 ghost use Rattle.std.specs.Io.KnownBytes.{Appends, Keeps};
 ghost use Rattle.sqlite.specs.State.{HasCleanDisk, Survives};
 ghost use Rattle.njh_listing.specs.Faults.{IsOfSpool};
-ghost use Rattle.njh_listing.specs.Listed.{file_line, kind_words, first_listing, line_of, listing_up_to};
-ghost use Rattle.njh_listing.specs.Listed.{IsListed, IsListedInPart, listing_text, name_text, said_of, state_words};
-ghost use Rattle.njh_listing.specs.Listed.{user_words};
+ghost use Rattle.njh_listing.specs.Listed.{IsListed, IsListedInPart, file_line, kind_words, listing_text, name_text};
+ghost use Rattle.njh_listing.specs.Listed.{said_of, state_words, user_words};
 ghost use Rattle.njh_spoolfile.specs.Kept.{File, Holds, SpoolContents, entry_of, file_of};
 ghost use Rattle.njh_spoolfile.specs.Shelf.{shown};
 ghost use Rattle.njh_spoolfile.specs.Steps.{Stays};
 
 use crate::fault::FilesFault;
+use crate::order::listed_files;
 use crate::writing::write_text;
 use njh_spoolfile::{FileRow, Store, StoredFile};
 use sqlite::Alter;
@@ -87,96 +86,23 @@ fn file_line(alloc: Global, file: &FileRow) -> Result<String, AllocError>
     format!(in alloc; "{customer} {said}\n")
 }
 
-/// Appends the line of a file if it is a customer's.
-#[tactic(auto, unfolding(crate::specs::Listed::line_of))]
-fn put_own(
-    alloc: Global,
-    text: &mut Vec<u8>,
-    customer: &str,
-    stored: &StoredFile,
-) -> Result<(), AllocError>
-    ensures { OnOk result (text.new.items ≡ text.old.items ++ line_of customer.now (entry_of stored.now)) }
+/// Appends the line of a file.
+fn put_line(alloc: Global, text: &mut Vec<u8>, file: &FileRow) -> Result<(), AllocError>
+    ensures { OnOk result (text.new.items ≡ text.old.items ++ file_line (file_of file.now)) }
 {
-    if stored.file.customer.as_str() == customer {
-        let line = file_line(alloc, &stored.file)?;
-        text.extend_from_slice(line.as_bytes())?;
-    }
+    let line = file_line(alloc, file)?;
+    text.extend_from_slice(line.as_bytes())?;
     Ok(())
 }
 
-/// Appends the lines of a customer's files.
-fn put_customer(
-    alloc: Global,
-    text: &mut Vec<u8>,
-    customer: &str,
-    files: &[StoredFile],
-) -> Result<(), AllocError>
-    ensures { OnOk result (text.new.items ≡ text.old.items ++ flat_map (λ s. line_of customer.now (entry_of s))
-        files.now) }
-{
-    for stored in files {
-        put_own(alloc, text, customer, stored)?;
-    }
-    Ok(())
-}
-
-/// Whether a file is a customer's.
-fn is_own(customer: &str, stored: &StoredFile) -> bool
-    ensures { result ≡ bytes_eq (string_bytes stored.now.file.customer) customer.now }
-{
-    stored.file.customer.as_str() == customer
-}
-
-/// Whether one of some files is a customer's.
-fn has_customer(customer: &str, files: &[StoredFile]) -> bool
-    ensures { result ≡ list_any (λ s. bytes_eq (string_bytes s.file.customer) customer.now) files.now }
-{
-    files.iter().any(|stored| is_own(customer, stored))
-}
-
-/// Appends the lines of the files of a file's customer, if no earlier file is this customer's.
-fn put_first(
-    alloc: Global,
-    text: &mut Vec<u8>,
-    files: &[StoredFile],
-    at: usize,
-) -> Result<(), AllocError>
-    requires { at < length files.now }
-    ensures { OnOk result (text.new.items ≡ text.old.items ++ first_listing at (map entry_of files.now)) }
-{
-    let customer = files[at].file.customer.as_str();
-    if has_customer(customer, &files[..at]) {
-        return Ok(());
-    }
-    put_customer(alloc, text, customer, files)
-}
-
-/// Appends the lines of all files, the customers in the order of their first files.
-fn put_all(alloc: Global, text: &mut Vec<u8>, files: &[StoredFile]) -> Result<(), AllocError>
-    ensures { OnOk result (text.new.items ≡ text.old.items
-        ++ listing_up_to (length files.now) (map entry_of files.now)) }
-{
-    for at in 0..files.len() {
-        put_first(alloc, text, files, at)?;
-    }
-    Ok(())
-}
-
-/// The lines of all files.
-fn all_text(alloc: Global, files: &[StoredFile]) -> Result<Vec<u8>, AllocError>
-    ensures { IfOk result (λ text. text.items ≡ listing_up_to (length files.now) (map entry_of files.now)) }
+/// The lines of files.
+fn lines_of(alloc: Global, list: &[&StoredFile]) -> Result<Vec<u8>, AllocError>
+    ensures { IfOk result (λ text. text.items ≡ flat_map (λ s. file_line (file_of s.now.file)) list.now) }
 {
     let mut text = Vec::new(alloc);
-    put_all(alloc, &mut text, files)?;
-    Ok(text)
-}
-
-/// The lines of a customer's files.
-fn customer_text(alloc: Global, customer: &str, files: &[StoredFile]) -> Result<Vec<u8>, AllocError>
-    ensures { IfOk result (λ text. text.items ≡ flat_map (λ s. line_of customer.now (entry_of s)) files.now) }
-{
-    let mut text = Vec::new(alloc);
-    put_customer(alloc, &mut text, customer, files)?;
+    for stored in list {
+        put_line(alloc, &mut text, &stored.file)?;
+    }
     Ok(text)
 }
 
@@ -189,10 +115,8 @@ fn listing_text(
     ensures { IfOk result (λ text. text.items
         ≡ listing_text (option_map (λ c. c.now) customer.entry) (map entry_of files.now)) }
 {
-    match customer {
-        None => all_text(alloc, files),
-        Some(customer) => customer_text(alloc, customer, files),
-    }
+    let list = listed_files(alloc, customer, files)?;
+    lines_of(alloc, list.as_slice())
 }
 
 /// The lines of all files of a spool file, or of a customer's.

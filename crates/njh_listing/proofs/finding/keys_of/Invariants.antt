@@ -1,11 +1,7 @@
-use Rattle.std.proofs.Common.{◌≡◌, map, take, option_map, length, filter}
-use Rattle.njh_spoolfile.specs.Kept.{entry_of}
-use Rattle.njh_listing.specs.Asked.{asked_of, is_own, key_in}
+use Rattle.std.proofs.Common.{◌≡◌, map, take}
+use Rattle.njh_listing.specs.Asked.{asked_in, key_in}
+use Rattle.njh_listing.specs.code.Lent.{entries_of}
 use Rattle.njh_listing.proofs.finding.keys_of.Given as goal
 
-abbrev pub invariant-loop-stored : goal.invariant-loop-stored
-invariant-loop-stored l =
-    (l.own ≡ length (filter (is_own (option_map (λ c. c.now) l.asked.customer))
-    (map entry_of (take l.stored-index l.files))))
-    × (l.keys.items ≡ map key_in (asked_of (option_map (λ c. c.now) l.asked.customer) l.asked.number l.name
-    (map entry_of (take l.stored-index l.files))))
+abbrev pub invariant-loop-at : goal.invariant-loop-at
+invariant-loop-at l = l.keys.items ≡ map key_in (asked_in l.number l.name (entries_of (take l.at l.list)))

@@ -1,8 +1,9 @@
 use Rattle.std.proofs.Common.{sym, ap, ◌∙◌}
 use Rattle.std.specs.Prelude.{string_bytes}
 use Rattle.njh_spoolfile.specs.declared.kept.StoredFile.{StoredFile}
-use Rattle.njh_listing.proofs.MapLaws.{appends_other, first_all, first_none}
-use Rattle.njh_listing.proofs.listing.put_first.Goals as goal
+use Rattle.njh_listing.proofs.MapLaws.{appends_other}
+use Rattle.njh_listing.proofs.OrderLaws.{first_all, first_none}
+use Rattle.njh_listing.proofs.order.put_first.Goals as goal
 
 pub returns-then-has_customer : goal.returns-then-has_customer
 returns-then-has_customer c =
