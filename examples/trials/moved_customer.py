@@ -4,13 +4,15 @@
     python3 examples/trials/moved_customer.py crates/njehub/out/njehub [--files 200]
 
 Hub A serves ACME and BOLT, hub B serves CARL, each with a spool file of its own. Users send files for a node whose line
-is down, hold some, and LIST. Then both hubs end, `njehub files --spool A --customer ACME --into B` copies ACME's files,
-A starts without ACME and B with it. Each row of the table says what was compared and whether it is the same: the
-replies to LIST, what `files` prints, and what `files --export --raw` gives of each file. A second copy is refused, and
-of it all in a new file (`--compact`) the same is listed.
+is down, hold some, and LIST. Then both hubs end, `njehub files --spool A --customer ACME --compact NEW` copies ACME's
+files, NEW goes to another folder without its log, `njehub files --spool NEW --customer ACME --into B` copies them on, A
+starts without ACME and B with it. Each row of the table says what was compared and whether it is the same: the replies
+to LIST, what `files` prints, and what `files --export --raw` gives of each file, by its line in its customer's list and
+in that of all. A second copy is refused, and of B without its log, and of it all in a new file, the same is listed.
 """
 
 import pathlib
+import shutil
 import subprocess
 import sys
 import tempfile
@@ -68,14 +70,19 @@ class Trial:
     def listed(self, name):
         return peer(self.ports[name], "command", "LIST")
 
-    def exported(self, spool, name):
+    def exported(self, spool, *whose):
         """Each file's bytes, in the order of the listing."""
-        count = len(self.files(spool, "--customer", name).splitlines())
-        names = [line.split()[1].decode() for line in self.files(spool, "--customer", name).splitlines()]
+        names = [line.split()[1].decode() for line in self.files(spool, *whose).splitlines()]
         return [
-            self.files(spool, "--customer", name, "--export", names[at], "--number", str(at + 1), "--raw")
-            for at in range(count)
+            self.files(spool, *whose, "--export", name, "--number", str(number), "--raw")
+            for number, name in enumerate(names, 1)
         ]
+
+    def alone(self, path):
+        """Where a spool file is once it is moved into another folder without its log."""
+        elsewhere = pathlib.Path(self.folder, "elsewhere")
+        elsewhere.mkdir(exist_ok=True)
+        return str(shutil.move(path, elsewhere))
 
     def say(self, what, before, after):
         same = before == after
@@ -85,23 +92,32 @@ class Trial:
     def play(self):
         count = self.options.files
         with self.hub(self.a, "ACME", "BOLT"):
-            fill(self.ports["ACME"], self.folder, 1, count)
+            fill(self.ports["ACME"], self.folder, 1, count - count // 3)
             fill(self.ports["BOLT"], self.folder, 1, 5)
+            fill(self.ports["ACME"], self.folder, 1 + count - count // 3, count // 3)
             acme, bolt = self.listed("ACME"), self.listed("BOLT")
         with self.hub(self.b, "CARL"):
             fill(self.ports["CARL"], self.folder, 1, 5)
             carl = self.listed("CARL")
-        rows, data = self.files(self.a, "--customer", "ACME"), self.exported(self.a, "ACME")
-        others = self.files(self.b)
+        rows, data = self.files(self.a, "--customer", "ACME"), self.exported(self.a, "--customer", "ACME")
+        others, each = self.files(self.b), data + self.exported(self.a, "--customer", "BOLT")
         print("| compared | lines, bytes or files | |\n|---|---|---|")
-        self.say("what --into prints, and ACME's list in A", rows, self.files(self.a, "--customer", "ACME", "--into", self.b))
+        self.say("each file's records in A, by both lists", each, self.exported(self.a))
+        new = str(pathlib.Path(self.folder, "acme.spool"))
+        copied = self.files(self.a, "--customer", "ACME", "--compact", new)
+        self.say("what --compact prints, and ACME's list in A", rows, copied)
+        copied = self.files(self.alone(new), "--customer", "ACME", "--into", self.b)
+        self.say("what --into prints of that without its log", rows, copied)
         again = self.files(self.a, "--customer", "ACME", "--into", self.b, status=1)
         self.say("a second copy", b"njehub: ACME has files in the other spool\n", again)
         self.say("ACME's list in B", rows, self.files(self.b, "--customer", "ACME"))
         self.say("CARL's list in B", others, self.files(self.b, "--customer", "CARL"))
-        self.say("each file's records, A and B", data, self.exported(self.b, "ACME"))
+        self.say("each file's records, A and B", data, self.exported(self.b, "--customer", "ACME"))
+        copy = self.alone(shutil.copy(self.b, pathlib.Path(self.folder, "copy.spool")))
+        self.say("all of B, and of a copy without its log", self.files(self.b), self.files(copy))
         small = str(pathlib.Path(self.folder, "small.spool"))
         self.say("all of B and what --compact prints", self.files(self.b), self.files(self.b, "--compact", small))
+        small = self.alone(small)
         with self.hub(self.a, "BOLT"):
             self.say("LIST of BOLT on A without ACME", bolt, self.listed("BOLT"))
         with self.hub(self.b, "CARL", "ACME"):
