@@ -155,8 +155,11 @@ module _ {a b c : Stage} where
   walked_further Given still place index same one more =
       leads_then one more (λ s t u first second files has given.
       let x = first files has given in
-      let y = second x.0 x.2.has (subst (IsWalkedTo still x.0) (sym same) x.1) in
-      (y.0, subst (λ n. IsWalkedTo still y.0 (n + 1)) same y.1, goes_then a.memory b.memory c.memory s t u x.0 y.0 x.2 y.2))
+      let y = second x.0 x.2.has (subst (IsWalkedTo still x.0) (sym same) x.1) in (
+        y.0,
+        subst (λ n. IsWalkedTo still y.0 (n + 1)) same y.1,
+        goes_then a.memory b.memory c.memory s t u x.0 y.0 x.2 y.2,
+      ))
 
   -- after the last one all others have left
   pub walked_to_end : (Given : SpoolContents → List WholeFile → Type 0) (still : List WholeFile) (place index : ℕ)

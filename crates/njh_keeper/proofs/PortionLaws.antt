@@ -2,7 +2,8 @@
 use Rattle.njh_keeper.proofs.Words
 use Words.{◌≡◌, ℕ, ◌+◌, ◌-◌, ◌^◌, ◌<◌, ◌≤◌, min, Bool, true, false, cond}
 use Words.{List, [], ◌∷◌, ◌++◌, length, get_or, set, remove, take, map, slice_get, refl, sym, ap, subst, ◌∙◌, arith}
-use Words.{append-nil, length-append, map-append, map-set, nat_tests, take_all, HasCleanDisk, Ghosts, Stored, SpoolContents}
+use Words.{append-nil, length-append, map-append, map-set, nat_tests, take_all, HasCleanDisk, Ghosts, Stored}
+use Words.{SpoolContents}
 use Words.{without_records, shown, Changes, CustomerSpool, partial_records, Writes, Leads, numbers_of, own_of}
 use Words.{partial_of, sweep_in, HasRecords, IsOrdered, WritesUnder, AllClosed, AllSeen, IsSeen, IsUpToDate, KeepsNew}
 use Words.{KeepsOn, KeepsPartly, IsPartlyKept, KeptPartial, Numbers, OwnFiles, IsTaken, SpoolWriter}

@@ -28,7 +28,8 @@ pub(crate) fn add_one<S: Alter + Drop>(
 ) -> Result<(), Error>
     ensures led { (g : WholeFile) → IsHubFile hub.now file.now summary.now g
         → HasCleanDisk (shown S.Store writer.new.store)
-        → OnOk result (LeadsFiles (λ s files. AreFronts s (own_of own.old).partial (g ∷ [])) (λ files now. now ≡ files ++ g ∷ [])
+        → OnOk result (LeadsFiles (λ s files. AreFronts s (own_of own.old).partial (g ∷ []))
+        (λ files now. now ≡ files ++ g ∷ [])
         (stage_of S.Store writer.old own.old) (stage_of S.Store writer.new own.new)) }
     ensures grows { (g : WholeFile) → IsHubFile hub.now file.now summary.now g
         → OnOk result (Grows writer.old own.old writer.new own.new) }

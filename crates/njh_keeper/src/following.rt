@@ -63,7 +63,8 @@ fn follow_old<S: Alter + Drop>(
     requires { old ≤ length (part customer hub.now).customer.spool.whole }
     ensures led { AreNumbered (part customer hub.now).customer.spool.whole
         → HasCleanDisk (shown S.Store writer.new.store)
-        → OnOk result (LeadsFiles (λ s files. Survive files (take old (part customer hub.now).customer.spool.whole) × AreNumbered files)
+        → OnOk result (LeadsFiles
+        (λ s files. Survive files (take old (part customer hub.now).customer.spool.whole) × AreNumbered files)
         (λ files now. now ≡ take old (part customer hub.now).customer.spool.whole)
         (stage_of S.Store writer.old own.old) (stage_of S.Store writer.new own.new)) }
     ensures grows { OnOk result (Grows writer.old own.old writer.new own.new) }
@@ -92,7 +93,8 @@ fn follow_at<S: Alter + Drop>(
         → AreNumbered (part customer hub.now).customer.spool.whole
         → IsAt (part customer hub.now).customer.spool.whole index f → IsAt still place f
         → HasCleanDisk (shown S.Store writer.new.store)
-        → OnOk result (LeadsFiles (λ s files. IsWalkedTo still files place) (λ files now. IsWalkedTo still now (place + 1))
+        → OnOk result (LeadsFiles (λ s files. IsWalkedTo still files place)
+        (λ files now. IsWalkedTo still now (place + 1))
         (stage_of S.Store writer.old own.old) (stage_of S.Store writer.new own.new)) }
     ensures grows { OnOk result (Grows writer.old own.old writer.new own.new) }
     ensures quiet { OnOk result (IsQuiet writer.old writer.new) }
@@ -158,7 +160,8 @@ fn drop_before<S: Alter + Drop>(
 ) -> Result<(), Error>
     ensures led { (still : List WholeFile) → IsReached number still place
         → HasCleanDisk (shown S.Store writer.new.store)
-        → OnOk result (LeadsFiles (λ s files. IsWalkedTo still files place) (λ files now. IsWalkedTo still now place × IsReached number now place)
+        → OnOk result (LeadsFiles (λ s files. IsWalkedTo still files place)
+        (λ files now. IsWalkedTo still now place × IsReached number now place)
         (stage_of S.Store writer.old own.old) (stage_of S.Store writer.new own.new)) }
     ensures grows { OnOk result (Grows writer.old own.old writer.new own.new) }
     ensures quiet { OnOk result (IsQuiet writer.old writer.new) }
@@ -180,7 +183,8 @@ fn drop_at<S: Alter + Drop>(
     place: usize,
 ) -> Result<(), Error>
     requires { place < length own.old.whole.items }
-    ensures led { HasCleanDisk (shown S.Store writer.new.store) → OnOk result (LeadsFiles (λ _ _. ⊤) (λ files now. now ≡ remove files place)
+    ensures led { HasCleanDisk (shown S.Store writer.new.store)
+        → OnOk result (LeadsFiles (λ _ _. ⊤) (λ files now. now ≡ remove files place)
         (stage_of S.Store writer.old own.old) (stage_of S.Store writer.new own.new)) }
     ensures rows { OnOk result ((rows_of own.new ≡ rows_of own.old) × (writer.new.waiting ≡ writer.old.waiting)) }
     ensures memory { own.new.whole.items ≡ remove own.old.whole.items place }

@@ -23,7 +23,8 @@ returns-clause-led g c f hub_file clean =
     (c.in_ok-write_records.ensures.led later) in
     let fits = subst (AllByRecursion FitsHub) hub_file.records_are c.in_ok-write_records.ensures.fit in
     ok_then c.add_row.result _ _ (λ row.
-    add_leads before placed f place.key place.written after summary hub_file.summary_is hub_file.headers fits hand finish
+    add_leads before placed f place.key place.written after summary hub_file.summary_is hub_file.headers fits hand
+    finish
     (subst (λ x. AddsRow place.key summary f (record { memory = x; shows = mid2 }) after) same row))
     (c.add_row.ensures.added f hub_file clean)
 

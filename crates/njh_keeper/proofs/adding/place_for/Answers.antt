@@ -31,7 +31,8 @@ returns-in_ok-take_key-in-None-clause-led g c f number records clean =
     let before = stage_of g.S.Store c.args.writer.now c.args.own.now in
     let after = stage_of g.S.Store c.take_key.new.self c.take_partial.new.self in
     let same = (c.take_partial.ensures.none c.in-None.is).0 in
-    key_leads before after f c.in_ok-take_key-in-None.field-0 0 c.take_key.new.self.free_keys.items c.take_key.new.self.next_key
+    key_leads before after f c.in_ok-take_key-in-None.field-0 0 c.take_key.new.self.free_keys.items
+    c.take_key.new.self.next_key
     c.in_ok-take_key-in-None.ensures.taken refl
     (λ j. record {
       numbers = ap numbers_of c.take_key.ensures.others j;

@@ -27,8 +27,8 @@ returns-clause-dropped g c clean =
       | inr early ↦ on_any c.settle.result _ (λ s at. subst (λ (x : SpoolWriter g.row.S.Denot).
           Drops (without_records key 0 (2 ^ 23)) waited x.waiting s (shown g.S.Store x.store))
           (sym (c.settle.ensures.waits early).1)
-          (drops_waiting key s old mid c.in_ok-dropped.dropped waited waiting made counted at c.with_dropped-self.ensures
-          (not_due c.args.self.now.is_changed waiting early)))
+          (drops_waiting key s old mid c.in_ok-dropped.dropped waited waiting made counted at
+          c.with_dropped-self.ensures (not_due c.args.self.now.is_changed waiting early)))
     ]
 
 pub returns-clause-crash : goal.returns-clause-crash
