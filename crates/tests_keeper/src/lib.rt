@@ -9,6 +9,8 @@ mod change_tests;
 #[cfg(test)]
 mod networks;
 #[cfg(test)]
+mod number_tests;
+#[cfg(test)]
 mod numbered_lines;
 #[cfg(test)]
 mod opening_tests;

@@ -35,8 +35,14 @@ const WITHOUT_NICE: &str = "# NICE has no route\n";
 /// these whole files of the customer are kept. Then and before the program is killed all that is
 /// kept is what the hub has.
 pub fn play(rt: &HostRuntime, name: &str, words: &str) -> Result<(), Fail> {
+    drop(SpoolFiles::of(rt, name)?);
+    play_on(rt, name, words)
+}
+
+/// Plays lines of words with the spool file that the test of this name left.
+pub fn play_on(rt: &HostRuntime, name: &str, words: &str) -> Result<(), Fail> {
     let alloc = rt.alloc();
-    let mut files = SpoolFiles::of(rt, name)?;
+    let mut files = SpoolFiles::left_by(rt, name)?;
     let mut script = Vec::new(alloc);
     encode_script(alloc, &mut words.as_bytes(), &NumberedLines, &mut script)?;
     for run in str::from_utf8(&script)?.split(KILL) {
