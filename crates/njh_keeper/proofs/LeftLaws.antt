@@ -1,7 +1,7 @@
 -- What a spool file that has a hub's whole files leaves of them.
 use Rattle.njh_keeper.proofs.Words
 use Words.{◌≡◌, ℕ, List, [], ◌∷◌, length, get_or, drop, map, Option, Some, refl, sym, ap, subst, ◌∙◌, arith}
-use Words.{All-from_recursion, AllZip, filter_map, Kind, In, Out, File, SpoolContents, Whole, contents, records_of}
+use Words.{All-from_recursion, AllZip, filter_map, Kind, In, Out, File, SpoolContents, Whole, contents_in, records_of}
 use Words.{WholeFile, kept_file, FitsHub, ReadsAs, own_rows, AllBeside, none_beside, one_beside, IsKept, KeptWhole}
 use Words.{Mirrored, OwnFiles, left_in, file_in, kind_of_word, kind_word, own_files}
 use Rattle.njh_keeper.proofs.{OwnFileLaws.own_files_read_back, RecordLaws.file_reads_back}
@@ -14,7 +14,7 @@ word_back Out = refl
 reads_as : (s : SpoolContents) (k : KeptWhole) (e : ℕ × File) (f : WholeFile) → IsKept s k e f
     → ReadsAs s e (kept_file f)
 reads_as s k e f one =
-    subst (λ n. file_in e.1 (map contents (records_of n s)) ≡ Some (kept_file f)) (sym one.row.key)
+    subst (λ n. file_in e.1 (contents_in (records_of n s)) ≡ Some (kept_file f)) (sym one.row.key)
     (file_reads_back k.key f.records s one.stored e.1 (sym one.row.count)
     (All-from_recursion FitsHub f.records one.fits) f.kind (ap kind_of_word one.row.kind ∙ word_back f.kind)
     ∙ (λ i. Some (record { kind = f.kind; held = one.row.held i; records = f.records })))

@@ -12,6 +12,8 @@ pub mod WriterLaws
 pub mod OpeningNumbers
 pub mod NumberedLaws
 pub mod RowLaws
+pub mod RowRecords
+pub mod PackedRows
 pub mod RecordLaws
 pub mod OneSpool
 pub mod OwnFileLaws
@@ -35,6 +37,7 @@ pub mod CallLaws
 pub mod CustomerLaws
 pub mod ReadBackLaws
 pub mod LeadingLaws
+pub mod GatheringLaws
 pub mod ReachLaws
 pub mod NextNodeLaws
 pub mod FollowingLaws

@@ -3,7 +3,7 @@ use Rattle.njh_keeper.proofs.Words
 use Words.{◌≡◌, ℕ, zero, suc, ◌+◌, ◌-◌, ◌^◌, ◌<◌, ◌≤◌, ◌==◌, inl, inr, Bool, true, false, cond, List, [], ◌∷◌, ◌++◌}
 use Words.{length, map, get_or, set, take, Option, Some, None, min, refl, sym, ap, subst, ◌∙◌, arith, cases_lt}
 use Words.{get_or-take, get_or_default, length-take-le, take_more, All-from_recursion, AllByRecursion, In}
-use Words.{Stored, HasHeaders, SpoolContents, records_of, contents, CustomerSpool, WholeFile, max_arrived}
+use Words.{Stored, HasHeaders, SpoolContents, records_of, contents_in, CustomerSpool, WholeFile, max_arrived}
 use Words.{partial_numbered, Ready, records_in, HaveHeaders, outgoing, Survive, leaves, none, FileSummaryView}
 use Words.{file_summary, Part, part, AreFronts, GoesTo, GoOnIn, IsAt, IsFrontOf, IsReached, IsStillAt, LeadsFiles}
 use Words.{HasFiles, Memory, Remain, Stage, KeptPartial, one_if, AreNumbered, IsWalkedTo}
@@ -63,7 +63,7 @@ fronts_still s t files p fronts same =
       before = x.before;
       long = x.long;
       within = x.within;
-      stored = (λ i. map contents (same i)) ∙ x.stored;
+      stored = (λ i. contents_in (same i)) ∙ x.stored;
       alike = x.alike;
     }) files fronts
 

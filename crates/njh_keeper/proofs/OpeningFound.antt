@@ -2,7 +2,7 @@
 -- its number.
 use Rattle.njh_keeper.proofs.Words
 use Words.{◌≡◌, ℕ, ◌<◌, List, [], ◌∷◌, length, get_or, drop, map, Option, Some, sym, ap, subst, ◌∙◌, arith, get_or-map}
-use Words.{length-map, AllZip, File, SpoolContents, Whole, contents, kept, records_of, whole_in, CustomerEntry}
+use Words.{length-map, AllZip, File, SpoolContents, Whole, contents_in, kept, records_of, whole_in, CustomerEntry}
 use Words.{entry_unmarked, NamedCustomer, TableFile, customer_at, no_customer, next_number-fresh, CustomerSpool}
 use Words.{WholeFile, with_arrived, KeptFile, records_in, Part, no_part, part, part_at_open, own_rows, AreFound}
 use Words.{IsReadFor, files_at, name_at, AllAreBack, AreBack, file_in, hub_opened, own_files, part_opened, OpenedFile}
@@ -17,7 +17,7 @@ use Rattle.njh_keeper.proofs.WalkLaws.{are_numbered}
 
 -- a row that is read as a file is read as the hub's
 read_for : (s : SpoolContents) (e : ℕ × File) (f : KeptFile) (g : WholeFile)
-    → file_in e.1 (map contents (records_of e.1.key s)) ≡ Some f → g.kind ≡ f.kind → g.records ≡ f.records
+    → file_in e.1 (contents_in (records_of e.1.key s)) ≡ Some f → g.kind ≡ f.kind → g.records ≡ f.records
     → IsReadFor s e g
 read_for s e f g is kind records =
     let read = is_read_as s e.1 f is in
@@ -32,7 +32,7 @@ read_from s entry [] (g ∷ gs) (f ∷ fs) all opened = absurd (let long = ap le
 read_from s entry (e ∷ es) gs [] all opened = absurd (let long = ap length all in omega (arith, long))
 read_from s entry (e ∷ es) [] (f ∷ fs) all opened = absurd (let long = ap length opened in omega (arith, long))
 read_from s entry (e ∷ es) (g ∷ gs) (f ∷ fs) all opened =
-    let first : file_in e.1 (map contents (records_of e.1.key s)) ≡ Some f =
+    let first : file_in e.1 (contents_in (records_of e.1.key s)) ≡ Some f =
     ap (λ (os : List (Option KeptFile)). get_or os 0 (Some f)) all in
     let here : opened_of g ≡ as_opened entry f = ap (λ (os : List OpenedFile). get_or os 0 (opened_of g)) opened in (
       read_for s e f g first (ap (λ (o : OpenedFile). o.kind) here) (ap (λ (o : OpenedFile). o.records) here),

@@ -1,7 +1,7 @@
 -- The rows of a customer on a spool file beside the files that a hub has of them.
 use Rattle.njh_keeper.proofs.Words
 use Words.{◌≡◌, ℕ, ◌+◌, ◌<◌, ◌==◌, true, List, [], ◌∷◌, ◌++◌, length, get_or, set, map, refl, sym, ap, subst}
-use Words.{append_assoc, append-nil, ◌∙◌, arith, AllZip, File, SpoolContents, contents, records_of, with_changed}
+use Words.{append_assoc, append-nil, ◌∙◌, arith, AllZip, File, SpoolContents, contents_in, records_of, with_changed}
 use Words.{CustomerSpool, WholeFile, KeptFile, is_held, HasRecords, IsOrdered, WritesRowsOf, own_rows, IsRead}
 use Words.{IsReadFor, Remembering, keyed_rows, owned_of, AllBeside, none_beside, IsKept, IsRowOf, KeptWhole, OwnFiles}
 use Words.{Remembers, keyed, one_if, file_in, is_own}
@@ -41,7 +41,7 @@ module _ (s t : SpoolContents) (same : t.records ≡ s.records) where
       (all_of (λ (k : KeptWhole). records_of k.key t ≡ records_of k.key s) (λ k. records_same k.key) ks) all
 
   read_same : (e : ℕ × File) (g : WholeFile) → IsReadFor s e g → IsReadFor t e g
-  read_same e g is = ap (λ rs. file_in e.1 (map contents rs)) (records_same e.1.key) ∙ is
+  read_same e g is = ap (λ rs. file_in e.1 (contents_in rs)) (records_same e.1.key) ∙ is
 
   pub all_read_same : (es : List (ℕ × File)) (gs : List WholeFile) → AllZip (IsReadFor s) es gs
       → AllZip (IsReadFor t) es gs

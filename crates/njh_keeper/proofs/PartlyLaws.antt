@@ -1,7 +1,7 @@
 -- What is remembered of files that aren't whole, and what stands of them on a spool file, call by call.
 use Rattle.njh_keeper.proofs.Words
 use Words.{◌≡◌, ◌≢◌, ℕ, zero, suc, ◌+◌, ◌^◌, ◌<◌, ◌≤◌, Bool, false, cond, List, [], ◌∷◌, ◌++◌, length, get_or, set}
-use Words.{remove, map, take, refl, sym, ap, subst, ◌∙◌, arith, take_all, AllByRecursion, ⊤, SpoolContents, contents}
+use Words.{remove, map, take, refl, sym, ap, subst, ◌∙◌, arith, take_all, AllByRecursion, ⊤, SpoolContents, contents_in}
 use Words.{records_of, without_records, CustomerSpool, partial_records, HasRecords, IsOrdered, WritesUnder, GoesOn}
 use Words.{KeepsNew, KeepsOn, AreApart, IsPartlyKept, KeptPartial, Numbers, OwnFiles, Sweep, claim, keyed, uses}
 use Words.{with_key}
@@ -52,7 +52,7 @@ module _ {X : Type 0} (P Q : X → Type 0) where
 module _ (now : CustomerSpool) (s t : SpoolContents) where
   goes_on_still : (p : KeptPartial) → records_of p.key t ≡ records_of p.key s → GoesOn now s p → GoesOn now t p
   goes_on_still p same goes more = let one =
-      goes more in record { written = one.written; stored = ap (map contents) same ∙ one.stored }
+      goes more in record { written = one.written; stored = ap contents_in same ∙ one.stored }
 
   pub still_all : (ps : List KeptPartial) → AllByRecursion (λ p. records_of p.key t ≡ records_of p.key s) ps
       → AllByRecursion (GoesOn now s) ps → AllByRecursion (GoesOn now t) ps

@@ -4,11 +4,11 @@ use Words.{◌≡◌, ℕ, zero, suc, ◌+◌, ◌^◌, ◌<◌, ◌≤◌, ◌&
 use Words.{drop, slice_get, Option, Some, None, refl, sym, ap, subst, ◌∙◌, arith, take-append-drop, take-take}
 use Words.{AllByRecursion, State, Stored, Record, SpoolContents, with_record, without_records, Changes, CustomerSpool}
 use Words.{records_numbered, records_in, AreAlike, AreBegun, Writes, Leads, FitsHub, HasRecords, IsOrdered, WritesUnder}
-use Words.{records_midway, stored_of, SpoolWriter}
-use Rattle.{std.proofs.lemmas.List.drop-drop, njh_keeper.proofs.FinishLaws.{finish_adds, finish_ends, finish_passes}}
-use Rattle.njh_keeper.proofs.{FinishLaws.finish_rewrites, FrameLaws.{changes_record, writes_nothing, writes_record}}
+use Words.{records_midway, stored_of, SpoolWriter, append-nil, drop_all}
+use Rattle.{std.proofs.lemmas.List.drop-drop, njh_keeper.proofs.FinishLaws.{finish_ends, finish_passes}}
+use Rattle.njh_keeper.proofs.{FinishLaws.finish_rewrites, FrameLaws.{changes_record, writes_nothing}}
 use Rattle.njh_keeper.proofs.{FrameLaws.writes_then, LeadingLaws.{leads_by, leads_nothing, leads_then, leads_weaker}}
-use Rattle.njh_keeper.specs.code.{Alike.is_header, Writing.with_replaced}
+use Rattle.njh_keeper.specs.code.{Alike.is_header, Gathering.Continues, Writing.with_replaced}
 
 -- ---- the next record of those that are left
 
@@ -89,42 +89,43 @@ module _ (key : ℕ) (Given : List Stored → Type 0) (all : List Stored)
         leads_weaker so_far (λ s t reached before h has given. let one = reached before h has given in
         (one.0, subst (λ rs. HasRecords key rs t) (sym (same before given)) one.1))
 
-    module _ (r : Record) (low : at < 2 ^ 23) (mine : r.key ≡ key) (place : r.place ≡ at)
-        (is : stored_of r ≡ get_or all at (stored_of r)) where
-      lower : r.place < 2 ^ 23
-      lower = omega (arith, low, place)
+    -- a header is written anew
+    pub reach_rewrites : (r : Record) → at < 2 ^ 23 → r.key ≡ key → r.place ≡ at → stored_of r ≡ get_or all at (stored_of r)
+        → is_header r.srcb ≡ true → {new : State} → ((before : List Stored) → Given before → at < length before)
+        → Changes (with_replaced r) mid new → Leads (Reaches key Given all (at + 1)) old new
+    reach_rewrites r low mine place is header within changes =
+        leads_then so_far (leads_by changes) (λ s t u reached is_u before h has given.
+        let one = reached before h has given in
+        let all_front = front before given in
+        let as_key : with_replaced r t ≡ with_record r (without_records key at (at + 1) t) =
+        (λ i. with_record r (without_records (mine i) (place i) (place i + 1) t)) in
+        let under : WritesUnder key t (with_replaced r t) =
+        subst (λ k. WritesUnder key t (with_record r (without_records k r.place (r.place + 1) t))) (sym mine)
+        (changes_record key r t one.0.ordered (omega (arith, low, place)) mine) in
+        subst (λ v. WritesUnder key s v × HasRecords key (records_midway (at + 1) all before) v) (sym is_u) (
+          writes_then key s t (with_replaced r t) one.0 under,
+          subst (HasRecords key (records_midway (at + 1) all before)) (sym as_key)
+              (finish_rewrites before all all_front.0 all_front.1 at key r t one.0.ordered one.1 mine place is
+              (within before given) header),
+        ))
 
-      -- a record is added behind those that stood there
-      pub reach_adds : {new : State} → ((before : List Stored) → Given before → length before ≤ at) → at < length all
-          → Changes (with_record r) mid new → Leads (Reaches key Given all (at + 1)) old new
-      reach_adds behind within changes =
-          leads_then so_far (leads_by changes) (λ s t u reached is_u before h has given.
-          let one = reached before h has given in
-          let all_front = front before given in
-          subst (λ v. WritesUnder key s v × HasRecords key (records_midway (at + 1) all before) v) (sym is_u) (
-            writes_then key s t (with_record r t) one.0 (writes_record key r t one.0.ordered lower mine),
-            finish_adds before all all_front.0 all_front.1 at key r t one.0.ordered one.1 mine place is
-                (behind before given) within,
-          ))
-
-      -- a header is written anew
-      pub reach_rewrites : {new : State} → ((before : List Stored) → Given before → at < length before)
-          → Changes (with_replaced r) mid new → Leads (Reaches key Given all (at + 1)) old new
-      reach_rewrites within changes =
-          leads_then so_far (leads_by changes) (λ s t u reached is_u before h has given.
-          let one = reached before h has given in
-          let all_front = front before given in
-          let as_key : with_replaced r t ≡ with_record r (without_records key at (at + 1) t) =
-          (λ i. with_record r (without_records (mine i) (place i) (place i + 1) t)) in
-          let under : WritesUnder key t (with_replaced r t) =
-          subst (λ k. WritesUnder key t (with_record r (without_records k r.place (r.place + 1) t))) (sym mine)
-          (changes_record key r t one.0.ordered lower mine) in
-          subst (λ v. WritesUnder key s v × HasRecords key (records_midway (at + 1) all before) v) (sym is_u) (
-            writes_then key s t (with_replaced r t) one.0 under,
-            subst (HasRecords key (records_midway (at + 1) all before)) (sym as_key)
-                (finish_rewrites before all all_front.0 all_front.1 at key r t one.0.ordered one.1 mine place is
-                (within before given)),
-          ))
+    -- rows come behind those that stood there
+    pub reach_continues : (first next last : ℕ) {new : State} → Leads (Continues key all first next) mid new
+        → ((before : List Stored) → Given before
+        → (length before ≤ first) × (at ≡ first) × (first ≤ next) × (last ≡ next))
+        → Leads (Reaches key Given all last) old new
+    reach_continues first next last rows behind =
+        leads_then so_far rows (λ s t u reached more before h has given.
+        let one = reached before h has given in
+        let are = behind before given in
+        let none : (n : ℕ) → length before ≤ n → records_midway n all before ≡ take n all =
+        λ n past. ap (λ rs. take n all ++ rs) (drop_all n before past) ∙ append-nil (take n all) in
+        let two = more one.0.ordered
+        (subst (λ rs. HasRecords key rs t) (ap (λ n. records_midway n all before) are.1 ∙ none first are.0) one.1) in (
+          writes_then key s t u one.0 two.0,
+          subst (λ rs. HasRecords key rs u)
+              (sym (ap (λ n. records_midway n all before) are.3 ∙ none next (omega (arith, are.0, are.2)))) two.1,
+        ))
 
   -- none is left
   pub reach_ends : (at : ℕ) {old new : State} → length all ≤ at → Leads (Reaches key Given all at) old new

@@ -2,7 +2,7 @@
 use Rattle.njh_keeper.proofs.Words
 use Words.{◌≡◌, ℕ, ◌+◌, ◌==◌, nat_lt, nat_le, ◌&&◌, Bool, true, false, cond, List, [], ◌∷◌, length, map, Option, Some}
 use Words.{None, option_map, bytes_eq, refl, sym, ap, subst, ◌∙◌, arith, and_parts, nat_tests, length-map}
-use Words.{bytes_decides, AllByRecursion, Kind, In, Out, File, SpoolContents, contents, records_of, WholeFile, KeptFile}
+use Words.{bytes_decides, AllByRecursion, Kind, In, Out, File, SpoolContents, contents_in, records_of, WholeFile, KeptFile}
 use Words.{is_held, FitsHub, HasRecords, contents_from, IsKept, KeptWhole, Remembers, Contents, are_records_from}
 use Words.{are_records_of, as_stored, file_in, is_record_at, kind_of_word, kind_word}
 use Rattle.{std.proofs.Common.codes, njh_keeper.proofs.NumberedLaws.equal_to}
@@ -50,7 +50,7 @@ word_of_kind word kind is =
 
 module _ (spool : SpoolContents) (file : File) where
   abbrev cs : List Contents
-  cs = map contents (records_of file.key spool)
+  cs = contents_in (records_of file.key spool)
 
   abbrev as_file : Kind → KeptFile
   as_file kind = record { kind = kind; held = file.held; records = map as_stored cs }
@@ -79,7 +79,7 @@ module _ (spool : SpoolContents) (file : File) where
   at_records true f all is = at_kind (kind_of_word file.kind) f refl all is
   at_records false f all is = absurd (cc is)
 
-  pub is_read_as : (f : KeptFile) → file_in file (map contents (records_of file.key spool)) ≡ Some f
+  pub is_read_as : (f : KeptFile) → file_in file (contents_in (records_of file.key spool)) ≡ Some f
       → IsReadAs spool file f
   is_read_as f is = at_records (are_records_of file cs) f refl is
 

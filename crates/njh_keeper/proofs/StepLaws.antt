@@ -2,7 +2,7 @@
 use Rattle.njh_keeper.proofs.Words
 use Words.{◌≡◌, ℕ, ◌<◌, ◌+◌, List, [], ◌∷◌, ◌++◌, length, map, take, get_or, slice_set, Option, Some, None, sym, ap}
 use Words.{subst, ◌∙◌, map-append, take_more, map-map, State, StoredFile, StoredRecord, SpoolContents, Whole, Holds}
-use Words.{contents, contents_of, kept, records_of, whole_in, entry_of, Stays, Part, part, NoneFails, hub_fault}
+use Words.{contents_in, contents_of, kept, records_of, whole_in, entry_of, Stays, Part, part, NoneFails, hub_fault}
 use Words.{hub_with, hub_with_all, number_of, wholes, FileFault, Contents, file_fault, whole_fault, with_whole}
 use Rattle.{sqlite.specs.Tree.Trees, njh_spoolfile.{proofs.ReadingLaws.of_file, specs.Kept.records_between}}
 use Rattle.njh_keeper.{proofs.HubLaws.{more, more-fails}, specs.Opened.with_file}
@@ -20,9 +20,9 @@ stays_then a b c p q = record {
 -- ---- the records of a file are those between two numbers
 
 pub all_read : (spool : SpoolContents) (trees : Trees) (key : ℕ) (read : List StoredRecord) → Holds spool trees
-    → map contents_of read ≡ map contents (records_between key 0 8388608 spool)
-    → map contents_of read ≡ map contents (records_of key spool)
-all_read spool trees key read held is = is ∙ ap (map contents) (of_file key spool.records held.numbered)
+    → map contents_of read ≡ contents_in (records_between key 0 8388608 spool)
+    → map contents_of read ≡ contents_in (records_of key spool)
+all_read spool trees key read held is = is ∙ ap contents_in (of_file key spool.records held.numbered)
 
 -- ---- by the number of its customer
 

@@ -22,7 +22,7 @@ pub use Rattle.njh_header.{proofs.DestinationRecords.stays, specs.FileHeaders.de
 pub use Rattle.njh_header.specs.{Redirecting.{destination_node, records_to_node}, WholeFiles.HasHeaders}
 pub use Rattle.njh_spoolfile.proofs.{ReadingLaws.ok_then, Rows.{all_put, put_rises, without_rises}}
 pub use Rattle.njh_spoolfile.specs.{CommitState.{CommitState, Stands}, declared.kept.StoredFile.StoredFile}
-pub use Rattle.njh_spoolfile.specs.{declared.kept.StoredRecord.StoredRecord, Kept.{contents, contents_of, entry_of}}
+pub use Rattle.njh_spoolfile.specs.{declared.kept.StoredRecord.StoredRecord, Kept.{contents_in, contents_of, entry_of}}
 pub use Rattle.njh_spoolfile.specs.Kept.{File, file_of, Holds, kept, put, Record, records_of, Rise, SpoolContents}
 pub use Rattle.njh_spoolfile.specs.Kept.{Whole, whole_in, with_changed, with_file, with_record, without, without_file}
 pub use Rattle.njh_spoolfile.specs.{Kept.without_records, Origin.StandsAsFound, Shelf.shown, Steps.{Changes, Stays}}

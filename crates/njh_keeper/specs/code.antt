@@ -13,6 +13,7 @@ pub mod Memory
 pub mod Codes
 pub mod Following
 pub mod Counting
+pub mod Gathering
 pub mod Partly
 pub mod Knowing
 pub mod Opening

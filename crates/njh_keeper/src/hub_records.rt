@@ -12,6 +12,7 @@ ghost use Rattle.njh_keeper.specs.code.Leading.{Leads};
 ghost use Rattle.njh_keeper.specs.code.Mirrored.{FitsHub};
 ghost use Rattle.njh_keeper.specs.code.Nodes.{AreOne, named_node, named_nodes, with_first};
 
+use crate::next_row::NextRow;
 use crate::own_files::HubFile;
 use crate::writer::{PLACES, SpoolWriter, astray};
 use njh_ebcdic::Name;
@@ -19,7 +20,7 @@ use njh_header::{DataSetHeader, JobHeader, srcb};
 use njh_hub::Hub;
 use njh_record::Record;
 use njh_spool::RecordReader;
-use njh_spoolfile::RecordRow;
+use njh_spoolfile::{RecordRow, stands_alone};
 use sqlite::{Alter, Error};
 
 /// Blanks, if a field has nothing.
@@ -50,21 +51,23 @@ pub(crate) fn write_records<S: Alter + Drop>(
     let Some(mut records) = hub.read_file(file.customer, file.number) else {
         return Err(astray());
     };
+    let mut row = NextRow::new(key, written);
     let mut record = Record::new();
     for place in 0..PLACES {
         let Some(srcb) = records.next(&mut record) else {
-            return Ok(());
+            return row.write(writer);
         };
-        let kept = RecordRow {
-            key,
-            place,
-            srcb,
-            bytes: &record,
-        };
+        let bytes: &[u8] = &record;
         if place >= written {
-            writer.add_record(&kept)?;
+            row.add(writer, srcb, bytes)?;
         } else if is_old_header(is_old, srcb) {
-            writer.replace_record(&kept)?;
+            let srcb = u16::from(srcb);
+            writer.replace_record(&RecordRow {
+                key,
+                place,
+                srcb,
+                bytes,
+            })?;
         }
     }
     Err(astray())
@@ -75,7 +78,7 @@ pub(crate) fn write_records<S: Alter + Drop>(
 fn is_old_header(is_old: bool, srcb: u8) -> bool
     ensures { result ≡ (is_old && is_header srcb) }
 {
-    is_old && (srcb == srcb::JOB_HEADER || srcb == srcb::DATA_SET_HEADER)
+    is_old && stands_alone(srcb)
 }
 
 /// Whether a file's data set headers name more than one node.

@@ -10,6 +10,7 @@ mod keeper;
 mod kinds;
 mod laws;
 mod names;
+mod next_row;
 mod numbers;
 mod opening;
 mod own_files;

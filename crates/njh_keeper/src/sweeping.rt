@@ -27,7 +27,7 @@ pub(crate) fn sweep_later(own: &mut OwnFiles, key: u32, end: u32) -> Result<(), 
 }
 
 /// Drops records of a customer's files that have left: as many as its step wrote, and 512 at least,
-/// or all. So what stands of them doesn't grow, however many files come and leave.
+/// or all.
 pub(crate) fn sweep<S: Alter + Drop>(
     writer: &mut SpoolWriter<S>,
     own: &mut OwnFiles,

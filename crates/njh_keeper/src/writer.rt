@@ -109,8 +109,8 @@ impl<S: Alter + Drop> SpoolWriter<S> {
         Ok(self.next_id - 1)
     }
 
-    /// Adds a record of a file.
-    pub(crate) fn add_record(&mut self, kept: &RecordRow<'_>) -> Result<(), Error>
+    /// Adds a row of so many records of a file.
+    pub(crate) fn add_records(&mut self, kept: &RecordRow<'_>, count: u32) -> Result<(), Error>
         requires { kept.now.place < 2 ^ 23 }
         ensures changed { HasCleanDisk (shown S.Store self.new.store)
             → OnOk result (Changes (with_record (record_of kept.now)) (shown S.Store self.old.store)
@@ -118,14 +118,14 @@ impl<S: Alter + Drop> SpoolWriter<S> {
         ensures crash { Survives (shown S.Store self.old.store) (shown S.Store self.new.store) (λ _. ⊥) }
         ensures others { self.new ≡ record self.old {
           store = self.new.store;
-          waiting = min (self.old.waiting + 1) (2 ^ 32 - 1);
+          waiting = min (self.old.waiting + count) (2 ^ 32 - 1);
         } }
     {
-        self.waiting = self.waiting.saturating_add(1);
+        self.waiting = self.waiting.saturating_add(count);
         self.store.add_record(kept)
     }
 
-    /// Puts a record in the place of one that was kept.
+    /// Puts a record that has a row of its own in the place of the one that was kept.
     pub(crate) fn replace_record(&mut self, kept: &RecordRow<'_>) -> Result<(), Error>
         requires { kept.now.place < 2 ^ 23 }
         ensures changed { HasCleanDisk (shown S.Store self.new.store)
@@ -139,7 +139,7 @@ impl<S: Alter + Drop> SpoolWriter<S> {
     {
         self.store
             .drop_records(kept.key, kept.place, kept.place + 1)?;
-        self.add_record(kept)
+        self.add_records(kept, 1)
     }
 
     /// Adds a whole file, whose records are kept.
@@ -177,7 +177,7 @@ impl<S: Alter + Drop> SpoolWriter<S> {
         self.store.drop_file(id)
     }
 
-    /// Drops the records that stand under this number at places from `first` on and before `end`.
+    /// Drops the rows that stand under this number at places from `first` on and before `end`.
     pub(crate) fn drop_records(&mut self, key: u32, first: u32, end: u32) -> Result<(), Error>
         requires places { (first ≤ end) × (end ≤ 2 ^ 23) }
         ensures changed { HasCleanDisk (shown S.Store self.new.store)

@@ -4,7 +4,7 @@ use Rattle.std.specs.Prelude.{flat_map, map, Option}
 use Rattle.std.specs.Io.KnownBytes.{Appends}
 use Rattle.njh_ebcdic.specs.CodePage.{text_words}
 use Rattle.njh_io.specs.Written.{AppendsBeginning}
-use Rattle.njh_spoolfile.specs.Kept.{SpoolContents, contents, records_of}
+use Rattle.njh_spoolfile.specs.Kept.{SpoolContents, contents_in, records_of}
 use Rattle.njh_listing.specs.Asked.{asked_of, key_in}
 
 -- of a record its place, its SRCB and its bytes
@@ -40,7 +40,7 @@ abbrev pub IsTextOf : (customer : Option (List ℕ)) → (number : Option ℕ) �
     → (text : List ℕ) → Type 0
 IsTextOf customer number name raw spool text = (key : ℕ)
     × (map key_in (asked_of customer number name spool.files) ≡ key ∷ [])
-    × (text ≡ export_text raw (map contents (records_of key spool)))
+    × (text ≡ export_text raw (contents_in (records_of key spool)))
 
 -- It came after what had been written.
 abbrev pub IsExportedOf : (customer : Option (List ℕ)) → (number : Option ℕ) → (name : List ℕ) → (raw : Bool)

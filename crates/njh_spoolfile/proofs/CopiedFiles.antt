@@ -8,8 +8,8 @@ use Rattle.std.proofs.lemmas.List.Elements.{filter-append}
 use Rattle.sqlite.specs.State.{HasCleanDisk, State, Survives}
 use Rattle.sqlite.proofs.StateLemmas.{survives_weaker}
 use Rattle.njh_spoolfile.specs.Copies.{AreBelow, IsCopied, asked, is_asked, numbered, under}
-use Rattle.njh_spoolfile.specs.Kept.{File, SpoolContents, Whole, Holds, contents, kept, records_of, whole_in, with_file}
-use Rattle.njh_spoolfile.specs.Kept.{entry_of, file_of}
+use Rattle.njh_spoolfile.specs.Kept.{File, SpoolContents, Whole, Holds, as_stands, kept, records_of}
+use Rattle.njh_spoolfile.specs.Kept.{entry_of, file_of, whole_in, with_file}
 use Rattle.njh_spoolfile.specs.Steps.{Stays}
 use Rattle.njh_spoolfile.specs.code.CopySteps.{Adds, AddsAsked, Fills, IsBehind, LeadsTo, asked_of}
 use Rattle.njh_spoolfile.specs.declared.kept.StoredFile.{StoredFile}
@@ -17,6 +17,7 @@ use Rattle.njh_spoolfile.specs.declared.copying.Numbers.{Numbers}
 use Rattle.sqlite_keyed.proofs.ListLemmas.{filter-map}
 use Rattle.njh_spoolfile.proofs.ListLaws.{comes_last, last, map_alike, whole_as}
 use Rattle.njh_spoolfile.proofs.CopyLaws.{clean_before, survives_both, holds_still}
+use Rattle.njh_spoolfile.proofs.PackedLaws.{same_contents}
 
 ids_below : (id key : ℕ) (spool : SpoolContents) (es : List (ℕ × File)) → AreBelow id key (map (whole_in spool) es)
     → AllByRecursion (λ e. e.0 < id) es
@@ -32,7 +33,7 @@ abbrev whole_with : ℕ → File → List (ℕ × ℕ × List ℕ) → Whole
 whole_with id file records = record { id = id; file = file; records = records }
 
 pub adds_one : (id key : ℕ) (from : SpoolContents) (e : ℕ × File) (s t : SpoolContents) (file : File)
-    → file ≡ record e.1 { key = key } → Fills key (map contents (records_of e.1.key from)) s t
+    → file ≡ record e.1 { key = key } → Fills key (map as_stands (records_of e.1.key from)) s t
     → Adds id key from (e ∷ []) s (with_file id file t)
 adds_one id key from e s t file is fills below =
     let ids : AllByRecursion (λ (x : ℕ × File). x.0 < id) t.files =
@@ -43,7 +44,8 @@ adds_one id key from e s t file is fills below =
     (keys_apart id key s s.files below) in
     let new : whole_in t (id, file) ≡ under id key (whole_in from e) =
     ap (λ (f : File). whole_in t (id, f)) is
-    ∙ ap (λ (rs : List (ℕ × ℕ × List ℕ)). whole_with id (record e.1 { key = key }) rs) fills.records in
+    ∙ ap (λ (rs : List (ℕ × ℕ × List ℕ)). whole_with id (record e.1 { key = key }) rs)
+    (same_contents (records_of key t) (records_of e.1.key from) fills.records) in
     comes_last id file t ids ∙ (λ i. same i ++ new i ∷ [])
 
 -- ---- several files, one after the other

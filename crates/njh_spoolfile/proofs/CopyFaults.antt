@@ -1,11 +1,13 @@
 -- Why whole files are not copied.
-use Rattle.std.proofs.Common.{◌≡◌, ℕ, zero, suc, ◌+◌, ◌-◌, ◌^◌, ◌==◌, ◌<◌, ◌≤◌, Bool, true, false, not, cond, List, []}
-use Rattle.std.proofs.Common.{◌∷◌, map, filter, length, take, get_or, sym, subst, arith, Option, ◌⊎◌, inl, inr, Result}
-use Rattle.std.proofs.Common.{Ok, Err, IfErr}
+use Rattle.std.proofs.Common.{◌≡◌, ℕ, zero, suc, ◌+◌, ◌^◌, ◌==◌, ◌<◌, ◌≤◌, Bool, true, false, cond, List, []}
+use Rattle.std.proofs.Common.{◌∷◌, ◌++◌, map, filter, length, take, get_or, refl, sym, subst, arith}
+use Rattle.std.proofs.Common.{Option, ◌⊎◌, inl, inr, Result, Ok, Err, IfErr}
 use Rattle.std.specs.List.{AllByRecursion}
+use Rattle.std.proofs.lemmas.Bool.Decides.{nat_tests}
 use Rattle.njh_spoolfile.specs.Copies.{AreBelow, FitsFault, HaveControlBytes, asked, is_asked}
-use Rattle.njh_spoolfile.specs.Kept.{File, Record, SpoolContents, IsNumbered, contents, kept, whole_in, entry_of}
-use Rattle.njh_spoolfile.specs.Kept.{file_of}
+use Rattle.njh_spoolfile.specs.Kept.{File, Record, SpoolContents, IsNumbered, as_stands, contents, contents_in, kept}
+use Rattle.njh_spoolfile.specs.Kept.{entry_of, file_of, whole_in}
+use Rattle.njh_spoolfile.specs.Packed.{placed_from, several, unpacked}
 use Rattle.njh_spoolfile.specs.code.CopySteps.{FitsFiles, FitsStep, IsBehind, LacksRoom, asked_of}
 use Rattle.njh_spoolfile.specs.declared.kept.StoredFile.{StoredFile}
 use Rattle.njh_spoolfile.specs.declared.copying.CopyFault.{CopyFault}
@@ -55,20 +57,42 @@ lacks_any id key count (inl h) low = omega (arith, h, low.0)
 lacks_any id key count (inr h) low = omega (arith, h, low.1)
 
 pub numbered_places : (key : ℕ) (es : List (ℕ × Record)) → AllByRecursion IsNumbered es
-    → AllByRecursion (λ r. r.1 < 256) (map contents (filter (λ e. e.1.key == key) es))
-    → AllByRecursion (λ r. (r.0 < 2 ^ 23) × (r.1 < 256)) (map contents (filter (λ e. e.1.key == key) es))
+    → AllByRecursion (λ r. r.1 ≤ 256) (map as_stands (filter (λ e. e.1.key == key) es))
+    → AllByRecursion (λ r. (r.0 < 2 ^ 23) × (r.1 ≤ 256)) (map as_stands (filter (λ e. e.1.key == key) es))
 numbered_places key [] numbers all = tt
 numbered_places key (e ∷ es) numbers all =
     split (e.1.key == key) all (numbered_places key es numbers.1)
   where
-    split : (b : Bool) → AllByRecursion (λ r. r.1 < 256)
-        (map contents (cond b (e ∷ filter (λ x. x.1.key == key) es) (filter (λ x. x.1.key == key) es)))
-        → (AllByRecursion (λ r. r.1 < 256) (map contents (filter (λ x. x.1.key == key) es))
-        → AllByRecursion (λ r. (r.0 < 2 ^ 23) × (r.1 < 256)) (map contents (filter (λ x. x.1.key == key) es)))
-        → AllByRecursion (λ r. (r.0 < 2 ^ 23) × (r.1 < 256))
-        (map contents (cond b (e ∷ filter (λ x. x.1.key == key) es) (filter (λ x. x.1.key == key) es)))
+    split : (b : Bool) → AllByRecursion (λ r. r.1 ≤ 256)
+        (map as_stands (cond b (e ∷ filter (λ x. x.1.key == key) es) (filter (λ x. x.1.key == key) es)))
+        → (AllByRecursion (λ r. r.1 ≤ 256) (map as_stands (filter (λ x. x.1.key == key) es))
+        → AllByRecursion (λ r. (r.0 < 2 ^ 23) × (r.1 ≤ 256)) (map as_stands (filter (λ x. x.1.key == key) es)))
+        → AllByRecursion (λ r. (r.0 < 2 ^ 23) × (r.1 ≤ 256))
+        (map as_stands (cond b (e ∷ filter (λ x. x.1.key == key) es) (filter (λ x. x.1.key == key) es)))
     split true here rest = ((numbers.0.1, here.0), rest here.1)
     split false here rest = rest here
+
+front_has : {X : Type 0} (P : X → Type 0) (xs ys : List X) → AllByRecursion P (xs ++ ys) → AllByRecursion P xs
+front_has P [] ys all = tt
+front_has P (x ∷ xs) ys all = (all.0, front_has P xs ys all.1)
+
+rest_has : {X : Type 0} (P : X → Type 0) (xs ys : List X) → AllByRecursion P (xs ++ ys) → AllByRecursion P ys
+rest_has P [] ys all = all
+rest_has P (x ∷ xs) ys all = rest_has P xs ys all.1
+
+-- If each record has a control byte, no row has a greater SRCB than one of several.
+pub rows_have : (es : List (ℕ × Record)) → AllByRecursion (λ r. r.1 < 256) (contents_in es)
+    → AllByRecursion (λ r. r.1 ≤ 256) (map as_stands es)
+rows_have [] all = tt
+rows_have (e ∷ es) all = (
+  split (e.1.srcb == several) refl (front_has (λ r. r.1 < 256) (contents e) (contents_in es) all),
+  rows_have es (rest_has (λ r. r.1 < 256) (contents e) (contents_in es) all),
+)
+  where
+    split : (b : Bool) → (e.1.srcb == several) ≡ b → AllByRecursion (λ r. r.1 < 256)
+        (placed_from e.1.place (cond b (unpacked e.1.bytes) ((e.1.srcb, e.1.bytes) ∷ []))) → e.1.srcb ≤ 256
+    split true is have = let here : e.1.srcb ≡ 256 = grind (arith, nat_tests, is) in omega (arith, here)
+    split false is have = omega (arith, have.0)
 
 module _ (customer : Option (List ℕ)) where
   abbrev those : List StoredFile → List (ℕ × File)

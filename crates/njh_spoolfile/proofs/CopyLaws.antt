@@ -1,5 +1,5 @@
 -- Calls on spool files one after the other, and records that come under a key.
-use Rattle.std.proofs.Common.{◌≡◌, ℕ, zero, suc, ◌+◌, ◌-◌, ◌^◌, ◌==◌, ◌<◌, nat_le, nat_lt, ◌&&◌, Bool, true, false, not}
+use Rattle.std.proofs.Common.{◌≡◌, ℕ, zero, suc, ◌+◌, ◌^◌, ◌==◌, ◌<◌, nat_le, nat_lt, ◌&&◌, Bool, true, false, not}
 use Rattle.std.proofs.Common.{cond, List, [], ◌∷◌, ◌++◌, map, filter, length, take, get_or, refl, sym, ap, subst, ◌∙◌}
 use Rattle.std.proofs.Common.{arith, inl}
 use Rattle.std.specs.List.{AllByRecursion}
@@ -9,8 +9,7 @@ use Rattle.sqlite.specs.Effect.{Database}
 use Rattle.sqlite.specs.State.{HasCleanDisk, State, Survives}
 use Rattle.sqlite.proofs.StateLemmas.{survives_then}
 use Rattle.sqlite_trees.specs.Tree.{Trees}
-use Rattle.njh_spoolfile.specs.Copies.{under}
-use Rattle.njh_spoolfile.specs.Kept.{Record, SpoolContents, Holds, Rise, IsNumbered, contents, record_number}
+use Rattle.njh_spoolfile.specs.Kept.{Record, SpoolContents, Holds, Rise, IsNumbered, as_stands, record_number}
 use Rattle.njh_spoolfile.specs.Kept.{records_of, with_record, without, without_records}
 use Rattle.njh_spoolfile.specs.Steps.{Changes, Stays}
 use Rattle.njh_spoolfile.specs.code.CopySteps.{Fills, FillsEmpty, LeadsTo, Rising, record_under}
@@ -92,14 +91,14 @@ front_lower (y ∷ ys) (suc at) x within here up =
     (all_at y.0 ys at x (omega (arith, within)) here up.0, front_lower ys at x (omega (arith, within)) here up.1)
 
 lower_places : (key p : ℕ) (es : List (ℕ × Record))
-    → AllByRecursion (λ y. y.0 < p) (map contents (filter (λ e. e.1.key == key) es))
+    → AllByRecursion (λ y. y.0 < p) (map as_stands (filter (λ e. e.1.key == key) es))
     → AllByRecursion (λ e. e.1.key ≡ key → e.1.place < p) es
 lower_places key p [] low = tt
 lower_places key p (e ∷ es) low = split (e.1.key == key) refl low (lower_places key p es)
   where
     split : (b : Bool) → (e.1.key == key) ≡ b → AllByRecursion (λ y. y.0 < p)
-        (map contents (cond b (e ∷ filter (λ x. x.1.key == key) es) (filter (λ x. x.1.key == key) es)))
-        → (AllByRecursion (λ y. y.0 < p) (map contents (filter (λ x. x.1.key == key) es))
+        (map as_stands (cond b (e ∷ filter (λ x. x.1.key == key) es) (filter (λ x. x.1.key == key) es)))
+        → (AllByRecursion (λ y. y.0 < p) (map as_stands (filter (λ x. x.1.key == key) es))
         → AllByRecursion (λ x. x.1.key ≡ key → x.1.place < p) es)
         → AllByRecursion (λ x. x.1.key ≡ key → x.1.place < p) (e ∷ es)
     split true is here rest = ((λ same. here.0), rest here.1)
@@ -111,26 +110,26 @@ lower_places key p (e ∷ es) low = split (e.1.key == key) refl low (lower_place
 
 later_places : (key : ℕ) (e : ℕ × Record) (es : List (ℕ × Record)) → IsNumbered e → e.1.key ≡ key
     → AllByRecursion (λ x. e.0 < x.0) es → AllByRecursion IsNumbered es
-    → AllByRecursion (λ y. e.1.place < y.0) (map contents (filter (λ x. x.1.key == key) es))
+    → AllByRecursion (λ y. e.1.place < y.0) (map as_stands (filter (λ x. x.1.key == key) es))
 later_places key e [] h same up all = tt
 later_places key e (x ∷ es) h same up all = split (x.1.key == key) refl (later_places key e es h same up.1 all.1)
   where
     split : (b : Bool) → (x.1.key == key) ≡ b
-        → AllByRecursion (λ y. e.1.place < y.0) (map contents (filter (λ z. z.1.key == key) es))
+        → AllByRecursion (λ y. e.1.place < y.0) (map as_stands (filter (λ z. z.1.key == key) es))
         → AllByRecursion (λ y. e.1.place < y.0)
-        (map contents (cond b (x ∷ filter (λ z. z.1.key == key) es) (filter (λ z. z.1.key == key) es)))
+        (map as_stands (cond b (x ∷ filter (λ z. z.1.key == key) es) (filter (λ z. z.1.key == key) es)))
     split true is rest =
         let mine : x.1.key ≡ key = grind (arith, nat_tests, is) in
         (omega (arith, mine, same, h.0, all.0.0, up.0), rest)
     split false is rest = rest
 
 pub rising_records : (key : ℕ) (es : List (ℕ × Record)) → Rise es → AllByRecursion IsNumbered es
-    → Rising (map contents (filter (λ e. e.1.key == key) es))
+    → Rising (map as_stands (filter (λ e. e.1.key == key) es))
 rising_records key [] up all = tt
 rising_records key (e ∷ es) up all = split (e.1.key == key) refl (rising_records key es up.1 all.1)
   where
-    split : (b : Bool) → (e.1.key == key) ≡ b → Rising (map contents (filter (λ x. x.1.key == key) es))
-        → Rising (map contents (cond b (e ∷ filter (λ x. x.1.key == key) es) (filter (λ x. x.1.key == key) es)))
+    split : (b : Bool) → (e.1.key == key) ≡ b → Rising (map as_stands (filter (λ x. x.1.key == key) es))
+        → Rising (map as_stands (cond b (e ∷ filter (λ x. x.1.key == key) es) (filter (λ x. x.1.key == key) es)))
     split true is rest =
         let mine : e.1.key ≡ key = grind (arith, nat_tests, is) in
         (later_places key e es all.0 mine up.0 all.1, rest)
@@ -142,7 +141,7 @@ pub fills_nothing : (key : ℕ) (all : List (ℕ × ℕ × List ℕ)) (s : Spool
 fills_nothing key all s empty up = record {
   files = refl;
   others = λ k other. refl;
-  records = ap (map contents) empty;
+  records = ap (map as_stands) empty;
 }
 
 pub fills_more : (key at : ℕ) (all : List (ℕ × ℕ × List ℕ)) (x : ℕ × ℕ × List ℕ) → at < length all
@@ -158,8 +157,8 @@ fills_more key at all x within here low s t numbers rise so_far empty up =
     record {
       files = done.files;
       others = λ k other. skips k r low (λ h. other (sym h)) t.records numbers ∙ done.others k other;
-      records = ap (map contents) (last r low t.records numbers rise lower)
-          ∙ map-append contents (records_of key t) ((record_number key x.0, r) ∷ [])
+      records = ap (map as_stands) (last r low t.records numbers rise lower)
+          ∙ map-append as_stands (records_of key t) ((record_number key x.0, r) ∷ [])
           ∙ (λ i. done.records i ++ here i ∷ [])
           ∙ sym (take_more all at x within);
     }

@@ -7,6 +7,7 @@ pub mod ListLaws
 pub mod Loops
 pub mod Meaning
 pub mod NewTables
+pub mod PackedLaws
 pub mod OpeningLaws
 pub mod ReadingLaws
 pub mod Rows

@@ -11,7 +11,7 @@ use Rattle.std.proofs.lemmas.List.Elements.{filter-append}
 use Rattle.std.proofs.lemmas.Bool.Decides.{nat_tests}
 use Rattle.sqlite_keyed.proofs.ListLemmas.{filter-map, map-map, map_same}
 use Rattle.njh_spoolfile.specs.Kept.{File, Record, SpoolContents, Whole, Rise, IsNumbered, put, without, kept, whole_in}
-use Rattle.njh_spoolfile.specs.Kept.{contents, record_number, with_file, with_changed, with_record, without_file}
+use Rattle.njh_spoolfile.specs.Kept.{contents_in, record_number, with_file, with_changed, with_record, without_file}
 use Rattle.njh_spoolfile.specs.Kept.{without_records}
 use Rattle.njh_spoolfile.specs.Lists.{IsFree, has_file, kept_where}
 use Rattle.njh_spoolfile.proofs.Rows.{same, above}
@@ -67,10 +67,10 @@ module _ (P : ℕ × File → Type 0) (f g : ℕ × File → Whole) (alike : (e 
   map_alike (e ∷ es) all = (λ i. alike e all.0 i ∷ map_alike es all.1 i)
 
 pub whole_as : (id : ℕ) (file : File) (one two : List (ℕ × Record)) → one ≡ two
-    → ◌≡◌ {A = Whole} (record { id = id; file = file; records = map contents one })
-    (record { id = id; file = file; records = map contents two })
+    → ◌≡◌ {A = Whole} (record { id = id; file = file; records = contents_in one })
+    (record { id = id; file = file; records = contents_in two })
 whole_as id file one two same = ap (λ (rs : List (ℕ × Record)). record
-    { id = id; file = file; records = map contents rs }) same
+    { id = id; file = file; records = contents_in rs }) same
 
 pub added_in_part : (r : Record) (spool : SpoolContents) → AllByRecursion IsNumbered spool.records → r.place < 2 ^ 23
     → IsFree r.key spool → kept (with_record r spool) ≡ kept spool

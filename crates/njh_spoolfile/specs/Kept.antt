@@ -1,12 +1,13 @@
 -- What a spool file holds, as plain values, and the rows that stand for them.
 use Rattle.std.specs.Prelude.{◌≡◌, ℕ, ◌<◌, ◌+◌, ◌*◌, ◌^◌, ◌==◌, ℤ, pos, Bool, not, ◌&&◌, nat_le, nat_lt, if◌then◌else◌}
-use Rattle.std.specs.Prelude.{List, [], ◌∷◌, map, filter, string_bytes, length}
+use Rattle.std.specs.Prelude.{List, [], ◌∷◌, map, filter, flat_map, string_bytes, length}
 use Rattle.std.specs.List.{AllByRecursion}
 use Rattle.std.specs.Ordering.{nat_cmp, match_ordering}
 use Rattle.sqlite_value.specs.declared.value.Value.TheVariants.{Null, Int, Text, Blob}
 use Rattle.sqlite_value.specs.Order.{Row, column}
 use Rattle.sqlite_trees.specs.Tree.{Trees, IsAscending}
 use Rattle.sqlite_catalog.specs.Listing.{IsSound}
+use Rattle.njh_spoolfile.specs.Packed.{placed_from, unpacked_row}
 use Rattle.njh_spoolfile.specs.Tables.{spool_schema}
 use Rattle.njh_spoolfile.specs.declared.kept.FileRow.{FileRow}
 use Rattle.njh_spoolfile.specs.declared.kept.RecordRow.{RecordRow}
@@ -29,7 +30,7 @@ pub record File : Type 0 where
   pub blocks : ℕ
   pub came : ℕ
 
--- a record of the file of this key
+-- A row of records of the file of this key: one at this place, or several from it on.
 pub record Record : Type 0 where
   pub key : ℕ
   pub place : ℕ
@@ -167,15 +168,23 @@ entry_of f = (f.id, file_of f.file)
 abbrev pub contents_of : StoredRecord → ℕ × ℕ × List ℕ
 contents_of r = (r.place, r.srcb, r.bytes.items)
 
-abbrev pub contents : ℕ × Record → ℕ × ℕ × List ℕ
-contents e = (e.1.place, e.1.srcb, e.1.bytes)
+-- a row's first place, SRCB and bytes as they stand
+abbrev pub as_stands : ℕ × Record → ℕ × ℕ × List ℕ
+as_stands e = (e.1.place, e.1.srcb, e.1.bytes)
 
--- the records of a file at places from first on and before end
+-- the records of a row, of some rows one after the other
+abbrev pub contents : ℕ × Record → List (ℕ × ℕ × List ℕ)
+contents e = placed_from e.1.place (unpacked_row e.1.srcb e.1.bytes)
+
+abbrev pub contents_in : List (ℕ × Record) → List (ℕ × ℕ × List ℕ)
+contents_in = flat_map contents
+
+-- the rows of a file's records whose first has a place from first on and before end
 abbrev pub records_between : ℕ → ℕ → ℕ → SpoolContents → List (ℕ × Record)
 records_between key first end spool = filter
     (λ e. nat_le (record_number key first) e.0 && nat_lt e.0 (record_number key end)) spool.records
 
--- the records of the file of this key, in the order of their places
+-- the rows of the records of the file of this key, in the order of their places
 abbrev pub records_of : ℕ → SpoolContents → List (ℕ × Record)
 records_of key spool = filter (λ e. e.1.key == key) spool.records
 
@@ -186,7 +195,7 @@ pub record Whole : Type 0 where
   pub records : List (ℕ × ℕ × List ℕ)
 
 abbrev pub whole_in : SpoolContents → ℕ × File → Whole
-whole_in spool e = record { id = e.0; file = e.1; records = map contents (records_of e.1.key spool) }
+whole_in spool e = record { id = e.0; file = e.1; records = contents_in (records_of e.1.key spool) }
 
 -- what a spool has: its whole files in the order of their arrival, each with its records in their order
 abbrev pub kept : SpoolContents → List Whole

@@ -1,5 +1,6 @@
 pub mod Kept
 pub mod Lists
+pub mod Packed
 pub mod Origin
 pub mod Reopened
 pub mod Shelf

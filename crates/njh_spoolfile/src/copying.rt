@@ -4,7 +4,7 @@ ghost use Rattle.std.specs.Prelude.{◌≡◌, ◌⊎◌, ◌+◌, ◌<◌, ◌�
 ghost use Rattle.std.specs.Prelude.{IfErr, IfOk, IfSome, None, OnOk};
 ghost use Rattle.std.specs.List.{AllByRecursion, list_any};
 ghost use Rattle.sqlite.specs.State.{HasCleanDisk, Survives};
-ghost use Rattle.njh_spoolfile.specs.Kept.{SpoolContents, Holds, contents, contents_of, entry_of, file_of, kept};
+ghost use Rattle.njh_spoolfile.specs.Kept.{SpoolContents, Holds, as_stands, contents_of, entry_of, file_of, kept};
 ghost use Rattle.njh_spoolfile.specs.Kept.{records_of, whole_in, with_record};
 ghost use Rattle.njh_spoolfile.specs.Copies.{AreBelow, FitsFault, HaveControlBytes, IsCopied, IsCopiedInto, asked};
 ghost use Rattle.njh_spoolfile.specs.Copies.{is_asked};
@@ -14,6 +14,7 @@ ghost use Rattle.njh_spoolfile.specs.code.CopySteps.{Adds, AddsAsked, Fills, Fil
 ghost use Rattle.njh_spoolfile.specs.code.CopySteps.{LacksRoom, LeadsTo, asked_of, record_under};
 
 use crate::kept::{FileRow, GREATEST_ID, RecordRow, StoredFile, StoredRecord};
+use crate::packing::SEVERAL;
 use crate::store::Store;
 use sqlite::{Alter, Error};
 use std::alloc::Global;
@@ -152,21 +153,19 @@ fn first_numbers<T: Alter>(
     }
 }
 
-/// Adds a record as it was read under another key.
+/// Adds a row of records as it was read under another key.
 fn add_one<T: Alter>(into: &mut Store<T>, key: u32, stored: &StoredRecord) -> Result<(), CopyFault>
     ensures added { HasCleanDisk (shown T.Store into.new) → OnOk result (Changes
         (with_record (record_under key (contents_of stored.now))) (shown T.Store into.old) (shown T.Store into.new)) }
     ensures place { OnOk result (stored.now.place < 2 ^ 23) }
-    ensures fault { IfErr result (FitsStep ⊥ (stored.now.place < 2 ^ 23 → ¬ (stored.now.srcb < 256))) }
+    ensures fault { IfErr result (FitsStep ⊥ (stored.now.place < 2 ^ 23 → ¬ (stored.now.srcb ≤ 256))) }
     ensures crash { Survives (shown T.Store into.old) (shown T.Store into.new) (λ _. ⊥) }
 {
-    let Ok(srcb) = u8::try_from(stored.srcb) else {
-        return Err(CopyFault::Damaged);
-    };
-    if stored.place >= PLACES {
+    if stored.srcb > u32::from(SEVERAL) || stored.place >= PLACES {
         return Err(CopyFault::Damaged);
     }
     let place = stored.place;
+    let srcb = stored.srcb as u16;
     let bytes = stored.bytes.as_slice();
     let kept = RecordRow {
         key,
@@ -178,7 +177,7 @@ fn add_one<T: Alter>(into: &mut Store<T>, key: u32, stored: &StoredRecord) -> Re
     Ok(())
 }
 
-/// Adds records as they were read under another key, under which there are none.
+/// Adds rows of records as they were read under another key, under which there are none.
 fn add_records<T: Alter>(
     into: &mut Store<T>,
     key: u32,
@@ -187,7 +186,7 @@ fn add_records<T: Alter>(
     ensures added { HasCleanDisk (shown T.Store into.new) → OnOk result (LeadsTo
         (FillsEmpty key (map contents_of records.now) (map contents_of records.now)) (shown T.Store into.old)
         (shown T.Store into.new)) }
-    ensures fault { IfErr result (FitsStep ⊥ (¬ AllByRecursion (λ r. (r.0 < 2 ^ 23) × (r.1 < 256))
+    ensures fault { IfErr result (FitsStep ⊥ (¬ AllByRecursion (λ r. (r.0 < 2 ^ 23) × (r.1 ≤ 256))
         (map contents_of records.now))) }
     ensures crash { Survives (shown T.Store into.old) (shown T.Store into.new) (λ _. ⊥) }
 {
@@ -208,17 +207,17 @@ fn copy_records<S: Alter, T: Alter>(
 ) -> Result<(), CopyFault>
     ensures copied { HasCleanDisk (shown S.Store from.new) → HasCleanDisk (shown T.Store into.new)
         → OnOk result ((spool : SpoolContents) → Holds spool (shown S.Store from.old).now.trees
-        → LeadsTo (Fills new_key (map contents (records_of key spool))) (shown T.Store into.old)
+        → LeadsTo (Fills new_key (map as_stands (records_of key spool))) (shown T.Store into.old)
         (shown T.Store into.new)) }
     ensures same { HasCleanDisk (shown S.Store from.new) → OnOk result (Stays (shown S.Store from.old)
         (shown S.Store from.new)) }
     ensures fault { HasCleanDisk (shown S.Store from.new) → IfErr result (λ fault. (spool : SpoolContents)
         → Holds spool (shown S.Store from.old).now.trees
-        → FitsStep ⊥ (¬ AllByRecursion (λ r. r.1 < 256) (map contents (records_of key spool))) fault) }
+        → FitsStep ⊥ (¬ AllByRecursion (λ r. r.1 ≤ 256) (map as_stands (records_of key spool))) fault) }
     ensures crash_from { Survives (shown S.Store from.old) (shown S.Store from.new) (λ _. ⊥) }
     ensures crash { Survives (shown T.Store into.old) (shown T.Store into.new) (λ _. ⊥) }
 {
-    let records = from.records(alloc, key, 0, PLACES)?;
+    let records = from.rows(alloc, key, 0, PLACES)?;
     into.drop_records(new_key, 0, PLACES)?;
     add_records(into, new_key, records.as_slice())
 }

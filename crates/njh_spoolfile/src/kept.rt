@@ -42,16 +42,16 @@ pub struct FileRow {
     pub came: u32,
 }
 
-/// A record of the file of this key, at its place from 0 on.
+/// A row of records of the file of this key: one, or several in a `Pack`.
 #[derive(Debug, Drop)]
 pub struct RecordRow<'a> {
     /// The file's key.
     pub key: u32,
-    /// Its place in the file, below 8,388,608.
+    /// The place in the file of the first of them, below 8,388,608.
     pub place: u32,
-    /// The subrecord control byte.
-    pub srcb: u8,
-    /// The bytes.
+    /// The subrecord control byte, or `SEVERAL`.
+    pub srcb: u16,
+    /// The bytes, or those of the `Pack`.
     pub bytes: &'a [u8],
 }
 

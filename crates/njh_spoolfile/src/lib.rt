@@ -8,6 +8,7 @@ mod laws;
 mod making;
 mod opening;
 mod origin;
+mod packing;
 mod reads;
 mod statements;
 mod store;
@@ -21,5 +22,6 @@ pub use laws::{
 };
 pub use opening::OpenFault;
 pub use origin::Origin;
+pub use packing::{Pack, SEVERAL, stands_alone};
 pub use statements::only_the_last_commit;
 pub use store::Store;

@@ -9,10 +9,11 @@ ghost use Rattle.sqlite.specs.State.{HasCleanDisk, Survives, Shown};
 ghost use Rattle.sqlite.specs.Held.{state};
 ghost use Rattle.njh_spoolfile.specs.Kept.{SpoolContents, Holds, File, Record, file_shown, record_shown, flag};
 ghost use Rattle.njh_spoolfile.specs.Kept.{entry_of};
-ghost use Rattle.njh_spoolfile.specs.Kept.{AreVersions, contents_of, contents, records_between};
+ghost use Rattle.njh_spoolfile.specs.Kept.{AreVersions, as_stands, contents_of, contents_in, records_between};
 ghost use Rattle.njh_spoolfile.specs.Steps.{IsReady, Stays};
 
 use crate::kept::{FileRow, StoredFile, StoredRecord, values_of_places};
+use crate::packing::unpack;
 use sqlite::types::ValueRef;
 use sqlite::{Alter, Connection, Error, Row};
 use std::alloc::Global;
@@ -51,7 +52,7 @@ fn bytes_at(row: &Row, at: usize) -> Result<Vec<u8>, Error>
 }
 
 fn record_in(row: &Row) -> Result<StoredRecord, Error>
-    ensures { IfOk result (λ stored. (e : ℕ × Record) → row.now ≡ record_shown e → contents_of stored ≡ contents e) }
+    ensures { IfOk result (λ stored. (e : ℕ × Record) → row.now ≡ record_shown e → contents_of stored ≡ as_stands e) }
 {
     let place = number_at(row, 0)?;
     let srcb = number_at(row, 1)?;
@@ -105,13 +106,26 @@ fn files_in(alloc: Global, rows: &[Row]) -> Result<Vec<StoredFile>, Error>
     Ok(stored)
 }
 
-fn records_in(alloc: Global, rows: &[Row]) -> Result<Vec<StoredRecord>, Error>
+/// The rows as they stand.
+fn rows_in(alloc: Global, rows: &[Row]) -> Result<Vec<StoredRecord>, Error>
     ensures { IfOk result (λ stored. (records : List (ℕ × Record)) → rows.now ≡ map record_shown records
-        → map contents_of stored.items ≡ map contents records) }
+        → map contents_of stored.items ≡ map as_stands records) }
 {
     let mut stored = Vec::new(alloc);
     for row in rows {
         stored.push(record_in(row)?)?;
+    }
+    Ok(stored)
+}
+
+/// The records of the rows.
+fn records_in(alloc: Global, rows: &[Row]) -> Result<Vec<StoredRecord>, Error>
+    ensures { IfOk result (λ stored. (records : List (ℕ × Record)) → rows.now ≡ map record_shown records
+        → map contents_of stored.items ≡ contents_in records) }
+{
+    let mut stored = Vec::new(alloc);
+    for row in rows {
+        unpack(alloc, record_in(row)?, &mut stored)?;
     }
     Ok(stored)
 }
@@ -166,7 +180,8 @@ pub fn files<S: Alter>(alloc: Global, conn: &mut Connection<S>) -> Result<Vec<St
     files_in(alloc, rows.as_slice())
 }
 
-/// The records of the file of this key at places from `first` on and before `end`, in their order.
+/// The records of the file of this key in rows at places from `first` on and before `end`, in their
+/// order.
 pub fn records<S: Alter>(
     alloc: Global,
     conn: &mut Connection<S>,
@@ -178,13 +193,34 @@ pub fn records<S: Alter>(
     requires places { (first ≤ 2 ^ 23) × (end ≤ 2 ^ 23) }
     ensures records { HasCleanDisk (state S.Store conn.new) → IfOk result (λ stored. (spool : SpoolContents)
         → Holds spool (state S.Store conn.old).now.trees → map contents_of stored.items
-        ≡ map contents (records_between key first end spool)) }
+        ≡ contents_in (records_between key first end spool)) }
     ensures same { HasCleanDisk (state S.Store conn.new) → OnOk result (Stays (state S.Store conn.old)
         (state S.Store conn.new)) }
     ensures crash { Survives (state S.Store conn.old) (state S.Store conn.new) (λ _. ⊥) }
 {
     let rows = rows_of_records(conn, key, first, end)?;
     records_in(alloc, rows.as_slice())
+}
+
+/// Those rows as they stand.
+pub fn rows<S: Alter>(
+    alloc: Global,
+    conn: &mut Connection<S>,
+    key: u32,
+    first: u32,
+    end: u32,
+) -> Result<Vec<StoredRecord>, Error>
+    requires ready { IsReady (state S.Store conn.old) }
+    requires places { (first ≤ 2 ^ 23) × (end ≤ 2 ^ 23) }
+    ensures rows { HasCleanDisk (state S.Store conn.new) → IfOk result (λ stored. (spool : SpoolContents)
+        → Holds spool (state S.Store conn.old).now.trees → map contents_of stored.items
+        ≡ map as_stands (records_between key first end spool)) }
+    ensures same { HasCleanDisk (state S.Store conn.new) → OnOk result (Stays (state S.Store conn.old)
+        (state S.Store conn.new)) }
+    ensures crash { Survives (state S.Store conn.old) (state S.Store conn.new) (λ _. ⊥) }
+{
+    let rows = rows_of_records(conn, key, first, end)?;
+    rows_in(alloc, rows.as_slice())
 }
 
 fn rows_of_versions<S: Alter>(conn: &mut Connection<S>) -> Result<Vec<Row>, Error>

@@ -10,8 +10,8 @@ ghost use Rattle.sqlite.specs.WalReads.{AreClean};
 ghost use Rattle.sqlite_trees.specs.View.{IsClean};
 ghost use Rattle.njh_spoolfile.specs.Kept.{SpoolContents, Holds, file_of, record_of, with_file, with_changed};
 ghost use Rattle.njh_spoolfile.specs.Kept.{with_record};
-ghost use Rattle.njh_spoolfile.specs.Kept.{without_file, without_records, entry_of, contents, contents_of};
-ghost use Rattle.njh_spoolfile.specs.Kept.{records_between};
+ghost use Rattle.njh_spoolfile.specs.Kept.{without_file, without_records, as_stands, entry_of, contents_in};
+ghost use Rattle.njh_spoolfile.specs.Kept.{contents_of, records_between};
 ghost use Rattle.njh_spoolfile.specs.Origin.{StandsAlone};
 ghost use Rattle.njh_spoolfile.specs.Shelf.{shown, IsUsable};
 ghost use Rattle.njh_spoolfile.specs.Steps.{Begins, Changes, Commits, IsWriting, Stays};
@@ -186,7 +186,7 @@ impl<S: Alter> Store<S> {
         done
     }
 
-    /// Adds a record of a file, which needn't be whole yet.
+    /// Adds a row of records of a file, which needn't be whole yet.
     pub fn add_record(&mut self, kept: &RecordRow<'_>) -> Result<(), Error>
         requires place { kept.now.place < 2 ^ 23 }
         ensures changed { HasCleanDisk (shown S.Store self.new)
@@ -216,8 +216,8 @@ impl<S: Alter> Store<S> {
         done
     }
 
-    /// Drops the records of the file of this key at places from `first` on and before `end`, and
-    /// says how many.
+    /// Drops the rows of records of the file of this key at places from `first` on and before `end`,
+    /// and says how many.
     pub fn drop_records(&mut self, key: u32, first: u32, end: u32) -> Result<usize, Error>
         requires places { (first ≤ 2 ^ 23) × (end ≤ 2 ^ 23) }
         ensures changed { HasCleanDisk (shown S.Store self.new)
@@ -269,8 +269,8 @@ impl<S: Alter> Store<S> {
         stored
     }
 
-    /// The records of the file of this key at places from `first` on and before `end`, in their
-    /// order.
+    /// The records of the file of this key in rows at places from `first` on and before `end`, in
+    /// their order.
     pub fn records(
         &mut self,
         alloc: Global,
@@ -281,7 +281,7 @@ impl<S: Alter> Store<S> {
         requires places { (first ≤ 2 ^ 23) × (end ≤ 2 ^ 23) }
         ensures records { HasCleanDisk (shown S.Store self.new) → IfOk result (λ stored. (spool : SpoolContents)
             → Holds spool (shown S.Store self.old).now.trees → map contents_of stored.items
-            ≡ map contents (records_between key first end spool)) }
+            ≡ contents_in (records_between key first end spool)) }
         ensures same { HasCleanDisk (shown S.Store self.new) → OnOk result (Stays (shown S.Store self.old)
             (shown S.Store self.new)) }
         ensures crash { Survives (shown S.Store self.old) (shown S.Store self.new) (λ _. ⊥) }
@@ -292,6 +292,32 @@ impl<S: Alter> Store<S> {
             return Err(closed());
         }
         let stored = reads::records(alloc, &mut self.conn, key, first, end);
+        self.failed = stored.is_err();
+        stored
+    }
+
+    /// Those rows as they stand.
+    pub(crate) fn rows(
+        &mut self,
+        alloc: Global,
+        key: u32,
+        first: u32,
+        end: u32,
+    ) -> Result<Vec<StoredRecord>, Error>
+        requires places { (first ≤ 2 ^ 23) × (end ≤ 2 ^ 23) }
+        ensures rows { HasCleanDisk (shown S.Store self.new) → IfOk result (λ stored. (spool : SpoolContents)
+            → Holds spool (shown S.Store self.old).now.trees → map contents_of stored.items
+            ≡ map as_stands (records_between key first end spool)) }
+        ensures same { HasCleanDisk (shown S.Store self.new) → OnOk result (Stays (shown S.Store self.old)
+            (shown S.Store self.new)) }
+        ensures crash { Survives (shown S.Store self.old) (shown S.Store self.new) (λ _. ⊥) }
+        ensures failed { OnErr result (self.new.failed ≡ true) }
+        ensures works { OnOk result ((self.old.failed ≡ false) × (self.new.failed ≡ false)) }
+    {
+        if self.failed {
+            return Err(closed());
+        }
+        let stored = reads::rows(alloc, &mut self.conn, key, first, end);
         self.failed = stored.is_err();
         stored
     }

@@ -1,13 +1,13 @@
 -- Records of a file that was sent elsewhere, beside those that it had.
-use Rattle.std.specs.Prelude.{◌≡◌, ℕ, ◌==◌, ◌||◌, ◌≤◌, Bool, false, List, length, take}
+use Rattle.std.specs.Prelude.{◌≡◌, ℕ, ◌≤◌, Bool, false, List, length, take}
 use Rattle.std.specs.List.{AllZip}
 use Rattle.njh_record.specs.Stored.{Stored}
-use Rattle.njh_spoolfile.specs.Kept.{SpoolContents}
+use Rattle.njh_spoolfile.specs.{Kept.SpoolContents, Packed.stands_alone}
 use Rattle.njh_keeper.specs.code.Mirrored.{HasRecords, IsOrdered, WritesUnder}
 
 -- job headers and data set headers
 abbrev pub is_header : ℕ → Bool
-is_header srcb = (srcb == 0xc0) || (srcb == 0xe0)
+is_header = stands_alone
 
 -- it is the one that it was, but that what a header says may be something else
 pub record IsAlike (before now : Stored) : Type 0 where

@@ -2,7 +2,8 @@
 use Rattle.std.specs.Prelude.{◌≡◌, ◌≢◌, ℕ, ◌+◌, ◌<◌, ◌≤◌, List, [], ◌∷◌, ◌++◌, length, take, drop, map, filter, Some}
 use Rattle.std.specs.List.{AllByRecursion}
 use Rattle.njh_record.specs.Stored.{Stored}
-use Rattle.njh_spoolfile.specs.Kept.{File, Record, SpoolContents, Rise, IsNumbered, contents, records_of}
+use Rattle.njh_spoolfile.specs.Kept.{File, Record, SpoolContents, Rise, IsNumbered, contents_in, records_of}
+use Rattle.njh_spoolfile.specs.Packed.{placed_from}
 use Rattle.njh_spool.specs.Restoring.{KeptFile}
 use Rattle.njh_keeper.specs.Opened.{Contents, file_in, is_own}
 
@@ -20,14 +21,17 @@ own_rows name spool = filter (λ e. is_own name e.1) spool.files
 abbrev pub stored_of : Record → Stored
 stored_of r = record { srcb = r.srcb; bytes = r.bytes }
 
+-- as a spool file has it
+abbrev pub as_packed : Stored → ℕ × List ℕ
+as_packed r = (r.srcb, r.bytes)
+
 -- these records at the places from this one on
 abbrev pub contents_from : ℕ → List Stored → List Contents
-contents_from place [] = []
-contents_from place (r ∷ rs) = (place, r.srcb, r.bytes) ∷ contents_from (place + 1) rs
+contents_from place rs = placed_from place (map as_packed rs)
 
 -- under this key stand these records and no other
 abbrev pub HasRecords : ℕ → List Stored → SpoolContents → Type 0
-HasRecords key rs spool = map contents (records_of key spool) ≡ contents_from 0 rs
+HasRecords key rs spool = contents_in (records_of key spool) ≡ contents_from 0 rs
 
 -- a record that a spool file can give back to a hub
 abbrev pub FitsHub : Stored → Type 0
@@ -35,7 +39,7 @@ FitsHub r = (r.srcb < 256) × (length r.bytes ≤ 256)
 
 -- a row is read as this file of a hub
 abbrev pub ReadsAs : SpoolContents → ℕ × File → KeptFile → Type 0
-ReadsAs spool e f = file_in e.1 (map contents (records_of e.1.key spool)) ≡ Some f
+ReadsAs spool e f = file_in e.1 (contents_in (records_of e.1.key spool)) ≡ Some f
 
 -- ---- while a file is written
 

@@ -3,7 +3,7 @@ use Rattle.std.specs.Prelude.{◌≡◌, ◌≢◌, ◌⊎◌, ℕ, ◌+◌, ◌
 use Rattle.std.specs.Prelude.{Option, ⊤}
 use Rattle.sqlite.specs.State.{State}
 use Rattle.sqlite_trees.specs.Tree.{IsAscending}
-use Rattle.njh_spoolfile.specs.Kept.{File, Record, SpoolContents, Whole, Holds, contents, kept, records_of}
+use Rattle.njh_spoolfile.specs.Kept.{File, Record, SpoolContents, Whole, Holds, as_stands, kept, records_of}
 use Rattle.njh_spoolfile.specs.Kept.{whole_in}
 use Rattle.njh_spoolfile.specs.Copies.{AreBelow, HaveControlBytes, is_asked, numbered}
 use Rattle.njh_spoolfile.specs.declared.copying.CopyFault.{CopyFault}
@@ -18,7 +18,7 @@ pub record LeadsTo (P : SpoolContents → SpoolContents → Type 0) (old new : S
 pub record Fills (key : ℕ) (wanted : List (ℕ × ℕ × List ℕ)) (s t : SpoolContents) : Type 0 where
   pub files : t.files ≡ s.files
   pub others : (k : ℕ) → k ≢ key → records_of k t ≡ records_of k s
-  pub records : map contents (records_of key t) ≡ wanted
+  pub records : map as_stands (records_of key t) ≡ wanted
 
 -- records in the order of their places
 abbrev pub Rising : List (ℕ × ℕ × List ℕ) → Type 0

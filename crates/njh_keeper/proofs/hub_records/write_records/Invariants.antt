@@ -1,10 +1,11 @@
 use Rattle.njh_keeper.proofs.Words
-use Words.{◌≡◌, ◌-◌, drop, take, AllByRecursion, HasCleanDisk, Survives, shown, records_in, part, AreBegun, Leads}
-use Words.{FitsHub}
-use Rattle.njh_keeper.{proofs.ReachLaws.Reaches, specs.code.Counting.CountsMore}
+use Words.{◌≡◌, ◌+◌, ◌-◌, ◌≤◌, drop, take, min, AllByRecursion, HasCleanDisk, Survives, shown, records_in, part, AreBegun}
+use Words.{Leads, FitsHub}
+use Rattle.{std.specs.Prelude.max, njh_keeper.proofs.ReachLaws.Reaches}
+use Rattle.njh_keeper.specs.code.{Counting.CountsMore, Gathering.Gathers}
 use Rattle.njh_keeper.proofs.hub_records.write_records.Given as goal
 
--- so many records were gone through, and those are left
+-- So many records were gone through, and those are left. All of them stand there but those that wait in the row.
 abbrev pub invariant-loop-place : goal.invariant-loop-place
 invariant-loop-place g l =
     let old = shown g.S.Store l.fn.writer.store in
@@ -12,9 +13,14 @@ invariant-loop-place g l =
     let all = records_in l.file.number (part l.file.customer l.hub).customer.spool in
     record {
       crash : Survives old now (λ _. ⊥);
-      led : HasCleanDisk now → Leads (Reaches l.key (AreBegun l.is_old l.written all) all l.place) old now;
+      led : HasCleanDisk now
+          → Leads (Reaches l.key (AreBegun l.is_old l.written all) all (min l.place l.row.place)) old now;
       left : l.records ≡ drop l.place all;
       fit : AllByRecursion FitsHub (take l.place all);
       others : l.writer ≡ record l.fn.writer { store = l.writer.store; waiting = l.writer.waiting };
-      counted : CountsMore (l.place - l.written) l.fn.writer l.writer;
+      counted : CountsMore (l.row.place - l.written) l.fn.writer l.writer;
+      gathers : Gathers all l.row;
+      behind : l.written ≤ l.row.place;
+      next : l.row.place + l.row.count ≡ max l.place l.written;
+      key : l.row.key ≡ l.key;
     }

@@ -3,7 +3,7 @@ use Rattle.std.proofs.Common.{rules, ◌∙◌, ap, arith, map, option_map, subs
 use Rattle.sqlite.specs.Effect.{Database}
 use Rattle.sqlite.specs.State.{HasCleanDisk}
 use Rattle.njh_spoolfile.proofs.ReadingLaws.{of_file}
-use Rattle.njh_spoolfile.specs.Kept.{Holds, contents, contents_of, entry_of}
+use Rattle.njh_spoolfile.specs.Kept.{Holds, contents_in, contents_of, entry_of}
 use Rattle.njh_spoolfile.specs.Shelf.{shown}
 use Rattle.njh_listing.specs.Asked.{IsRefusedOf, asked_of, key_in}
 use Rattle.njh_listing.specs.Exported.{export_text}
@@ -25,7 +25,7 @@ returns-clause-kept g c clean spool held =
       c.in_ok-export_text.ensures
           ∙ ap (export_text c.args.asked.now.raw)
           (ap (map contents_of) c.as_slice-2.ensures.value ∙ c.in_ok-records.ensures.records clean spool still
-          ∙ ap (map contents) (of_file c.in_ok-key.key spool.records held.numbered)),
+          ∙ ap contents_in (of_file c.in_ok-key.key spool.records held.numbered)),
     )
 
 pub returns-in_err-files-clause-refused : goal.returns-in_err-files-clause-refused

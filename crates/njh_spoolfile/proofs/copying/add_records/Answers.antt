@@ -1,4 +1,4 @@
-use Rattle.std.proofs.Common.{◌≡◌, ◌+◌, ◌<◌, ◌^◌, ℕ, List, get_or, length, map, sym, ap, subst, take, ◌∙◌}
+use Rattle.std.proofs.Common.{◌≡◌, ◌+◌, ◌<◌, ◌≤◌, ◌^◌, ℕ, List, get_or, length, map, sym, ap, subst, take, ◌∙◌}
 use Rattle.std.proofs.Common.{arith, rules, IfErr}
 use Rattle.std.proofs.lemmas.List.{get_or-map, length-map}
 use Rattle.njh_spoolfile.specs.Kept.{contents_of}
@@ -39,9 +39,9 @@ loop-stored-preserved g c =
 pub returns-in_err-add_one-clause-fault : goal.returns-in_err-add_one-clause-fault
 returns-in_err-add_one-clause-fault g c =
     let one = c.stored-item.result in
-    let P = λ (fault : CopyFault). FitsStep ⊥ (one.place < 2 ^ 23 → ¬ (one.srcb < 256)) fault in
+    let P = λ (fault : CopyFault). FitsStep ⊥ (one.place < 2 ^ 23 → ¬ (one.srcb ≤ 256)) fault in
     let fault : IfErr c.from_residual.result P = search rules in
-    if_err P _ (λ fault fits. step_weaker ⊥ ⊥ (one.place < 2 ^ 23 → ¬ (one.srcb < 256)) _ (λ none. none)
-    (λ bad all. let here = all_one (λ (r : ℕ × ℕ × List ℕ). (r.0 < 2 ^ 23) × (r.1 < 256)) contents_of
+    if_err P _ (λ fault fits. step_weaker ⊥ ⊥ (one.place < 2 ^ 23 → ¬ (one.srcb ≤ 256)) _ (λ none. none)
+    (λ bad all. let here = all_one (λ (r : ℕ × ℕ × List ℕ). (r.0 < 2 ^ 23) × (r.1 ≤ 256)) contents_of
     c.args.records.now c.loop-stored.stored-index one c.loop-stored-test.true c.stored-item.is all in
     bad here.0 here.1) fault fits) c.from_residual.result fault

@@ -1,6 +1,6 @@
 use Rattle.std.specs.List.{AllByRecursion}
-use Rattle.std.proofs.Common.{◌≡◌, ◌<◌, ◌^◌, List, map, ℕ, sym, ap, subst, ◌∙◌}
-use Rattle.njh_spoolfile.specs.Kept.{contents, contents_of, records_of}
+use Rattle.std.proofs.Common.{◌≡◌, ◌<◌, ◌≤◌, ◌^◌, List, map, ℕ, sym, ap, subst, ◌∙◌}
+use Rattle.njh_spoolfile.specs.Kept.{as_stands, contents_of, records_of}
 use Rattle.njh_spoolfile.specs.code.CopySteps.{Fills, Rising}
 use Rattle.njh_spoolfile.proofs.CopyFaults.{if_err, numbered_places, step_weaker}
 use Rattle.njh_spoolfile.proofs.CopyLaws.{clean_before, fills_after, leads_by, leads_then, rising_records}
@@ -12,9 +12,9 @@ pub returns-clause-copied : goal.returns-clause-copied
 returns-clause-copied g c clean_from clean =
     ok_then c.add_records.result _ _ (λ added spool held.
     let all = map contents_of c.as_slice.result.now in
-    let all_is : all ≡ map contents (records_of c.args.key spool) =
-    ap (map contents_of) c.as_slice.ensures.value ∙ c.in_ok-records.ensures.records clean_from spool held
-    ∙ ap (map contents) (of_file c.args.key spool.records held.numbered) in
+    let all_is : all ≡ map as_stands (records_of c.args.key spool) =
+    ap (map contents_of) c.as_slice.ensures.value ∙ c.in_ok-records.ensures.rows clean_from spool held
+    ∙ ap (map as_stands) (of_file c.args.key spool.records held.numbered) in
     let up : Rising all =
     subst Rising (sym all_is) (rising_records c.args.key spool.records held.records_rise held.numbered) in
     leads_then (leads_by (c.in_ok-drop_records.ensures.changed (clean_before c.add_records.ensures.crash clean))) added
@@ -29,10 +29,10 @@ pub returns-clause-fault : goal.returns-clause-fault
 returns-clause-fault g c clean_from =
     let all = map contents_of c.as_slice.result.now in
     if_err _ _ (λ fault fits spool held.
-    let all_is : all ≡ map contents (records_of c.args.key spool) =
-    ap (map contents_of) c.as_slice.ensures.value ∙ c.in_ok-records.ensures.records clean_from spool held
-    ∙ ap (map contents) (of_file c.args.key spool.records held.numbered) in
-    step_weaker ⊥ ⊥ (¬ AllByRecursion (λ r. (r.0 < 2 ^ 23) × (r.1 < 256)) all) _ (λ none. none)
-    (λ bad have. bad (subst (AllByRecursion (λ (r : ℕ × ℕ × List ℕ). (r.0 < 2 ^ 23) × (r.1 < 256))) (sym all_is)
+    let all_is : all ≡ map as_stands (records_of c.args.key spool) =
+    ap (map contents_of) c.as_slice.ensures.value ∙ c.in_ok-records.ensures.rows clean_from spool held
+    ∙ ap (map as_stands) (of_file c.args.key spool.records held.numbered) in
+    step_weaker ⊥ ⊥ (¬ AllByRecursion (λ r. (r.0 < 2 ^ 23) × (r.1 ≤ 256)) all) _ (λ none. none)
+    (λ bad have. bad (subst (AllByRecursion (λ (r : ℕ × ℕ × List ℕ). (r.0 < 2 ^ 23) × (r.1 ≤ 256))) (sym all_is)
     (numbered_places c.args.key spool.records held.numbered have))) fault fits)
     c.add_records.result c.add_records.ensures.fault

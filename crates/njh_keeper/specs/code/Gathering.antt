@@ -1,0 +1,35 @@
+-- Records of a file that are gathered for its next row, and rows that come behind those that stand there.
+use Rattle.std.specs.Prelude.{◌≡◌, ℕ, ◌-◌, ◌<◌, ◌≤◌, false, List, length, get_or, take, drop, map}
+use Rattle.std.specs.List.{AllByRecursion}
+use Rattle.njh_record.specs.Stored.{Stored}
+use Rattle.njh_spoolfile.specs.{Kept.SpoolContents, Packed.{packed, stands_alone}}
+use Rattle.njh_keeper.specs.declared.next_row.NextRow.{NextRow}
+use Rattle.njh_keeper.specs.declared.writer.SpoolWriter.{SpoolWriter}
+use Rattle.njh_keeper.specs.code.Counting.{CountsMore}
+use Rattle.njh_keeper.specs.code.Mirrored.{HasRecords, IsOrdered, WritesUnder, as_packed}
+
+-- this is the record of a file at this place
+abbrev pub IsRecordAt : List Stored → ℕ → Stored → Type 0
+IsRecordAt all place r = (place < length all) × (r ≡ get_or all place r)
+
+-- as many of its records, from a row's place on, as the row has
+abbrev pub gathered : List Stored → NextRow → List Stored
+gathered all row = take row.count (drop row.place all)
+
+-- A row has these, and none of them is a header.
+pub record Gathers (all : List Stored) (row : NextRow) : Type 0 where
+  pub there : row.count ≤ length all - row.place
+  pub bytes : row.pack ≡ packed (map as_packed (gathered all row))
+  pub plain : AllByRecursion (λ r. stands_alone r.0 ≡ false) (map as_packed (gathered all row))
+
+-- If the records of a file before one place stand under a key, those before another one stand there then.
+abbrev pub Continues : (key : ℕ) (all : List Stored) (first next : ℕ) → SpoolContents → SpoolContents → Type 0
+Continues key all first next s t = IsOrdered s → HasRecords key (take first all) s
+    → WritesUnder key s t × HasRecords key (take next all) t
+
+-- A row's place goes on, and the writer counts as many records. Nothing else of it changes.
+pub record GoesForward {S : Type 0} (old new : NextRow) (w w' : SpoolWriter S) : Type 0 where
+  pub key : new.key ≡ old.key
+  pub place : old.place ≤ new.place
+  pub counted : CountsMore (new.place - old.place) w w'
+  pub others : w' ≡ record w { store = w'.store; waiting = w'.waiting }
