@@ -13,3 +13,4 @@ pub mod ReadingLaws
 pub mod Rows
 pub mod Runs
 pub mod ReopeningLaws
+pub mod VersionLaws

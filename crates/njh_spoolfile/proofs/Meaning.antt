@@ -170,10 +170,13 @@ unfolding understood everything
 select_records_plain = (refl, refl)
 
 abbrev pub select_version : List ℕ
-select_version = codes "SELECT version FROM spool ORDER BY version"
+select_version = codes "SELECT version FROM spool"
+
+abbrev pub versions : Query
+versions = record (by_rowid 0 [] (col 1 0 ∷ [])) { order = [] }
 
 pub select_version_is : (command_of (understood spool_schema select_version)
-    ≡ Select (record { lets = []; body = by_rowid 0 [] (col 1 0 ∷ []) }) (codes "version" ∷ []))
+    ≡ Select (record { lets = []; body = versions }) (codes "version" ∷ []))
     × (reads_listing spool_schema select_version ≡ false)
 unfolding understood everything
 select_version_is = (refl, refl)
@@ -185,10 +188,10 @@ select_version_plain = (refl, refl)
 -- ---- what makes the tables
 
 abbrev pub insert_version : List ℕ
-insert_version = codes "INSERT INTO spool VALUES (1)"
+insert_version = codes "INSERT INTO spool VALUES (2)"
 
 abbrev pub version_terms : List Term
-version_terms = lit (Int (pos 1)) ∷ lit Null ∷ []
+version_terms = lit (Int (pos 2)) ∷ lit Null ∷ []
 
 pub insert_version_is : command_of (understood spool_schema insert_version) ≡ Insert 0 (Values version_terms 2)
 unfolding understood everything

@@ -1,5 +1,7 @@
 -- What makes a new spool.
-use Rattle.std.proofs.Common.{◌≡◌, ℕ, pos, List, [], ◌∷◌, true, false, None, Ok, refl, sym, ap, subst, ◌∙◌, arith}
+use Rattle.std.proofs.Common.{◌≡◌, inl, ℕ, pos, List, [], ◌∷◌, true, false, None, Ok, refl, sym, ap, subst, ◌∙◌, arith}
+use Rattle.std.proofs.lemmas.List.Sorted.{IsPermutation-refl}
+use Rattle.sqlite.specs.declared.types.Value.TheVariants.{Int}
 use Rattle.sqlite.specs.Table.{Table}
 use Rattle.sqlite.specs.Schema.{Schema}
 use Rattle.sqlite.specs.Source.TheVariants.{Values}
@@ -19,12 +21,15 @@ use Rattle.sqlite_catalog.specs.Listing.{IsSound}
 use Rattle.sqlite_catalog.proofs.ReadLemmas.{lists_once}
 use Rattle.sqlite_trees.specs.Objects.{catalog_tree}
 use Rattle.sqlite_catalog.specs.Change.{KeepsRows}
-use Rattle.njh_spoolfile.specs.Kept.{version_row}
+use Rattle.njh_spoolfile.specs.Kept.{SpoolContents, Holds, HoldsAs, IsOf, no_files, version_row}
+use Rattle.njh_spoolfile.specs.declared.versions.Version.{Version}
+use Rattle.njh_spoolfile.specs.declared.versions.Version.TheVariants.{Older, Current}
 use Rattle.njh_spoolfile.specs.Tables.{spool_schema, spool_table}
-use Rattle.njh_spoolfile.specs.Steps.{Makes, Sets}
+use Rattle.njh_spoolfile.specs.Steps.{Makes, Sets, SetsVersion}
 use Rattle.njh_spoolfile.proofs.Meaning.{IsCreation, insert_version, insert_version_is, insert_version_plain}
 use Rattle.njh_spoolfile.proofs.Meaning.{version_terms}
 use Rattle.njh_spoolfile.proofs.Runs.{went, same_value, cast_int, cast_null}
+use Rattle.njh_spoolfile.proofs.VersionLaws.{taken_over}
 
 pub creates : (text : List ℕ) (before after : Schema) (table : Table) (tree : ℕ) → IsCreation text before table
     → created before table ≡ after → next_tree before ≡ tree → lacks_sequence after ≡ false
@@ -53,8 +58,8 @@ creates text before after table tree is next at uncounted old new count has wait
       others = subst (λ (d : Database). KeepsRows old.now.schema.tables old.now.trees d.trees) (sym now) made.others;
     }
 
-cast_version : cast_row spool_table version_row ≡ version_row
-cast_version = rw (cast_int (pos 1), cast_null) refl
+cast_version : cast_row spool_table (version_row 2) ≡ version_row 2
+cast_version = rw (cast_int (pos 2), cast_null) refl
 
 pub sets : (old new : State) (count : ℕ) → old.now.schema ≡ spool_schema → old.in_transaction ≡ true
     → Executes insert_version [] old new (Ok count) → Sets old new
@@ -72,7 +77,7 @@ sets old new count has waits h =
     let trees : done.0.trees ≡ written.0 =
     ap (λ (it : Written). it.trees) (same_value counted.2) ∙ same_value counted.1 in
     let applied = one_step spool_schema _ db written.0 (edit_of db spool_table [] Chosen 0 given.0) refl written.1 in
-    let edit : edited db (edit_of db spool_table [] Chosen 0 given.0) ≡ put_row version_row (db 0) =
+    let edit : edited db (edit_of db spool_table [] Chosen 0 given.0) ≡ put_row (version_row 2) (db 0) =
     ap (λ all. edited db (edit_of db spool_table [] Chosen 0 all)) given.1.1
     ∙ ap (λ row. put_all (db 0) (numbered Chosen (db 0) (row ∷ []))) cast_version in
     let at : (t : ℕ) → new.now.trees t ≡ written.0 t =
@@ -83,17 +88,46 @@ sets old new count has waits h =
       schema = schema;
       waits = w.shown.mode ∙ waits;
       committed = w.shown.committed_is ∙ rw waits refl;
-      holds = λ no_version none no_record. record {
+      sets = record {
         sound = subst (λ s. IsSound s new.now.trees) schema w.sound;
-        version = at 0 ∙ applied.rows ∙ edit ∙ ap (put_row version_row) no_version;
-        files = at 1 ∙ applied.others 1 (λ e. absurd (omega (arith, e))) tt ∙ none;
-        files_rise = tt;
-        records = at 2 ∙ applied.others 2 (λ e. absurd (omega (arith, e))) tt ∙ no_record;
-        records_rise = tt;
-        numbered = tt;
+        versions = at 0 ∙ applied.rows ∙ edit;
+        files = at 1 ∙ applied.others 1 (λ e. absurd (omega (arith, e))) tt;
+        records = at 2 ∙ applied.others 2 (λ e. absurd (omega (arith, e))) tt;
       };
     }
+
+-- a spool with no file
+pub starts : (found now : Trees) → SetsVersion found now → found 0 ≡ [] → found 1 ≡ [] → found 2 ≡ []
+    → Holds no_files now
+starts found now it no_version none no_record = record {
+  sound = it.sound;
+  version = subst (IsOf Current) (sym (it.versions ∙ ap (put_row (version_row 2)) no_version))
+      (inl (IsPermutation-refl (Int (pos 2) ∷ [])));
+  files = it.files ∙ none;
+  files_rise = tt;
+  records = it.records ∙ no_record;
+  records_rise = tt;
+  numbered = tt;
+}
+
+-- a spool of the older version is the same of this one
+pub takes_over : (spool : SpoolContents) (found now : Trees) → SetsVersion found now → HoldsAs Older spool found
+    → Holds spool now
+takes_over spool found now it held = record {
+  sound = it.sound;
+  version = subst (IsOf Current) (sym it.versions) (taken_over (found 0) held.version);
+  files = it.files ∙ held.files;
+  files_rise = held.files_rise;
+  records = it.records ∙ held.records;
+  records_rise = held.records_rise;
+  numbered = held.numbered;
+}
 
 -- trees list one schema at most
 pub one_schema : (trees : Trees) (s t : Schema) → IsSound s trees → IsSound t trees → s ≡ t
 one_schema trees s t p q = lists_once (trees catalog_tree) s t p.lists q.lists
+
+-- what has other tables holds no spool
+pub no_spool : (trees : Trees) (schema : Schema) → IsSound schema trees → ¬ (schema ≡ spool_schema)
+    → (version : Version) (spool : SpoolContents) → ¬ HoldsAs version spool trees
+no_spool trees schema sound other version spool held = other (one_schema trees _ _ sound held.sound)

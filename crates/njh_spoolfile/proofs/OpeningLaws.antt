@@ -5,12 +5,13 @@ use Rattle.sqlite.specs.State.{State, HasCleanDisk, IsLive, Opens}
 use Rattle.sqlite.specs.Start.{FindsIn}
 use Rattle.sqlite.specs.Recovery.{Image}
 use Rattle.sqlite_catalog.specs.Listing.{IsSound}
-use Rattle.njh_spoolfile.specs.Kept.{SpoolContents, Holds}
+use Rattle.njh_spoolfile.specs.Kept.{SpoolContents, Holds, IsOf}
 use Rattle.njh_spoolfile.specs.Origin.{IsFoundIn}
 use Rattle.njh_spoolfile.specs.Reopened.{BecomesSpool, OpensFrom}
 use Rattle.njh_spoolfile.specs.CommitState.{Stands}
-use Rattle.njh_spoolfile.specs.Steps.{IsIdle}
+use Rattle.njh_spoolfile.specs.Steps.{IsIdle, TakesOver}
 use Rattle.njh_spoolfile.specs.Tables.{spool_schema}
+use Rattle.njh_spoolfile.specs.declared.versions.Version.TheVariants.{Current}
 
 pub at_ok : {T E : Type 0} (P : T → Type 0) (r : Result T E) (x : T) → r ≡ Ok x → IfOk r P → P x
 at_ok P r x is h = subst (λ s. IfOk s P) is h
@@ -26,12 +27,18 @@ module _ (image : Image) (was now : State) (opens : HasCleanDisk was → Opens w
         holds = found.holds;
         reads = found.reads;
         kept = elim (it.outcome clean) [
-          | inl stays ↦ inl (ap (λ (d : Database). d.trees) (stays.now ∙ opened.0.clean))
-          | inr made ↦ inr (
-            subst (λ s. IsSound s was.committed.trees)
-                (sym (ap (λ (d : Database). d.schema) opened.0.clean) ∙ made.0) (opened.1 opened.0.is_open).1,
-            made.1,
+          | inl stays ↦ inl (
+            ap (λ (d : Database). d.trees) (stays.0.now ∙ opened.0.clean),
+            subst (λ (d : Database). IsOf Current (d.trees 0)) opened.0.clean stays.1,
           )
+          | inr becomes ↦ inr (elim becomes [
+            | inl made ↦ inl (
+              subst (λ s. IsSound s was.committed.trees)
+                  (sym (ap (λ (d : Database). d.schema) opened.0.clean) ∙ made.0) (opened.1 opened.0.is_open).1,
+              made.1,
+            )
+            | inr taken ↦ inr (subst (λ (d : Database). TakesOver d.trees now.now.trees) opened.0.clean taken)
+          ])
         ];
       }
 

@@ -1,6 +1,7 @@
 -- What the queries answer.
 use Rattle.std.proofs.Common.{◌≡◌, ℕ, ◌^◌, ◌==◌, pos, nat_le, nat_lt, ◌&&◌, List, [], ◌∷◌, map, map-id, filter, true}
-use Rattle.std.proofs.Common.{Result, Ok, Err, IfOk, OnOk, refl, sym, ap, subst, ◌∙◌, arith}
+use Rattle.std.proofs.Common.{Result, Ok, Err, IfOk, OnOk, refl, sym, ap, subst, subst₂, ◌∙◌, arith}
+use Rattle.std.proofs.Common.{IsPermutation, flat_map}
 use Rattle.std.specs.declared.cmp.Ordering.TheVariants.{Equal}
 use Rattle.std.specs.Ordering.{int_cmp, ordering_then}
 use Rattle.sqlite.specs.declared.types.Value.TheVariants.{Int, Null}
@@ -13,7 +14,11 @@ use Rattle.std.specs.List.{AllByRecursion}
 use Rattle.std.proofs.lemmas.Bool.Decides.{nat_tests}
 use Rattle.sqlite.specs.State.{State, Shown, ShowsRows, CommitsShowing, IsUnchanged}
 use Rattle.sqlite.specs.Clock.{timed}
-use Rattle.sqlite.specs.Tree.{Trees}
+use Rattle.sqlite.specs.Tree.{Trees, rowid}
+use Rattle.sqlite_sql.specs.Query.{Output, output, IsAnswer}
+use Rattle.sqlite_keyed.proofs.ListLemmas.{map-map}
+use Rattle.sqlite_value.specs.declared.value.Value.{Value}
+use Rattle.std.proofs.lemmas.List.Sorted.{IsPermutation-map}
 use Rattle.sqlite.specs.Term.{col}
 use Rattle.sqlite.specs.Listing.{understood}
 use Rattle.sqlite.proofs.Callers.{reads_as, never_commits, IsPlain}
@@ -22,7 +27,7 @@ use Rattle.njh_spoolfile.specs.Kept.{SpoolContents, Record, IsNumbered, Holds, f
 use Rattle.njh_spoolfile.specs.Kept.{record_shown, record_number, records_between}
 use Rattle.njh_spoolfile.specs.Tables.{spool_schema}
 use Rattle.njh_spoolfile.specs.Steps.{Changes, Stays}
-use Rattle.njh_spoolfile.proofs.Meaning.{by_rowid, select_version, select_version_is, select_version_plain}
+use Rattle.njh_spoolfile.proofs.Meaning.{by_rowid, versions, select_version, select_version_is, select_version_plain}
 use Rattle.njh_spoolfile.proofs.Meaning.{select_files, select_files_is, select_files_plain, file_names}
 use Rattle.njh_spoolfile.proofs.Meaning.{file_terms_shown, is_between, select_records, select_records_is}
 use Rattle.njh_spoolfile.proofs.Meaning.{select_records_plain, record_terms_shown}
@@ -63,20 +68,25 @@ records_are old new key first end rows spool has held h =
     (λ e. nat_le low e.0 && nat_lt e.0 high) (is_between_is low high)
     (λ r. r) record_shown (λ _. refl) refl refl (λ a b. by_id a.0 b.0) rows (read.answer Null)
 
-abbrev shown_version : ℕ → Row
-shown_version n = Int (pos n) ∷ []
+-- the rows of a query without an order are all, in some order
+each_number : (rows : List Row)
+    → map (λ (o : Output). rowid o.1) (map (output versions) (flat_map (λ r. ([] ∷ r ∷ []) ∷ []) rows)) ≡ map rowid rows
+each_number [] = refl
+each_number (r ∷ rs) = ap (λ ns. rowid r ∷ ns) (each_number rs)
 
-pub version_is : (old new : State) (rows : List Row) (spool : SpoolContents) → old.now.schema ≡ spool_schema
-    → Holds spool old.now.trees → Shown select_version [] old new rows → rows ≡ (Int (pos 1) ∷ []) ∷ []
-version_is old new rows spool has held h =
+pub versions_are : (old new : State) (rows : List Row) → old.now.schema ≡ spool_schema
+    → Shown select_version [] old new rows → IsPermutation (map rowid (old.now.trees 0)) (map rowid rows)
+versions_are old new rows has h =
     let read = reads_as select_version [] old new spool_schema has
-    (Select (record { lets = []; body = by_rowid 0 [] (col 1 0 ∷ []) }) _) select_version_is.0 select_version_plain
+    (Select (record { lets = []; body = versions }) _) select_version_is.0 select_version_plain
     select_version_is.1 rows h in
-    let db = overlay old.now.trees [] in
-    let source = last_table db 0 (λ n. Int (pos n) ∷ Null ∷ []) (λ n. pos n) (1 ∷ []) held.version (tt, tt) (at_end db)
-    in
-    sym (map-id rows) ∙ answer_by_keys (by_rowid 0 [] (col 1 0 ∷ [])) db [] source (λ _. true) (λ _. refl) (λ r. r)
-    shown_version (λ _. refl) refl refl by_id rows (read.answer Null)
+    let answer : IsAnswer versions (overlay old.now.trees []) [] rows = read.answer Null in
+    let number : Output → Value = λ o. rowid o.1 in
+    let before : map number answer.kept ≡ map rowid (old.now.trees 0) =
+    ap (map number) (answer.distinct ∙ ap (map (output versions)) answer.grouped) ∙ each_number (old.now.trees 0) in
+    let after : map number answer.ordered ≡ map rowid rows =
+    sym (map-map rowid (λ (o : Output). o.1) answer.ordered) ∙ ap (map rowid) (sym answer.shown) in
+    subst₂ IsPermutation before after (IsPermutation-map number answer.kept answer.ordered answer.same)
 
 pub select_version_keeps_nothing : (s : State) → s.now.schema ≡ spool_schema → (db : Trees)
     → ¬ CommitsShowing select_version [] s db

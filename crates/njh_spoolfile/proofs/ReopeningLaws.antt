@@ -7,24 +7,44 @@ use Rattle.sqlite.specs.Schema.{Schema}
 use Rattle.sqlite.specs.Closing.{HoldsAlone, IsCopied}
 use Rattle.sqlite.specs.Files.{HoldsDatabase, file_state}
 use Rattle.sqlite.specs.Held.{Held}
+use Rattle.sqlite_catalog.specs.Listing.{IsSound}
 use Rattle.sqlite_trees.specs.Props.{Trees-set}
 use Rattle.sqlite_disk.specs.declared.Disk.{Ghosts}
 use Rattle.sqlite_disk.specs.declared.Files.{Files}
 use Rattle.sqlite_store.specs.declared.store.FileStore.{FileStore}
 use Rattle.sqlite_store.specs.FileStore.{state, view, recovers}
 use Rattle.sqlite.proofs.Theorems.{opens_again}
-use Rattle.njh_spoolfile.specs.Kept.{SpoolContents, Holds}
+use Rattle.njh_spoolfile.specs.Kept.{SpoolContents, Holds, HoldsAs}
 use Rattle.njh_spoolfile.specs.Tables.{spool_schema, no_tables}
 use Rattle.njh_spoolfile.specs.Origin.{IsFoundAlone, IsFoundIn, StandsAlone}
 use Rattle.njh_spoolfile.specs.Reopened.{OpensFrom, IsOrBecomes}
-use Rattle.njh_spoolfile.proofs.NewTables.{one_schema}
+use Rattle.njh_spoolfile.specs.declared.versions.Version.{Version}
+use Rattle.njh_spoolfile.specs.declared.versions.Version.TheVariants.{Older, Current}
+use Rattle.njh_spoolfile.proofs.NewTables.{no_spool, takes_over}
+use Rattle.njh_spoolfile.proofs.VersionLaws.{not_both}
+
+-- what holds a spool has tables
+has_tables : (version : Version) (spool : SpoolContents) (found : Trees) → HoldsAs version spool found
+    → ¬ IsSound no_tables found
+has_tables version spool found held bare = no_spool found no_tables bare
+    (λ e. absurd (let none = ap (λ (s : Schema). s.tables) e in cc)) version spool held
 
 -- what is a spool stays as it is
 still : (spool : SpoolContents) (found now : Trees) → Holds spool found → IsOrBecomes found now → now ≡ found
-still spool found now held (inl same) = same
-still spool found now held (inr bare) = absurd
-    (let e : spool_schema ≡ no_tables = one_schema found spool_schema no_tables held.sound bare.0 in let none = ap
-    (λ (s : Schema). s.tables) e in cc)
+still spool found now held (inl same) = same.0
+still spool found now held (inr (inl made)) = absurd (has_tables Current spool found held made.0)
+still spool found now held (inr (inr taken)) = absurd (not_both (found 0) taken.older held.version)
+
+older_is_taken : (spool : SpoolContents) (found now : Trees) → HoldsAs Older spool found → IsOrBecomes found now
+    → Holds spool now
+older_is_taken spool found now held (inl same) = absurd (not_both (found 0) held.version same.1)
+older_is_taken spool found now held (inr (inl made)) = absurd (has_tables Older spool found held made.0)
+older_is_taken spool found now held (inr (inr taken)) = takes_over spool found now taken.sets held
+
+pub older_found : (image : Image) (db : Trees) (spool : SpoolContents) → HoldsDatabase image db
+    → HoldsAs Older spool db → IsFoundIn image spool
+older_found image db spool has held = λ now sound o.
+    older_is_taken spool db now held (subst (λ t. IsOrBecomes t now) (o.holds db has) o.kept)
 
 pub opened : (spool : SpoolContents) (image : Image) (db now : Trees) → Holds spool db → HoldsDatabase image db
     → OpensFrom image now → now ≡ db

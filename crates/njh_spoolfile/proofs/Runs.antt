@@ -32,7 +32,8 @@ use Rattle.sqlite.specs.Schema.{Schema}
 use Rattle.sqlite.specs.Clock.{timed}
 use Rattle.sqlite.proofs.Callers.{command_of, statement_of, runs_as, one_step}
 use Rattle.sqlite_keyed.proofs.ListLemmas.{all-filter}
-use Rattle.njh_spoolfile.specs.Kept.{IsNumbered, File, Record, file_values, file_row, flag, record_values, record_row}
+use Rattle.njh_spoolfile.specs.declared.versions.Version.TheVariants.{Current}
+use Rattle.njh_spoolfile.specs.Kept.{IsOf, IsNumbered, File, Record, file_values, file_row, flag, record_values, record_row}
 use Rattle.njh_spoolfile.specs.Kept.{record_number, with_file, with_record, without_file, without_records}
 use Rattle.njh_spoolfile.specs.Tables.{spool_schema, files_table, records_table}
 use Rattle.sqlite_catalog.specs.Listing.{IsSound}
@@ -186,7 +187,7 @@ adds_file old new id f count has waits h =
       committed = w.shown.committed_is ∙ rw waits refl;
       holds = λ spool held. record {
         sound = subst (λ s. IsSound s new.now.trees) schema w.sound;
-        version = at 0 ∙ applied.others 0 (λ e. absurd (omega (arith, e))) tt ∙ held.version;
+        version = subst (IsOf Current) (sym (at 0 ∙ applied.others 0 (λ e. absurd (omega (arith, e))) tt)) held.version;
         files = at 1 ∙ applied.rows ∙ edit ∙ ap (put_row (file_row (id, f))) held.files
             ∙ put_shown file_row (λ e. refl) (id, f) spool.files;
         files_rise = put_rises (id, f) spool.files held.files_rise;
@@ -230,7 +231,7 @@ adds_record old new r count low has waits h =
       committed = w.shown.committed_is ∙ rw waits refl;
       holds = λ spool held. record {
         sound = subst (λ s. IsSound s new.now.trees) schema w.sound;
-        version = at 0 ∙ applied.others 0 (λ e. absurd (omega (arith, e))) tt ∙ held.version;
+        version = subst (IsOf Current) (sym (at 0 ∙ applied.others 0 (λ e. absurd (omega (arith, e))) tt)) held.version;
         files = at 1 ∙ applied.others 1 (λ e. absurd (omega (arith, e))) tt ∙ held.files;
         records = at 2 ∙ applied.rows ∙ edit ∙ ap (put_row (record_row (id, r))) held.records
             ∙ put_shown record_row (λ e. refl) (id, r) spool.records;
@@ -305,7 +306,7 @@ drops_file old new id count has waits h =
       committed = w.shown.committed_is ∙ rw waits refl;
       holds = λ spool held. record {
         sound = subst (λ s. IsSound s new.now.trees) schema w.sound;
-        version = at 0 ∙ applied.others 0 (λ e. absurd (omega (arith, e))) tt ∙ held.version;
+        version = subst (IsOf Current) (sym (at 0 ∙ applied.others 0 (λ e. absurd (omega (arith, e))) tt)) held.version;
         files = at 1 ∙ applied.rows
             ∙ deleted file_row (λ e. refl) 1 has_id params (λ n. n == id) (has_id_is id) (overlay db []) spool.files
             given.0 held.files refl (given.1.answer Null);
@@ -347,7 +348,7 @@ drops_records old new key first end count has waits h =
       committed = w.shown.committed_is ∙ rw waits refl;
       holds = λ spool held. record {
         sound = subst (λ s. IsSound s new.now.trees) schema w.sound;
-        version = at 0 ∙ applied.others 0 (λ e. absurd (omega (arith, e))) tt ∙ held.version;
+        version = subst (IsOf Current) (sym (at 0 ∙ applied.others 0 (λ e. absurd (omega (arith, e))) tt)) held.version;
         files = at 1 ∙ applied.others 1 (λ e. absurd (omega (arith, e))) tt ∙ held.files;
         records = at 2 ∙ applied.rows
             ∙ deleted record_row (λ e. refl) 2 is_between params (λ n. nat_le low n && nat_lt n high)

@@ -1,11 +1,12 @@
 -- What a spool file holds, as plain values, and the rows that stand for them.
-use Rattle.std.specs.Prelude.{◌≡◌, ℕ, ◌<◌, ◌+◌, ◌*◌, ◌^◌, ◌==◌, ℤ, pos, Bool, not, ◌&&◌, nat_le, nat_lt, if◌then◌else◌}
-use Rattle.std.specs.Prelude.{List, [], ◌∷◌, map, filter, flat_map, string_bytes, length}
+use Rattle.std.specs.Prelude.{◌≡◌, ◌⊎◌, ℕ, ◌<◌, ◌+◌, ◌*◌, ◌^◌, ◌==◌, ℤ, pos, Bool, not, ◌&&◌, nat_le, nat_lt, if◌then◌else◌}
+use Rattle.std.specs.Prelude.{List, [], ◌∷◌, map, filter, flat_map, string_bytes, IsPermutation}
 use Rattle.std.specs.List.{AllByRecursion}
 use Rattle.std.specs.Ordering.{nat_cmp, match_ordering}
+use Rattle.sqlite_value.specs.declared.value.Value.{Value}
 use Rattle.sqlite_value.specs.declared.value.Value.TheVariants.{Null, Int, Text, Blob}
-use Rattle.sqlite_value.specs.Order.{Row, column}
-use Rattle.sqlite_trees.specs.Tree.{Trees, IsAscending}
+use Rattle.sqlite_value.specs.Order.{Row}
+use Rattle.sqlite_trees.specs.Tree.{Trees, IsAscending, rowid}
 use Rattle.sqlite_catalog.specs.Listing.{IsSound}
 use Rattle.njh_spoolfile.specs.Packed.{placed_from, unpacked_row}
 use Rattle.njh_spoolfile.specs.Tables.{spool_schema}
@@ -13,6 +14,8 @@ use Rattle.njh_spoolfile.specs.declared.kept.FileRow.{FileRow}
 use Rattle.njh_spoolfile.specs.declared.kept.RecordRow.{RecordRow}
 use Rattle.njh_spoolfile.specs.declared.kept.StoredFile.{StoredFile}
 use Rattle.njh_spoolfile.specs.declared.kept.StoredRecord.{StoredRecord}
+use Rattle.njh_spoolfile.specs.declared.versions.Version.{Version}
+use Rattle.njh_spoolfile.specs.declared.versions.Version.TheVariants.{Older, Current}
 
 -- a whole file without its records; key is the number that its records came under
 pub record File : Type 0 where
@@ -130,23 +133,33 @@ Rise = IsAscending (λ a b. a.0 < b.0)
 abbrev pub IsNumbered : ℕ × Record → Type 0
 IsNumbered e = (e.0 ≡ record_number e.1.key e.1.place) × (e.1.place < 2 ^ 23)
 
--- the row of the version that this is
-abbrev pub version_row : Row
-version_row = Int (pos 1) ∷ Null ∷ []
+-- the row of a version
+abbrev pub version_row : ℕ → Row
+version_row version = Int (pos version) ∷ Null ∷ []
 
--- what a query of the version answers where it is this one
-abbrev pub AreVersions : List Row → Type 0
-AreVersions rows = (row : Row) × (rows ≡ row ∷ []) × (0 < length row) × (column row 0 ≡ Int (pos 1))
+-- the rows are of these versions, in any order
+abbrev pub AreOf : List Value → List Row → Type 0
+AreOf versions rows = IsPermutation (map rowid rows) versions
 
--- the trees are a spool file's, and hold the spool
-pub record Holds (spool : SpoolContents) (trees : Trees) : Type 0 where
+-- A spool file has a row for each version that wrote to it: of the older one its row, of this one its own, and the older
+-- one's where the file was taken over.
+abbrev pub IsOf : Version → List Row → Type 0
+IsOf Older rows = AreOf (Int (pos 1) ∷ []) rows
+IsOf Current rows = AreOf (Int (pos 2) ∷ []) rows ⊎ AreOf (Int (pos 1) ∷ Int (pos 2) ∷ []) rows
+
+-- the trees are a spool file's of the version, and hold the spool
+pub record HoldsAs (of : Version) (spool : SpoolContents) (trees : Trees) : Type 0 where
   pub sound : IsSound spool_schema trees
-  pub version : trees 0 ≡ version_row ∷ []
+  pub version : IsOf of (trees 0)
   pub files : trees 1 ≡ map file_row spool.files
   pub files_rise : Rise spool.files
   pub records : trees 2 ≡ map record_row spool.records
   pub records_rise : Rise spool.records
   pub numbered : AllByRecursion IsNumbered spool.records
+
+-- they are of this version
+abbrev pub Holds : SpoolContents → Trees → Type 0
+Holds = HoldsAs Current
 
 -- ---- what is read back
 

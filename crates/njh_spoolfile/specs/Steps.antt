@@ -1,10 +1,13 @@
 -- What a statement does to the connection of a spool.
-use Rattle.std.specs.Prelude.{◌≡◌, ℕ, true, false, IsTrue, []}
+use Rattle.std.specs.Prelude.{◌≡◌, ◌⊎◌, ℕ, true, false, IsTrue, []}
 use Rattle.sqlite.specs.State.{State, HasCleanDisk}
 use Rattle.sqlite.specs.Schema.{Schema}
+use Rattle.sqlite.specs.Tree.{Trees, put_row}
 use Rattle.sqlite_catalog.specs.Change.{KeepsRows}
-use Rattle.njh_spoolfile.specs.Kept.{SpoolContents, Holds, no_files}
-use Rattle.njh_spoolfile.specs.Tables.{spool_schema}
+use Rattle.sqlite_catalog.specs.Listing.{IsSound}
+use Rattle.njh_spoolfile.specs.Kept.{SpoolContents, Holds, IsOf, no_files, version_row}
+use Rattle.njh_spoolfile.specs.Tables.{no_tables, spool_schema}
+use Rattle.njh_spoolfile.specs.declared.versions.Version.TheVariants.{Older}
 
 -- the connection's file has the spool's tables, as far as the disk told the truth
 abbrev pub IsReady : State → Type 0
@@ -62,13 +65,25 @@ pub record MakesAll (old new : State) : Type 0 where
   pub no_files : new.now.trees 1 ≡ []
   pub no_records : new.now.trees 2 ≡ []
 
+-- this version's row is added, and nothing else changes
+pub record SetsVersion (found now : Trees) : Type 0 where
+  pub sound : IsSound spool_schema now
+  pub versions : now 0 ≡ put_row (version_row 2) (found 0)
+  pub files : now 1 ≡ found 1
+  pub records : now 2 ≡ found 2
+
+-- a spool of the older version is of this one now
+pub record TakesOver (found now : Trees) : Type 0 where
+  pub older : IsOf Older (found 0)
+  pub sets : SetsVersion found now
+
 -- the version is set, and waits for the commit
 pub record Sets (old new : State) : Type 0 where
   pub is_open : IsTrue new.is_open
   pub schema : new.now.schema ≡ spool_schema
   pub waits : new.in_transaction ≡ true
   pub committed : new.committed ≡ old.committed
-  pub holds : old.now.trees 0 ≡ [] → old.now.trees 1 ≡ [] → old.now.trees 2 ≡ [] → Holds no_files new.now.trees
+  pub sets : SetsVersion old.now.trees new.now.trees
 
 -- the tables of a spool that has no file, which wait for the commit
 pub record StartsEmpty (old new : State) : Type 0 where
@@ -84,3 +99,8 @@ pub record IsIdle (s : State) : Type 0 where
   pub schema : s.now.schema ≡ spool_schema
   pub kept : s.committed ≡ s.now
   pub autocommit : s.in_transaction ≡ false
+
+-- What becomes of a database that is no spool of this version: a spool with no file if it had no table, and the spool
+-- that it was if it is of the older version.
+abbrev pub Becomes : State → Trees → Type 0
+Becomes old now = ((old.now.schema ≡ no_tables) × Holds no_files now) ⊎ TakesOver old.now.trees now

@@ -9,12 +9,15 @@ ghost use Rattle.sqlite.specs.Recovery.{Image};
 ghost use Rattle.sqlite.specs.Tree.{Trees};
 ghost use Rattle.sqlite_store.specs.FileStore as files;
 ghost use Rattle.sqlite_store.specs.declared.store.FileStore.{FileStore};
-ghost use Rattle.njh_spoolfile.specs.Kept.{File, Record, SpoolContents, Holds, Rise, IsNumbered, kept, whole_in};
+ghost use Rattle.njh_spoolfile.specs.Kept.{File, Record, SpoolContents, Holds, HoldsAs, Rise, IsNumbered};
+ghost use Rattle.njh_spoolfile.specs.Kept.{kept, whole_in};
 ghost use Rattle.njh_spoolfile.specs.Kept.{records_of};
 ghost use Rattle.njh_spoolfile.specs.Kept.{record_number, with_file, with_changed, with_record, without_file};
 ghost use Rattle.njh_spoolfile.specs.Kept.{without_records};
 ghost use Rattle.njh_spoolfile.specs.Lists.{IsFree, has_file, kept_where};
+ghost use Rattle.njh_spoolfile.specs.Origin.{IsFoundIn};
 ghost use Rattle.njh_spoolfile.specs.Reopened.{OpensFrom};
+ghost use Rattle.njh_spoolfile.specs.declared.versions.Version.{Version};
 
 use sqlite_disk::Disk;
 
@@ -61,6 +64,12 @@ pub fn others_do_not_show()
     ensures { (passes : File → Bool) (id : ℕ) (file : File) (spool : SpoolContents)
         → AllByRecursion (λ e. e.0 < id) spool.files → passes file ≡ false
         → kept_where passes (with_file id file spool) ≡ kept_where passes spool }
+{}
+
+/// Whoever opens files that hold a spool of the older version finds that spool, of this version.
+pub fn an_older_spool_is_taken_over()
+    ensures { (image : Image) (db : Trees) (spool : SpoolContents) → HoldsDatabase image db
+        → HoldsAs Version.Older spool db → IsFoundIn image spool }
 {}
 
 /// Whoever opens the files that an open spool file may leave, at whatever moment, finds what a

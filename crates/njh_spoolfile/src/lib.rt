@@ -13,12 +13,14 @@ mod reads;
 mod statements;
 mod store;
 mod tables;
+mod versions;
 
 pub use copying::{CopyFault, copy_files};
 pub use kept::{FileRow, GREATEST_ID, RecordRow, StoredFile, StoredRecord};
 pub use laws::{
     a_file_comes_last, a_file_keeps_its_place, a_file_leaves, a_record_comes_last,
-    others_do_not_show, records_in_part_do_not_show, what_is_left_is_found,
+    an_older_spool_is_taken_over, others_do_not_show, records_in_part_do_not_show,
+    what_is_left_is_found,
 };
 pub use opening::OpenFault;
 pub use origin::Origin;

@@ -5,7 +5,8 @@ ghost use Rattle.sqlite.specs.State.{HasCleanDisk, Survives};
 ghost use Rattle.sqlite.specs.Held.{state};
 ghost use Rattle.njh_spoolfile.specs.Kept.{Holds, no_files};
 ghost use Rattle.njh_spoolfile.specs.Tables.{no_tables, one_table, two_tables, spool_schema};
-ghost use Rattle.njh_spoolfile.specs.Steps.{IsWriting, IsIdle, Makes, MakesAll, Sets, StartsEmpty};
+ghost use Rattle.njh_spoolfile.specs.Steps.{IsReady, IsWriting, IsIdle, Makes, MakesAll, Sets, SetsVersion};
+ghost use Rattle.njh_spoolfile.specs.Steps.{StartsEmpty};
 
 use crate::statements::{begin, commit};
 use sqlite::{Alter, Connection, Error};
@@ -60,7 +61,7 @@ fn add_version<S: Alter>(conn: &mut Connection<S>) -> Result<(), Error>
         (state S.Store conn.new)) }
     ensures crash { Survives (state S.Store conn.old) (state S.Store conn.new) (λ _. ⊥) }
 {
-    let _ = conn.execute("INSERT INTO spool VALUES (1)", &[])?;
+    let _ = conn.execute("INSERT INTO spool VALUES (2)", &[])?;
     Ok(())
 }
 
@@ -94,5 +95,18 @@ pub(crate) fn make<S: Alter>(conn: &mut Connection<S>) -> Result<(), Error>
 {
     begin(conn)?;
     create_all(conn)?;
+    commit(conn)
+}
+
+/// Takes a spool of the older version over, in one commit.
+pub(crate) fn take_over<S: Alter>(conn: &mut Connection<S>) -> Result<(), Error>
+    requires ready { IsReady (state S.Store conn.old) }
+    ensures taken { HasCleanDisk (state S.Store conn.new) → OnOk result (IsIdle (state S.Store conn.new)
+        × SetsVersion (state S.Store conn.old).now.trees (state S.Store conn.new).now.trees) }
+    ensures crash { Survives (state S.Store conn.old) (state S.Store conn.new)
+        (SetsVersion (state S.Store conn.old).now.trees) }
+{
+    begin(conn)?;
+    add_version(conn)?;
     commit(conn)
 }

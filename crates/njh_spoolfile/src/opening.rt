@@ -1,16 +1,16 @@
 //! What becomes of a database that is opened as a spool.
 
-ghost use Rattle.std.specs.Prelude.{◌≡◌, ◌↔◌, ◌⊎◌, [], List, codes, IsTrue, IfOk, IfErr, OnOk};
-ghost use Rattle.sqlite.specs.State.{HasCleanDisk, IsLive, Opens, Shown, Survives};
-ghost use Rattle.sqlite_value.specs.declared.value.Value.{Value};
+ghost use Rattle.std.specs.Prelude.{◌≡◌, ◌↔◌, ◌⊎◌, IsTrue, IfOk, IfErr, OnOk};
+ghost use Rattle.sqlite.specs.State.{HasCleanDisk, IsLive, Opens, Survives};
 ghost use Rattle.sqlite.specs.Held.{state};
-ghost use Rattle.njh_spoolfile.specs.Kept.{AreVersions, SpoolContents, Holds, no_files};
-ghost use Rattle.njh_spoolfile.specs.Tables.{no_tables, spool_schema};
-ghost use Rattle.njh_spoolfile.specs.Steps.{IsIdle, Stays};
+ghost use Rattle.njh_spoolfile.specs.Kept.{HoldsAs, IsOf, SpoolContents};
+ghost use Rattle.njh_spoolfile.specs.Tables.{spool_schema};
+ghost use Rattle.njh_spoolfile.specs.Steps.{Becomes, IsIdle, Stays};
+ghost use Rattle.njh_spoolfile.specs.declared.versions.Version.{Version};
 
-use crate::making::make;
-use crate::reads::has_version;
+use crate::making::{make, take_over};
 use crate::tables::{is_empty, is_spool};
+use crate::versions::{Version, version_of};
 use sqlite::{Alter, Connection, Error};
 use std::alloc::Global;
 
@@ -50,45 +50,50 @@ fn test_tables<S: Alter>(alloc: Global, conn: &Connection<S>) -> Result<bool, Er
     Ok(is_spool(alloc, conn.schema())?)
 }
 
-/// Refuses tables that aren't a spool's, and a spool of another version.
-fn recognise<S: Alter>(alloc: Global, conn: &mut Connection<S>) -> Result<(), OpenFault>
+/// Refuses tables that aren't a spool's, and a spool of a version that isn't read here.
+fn recognise<S: Alter>(alloc: Global, conn: &mut Connection<S>) -> Result<Version, OpenFault>
     requires fresh { HasCleanDisk (state S.Store conn.old) → Opens (state S.Store conn.old) }
     ensures ready { HasCleanDisk (state S.Store conn.new) → OnOk result (IsIdle (state S.Store conn.new)) }
     ensures same { HasCleanDisk (state S.Store conn.new) → OnOk result (Stays (state S.Store conn.old)
         (state S.Store conn.new)) }
+    ensures version { HasCleanDisk (state S.Store conn.new) → IfOk result (λ version. IsOf version
+        ((state S.Store conn.old).now.trees 0)) }
     ensures refused { HasCleanDisk (state S.Store conn.new) → IfErr result (λ fault. (fault ≡ OpenFault.NotASpool)
-        ⊎ (fault ≡ OpenFault.OtherVersion) → (spool : SpoolContents)
-        → ¬ Holds spool (state S.Store conn.old).now.trees) }
-    ensures version { HasCleanDisk (state S.Store conn.new) → OnOk result ((rows : List (List Value))
-        × Shown (codes "SELECT version FROM spool ORDER BY version") [] (state S.Store conn.old)
-        (state S.Store conn.new) rows × AreVersions rows) }
+        ⊎ (fault ≡ OpenFault.OtherVersion) → (version : Version) (spool : SpoolContents)
+        → ¬ HoldsAs version spool (state S.Store conn.old).now.trees) }
     ensures crash { Survives (state S.Store conn.old) (state S.Store conn.new) (λ _. ⊥) }
 {
     if !test_tables(alloc, conn)? {
         return Err(OpenFault::NotASpool);
     }
-    if !has_version(conn)? {
-        return Err(OpenFault::OtherVersion);
+    match version_of(conn)? {
+        Some(version) => Ok(version),
+        None => Err(OpenFault::OtherVersion),
     }
-    Ok(())
 }
 
-/// Makes the tables where the database has nothing yet, and else recognises a spool.
+/// Makes the tables where the database has nothing yet, and else recognises a spool, and takes one
+/// of the older version over.
 pub(crate) fn prepare<S: Alter>(alloc: Global, conn: &mut Connection<S>) -> Result<(), OpenFault>
     requires fresh { HasCleanDisk (state S.Store conn.old) → Opens (state S.Store conn.old) }
     ensures ready { HasCleanDisk (state S.Store conn.new) → OnOk result (IsIdle (state S.Store conn.new)) }
-    ensures outcome { HasCleanDisk (state S.Store conn.new) → OnOk result (Stays (state S.Store conn.old)
-        (state S.Store conn.new) ⊎ (((state S.Store conn.old).now.schema ≡ no_tables)
-        × Holds no_files (state S.Store conn.new).now.trees)) }
+    ensures outcome { HasCleanDisk (state S.Store conn.new) → OnOk result ((Stays (state S.Store conn.old)
+        (state S.Store conn.new) × IsOf Version.Current ((state S.Store conn.old).now.trees 0))
+        ⊎ Becomes (state S.Store conn.old) (state S.Store conn.new).now.trees) }
     ensures refused { HasCleanDisk (state S.Store conn.new) → IfErr result (λ fault. (fault ≡ OpenFault.NotASpool)
-        ⊎ (fault ≡ OpenFault.OtherVersion) → (spool : SpoolContents)
-        → ¬ Holds spool (state S.Store conn.old).now.trees) }
-    ensures crash { Survives (state S.Store conn.old) (state S.Store conn.new)
-        (λ trees. ((state S.Store conn.old).now.schema ≡ no_tables) × Holds no_files trees) }
+        ⊎ (fault ≡ OpenFault.OtherVersion) → (version : Version) (spool : SpoolContents)
+        → ¬ HoldsAs version spool (state S.Store conn.old).now.trees) }
+    ensures crash { Survives (state S.Store conn.old) (state S.Store conn.new) (Becomes (state S.Store conn.old)) }
 {
     if is_empty(conn.schema()) {
         make(conn)?;
         return Ok(());
     }
-    recognise(alloc, conn)
+    match recognise(alloc, conn)? {
+        Version::Current => Ok(()),
+        Version::Older => {
+            take_over(conn)?;
+            Ok(())
+        }
+    }
 }

@@ -1,15 +1,14 @@
 //! What a spool has, read back.
 
-ghost use Rattle.std.specs.Prelude.{◌≡◌, ◌↔◌, ◌<◌, [], ◌∷◌, length, codes, IsTrue, ◌≤◌, ◌^◌, ℕ, ℤ, List, pos, Bool};
+ghost use Rattle.std.specs.Prelude.{◌≡◌, ◌≤◌, ◌^◌, ℕ, List, pos, Bool};
 ghost use Rattle.std.specs.Prelude.{map, string_bytes, IfOk, OnOk};
-ghost use Rattle.sqlite_value.specs.declared.value.Value.{Value};
 ghost use Rattle.sqlite_value.specs.declared.value.Value.TheVariants.{Int, Text, Blob};
 ghost use Rattle.sqlite.specs.Order.{column};
-ghost use Rattle.sqlite.specs.State.{HasCleanDisk, Survives, Shown};
+ghost use Rattle.sqlite.specs.State.{HasCleanDisk, Survives};
 ghost use Rattle.sqlite.specs.Held.{state};
 ghost use Rattle.njh_spoolfile.specs.Kept.{SpoolContents, Holds, File, Record, file_shown, record_shown, flag};
 ghost use Rattle.njh_spoolfile.specs.Kept.{entry_of};
-ghost use Rattle.njh_spoolfile.specs.Kept.{AreVersions, as_stands, contents_of, contents_in, records_between};
+ghost use Rattle.njh_spoolfile.specs.Kept.{as_stands, contents_of, contents_in, records_between};
 ghost use Rattle.njh_spoolfile.specs.Steps.{IsReady, Stays};
 
 use crate::kept::{FileRow, StoredFile, StoredRecord, values_of_places};
@@ -17,9 +16,6 @@ use crate::packing::unpack;
 use sqlite::types::ValueRef;
 use sqlite::{Alter, Connection, Error, Row};
 use std::alloc::Global;
-
-/// The version of the tables that is read and written here.
-const VERSION: i64 = 1;
 
 fn text_at(row: &Row, at: usize) -> Result<String, Error>
     ensures { IfOk result (λ text. (bytes : List ℕ) → column row.now at ≡ Text bytes → string_bytes text ≡ bytes) }
@@ -221,52 +217,4 @@ pub fn rows<S: Alter>(
 {
     let rows = rows_of_records(conn, key, first, end)?;
     rows_in(alloc, rows.as_slice())
-}
-
-fn rows_of_versions<S: Alter>(conn: &mut Connection<S>) -> Result<Vec<Row>, Error>
-    requires ready { IsReady (state S.Store conn.old) }
-    ensures rows { HasCleanDisk (state S.Store conn.new) → IfOk result (λ rows. (spool : SpoolContents)
-        → Holds spool (state S.Store conn.old).now.trees → rows.items ≡ (Int (pos 1) ∷ []) ∷ []) }
-    ensures shown { HasCleanDisk (state S.Store conn.new) → IfOk result
-        (λ rows. Shown (codes "SELECT version FROM spool ORDER BY version") [] (state S.Store conn.old)
-        (state S.Store conn.new) rows.items) }
-    ensures same { HasCleanDisk (state S.Store conn.new) → OnOk result (Stays (state S.Store conn.old)
-        (state S.Store conn.new)) }
-    ensures crash { Survives (state S.Store conn.old) (state S.Store conn.new) (λ _. ⊥) }
-{
-    conn.query_all("SELECT version FROM spool ORDER BY version", &[])
-}
-
-fn is_version(row: &Row) -> bool
-    ensures { IsTrue result ↔ ((0 < length row.now) × (column row.now 0 ≡ Int (pos 1))) }
-{
-    match row.get_ref(0) {
-        Ok(ValueRef::Int(version)) => version == VERSION,
-        _ => false,
-    }
-}
-
-fn are_versions(rows: &[Row]) -> bool
-    ensures { IsTrue result ↔ AreVersions rows.now }
-{
-    let [row] = rows else {
-        return false;
-    };
-    is_version(row)
-}
-
-/// Whether the spool's version is the one that is read and written here.
-pub(crate) fn has_version<S: Alter>(conn: &mut Connection<S>) -> Result<bool, Error>
-    requires ready { IsReady (state S.Store conn.old) }
-    ensures version { HasCleanDisk (state S.Store conn.new) → IfOk result (λ same. (spool : SpoolContents)
-        → Holds spool (state S.Store conn.old).now.trees → IsTrue same) }
-    ensures other { HasCleanDisk (state S.Store conn.new) → IfOk result (λ same. (rows : List (List Value))
-        × Shown (codes "SELECT version FROM spool ORDER BY version") [] (state S.Store conn.old)
-        (state S.Store conn.new) rows × (IsTrue same ↔ AreVersions rows)) }
-    ensures same { HasCleanDisk (state S.Store conn.new) → OnOk result (Stays (state S.Store conn.old)
-        (state S.Store conn.new)) }
-    ensures crash { Survives (state S.Store conn.old) (state S.Store conn.new) (λ _. ⊥) }
-{
-    let rows = rows_of_versions(conn)?;
-    Ok(are_versions(rows.as_slice()))
 }

@@ -2,16 +2,15 @@ use Rattle.std.proofs.Common.{arith}
 use Rattle.sqlite.specs.State.{HasCleanDisk}
 use Rattle.sqlite.specs.Held.{state}
 use Rattle.sqlite.proofs.StateLemmas.{survives_weaker}
-use Rattle.njh_spoolfile.proofs.ReadingLaws.{version_is, select_version_keeps_nothing, if_ok, on_ok, shown_same, stays}
+use Rattle.njh_spoolfile.proofs.ReadingLaws.{versions_are, select_version_keeps_nothing, if_ok, on_ok, shown_same, stays}
 use Rattle.njh_spoolfile.proofs.Meaning.{select_version, select_version_plain}
-use Rattle.njh_spoolfile.proofs.reads.rows_of_versions.Goals as goal
+use Rattle.njh_spoolfile.proofs.versions.rows_of_versions.Goals as goal
 
 pub returns-clause-rows : goal.returns-clause-rows
 returns-clause-rows g c clean =
     let early : HasCleanDisk (state g.S.Store c.args.conn.now) = omega (arith, c.query_all.ensures.survives.clean) in
-    if_ok _ _ (λ rows shown spool held. version_is (state g.S.Store c.args.conn.now)
-    (state g.S.Store c.query_all.new.self) rows.items spool (c.requires.ready early) held shown)
-    c.query_all.result (c.query_all.ensures.ok clean)
+    if_ok _ _ (λ rows shown. versions_are (state g.S.Store c.args.conn.now) (state g.S.Store c.query_all.new.self)
+    rows.items (c.requires.ready early) shown) c.query_all.result (c.query_all.ensures.ok clean)
 
 pub returns-clause-crash : goal.returns-clause-crash
 returns-clause-crash g c =
