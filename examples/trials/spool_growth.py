@@ -23,10 +23,10 @@ memory (VmRSS); how many files were given up, cancelled and taken so far; the me
 milliseconds; and the seconds of processor that the hub and the peers used for each second. While the peers use little
 of theirs, it is the hub and its disk that are waited for. Then the hub is killed, and it is told
 
-- how many rows of records the spool file has, how many of them belong to no whole file, for how many of the smallest
-  records the quotas have room, and how many of the file's pages are free;
+- how many records the spool file has, in how many rows, how many of them belong to no whole file, for how many of the
+  smallest records the quotas have room, and how many of the file's pages are free;
 - how many seconds a start on the same file takes until a contact is answered, the most memory that the program had by
-  then (VmHWM), how large the file and its log are, and the rows after it;
+  then (VmHWM), how large the file and its log are, and its records after it;
 - how many times the blocks of the quotas the file is as large, and by how much it grew a second in the second half.
 
 The last line says "right"; or the script ends with status 1, says what is wrong (also a line that isn't answered for 20
@@ -157,15 +157,24 @@ def watch(options, served, crowds):
     return sizes
 
 
+def records_in(srcb, data):
+    """How many records a row holds: one, or several if its SRCB is 256, each as SRCB, length and bytes."""
+    count, at = srcb < 256, 0
+    while srcb == 256 and at < len(data):
+        count, at = count + 1, at + 3 + int.from_bytes(data[at + 1 : at + 3], "big")
+    return count
+
+
 def rows_told(served, quotas):
     """What SQLite says of a copy of the spool file."""
     room = A_BLOCK * quotas
     with contextlib.closing(sqlite3.connect(served.copy(served.folder / "copy"))) as copy:
-        rows = copy.execute("select count(*) from records").fetchone()[0]
-        dead = copy.execute("select count(*) from records where file not in (select key from files)").fetchone()[0]
+        rows = copy.execute("select file in (select key from files), srcb, bytes from records")
+        counts = [(is_whole, records_in(srcb, data)) for is_whole, srcb, data in rows]
         pages, free = (copy.execute(f"pragma {what}").fetchone()[0] for what in ("page_count", "freelist_count"))
-    print(f"    {rows} rows of records, {dead} of them of no whole file; {free} of {pages} pages are free;")
-    print(f"    the quotas have room for {room} of the smallest records, so these are {rows / room:.2f} times as many")
+    found, dead = sum(count for _, count in counts), sum(count for is_whole, count in counts if not is_whole)
+    print(f"    {found} records in {len(counts)} rows, {dead} of no whole file; {free} of {pages} pages are free;")
+    print(f"    the quotas have room for {room} of the smallest records, so these are {found / room:.2f} times as many")
 
 
 def contacted(served, port):

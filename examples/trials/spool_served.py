@@ -94,6 +94,8 @@ def raw_of(records):
 
 FILES_QUERY = "select customer, key, number, owner_node from files"
 
+RECORDS_QUERY = pathlib.Path(__file__).with_name("read_spool.sql").read_text()
+
 
 def check_tables(copy, bytes_of):
     """SQLite's own word on a copy of the spool, and the bytes of all files, which `bytes_of` takes by their key."""
@@ -103,8 +105,11 @@ def check_tables(copy, bytes_of):
         raise Wrong(f"integrity_check: {found[:3]}")
     has_files = connection.execute("select 1 from sqlite_master where name = 'files'").fetchall()
     for customer, key, number, node in connection.execute(FILES_QUERY) if has_files else ():
-        rows = connection.execute("select srcb, bytes from records where file = ? order by place", (key,)).fetchall()
-        bytes_of[customer, f"{node}.{number}"] = rows
+        records = connection.execute(RECORDS_QUERY, {"key": key}).fetchall()
+        places = [place for place, _, _ in records]
+        if places != list(range(len(records))):
+            raise Wrong(f"{customer}: {node}.{number} has records at places {places}")
+        bytes_of[customer, f"{node}.{number}"] = [(srcb, bytes.fromhex(data)) for _, srcb, data in records]
     connection.close()
 
 
