@@ -1,0 +1,252 @@
+"""Shows how long other customers wait for a hub with a spool file while one customer asks much of it.
+
+    python3 examples/trials/spool_long.py PROGRAM [--seconds 10] [--cores 2 3 1] [PLAY ..]
+
+The hub is on the first of `--cores`, on the second are two lines of another customer: one sends blocks without records,
+and one sends and takes small files. Each says its next block some milliseconds after the last one was answered, some
+300 times a second. On the third core is the first customer's line, which sends frames of up to 4,096 bytes as fast as
+they are answered. It plays, in turn and each with a new hub:
+
+- `quiet`: it says nothing.
+- `large`: a file of 10 MB, in records of 256 bytes.
+- `flood`: HOLD and RELEASE of its file in turn, an odd number of them in each frame, so that each changes the file.
+- `many`: the same of 1,024 files of one name.
+- `smallest`: it fills its quota with records of a blank, until one is refused, and begins anew.
+
+There too a probe writes 4,096 bytes some twenty times a second to a file beside the spool file, and syncs it.
+
+The table has a row for each: the median and the longest sync in milliseconds, of the probe and of the hub, whose syncs
+are noted by a library that is loaded before it (spool_syncs.c, which cc builds); and of each of the two lines how many
+answers there were, their median and the longest in milliseconds, and the longest of them without the time of it in
+which the hub was syncing. That is to be under 10 milliseconds. What the first line played is said below each row.
+"""
+
+import bisect
+import multiprocessing
+import os
+import random
+import statistics
+import tempfile
+import time
+
+from frames import (
+    CARD,
+    COMPLETE,
+    MESSAGE,
+    PERMISSION,
+    REFUSAL,
+    REQUEST,
+    SYSOUT,
+    Text,
+    command,
+    file_of,
+    records_of,
+    spelled,
+)
+from hop_ends import End
+from hub import options_of, places_of, row
+from peers import Crowd
+from spool_hub import PinnedHub, built
+from spool_speed import BIG, Brisk, table_for
+
+PLAYS = ("quiet", "large", "flood", "many", "smallest")
+
+WIDTHS = (9, 7, 8, 7, 8, 8, 7, 8, 8, 8, 7, 8, 8)
+
+# How many bytes the records of a frame may take, so that it has 4,096 at most, also if some are doubled.
+ROOM = 4060
+
+# How many blocks the first customer's quota has, and in the play that fills it.
+QUOTA, FILLED = 65000, 8000
+
+
+class Asking(Brisk):
+    """A line of the other customer. It notes when each block was said and answered, and rests before the next one."""
+
+    def begin(self):
+        self.times = []
+        super().begin()
+
+    def turn(self, frame):
+        self.times.append((self.at, time.monotonic()))
+        time.sleep(random.uniform(0.001, 0.005))
+        if self.other:
+            super().turn(frame)
+        else:
+            self.say_block(b"")
+
+
+def asking(place, other, core):
+    def made(loop):
+        os.sched_setaffinity(0, {core})
+        peer = Asking(loop, place.port, place.node)
+        peer.other = other
+        return [peer]
+
+    return Crowd(made, lambda peer: peer.times)
+
+
+class Probe:
+    """A process that writes to a file in this folder and syncs it, and notes when each sync began and ended."""
+
+    def __init__(self, folder, core):
+        self.pipe, there = multiprocessing.Pipe()
+        words = (f"{folder}/probe", core, there)
+        self.process = multiprocessing.get_context("fork").Process(target=self.run, args=words, daemon=True)
+        self.process.start()
+
+    @staticmethod
+    def run(path, core, pipe):
+        os.sched_setaffinity(0, {core})
+        file, times = os.open(path, os.O_CREAT | os.O_RDWR, 0o600), []
+        while not pipe.poll(0.05):
+            os.pwrite(file, os.urandom(4096), 0)
+            begin = time.monotonic()
+            os.fdatasync(file)
+            times.append((begin, time.monotonic()))
+        pipe.send(times)
+
+    def stop(self):
+        self.pipe.send("stop")
+        times = self.pipe.recv()
+        self.process.join()
+        return times
+
+
+class Asker(End):
+    """The first customer's line, on a socket that waits. `begun` is when its play began, all being made ready."""
+
+    begun = 0.0
+
+    def begin(self):
+        self.begun = time.monotonic()
+
+    def exchange(self, records):
+        """Says a block of these records, and which records the answer has: RCB, SRCB and bytes."""
+        self.say(records)
+        frames = []
+        while not frames:
+            frames = self.deframer.feed(self.socket.recv(65536))
+        return [record for frame in frames if isinstance(frame, Text) for record in records_of(frame)]
+
+    def expect(self, code, records):
+        """Says a block that is to be answered by a record of this RCB."""
+        found = [record[0] for record in self.exchange(records)]
+        if code not in found:
+            raise ConnectionError(f"the hub answers {found}")
+
+    def send(self, cards):
+        """Sends a file of these cards that nobody takes, each frame with as many records as have room."""
+        file, waits = file_of(1, "N0", "ANNA", "N1", "PAUL", cards), b""
+        self.expect(PERMISSION, bytes([REQUEST, SYSOUT, 0]))
+        for srcb, record in file:
+            piece = bytes([SYSOUT, srcb]) + spelled(record)
+            if len(waits) + len(piece) > ROOM:
+                self.exchange(waits)
+                waits = b""
+            waits += piece
+        self.expect(COMPLETE, waits + bytes([SYSOUT, CARD, 0]))
+
+
+def quiet(asker, seconds):
+    asker.begin()
+    time.sleep(seconds)
+    return "nothing"
+
+
+def large(asker, _):
+    asker.begin()
+    asker.send([BIG.replace(b"\x10", b"\x11")] * 40000)
+    return f"a file of 10 MB in {time.monotonic() - asker.begun:.1f} s"
+
+
+def flood(asker, seconds, count=1):
+    for _ in range(count):
+        asker.send([BIG])
+    words = [command("BUREAU", "N0", "ANNA", f"{word} N0.1") for word in ("HOLD", "RELEASE")]
+    many = ROOM // len(words[1]) // 2 * 2 - 1
+    blocks = [b"".join(words[(at + first) % 2] for at in range(many)) for first in (0, 1)]
+    asker.begin()
+    frames, replies = 0, 0
+    while time.monotonic() < asker.begun + seconds:
+        found = asker.exchange(blocks[frames % 2])
+        frames, replies = frames + 1, replies + sum(rcb == MESSAGE for rcb, _, _ in found)
+    return f"{frames} frames of {many} commands about {count} files in {seconds} s; {replies} replies came back"
+
+
+def many(asker, seconds):
+    return flood(asker, seconds, 1024)
+
+
+def smallest(asker, seconds):
+    piece = bytes([SYSOUT, CARD, 0x81, 0x00])
+    block, headers = piece * (ROOM // len(piece)), file_of(1, "N0", "ANNA", "N1", "PAUL", [])[:2]
+    first = b"".join(bytes([SYSOUT, srcb]) + spelled(record) for srcb, record in headers)
+    asker.begin()
+    frames, fills, end = 0, 0, asker.begun + seconds
+    while time.monotonic() < end:
+        asker.expect(PERMISSION, bytes([REQUEST, SYSOUT, 0]) + first)
+        while time.monotonic() < end and all(rcb != REFUSAL for rcb, _, _ in asker.exchange(block)):
+            frames += 1
+        fills += time.monotonic() < end
+        asker.exchange(bytes([SYSOUT, CARD, 0x40]))
+    return f"{frames} frames of {len(block) // 4} records in {seconds} s; {fills} times the quota was full"
+
+
+def beyond(times, syncs):
+    """How long each answer took without what of it the hub was syncing."""
+    ends, found = [end for _, end in syncs], []
+    for sent, came in times:
+        own = came - sent
+        for begin, end in syncs[bisect.bisect(ends, sent) :]:
+            if begin >= came:
+                break
+            own -= min(came, end) - max(sent, begin)
+        found.append(own)
+    return found
+
+
+def cells_of(times, *more):
+    """The median and the longest of these times, and of more, in milliseconds."""
+    lasted = [came - sent for sent, came in times] or [0.0]
+    return [f"{1000 * figure:.2f}" for figure in (statistics.median(lasted), max(lasted), *more)]
+
+
+def trial(options, library, name):
+    places, (core, others, own) = places_of([2, 3]), options.cores
+    os.sched_setaffinity(0, {own})
+    table = table_for(places, FILLED if name == "smallest" else QUOTA, 1024)
+    with PinnedHub(options.program, table, core, library) as hub:
+        hub.wait_for(places[-1].port)
+        nodes = [None, "N2", "N1"]
+        lines = [asking(place, other, others) for place, other in zip(places[2:], nodes)]
+        asker, probe = Asker(places[0].port, "N0"), Probe(hub.place.name, own)
+        note = globals()[name](asker, options.seconds)
+        syncs, probed = hub.syncs(asker.begun), [pair for pair in probe.stop() if pair[0] > asker.begun]
+        cells = [*cells_of(probed), *cells_of(syncs)]
+        for line in lines[:2]:
+            times = [pair for pair in line.look()[0][0] if pair[0] > asker.begun]
+            cells += [len(times), *cells_of(times, max(beyond(times, syncs), default=0.0))]
+        for line in lines:
+            line.__exit__()
+    row(WIDTHS, name, *cells)
+    print(f"    {note}; {len(syncs)} syncs")
+
+
+def main():
+    options = options_of(
+        __doc__,
+        (("--seconds",), {"type": int, "default": 10, "help": "how long each play lasts, but for `large`"}),
+        (("--cores",), {"type": int, "nargs": 3, "default": [2, 3, 1], "help": "the hub's, the others', the first's"}),
+        (("plays",), {"nargs": "*", "metavar": "PLAY", "help": ", ".join(PLAYS) + "; all where none is named"}),
+    )
+    with tempfile.TemporaryDirectory() as folder:
+        library = built(folder, "spool_syncs.c", "-shared", "-fPIC", "-ldl")
+        line = ("count", "median", "longest", "beyond")
+        row(WIDTHS, "", "probe:", "longest", "hub:", "longest", "blocks:", *line[1:], "files:", *line[1:])
+        for name in options.plays or PLAYS:
+            trial(options, library, name)
+
+
+if __name__ == "__main__":
+    main()
