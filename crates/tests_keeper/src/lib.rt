@@ -19,6 +19,8 @@ mod playing;
 #[cfg(test)]
 mod portion_tests;
 #[cfg(test)]
+mod row_tests;
+#[cfg(test)]
 mod same;
 #[cfg(test)]
 mod spool_files;
