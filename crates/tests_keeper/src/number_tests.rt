@@ -94,6 +94,36 @@ fn records_of_no_file_are_dropped(rt: HostRuntime) -> Result<(), Fail> {
     }
 }
 
+/// In how many rows the records of the first whole file stand.
+fn rows_of_first<S: Alter>(alloc: Global, store: &mut Store<S>) -> Result<usize, Fail> {
+    let files = store.files(alloc)?;
+    let rows = match files.first() {
+        Some(first) => store.drop_records(first.file.key, 0, 1 << 23)?,
+        None => 0,
+    };
+    drop(files);
+    Ok(rows)
+}
+
+/// In how many rows those of a spool file's first whole file stand.
+fn rows_in<S: Start>(files: &SpoolFiles<'_>, start: S) -> Result<usize, Fail> {
+    let mut store = files.open(start)?;
+    let rows = rows_of_first(files.allocator(), &mut store);
+    kill(store);
+    rows
+}
+
+#[test]
+fn records_share_a_row_but_headers(rt: HostRuntime) -> Result<(), Fail> {
+    play(&rt, "rows_of_records", ONE_FILE)?;
+    let files = SpoolFiles::left_by(&rt, "rows_of_records")?;
+    // a job header, a data set header, and two lines with the trailer
+    match rows_in(&files, Unknown)? {
+        3 => Ok(()),
+        _ => Err("five records don't stand in three rows".into()),
+    }
+}
+
 /// Gives the row of the first whole file this number.
 fn move_first<S: Alter>(alloc: Global, store: &mut Store<S>, id: u64) -> Result<(), Fail> {
     let files = store.files(alloc)?;
