@@ -1,9 +1,10 @@
 -- A file's records are finished: of those that stand there the headers are written anew.
 use Rattle.njh_keeper.proofs.Words
-use Words.{◌≡◌, ℕ, zero, suc, ◌+◌, ◌<◌, ◌≤◌, true, false, List, [], ◌∷◌, ◌++◌, length, get_or, take, drop, sym, ap, subst}
-use Words.{◌∙◌, append-nil, arith, drop_all, get_or-take, length-take-le, take-take, take_all, Stored, Record}
+use Words.{◌≡◌, ℕ, zero, suc, ◌+◌, ◌<◌, ◌≤◌, true, false, List, [], ◌∷◌, ◌++◌, length, get_or, take, drop, sym, ap}
+use Words.{subst, ◌∙◌, append-nil, arith, drop_all, get_or-take, length-take-le, take-take, take_all, Stored, Record}
 use Words.{SpoolContents, with_record, without_records, HasRecords, IsOrdered, records_midway, stored_of}
-use Rattle.njh_keeper.proofs.{AlikeLaws.{AreAlike, alike_at, is_header}, WritingLaws.{next_is_rewritten, next_is_the_same}}
+use Rattle.njh_keeper.proofs.{AlikeLaws.{AreAlike, alike_at, is_header}, WritingLaws.next_is_rewritten}
+use Rattle.njh_keeper.proofs.WritingLaws.{next_is_the_same}
 
 -- fronts of records that are alike are so too
 pub front_alike : (n : ℕ) (before now : List Stored) → AreAlike before now → AreAlike (take n before) (take n now)

@@ -1,6 +1,6 @@
 -- Records of a file are gathered for a row, and rows are written.
 use Rattle.njh_keeper.proofs.Words
-use Words.{◌≡◌, ℕ, ◌+◌, ◌-◌, ◌^◌, ◌<◌, ◌≤◌, true, false, min, List, [], ◌∷◌, ◌++◌, length, get_or, take, drop, map, refl}
+use Words.{◌≡◌, ℕ, ◌+◌, ◌^◌, ◌<◌, true, false, List, [], ◌∷◌, ◌++◌, length, take, drop, map, refl}
 use Words.{sym, ap, subst, ◌∙◌, arith, length-drop, length-map, length-take-le, map-append, take-append-drop, take-take}
 use Words.{take_more, AllByRecursion, State, Stored, Record, SpoolContents, with_record, Changes, Leads, HasRecords}
 use Words.{WritesUnder, SpoolWriter}

@@ -1,6 +1,6 @@
 -- A spool file goes on to have the whole files of a hub, call by call.
 use Rattle.njh_keeper.proofs.Words
-use Words.{◌≡◌, ◌≢◌, ℕ, ◌+◌, ◌<◌, ◌≤◌, true, List, [], ◌∷◌, ◌++◌, length, get_or, set, remove, map, refl, sym, ap}
+use Words.{◌≡◌, ◌≢◌, ℕ, ◌+◌, ◌<◌, ◌≤◌, true, List, [], ◌∷◌, ◌++◌, length, get_or, set, remove, refl, sym, ap}
 use Words.{subst, ◌∙◌, arith, get_or_default, set-get_or, AllByRecursion, File, SpoolContents, contents_in, records_of}
 use Words.{with_changed, with_file, without_file, WholeFile, is_held, FitsHub, HasRecords, IsOrdered, WritesRowsOf}
 use Words.{WritesUnder, own_rows, AllBeside, AreBelow, Claim, IsKept, IsRowOf, KeptWhole, Mirrored, Moves, OwnFiles}

@@ -1,7 +1,7 @@
 -- The hub's whole files beside those that are kept: which were there, and which one is at a place.
 use Rattle.njh_keeper.proofs.Words
 use Words.{◌≡◌, ℕ, zero, suc, ◌+◌, ◌-◌, ◌^◌, ◌<◌, ◌≤◌, ◌==◌, inl, inr, Bool, true, false, cond, List, [], ◌∷◌, ◌++◌}
-use Words.{length, map, get_or, set, take, Option, Some, None, min, refl, sym, ap, subst, ◌∙◌, arith, cases_lt}
+use Words.{length, get_or, set, take, Option, Some, None, min, refl, sym, ap, subst, ◌∙◌, arith, cases_lt}
 use Words.{get_or-take, get_or_default, length-take-le, take_more, All-from_recursion, AllByRecursion, In}
 use Words.{Stored, HasHeaders, SpoolContents, records_of, contents_in, CustomerSpool, WholeFile, max_arrived}
 use Words.{partial_numbered, Ready, records_in, HaveHeaders, outgoing, Survive, leaves, none, FileSummaryView}

@@ -1,6 +1,6 @@
 -- The rows of a customer on a spool file beside the files that a hub has of them.
 use Rattle.njh_keeper.proofs.Words
-use Words.{◌≡◌, ℕ, ◌+◌, ◌<◌, ◌==◌, true, List, [], ◌∷◌, ◌++◌, length, get_or, set, map, refl, sym, ap, subst}
+use Words.{◌≡◌, ℕ, ◌+◌, ◌<◌, ◌==◌, true, List, [], ◌∷◌, ◌++◌, length, get_or, set, refl, sym, ap, subst}
 use Words.{append_assoc, append-nil, ◌∙◌, arith, AllZip, File, SpoolContents, contents_in, records_of, with_changed}
 use Words.{CustomerSpool, WholeFile, KeptFile, is_held, HasRecords, IsOrdered, WritesRowsOf, own_rows, IsRead}
 use Words.{IsReadFor, Remembering, keyed_rows, owned_of, AllBeside, none_beside, IsKept, IsRowOf, KeptWhole, OwnFiles}

@@ -1,7 +1,7 @@
 -- The rows of a file's records, each with one record or several.
-use Rattle.std.proofs.Common.{◌≡◌, ◌≢◌, ℕ, zero, suc, ◌+◌, ◌-◌, ◌^◌, ◌<◌, ◌≤◌, ◌==◌, ◌⊎◌, inl, inr, true, List, [], ◌∷◌}
-use Rattle.std.proofs.Common.{◌++◌, length, get_or, set, drop, refl, sym, ap, subst, ◌∙◌, append-nil, append_assoc, arith}
-use Rattle.std.proofs.Common.{length-append}
+use Rattle.std.proofs.Common.{◌≡◌, ◌≢◌, ℕ, suc, ◌+◌, ◌-◌, ◌<◌, ◌≤◌, ◌==◌, ◌⊎◌, inl, inr, true, List, [], ◌∷◌}
+use Rattle.std.proofs.Common.{◌++◌, length, get_or, set, drop, refl, sym, ap, subst, ◌∙◌, append-nil, append_assoc}
+use Rattle.std.proofs.Common.{arith, length-append}
 use Rattle.std.proofs.lemmas.{Bool.cases_lt, List.{get_or_append_left, get_or-append_right, set_at, get_or_at}}
 use Rattle.std.proofs.lemmas.List.Concat.{flat_map-append}
 use Rattle.std.specs.List.{AllByRecursion}
@@ -107,7 +107,8 @@ module _ (key : ℕ) where
       (subst (λ n. AllByRecursion (λ e. e.0 < record_number key n) es) (omega arith) (rows_below es 0 ys under same)))
       ∙ flat_map-append contents es (new ∷ [])
       ∙ (λ i. same i ++ append-nil (placed_from (at i) (are i)) i)
-      ∙ (let from_zero : length ys ≡ 0 + length ys = omega arith in λ i. placed_from 0 ys ++ placed_from (from_zero i) xs)
+      ∙ (let behind : length ys ≡ 0 + length ys = omega arith in
+      λ i. placed_from 0 ys ++ placed_from (behind i) xs)
       ∙ sym (placed-append 0 ys xs)
 
   -- ---- a header's row
@@ -153,8 +154,8 @@ module _ (key : ℕ) where
       either (inl within) rest =
           let here = ap (λ (l : List Packed). get_or l i d) first.split
           ∙ get_or_append_left (in_row e) first.others d i within in
-          let one = a_header_is_alone e.1.srcb e.1.bytes i d within (sym (ap (λ (x : Packed). stands_alone x.0) here) ∙ header)
-          in
+          let one = a_header_is_alone e.1.srcb e.1.bytes i d within
+          (sym (ap (λ (x : Packed). stands_alone x.0) here) ∙ header) in
           let is_one : length (in_row e) ≡ 1 = ap (λ (l : List Packed). length l) one in
           let none : i ≡ 0 = omega (arith, within, is_one) in
           let next : place + length (in_row e) ≡ place + i + 1 = omega (arith, is_one, none) in
@@ -210,19 +211,24 @@ module _ (key : ℕ) where
       let from_zero : 0 + i ≡ i = omega arith in
       let number : found.row.0 ≡ record_number key i = found.at ∙ ap (record_number key) from_zero in
       let within : j < length es =
-      omega (arith, ap (λ (l : List (ℕ × Record)). length l) found.rows, length-append found.before (found.row ∷ found.behind)) in
+      omega (
+        arith,
+        ap (λ (l : List (ℕ × Record)). length l) found.rows,
+        length-append found.before (found.row ∷ found.behind),
+      ) in
       let is : found.row ≡ get_or es j found.row =
       sym (ap (λ (l : List (ℕ × Record)). get_or l j found.row) found.rows
       ∙ get_or_at found.before found.row found.behind found.row j refl) in
       let put_there : put new (without (λ n. n == record_number key i) es) ≡ set es j new =
-      subst (λ n. put (n, r) (without (λ m. m == n) es) ≡ set es j (n, r)) number (put_at es j found.row r rise within is) in
+      subst (λ n. put (n, r) (without (λ m. m == n) es) ≡ set es j (n, r)) number
+      (put_at es j found.row r rise within is) in
       ap contents_in (put_there ∙ ap (λ (l : List (ℕ × Record)). set l j new) found.rows
       ∙ set_at found.before found.row found.behind new j refl)
       ∙ flat_map-append contents found.before (new ∷ found.behind)
       ∙ (λ k. found.have_before k ++ (placed_from (at k) (one k) ++ found.have_behind k))
       ∙ (let where_is : i ≡ 0 + length found.earlier = omega (arith, found.long) in
-        let behind : 0 + i + 1 ≡ 0 + length found.earlier + 1 = omega (arith, found.long) in
-        λ k. placed_from 0 found.earlier ++ (where_is k, r.srcb, r.bytes) ∷ placed_from (behind k) found.later)
+      let behind : 0 + i + 1 ≡ 0 + length found.earlier + 1 = omega (arith, found.long) in
+      λ k. placed_from 0 found.earlier ++ (where_is k, r.srcb, r.bytes) ∷ placed_from (behind k) found.later)
       ∙ sym (placed-append 0 found.earlier ((r.srcb, r.bytes) ∷ found.later))
       ∙ ap (placed_from 0) (sym (ap (λ (l : List Packed). set l i (r.srcb, r.bytes)) found.all
       ∙ set_at found.earlier found.header found.later (r.srcb, r.bytes) i found.long))

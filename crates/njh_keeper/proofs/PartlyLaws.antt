@@ -1,7 +1,7 @@
 -- What is remembered of files that aren't whole, and what stands of them on a spool file, call by call.
 use Rattle.njh_keeper.proofs.Words
 use Words.{◌≡◌, ◌≢◌, ℕ, zero, suc, ◌+◌, ◌^◌, ◌<◌, ◌≤◌, Bool, false, cond, List, [], ◌∷◌, ◌++◌, length, get_or, set}
-use Words.{remove, map, take, refl, sym, ap, subst, ◌∙◌, arith, take_all, AllByRecursion, ⊤, SpoolContents, contents_in}
+use Words.{remove, take, refl, sym, ap, subst, ◌∙◌, arith, take_all, AllByRecursion, ⊤, SpoolContents, contents_in}
 use Words.{records_of, without_records, CustomerSpool, partial_records, HasRecords, IsOrdered, WritesUnder, GoesOn}
 use Words.{KeepsNew, KeepsOn, AreApart, IsPartlyKept, KeptPartial, Numbers, OwnFiles, Sweep, claim, keyed, uses}
 use Words.{with_key}

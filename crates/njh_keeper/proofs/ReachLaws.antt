@@ -90,8 +90,9 @@ module _ (key : ℕ) (Given : List Stored → Type 0) (all : List Stored)
         (one.0, subst (λ rs. HasRecords key rs t) (sym (same before given)) one.1))
 
     -- a header is written anew
-    pub reach_rewrites : (r : Record) → at < 2 ^ 23 → r.key ≡ key → r.place ≡ at → stored_of r ≡ get_or all at (stored_of r)
-        → is_header r.srcb ≡ true → {new : State} → ((before : List Stored) → Given before → at < length before)
+    pub reach_rewrites : (r : Record) → at < 2 ^ 23 → r.key ≡ key → r.place ≡ at
+        → stored_of r ≡ get_or all at (stored_of r) → is_header r.srcb ≡ true → {new : State}
+        → ((before : List Stored) → Given before → at < length before)
         → Changes (with_replaced r) mid new → Leads (Reaches key Given all (at + 1)) old new
     reach_rewrites r low mine place is header within changes =
         leads_then so_far (leads_by changes) (λ s t u reached is_u before h has given.

@@ -2,9 +2,9 @@
 use Rattle.njh_keeper.proofs.Words
 use Words.{◌≡◌, ℕ, ◌+◌, ◌==◌, nat_lt, nat_le, ◌&&◌, Bool, true, false, cond, List, [], ◌∷◌, length, map, Option, Some}
 use Words.{None, option_map, bytes_eq, refl, sym, ap, subst, ◌∙◌, arith, and_parts, nat_tests, length-map}
-use Words.{bytes_decides, AllByRecursion, Kind, In, Out, File, SpoolContents, contents_in, records_of, WholeFile, KeptFile}
+use Words.{bytes_decides, AllByRecursion, Kind, In, Out, File, SpoolContents, contents_in, records_of, WholeFile}
 use Words.{is_held, FitsHub, HasRecords, contents_from, IsKept, KeptWhole, Remembers, Contents, are_records_from}
-use Words.{are_records_of, as_stored, file_in, is_record_at, kind_of_word, kind_word}
+use Words.{KeptFile, are_records_of, as_stored, file_in, is_record_at, kind_of_word, kind_word}
 use Rattle.{std.proofs.Common.codes, njh_keeper.proofs.NumberedLaws.equal_to}
 
 pub record IsReadAs (spool : SpoolContents) (file : File) (f : KeptFile) : Type 0 where

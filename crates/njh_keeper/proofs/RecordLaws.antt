@@ -1,11 +1,11 @@
 -- What becomes of the records under each key.
 use Rattle.njh_keeper.proofs.Words
-use Words.{◌≡◌, ◌≢◌, ℕ, zero, suc, ◌+◌, ◌^◌, ◌<◌, ◌≤◌, ◌==◌, nat_le, nat_lt, ◌&&◌, true, false, not, List, [], ◌∷◌}
-use Words.{◌++◌, length, get_or, set, map, Some, refl, sym, ap, subst, ◌∙◌, arith, nat_tests, length-map, map-append}
+use Words.{◌≡◌, ◌≢◌, ℕ, suc, ◌+◌, ◌^◌, ◌<◌, ◌≤◌, ◌==◌, nat_le, nat_lt, ◌&&◌, true, false, not, List, [], ◌∷◌}
+use Words.{◌++◌, length, get_or, set, map, Some, refl, sym, ap, ◌∙◌, arith, nat_tests, length-map, map-append}
 use Words.{map-set, get_or-map, All-filter, All-from_recursion, filter_passes, recursion_from_All, AllByRecursion, Kind}
-use Words.{Stored, all_put, put_rises, without_rises, File, Record, SpoolContents, Rise, contents_in, put, without}
-use Words.{records_of, with_record, without_records, FitsHub, HasRecords, IsOrdered, contents_from, stored_of, as_stored}
-use Words.{are_records_from, are_records_of, file_in, kind_of_word}
+use Words.{Stored, all_put, put_rises, without_rises, File, Record, SpoolContents, contents_in, put, without}
+use Words.{records_of, with_record, without_records, FitsHub, HasRecords, IsOrdered, contents_from, stored_of}
+use Words.{as_stored, are_records_from, are_records_of, file_in, kind_of_word}
 use Rattle.std.proofs.Common.{All}
 use Rattle.njh_spoolfile.specs.{Kept.{IsNumbered, record_number}, Packed.{placed_from, stands_alone, unpacked_row}}
 use Rattle.njh_keeper.proofs.{FileLaws.is_file, NumberedLaws.{all_filter, all_weaker, equal, equal_to, filter_none}}
@@ -105,7 +105,8 @@ module _ (key : ℕ) (rs : List Stored) (r : Record) (spool : SpoolContents) (h 
       let place : r.place ≡ length (map as_packed rs) = at ∙ sym (length-map rs as_packed) in
       ap contents_in (filter-put (λ e. e.1.key == key) new spool.records h.records_rise is_mine
       ∙ (λ i. put (new_is (length (map as_packed rs)) place i) (records_of key spool)))
-      ∙ row_comes key (records_of key spool) (map as_packed rs) (map as_packed xs) r (are_under key spool h) has place are
+      ∙ row_comes key (records_of key spool) (map as_packed rs) (map as_packed xs) r (are_under key spool h) has place
+      are
       ∙ ap (placed_from 0) (sym (map-append as_packed rs xs))
 
   -- a header in the place of one

@@ -84,8 +84,8 @@ a_header_is_alone srcb bytes i d = either (srcb == several)
     either : (b : Bool) → i < length (row b) → stands_alone (get_or (row b) i d).0 ≡ true
         → row b ≡ (srcb, bytes) ∷ []
     either true there header = absurd (
-      let none = All-from_recursion NoHeader (unpacked bytes) (none_up_to (length bytes) bytes) i d there in
-      let never : true ≡ false = sym header ∙ none in cc)
+        let none = All-from_recursion NoHeader (unpacked bytes) (none_up_to (length bytes) bytes) i d there in
+        let never : true ≡ false = sym header ∙ none in cc)
     either false there header = refl
 
 -- a header's row has it and no other

@@ -39,7 +39,7 @@ impl NextRow {
         }
     }
 
-    /// Adds the next record of a file. It is written once its row is full, and a header at once.
+    /// Adds the file's next record. A header is written at once, and any other with its row.
     pub(crate) fn add<S: Alter + Drop>(
         &mut self,
         writer: &mut SpoolWriter<S>,

@@ -13,7 +13,7 @@ use crate::own_files::{OwnFiles, Sweep};
 use crate::writer::{PLACES, SpoolWriter};
 use sqlite::{Alter, Error};
 
-/// How many records of files that have left a step drops at least, if there are so many.
+/// At how many places of files that have left a step drops rows at least, if there are so many.
 const SWEPT_AT_LEAST: u32 = 512;
 
 /// Has so many records under this number dropped step by step: those of a file that has left.
@@ -26,8 +26,8 @@ pub(crate) fn sweep_later(own: &mut OwnFiles, key: u32, end: u32) -> Result<(), 
     Ok(())
 }
 
-/// Drops records of a customer's files that have left: as many as its step wrote, and 512 at least,
-/// or all.
+/// Drops rows of a customer's files that have left: those at as many places as its step wrote
+/// records, and at 512 at least, or all.
 pub(crate) fn sweep<S: Alter + Drop>(
     writer: &mut SpoolWriter<S>,
     own: &mut OwnFiles,
@@ -49,8 +49,8 @@ pub(crate) fn sweep<S: Alter + Drop>(
     Ok(())
 }
 
-/// Drops so many at most of the records of a file that has left, and says how many. Those that are
-/// left are dropped later; if none is, their number is free.
+/// Drops the rows at so many places at most of a file that has left, and says at how many. Those
+/// that are left are dropped later; if none is, their number is free.
 fn sweep_some<S: Alter + Drop>(
     writer: &mut SpoolWriter<S>,
     own: &mut OwnFiles,

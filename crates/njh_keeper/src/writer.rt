@@ -18,7 +18,7 @@ use std::alloc::Global;
 /// A file has fewer records than this.
 pub(crate) const PLACES: u32 = 1 << 23;
 
-/// How many records wait for a commit at most, if no whole file changes.
+/// How many records written and rows dropped wait for a commit at most, if no whole file changes.
 const WAITING: u32 = 4096;
 
 /// A spool file, and what is next to be written there.
@@ -31,7 +31,7 @@ pub(crate) struct SpoolWriter<S: Alter + Drop> {
     pub(crate) next_key: u32,
     /// Numbers below it that no file's records stand under.
     pub(crate) free_keys: Vec<u32>,
-    /// How many records were written or dropped since the last commit.
+    /// How many records were written, and how many rows dropped at most, since the last commit.
     pub(crate) waiting: u32,
     /// Whether whole files changed since then.
     is_changed: bool,

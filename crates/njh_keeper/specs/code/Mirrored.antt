@@ -1,5 +1,5 @@
 -- What a spool file has of a hub's files: the rows of each customer, and the records under each key.
-use Rattle.std.specs.Prelude.{◌≡◌, ◌≢◌, ℕ, ◌+◌, ◌<◌, ◌≤◌, List, [], ◌∷◌, ◌++◌, length, take, drop, map, filter, Some}
+use Rattle.std.specs.Prelude.{◌≡◌, ◌≢◌, ℕ, ◌<◌, ◌≤◌, List, ◌++◌, length, take, drop, map, filter, Some}
 use Rattle.std.specs.List.{AllByRecursion}
 use Rattle.njh_record.specs.Stored.{Stored}
 use Rattle.njh_spoolfile.specs.Kept.{File, Record, SpoolContents, Rise, IsNumbered, contents_in, records_of}

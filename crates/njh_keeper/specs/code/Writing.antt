@@ -61,7 +61,7 @@ left_of most sweep = if is_left most sweep then rest_of most sweep ∷ [] else [
 abbrev pub freed_by : (most : ℕ) → Sweep → List ℕ
 freed_by most sweep = if is_left most sweep then [] else sweep.key ∷ []
 
--- whole files changed since the last commit, or 4,096 records were written or dropped
+-- whole files changed since the last commit, or 4,096 records were written or rows dropped
 abbrev pub is_due : (is_changed : Bool) (waiting : ℕ) → Bool
 is_due is_changed waiting = is_changed || nat_le 4096 waiting
 
@@ -120,7 +120,7 @@ without_keys keys spool = fold (λ s key. without_records key 0 (2 ^ 23) s) spoo
 abbrev pub ShowsNow : (SpoolContents → SpoolContents) → CommitState → State → Type 0
 ShowsNow change s at = (kept : SpoolContents) × Stands (record { now = change s.now; kept = kept }) at
 
--- It is, and where no more than so many committed records were dropped before, no more than so many are now.
+-- It is, and where no more than so many committed rows were dropped before, no more than so many are now.
 pub record Drops (change : SpoolContents → SpoolContents) (waited waiting : ℕ) (s : CommitState) (at : State) : Type 0
   where
     pub kept : SpoolContents

@@ -22,7 +22,7 @@ const MARGIN: u32 = 64;
 
 impl<S: Alter + Drop> SpoolWriter<S> {
     /// Begins after the numbers of these files, which are all. What stands under numbers of no
-    /// file is dropped, as far as it is looked for, with a commit each time that many records were.
+    /// file is dropped, as far as it is looked for, with a commit each time that many rows were.
     pub(crate) fn begin_numbers(&mut self, files: &[StoredFile]) -> Result<(), Error>
         ensures begun { HasCleanDisk (shown S.Store self.new.store) → OnOk result ((s : CommitState)
             → Stands s (shown S.Store self.old.store) → Stands (shows_kept (without_keys (emptied_at files.now
@@ -122,7 +122,7 @@ impl<S: Alter + Drop> SpoolWriter<S> {
         Ok(())
     }
 
-    /// Drops what stands under a number, and commits if many records were dropped since the last
+    /// Drops what stands under a number, and commits if many rows were dropped since the last
     /// commit.
     fn drop_key(&mut self, key: u32) -> Result<(), Error>
         ensures dropped { HasCleanDisk (shown S.Store self.new.store) → OnOk result ((s : CommitState)
@@ -149,7 +149,7 @@ fn id_after(id: u64) -> u64
     id.saturating_add(1).min(GREATEST_ID)
 }
 
-/// How many records wait for a commit once so many more were dropped.
+/// How much waits for a commit once so many rows more were dropped.
 fn with_dropped(waiting: u32, dropped: usize) -> u32
     ensures { result ≡ min (waiting + dropped) (2 ^ 32 - 1) }
 {

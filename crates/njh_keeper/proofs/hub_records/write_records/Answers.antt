@@ -73,8 +73,9 @@ loop-place-preserved g c =
           let now = w.add.new.self in
           let new = shown g.S.Store w.add.new.writer.store in
           let here : row.place + row.count ≡ at = omega (arith, so_far.next, w.if-place-written.true) in
-          let next_is : IsRecordAt all (row.place + row.count) (record { srcb = c.in-Some-next.srcb; bytes = bytes }) =
-          subst (λ n. IsRecordAt all n (record { srcb = c.in-Some-next.srcb; bytes = bytes })) (sym here) (stands.0, is) in
+          let read : Stored = record { srcb = c.in-Some-next.srcb; bytes = bytes } in
+          let next_is : IsRecordAt all (row.place + row.count) read =
+          subst (λ n. IsRecordAt all n read) (sym here) (stands.0, is) in
           let forward = w.in_ok-add.ensures.forward in
           let next = w.in_ok-add.ensures.next in
           rw (w.writer-is, w.row-is) (record {
@@ -112,8 +113,8 @@ loop-place-preserved g c =
             led = λ clean. subst (λ n. Leads (Reaches c.args.key begun all n) old new) further
                 (reach_rewrites c.args.key begun all front at
                 (subst (λ n. Leads (Reaches c.args.key begun all n) old mid) here
-                (so_far.led (clean_before w.replace_record.ensures.crash clean))) kept c.loop-place-test.true refl refl is
-                header (λ before given. omega (arith, given.0, low))
+                (so_far.led (clean_before w.replace_record.ensures.crash clean))) kept c.loop-place-test.true refl refl
+                is header (λ before given. omega (arith, given.0, low))
                 (subst (λ n. Changes (with_replaced (record {
                   key = c.args.key;
                   place = at;

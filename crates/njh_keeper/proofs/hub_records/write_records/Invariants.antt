@@ -1,6 +1,6 @@
 use Rattle.njh_keeper.proofs.Words
-use Words.{◌≡◌, ◌+◌, ◌-◌, ◌≤◌, drop, take, min, AllByRecursion, HasCleanDisk, Survives, shown, records_in, part, AreBegun}
-use Words.{Leads, FitsHub}
+use Words.{◌≡◌, ◌+◌, ◌-◌, ◌≤◌, drop, take, min, AllByRecursion, HasCleanDisk, Survives, shown, records_in, part}
+use Words.{AreBegun, Leads, FitsHub}
 use Rattle.{std.specs.Prelude.max, njh_keeper.proofs.ReachLaws.Reaches}
 use Rattle.njh_keeper.specs.code.{Counting.CountsMore, Gathering.Gathers}
 use Rattle.njh_keeper.proofs.hub_records.write_records.Given as goal

@@ -1,6 +1,5 @@
 use Rattle.njh_keeper.proofs.Words
-use Words.{◌≡◌, ℕ, ◌+◌, ◌++◌, false, List, sym, ap, subst, ◌∙◌, on_ok_weaker, arith, Stored, shown, Leads}
-use Rattle.njh_spoolfile.specs.Packed.{packed_one}
+use Words.{◌≡◌, ℕ, ◌+◌, List, sym, ap, subst, ◌∙◌, on_ok_weaker, arith, Stored, shown, Leads}
 use Rattle.njh_keeper.proofs.{LeadingLaws.{clean_before, survives_both}, GatheringLaws.{goes_then, none_gathered}}
 use Rattle.njh_keeper.proofs.GatheringLaws.{one_more_gathered, rows_lead}
 use Rattle.njh_keeper.specs.{code.Gathering.{Continues, Gathers, IsRecordAt}, declared.next_row.NextRow.NextRow}
@@ -58,8 +57,8 @@ pub returns-clause-gathers : goal.returns-clause-gathers
 returns-clause-gathers g c =
     let mid = c.make_room.new.self in
     let r : Stored = record { srcb = c.args.srcb; bytes = c.args.bytes.now } in
-    λ all has is. subst (λ (bs : List ℕ). Gathers all (record mid { count = mid.count + 1; pack = bs })) (sym c.push.ensures)
-    (one_more_gathered all mid (c.in_ok-make_room.ensures.gathers all has) r
+    λ all has is. subst (λ (bs : List ℕ). Gathers all (record mid { count = mid.count + 1; pack = bs }))
+    (sym c.push.ensures) (one_more_gathered all mid (c.in_ok-make_room.ensures.gathers all has) r
     (subst (λ n. IsRecordAt all n r) (sym c.in_ok-make_room.ensures.next) is)
     (sym c.stands_alone.ensures ∙ c.if-stands_alone.false))
 

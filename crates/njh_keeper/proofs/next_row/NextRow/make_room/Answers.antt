@@ -1,5 +1,5 @@
 use Rattle.njh_keeper.proofs.Words
-use Words.{◌≡◌, ℕ, List, length, refl, ap, ◌∙◌, on_ok_weaker, arith}
+use Words.{length, refl, ap, on_ok_weaker, arith}
 use Rattle.njh_keeper.proofs.GatheringLaws.{no_row_leads, none_gathered, stays_there}
 use Rattle.njh_keeper.specs.declared.next_row.NextRow.{NextRow}
 use Rattle.njh_keeper.proofs.next_row.NextRow.make_room.Goals as goal
@@ -18,8 +18,9 @@ returns-clause-gathers g c =
 
 pub returns-clause-next : goal.returns-clause-next
 returns-clause-next g c =
-    on_ok_weaker c.begin_next.result (λ next. omega (arith, ap (λ (r : NextRow). r.count) next, ap (λ (r : NextRow). r.place)
-    next)) c.begin_next.ensures.next
+    on_ok_weaker c.begin_next.result
+    (λ next. omega (arith, ap (λ (r : NextRow). r.count) next, ap (λ (r : NextRow). r.place) next))
+    c.begin_next.ensures.next
 
 pub returns-clause-room : goal.returns-clause-room
 returns-clause-room g c =

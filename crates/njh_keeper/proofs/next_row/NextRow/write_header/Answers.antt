@@ -9,6 +9,7 @@ returns-clause-led g c =
     let bytes = c.args.bytes.now in
     let old = shown g.S.Store c.args.writer.now.store in
     let new = shown g.S.Store c.add_records.new.self.store in
-    λ clean all at. header_leads row.key all row.place (record { srcb = c.args.srcb; bytes = bytes }) c.requires.place at
-    c.requires.header (subst (λ n. Changes (with_record (record { key = row.key; place = row.place; srcb = n; bytes = bytes }))
-    old new) c.from.ensures (c.in_ok-add_records.ensures.changed clean))
+    let kept : ℕ → Record = λ srcb. record { key = row.key; place = row.place; srcb = srcb; bytes = bytes } in
+    λ clean all at. header_leads row.key all row.place (record { srcb = c.args.srcb; bytes = bytes }) c.requires.place
+    at c.requires.header (subst (λ srcb. Changes (with_record (kept srcb)) old new) c.from.ensures
+    (c.in_ok-add_records.ensures.changed clean))

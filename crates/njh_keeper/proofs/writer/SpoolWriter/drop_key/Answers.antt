@@ -1,4 +1,4 @@
-use Rattle.std.proofs.Common.{◌≡◌, Result, Ok, Err, OnOk, inl, inr, sym, subst, ◌^◌}
+use Rattle.std.proofs.Common.{Result, Ok, Err, OnOk, inl, inr, sym, subst, ◌^◌}
 use Rattle.{std.proofs.lemmas.Bool.cases_Bool, sqlite.specs.State.HasCleanDisk}
 use Rattle.njh_spoolfile.{proofs.ReadingLaws.ok_then, specs.{Kept.without_records, Shelf.shown}}
 use Rattle.njh_keeper.proofs.{LeadingLaws.{clean_before, survives_any}, WriterLaws.{drops_kept, drops_waiting, not_due}}
