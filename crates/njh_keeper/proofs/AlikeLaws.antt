@@ -1,21 +1,19 @@
 -- Records of a file that was sent elsewhere are those that they were, but for headers.
 use Rattle.njh_keeper.proofs.Words
-use Words.{◌≡◌, ℕ, zero, suc, ◌<◌, ◌≤◌, ◌==◌, ◌&&◌, ◌||◌, ◌⊎◌, inl, inr, Bool, true, false, cond, not, List, [], ◌∷◌}
-use Words.{length, get_or, take, Option, Some, None, refl, sym, ap, subst, ◌∙◌, arith, length-take-le, take_all}
-use Words.{AllByRecursion, is_name, User, Kind, In, Out, Stored, stays, destination_of, destination_node}
-use Words.{records_to_node, IsRerouted, AreBegun, FitsHub}
-use Rattle.{std.specs.{Option.option_map, Result.result_ok}, njh_header.proofs.DestinationRecords.{sent, sent_long}}
-use Rattle.njh_header.proofs.{DestinationRecords.sent_srcb, Destinations.{read_where, under}, Redirected.kept}
-use Rattle.njh_header.specs.{FileHeaders.job_header_of, Headers.{JobHeader, data_set_header, job_header}}
-use Rattle.{njh_header.specs.Redirecting.is_after_header, njh_keeper.proofs.RerouteLaws.{AreSentTo, last_decides}}
+use Words.{◌≡◌, ℕ, ◌<◌, ◌≤◌, ◌==◌, ◌&&◌, ◌||◌, ◌⊎◌, inl, inr, Bool, true, false, cond, not, List, [], ◌∷◌, length}
+use Words.{get_or, take, Option, Some, None, refl, sym, ap, subst, ◌∙◌, arith, length-take-le, take_all, AllByRecursion}
+use Words.{is_name, User, Kind, In, Out, Stored, stays, destination_of, destination_node, records_to_node, IsRerouted}
+use Words.{AreBegun, FitsHub}
+use Rattle.std.{proofs.lemmas.{List.Elements.AllZip-get_or, Slice.Zip.AllZip-long}, specs.Option.option_map}
+use Rattle.{std.specs.Result.result_ok, njh_header.proofs.DestinationRecords.{sent, sent_long, sent_srcb}}
+use Rattle.njh_header.{proofs.{Destinations.{read_where, under}, Redirected.kept}, specs.FileHeaders.job_header_of}
+use Rattle.njh_header.specs.{Headers.{JobHeader, data_set_header, job_header}, Redirecting.is_after_header}
+use Rattle.njh_keeper.proofs.NodeLaws.{AreSentTo, last_decides}
 pub use Rattle.njh_keeper.specs.code.Alike.{AreAlike, IsAlike, is_header}
-
-alike_itself : (r : Stored) → IsAlike r r
-alike_itself r = record { srcb = refl; long = refl; same = λ other. refl }
 
 pub all_alike : (rs : List Stored) → AreAlike rs rs
 all_alike [] = tt
-all_alike (r ∷ rs) = (alike_itself r, all_alike rs)
+all_alike (r ∷ rs) = (record { srcb = refl; long = refl; same = λ other. refl }, all_alike rs)
 
 either_header : (a b : Bool) → (a ≡ true) ⊎ (b ≡ true) → (a || b) ≡ true
 either_header a b (inl is) = ap (λ x. x || b) is
@@ -95,10 +93,7 @@ module _ (kind : Kind) (before now : List Stored) (d : User) (rerouted : IsRerou
 -- ---- what is read from it
 
 pub alike_long : (before now : List Stored) → AreAlike before now → length now ≡ length before
-alike_long [] [] h = refl
-alike_long [] (y ∷ ys) h = absurd h
-alike_long (x ∷ xs) [] h = absurd h
-alike_long (x ∷ xs) (y ∷ ys) h = ap suc (alike_long xs ys h.1)
+alike_long = AllZip-long IsAlike
 
 pub begun_same : (written : ℕ) (now : List Stored) → written ≤ length now
     → AreBegun false written now (take written now)
@@ -125,9 +120,6 @@ alike_fit (x ∷ xs) (y ∷ ys) h fit = (
 -- a record that is no header was there
 pub alike_at : (before now : List Stored) (i : ℕ) (r : Stored) → AreAlike before now → i < length now
     → r ≡ get_or now i r → is_header r.srcb ≡ false → get_or before i r ≡ get_or now i r
-alike_at [] [] i r h there is other = absurd (omega (arith, there))
-alike_at [] (y ∷ ys) i r h there is other = absurd h
-alike_at (x ∷ xs) [] i r h there is other = absurd h
-alike_at (x ∷ xs) (y ∷ ys) zero r h there is other =
-    sym (h.0.same (ap (λ (z : Stored). is_header z.srcb) (sym is) ∙ other))
-alike_at (x ∷ xs) (y ∷ ys) (suc i) r h there is other = alike_at xs ys i r h.1 (omega (arith, there)) is other
+alike_at before now i r h there is other =
+    let one = AllZip-get_or IsAlike before now i r r h (omega (arith, there, alike_long before now h)) in
+    sym (one.same (ap (λ (z : Stored). is_header z.srcb) (sym is) ∙ other))

@@ -1,21 +1,15 @@
 -- A hub that was just opened from a spool file: what the keeper knows of it, and what has come on its lines.
 use Rattle.njh_keeper.proofs.Words
 use Words.{◌≡◌, ◌≢◌, ℕ, zero, suc, ◌<◌, List, [], ◌∷◌, length, get_or, map, remove, Option, Some, None, refl, sym, ap}
-use Words.{subst, ◌∙◌, arith, AllByRecursion, AllZip, fold, SpoolContents, Whole, AreDistinct, LineEntry, NamedCustomer}
-use Words.{TableFile, KeptFile, HasShortRests, rest_at, part_with_file, Part, no_part, part_at_open, AreNamedApart}
-use Words.{HasSpool, Knows, HasBegun, IsOpened, GoesOn, IsUpToDate, Numbers, OwnFiles, file_in, hub_opened, own_files}
-use Words.{part_opened, with_whole}
-use Rattle.{njh_table.specs.TableFile.entry_of, njh_customer.specs.Growing.IsShortRest, njh_hub.specs.WholeHub.no_entry}
-use Rattle.njh_keeper.proofs.{HubLaws.apart, OpeningSettled.zip_by_place}
+use Words.{subst, ◌∙◌, arith, AllByRecursion, AllZip, fold, SpoolContents, Whole, AreDistinct, NamedCustomer, TableFile}
+use Words.{KeptFile, HasShortRests, rest_at, part_with_file, Part, no_part, part_at_open, AreNamedApart, HasSpool}
+use Words.{Knows, HasBegun, IsOpened, GoesOn, IsUpToDate, Numbers, OwnFiles, file_in, hub_opened, own_files}
+use Words.{part_opened, with_whole, kept_of, own_of, Mirrored, left_in, map-map, length-map, get_or-map}
+use Rattle.{njh_table.specs.TableFile.entry_of, njh_customer.specs.Growing.IsShortRest, njh_keeper.proofs.HubLaws.apart}
+use Rattle.njh_keeper.proofs.{IdleLines.no_rests, LeftLaws.left_of_parts, ListLaws.{all-map, all_of}}
+use Rattle.njh_keeper.specs.declared.own_files.OwnFiles as own_files
 
 -- ---- what has come of a line's next frame
-
--- nothing on a new customer's lines
-nothing_on : (lines : List LineEntry) (l : ℕ)
-    → IsShortRest (rest_at l (part_at_open (record no_entry { lines = lines })).rests)
-nothing_on [] l = tt
-nothing_on (line ∷ lines) zero = tt
-nothing_on (line ∷ lines) (suc l) = nothing_on lines l
 
 -- a file that is put back leaves that as it is
 still_short : (p : Part) (w : Whole) → HasShortRests p → HasShortRests (with_whole p w)
@@ -32,24 +26,23 @@ part_rests (w ∷ ws) p short = part_rests ws (with_whole p w) (still_short p w 
 
 -- on each customer's lines nothing
 pub opened_rests : (table : TableFile) (spool : SpoolContents) → AllByRecursion HasShortRests (hub_opened table spool)
-opened_rests table spool = each table.customers
-  where
-    each : (cs : List NamedCustomer) → AllByRecursion HasShortRests
-        (map (λ c. part_opened (entry_of c) (own_files c.name spool)) cs)
-    each [] = tt
-    each (c ∷ cs) = (
-      part_rests (own_files c.name spool) (part_at_open (entry_of c)) (nothing_on (entry_of c).lines),
-      each cs,
-    )
+opened_rests table spool =
+    let opened : NamedCustomer → Part = λ c. part_opened (entry_of c) (own_files c.name spool) in
+    all-map HasShortRests opened table.customers (all_of (λ c. HasShortRests (opened c)) (λ c.
+    part_rests (own_files c.name spool) (part_at_open (entry_of c))
+    (λ l. subst IsShortRest (sym (no_rests (entry_of c).lines l)) tt)) table.customers)
 
 -- ---- what the keeper knows
 
-zip_of_map : {X Y Z : Type 0} (R : X → Z → Type 0) (f : Y → Z) (xs : List X) (ys : List Y)
-    → AllZip (λ x y. R x (f y)) xs ys → AllZip R xs (map f ys)
-zip_of_map R f [] [] h = tt
-zip_of_map R f [] (y ∷ ys) h = h
-zip_of_map R f (x ∷ xs) [] h = h
-zip_of_map R f (x ∷ xs) (y ∷ ys) h = (h.0, zip_of_map R f xs ys h.1)
+pub zip_by_place : {X Y : Type 0} (R : X → Y → Type 0) (xs : List X) (ys : List Y) (d : Y) → length xs ≡ length ys
+    → ((c : ℕ) → (x : X) → c < length xs → x ≡ get_or xs c x → R x (get_or ys c d)) → AllZip R xs ys
+zip_by_place R [] [] d long each = tt
+zip_by_place R [] (y ∷ ys) d long each = absurd (omega (arith, long))
+zip_by_place R (x ∷ xs) [] d long each = absurd (omega (arith, long))
+zip_by_place R (x ∷ xs) (y ∷ ys) d long each = (
+  each 0 x (omega arith) refl,
+  zip_by_place R xs ys d (omega (arith, long)) (λ c z low is. each (suc c) z (omega (arith, low)) is),
+)
 
 pub all_by_place : {X : Type 0} (P : X → Type 0) (xs : List X)
     → ((i : ℕ) → (x : X) → i < length xs → x ≡ get_or xs i x → P x) → AllByRecursion P xs
@@ -92,11 +85,23 @@ begun_is_known names hub owns w t begun distinct long = (
     ordered = begun.ordered;
     below = begun.below;
     apart = begun.apart;
-    each = zip_of_map (HasSpool t) (λ (p : Part). p.customer.spool) owns hub
-        (zip_by_place (λ own (p : Part). HasSpool t own p.customer.spool) owns hub no_part (begun.count ∙ long)
-        (λ c own low is. opened_spool names hub t c own (begun.each c own low is)));
+    each = zip_by_place (HasSpool t) owns (map (λ p. p.customer.spool) hub) no_part.customer.spool
+        (begun.count ∙ long ∙ sym (length-map hub (λ (p : Part). p.customer.spool)))
+        (λ c own low is. subst (HasSpool t own) (sym (get_or-map (λ (p : Part). p.customer.spool) hub c no_part
+        no_part.customer.spool (omega (arith, low, begun.count, long))))
+        (opened_spool names hub t c own (begun.each c own low is)));
   },
   λ c own there is. others_by_place (λ o. o.name ≢ own.name) owns c (λ i o low at other same. other
       (apart names distinct i c (omega (arith, begun.count, low)) (omega (arith, begun.count, there))
       (sym (begun.each i o low at).owned.name_is ∙ same ∙ (begun.each c own there is).owned.name_is))),
 )
+
+-- what a crash may leave then
+pub left_after : (names : List (List ℕ)) (hub : List Part) (owns : List own_files.OwnFiles) (w : Numbers)
+    (t : SpoolContents) → HasBegun names hub (map own_of owns) w t → length names ≡ length hub
+    → left_in (map (λ own. own.name) owns) t ≡ kept_of hub
+left_after names hub owns w t begun long =
+    ap (λ ns. left_in ns t) (sym (map-map (λ (own : OwnFiles). own.name) own_of owns))
+    ∙ left_of_parts (λ p. p.customer.spool.whole) t (map own_of owns) hub
+    (zip_by_place (λ own p. Mirrored t own p.customer.spool.whole) (map own_of owns) hub no_part (begun.count ∙ long)
+    (λ c own low is. (begun.each c own low is).mirrored))

@@ -1,11 +1,26 @@
 -- Calls of the keeper one after the other, with what is kept of a customer's files.
-use Rattle.std.proofs.Common.{◌≡◌, ℕ, zero, suc, ◌<◌, List, [], ◌∷◌, ◌++◌, length, get_or, remove}
-use Rattle.{std.{proofs.Common.{refl, ◌∙◌}, specs.List.AllByRecursion}, njh_header.specs.WholeFiles.HasHeaders}
-use Rattle.{njh_spoolfile.specs.Kept.{SpoolContents, records_of, without_file}, njh_spool.specs.CustomerSpool.WholeFile}
-use Rattle.njh_keeper.proofs.{CallLaws.drop_follows, ListLaws.{all_both, all_remove}, MirrorLaws.all_of}
-use Rattle.njh_keeper.{proofs.MovesLaws.{moves_nothing, moves_then, still_apart}, specs.code.Following.{leaves, none}}
-use Rattle.njh_keeper.specs.code.{Following.{stays, GoesTo, HasFiles, Memory, Remain, claim_of}, Remembered.KeptPartial}
-use Rattle.njh_keeper.specs.{code.Remembered.{KeptWhole, Mirrored, Moves, Sweep}, Opened.is_name_of}
+use Rattle.njh_keeper.proofs.Words
+use Words.{◌≡◌, ℕ, zero, suc, ◌<◌, List, [], ◌∷◌, ◌++◌, length, get_or, remove, refl, ◌∙◌, true, AllByRecursion}
+use Words.{HasHeaders, SpoolContents, records_of, without_file, WholeFile, is_name_of, GoesTo, HasFiles, Memory, Remain}
+use Words.{claim_of, IsQuiet, KeptPartial, KeptWhole, Mirrored, Moves, Sweep, SpoolWriter}
+use Rattle.njh_keeper.proofs.{ListLaws.{all_both, all_remove}, MirrorLaws.{all_of, leaving_moves, file_leaves}}
+use Rattle.njh_keeper.proofs.{MirrorLaws.{moves_nothing, moves_then, still_apart}, UsesLaws.uses_as_one_leaves}
+use Rattle.njh_keeper.specs.code.Following.{leaves, none, stays}
+
+-- a writer that did nothing
+pub quiet_same : {S : Type 0} (w : SpoolWriter S) → IsQuiet w w
+quiet_same w unchanged = (unchanged, refl)
+
+-- one step after the other
+pub quiet_then : {S : Type 0} (old mid new : SpoolWriter S) → IsQuiet old mid → IsQuiet mid new → IsQuiet old new
+quiet_then old mid new one more unchanged =
+    let late = more unchanged in
+    let early = one late.0 in
+    (early.0, late.1 ∙ early.1)
+
+-- a whole file changed
+pub quiet_changed : {S : Type 0} (old new : SpoolWriter S) → new.is_changed ≡ true → IsQuiet old new
+quiet_changed old new changed unchanged = absurd (cc (changed, unchanged))
 
 -- ---- files that aren't whole
 
@@ -86,7 +101,9 @@ module _ (m : Memory) (i : ℕ) (k : KeptWhole) (sweep : Sweep) (there : i < len
   pub file_goes : (s : SpoolContents) (files : List WholeFile) → HasFiles m s files
       → GoesTo m memory_without s (without_file k.id s) (remove files i)
   file_goes s files has =
-      let by = drop_follows m.numbers m.own s files has.ordered has.mirrored i k sweep there is same in
-      goes m memory_without s (without_file k.id s) files (remove files i) has by.moves by.mirrored refl
+      goes m memory_without s (without_file k.id s) files (remove files i) has
+      (leaving_moves s m.own files has.ordered has.mirrored i k there is (claim_of m) (claim_of memory_without) refl
+      refl refl (uses_as_one_leaves m.numbers m.own i k sweep there is same))
+      (file_leaves s m.own files has.ordered has.mirrored i k there is) refl
       (all_remove (λ f. HasHeaders f.kind f.records) files i has.headers) (remain_same m.own.partial)
       (all_of (λ (p : KeptPartial). records_of p.key s ≡ records_of p.key s) (λ p. refl) m.own.partial)

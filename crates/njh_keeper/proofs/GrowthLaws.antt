@@ -3,15 +3,20 @@ use Rattle.njh_keeper.proofs.Words
 use Words.{◌≡◌, ℕ, ◌<◌, ◌≤◌, ◌==◌, List, [], ◌++◌, length, Option, Some, None, refl, sym, ap, subst, ◌∙◌, append-nil}
 use Words.{arith, Kind, Stored, RouteEntry, CustomerSpool, PartialFile, max_arrived, partial_numbered, partial_records}
 use Words.{IsSound, FilesGrow, HasShortRests, entry_with, part_after_routes, outgoing, OwnSignal, IsLed, GoOnIn}
-use Words.{AreNumbered}
-use Rattle.{njh_stream.specs.Holding.unrouted_held, njh_customer.proofs.FileListLaws.found_one}
-use Rattle.njh_customer.proofs.{GrowingLaws.{many_go_on, quiet, partials_numbered}, RestLengths.events_short}
-use Rattle.njh_customer.proofs.{RestLengths.takes_short, StepsGrow.{signals_grow, takes_grow}}
-use Rattle.njh_customer.proofs.SurvivingLaws.{events_keep_files, held_still, takes_keep_files}
-use Rattle.njh_customer.specs.{declared.signal.Signal.Signal, Growing.HasCome, Part.{Part, part_after_bytes}}
-use Rattle.{njh_customer.specs.{Part.part_after_signal, Surviving.FilesGoOn}, njh_turns.specs.Keeping.by_bytes}
-use Rattle.{njh_turns.specs.Keeping.{by_routes, by_signal}, njh_keeper.proofs.NumberedLaws.equal_to}
-use Rattle.njh_keeper.proofs.WalkLaws.{are_numbered}
+use Words.{AreNumbered, ◌+◌, get_or, count_by, take, Contains, length-append, recursion_from_All, AllByRecursion}
+use Words.{HasHeaders, SpoolContents, WholeFile, HaveHeaders, AreAlike, AreFronts, AllGoOn, AllUpToDate, GoesOn}
+use Words.{IsUpToDate, KeptPartial, OwnFiles, IsFrontWhere}
+use Rattle.njh_stream.{proofs.ReceivingLaws.find_counts, specs.Holding.unrouted_held}
+use Rattle.njh_customer.proofs.{FileListLaws.found_one, GrowingLaws.{many_go_on, quiet, partials_numbered}}
+use Rattle.njh_customer.proofs.{GrowingLaws.rerouted_count, RestLengths.{events_short, takes_short}}
+use Rattle.njh_customer.proofs.{StepsGrow.{signals_grow, takes_grow}, SurvivingLaws.{events_keep_files, held_still}}
+use Rattle.njh_customer.{proofs.SurvivingLaws.takes_keep_files, specs.{Growing.{HasCome, HasBecomeWhole}, Part.Part}}
+use Rattle.njh_customer.specs.{Part.{part_after_bytes, part_after_signal}, Surviving.FilesGoOn}
+use Rattle.{njh_customer.specs.declared.signal.Signal.Signal, njh_turns.specs.Keeping.{by_bytes, by_routes, by_signal}}
+use Rattle.njh_keeper.proofs.{AlikeLaws.alike_where_it_reads, FinishLaws.front_alike, KnowingLaws.front_of_whole}
+use Rattle.njh_keeper.proofs.{KnowingLaws.still_goes_on, ListLaws.all_both, NumberedLaws.equal_to, UsesLaws.keyed_at}
+use Rattle.{njh_keeper.proofs.WalkLaws.{are_numbered, no_more_numbered, as_counted}, std.proofs.Common.⊎_elim}
+use Rattle.std.proofs.{Math.Seq.take-append_seam, lemmas.List.Elements.{Contains-append_cases, Contains-get_or}}
 
 -- ---- a step
 
@@ -38,12 +43,6 @@ routes_go_on routes p =
       counted = omega arith;
     }
 
-routes_grow_none : (routes : List RouteEntry) (p : Part)
-    → FilesGrow 0 p.customer.spool (part_after_routes routes p).customer.spool
-routes_grow_none routes p =
-    let entry = entry_with routes p.customer.entry in
-    quiet p.customer.spool (unrouted_held entry p.customer.spool) (held_still entry p.customer.spool.whole) refl refl
-
 -- the whole files are those that there were, but for such as left, and after them others, at most as many as were
 -- counted
 pub led_files_go_on : (p after : Part) → IsLed p after
@@ -59,8 +58,10 @@ pub led_grows : (p after : Part) → IsLed p after → HasShortRests p
 led_grows p after is_led short =
     led p (λ x. (k : ℕ) × (k < 1366) × FilesGrow k p.customer.spool x.customer.spool)
     (λ l piece there. takes_grow p l piece (short l))
-    (λ l signal. (0, omega arith, signals_grow p l signal)) (λ routes. (0, omega arith, routes_grow_none routes p))
-    after is_led
+    (λ l signal. (0, omega arith, signals_grow p l signal)) (λ routes.
+    let entry = entry_with routes p.customer.entry in
+    let s = p.customer.spool in
+    (0, omega arith, quiet s (unrouted_held entry s) (held_still entry s.whole) refl refl)) after is_led
 
 -- and of no line's next frame has more come than a text may have
 pub led_rests : (p after : Part) → IsLed p after → HasShortRests p → HasShortRests after
@@ -121,3 +122,75 @@ partial_goes_on k x y few grow sound n = at_file (partial_numbered n y) refl
         let there = found_one (λ (g : PartialFile). g.number == n) y.partial f is in
         many_go_on_from_partial k x n f.kind f.records sound (omega (arith, few, many))
         (subst (λ m. HasCome k x.partial m f.kind f.records) (equal_to f.number n there.1) (grow.partial f there.0))
+
+-- ---- the number of a file that isn't whole
+
+-- a file that isn't whole and has records is there
+has_partial : (n : ℕ) (x : CustomerSpool) → 0 < length (partial_records n x)
+    → 1 ≤ count_by (λ f. f.number == n) x.partial
+has_partial n x = at_file (partial_numbered n x) refl
+  where
+    at_file : (o : Option PartialFile) → partial_numbered n x ≡ o
+        → 0 < length (elim o as (λ _. List Stored) [ Some f ↦ f.records | None ↦ [] ])
+        → 1 ≤ count_by (λ f. f.number == n) x.partial
+    at_file None is some = absurd (omega (arith, some))
+    at_file (Some f) is some = find_counts (λ (g : PartialFile). g.number == n) x.partial f is
+
+-- ---- one step
+
+module _ (k : ℕ) (x y : CustomerSpool) (few : k < 1366) (grow : FilesGrow k x y) (sound : IsSound x) where
+  -- a file that wasn't whole is none of the whole ones that are still there
+  is_new : (f : WholeFile) → 0 < length (partial_records f.number x) → Contains y.whole f → Contains grow.new f
+  is_new f some at = ⊎_elim (λ (still : Contains grow.still f). absurd
+      (let here = keyed_at (λ (g : WholeFile). g.number) grow.still still.0 f still.1 (sym still.2) in
+      let less = no_more_numbered f.number x.whole grow.still grow.survive in
+      let counted = as_counted f.number x.whole in
+      omega (arith, sound.apart f.number, has_partial f.number x some, here, less, counted)))
+      (λ (new : Contains grow.new f). new) (Contains-append_cases grow.still grow.new f
+      (subst (λ (files : List WholeFile). Contains files f) grow.files at))
+
+  -- Its records are a front of those of the file that it became, but for headers: that file may have been sent
+  -- elsewhere since, whose headers read.
+  became_alike : (f : WholeFile) → HasBecomeWhole k x.partial f → HasHeaders f.kind f.records → 1366 ≤ length f.records
+      → let was = partial_records f.number x in
+      (length was ≤ length f.records) × AreAlike was (take (length was) f.records)
+  became_alike f whole headers many =
+      let was = partial_records f.number x in
+      let counts : length f.records ≡ length whole.came = rerouted_count f.kind whole.came f.records whole.records in
+      let from = many_go_on_from_partial k x f.number f.kind whole.came sound (omega (arith, few, many, counts))
+      whole.has_come in
+      let long : length whole.came ≡ length was + length from.0 =
+      ap (λ (rs : List Stored). length rs) from.1 ∙ length-append was from.0 in
+      let all : AreAlike whole.came f.records =
+      alike_where_it_reads f.kind whole.came f.records headers.destination whole.records headers.goes in
+      let front : take (length was) whole.came ≡ was = ap (take (length was)) from.1 ∙ take-append_seam was from.0 in (
+        omega (arith, counts, long),
+        subst (λ rs. AreAlike rs (take (length was) f.records)) front
+            (front_alike (length was) whole.came f.records all),
+      )
+
+  front_of : (s : SpoolContents) (p : KeptPartial) → IsUpToDate x p → GoesOn x s p → (f : WholeFile)
+      → Contains y.whole f → HasHeaders f.kind f.records → IsFrontWhere s p f
+  front_of s p up go_on f at headers number seen =
+      let some : 0 < length (partial_records f.number x) =
+      subst (λ n. 0 < length (partial_records n x)) (sym number) (omega (arith, up.seen, up.many)) in
+      let whole = grow.became_whole f (is_new f some at) in
+      front_of_whole x s p f.records (λ many. subst (λ n. let was = partial_records n x in
+      (length was ≤ length f.records) × AreAlike was (take (length was) f.records)) number
+      (became_alike f whole headers many)) up go_on seen
+
+  module _ (s : SpoolContents) (own : OwnFiles) (up : AllUpToDate x own) (go_on : AllGoOn x s own) where
+    -- what is kept of files that aren't whole yet is a front of them still,
+    pub partials_go_on : AllGoOn y s own
+    partials_go_on =
+        all_both (IsUpToDate x) (GoesOn x s) (GoesOn y s)
+        (λ p up go_on. still_goes_on x y s p (partial_goes_on k x y few grow sound p.number) up go_on) own.partial up
+        go_on
+
+    -- and of those that became whole a front of these, but for headers
+    pub fronts_of_step : HaveHeaders y.whole → AreFronts s own.partial y.whole
+    fronts_of_step headers =
+        all_both (IsUpToDate x) (GoesOn x s)
+        (λ p. AllByRecursion (IsFrontWhere s p) y.whole)
+        (λ p up go_on. recursion_from_All (IsFrontWhere s p) y.whole (λ i f there. front_of s p up go_on
+        (get_or y.whole i f) (Contains-get_or y.whole i f there) (headers i f there))) own.partial up go_on

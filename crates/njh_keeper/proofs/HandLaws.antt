@@ -1,24 +1,17 @@
 -- A file that became whole is added: a number comes in hand, its records are finished under it, and its row is added.
 use Rattle.njh_keeper.proofs.Words
 use Words.{◌≡◌, ◌≢◌, ℕ, ◌+◌, ◌^◌, ◌<◌, ◌≤◌, true, List, [], ◌∷◌, ◌++◌, length, get_or, remove, refl, sym, subst, ◌∙◌}
-use Words.{arith, All-from_recursion, AllByRecursion, State, HasHeaders, File, SpoolContents, records_of, with_file}
-use Words.{without_records, Changes, WholeFile, FileSummaryView, file_summary, Writes, AddsRow, AreFronts, GoesTo}
-use Words.{HasFiles, IsFrontOf, IsRowFor, LeadsFiles, Memory, Stage, claim_of, Leads, FitsHub, AreApart, KeptPartial}
-use Words.{KeptWhole, Numbers, Remembers, claim, with_key, IsTaken, is_name_of}
-use Rattle.njh_keeper.proofs.{CallLaws.{add_follows, take_follows, taken_is_empty}, FollowingLaws.goes}
-use Rattle.njh_keeper.proofs.{FollowingLaws.{remain_removed, remain_same}, FrameLaws.drops_records, KeyLaws.keyed_none}
-use Rattle.njh_keeper.proofs.{KeyLaws.one_itself, LeadingLaws.{leads_by, leads_nothing, leads_then, leads_weaker}}
-use Rattle.njh_keeper.proofs.{ListLaws.all_both, MirrorLaws.all_of, MovesLaws.{moves_memory, moves_then, still_apart}}
-use Rattle.njh_keeper.proofs.{NumberedLaws.{all-push, all_weaker}, UsesLaws.uses_as_key_is_taken}
-use Rattle.njh_keeper.{proofs.UsesLaws.uses_as_partial_goes, specs.code.Following.{IsInHand, LeadsInHand}}
-
--- files that aren't whole have no number that is in hand
-no_partial : (key : ℕ) (m : Memory) → AreApart (with_key key (claim_of m))
-    → AllByRecursion (λ p. p.key ≢ key) m.own.partial
-no_partial key m apart =
-    let once = apart key in
-    let one = one_itself key in
-    keyed_none (λ (p : KeptPartial). p.key) key m.own.partial (omega (arith, once, one))
+use Words.{arith, AllByRecursion, State, HasHeaders, File, SpoolContents, records_of, with_file, without_records}
+use Words.{Changes, WholeFile, FileSummaryView, file_summary, Writes, AddsRow, AreFronts, GoesTo, HasFiles, IsRowFor}
+use Words.{LeadsFiles, Memory, Stage, claim_of, Leads, FitsHub, AreApart, KeptPartial, KeptWhole, Numbers, Remembers}
+use Words.{claim, with_key, IsTaken, is_name_of, IsFrontWhere, AreBelow, leads_by, leads_nothing, leads_then}
+use Words.{leads_weaker}
+use Rattle.njh_keeper.proofs.{FollowingLaws.{goes, remain_removed, remain_same}, FrameLaws.drops_records}
+use Rattle.njh_keeper.proofs.{ListLaws.all_both, MirrorLaws.{all_of, coming_moves, file_comes, moves_memory}}
+use Rattle.njh_keeper.proofs.{MirrorLaws.{moves_then, still_apart}, NumberedLaws.{all-push, all_weaker, all_at}}
+use Rattle.njh_keeper.proofs.{PartlyLaws.{take_follows, taken_is_empty}, UsesLaws.uses_as_key_is_taken}
+use Rattle.njh_keeper.proofs.UsesLaws.{uses_as_partial_goes, in_hand_alone, uses_as_one_comes, in_hand_is_used}
+use Rattle.njh_keeper.specs.code.Following.{IsInHand, LeadsInHand}
 
 module _ (m : Memory) (g : WholeFile) (s : SpoolContents) (files : List WholeFile) (has : HasFiles m s files) where
   abbrev pub memory_left : ℕ → Memory
@@ -29,12 +22,7 @@ module _ (m : Memory) (g : WholeFile) (s : SpoolContents) (files : List WholeFil
       → g.number ≡ p.number → p.seen ≤ length g.records
       → AreFronts s m.own.partial (g ∷ []) → IsInHand p.key p.written m (memory_left i) s s files g.records
   partial_in_hand i p there is same seen fronts =
-      let fronts_here = subst (λ q. AllByRecursion
-      (λ f. f.number ≡ q.number → q.seen ≤ length f.records → IsFrontOf s q f.records) (g ∷ [])) (sym is)
-      (All-from_recursion (λ q. AllByRecursion
-      (λ f. f.number ≡ q.number → q.seen ≤ length f.records → IsFrontOf s q f.records) (g ∷ [])) m.own.partial fronts i
-      p there) in
-      let front : IsFrontOf s p g.records = fronts_here.0 same seen in
+      let here = all_at (λ q. AllByRecursion (IsFrontWhere s q) (g ∷ [])) m.own.partial i p fronts there is in
       record {
         moves = moves_memory (claim_of m) (with_key p.key (claim_of (memory_left i))) s refl
             (λ n. omega (arith, uses_as_partial_goes m.numbers m.own i p there is n)) has.ordered (omega arith);
@@ -43,11 +31,7 @@ module _ (m : Memory) (g : WholeFile) (s : SpoolContents) (files : List WholeFil
         remain = remain_removed m.own.partial i;
         records = all_of (λ (q : KeptPartial). records_of q.key s ≡ records_of q.key s) (λ q. refl)
             (remove m.own.partial i);
-        before = front.before;
-        long = front.long;
-        within = front.within;
-        stored = front.stored;
-        alike = front.alike;
+        front = here.0 same seen;
       }
 
   -- a number that is taken
@@ -67,19 +51,21 @@ module _ (m : Memory) (g : WholeFile) (s : SpoolContents) (files : List WholeFil
         let by = take_follows m.numbers m.own s files has.ordered has.mirrored numbers_left key as_was refl has.apart in
         let apart : AreApart (with_key key (claim_of memory_taken)) = λ n. omega (arith, as_was n, has.apart n) in
         record {
-          moves = by.moves;
+          moves = by.0;
           text = refl;
-          mirrored = by.mirrored;
+          mirrored = by.1;
           remain = remain_same m.own.partial;
           records = all_weaker (λ (p : KeptPartial). p.key ≢ key)
               (λ p. records_of p.key (without_records key 0 (2 ^ 23) s) ≡ records_of p.key s)
               (λ p other. (drops_records key 0 (2 ^ 23) s has.ordered (omega arith)).others p.key other) m.own.partial
-              (no_partial key memory_taken apart);
-          before = [];
-          long = refl;
-          within = omega arith;
-          stored = taken_is_empty m.numbers m.own s files has.ordered has.mirrored numbers_left key as_was;
-          alike = tt;
+              (in_hand_alone numbers_left m.own key apart).1;
+          front = record {
+            before = [];
+            long = refl;
+            within = omega arith;
+            stored = taken_is_empty m.numbers m.own s files has.ordered has.mirrored numbers_left key as_was;
+            alike = tt;
+          };
         }
 
 -- ---- its records are finished, and its row is added
@@ -100,31 +86,43 @@ module _ (m m1 : Memory) (s t u : SpoolContents) (files : List WholeFile) (has :
   row_added k row hand id remembers is_row finishes =
       let apart : AreApart (with_key k.key (claim_of m1)) =
       still_apart (claim_of m) (with_key k.key (claim_of m1)) s t hand.moves has.apart in
-      let done = finishes hand.before hand.moves.ordered hand.stored
-      (hand.long, hand.within, hand.alike, λ e. absurd (cc e)) in
+      let front = hand.front in
+      let done = finishes front.before hand.moves.ordered front.stored
+      (front.long, front.within, front.alike, λ e. absurd (cc e)) in
       let owned = is_row.owned m1.own.name ((λ i. is_name_of (hand.text i) (hand.moves.name i)) ∙ has.named) in
-      let by =
-      add_follows m1.numbers m1.own t files hand.moves.ordered hand.mirrored k g u row id (hand.moves.below has.below)
-      apart done.0 owned (is_row.of_file g summary_is) remembers done.1 fits in
+      let low : AreBelow k.id t = subst (λ end. AreBelow end t) (sym id) (hand.moves.below has.below) in
+      let alone = in_hand_alone m1.numbers m1.own k.key apart in
       let v = with_file k.id row u in
       goes m (memory_added k) s v files (files ++ g ∷ []) has
-      (moves_then (claim_of m) (with_key k.key (claim_of m1)) (claim_of (memory_added k)) s t v hand.moves by.moves)
-      by.mirrored hand.text (all-push (λ f. HasHeaders f.kind f.records) files g has.headers headers) hand.remain
+      (moves_then (claim_of m) (with_key k.key (claim_of m1)) (claim_of (memory_added k)) s t v hand.moves
+      (coming_moves t u m1.own files hand.mirrored k done.0 row owned low (with_key k.key (claim_of m1))
+      (claim_of (memory_added k)) refl refl (sym id)
+      (let next : m1.numbers.next_id + 1 ≡ k.id + 1 = omega (arith, id) in next)
+      (in_hand_is_used m1.numbers m1.own k.key)
+      (λ n. let same = uses_as_one_comes m1.numbers m1.own k n in omega (arith, same))))
+      (file_comes t u m1.own files hand.mirrored k done.0 row owned low g alone.0 (is_row.of_file g summary_is)
+      remembers done.1 fits) hand.text (all-push (λ f. HasHeaders f.kind f.records) files g has.headers headers)
+      hand.remain
       (all_both (λ (p : KeptPartial). p.key ≢ k.key) (λ p. records_of p.key t ≡ records_of p.key s)
       (λ p. records_of p.key v ≡ records_of p.key s)
-      (λ p other before. done.0.others p.key other ∙ before) m1.own.partial (no_partial k.key m1 apart) hand.records)
+      (λ p other before. done.0.others p.key other ∙ before) m1.own.partial alone.1 hand.records)
 
   pub added_goes : (key : ℕ) (old : State) (c : Stage)
       (row : AddsRow key summary g (record { memory = m1; shows = old }) c)
       → IsInHand key written m m1 s t files g.records
       → Writes true key written g.records t u → GoesTo m c.memory s (with_file row.kept.id row.row u) (files ++ g ∷ [])
   added_goes key old c row hand finishes =
-      subst (λ x. GoesTo m x s (with_file row.kept.id row.row u) (files ++ g ∷ [])) (sym row.memory)
-      (row_added row.kept row.row (subst (λ n. IsInHand n written m m1 s t files g.records) (sym row.key_is) hand)
-      row.id row.remembers (subst (λ n. IsRowFor m1.text n summary row.row) (sym row.key_is) row.is_row)
-      (subst (λ n. Writes true n written g.records t u) (sym row.key_is) finishes))
+      rw row.memory (row_added row.kept row.row (rw row.key_is hand) row.id row.remembers (rw row.key_is row.is_row)
+      (rw row.key_is finishes))
 
 -- ---- the calls one after the other
+
+pub partial_leads : (a : Stage) (m1 : Memory) (g : WholeFile) (i : ℕ) (p : KeptPartial) → let m = a.memory in
+    i < length m.own.partial → p ≡ get_or m.own.partial i p → g.number ≡ p.number → p.seen ≤ length g.records
+    → m1 ≡ record { numbers = m.numbers; own = record m.own { partial = remove m.own.partial i }; text = m.text }
+    → LeadsInHand p.key p.written g a (record { memory = m1; shows = a.shows })
+partial_leads a m1 g i p there is same seen left = leads_nothing (λ s files has fronts.
+    rw left (partial_in_hand a.memory g s files has i p there is same seen fronts))
 
 module _ (a b : Stage) (g : WholeFile) (key written : ℕ) where
   abbrev m : Memory
@@ -152,24 +150,10 @@ module _ (a b : Stage) (g : WholeFile) (key written : ℕ) where
             found.2),
       ))
 
-  pub partial_leads : (i : ℕ) (p : KeptPartial) → i < length m.own.partial → p ≡ get_or m.own.partial i p
-      → g.number ≡ p.number → p.seen ≤ length g.records → p.key ≡ key → p.written ≡ written
-      → m1 ≡ record { numbers = m.numbers; own = record m.own { partial = remove m.own.partial i }; text = m.text }
-      → b.shows ≡ a.shows → LeadsInHand key written g a b
-  partial_leads i p there is same seen key_is written_is left at =
-      subst (λ x. LeadsInHand key written g a (record { memory = m1; shows = x })) (sym at)
-      (leads_nothing (λ s files has fronts. subst (λ x. IsInHand key written m x s s files g.records) (sym left)
-      (subst (λ n. IsInHand n written m (memory_left m g s files has i) s s files g.records) key_is
-      (subst (λ n. IsInHand p.key n m (memory_left m g s files has i) s s files g.records) written_is
-      (partial_in_hand m g s files has i p there is same seen fronts)))))
-
   pub key_leads : (left : List ℕ) (behind : ℕ)
       → IsTaken m.numbers.free_keys m.numbers.next_key key left behind → written ≡ 0
       → m1 ≡ record { numbers = record m.numbers { free_keys = left; next_key = behind }; own = m.own; text = m.text }
       → Changes (without_records key 0 (2 ^ 23)) a.shows b.shows → LeadsInHand key written g a b
   key_leads left behind taken none is changes =
       leads_weaker (leads_by changes) (λ s t same files has fronts.
-      subst (λ x. IsInHand key written m x s t files g.records) (sym is)
-      (subst (λ n. IsInHand key n m (memory_taken m g s files has key left behind taken) s t files g.records) (sym none)
-      (subst (λ x. IsInHand key 0 m (memory_taken m g s files has key left behind taken) s x files g.records) (sym same)
-      (key_in_hand m g s files has key left behind taken))))
+      rw (is, none, same) (key_in_hand m g s files has key left behind taken))

@@ -7,10 +7,10 @@ use Words.{name_of_text, SpoolContents, Whole, kept, AreDistinct, NamedCustomer,
 use Words.{Part, no_part, part, part_at_open, NoneFails, hub_fault, hub_with, hub_with_all, number_from, number_of}
 use Words.{FileFault, AllAreBack, AreBack, hub_opened, is_name_of, is_own, own_files, part_opened, whole_fault}
 use Words.{with_whole}
-use Rattle.std.proofs.{Common.{⊎_elim, eqb}, lemmas.{Bool.Decides.eqb_tells, Iterator.Adapters.position_from-zero}}
-use Rattle.std.proofs.lemmas.List.{ext_get_or, Quantifiers.position-Some, Sums.{fails_before_first, fold-append}}
-use Rattle.{std.specs.List.position_or_len, njh_table.specs.TableFile.entry_of, njh_keeper.specs.Opened.IsRefused}
-use Rattle.njh_keeper.specs.Opened.{own}
+use Rattle.std.proofs.{Common.{⊎_elim, eqb}, lemmas.Bool.{false_from_ne_true, Decides.eqb_tells}}
+use Rattle.std.proofs.lemmas.{Iterator.Adapters.position_from-zero, List.{ext_get_or, Quantifiers.position-Some}}
+use Rattle.std.{proofs.lemmas.List.Sums.{fails_before_first, fold-append}, specs.List.position_or_len}
+use Rattle.{njh_table.specs.TableFile.entry_of, njh_keeper.specs.Opened.{IsRefused, own}}
 
 -- ---- a text is one name at most
 
@@ -19,7 +19,7 @@ named_by : (r : Result (List ℕ) NameFault) (name : List ℕ)
 named_by (Ok read) name is = ap Ok ((bytes_eq-Decides read name).0 is)
 named_by (Err fault) name is = absurd (cc is)
 
-one_name : (text a b : List ℕ) → is_name_of text a ≡ true → is_name_of text b ≡ true → a ≡ b
+pub one_name : (text a b : List ℕ) → is_name_of text a ≡ true → is_name_of text b ≡ true → a ≡ b
 one_name text a b first second =
     let same : ◌≡◌ {A = Result (List ℕ) NameFault} (Ok a) (Ok b) =
     sym (named_by (name_of_text text) a first) ∙ named_by (name_of_text text) b second in
@@ -95,12 +95,6 @@ module _ (names : List (List ℕ)) (distinct : Apart names) (c : ℕ) (there : c
       → part c (hub_with names parts w) ≡ cond (is_own name w.file) (with_whole (part c parts) w) (part c parts)
   one parts w count = split (number_of names w.file.customer) refl
     where
-      other : (d : ℕ) → number_of names w.file.customer ≡ Some d → c ≢ d → (b : Bool) → is_own name w.file ≡ b
-          → is_own name w.file ≡ false
-      other d e apart true is = absurd (apart (let same : ◌≡◌ {A = Option ℕ} (Some d) (Some c) = sym e
-          ∙ own_number names w.file.customer c distinct there is in cc))
-      other d e apart false is = is
-
       split : (o : Option ℕ) → number_of names w.file.customer ≡ o → part c (elim o as (λ _. List Part)
           [ None ↦ parts | Some d ↦ slice_set parts d (with_whole (part d parts) w) ])
           ≡ cond (is_own name w.file) (with_whole (part c parts) w) (part c parts)
@@ -115,7 +109,9 @@ module _ (names : List (List ℕ)) (distinct : Apart names) (c : ℕ) (there : c
           ∙ ap (λ (b : Bool). cond b (with_whole (part c parts) w) (part c parts)) (sym is))
           (λ (v : (eqb c d ≡ false) × (c ≢ d)). get_or-set_other parts d c (with_whole (part d parts) w) no_part v.1
           ∙ ap (λ (b : Bool). cond b (with_whole (part c parts) w) (part c parts))
-          (sym (other d e v.1 (is_own name w.file) refl))) (eqb_tells c d)
+          (sym (false_from_ne_true (is_own name w.file) (λ is. v.1
+          (let same : ◌≡◌ {A = Option ℕ} (Some d) (Some c) = sym e
+          ∙ own_number names w.file.customer c distinct there is in cc))))) (eqb_tells c d)
 
   -- ---- all files
 

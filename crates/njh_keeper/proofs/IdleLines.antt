@@ -1,29 +1,24 @@
 -- A customer's lines where none is up: they are those of a customer that was just opened, but for what isn't compared.
 use Rattle.njh_keeper.proofs.Words
-use Words.{◌≡◌, ℕ, zero, suc, ◌<◌, false, List, [], ◌∷◌, length, map, get_or, replicate, refl, sym, ap, subst, ◌∙◌}
-use Words.{arith, get_or-map, get_or_default, map-map, AllZip, Nothing, CustomerEntry, LineEntry, Down, is_up, fresh}
-use Words.{CustomerLine, config_of, idle_line, line_at, no_customer_line, IsIdle, phase_of, rest_at, bare}
+use Words.{◌≡◌, ℕ, zero, suc, ◌<◌, false, List, [], ◌∷◌, length, map, get_or, replicate, refl, sym, ap, ◌∙◌, arith}
+use Words.{get_or-map, map-map, Nothing, CustomerEntry, LineEntry, Down, is_up, fresh, CustomerLine, config_of}
+use Words.{idle_line, line_at, no_customer_line, IsIdle, phase_of, rest_at, bare, length-replicate, length-map}
 use Rattle.{njh_bisync.specs.Reading.Rest, njh_table.specs.declared.Role.TheVariants.Answer}
 use Rattle.{njh_line.specs.declared.config.Config.Config, njh_customer.specs.Customer.sender_at}
-use Rattle.njh_keeper.proofs.OpeningSettled.{zip_by_place}
+use Rattle.std.proofs.lemmas.List.{ext_get_or, get_or-replicate}
 use Rattle.njh_stream.specs.declared.receiver.Receiver.TheVariants as receiver
 use Rattle.njh_stream.specs.declared.sender.Sender.TheVariants as sender
 
 -- a list of so many that holds one thing alone
 all_copies : {A : Type 0} (n : ℕ) (a : A) (xs : List A) → length xs ≡ n → ((k : ℕ) → get_or xs k a ≡ a)
     → xs ≡ replicate n a
-all_copies zero a [] long each = refl
-all_copies zero a (x ∷ xs) long each = absurd (omega (arith, long))
-all_copies (suc n) a [] long each = absurd (omega (arith, long))
-all_copies (suc n) a (x ∷ xs) long each =
-    let rest = all_copies n a xs (omega (arith, long)) (λ k. each (suc k)) in
-    λ i. each 0 i ∷ rest i
+all_copies n a xs long each = ext_get_or a xs (replicate n a) (long ∙ sym (length-replicate n a))
+    (λ k low. each k ∙ sym (get_or-replicate n k a a (omega (arith, low, long))))
 
 -- two lists of as many rests are the same where nothing has come on either
 pub same_rests : (rs ss : List Rest) → length rs ≡ length ss → ((l : ℕ) → rest_at l rs ≡ Nothing)
     → ((l : ℕ) → rest_at l ss ≡ Nothing) → rs ≡ ss
-same_rests rs ss same none other =
-    all_copies (length ss) Nothing rs same none ∙ sym (all_copies (length ss) Nothing ss refl other)
+same_rests rs ss same none other = ext_get_or Nothing rs ss same (λ l low. none l ∙ sym (other l))
 
 pub rest_past : (rests : List Rest) (l : ℕ) → (l < length rests → rest_at l rests ≡ Nothing) → rest_at l rests ≡ Nothing
 rest_past [] l there = refl
@@ -66,12 +61,12 @@ bare_of config streams x like =
       served = like.idle.served i;
     }
 
-same_maps : {A B C : Type 0} (f : A → C) (g : B → C) (xs : List A) (ys : List B) → AllZip (λ x y. f x ≡ g y) xs ys
-    → map f xs ≡ map g ys
-same_maps f g [] [] same = refl
-same_maps f g [] (y ∷ ys) same = absurd same
-same_maps f g (x ∷ xs) [] same = absurd same
-same_maps f g (x ∷ xs) (y ∷ ys) same = λ i. same.0 i ∷ same_maps f g xs ys same.1 i
+same_maps : {A B C : Type 0} (f : A → C) (g : B → C) (xs : List A) (ys : List B) (a : A) (b : B)
+    → length xs ≡ length ys → ((l : ℕ) → l < length xs → f (get_or xs l a) ≡ g (get_or ys l b)) → map f xs ≡ map g ys
+same_maps f g xs ys a b long each =
+    ext_get_or (f a) (map f xs) (map g ys) (length-map xs f ∙ long ∙ sym (length-map ys g)) (λ l within.
+    let low : l < length xs = omega (arith, within, length-map xs f) in
+    get_or-map f xs l a (f a) low ∙ each l low ∙ sym (get_or-map g ys l b (f a) (omega (arith, low, long))))
 
 abbrev pub opened_line : CustomerEntry → LineEntry → CustomerLine
 opened_line entry line = idle_line (config_of entry line) line.streams
@@ -99,15 +94,10 @@ set_up_by entry line = (config_of entry line, line.streams)
 
 module _ (xs : List CustomerLine) (lines : List LineEntry) (long : length xs ≡ length lines)
     (down : (l : ℕ) → l < length xs → phase_of (line_at l xs) ≡ Down) where
-  at_line : (l : ℕ) (x : CustomerLine) → l < length xs → x ≡ get_or xs l x → line_at l xs ≡ x
-  at_line l x low is = get_or_default xs l no_customer_line x low ∙ sym is
-
   -- no mark is on
   pub marks_off : map (λ (x : CustomerLine). is_up x.state.session.phase) xs ≡ map (λ _. false) lines
   marks_off = same_maps (λ (x : CustomerLine). is_up x.state.session.phase) (λ (line : LineEntry). false) xs lines
-      (zip_by_place (λ (x : CustomerLine) (line : LineEntry). is_up x.state.session.phase ≡ false) xs lines no_line long
-      (λ l x low is. subst (λ (y : CustomerLine). is_up y.state.session.phase ≡ false) (at_line l x low is)
-      (ap is_up (down l low))))
+      no_customer_line no_line long (λ l low. ap is_up (down l low))
 
   module _ (entry : CustomerEntry) (set_up : map set_up_of xs ≡ map (set_up_by entry) lines)
       (idle : (l : ℕ) → l < length xs → IsIdle (line_at l xs))
@@ -130,8 +120,7 @@ module _ (xs : List CustomerLine) (lines : List LineEntry) (long : length xs ≡
         }
 
     pub bare_lines : map bare xs ≡ map bare (map (opened_line entry) lines)
-    bare_lines = same_maps bare (λ (line : LineEntry). bare (opened_line entry line)) xs lines
-        (zip_by_place (λ (x : CustomerLine) (line : LineEntry). bare x ≡ bare (opened_line entry line)) xs lines no_line
-        long (λ l x low is. subst (λ (y : CustomerLine). bare y ≡ bare (opened_line entry (get_or lines l no_line)))
-        (at_line l x low is) (bare_of (config_of entry (get_or lines l no_line)) (get_or lines l no_line).streams
-        (line_at l xs) (like l low)))) ∙ sym (map-map bare (opened_line entry) lines)
+    bare_lines = same_maps bare (λ (line : LineEntry). bare (opened_line entry line)) xs lines no_customer_line no_line
+        long (λ l low. let line = get_or lines l no_line in
+        bare_of (config_of entry line) line.streams (line_at l xs) (like l low))
+        ∙ sym (map-map bare (opened_line entry) lines)

@@ -2,12 +2,64 @@
 use Rattle.njh_keeper.proofs.Words
 use Words.{◌≡◌, ℕ, ◌<◌, ◌≤◌, List, ◌++◌, length, get_or, set, map, take, sym, subst, arith, length-take-le, take-take}
 use Words.{⊤, Stored, SpoolContents, records_of, CustomerSpool, partial_records, kept_file, AreAlike, AreNamedApart}
-use Words.{HasSpool, Knows, HasRecords, AllUpToDate, Goes, GoesOn, IsUpToDate, IsPartlyKept, KeptPartial, Mirrored}
-use Words.{Moves, Numbers, OwnFiles, claim, keyed, left_in}
-use Rattle.njh_keeper.proofs.{CustomerLaws.{IsApartFrom, all_still_apart, others_apart}, FinishLaws.front_alike}
-use Rattle.njh_keeper.proofs.{KeyLaws.each_counts, LeftLaws.left_of_parts, ListLaws.all_zip_weaker, MirrorLaws.all_of}
-use Rattle.njh_keeper.proofs.{MirrorLaws.mirrored_of_another, NumberedLaws.all_weaker, PartialLaws.all_zip_changes}
-use Rattle.njh_keeper.proofs.{PartialLaws.partly_kept_of_more, PartlyLaws.still_all}
+use Words.{HasSpool, Knows, HasRecords, GoesOn, IsUpToDate, IsPartlyKept, KeptPartial, Mirrored, Moves, Numbers}
+use Words.{OwnFiles, claim, keyed, left_in, length-append, take-append-le, IsFrontOf, AllAreApart, uses, uses_of_all}
+use Words.{uses_of_files, ◌≢◌, zero, suc, ◌+◌, [], ◌∷◌, remove, ap, AllByRecursion}
+use Rattle.njh_keeper.proofs.{FinishLaws.front_alike, LeftLaws.left_of_parts, ListLaws.all_zip_weaker}
+use Rattle.njh_keeper.proofs.{ListLaws.{all_zip_changes, all_both}, MirrorLaws.{all_of, mirrored_of_another}}
+use Rattle.njh_keeper.proofs.{NumberedLaws.all_weaker, PartlyLaws.still_all, UsesLaws.each_counts}
+
+-- ---- the numbers
+
+uses_as_one_differs : (n : ℕ) (owns : List OwnFiles) (c : ℕ) (own now : OwnFiles) → c < length owns
+    → own ≡ get_or owns c own
+    → uses_of_all n (set owns c now) + uses_of_files n own ≡ uses_of_all n owns + uses_of_files n now
+uses_as_one_differs n [] c own now there is = absurd (omega (arith, there))
+uses_as_one_differs n (o ∷ owns) zero own now there is =
+    let same : uses_of_files n own ≡ uses_of_files n o = ap (λ x. uses_of_files n x) is in
+    omega (arith, same)
+uses_as_one_differs n (o ∷ owns) (suc c) own now there is = omega (
+  arith,
+  uses_as_one_differs n owns c own now (omega (arith, there)) is,
+)
+
+pub uses_of_one : (n : ℕ) (owns : List OwnFiles) (c : ℕ) (own : OwnFiles) → c < length owns → own ≡ get_or owns c own
+    → uses_of_all n owns ≡ uses_of_files n own + uses_of_all n (remove owns c)
+uses_of_one n [] c own there is = absurd (omega (arith, there))
+uses_of_one n (o ∷ owns) zero own there is = let same : uses_of_files n own ≡ uses_of_files n o =
+    ap (λ x. uses_of_files n x) is in omega (arith, same)
+uses_of_one n (o ∷ owns) (suc c) own there is = omega (arith, uses_of_one n owns c own (omega (arith, there)) is)
+
+-- each of some customers uses no number that these use
+each_is_apart : (m : ℕ → ℕ) (owns : List OwnFiles) → ((n : ℕ) → m n + uses_of_all n owns ≤ 1)
+    → AllByRecursion (λ o. (n : ℕ) → m n + uses_of_files n o ≤ 1) owns
+each_is_apart m [] once = tt
+each_is_apart m (o ∷ owns) once = (λ n. (omega (arith, once n)), each_is_apart m owns (λ n. omega (arith, once n)))
+
+-- ---- a customer's step
+
+module _ (w w' : Numbers) (owns : List OwnFiles) (c : ℕ) (own own' : OwnFiles) (there : c < length owns)
+    (is : own ≡ get_or owns c own) (s t : SpoolContents) (moves : Moves (claim w own) (claim w' own') s t)
+    (apart : AllAreApart w owns) where
+  pub all_still_apart : AllAreApart w' (set owns c own')
+  all_still_apart n =
+      omega (
+        arith,
+        uses_as_one_differs n owns c own own' there is,
+        uses_of_one n owns c own there is,
+        moves.uses n,
+        apart n,
+      )
+
+  abbrev pub IsApartFrom : OwnFiles → Type 0
+  IsApartFrom o = (o.name ≢ own.name) × ((n : ℕ) → uses n w own + uses_of_files n o ≤ 1)
+
+  pub others_apart : AllByRecursion (λ o. o.name ≢ own.name) (remove owns c)
+      → AllByRecursion IsApartFrom (remove owns c)
+  others_apart named =
+      all_both (λ o. o.name ≢ own.name) (λ o. (n : ℕ) → uses n w own + uses_of_files n o ≤ 1) IsApartFrom
+      (λ o other apart. (other, apart)) (remove owns c) named (each_is_apart (λ n. uses n w own) (remove owns c)
+      (λ n. omega (arith, uses_of_one n owns c own there is, apart n)))
 
 -- ---- what it leaves
 
@@ -53,13 +105,6 @@ module _ (w w' : Numbers) (owns : List OwnFiles) (c : ℕ) (own own' : OwnFiles)
 
 -- ---- files that aren't whole
 
--- after a step's last call
-pub has_spool : (w w' : Numbers) (own own' : OwnFiles) (now : CustomerSpool) (s t : SpoolContents)
-    → Goes (claim w own) (claim w' own') own' now now.whole s t → AllUpToDate now own' → own'.arrived ≡ now.arrived
-    → HasSpool t own' now
-has_spool w w' own own' now s t goes up_to_date arrived =
-    record { arrived = arrived; mirrored = goes.mirrored; up_to_date = up_to_date; go_on = goes.go_on }
-
 -- Where files of more than 1,365 records go on from those of their numbers, what is kept of one is a front of it still.
 pub still_goes_on : (before now : CustomerSpool) (s : SpoolContents) (p : KeptPartial)
     → (1366 ≤ length (partial_records p.number now)
@@ -67,24 +112,27 @@ pub still_goes_on : (before now : CustomerSpool) (s : SpoolContents) (p : KeptPa
     → IsUpToDate before p → GoesOn before s p → GoesOn now s p
 still_goes_on before now s p grows up go_on enough =
     let more = grows (omega (arith, up.many, enough)) in
-    subst (IsPartlyKept s p) (sym more.1) (partly_kept_of_more s p (partial_records p.number before) more.0
-    (go_on (omega (arith, up.seen))))
+    let was = partial_records p.number before in
+    let one = go_on (omega (arith, up.seen)) in
+    subst (IsPartlyKept s p) (sym more.1) (record {
+      written = omega (arith, length-append was more.0, one.written);
+      stored = subst (λ xs. HasRecords p.key xs s) (sym (take-append-le p.written was more.0 one.written)) one.stored;
+    })
 
 -- Where one became whole, that is so but for headers: the file may have been sent elsewhere since.
 pub front_of_whole : (before : CustomerSpool) (s : SpoolContents) (p : KeptPartial) (rs : List Stored)
     → (1366 ≤ length rs → (length (partial_records p.number before) ≤ length rs)
     × AreAlike (partial_records p.number before) (take (length (partial_records p.number before)) rs))
-    → IsUpToDate before p → GoesOn before s p → p.seen ≤ length rs
-    → (front : List Stored) × (length front ≡ p.written) × (p.written ≤ length rs) × HasRecords p.key front s
-    × AreAlike front (take p.written rs)
+    → IsUpToDate before p → GoesOn before s p → p.seen ≤ length rs → IsFrontOf s p.key p.written rs
 front_of_whole before s p rs grows up go_on enough =
     let was = partial_records p.number before in
     let more = grows (omega (arith, up.many, enough)) in
-    let here = go_on (omega (arith, up.seen)) in (
-      take p.written was,
-      length-take-le p.written was here.written,
-      omega (arith, here.written, more.0),
-      here.stored,
-      subst (AreAlike (take p.written was)) (take-take p.written (length was) rs here.written)
-          (front_alike p.written was (take (length was) rs) more.1),
-    )
+    let here = go_on (omega (arith, up.seen)) in
+    record {
+      before = take p.written was;
+      long = length-take-le p.written was here.written;
+      within = omega (arith, here.written, more.0);
+      stored = here.stored;
+      alike = subst (AreAlike (take p.written was)) (take-take p.written (length was) rs here.written)
+          (front_alike p.written was (take (length was) rs) more.1);
+    }

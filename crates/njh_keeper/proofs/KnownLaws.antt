@@ -1,20 +1,20 @@
 -- The keeper of a spool file goes on to know a hub's files: by a customer's step, and by a commit.
 use Rattle.njh_keeper.proofs.Words
 use Words.{◌≡◌, ◌≢◌, ◌⊎◌, inl, inr, ℕ, zero, suc, ◌<◌, true, List, [], ◌∷◌, length, get_or, set, map, Result, Ok, Err}
-use Words.{OnOk, refl, sym, ap, subst, ◌∙◌, arith, get_or-set_same, get_or_default, length-map, map-set}
-use Words.{set-get_or, map-map, AllByRecursion, AllZip, Database, HasCleanDisk, State, Ghosts, CommitState, Stands}
-use Words.{Holds, SpoolContents, kept, shown, Stays, AreDistinct, NamedCustomer, TableFile, CustomerSpool, KeptFile}
-use Words.{IsSound, HaveHeaders, HasShortRests, Part, no_part, part, IsLed, kept_file, kept_of, AreNamedApart, HasOwn}
-use Words.{HasSpool, IsSoundPart, Knows, LeadsStep, StepGoes, own_memory_of, own_of, AllAreFound, AllAreRead, HasBegun}
-use Words.{name_at, OwnFiles, Keeping, KnowsHub, KnowsNow, MayLeave, MayLeaveOf, left_in, AllAreBack, hub_opened}
-use Words.{is_name_of, own_files, part_opened}
-use Rattle.{std.specs.Prelude.string_bytes, njh_table.specs.TableFile.entry_of, njh_turns.specs.Keeping.LeadsHub}
-use Rattle.{njh_turns.specs.Keeping.{LeavesEither, LeavesOnly}, njh_keeper.proofs.BegunLaws.all_by_place}
-use Rattle.njh_keeper.proofs.{BegunLaws.{begun_is_known, opened_rests, others_by_place}, CustomerLaws.uses_of_one}
-use Rattle.njh_keeper.proofs.{GrowthLaws.led_rests, HubLaws.apart, KnowingLaws.{known_is_left, known_still}}
-use Rattle.njh_keeper.proofs.{ListLaws.{all-set, all_map, at_place}, NumberedLaws.all_at, OpeningFound.all_found}
-use Rattle.njh_keeper.proofs.OpeningFound.{all_read_from}
-use Rattle.njh_keeper.specs.{code.Remembered.OwnMemory, Keeper.{IsKeptNow, memory_in, owns_in}}
+use Words.{OnOk, refl, sym, ap, subst, ◌∙◌, arith, get_or-set_same, get_or_default, length-map, map-set, map-map}
+use Words.{AllByRecursion, AllZip, Database, HasCleanDisk, State, Ghosts, CommitState, Stands, Holds, SpoolContents}
+use Words.{kept, shown, Stays, AreDistinct, NamedCustomer, TableFile, CustomerSpool, KeptFile, IsSound, HaveHeaders}
+use Words.{HasShortRests, Part, no_part, part, IsLed, kept_file, kept_of, AreNamedApart, HasOwn, HasSpool, IsSoundPart}
+use Words.{Knows, LeadsStep, StepGoes, own_memory_of, own_of, AllAreFound, AllAreRead, HasBegun, name_at, OwnFiles}
+use Words.{Keeping, KnowsHub, KnowsNow, MayLeave, MayLeaveOf, left_in, AllAreBack, hub_opened, is_name_of, own_files}
+use Words.{part_opened, IfOk}
+use Rattle.std.{proofs.{Math.Seq.map-set_same, lemmas.Slice.Zip.AllZip-long}, specs.Prelude.string_bytes}
+use Rattle.{njh_table.specs.TableFile.entry_of, njh_turns.specs.Keeping.{LeadsHub, LeavesEither, LeavesOnly}}
+use Rattle.{njh_turns.specs.Keeping.kept_files, njh_keeper.proofs.BegunLaws.{all_by_place, begun_is_known}}
+use Rattle.njh_keeper.proofs.{BegunLaws.{opened_rests, others_by_place}, GrowthLaws.led_rests, HubLaws.apart}
+use Rattle.njh_keeper.proofs.{KnowingLaws.{uses_of_one, known_is_left, known_still}, ListLaws.{all-set, all-map}}
+use Rattle.njh_keeper.proofs.{ListLaws.at_place, NumberedLaws.all_at, OpeningFound.{all_found, all_read_from}}
+use Rattle.njh_keeper.specs.{Keeper.{IsKeptNow, memory_in, owns_in}, code.Remembered.OwnMemory}
 use Rattle.njh_keeper.specs.declared.own_files.OwnFiles as own_files_type
 
 -- ---- what it leaves
@@ -35,9 +35,15 @@ known_leaves g keeper parts k =
 
 -- ---- a commit
 
-pub ok_given : {T E : Type 0} (r : Result T E) (C P Q : Type 0) → (C → OnOk r P) → ((C → P) → Q) → OnOk r Q
-ok_given (Ok x) C P Q led f = f led
-ok_given (Err e) C P Q led f = tt
+module _ {T E : Type 0} where
+  pub ok_given : (r : Result T E) (A C P Q : Type 0) → OnOk r A → (C → OnOk r P) → (A → (C → P) → Q) → OnOk r Q
+  ok_given (Ok x) A C P Q one led f = f one led
+  ok_given (Err e) A C P Q one led f = tt
+
+  pub if_ok_given : (r : Result T E) (A C P : Type 0) (R Q : T → Type 0) → OnOk r A → (C → OnOk r P) → IfOk r R
+      → ((x : T) → A → (C → P) → R x → Q x) → IfOk r Q
+  if_ok_given (Ok x) A C P R Q one led holds f = f x one led holds
+  if_ok_given (Err e) A C P R Q one led holds f = tt
 
 pub known_settled : {S : Type 0} (g : Ghosts S) (old new : Keeping S) (parts : List Part) (k : KnowsNow g old parts)
     → new.names ≡ old.names → new.numbers ≡ old.numbers → new.customers ≡ old.customers
@@ -49,9 +55,7 @@ known_settled g old new parts k names numbers customers done = record {
   names = names ∙ k.names ∙ sym (ap (λ ms. map (λ own. own.name) (map (λ (m : OwnMemory). m.own) ms)) customers);
   distinct = subst AreDistinct (sym names) k.distinct;
   texts = subst (AllByRecursion (λ (m : OwnMemory). is_name_of m.text m.own.name ≡ true)) (sym customers) k.texts;
-  knows = subst (λ w. Knows w (owns_in new) (spools_of parts) k.standing.now) (sym numbers)
-      (subst (λ ms. Knows old.numbers (map (λ (m : OwnMemory). m.own) ms) (spools_of parts) k.standing.now)
-      (sym customers) k.knows);
+  knows = rw (numbers, customers) k.knows;
   sound = k.sound;
 }
 
@@ -107,10 +111,9 @@ begun_known g new names hub owns t customers names_is each begun stands distinct
       ∙ sym (ap (λ ms. map (λ (own : OwnFiles). own.name) (map (λ (m : OwnMemory). m.own) ms)) customers);
   distinct = subst AreDistinct (sym names_is) distinct;
   texts = subst (AllByRecursion (λ (m : OwnMemory). is_name_of m.text m.own.name ≡ true)) (sym customers)
-      (all_map (λ (m : OwnMemory). is_name_of m.text m.own.name ≡ true) own_memory_of owns texts);
-  knows = subst (λ ms. Knows new.numbers (map (λ (m : OwnMemory). m.own) ms) (spools_of hub) t) (sym customers)
-      (subst (λ os. Knows new.numbers os (spools_of hub) t) (sym (owns_are owns))
-      (begun_is_known names hub (map own_of owns) new.numbers t begun distinct long).0);
+      (all-map (λ (m : OwnMemory). is_name_of m.text m.own.name ≡ true) own_memory_of owns texts);
+  knows = rw (customers, owns_are owns)
+      (begun_is_known names hub (map own_of owns) new.numbers t begun distinct long).0;
   sound = all_by_place IsSoundPart hub (λ c p low is.
       let here : part c hub ≡ p = get_or_default hub c no_part p low ∙ sym is in
       let one = sound c (omega (arith, low, long)) in
@@ -147,10 +150,6 @@ stood_still s old new stays stands = record {
   kept = subst (λ (d : Database). Holds s.kept d.trees) (sym stays.committed) stands.kept;
 }
 
-pub ok_always : {T E : Type 0} (r : Result T E) (P : Type 0) → P → OnOk r P
-ok_always (Ok x) P p = p
-ok_always (Err e) P p = tt
-
 -- ---- a customer's step
 
 all_zip_at : {X Y : Type 0} (R : X → Y → Type 0) (xs : List X) (ys : List Y) (i : ℕ) (x : X) (y : Y) → AllZip R xs ys
@@ -159,12 +158,6 @@ all_zip_at R [] ys i x y all there is at = absurd (omega (arith, there))
 all_zip_at R (a ∷ xs) [] i x y all there is at = absurd all
 all_zip_at R (a ∷ xs) (b ∷ ys) zero x y all there is at = subst (λ z. R z y) (sym is) (subst (R a) (sym at) all.0)
 all_zip_at R (a ∷ xs) (b ∷ ys) (suc i) x y all there is at = all_zip_at R xs ys i x y all.1 (omega (arith, there)) is at
-
-all_zip_long : {X Y : Type 0} (R : X → Y → Type 0) (xs : List X) (ys : List Y) → AllZip R xs ys → length xs ≡ length ys
-all_zip_long R [] [] all = refl
-all_zip_long R [] (y ∷ ys) all = absurd all
-all_zip_long R (x ∷ xs) [] all = absurd all
-all_zip_long R (x ∷ xs) (y ∷ ys) all = ap suc (all_zip_long R xs ys all.1)
 
 named_apart : (owns : List OwnFiles) → AreDistinct (map (λ (own : OwnFiles). own.name) owns) → AreNamedApart owns
 named_apart owns distinct c own there is =
@@ -177,32 +170,21 @@ named_apart owns distinct c own there is =
     other (apart names distinct i c (omega (arith, low, long)) (omega (arith, there, long))
     (sym (name_is i o low at) ∙ same ∙ name_is c own there is)))
 
-set_same : {X : Type 0} (xs : List X) (i : ℕ) (x : X) → x ≡ get_or xs i x → set xs i x ≡ xs
-set_same xs i x is = ap (set xs i) is ∙ set-get_or xs i x
-
-module _ {S : Type 0} (g : Ghosts S) (old new : Keeping S) (before : List Part) (c : ℕ) (now : Part)
-    (k : KnowsNow g old before) (led : IsLed (part c before) now) (sound : IsSoundPart now)
-    (m m2 : OwnMemory) (there : c < length old.customers) (is : m ≡ get_or old.customers c m)
-    (customers : new.customers ≡ set old.customers c m2) (names : new.names ≡ old.names)
-    (leads : LeadsStep (memory_in old m) (memory_in new m2) old.is_changed new.is_changed now (shown g old.store)
-    (shown g new.store)) where
+module _ {S : Type 0} (g : Ghosts S) (old new : Keeping S) (before : List Part) (c : ℕ) (k : KnowsNow g old before)
+    (there : c < length old.customers) where
   abbrev owns : List OwnFiles
   owns = owns_in old
 
   within : c < length owns
   within = omega (arith, there, length-map old.customers (λ (x : OwnMemory). x.own))
 
-  here : m.own ≡ get_or owns c m.own
-  here = at_place (λ (x : OwnMemory). x.own) old.customers c m there is
-
   in_hub : c < length before
-  in_hub =
-      omega (
-        arith,
-        within,
-        all_zip_long (HasSpool k.standing.now) owns (spools_of before) k.knows.each,
-        length-map before (λ (p : Part). p.customer.spool),
-      )
+  in_hub = omega (
+    arith,
+    within,
+    AllZip-long (HasSpool k.standing.now) owns (spools_of before) k.knows.each,
+    length-map before (λ (p : Part). p.customer.spool),
+  )
 
   part_is : part c before ≡ get_or before c (part c before)
   part_is = get_or_default before c no_part (part c before) in_hub
@@ -210,103 +192,81 @@ module _ {S : Type 0} (g : Ghosts S) (old new : Keeping S) (before : List Part) 
   sound_before : IsSoundPart (part c before)
   sound_before = all_at IsSoundPart before c (part c before) k.sound in_hub part_is
 
-  has : HasOwn (memory_in old m) k.standing.now (part c before).customer.spool
-  has = record {
-    ordered = k.knows.ordered;
-    below = k.knows.below;
-    apart = λ n. (omega (arith, uses_of_one n owns c m.own within here, k.knows.apart n));
-    named = all_at (λ (x : OwnMemory). is_name_of x.text x.own.name ≡ true) old.customers c m k.texts there is;
-    has =
-        all_zip_at (HasSpool k.standing.now) owns (spools_of before) c m.own (part c before).customer.spool k.knows.each
-        within here (at_place (λ (p : Part). p.customer.spool) before c (part c before) in_hub part_is);
-  }
+  module _ (now : Part) (led : IsLed (part c before) now) (sound : IsSoundPart now) (m m2 : OwnMemory)
+      (is : m ≡ get_or old.customers c m)
+      (customers : new.customers ≡ set old.customers c m2) (names : new.names ≡ old.names)
+      (leads : LeadsStep (memory_in old m) (memory_in new m2) old.is_changed new.is_changed now (shown g old.store)
+      (shown g new.store)) where
+    here : m.own ≡ get_or owns c m.own
+    here = at_place (λ (x : OwnMemory). x.own) old.customers c m there is
 
-  apart_by_name : AreNamedApart owns
-  apart_by_name = named_apart owns (subst AreDistinct k.names k.distinct)
-
-  owns_new : owns_in new ≡ set owns c m2.own
-  owns_new = ap (map (λ (x : OwnMemory). x.own)) customers ∙ map-set (λ (x : OwnMemory). x.own) old.customers c m2
-
-  spools_new : spools_of (set before c now) ≡ set (spools_of before) c now.customer.spool
-  spools_new = map-set (λ (p : Part). p.customer.spool) before c now
-
-  -- the customers' names are what they were
-  module _ (t : SpoolContents) (goes : StepGoes (memory_in old m) (memory_in new m2) old.is_changed new.is_changed
-      (part c before).customer.spool now.customer.spool k.standing.now t)
-      (stands : Stands (record { now = t; kept = k.standing.kept }) (shown g new.store)) where
-    knows_new : Knows new.numbers (owns_in new) (spools_of (set before c now)) t
-    knows_new =
-        subst (λ os. Knows new.numbers os (spools_of (set before c now)) t) (sym owns_new)
-        (subst (λ ss. Knows new.numbers (set owns c m2.own) ss t) (sym spools_new)
-        (known_still old.numbers new.numbers owns c m.own m2.own within here k.standing.now t goes.moves
-        (spools_of before) k.knows apart_by_name now.customer.spool goes.has))
-
-    names_new : map (λ (own : OwnFiles). own.name) (owns_in new) ≡ map (λ (own : OwnFiles). own.name) owns
-    names_new =
-        ap (map (λ (own : OwnFiles). own.name)) owns_new ∙ map-set (λ (own : OwnFiles). own.name) owns c m2.own
-        ∙ set_same (map (λ (own : OwnFiles). own.name) owns) c m2.own.name
-        (goes.moves.name ∙ at_place (λ (own : OwnFiles). own.name) owns c m.own within here
-        ∙ get_or_default (map (λ (own : OwnFiles). own.name) owns) c m.own.name m2.own.name
-        (omega (arith, within, length-map owns (λ (own : OwnFiles). own.name))))
-
-    -- where nothing changed, what is kept of all customers is what it was
-    kept_same : map kept_file (part c before).customer.spool.whole ≡ map kept_file now.customer.spool.whole
-        → kept_of before ≡ kept_of (set before c now)
-    kept_same same =
-        sym (set_same (kept_of before) c (map kept_file now.customer.spool.whole)
-        (sym same ∙ at_place (λ (p : Part). map kept_file p.customer.spool.whole) before c (part c before) in_hub
-        part_is ∙ get_or_default (kept_of before) c (map kept_file (part c before).customer.spool.whole)
-        (map kept_file now.customer.spool.whole)
-        (omega (arith, in_hub, length-map before (λ (p : Part). map kept_file p.customer.spool.whole)))))
-        ∙ sym (map-set (λ (p : Part). map kept_file p.customer.spool.whole) before c now)
-
-    left_new : left_in new.names t ≡ kept_of (set before c now)
-    left_new =
-        ap (λ ns. left_in ns t) (names ∙ k.names ∙ sym names_new)
-        ∙ known_is_left new.numbers (owns_in new) (spools_of (set before c now)) t knows_new
-        ∙ kept_of_spools (set before c now)
-
-    known_new : KnowsNow g new (set before c now)
-    known_new = record {
-      standing = record { now = t; kept = k.standing.kept };
-      stands = stands;
-      as_kept = λ unchanged.
-          let still = goes.still unchanged in
-          ap (λ ns. left_in ns k.standing.kept) names ∙ k.as_kept still.0 ∙ known_leaves g old before k
-          ∙ kept_same still.1 ∙ sym left_new;
-      names = names ∙ k.names ∙ sym names_new;
-      distinct = subst AreDistinct (sym names) k.distinct;
-      texts = subst (AllByRecursion (λ (x : OwnMemory). is_name_of x.text x.own.name ≡ true)) (sym customers)
-          (all-set (λ (x : OwnMemory). is_name_of x.text x.own.name ≡ true) old.customers c m2 k.texts goes.named);
-      knows = knows_new;
-      sound = all-set IsSoundPart before c now k.sound sound;
+    has : HasOwn (memory_in old m) k.standing.now (part c before).customer.spool
+    has = record {
+      ordered = k.knows.ordered;
+      below = k.knows.below;
+      apart = λ n. (omega (arith, uses_of_one n owns c m.own within here, k.knows.apart n));
+      named = all_at (λ (x : OwnMemory). is_name_of x.text x.own.name ≡ true) old.customers c m k.texts there is;
+      has = all_zip_at (HasSpool k.standing.now) owns (spools_of before) c m.own (part c before).customer.spool
+          k.knows.each within here (at_place (λ (p : Part). p.customer.spool) before c (part c before) in_hub part_is);
     }
 
-  known_set : KnowsNow g new (set before c now)
-  known_set = let one = (leads (part c before) led sound_before).leads k.standing k.stands in known_new one.0
-      (one.2 has) one.1
+    owns_new : owns_in new ≡ set owns c m2.own
+    owns_new = ap (map (λ (x : OwnMemory). x.own)) customers ∙ map-set (λ (x : OwnMemory). x.own) old.customers c m2
 
--- by a step of customer c
-pub known_after : {S : Type 0} (g : Ghosts S) (old new : Keeping S) (before hub : List Part) (c : ℕ)
-    → KnowsNow g old before → LeadsHub c before hub → IsSound (part c hub).customer.spool
-    → HaveHeaders (part c hub).customer.spool.whole → (m m2 : OwnMemory) → c < length old.customers
-    → m ≡ get_or old.customers c m → new.customers ≡ set old.customers c m2 → new.names ≡ old.names
-    → LeadsStep (memory_in old m) (memory_in new m2) old.is_changed new.is_changed (part c hub) (shown g old.store)
-    (shown g new.store) → KnowsNow g new hub
-known_after g old new before hub c k leads sound headers m m2 there is customers names step =
-    let after = leads.0 in
-    let zip = all_zip_long (HasSpool k.standing.now) (owns_in old) (spools_of before) k.knows.each in
-    let long = length-map before (λ (p : Part). p.customer.spool) in
-    let many = length-map old.customers (λ (x : OwnMemory). x.own) in
-    let in_hub : c < length before = omega (arith, there, zip, long, many) in
-    let now : part c hub ≡ after = ap (part c) leads.2 ∙ get_or-set_same before c after no_part in_hub in
-    let was : IsSoundPart (part c before) = all_at IsSoundPart before c (part c before) k.sound in_hub
-    (get_or_default before c no_part (part c before) in_hub) in
-    let by : IsSoundPart after = record {
-      sound = subst (λ (p : Part). IsSound p.customer.spool) now sound;
-      headers = subst (λ (p : Part). HaveHeaders p.customer.spool.whole) now headers;
-      rests = led_rests (part c before) after leads.1 was.rests;
-    } in
-    subst (KnowsNow g new) (sym leads.2) (known_set g old new before c after k leads.1 by m m2 there is customers names
-    (subst (λ (p : Part). LeadsStep (memory_in old m) (memory_in new m2) old.is_changed new.is_changed p
-    (shown g old.store) (shown g new.store)) now step))
+    -- the customers' names are what they were
+    module _ (t : SpoolContents) (goes : StepGoes (memory_in old m) (memory_in new m2) old.is_changed new.is_changed
+        (part c before).customer.spool now.customer.spool k.standing.now t)
+        (stands : Stands (record { now = t; kept = k.standing.kept }) (shown g new.store)) where
+      knows_new : Knows new.numbers (owns_in new) (spools_of (set before c now)) t
+      knows_new =
+          rw (owns_new, map-set (λ (p : Part). p.customer.spool) before c now)
+          (known_still old.numbers new.numbers owns c m.own m2.own within here k.standing.now t goes.moves
+          (spools_of before) k.knows (named_apart owns (subst AreDistinct k.names k.distinct)) now.customer.spool
+          goes.has)
+
+      names_new : map (λ (own : OwnFiles). own.name) (owns_in new) ≡ map (λ (own : OwnFiles). own.name) owns
+      names_new =
+          ap (map (λ (own : OwnFiles). own.name)) owns_new ∙ map-set_same (λ (own : OwnFiles). own.name) owns c m2.own
+          m.own (goes.moves.name ∙ ap (λ (own : OwnFiles). own.name) here)
+
+      left_new : left_in new.names t ≡ kept_of (set before c now)
+      left_new =
+          ap (λ ns. left_in ns t) (names ∙ k.names ∙ sym names_new)
+          ∙ known_is_left new.numbers (owns_in new) (spools_of (set before c now)) t knows_new
+          ∙ kept_of_spools (set before c now)
+
+      known_new : KnowsNow g new (set before c now)
+      known_new = record {
+        standing = record { now = t; kept = k.standing.kept };
+        stands = stands;
+        as_kept = λ unchanged.
+            let still = goes.still unchanged in
+            ap (λ ns. left_in ns k.standing.kept) names ∙ k.as_kept still.0 ∙ known_leaves g old before k
+            ∙ sym (map-set_same kept_files before c now (part c before) (sym still.1 ∙ ap kept_files part_is))
+            ∙ sym left_new;
+        names = names ∙ k.names ∙ sym names_new;
+        distinct = subst AreDistinct (sym names) k.distinct;
+        texts = subst (AllByRecursion (λ (x : OwnMemory). is_name_of x.text x.own.name ≡ true)) (sym customers)
+            (all-set (λ (x : OwnMemory). is_name_of x.text x.own.name ≡ true) old.customers c m2 k.texts goes.named);
+        knows = knows_new;
+        sound = all-set IsSoundPart before c now k.sound sound;
+      }
+
+    known_set : KnowsNow g new (set before c now)
+    known_set = let one = (leads (part c before) led sound_before).leads k.standing k.stands in known_new one.0
+        (one.2 has) one.1
+
+  -- by a step of customer c
+  pub known_after : (hub : List Part) → LeadsHub c before hub → IsSound (part c hub).customer.spool
+      → HaveHeaders (part c hub).customer.spool.whole → (m m2 : OwnMemory) → m ≡ get_or old.customers c m
+      → new.customers ≡ set old.customers c m2 → new.names ≡ old.names
+      → LeadsStep (memory_in old m) (memory_in new m2) old.is_changed new.is_changed (part c hub) (shown g old.store)
+      (shown g new.store) → KnowsNow g new hub
+  known_after hub leads sound headers m m2 is customers names step =
+      let now : part c hub ≡ leads.0 = ap (part c) leads.2 ∙ get_or-set_same before c leads.0 no_part in_hub in
+      let by = subst (λ (p : Part). IsLed (part c before) p × (hub ≡ set before c p)) (sym now) (leads.1, leads.2) in
+      subst (KnowsNow g new) (sym by.1) (known_set (part c hub) by.0 (record {
+        sound = sound;
+        headers = headers;
+        rests = led_rests (part c before) (part c hub) by.0 sound_before.rests;
+      }) m m2 is customers names step)

@@ -3,8 +3,8 @@ use Rattle.njh_keeper.proofs.Words
 use Words.{◌≡◌, ℕ, List, [], ◌∷◌, length, get_or, drop, map, Option, Some, refl, sym, ap, subst, ◌∙◌, arith}
 use Words.{All-from_recursion, AllZip, filter_map, Kind, In, Out, File, SpoolContents, Whole, contents_in, records_of}
 use Words.{WholeFile, kept_file, FitsHub, ReadsAs, own_rows, AllBeside, none_beside, one_beside, IsKept, KeptWhole}
-use Words.{Mirrored, OwnFiles, left_in, file_in, kind_of_word, kind_word, own_files}
-use Rattle.njh_keeper.proofs.{OwnFileLaws.own_files_read_back, RecordLaws.file_reads_back}
+use Words.{Mirrored, OwnFiles, left_in, file_in, kind_of_word, kind_word, own_files, whole_in}
+use Rattle.njh_keeper.proofs.{RecordLaws.file_reads_back, RowLaws.own_files_are}
 
 word_back : (kind : Kind) → kind_of_word (kind_word kind) ≡ Some kind
 word_back In = refl
@@ -20,14 +20,15 @@ reads_as s k e f one =
     ∙ (λ i. Some (record { kind = f.kind; held = one.row.held i; records = f.records })))
 
 read_back : (s : SpoolContents) (ks : List KeptWhole) (es : List (ℕ × File)) (fs : List WholeFile)
-    → AllBeside (IsKept s) ks es fs → AllZip (ReadsAs s) es (map kept_file fs)
-read_back s _ _ _ none_beside = tt
-read_back s _ _ _ (one_beside k e f ks es fs one more) = (reads_as s k e f one, read_back s ks es fs more)
+    → AllBeside (IsKept s) ks es fs
+    → map (λ w. file_in w.file w.records) (map (whole_in s) es) ≡ map Some (map kept_file fs)
+read_back s _ _ _ none_beside = refl
+read_back s _ _ _ (one_beside k e f ks es fs one more) = λ i. reads_as s k e f one i ∷ read_back s ks es fs more i
 
 pub mirrored_is_read_back : (s : SpoolContents) (own : OwnFiles) (files : List WholeFile) → Mirrored s own files
     → map (λ w. file_in w.file w.records) (own_files own.name s) ≡ map Some (map kept_file files)
-mirrored_is_read_back s own files all = own_files_read_back own.name s (map kept_file files)
-    (read_back s own.whole (own_rows own.name s) files all)
+mirrored_is_read_back s own files all = ap (map (λ (w : Whole). file_in w.file w.records)) (own_files_are own.name s)
+    ∙ read_back s own.whole (own_rows own.name s) files all
 
 -- ---- all customers
 
@@ -39,6 +40,9 @@ found_all f (x ∷ xs) [] all = absurd (let long = ap length all in omega (arith
 found_all {X} {Y} f (x ∷ xs) (y ∷ ys) all =
     let first : f x ≡ Some y = ap (λ (os : List (Option Y)). get_or os 0 (f x)) all in
     rw first (ap (λ zs. y ∷ zs) (found_all f xs ys (ap (λ (os : List (Option Y)). drop 1 os) all)))
+
+pub some_of : {X : Type 0} (xs ys : List X) → map Some xs ≡ map Some ys → xs ≡ ys
+some_of xs ys same = sym (found_all Some xs xs refl) ∙ found_all Some xs ys same
 
 -- where each customer has the files of a part of a hub
 pub left_of_parts : {P : Type 0} (whole : P → List WholeFile) (s : SpoolContents) (owns : List OwnFiles)

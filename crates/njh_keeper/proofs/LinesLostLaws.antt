@@ -3,24 +3,23 @@ use Rattle.njh_keeper.proofs.Words
 use Words.{◌≡◌, ℕ, ◌+◌, ◌<◌, ◌≤◌, Bool, true, false, List, [], ◌∷◌, length, map, Option, Some, None, Ok, Err, refl, sym}
 use Words.{ap, subst, ◌∙◌, arith, length-map, length-set, recursion_from_All, sum_by_push, filter_map, Nothing}
 use Words.{HasHeaders, Whole, CustomerEntry, RouteEntry, entry_unmarked, next_number-fresh, WholeFile, cost}
-use Words.{used_blocks, with_arrived, Sending, KeptFile, restore_fault, state_back, Down, is_up, CustomerLine}
-use Words.{config_of, idle_line, line_at, no_customer_line, IsIdle, phase_of, entry_with, part_after_routes, outgoing}
-use Words.{rest_at, OwnSignal, part_with_file, kept_file, bare, file_at_rest, AreBack, file_in, part_opened, HasOpened}
-use Words.{as_opened, opened_of}
-use Rattle.std.{proofs.{lemmas.{Bool.{leb-true, ltb-true}, List.length-append}, Math.ListN.get_or-map}, specs.List.All}
+use Words.{used_blocks, with_arrived, Sending, KeptFile, restore_fault, state_back, Down, is_up, CustomerLine, line_at}
+use Words.{no_customer_line, IsIdle, phase_of, entry_with, part_after_routes, outgoing, rest_at, OwnSignal}
+use Words.{part_with_file, kept_file, bare, file_at_rest, AreBack, file_in, part_opened, HasOpened, as_opened}
+use Words.{opened_of}
+use Rattle.std.{proofs.{Math.ListN.get_or-map, lemmas.{Bool.{leb-true, ltb-true}, List.length-append}}, specs.List.All}
 use Rattle.njh_table.specs.{Keys.Walked, NewRoutes.{NewRoute, routes_checked}}
 use Rattle.njh_customer.proofs.{EventMoves.{events_keep_entries, events_keep_lines}, LossLaws.losses_leave}
 use Rattle.njh_customer.proofs.{MarkLaws.marks_right, OrderLaws.stays_in_order, OutgoingLaws.stream_is}
-use Rattle.njh_customer.specs.{Customer.{IsMarked, with_marks}, Feeding.bytes_run}
-use Rattle.njh_customer.specs.InOrder.{HasAfterLosses, IsInOrder, IsWithinQuota, after_losses, losses}
-use Rattle.njh_customer.specs.{NewRoutes.{routes_given, taken_where}, OutgoingFiles.sender_on, Part.Part}
-use Rattle.njh_customer.specs.{Part.{part_at_open, rest_on}, Runs.{OwnEvent, OwnBytes, OwnRoutes, alone_run, event_run}}
-use Rattle.{njh_hub.proofs.RestoredLaws.headers_by, njh_turns.specs.Keeping.kept_files}
-use Rattle.njh_keeper.proofs.{BackLaws.{fits_in, put_back, stays_so}, IdleLines.{bare_lines, marks_off, no_rests}}
+use Rattle.njh_customer.specs.{Customer.{IsMarked, with_marks}, Feeding.bytes_run, InOrder.{HasAfterLosses, IsInOrder}}
+use Rattle.njh_customer.specs.{InOrder.{IsWithinQuota, after_losses, losses}, NewRoutes.{routes_given, taken_where}}
+use Rattle.njh_customer.specs.{OutgoingFiles.sender_on, Part.{Part, part_at_open, rest_on}, Runs.{OwnEvent, OwnBytes}}
+use Rattle.{njh_customer.specs.Runs.{OwnRoutes, alone_run, event_run}, njh_hub.proofs.RestoredLaws.headers_by}
+use Rattle.{njh_turns.specs.Keeping.kept_files, njh_keeper.proofs.IdleLines.{bare_lines, marks_off, no_rests}}
 use Rattle.njh_keeper.proofs.IdleLines.{fresh_down, opened_line, rest_past, same_rests, senders_idle, set_up_by}
-use Rattle.njh_keeper.proofs.{IdleLines.set_up_of, LeftLaws.found_all, OneStepLaws.some_of, OpenedLaws.new}
-use Rattle.njh_keeper.proofs.{OpenedLaws.opened_files, RestingFiles.{AreNotSent, all_fit, kept_costs, kept_read}}
-use Rattle.njh_keeper.{proofs.RestingFiles.{lost_files, same_kept}, specs.LinesLost.{AreFilesOf, IsAtRest}}
+use Rattle.njh_keeper.proofs.{IdleLines.set_up_of, LeftLaws.{found_all, some_of}, OpenedLaws.{fits_in, put_back}}
+use Rattle.njh_keeper.proofs.{OpenedLaws.{stays_so, new, opened_files}, RestingFiles.{AreNotSent, all_fit, kept_costs}}
+use Rattle.njh_keeper.{proofs.RestingFiles.{kept_read, lost_files, same_kept}, specs.LinesLost.{AreFilesOf, IsAtRest}}
 use Rattle.njh_keeper.specs.LinesLost.{LeftAsLinesLost, OpenedAsLinesLost, StandsAs}
 use Rattle.njh_stream.specs.Sending as sending
 use Rattle.njh_stream.specs.declared.sender.Sender.TheVariants as sender
@@ -51,13 +50,6 @@ one_back f p none order =
     not_sending : (held : Bool) → state_back held ≡ Sending → ⊥
     not_sending true e = cc e
     not_sending false e = cc e
-
-opened_in_order : (entry : CustomerEntry) (ws : List Whole) → All (λ line. line.streams ≤ 4) entry.lines
-    → AreBack (part_at_open entry) ws → IsInOrder (part_opened entry ws).customer
-opened_in_order entry ws few back =
-    let put = put_back ws (part_at_open entry) back in
-    stays_so (λ p. IsInOrder p.customer) one_back ws put.0 (part_at_open entry) (part_opened entry ws) put.1
-    (stays_in_order.opened entry few)
 
 -- ---- what a run leaves as it is
 
@@ -111,40 +103,44 @@ none_goes p order idle f at sent =
 -- a customer that was opened
 module _ (entry : CustomerEntry) (ws : List Whole) (few : All (λ line. line.streams ≤ 4) entry.lines)
     (back : AreBack (part_at_open entry) ws) where
-  opened : HasOpened entry ws (part_opened entry ws)
+  abbrev opened_part : Part
+  opened_part = part_opened entry ws
+
+  opened : HasOpened entry ws opened_part
   opened = opened_files entry ws back
 
-  opened_order : IsInOrder (part_opened entry ws).customer
-  opened_order = opened_in_order entry ws few back
+  opened_order : IsInOrder opened_part.customer
+  opened_order =
+      let put = put_back ws (part_at_open entry) back in
+      stays_so (λ p. IsInOrder p.customer) one_back ws put.0 (part_at_open entry) opened_part put.1
+      (stays_in_order.opened entry few)
 
-  opened_marked : IsMarked (part_opened entry ws).customer
+  opened_marked : IsMarked opened_part.customer
   opened_marked =
       ap (λ (e : CustomerEntry). e.up) opened.entry_is ∙ marks_right.fresh entry
       ∙ ap (map (λ (x : CustomerLine). is_up x.state.session.phase)) (sym opened.lines)
 
-  opened_down : (l : ℕ) → l < length (part_opened entry ws).customer.lines
-      → phase_of (line_at l (part_opened entry ws).customer.lines) ≡ Down
-  opened_down l there =
-      subst (λ (xs : List CustomerLine). l < length xs → phase_of (line_at l xs) ≡ Down) (sym opened.lines)
-      (fresh_down entry entry.lines l) there
+  opened_down : (l : ℕ) → l < length opened_part.customer.lines
+      → phase_of (line_at l opened_part.customer.lines) ≡ Down
+  opened_down = subst (λ (xs : List CustomerLine). (l : ℕ) → l < length xs → phase_of (line_at l xs) ≡ Down)
+      (sym opened.lines) (fresh_down entry entry.lines)
 
-  opened_at_rest : IsAtRest (part_opened entry ws)
+  opened_idle : (l : ℕ) → l < length opened_part.customer.lines → IsIdle (line_at l opened_part.customer.lines)
+  opened_idle l there = opened_order.idle l there (ap is_up (opened_down l there))
+
+  opened_at_rest : IsAtRest opened_part
   opened_at_rest = record {
-    none_sent = λ f at sent. none_goes (part_opened entry ws) opened_order opened_idle f at sent;
+    none_sent = none_goes opened_part opened_order opened_idle;
     partial = opened.partial;
     down = opened_down;
     idle = opened_idle;
     rests = λ l. ap (rest_at l) opened.rests ∙ no_rests entry.lines l;
   }
-    where
-      opened_idle : (l : ℕ) → l < length (part_opened entry ws).customer.lines
-          → IsIdle (line_at l (part_opened entry ws).customer.lines)
-      opened_idle l there = opened_order.idle l there (ap is_up (opened_down l there))
 
-  opened_lengths : length (part_opened entry ws).rests ≡ length (part_opened entry ws).customer.lines
+  opened_lengths : length opened_part.rests ≡ length opened_part.customer.lines
   opened_lengths =
       ap length opened.rests ∙ length-map entry.lines (λ line. Nothing)
-      ∙ sym (ap length opened.lines ∙ length-map entry.lines (λ line. idle_line (config_of entry line) line.streams))
+      ∙ sym (ap length opened.lines ∙ length-map entry.lines (opened_line entry))
 
 module _ (entry : CustomerEntry) (before ws : List Whole) (events : List OwnEvent) (routes : List RouteEntry)
     (few : All (λ line. line.streams ≤ 4) entry.lines) (first : AreBack (part_at_open entry) before) where
@@ -153,6 +149,16 @@ module _ (entry : CustomerEntry) (before ws : List Whole) (events : List OwnEven
 
   abbrev q : Part
   q = after_losses p
+
+  abbrev new_entry : CustomerEntry
+  new_entry = entry_with routes entry
+
+  abbrev new_part : Part
+  new_part = part_opened new_entry ws
+
+  -- an entry but for its routes and its marks
+  abbrev entry_as : Part → CustomerEntry → CustomerEntry
+  entry_as x e = entry_with x.customer.entry.routes (with_marks x.customer.entry.up e)
 
   begins : HasOpened entry before (part_opened entry before)
   begins = opened_files entry before first
@@ -168,59 +174,60 @@ module _ (entry : CustomerEntry) (before ws : List Whole) (events : List OwnEven
   has = losses_leave p run.order
 
   as_many : length q.customer.lines ≡ length entry.lines
-  as_many =
-      lost.lines ∙ run.lines ∙ ap length begins.lines
-      ∙ length-map entry.lines (λ line. idle_line (config_of entry line) line.streams)
+  as_many = lost.lines ∙ run.lines ∙ ap length begins.lines ∙ length-map entry.lines (opened_line entry)
 
   marks_are : q.customer.entry.up ≡ map (λ _. false) entry.lines
   marks_are = lost.marked ∙ marks_off q.customer.lines entry.lines as_many has.down
 
-  entry_is : (entry_unmarked (entry_with routes entry)) ≡ entry_with routes q.customer.entry
-  entry_is =
-      sym (ap (entry_with routes) (lost.entry
-      ∙ ap (λ (e : CustomerEntry). entry_with q.customer.entry.routes (with_marks q.customer.entry.up e))
-      (run.entry ∙ ap (λ (e : CustomerEntry). entry_with p.customer.entry.routes (with_marks p.customer.entry.up e))
-      begins.entry_is)) ∙ ap (λ (up : List Bool). entry_with routes (with_marks up entry)) marks_are)
+  run_entry : p.customer.entry ≡ entry_as p entry
+  run_entry = run.entry ∙ ap (entry_as p) begins.entry_is
+
+  entry_is : entry_unmarked new_entry ≡ entry_with routes q.customer.entry
+  entry_is = sym (ap (entry_with routes) (lost.entry ∙ ap (entry_as q) run_entry)
+      ∙ ap (λ (up : List Bool). entry_with routes (with_marks up entry)) marks_are)
 
   lost_rests : (l : ℕ) → rest_on l q ≡ Nothing
   lost_rests l =
       rest_past q.rests l (λ there. has.rests l (omega (arith, there, lost.rests))
       (omega (arith, there, lost.rests, run.rests, run.lines, opened_lengths entry before few first)))
 
-  fits : AreFilesOf ws p → AreBack (part_at_open (entry_with routes entry)) ws
+  fits : AreFilesOf ws p → AreBack (part_at_open new_entry) ws
   fits same =
       let s = p.customer.spool in
-      let whole_entry : p.customer.entry ≡ entry_with p.customer.entry.routes (with_marks p.customer.entry.up entry) =
-      run.entry ∙ ap (λ (e : CustomerEntry). entry_with p.customer.entry.routes (with_marks p.customer.entry.up e))
-      begins.entry_is in
-      let quota : s.quota ≡ entry.quota =
-      run.order.coherent.quota ∙ ap (λ (e : CustomerEntry). e.quota) whole_entry in
-      let limit : s.limit ≡ entry.files =
-      run.order.coherent.limit ∙ ap (λ (e : CustomerEntry). e.files) whole_entry in
-      all_fit ws (kept_files p) (part_at_open (entry_with routes entry)) same
+      all_fit ws (kept_files p) (part_at_open new_entry) same
       (kept_read s.whole (recursion_from_All (λ (f : WholeFile). HasHeaders f.kind f.records) s.whole
       run.order.coherent.headers))
       (record {
-        blocks = omega (arith, kept_costs s.whole, run.order.within.blocks, quota);
-        files = omega (arith, length-map s.whole kept_file, run.order.within.files, limit);
+        blocks = omega (
+          arith,
+          kept_costs s.whole,
+          run.order.within.blocks,
+          run.order.coherent.quota,
+          ap (λ (e : CustomerEntry). e.quota) run_entry,
+        );
+        files = omega (
+          arith,
+          length-map s.whole kept_file,
+          run.order.within.files,
+          run.order.coherent.limit,
+          ap (λ (e : CustomerEntry). e.files) run_entry,
+        );
       })
 
   module _ (same : AreFilesOf ws p) where
-    back : AreBack (part_at_open (entry_with routes entry)) ws
+    back : AreBack (part_at_open new_entry) ws
     back = fits same
 
-    again : HasOpened (entry_with routes entry) ws (part_opened (entry_with routes entry) ws)
-    again = opened_files (entry_with routes entry) ws back
+    again : HasOpened new_entry ws new_part
+    again = opened_files new_entry ws back
 
-    kept_are : again.files ≡ kept_files p
-    kept_are = some_of again.files (kept_files p) (sym again.all ∙ same)
-
-    files_are : map opened_of (part_opened (entry_with routes entry) ws).customer.spool.whole
+    files_are : map opened_of new_part.customer.spool.whole
         ≡ map file_at_rest (part_after_routes routes q).customer.spool.whole
     files_are =
         let e = entry_with routes q.customer.entry in
         again.whole ∙ ap (λ (x : CustomerEntry). map (as_opened x) again.files) entry_is
-        ∙ ap (map (as_opened e)) (kept_are ∙ sym (same_kept q.customer.spool.whole p.customer.spool.whole has.files))
+        ∙ ap (map (as_opened e)) (some_of again.files (kept_files p) (sym again.all ∙ same)
+        ∙ sym (same_kept q.customer.spool.whole p.customer.spool.whole has.files))
         ∙ sym (lost_files e q.customer.spool.whole has.none_sent)
 
     lost_order : IsInOrder (part_after_routes routes q).customer
@@ -236,7 +243,7 @@ module _ (entry : CustomerEntry) (before ws : List Whole) (events : List OwnEven
     }
 
     -- the entry of the customer that was opened, but for its routes, is that of the one that lost its lines
-    lines_are : map bare (part_opened (entry_with routes entry) ws).customer.lines ≡ map bare q.customer.lines
+    lines_are : map bare new_part.customer.lines ≡ map bare q.customer.lines
     lines_are =
         ap (map bare) again.lines ∙ ap (λ (x : CustomerEntry). map bare (map (opened_line x) x.lines)) entry_is
         ∙ sym (bare_lines q.customer.lines q.customer.entry.lines
@@ -247,22 +254,21 @@ module _ (entry : CustomerEntry) (before ws : List Whole) (events : List OwnEven
         ∙ lost.order.sent.eight l (omega
         (arith, there, length-map q.customer.lines (λ (x : CustomerLine). x.senders)))))
 
-    rests_are : (part_opened (entry_with routes entry) ws).rests ≡ q.rests
+    rests_are : new_part.rests ≡ q.rests
     rests_are =
-        same_rests (part_opened (entry_with routes entry) ws).rests q.rests
-        (ap length again.rests ∙ length-map entry.lines (λ line. Nothing)
+        same_rests new_part.rests q.rests (ap length again.rests ∙ length-map entry.lines (λ line. Nothing)
         ∙ sym (lost.rests ∙ run.rests ∙ ap length begins.rests ∙ length-map entry.lines (λ line. Nothing)))
-        (opened_at_rest (entry_with routes entry) ws few back).rests lost_rests
+        (opened_at_rest new_entry ws few back).rests lost_rests
 
-    stands : StandsAs (part_opened (entry_with routes entry) ws) (part_after_routes routes q)
+    stands : StandsAs new_part (part_after_routes routes q)
     stands = record {
       entry = again.entry_is ∙ entry_is;
       files = files_are;
       lines = lines_are;
       rests = rests_are;
-      opened_order = opened_order (entry_with routes entry) ws few back;
+      opened_order = opened_order new_entry ws few back;
       lost_order = lost_order;
-      opened_at_rest = opened_at_rest (entry_with routes entry) ws few back;
+      opened_at_rest = opened_at_rest new_entry ws few back;
       lost_at_rest = lost_at_rest;
     }
 

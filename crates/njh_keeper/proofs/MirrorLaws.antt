@@ -4,17 +4,73 @@ use Words.{◌≡◌, ◌≢◌, ℕ, ◌+◌, ◌<◌, ◌≤◌, true, List, [
 use Words.{subst, ◌∙◌, arith, get_or_default, set-get_or, AllByRecursion, File, SpoolContents, contents_in, records_of}
 use Words.{with_changed, with_file, without_file, WholeFile, is_held, FitsHub, HasRecords, IsOrdered, WritesRowsOf}
 use Words.{WritesUnder, own_rows, AllBeside, AreBelow, Claim, IsKept, IsRowOf, KeptWhole, Mirrored, Moves, OwnFiles}
-use Words.{Remembers, keyed, is_own, kind_word}
-use Rattle.njh_keeper.proofs.BesideLaws.{BesideAt, beside_at, beside_push, beside_remove, beside_set, beside_weaker}
-use Rattle.njh_keeper.proofs.{FrameLaws.{adds_row, changes_row, drops_row, rows_stay}, KeyLaws.each_counts}
-use Rattle.njh_keeper.proofs.{KeyLaws.{keyed_apart, keyed_at, keyed_none}, MovesLaws.{moves_rows, moves_then}}
-use Rattle.njh_keeper.proofs.{MovesLaws.moves_under, NumberedLaws.all_weaker, RowLaws.below_with_changed}
-use Rattle.njh_keeper.proofs.RowLaws.{below_with_file, below_without_file, row_below, row_changes, row_comes_last}
-use Rattle.njh_keeper.proofs.RowLaws.{row_leaves}
+use Words.{Remembers, keyed, is_own, kind_word, AreApart}
+use Rattle.njh_keeper.proofs.{FrameLaws.{adds_row, changes_row, drops_row, rows_stay}, ListLaws.{BesideAt, beside_at}}
+use Rattle.njh_keeper.proofs.{ListLaws.{beside_push, beside_remove, beside_set, beside_weaker}, NumberedLaws.all_weaker}
+use Rattle.njh_keeper.proofs.RowLaws.{below_with_changed, below_with_file, below_without_file, row_below, row_changes}
+use Rattle.njh_keeper.proofs.{RowLaws.{row_comes_last, row_leaves}, UsesLaws.{each_counts, keyed_apart, keyed_at}}
+use Rattle.njh_keeper.proofs.UsesLaws.{keyed_none}
+pub use Rattle.sqlite_trees.proofs.ListLemmas.{all_of}
 
-pub all_of : {X : Type 0} (P : X → Type 0) → ((x : X) → P x) → (xs : List X) → AllByRecursion P xs
-all_of P each [] = tt
-all_of P each (x ∷ xs) = (each x, all_of P each xs)
+pub moves_then : (a b c : Claim) (s t u : SpoolContents) → Moves a b s t → Moves b c t u → Moves a c s u
+moves_then a b c s t u one more = record {
+  name = more.name ∙ one.name;
+  uses = λ n. let first = one.uses n in let then = more.uses n in omega (arith, first, then);
+  ordered = more.ordered;
+  next = let first = one.next in let then = more.next in omega (arith, first, then);
+  below = λ below. more.below (one.below below);
+  records = λ key free. more.records key (let less = one.uses key in omega (arith, free, less)) ∙ one.records key free;
+  rows = λ other apart. more.rows other (λ here. apart (here ∙ one.name)) ∙ one.rows other apart;
+}
+
+-- no number is used twice then, either
+pub still_apart : (a b : Claim) (s t : SpoolContents) → Moves a b s t → AreApart a → AreApart b
+still_apart a b s t moves apart n = let less = moves.uses n in let once = apart n in omega (arith, less, once)
+
+module _ (a b : Claim) (s : SpoolContents) (name : b.name ≡ a.name) (uses : (n : ℕ) → b.uses n ≤ a.uses n) where
+  -- nothing is written
+  pub moves_memory : IsOrdered s → a.next_id ≤ b.next_id → Moves a b s s
+  moves_memory h more = record {
+    name = name;
+    uses = uses;
+    ordered = h;
+    next = more;
+    below = all_weaker (λ (e : ℕ × File). e.0 < a.next_id) (λ e. e.0 < b.next_id) (λ e less. omega (arith, less, more))
+        s.files;
+    records = λ key free. refl;
+    rows = λ other apart. refl;
+  }
+
+  -- records under one key are written
+  pub moves_under : (key : ℕ) (t : SpoolContents) → WritesUnder key s t → 1 ≤ a.uses key → b.next_id ≡ a.next_id
+      → Moves a b s t
+  moves_under key t w busy next = record {
+    name = name;
+    uses = uses;
+    ordered = w.ordered;
+    next = omega (arith, next);
+    below = λ below. subst (λ end. AreBelow end t) (sym next)
+        (subst (λ es. AllByRecursion (λ (e : ℕ × File). e.0 < a.next_id) es) (sym w.files) below);
+    records = λ other free. w.others other
+        (λ here. absurd (let none : a.uses key ≡ 0 = sym (ap a.uses here) ∙ free in omega (arith, none, busy)));
+    rows = λ other apart. rows_stay key s t w other;
+  }
+
+  -- rows of the customer are written
+  pub moves_rows : (t : SpoolContents) → WritesRowsOf a.name s t → a.next_id ≤ b.next_id
+      → (AreBelow a.next_id s → AreBelow b.next_id t) → Moves a b s t
+  moves_rows t w more below = record {
+    name = name;
+    uses = uses;
+    ordered = w.ordered;
+    next = more;
+    below = below;
+    records = λ other free. λ i. records_of other (record { files = t.files; records = w.records i });
+    rows = w.others;
+  }
+
+pub moves_nothing : (a : Claim) (s : SpoolContents) → IsOrdered s → Moves a a s s
+moves_nothing a s h = moves_memory a a s refl (λ n. omega arith) h (omega arith)
 
 -- ---- the files stay
 
@@ -158,21 +214,18 @@ module _ (s : SpoolContents) (own : OwnFiles) (files : List WholeFile) (h : IsOr
           fits = fits;
         }))
 
-    pub changing_moves : (a : Claim) → a.name ≡ own.name
-        → ((n : ℕ) → keyed (λ (x : KeptWhole). x.key) n own.whole ≤ a.uses n) → Moves a a s (with_changed k.id file t)
-    changing_moves a mine least =
-        let busy : 1 ≤ a.uses k.key = (omega (
-          arith,
-          keyed_at (λ (x : KeptWhole). x.key) own.whole i k there is,
-          least k.key,
-        )) in
-        let same : (n : ℕ) → a.uses n ≤ a.uses n = λ n. omega arith in
-        let first = moves_under a a s refl same k.key t under busy refl in
-        moves_then a a a s t (with_changed k.id file t) first (moves_rows a a t refl same (with_changed k.id file t)
-        (subst (λ who. WritesRowsOf who t (with_changed k.id file t)) (sym mine) changing_row) (omega arith) (λ below.
-        let low : k.id < a.next_id = subst (λ n. n < a.next_id) one.holds.id
-        (row_below own.name t under.ordered i one.second there_still is_still a.next_id below) in
-        below_with_changed a.next_id k.id file t low below))
+    pub changing_moves : (a b : Claim) → a.name ≡ own.name → b.name ≡ a.name → b.next_id ≡ a.next_id
+        → ((n : ℕ) → b.uses n ≤ a.uses n) → ((n : ℕ) → keyed (λ (x : KeptWhole). x.key) n own.whole ≤ a.uses n)
+        → Moves a b s (with_changed k.id file t)
+    changing_moves a b mine name next uses least =
+        let u = with_changed k.id file t in
+        let busy : 1 ≤ a.uses k.key =
+        omega (arith, keyed_at (λ (x : KeptWhole). x.key) own.whole i k there is, least k.key) in
+        moves_then a a b s t u (moves_under a a s refl (λ n. omega arith) k.key t under busy refl)
+        (moves_rows a b t name uses u (subst (λ who. WritesRowsOf who t u) (sym mine) changing_row)
+        (omega (arith, next)) (λ below. subst (λ end. AreBelow end u) (sym next)
+        (below_with_changed a.next_id k.id file t (subst (λ n. n < a.next_id) one.holds.id
+        (row_below own.name t under.ordered i one.second there_still is_still a.next_id below)) below)))
 
 -- ---- one comes
 

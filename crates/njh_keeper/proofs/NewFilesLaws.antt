@@ -2,16 +2,17 @@
 use Rattle.njh_keeper.proofs.Words
 use Words.{◌≡◌, ℕ, zero, suc, ◌+◌, ◌-◌, ◌^◌, ◌<◌, ◌≤◌, ◌==◌, inl, inr, Bool, true, false, cond, List, [], ◌∷◌, ◌++◌}
 use Words.{length, get_or, set, take, Option, Some, None, min, refl, sym, ap, subst, ◌∙◌, arith, cases_lt}
-use Words.{get_or-take, get_or_default, length-take-le, take_more, All-from_recursion, AllByRecursion, In}
-use Words.{Stored, HasHeaders, SpoolContents, records_of, contents_in, CustomerSpool, WholeFile, max_arrived}
-use Words.{partial_numbered, Ready, records_in, HaveHeaders, outgoing, Survive, leaves, none, FileSummaryView}
-use Words.{file_summary, Part, part, AreFronts, GoesTo, GoOnIn, IsAt, IsFrontOf, IsReached, IsStillAt, LeadsFiles}
-use Words.{HasFiles, Memory, Remain, Stage, KeptPartial, one_if, AreNumbered, IsWalkedTo}
-use Rattle.{std.{proofs.Common.find, specs.Option.{option_map, option_or}}, njh_customer.specs.Customer.Customer}
-use Rattle.{njh_customer.proofs.SurvivingLaws.first_files, njh_keeper.proofs.FollowingLaws.{all_remain, goes_then}}
-use Rattle.njh_keeper.proofs.{KeyLaws.keyed_at, LeadingLaws.{leads_then, leads_weaker}, ListLaws.all_both}
-use Rattle.njh_keeper.proofs.{NumberedLaws.{all_weaker, equal}, WalkLaws.{walk_ends, walk_finds, walk_goes_on}}
-use Rattle.njh_keeper.specs.{code.Following.{IsFoundAt, IsHubFile}, declared.own_files.HubFile.HubFile}
+use Words.{get_or-take, get_or_default, length-take-le, take_more, AllByRecursion, In, Stored, HasHeaders}
+use Words.{SpoolContents, records_of, contents_in, CustomerSpool, WholeFile, max_arrived, partial_numbered, Ready}
+use Words.{records_in, HaveHeaders, outgoing, Survive, leaves, none, FileSummaryView, file_summary, Part, part}
+use Words.{AreFronts, GoesTo, GoOnIn, IsAt, IsReached, IsStillAt, LeadsFiles, HasFiles, Memory, Remain, Stage}
+use Words.{KeptPartial, one_if, AreNumbered, IsWalkedTo, IsFrontWhere, leads_then, leads_weaker}
+use Rattle.std.{proofs.Common.find, specs.Option.{option_map, option_or}}
+use Rattle.njh_customer.{proofs.SurvivingLaws.first_files, specs.Customer.Customer}
+use Rattle.njh_keeper.proofs.{FollowingLaws.{all_remain, goes_then}, ListLaws.all_both, NumberedLaws.all_weaker}
+use Rattle.njh_keeper.proofs.{NumberedLaws.{equal, all_at}, UsesLaws.keyed_at, WalkLaws.{walk_ends, walk_finds}}
+use Rattle.njh_keeper.{proofs.WalkLaws.walk_goes_on, specs.code.Following.{IsFoundAt, IsHubFile}}
+use Rattle.njh_keeper.specs.declared.own_files.HubFile.{HubFile}
 
 pub all_have_gone : (fs : List WholeFile) → Survive fs []
 all_have_gone [] = none
@@ -50,41 +51,25 @@ records_at s i g once there is =
 
 -- ---- what is kept of files that aren't whole
 
-abbrev FrontsOf : SpoolContents → List WholeFile → KeptPartial → Type 0
-FrontsOf s files p = AllByRecursion (λ f. f.number ≡ p.number → p.seen ≤ length f.records → IsFrontOf s p f.records)
-    files
-
-fronts_still : (s t : SpoolContents) (files : List WholeFile) (p : KeptPartial) → FrontsOf s files p
-    → records_of p.key t ≡ records_of p.key s → FrontsOf t files p
-fronts_still s t files p fronts same =
-    all_weaker (λ (f : WholeFile). f.number ≡ p.number → p.seen ≤ length f.records → IsFrontOf s p f.records)
-    (λ f. f.number ≡ p.number → p.seen ≤ length f.records → IsFrontOf t p f.records)
-    (λ f front number seen. let x = front number seen in record {
-      before = x.before;
-      long = x.long;
-      within = x.within;
-      stored = (λ i. contents_in (same i)) ∙ x.stored;
-      alike = x.alike;
-    }) files fronts
-
 pub fronts_stay : (s t : SpoolContents) (files : List WholeFile) (before now : List KeptPartial) → Remain before now
     → AllByRecursion (λ p. records_of p.key t ≡ records_of p.key s) now
     → AreFronts s before files → AreFronts t now files
 fronts_stay s t files before now remain same fronts =
-    all_both (FrontsOf s files) (λ p. records_of p.key t ≡ records_of p.key s) (FrontsOf t files)
-    (λ p front still. fronts_still s t files p front still) now
-    (all_remain (FrontsOf s files) before now remain fronts) same
+    all_both (λ p. AllByRecursion (IsFrontWhere s p) files) (λ p. records_of p.key t ≡ records_of p.key s)
+    (λ p. AllByRecursion (IsFrontWhere t p) files) (λ p all still. all_weaker (IsFrontWhere s p) (IsFrontWhere t p)
+    (λ f front number seen. let x = front number seen in record {
+      before = x.before;
+      long = x.long;
+      within = x.within;
+      stored = (λ i. contents_in (still i)) ∙ x.stored;
+      alike = x.alike;
+    }) files all) now (all_remain (λ p. AllByRecursion (IsFrontWhere s p) files) before now remain fronts) same
 
 pub front_at : (s : SpoolContents) (partial : List KeptPartial) (files : List WholeFile) (i : ℕ) (g : WholeFile)
     → i < length files → g ≡ get_or files i g → AreFronts s partial files → AreFronts s partial (g ∷ [])
-front_at s partial files i g there is fronts =
-    all_weaker (FrontsOf s files) (FrontsOf s (g ∷ []))
-    (λ p all. (
-      subst (λ f. f.number ≡ p.number → p.seen ≤ length f.records → IsFrontOf s p f.records) (sym is)
-          (All-from_recursion (λ (f : WholeFile). f.number ≡ p.number → p.seen ≤ length f.records
-          → IsFrontOf s p f.records) files all i g there),
-      tt,
-    )) partial fronts
+front_at s partial files i g there is =
+    all_weaker (λ p. AllByRecursion (IsFrontWhere s p) files) (λ p. AllByRecursion (IsFrontWhere s p) (g ∷ []))
+    (λ p all. (all_at (IsFrontWhere s p) files i g all there is, tt)) partial
 
 -- ---- the file at a place
 

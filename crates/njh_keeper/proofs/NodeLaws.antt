@@ -2,10 +2,11 @@
 use Rattle.njh_keeper.proofs.Words
 use Words.{◌≡◌, ℕ, List, [], ◌∷◌, length, get_or, drop, Option, Some, None, refl, sym, ap, subst, ◌∙◌, AllByRecursion}
 use Words.{User, Kind, In, Stored, stays, destination_of, destination_node, records_to_node, said_destination, AreOne}
-use Words.{with_first, NameOneNode}
-use Rattle.{std.specs.Prelude.unwrap_or, njh_header.proofs.DestinationRecords.{named_eight, stays_so}}
-use Rattle.njh_header.proofs.Destinations.{FirstNode, destination_is_first, first_names, none_before}
-use Rattle.njh_keeper.specs.code.Nodes.{nodes_in}
+use Words.{with_first, NameOneNode, ◌⊎◌, inl, inr, true, is_name, IsRerouted}
+use Rattle.{std.{proofs.Common.⊎_elim, specs.Prelude.unwrap_or}, njh_header.proofs.DestinationRecords.named_eight}
+use Rattle.njh_header.proofs.{DestinationRecords.stays_so, Destinations.{FirstNode, destination_is_first, first_names}}
+use Rattle.njh_header.proofs.Destinations.{none_before, goes_to_node, records_twice}
+use Rattle.{njh_keeper.specs.code.Nodes.nodes_in, njh_customer.specs.Surviving.{as_before, to_node}}
 
 abbrev pub AllAre : List ℕ → List (List ℕ) → Type 0
 AllAre node nodes = AllByRecursion (λ n. n ≡ node) nodes
@@ -96,3 +97,46 @@ one_in_job (r ∷ rs) = subst (λ nodes. AreOne (with_first (destination_node In
 
 pub job_names_one : (rs : List Stored) (d : User) → destination_of In rs ≡ Some d → NameOneNode In rs
 job_names_one rs d reads = names_one_node In rs d reads (one_in_job rs)
+
+-- they were sent to a node
+pub record AreSentTo (kind : Kind) (before now : List Stored) : Type 0 where
+  pub node : List ℕ
+  pub named : is_name node ≡ true
+  pub are : now ≡ records_to_node kind node None before
+
+-- the last command alone decides
+pub last_decides : (kind : Kind) (before now : List Stored) → IsRerouted kind before now
+    → (now ≡ before) ⊎ AreSentTo kind before now
+last_decides kind _ now (as_before records) = inl refl
+last_decides kind _ now (to_node node before _ named more) =
+    let first = records_to_node kind node None before in
+    ⊎_elim (λ (same : now ≡ first). inr (record { node = node; named = named; are = same }))
+    (λ (sent : AreSentTo kind first now). inr (record {
+      node = sent.node;
+      named = sent.named;
+      are = sent.are ∙ records_twice kind node sent.node named sent.named None before;
+    })) (last_decides kind first now more)
+
+module _ (kind : Kind) (before now : List Stored) (d : User) (reads : destination_of kind before ≡ Some d) where
+  said_node : (node : List ℕ) → is_name node ≡ true
+      → (said_destination kind (records_to_node kind node None before)).node ≡ node
+  said_node node named =
+      let goes = goes_to_node node named kind before d reads in
+      said_is kind (records_to_node kind node None before) goes.0 goes.1 ∙ goes.2
+
+  -- they are as they were, or their headers name one node
+  pub same_or_one_node : IsRerouted kind before now → (now ≡ before) ⊎ NameOneNode kind now
+  same_or_one_node rerouted = ⊎_elim (λ (same : now ≡ before). inl same)
+      (λ (sent : AreSentTo kind before now). inr (subst (NameOneNode kind) (sym sent.are)
+      (ap (λ node. records_to_node kind node None (records_to_node kind sent.node None before))
+      (said_node sent.node sent.named) ∙ records_twice kind sent.node sent.node sent.named sent.named None before)))
+      (last_decides kind before now rerouted)
+
+  -- where the headers named one node and the destination is what it was, they are as they were
+  pub same_by_destination : IsRerouted kind before now → NameOneNode kind before
+      → said_destination kind now ≡ said_destination kind before → now ≡ before
+  same_by_destination rerouted one same =
+      ⊎_elim (λ (still : now ≡ before). still) (λ (sent : AreSentTo kind before now).
+      let node : sent.node ≡ (said_destination kind before).node = sym (said_node sent.node sent.named)
+      ∙ ap (λ rs. (said_destination kind rs).node) (sym sent.are) ∙ ap (λ (u : User). u.node) same in
+      sent.are ∙ ap (λ n. records_to_node kind n None before) node ∙ one) (last_decides kind before now rerouted)

@@ -1,11 +1,12 @@
 -- What has rising numbers: one put among them, some taken out, and those that pass a test.
-use Rattle.std.proofs.Common.{◌≡◌, ◌≢◌, ℕ, zero, suc, ◌<◌, ◌==◌, Bool, true, false, not, cond, List, [], ◌∷◌, ◌++◌}
-use Rattle.std.proofs.Common.{length, get_or, set, remove, map, filter, Contains, refl, sym, ap, subst, ◌∙◌, arith}
-use Rattle.std.proofs.lemmas.{Bool.Decides.nat_tests, List.Elements.{All-contains_itself, All-filter}}
-use Rattle.std.proofs.lemmas.List.Elements.{All-from_recursion, recursion_from_All}
-use Rattle.std.specs.{declared.cmp.Ordering.{Ordering, TheVariants.{Less, Equal, Greater}}, List.AllByRecursion}
-use Rattle.{std.specs.Ordering.{nat_cmp, match_ordering}, njh_spoolfile.{proofs.Rows.{same, above}, specs.Kept.Rise}}
-use Rattle.njh_spoolfile.specs.Kept.{put, without}
+use Rattle.njh_keeper.proofs.Words
+use Words.{◌≡◌, ◌≢◌, ℕ, zero, suc, ◌<◌, ◌==◌, Bool, true, false, not, cond, List, [], ◌∷◌, ◌++◌, length, get_or, set}
+use Words.{remove, filter, Contains, refl, sym, ap, subst, ◌∙◌, arith, nat_tests, All-filter, All-from_recursion}
+use Words.{recursion_from_All, filter_passes, AllByRecursion, Rise, put, without}
+use Rattle.std.{proofs.lemmas.List.Elements.All-contains_itself, specs.Ordering.{nat_cmp, match_ordering}}
+use Rattle.std.specs.declared.cmp.Ordering.{Ordering, TheVariants.{Less, Equal, Greater}}
+use Rattle.{njh_spoolfile.proofs.Rows.{same, above}, sqlite_trees.proofs.ListLemmas.{all-append, ascending-filter}}
+pub use Rattle.sqlite_trees.proofs.ListLemmas.{all_both, all_of, all_weaker, filter-map, filter_all, filter_none}
 
 pub equal : (n : ℕ) → (n == n) ≡ true
 equal n = grind (arith, nat_tests)
@@ -20,18 +21,15 @@ module _ {X : Type 0} where
   pub all_filter : (p : X → Bool) (P : X → Type 0) (xs : List X) → AllByRecursion P xs → AllByRecursion P (filter p xs)
   all_filter p P xs h = recursion_from_All P (filter p xs) (All-filter p P xs (All-from_recursion P xs h))
 
-  pub all_weaker : (P Q : X → Type 0) → ((x : X) → P x → Q x) → (xs : List X) → AllByRecursion P xs
-      → AllByRecursion Q xs
-  all_weaker P Q f [] h = tt
-  all_weaker P Q f (x ∷ xs) h = (f x h.0, all_weaker P Q f xs h.1)
-
   pub all-push : (P : X → Type 0) (xs : List X) (x : X) → AllByRecursion P xs → P x → AllByRecursion P (xs ++ x ∷ [])
-  all-push P [] x all one = (one, tt)
-  all-push P (y ∷ xs) x all one = (all.0, all-push P xs x all.1 one)
+  all-push P xs x all one = all-append P xs (x ∷ []) all (one, tt)
 
   pub all_at : (P : X → Type 0) (xs : List X) (i : ℕ) (x : X) → AllByRecursion P xs → i < length xs → x ≡ get_or xs i x
       → P x
   all_at P xs i x h there is = subst P (sym is) (All-from_recursion P xs h i x there)
+
+  all_pass : (p : X → Bool) (xs : List X) → AllByRecursion (λ x. p x ≡ true) (filter p xs)
+  all_pass p xs = recursion_from_All (λ x. p x ≡ true) (filter p xs) (filter_passes p xs)
 
   -- what a filter keeps was there
   pub filter_there : (p : X → Bool) (xs : List X) (i : ℕ) (x : X) → i < length (filter p xs)
@@ -49,26 +47,6 @@ module _ {X : Type 0} where
       split true false is has rest = rw has rest
       split false true is has rest = rw is rest
       split false false is has rest = rest
-
-  -- a filter keeps all of which it fails on none
-  pub filter_all : (p : X → Bool) (xs : List X) → AllByRecursion (λ x. p x ≡ true) xs → filter p xs ≡ xs
-  filter_all p [] h = refl
-  filter_all p (x ∷ xs) h = rw (h.0) (ap (λ ys. x ∷ ys) (filter_all p xs h.1))
-
-  pub filter-map : {Y : Type 0} (p : Y → Bool) (f : X → Y) (xs : List X)
-      → filter p (map f xs) ≡ map f (filter (λ x. p (f x)) xs)
-  filter-map p f [] = refl
-  filter-map {Y} p f (x ∷ xs) = either (p (f x)) (filter-map p f xs)
-    where
-      either : (b : Bool) → filter p (map f xs) ≡ map f (filter (λ y. p (f y)) xs)
-          → cond b (f x ∷ filter p (map f xs)) (filter p (map f xs))
-          ≡ map f (cond b (x ∷ filter (λ y. p (f y)) xs) (filter (λ y. p (f y)) xs))
-      either true rest = ap (λ ys. f x ∷ ys) rest
-      either false rest = rest
-
-  pub filter_none : (p : X → Bool) (xs : List X) → AllByRecursion (λ x. p x ≡ false) xs → filter p xs ≡ []
-  filter_none p [] h = refl
-  filter_none p (x ∷ xs) h = rw (h.0) (filter_none p xs h.1)
 
 module _ {X : Type 0} where
   pub put_last : (id : ℕ) (x : X) (es : List (ℕ × X)) → AllByRecursion (λ e. e.0 < id) es
@@ -88,12 +66,7 @@ module _ {X : Type 0} where
   -- ---- those that pass
 
   pub rises_filter : (p : ℕ × X → Bool) (es : List (ℕ × X)) → Rise es → Rise (filter p es)
-  rises_filter p [] up = tt
-  rises_filter p (e ∷ es) up = either (p e) (rises_filter p es up.1)
-    where
-      either : (b : Bool) → Rise (filter p es) → Rise (cond b (e ∷ filter p es) (filter p es))
-      either true rest = (all_filter p (λ x. e.0 < x.0) es up.0, rest)
-      either false rest = rest
+  rises_filter p = ascending-filter (λ a b. a.0 < b.0) p
 
   pub filter-put : (p : ℕ × X → Bool) (new : ℕ × X) (es : List (ℕ × X)) → Rise es → p new ≡ true
       → filter p (put new es) ≡ put new (filter p es)
@@ -135,27 +108,17 @@ module _ {X : Type 0} where
 
   pub filter-without_other : (p : ℕ × X → Bool) (q : ℕ → Bool) (es : List (ℕ × X))
       → AllByRecursion (λ e. p e ≡ true → q e.0 ≡ false) es → filter p (without q es) ≡ filter p es
-  filter-without_other p q [] apart = refl
-  filter-without_other p q (e ∷ es) apart = split (p e) (q e.0) refl refl (filter-without_other p q es apart.1)
-    where
-      split : (a b : Bool) → p e ≡ a → q e.0 ≡ b → filter p (without q es) ≡ filter p es
-          → filter p (cond (not b) (e ∷ without q es) (without q es)) ≡ cond a (e ∷ filter p es) (filter p es)
-      split true true is has rest = absurd (let never = sym has ∙ apart.0 is in cc)
-      split true false is has rest = rw is (ap (λ ys. e ∷ ys) rest)
-      split false true is has rest = rest
-      split false false is has rest = rw is rest
+  filter-without_other p q es apart =
+      filter-without p q es ∙ filter_all (λ e. not (q e.0)) (filter p es)
+      (all_both (λ e. p e ≡ true) (λ e. p e ≡ true → q e.0 ≡ false) (λ e. not (q e.0) ≡ true)
+      (λ e passes fails. ap not (fails passes)) (filter p es) (all_pass p es)
+      (all_filter p (λ e. p e ≡ true → q e.0 ≡ false) es apart))
 
   pub kept_apart : (id : ℕ) (es : List (ℕ × X)) → AllByRecursion (λ e. e.0 ≢ id) (without (λ n. n == id) es)
-  kept_apart id [] = tt
-  kept_apart id (e ∷ es) = either (e.0 == id) refl (kept_apart id es)
-    where
-      either : (b : Bool) → (e.0 == id) ≡ b → AllByRecursion (λ x. x.0 ≢ id) (without (λ n. n == id) es)
-          → AllByRecursion (λ x. x.0 ≢ id) (cond (not b) (e ∷ without (λ n. n == id) es) (without (λ n. n == id) es))
-      either true is rest = rest
-      either false is rest = (
-        λ here. absurd (let never : true ≡ false = sym (ap (λ n. n == id) here ∙ equal id) ∙ is in cc),
-        rest,
-      )
+  kept_apart id es =
+      all_weaker (λ e. not (e.0 == id) ≡ true) (λ e. e.0 ≢ id)
+      (λ e other here. absurd (let never = sym (ap not (ap (λ n. n == id) here ∙ equal id)) ∙ other in cc))
+      (without (λ n. n == id) es) (all_pass (λ e. not (e.0 == id)) es)
 
   -- ---- the one at a place
 

@@ -1,8 +1,10 @@
 -- The rows of a spool file determine what it holds.
-use Rattle.std.proofs.Common.{pos, ◌≡◌, ℕ, ◌==◌, Bool, true, false, List, [], ◌∷◌, map, refl, sym, ap, ◌∙◌}
-use Rattle.sqlite.specs.{declared.types.Value.{Value, TheVariants.{Int, Text, Blob}}, Order.{Row, column}}
-use Rattle.{sqlite_trees.specs.Tree.Trees, njh_spoolfile.specs.Kept.{file_row, flag, record_row, File, Record}}
-use Rattle.njh_spoolfile.specs.Kept.{SpoolContents, Holds}
+use Rattle.std.proofs.Common.{pos, ◌≡◌, ℕ, ◌==◌, Bool, true, false, List, [], ◌∷◌, map, refl, sym, ap, ◌∙◌, ◌⊎◌, inl}
+use Rattle.{std.proofs.Common.{inr, subst, arith}, sqlite.specs.{Order.{Row, column}, State.Survives, Store.Ghosts}}
+use Rattle.{sqlite.specs.declared.types.Value.{Value, TheVariants.{Int, Text, Blob}}, sqlite_trees.specs.Tree.Trees}
+use Rattle.njh_spoolfile.specs.{CommitState.{CommitState, Stands}, Kept.{file_row, flag, record_row, File, Record}}
+use Rattle.{njh_spoolfile.specs.{Kept.{SpoolContents, Holds}, Shelf.shown}, njh_spool.specs.Restoring.KeptFile}
+use Rattle.njh_keeper.specs.Keeper.{Keeping, MayLeave, left_in}
 
 -- ---- a row is read back
 
@@ -53,9 +55,6 @@ flag_back : (held : Bool) → (integer (Int (flag held)) == 1) ≡ held
 flag_back true = refl
 flag_back false = refl
 
-file_back : (e : ℕ × File) → file_from (file_row e) ≡ e
-file_back e = λ i. (e.0, record e.1 { held = flag_back e.1.held i })
-
 -- ---- all of them
 
 all_back : {X : Type 0} (shown : X → Row) (from : Row → X) → ((x : X) → from (shown x) ≡ x) → (xs : List X)
@@ -70,6 +69,37 @@ one_list shown from back xs ys rows one other = sym (all_back shown from back xs
 
 pub one_spool : (s t : SpoolContents) (trees : Trees) → Holds s trees → Holds t trees → s ≡ t
 one_spool s t trees one other =
-    let files = one_list file_row file_from file_back s.files t.files (trees 1) one.files other.files in
+    let files = one_list file_row file_from (λ e i. (e.0, record e.1 { held = flag_back e.1.held i })) s.files t.files
+    (trees 1) one.files other.files in
     let records = one_list record_row record_from (λ _. refl) s.records t.records (trees 2) one.records other.records in
     λ i. record { files = files i; records = records i }
+
+module _ {S : Type 0} (g : Ghosts S) where
+  -- only what was committed
+  pub committed_is_left : (keeper : Keeping S) (s : CommitState) (left : List (List KeptFile))
+      → Stands s (shown g keeper.store)
+      → ((trees : Trees) → (shown g keeper.store).may_leave trees → trees ≡ (shown g keeper.store).committed.trees)
+      → MayLeave g keeper left → left ≡ left_in keeper.names s.kept
+  committed_is_left keeper s left stands only m =
+      m.is ∙ ap (left_in keeper.names) (one_spool m.spool s.kept (shown g keeper.store).committed.trees
+      (subst (Holds m.spool) (only m.trees m.may) m.holds) stands.kept)
+
+  -- what might be left before, or all that waits, where it is committed
+  pub commit_leaves : (old new : Keeping S) → new.names ≡ old.names → Survives (shown g old.store) (shown g new.store)
+      (λ trees. trees ≡ (shown g old.store).now.trees) → (left : List (List KeptFile)) → MayLeave g new left
+      → MayLeave g old left ⊎ ((now : SpoolContents) → Holds now (shown g old.store).now.trees
+      → left ≡ left_in old.names now)
+  commit_leaves old new names survives left m =
+      let is : left ≡ left_in old.names m.spool = m.is ∙ ap (λ ns. left_in ns m.spool) names in
+      elim (survives.crash m.clean m.trees m.may) [
+        | inl may ↦ inl (record {
+          clean = omega (arith, survives.clean, m.clean);
+          trees = m.trees;
+          may = may;
+          spool = m.spool;
+          holds = m.holds;
+          is = is;
+        })
+        | inr made ↦ inr (λ now holds. is ∙ ap (left_in old.names)
+            (one_spool m.spool now (shown g old.store).now.trees (subst (Holds m.spool) made m.holds) holds))
+      ]

@@ -2,11 +2,60 @@
 use Rattle.njh_keeper.proofs.Words
 use Words.{◌≡◌, ◌≢◌, ℕ, zero, suc, ◌+◌, ◌-◌, ◌<◌, ◌≤◌, ◌^◌, ◌==◌, ◌&&◌, ◌||◌, min, nat_lt, nat_le, Bool, true, false}
 use Words.{cond, List, [], ◌∷◌, ◌++◌, length, get_or, inl, inr, refl, sym, ap, filter, not, ◌∙◌, arith, cases_Bool}
-use Words.{cases_lt, eqb-true, nat_tests, AllByRecursion, ⊤, StoredFile, File, SpoolContents, entry_of, AreDistinct}
-use Words.{Part, AreFilesApart, own_rows, AreRemembered, entries, keyed_rows, owned_of, AllAreApart, Numbers, OwnFiles}
-use Words.{keyed, may_be_given, one_if, uses_of_all, uses_of_files, free_at, is_used, key_behind, numbers_but, is_own}
-use Rattle.njh_keeper.proofs.{BegunLaws.all_by_place, KeyLaws.{keyed-append, keyed-map, one_or_none}, ListLaws.all_both}
-use Rattle.njh_keeper.proofs.{OpeningNumbers.{after_all, unused_high}, RowLaws.owned_once}
+use Words.{cases_lt, nat_tests, AllByRecursion, ⊤, StoredFile, File, SpoolContents, entry_of, AreDistinct, Part}
+use Words.{AreFilesApart, own_rows, AreRemembered, entries, keyed_rows, owned_of, AllAreApart, Numbers, OwnFiles, keyed}
+use Words.{may_be_given, one_if, uses_of_all, uses_of_files, free_at, is_used, key_behind, numbers_but, is_own, map}
+use Words.{is_sum_by, IsPermutation, rises}
+use Rattle.njh_keeper.proofs.{BegunLaws.all_by_place, ListLaws.all_both, OpeningNumbers.{after_all, unused_high}}
+use Rattle.njh_keeper.proofs.{RowLaws.owned_once, UsesLaws.{keyed-append, keyed-map, one_or_none}}
+use Rattle.std.proofs.lemmas.{Bool.cond_both, List.Sorted.{IsPermutation-sym, sum_by-IsPermutation}}
+use Rattle.{std.specs.List.sum_by, sqlite_trees.proofs.ListLemmas.{all-permutation, all_from_map}}
+
+-- ---- numbers that rise
+
+record Risen (least : ℕ) (keys : List ℕ) : Type 0 where
+  once : (n : ℕ) → keyed (λ k. k) n keys ≤ 1
+  high : (n : ℕ) → n < least → keyed (λ k. k) n keys ≡ 0
+  low : AllByRecursion (λ k. k < 2 ^ 32 - 1) keys
+
+risen : (least : ℕ) (keys : List ℕ) → rises least keys ≡ true → Risen least keys
+risen least [] is = record { once = λ n. omega arith; high = λ n low. refl; low = tt }
+risen least (key ∷ keys) is = split (nat_lt key least) refl (nat_le (2 ^ 32 - 1) key) refl is
+    (λ more. risen (key + 1) keys more)
+  where
+    split : (a : Bool) → nat_lt key least ≡ a → (b : Bool) → nat_le (2 ^ 32 - 1) key ≡ b
+        → cond (a || b) false (rises (key + 1) keys) ≡ true
+        → (rises (key + 1) keys ≡ true → Risen (key + 1) keys) → Risen least (key ∷ keys)
+    split true less b greatest is rest = absurd (cc is)
+    split false less true greatest is rest = absurd (cc is)
+    split false less false greatest is rest =
+        let more = rest is in
+        let high : least ≤ key = grind (arith, nat_tests, less) in
+        record {
+          once = λ n. grind (arith, nat_tests, more.high n, more.once n);
+          high = λ n low. grind (arith, nat_tests, low, high, more.high n (omega (arith, low, high)));
+          low = (grind (arith, nat_tests, greatest), more.low);
+        }
+
+-- ---- in another order
+
+keyed_sum : (n : ℕ) (keys : List ℕ) → keyed (λ k. k) n keys ≡ sum_by (λ k. one_if (k == n)) keys
+keyed_sum n keys = is_sum_by (keyed (λ k. k) n) (λ k. one_if (k == n)) refl (λ _ _. refl) keys
+
+pub apart_by_rising : (files : List StoredFile) (sorted : List ℕ) → IsPermutation (map (λ f. f.file.key) files) sorted
+    → rises 0 sorted ≡ true → AreFilesApart files
+apart_by_rising files sorted same is =
+    let keys : List ℕ = map (λ f. f.file.key) files in
+    let one = risen 0 sorted is in
+    record {
+      once = λ n.
+          let count : keyed (λ f. f.file.key) n files ≡ keyed (λ k. k) n sorted =
+          sym (keyed-map (λ k. k) (λ (f : StoredFile). f.file.key) n files) ∙ keyed_sum n keys
+          ∙ sym (sum_by-IsPermutation (λ k. one_if (k == n)) keys sorted same) ∙ sym (keyed_sum n sorted) in
+          omega (arith, count, one.once n);
+      low = all_from_map (λ k. k < 2 ^ 32 - 1) (λ (f : StoredFile). f.file.key) files
+          (all-permutation (λ k. k < 2 ^ 32 - 1) sorted keys (IsPermutation-sym keys sorted same) one.low);
+    }
 
 -- ---- each row is one customer's at most
 
@@ -123,30 +172,17 @@ none_are passes end n = record { once = omega arith; passed = λ is. refl; high 
 
 numbers_are : (passes : ℕ → Bool) (end n : ℕ) → AreBut (numbers_but passes end) passes end n
 numbers_are passes zero n = none_are passes zero n
-numbers_are passes (suc k) n = by (passes k) refl (numbers_are passes k n)
-  where
-    by : (b : Bool) → passes k ≡ b → AreBut (numbers_but passes k) passes k n
-        → AreBut (cond b (numbers_but passes k) (numbers_but passes k ++ k ∷ [])) passes (suc k) n
-    by true is rest = record { once = rest.once; passed = rest.passed; high = λ low. rest.high (omega (arith, low)) }
-    by false is rest =
-        let push = keyed-append (λ x. x) n (numbers_but passes k) (k ∷ []) in
-        elim (cases_Bool (k == n)) [
-          | inl here ↦
-              let e = eqb-true k n here in
-              let none = rest.high (omega (arith, e)) in
-              record {
-                once = omega (arith, push, ap one_if here, none);
-                passed = λ p. absurd (let never : false ≡ true = sym is ∙ ap passes e ∙ p in cc never);
-                high = λ low. absurd (omega (arith, low, e));
-              }
-          | inr other ↦
-              let none = ap one_if other in
-              record {
-                once = omega (arith, push, none, rest.once);
-                passed = λ p. omega (arith, push, none, rest.passed p);
-                high = λ low. omega (arith, push, none, rest.high (omega (arith, low)));
-              }
-        ]
+numbers_are passes (suc k) n =
+    let rest = numbers_are passes k n in
+    let push = keyed-append (λ x. x) n (numbers_but passes k) (k ∷ []) in
+    cond_both (passes k) (numbers_but passes k) (numbers_but passes k ++ k ∷ []) (λ xs. AreBut xs passes (suc k) n)
+    (λ is. record { once = rest.once; passed = rest.passed; high = λ low. rest.high (omega (arith, low)) })
+    (λ is. record {
+      once = grind (arith, nat_tests, push, rest.once, rest.high);
+      passed = λ p. let other : k ≢ n = (λ e. absurd (let never : false ≡ true = sym is ∙ ap passes e ∙ p in cc)) in
+          grind (arith, nat_tests, push, other, rest.passed p);
+      high = λ low. grind (arith, nat_tests, push, low, rest.high (omega (arith, low)));
+    })
 
 -- where too many were taken there are none
 pub few_are : (many : Bool) (passes : ℕ → Bool) (end n : ℕ)
@@ -188,19 +224,18 @@ module _ (files : List StoredFile) (names : List (List ℕ)) (hub : List Part) (
       ap (keyed (λ x. x) n) free in
       let are : AreBut (free_at files w.next_key) (is_used files) w.next_key n =
       few_are (nat_lt 200000 w.next_key) (is_used files) w.next_key n in
-      let most = one_or_none (may_be_given w.next_key n) in
-      elim (cases_Bool (is_used files n)) [
-        | inl is ↦
-            let no_free = are.passed is in
-            let given : one_if (may_be_given w.next_key n) ≡ 0 = elim (cases_lt n w.next_key) [
-              | inl low ↦ may_none w.next_key n low
-              | inr high ↦ absurd (let never : true ≡ false = sym is ∙ unused_high files w.next_key n below high in cc)
-            ] in
-            omega (arith, uses, once, same, no_free, given)
-        | inr is ↦
-            let no_use = used_is files n is in
-            elim (cases_lt n w.next_key) [
-              | inl low ↦ omega (arith, uses, same, no_use, may_none w.next_key n low, are.once)
-              | inr high ↦ omega (arith, uses, same, no_use, most, are.high high)
+      elim (cases_lt n w.next_key) [
+        | inl low ↦
+            let none = may_none w.next_key n low in
+            elim (cases_Bool (is_used files n)) [
+              | inl is ↦
+                  let free = are.passed is in omega (arith, uses, once, same, free, none)
+              | inr is ↦
+                  let none_used = used_is files n is in omega (arith, uses, same, none_used, none, are.once)
             ]
+        | inr high ↦
+            let none_used = used_is files n (unused_high files w.next_key n below high) in
+            let most = one_or_none (may_be_given w.next_key n) in
+            let free = are.high high in
+            omega (arith, uses, same, none_used, most, free)
       ]

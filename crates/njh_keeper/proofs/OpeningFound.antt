@@ -3,13 +3,13 @@
 use Rattle.njh_keeper.proofs.Words
 use Words.{◌≡◌, ℕ, ◌<◌, List, [], ◌∷◌, length, get_or, drop, map, Option, Some, sym, ap, subst, ◌∙◌, arith, get_or-map}
 use Words.{length-map, AllZip, File, SpoolContents, Whole, contents_in, kept, records_of, whole_in, CustomerEntry}
-use Words.{entry_unmarked, NamedCustomer, TableFile, customer_at, no_customer, next_number-fresh, CustomerSpool}
-use Words.{WholeFile, with_arrived, KeptFile, records_in, Part, no_part, part, part_at_open, own_rows, AreFound}
-use Words.{IsReadFor, files_at, name_at, AllAreBack, AreBack, file_in, hub_opened, own_files, part_opened, OpenedFile}
-use Words.{as_opened, opened_of}
+use Words.{entry_unmarked, NamedCustomer, TableFile, customer_at, no_customer, next_number-fresh, WholeFile}
+use Words.{with_arrived, KeptFile, records_in, Part, no_part, part, part_at_open, own_rows, AreFound, IsReadFor}
+use Words.{files_at, name_at, AllAreBack, AreBack, file_in, hub_opened, own_files, part_opened, OpenedFile, as_opened}
+use Words.{opened_of}
 use Rattle.{njh_table.specs.TableFile.entry_of as entry_in, njh_customer.proofs.FileLimits.{apart_arrived, apart_fresh}}
 use Rattle.njh_customer.{proofs.FileLimits.{apart_routes, whole_distinct}, specs.InOrder.AreApart}
-use Rattle.njh_keeper.proofs.{BackLaws.{fits_in, put_back, stays_so}, BegunLaws.all_by_place, NewFilesLaws.records_at}
+use Rattle.njh_keeper.proofs.{BegunLaws.all_by_place, NewFilesLaws.records_at, OpenedLaws.{fits_in, put_back, stays_so}}
 use Rattle.njh_keeper.proofs.{OpenedLaws.{new, opened_files}, ReadBackLaws.is_read_as, RowLaws.own_files_are}
 use Rattle.njh_keeper.proofs.WalkLaws.{are_numbered}
 
@@ -53,11 +53,6 @@ opened_apart entry ws back =
     (apart_arrived (new p f) s (next_number-fresh s (fits_in f s none).room) apart))
     ws put.0 (part_at_open entry) (part_opened entry ws) put.1 (apart_fresh entry)
 
-each_found : (s : CustomerSpool) → AreApart s → AreFound s
-each_found s apart =
-    all_by_place (λ g. records_in g.number s ≡ g.records) s.whole
-    (λ i g there is. records_at s i g (are_numbered s.whole (whole_distinct s apart)) there is)
-
 -- ---- all customers
 
 module _ (table : TableFile) (spool : SpoolContents) (back : AllAreBack table (kept spool)) (names : List (List ℕ))
@@ -80,7 +75,10 @@ module _ (table : TableFile) (spool : SpoolContents) (back : AllAreBack table (k
 
   pub all_found : AreFound (part c (hub_opened table spool)).customer.spool
   all_found = part_is (λ (p : Part). AreFound p.customer.spool)
-      (each_found its_part.customer.spool (opened_apart its_entry (own_files its_name spool) (back c there)))
+      (let s = its_part.customer.spool in
+      let apart = opened_apart its_entry (own_files its_name spool) (back c there) in
+      all_by_place (λ g. records_in g.number s ≡ g.records) s.whole
+      (λ i g at is. records_at s i g (are_numbered s.whole (whole_distinct s apart)) at is))
 
   pub all_read_from : AllZip (IsReadFor spool) (own_rows (name_at names c) spool) (files_at c (hub_opened table spool))
   all_read_from =

@@ -4,26 +4,16 @@ use Words.{◌≡◌, ℕ, ◌+◌, ◌<◌, ◌==◌, true, List, [], ◌∷◌
 use Words.{append_assoc, append-nil, ◌∙◌, arith, AllZip, File, SpoolContents, contents_in, records_of, with_changed}
 use Words.{CustomerSpool, WholeFile, KeptFile, is_held, HasRecords, IsOrdered, WritesRowsOf, own_rows, IsRead}
 use Words.{IsReadFor, Remembering, keyed_rows, owned_of, AllBeside, none_beside, IsKept, IsRowOf, KeptWhole, OwnFiles}
-use Words.{Remembers, keyed, one_if, file_in, is_own}
-use Rattle.njh_keeper.proofs.{BesideLaws.{beside_lengths, beside_push, beside_weaker}, FrameLaws.changes_row}
-use Rattle.njh_keeper.proofs.{KeyLaws.keyed-append, MirrorLaws.{all_of, kept_still}, ReadBackLaws.IsReadAs}
-use Rattle.njh_keeper.proofs.{ReadBackLaws.{is_kept_as_read, is_read_as}, RowLaws.{below_with_changed, row_below}}
-use Rattle.njh_keeper.proofs.RowLaws.{row_changes}
+use Words.{Remembers, keyed, one_if, file_in, is_own, length-append, ⊤, ◌≢◌, ◌⊎◌, inl, inr, cases_lt, AreDistinct, Part}
+use Words.{part, AllAreRead, AreRemembered, IsOwnOf, files_at, name_at, Mirrored}
+use Rattle.njh_keeper.proofs.{FrameLaws.changes_row, HubLaws.apart, ListLaws.{beside_lengths, beside_push}}
+use Rattle.njh_keeper.proofs.{ListLaws.{beside_weaker, all_zip_weaker}, MirrorLaws.{all_of, kept_still, mirrored_still}}
+use Rattle.njh_keeper.proofs.{ReadBackLaws.{IsReadAs, is_kept_as_read, is_read_as}, RowLaws.below_with_changed}
+use Rattle.njh_keeper.{proofs.{RowLaws.{row_below, row_changes}, UsesLaws.keyed-append}, specs.code.Opening.IsCustomer}
+use Rattle.{njh_keeper.specs.code.Opening.IsRemembered, std.proofs.lemmas.List.{get_or_at, set_at, get_or_append_left}}
+use Rattle.std.proofs.lemmas.List.{get_or_push, length_push}
 
 -- ---- lists
-
-first_left : {X : Type 0} (done : List X) (x : X) (left : List X) → x ≡ get_or (done ++ x ∷ left) (length done) x
-first_left [] x left = refl
-first_left (d ∷ done) x left = first_left done x left
-
-first_there : {X : Type 0} (done : List X) (x : X) (left : List X) → length done < length (done ++ x ∷ left)
-first_there [] x left = omega arith
-first_there (d ∷ done) x left = omega (arith, first_there done x left)
-
-first_set : {X : Type 0} (done : List X) (x y : X) (left : List X)
-    → set (done ++ x ∷ left) (length done) y ≡ done ++ y ∷ left
-first_set [] x y left = refl
-first_set {X} (d ∷ done) x y left = ap (λ (xs : List X). d ∷ xs) (first_set done x y left)
 
 one_more : {X : Type 0} (done : List X) (x : X) (left : List X) → done ++ x ∷ left ≡ (done ++ x ∷ []) ++ left
 one_more done x left = sym (append_assoc done (x ∷ []) left)
@@ -40,15 +30,11 @@ module _ (s t : SpoolContents) (same : t.records ≡ s.records) where
       beside_weaker (λ k. records_of k.key t ≡ records_of k.key s) (IsKept s) (IsKept t) (kept_still s t) ks es fs
       (all_of (λ (k : KeptWhole). records_of k.key t ≡ records_of k.key s) (λ k. records_same k.key) ks) all
 
-  read_same : (e : ℕ × File) (g : WholeFile) → IsReadFor s e g → IsReadFor t e g
-  read_same e g is = ap (λ rs. file_in e.1 (contents_in rs)) (records_same e.1.key) ∙ is
-
   pub all_read_same : (es : List (ℕ × File)) (gs : List WholeFile) → AllZip (IsReadFor s) es gs
       → AllZip (IsReadFor t) es gs
-  all_read_same [] [] all = tt
-  all_read_same [] (g ∷ gs) all = absurd all
-  all_read_same (e ∷ es) [] all = absurd all
-  all_read_same (e ∷ es) (g ∷ gs) all = (read_same e g all.0, all_read_same es gs all.1)
+  all_read_same es gs =
+      all_zip_weaker (λ _. ⊤) (IsReadFor s) (IsReadFor t) (λ e g _ is. ap (λ rs. file_in e.1 (contents_in rs))
+      (records_same e.1.key) ∙ is) es gs (all_of (λ _. ⊤) (λ _. tt) es)
 
 writes_then : (name : List ℕ) (s t u : SpoolContents) → WritesRowsOf name s t → WritesRowsOf name t u
     → WritesRowsOf name s u
@@ -83,11 +69,8 @@ module _ (name : List ℕ) (whole : List KeptWhole) (e : ℕ × File) (left : Li
           behind = some;
           read = all.0;
           others = all.1;
-          there = subst (λ (n : ℕ). n < length spool.whole) long
-              (subst (λ (xs : List WholeFile). length is.before < length xs) (sym files) (first_there is.before g gs));
-          at = subst (λ (n : ℕ). g ≡ get_or spool.whole n g) long
-              (subst (λ (xs : List WholeFile). g ≡ get_or xs (length is.before) g) (sym files)
-              (first_left is.before g gs));
+          there = omega (arith, long, ap length files, length-append is.before (g ∷ gs));
+          at = sym (get_or_at is.before g gs g (length whole) long) ∙ ap (λ xs. get_or xs (length whole) g) (sym files);
         },
       )
 
@@ -132,16 +115,12 @@ module _ (name : List ℕ) (whole : List KeptWhole) (e : ℕ × File) (left : Li
 
     -- it is written anew
     module _ (row : File) (owned : is_own name row ≡ true) (is_row : IsRowOf k.key g row) where
-      rows_now : own_rows name s ≡ is.rows ++ e ∷ left
-      rows_now = is.rows_are
-
       at_row : e ≡ get_or (own_rows name s) (length is.rows) e
-      at_row = subst (λ (es : List (ℕ × File)). e ≡ get_or es (length is.rows) e) (sym rows_now)
-          (first_left is.rows e left)
+      at_row = sym (get_or_at is.rows e left e (length is.rows) refl)
+          ∙ ap (λ es. get_or es (length is.rows) e) (sym is.rows_are)
 
       there_row : length is.rows < length (own_rows name s)
-      there_row = subst (λ (es : List (ℕ × File)). length is.rows < length es) (sym rows_now)
-          (first_there is.rows e left)
+      there_row = omega (arith, ap length is.rows_are, length-append is.rows (e ∷ left))
 
       writes_row : WritesRowsOf name s (with_changed e.0 row s)
       writes_row = changes_row name s is.writes.ordered (length is.rows) e there_row at_row row owned
@@ -161,8 +140,8 @@ module _ (name : List ℕ) (whole : List KeptWhole) (e : ℕ × File) (left : Li
         before = is.before ++ g ∷ [];
         behind = it.rest;
         rows_are = row_changes name s is.writes.ordered (length is.rows) e there_row at_row row owned
-            ∙ ap (λ (es : List (ℕ × File)). set es (length is.rows) (e.0, row)) rows_now
-            ∙ first_set is.rows e (e.0, row) left ∙ one_more is.rows (e.0, row) left;
+            ∙ ap (λ (es : List (ℕ × File)). set es (length is.rows) (e.0, row)) is.rows_are
+            ∙ set_at is.rows e left (e.0, row) (length is.rows) refl ∙ one_more is.rows (e.0, row) left;
         files_are = files_now;
         beside = beside_push (IsKept (with_changed e.0 row s)) whole is.rows is.before k (e.0, row) g
             (all_kept_same s (with_changed e.0 row s) refl whole is.rows is.before is.beside) kept_new;
@@ -220,4 +199,85 @@ remembered own name rows files s t named step ordered are all =
       writes = subst (λ who. WritesRowsOf who s t) (sym named) is.writes;
       below = is.below;
       keys = λ n. omega (arith, is.keys n, ap (λ who. keyed_rows n (own_rows who s)) named);
+    }
+
+pub none_remembered : (names : List (List ℕ)) (hub : List Part) (s : SpoolContents) → IsOrdered s
+    → AreRemembered names hub [] s s
+none_remembered names hub s ordered = record {
+  each = λ c own there is. absurd (omega (arith, there));
+  records = refl;
+  ordered = ordered;
+  others = λ name foreign. refl;
+  below = λ end low. low;
+}
+
+module _ (names : List (List ℕ)) (hub : List Part) (rows : List (ℕ × File)) (owns : List OwnFiles) (own : OwnFiles)
+    (s t u : SpoolContents) (rows_are : rows ≡ s.files) (distinct : AreDistinct names)
+    (reads : AllAreRead names hub s) (few : length owns < length names)
+    (pure : IsOwnOf (name_at names (length owns)) (part (length owns) hub).customer.spool own)
+    (so_far : AreRemembered names hub owns s t) where
+  not_yet : (j : ℕ) → j < length owns → name_at names j ≢ name_at names (length owns)
+  not_yet j low same = omega (arith, low, apart names distinct j (length owns) (omega (arith, low, few)) few same)
+
+  named : own.name ≡ name_at names (length owns)
+  named = pure.name_is
+
+  rows_stay : own_rows (name_at names (length owns)) t ≡ own_rows (name_at names (length owns)) s
+  rows_stay = so_far.others (name_at names (length owns)) not_yet
+
+  module _ (one : Remembering (name_at names (length owns)) rows (files_at (length owns) hub) own t u) where
+    done : IsRemembered own (files_at (length owns) hub) t u
+    done =
+        one so_far.ordered (ap (owned_of (name_at names (length owns))) rows_are ∙ sym rows_stay)
+        (subst (λ (es : List (ℕ × File)). AllZip (IsReadFor t) es (files_at (length owns) hub)) (sym rows_stay)
+        (all_read_same s t so_far.records (own_rows (name_at names (length owns)) s) (files_at (length owns) hub)
+        (reads (length owns) few)))
+
+    still : (other : OwnFiles) (files : List WholeFile) → other.name ≢ own.name → Mirrored t other files
+        → Mirrored u other files
+    still other files apart_from all =
+        mirrored_still t u other files all (done.writes.others other.name apart_from)
+        (all_of (λ (k : KeptWhole). records_of k.key u ≡ records_of k.key t)
+        (λ k i. records_of k.key (record { files = u.files; records = done.writes.records i })) other.whole)
+
+    this_one : IsCustomer names hub s u (length owns) own
+    this_one = record {
+      opened = record { owned = pure; mirrored = done.mirrored };
+      keys = λ n. done.keys n ∙ ap (λ who. keyed_rows n (own_rows who t)) named ∙ ap (keyed_rows n) rows_stay;
+    }
+
+    each_now : (j : ℕ) (other : OwnFiles) → other ≡ get_or (owns ++ own ∷ []) j other
+        → (j < length owns) ⊎ (j ≡ length owns) → IsCustomer names hub s u j other
+    each_now j other is (inl low) =
+        let before = so_far.each j other low (is ∙ get_or_append_left owns (own ∷ []) other j low) in
+        let opened = before.opened in
+        record {
+          opened = record {
+            owned = opened.owned;
+            mirrored = still other (files_at j hub) (λ same. not_yet j low (sym opened.owned.name_is ∙ same ∙ named))
+                opened.mirrored;
+          };
+          keys = before.keys;
+        }
+    each_now j other is (inr last) =
+        let this : other ≡ own = is ∙ get_or_push owns own other j (sym last) in
+        subst (λ (x : OwnFiles). IsCustomer names hub s u j x) (sym this)
+        (subst (λ n. IsCustomer names hub s u n own) (sym last) this_one)
+
+    place : (j : ℕ) → j < length (owns ++ own ∷ []) → (j < length owns) ⊎ (j ≡ length owns)
+    place j there = elim (cases_lt j (length owns)) [
+      | inl low ↦ inl low
+      | inr high ↦ inr (omega (arith, high, length_push owns own, there))
+    ]
+
+    pub one_more_remembered : AreRemembered names hub (owns ++ own ∷ []) s u
+    one_more_remembered = record {
+      each = λ j other there is. each_now j other is (place j there);
+      records = done.writes.records ∙ so_far.records;
+      ordered = done.writes.ordered;
+      others = λ name foreign.
+          let long = length_push owns own in
+          done.writes.others name (λ same. foreign (length owns) (omega (arith, long)) (sym named ∙ sym same))
+          ∙ so_far.others name (λ j low. foreign j (omega (arith, long, low)));
+      below = λ end low. done.below end (so_far.below end low);
     }

@@ -1,12 +1,12 @@
 -- Which numbers are emptied at an opening.
-use Rattle.std.proofs.Common.{max, ◌≡◌, ℕ, suc, zero, ◌+◌, ◌-◌, ◌<◌, ◌≤◌, ◌^◌, ◌==◌, min, nat_lt, Bool, true, false}
-use Rattle.std.proofs.Common.{◌||◌, List, [], ◌∷◌, length, replicate, slice_index_or, slice_set, refl, inl, inr, sym}
-use Rattle.std.proofs.{Common.{ap, subst, ◌∙◌, arith}, lemmas.Bool.{cases_Bool, cases_lt, eqb-false, eqb-true}}
-use Rattle.std.proofs.lemmas.List.{get_or-replicate, get_or-set_other, get_or-set_same, length-replicate, length-set}
-use Rattle.std.{proofs.Math.ListN.get_or-eq_default, specs.List.AllByRecursion}
-use Rattle.{njh_spoolfile.specs.declared.kept.StoredFile.StoredFile, njh_keeper.proofs.NumberedLaws.all_weaker}
-use Rattle.njh_keeper.specs.code.Writing.{AreBelow, number_after, emptied_at, free_at, is_marked, is_used, key_behind}
-use Rattle.njh_keeper.specs.code.Writing.{marked_by, numbers_but, unmarked}
+use Rattle.njh_keeper.proofs.Words
+use Words.{◌≡◌, ℕ, suc, zero, ◌+◌, ◌-◌, ◌<◌, ◌≤◌, ◌^◌, ◌==◌, min, nat_lt, Bool, true, false, ◌||◌, List, [], ◌∷◌}
+use Words.{length, replicate, slice_index_or, slice_set, refl, inl, inr, sym, ap, subst, ◌∙◌, arith, cases_Bool}
+use Words.{cases_lt, eqb-false, eqb-true, get_or-set_other, get_or-set_same, length-replicate, length-set}
+use Words.{AllByRecursion, StoredFile, emptied_at, free_at, is_marked, is_used, key_behind, marked_by, numbers_but}
+use Words.{unmarked}
+use Rattle.std.proofs.{Common.max, Math.ListN.get_or-eq_default, lemmas.List.get_or-replicate}
+use Rattle.njh_keeper.{proofs.NumberedLaws.all_weaker, specs.code.Writing.{AreBelow, number_after}}
 
 or_false : (b : Bool) → b ≡ (b || false)
 or_false true = refl

@@ -3,12 +3,11 @@ use Rattle.njh_keeper.proofs.Words
 use Words.{◌≡◌, ◌≢◌, ℕ, zero, suc, ◌+◌, ◌^◌, ◌<◌, ◌≤◌, Bool, false, cond, List, [], ◌∷◌, ◌++◌, length, get_or, set}
 use Words.{remove, take, refl, sym, ap, subst, ◌∙◌, arith, take_all, AllByRecursion, ⊤, SpoolContents, contents_in}
 use Words.{records_of, without_records, CustomerSpool, partial_records, HasRecords, IsOrdered, WritesUnder, GoesOn}
-use Words.{KeepsNew, KeepsOn, AreApart, IsPartlyKept, KeptPartial, Numbers, OwnFiles, Sweep, claim, keyed, uses}
-use Words.{with_key}
-use Rattle.njh_keeper.proofs.{CallLaws.{take_follows, taken_is_empty}, FrameLaws.drops_records, KeyLaws.keyed-append}
-use Rattle.njh_keeper.proofs.{KeyLaws.{keyed_apart, keyed_none, one_itself}, ListLaws.{all_remove, all_set}}
-use Rattle.njh_keeper.proofs.{MirrorLaws.mirrored_under, MovesLaws.{moves_memory, moves_nothing, moves_then}}
-use Rattle.njh_keeper.proofs.{MovesLaws.{moves_under, still_apart}, NumberedLaws.{all-push, all_at}}
+use Words.{KeepsNew, KeepsOn, IsPartlyKept, KeptPartial, Numbers, OwnFiles, Sweep, claim, uses, with_key, Mirrored}
+use Words.{Moves, WholeFile, AreApart}
+use Rattle.njh_keeper.proofs.{FrameLaws.drops_records, ListLaws.{all_remove, all_set, all_both}}
+use Rattle.njh_keeper.proofs.MirrorLaws.{mirrored_under, moves_memory, moves_nothing, moves_then, moves_under}
+use Rattle.njh_keeper.proofs.{MirrorLaws.still_apart, NumberedLaws.{all-push, all_at}, RecordLaws.all_leave}
 use Rattle.njh_keeper.proofs.UsesLaws.{in_hand_alone, in_hand_is_used, partial_is_apart, sweep_is_apart}
 use Rattle.njh_keeper.proofs.UsesLaws.{uses_as_one_is_swept, uses_as_partial_changes, uses_as_partial_comes}
 use Rattle.njh_keeper.proofs.UsesLaws.{uses_as_partial_is_swept}
@@ -56,30 +55,38 @@ module _ (now : CustomerSpool) (s t : SpoolContents) where
 
   pub still_all : (ps : List KeptPartial) → AllByRecursion (λ p. records_of p.key t ≡ records_of p.key s) ps
       → AllByRecursion (GoesOn now s) ps → AllByRecursion (GoesOn now t) ps
-  still_all [] same all = tt
-  still_all (p ∷ ps) same all = (goes_on_still p same.0 all.0, still_all ps same.1 all.1)
+  still_all =
+      all_both (λ p. records_of p.key t ≡ records_of p.key s) (GoesOn now s) (GoesOn now t) goes_on_still
 
   under_all : (key : ℕ) → WritesUnder key s t → (ps : List KeptPartial) → AllByRecursion (λ p. p.key ≢ key) ps
       → AllByRecursion (GoesOn now s) ps → AllByRecursion (GoesOn now t) ps
-  under_all key under [] apart all = tt
-  under_all key under (p ∷ ps) apart all =
-      (goes_on_still p (under.others p.key apart.0) all.0, under_all key under ps apart.1 all.1)
+  under_all key under = all_both (λ p. p.key ≢ key) (GoesOn now s) (GoesOn now t)
+      (λ p other. goes_on_still p (under.others p.key other))
 
--- a number in hand is no such file's
-in_hand_not_partial : (w : Numbers) (own : OwnFiles) (key : ℕ) → AreApart (with_key key (claim w own))
-    → keyed (λ (p : KeptPartial). p.key) key own.partial ≡ 0
-in_hand_not_partial w own key apart = let once = apart key in let one = one_itself key in omega (arith, once, one)
+-- ---- a number is taken
 
--- a number that is swept is no such file's
-swept_not_partial : (w : Numbers) (own : OwnFiles) (rest : List Sweep) (sweep : Sweep) → own.sweeps ≡ rest ++ sweep ∷ []
-    → AreApart (claim w own) → keyed (λ (p : KeptPartial). p.key) sweep.key own.partial ≡ 0
-swept_not_partial w own rest sweep are apart =
-    let once = apart sweep.key in
-    let one = one_itself sweep.key in
-    let all : keyed (λ (x : Sweep). x.key) sweep.key own.sweeps ≡ keyed (λ (x : Sweep). x.key) sweep.key
-    (rest ++ sweep ∷ []) = ap (keyed (λ (x : Sweep). x.key) sweep.key) are in
-    let last = keyed-append (λ (x : Sweep). x.key) sweep.key rest (sweep ∷ []) in
-    omega (arith, once, one, all, last)
+module _ (w : Numbers) (own : OwnFiles) (s : SpoolContents) (files : List WholeFile) (h : IsOrdered s)
+    (all : Mirrored s own files) where
+  -- a number is taken, under which no records stand then
+  module _ (w' : Numbers) (key : ℕ) (taken : (n : ℕ) → (with_key key (claim w' own)).uses n ≡ uses n w own) where
+    abbrev emptied : SpoolContents
+    emptied = without_records key 0 (2 ^ 23) s
+
+    writes : WritesUnder key s emptied
+    writes = drops_records key 0 (2 ^ 23) s h (omega arith)
+
+    pub taken_is_empty : HasRecords key [] emptied
+    taken_is_empty = all_leave key s h
+
+    pub take_follows : w'.next_id ≡ w.next_id → AreApart (claim w own)
+        → Moves (claim w own) (with_key key (claim w' own)) s emptied × Mirrored emptied own files
+    take_follows next apart = (
+      moves_under (claim w own) (with_key key (claim w' own)) s refl
+          (λ n. let same = taken n in omega (arith, same)) key emptied writes
+          (let same = taken key in let busy = in_hand_is_used w' own key in omega (arith, same, busy)) next,
+      mirrored_under s emptied own files all key writes
+          (in_hand_alone w' own key (λ n. let same = taken n in let once = apart n in omega (arith, same, once))).0,
+    )
 
 -- ---- one after the other
 
@@ -107,13 +114,12 @@ module _ (now : CustomerSpool) (w : Numbers) (own : OwnFiles) where
   keeps_taken w1 w2 own2 key s u next taken new files h apart all go_on =
       let t = without_records key 0 (2 ^ 23) s in
       let first = take_follows w own s files h all w1 key taken next apart in
-      let mid = still_apart (claim w own) (with_key key (claim w1 own)) s t first.moves apart in
-      let none : keyed (λ (p : KeptPartial). p.key) key own.partial ≡ 0 = in_hand_not_partial w1 own key mid in
-      let then = new files first.moves.ordered mid (taken_is_empty w own s files h all w1 key taken) first.mirrored
+      let mid = still_apart (claim w own) (with_key key (claim w1 own)) s t first.0 apart in
+      let then = new files first.0.ordered mid (taken_is_empty w own s files h all w1 key taken) first.1
       (under_all now s t key (drops_records key 0 (2 ^ 23) s h (omega arith)) own.partial
-      (keyed_none (λ (p : KeptPartial). p.key) key own.partial none) go_on) in
+      (in_hand_alone w1 own key mid).1 go_on) in
       record {
-        moves = moves_then (claim w own) (with_key key (claim w1 own)) (claim w2 own2) s t u first.moves then.moves;
+        moves = moves_then (claim w own) (with_key key (claim w1 own)) (claim w2 own2) s t u first.0 then.moves;
         mirrored = then.mirrored;
         go_on = then.go_on;
       }
@@ -127,15 +133,14 @@ module _ (now : CustomerSpool) (w : Numbers) (own : OwnFiles) where
       → KeepsNew p.key w own w (record own { partial = own.partial ++ p ∷ [] }) now s t
   keeps_begun p s t whole written files h apart empty all go_on =
       let wrote = written h empty in
-      let none : keyed (λ (x : KeptPartial). x.key) p.key own.partial ≡ 0 = in_hand_not_partial w own p.key apart in
+      let alone = in_hand_alone w own p.key apart in
       record {
         moves =
             moves_under (with_key p.key (claim w own)) (claim w (record own { partial = own.partial ++ p ∷ [] })) s refl
             (λ n. let same = uses_as_partial_comes w own p n in omega (arith, same)) p.key t wrote.0
             (in_hand_is_used w own p.key) refl;
-        mirrored = mirrored_under s t own files all p.key wrote.0 (in_hand_alone w own p.key apart);
-        go_on = all-push (GoesOn now t) own.partial p (under_all now s t p.key wrote.0 own.partial
-            (keyed_none (λ (x : KeptPartial). x.key) p.key own.partial none) go_on)
+        mirrored = mirrored_under s t own files all p.key wrote.0 alone.0;
+        go_on = all-push (GoesOn now t) own.partial p (under_all now s t p.key wrote.0 own.partial alone.1 go_on)
             (λ more. record {
               written = omega (arith, whole);
               stored = subst (λ rs. HasRecords p.key rs t) (sym (ap (λ n. take n (partial_records p.number now)) whole
@@ -156,14 +161,12 @@ module _ (now : CustomerSpool) (w : Numbers) (own : OwnFiles) where
       let under : WritesUnder sweep.key s t =
       subst (λ u. WritesUnder sweep.key s u) (sym dropped) (drops_records sweep.key first end s h within) in
       let alone = sweep_is_apart w own rest sweep are apart in
-      let none = swept_not_partial w own rest sweep are apart in
       record {
         moves = moves_under (claim w own) (claim w' own') s refl
             (λ n. let used = uses_as_one_is_swept w own rest sweep further b are same n in omega (arith, used))
-            sweep.key t under alone.1 refl;
+            sweep.key t under alone.2 refl;
         mirrored = mirrored_under s t own files all sweep.key under alone.0;
-        go_on = under_all now s t sweep.key under own.partial
-            (keyed_none (λ (p : KeptPartial). p.key) sweep.key own.partial none) go_on;
+        go_on = under_all now s t sweep.key under own.partial alone.1 go_on;
       }
 
   module _ (i : ℕ) (p : KeptPartial) (there : i < length own.partial) (is : p ≡ get_or own.partial i p) where
@@ -177,15 +180,12 @@ module _ (now : CustomerSpool) (w : Numbers) (own : OwnFiles) where
         let here = all_at (GoesOn now s) own.partial i p go_on there is in
         let wrote = written h (here grown) in
         let alone = partial_is_apart w own i p there is apart in
-        let once : keyed (λ (x : KeptPartial). x.key) p.key own.partial ≤ 1 = let most =
-        apart p.key in omega (arith, most) in
         record {
           moves = moves_under (claim w own) (claim w (record own { partial = set own.partial i q })) s refl
               (λ n. let same = uses_as_partial_changes w own i p q there is key n in omega (arith, same)) p.key t
-              wrote.0 alone.1 refl;
+              wrote.0 alone.2 refl;
           mirrored = mirrored_under s t own files all p.key wrote.0 alone.0;
-          go_on = all_set (GoesOn now t) own.partial i q (under_all now s t p.key wrote.0 (remove own.partial i)
-              (keyed_apart (λ (x : KeptPartial). x.key) own.partial i p there is once)
+          go_on = all_set (GoesOn now t) own.partial i q (under_all now s t p.key wrote.0 (remove own.partial i) alone.1
               (all_remove (GoesOn now s) own.partial i go_on))
               (λ more. subst (λ n. IsPartlyKept t q (partial_records n now)) (sym number) wrote.1);
         }

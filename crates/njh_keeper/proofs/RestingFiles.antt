@@ -8,9 +8,9 @@ use Words.{has_blocks_for, has_headers, restore_fault, destination_unrouted, has
 use Words.{part_with_file, is_held, kept_file, file_at_rest, AreBack, file_in, as_opened}
 use Rattle.std.proofs.lemmas.{Bool.le-leb, List.{length-append, Elements.Contains-append_right, Sums.sum_by-cons}}
 use Rattle.{std.specs.{List.Contains, Prelude.sum_by}, njh_header.specs.{FileHeaders.file_owner, FileNames.FileName}}
-use Rattle.njh_spool.specs.{declared.State.{State, TheVariants.Refused}, Restoring.{kept, limits_fault}}
-use Rattle.{njh_customer.specs.{InOrder.{at_rest, state_at_rest}, Part.Part}, njh_keeper.proofs.BackLaws.back_with}
-use Rattle.njh_keeper.proofs.OpenedLaws.{held_back, new}
+use Rattle.njh_spool.specs.{Restoring.{kept, limits_fault}, declared.State.{State, TheVariants.Refused}}
+use Rattle.{njh_customer.specs.{InOrder.{at_rest, state_at_rest}, Part.Part}, njh_keeper.proofs.ListLaws.all-map}
+use Rattle.njh_keeper.proofs.{ListLaws.all_weaker, OpenedLaws.{back_with, held_back, new}}
 
 -- ---- none is being sent
 
@@ -61,15 +61,13 @@ AllRead fs = AllByRecursion (λ (f : KeptFile). has_headers f.kind f.records ≡
 
 pub kept_read : (fs : List WholeFile) → AllByRecursion (λ (f : WholeFile). HasHeaders f.kind f.records) fs
     → AllRead (map kept_file fs)
-kept_read [] have = tt
-kept_read (f ∷ fs) have = (headers_read f.kind f.records have.0, kept_read fs have.1)
-  where
-    headers_read : (kind : Kind) (records : List Stored) → HasHeaders kind records → has_headers kind records ≡ true
-    headers_read kind records has =
-        ap (λ (o : Option FileName). is_some o
-        && (is_some (file_owner records) && is_some (destination_of kind records))) has.named
-        ∙ ap (λ (o : Option User). is_some o && is_some (destination_of kind records)) has.owned
-        ∙ ap (λ (o : Option User). is_some o) has.goes
+kept_read fs have =
+    all-map (λ (f : KeptFile). has_headers f.kind f.records ≡ true) kept_file fs
+    (all_weaker (λ (f : WholeFile). HasHeaders f.kind f.records) (λ f. has_headers f.kind f.records ≡ true) (λ f has.
+    ap (λ (o : Option FileName). is_some o
+    && (is_some (file_owner f.records) && is_some (destination_of f.kind f.records))) has.named
+    ∙ ap (λ (o : Option User). is_some o && is_some (destination_of f.kind f.records)) has.owned
+    ∙ ap (λ (o : Option User). is_some o) has.goes) fs have)
 
 abbrev pub cost_of : WholeFile → ℕ
 cost_of f = cost f.records
@@ -77,25 +75,23 @@ cost_of f = cost f.records
 abbrev pub cost_of_kept : KeptFile → ℕ
 cost_of_kept f = cost f.records
 
+costs_same : {X Y : Type 0} (f : Y → ℕ) (g : X → Y) (h : X → ℕ) → ((x : X) → f (g x) ≡ h x) → (xs : List X)
+    → sum_by f (map g xs) ≡ sum_by h xs
+costs_same f g h same [] = refl
+costs_same f g h same (x ∷ xs) =
+    let here = sum_by-cons f (g x) (map g xs) in
+    omega (arith, here, same x, costs_same f g h same xs, sum_by-cons h x xs)
+
 pub kept_costs : (fs : List WholeFile) → sum_by cost_of_kept (map kept_file fs) ≡ sum_by cost_of fs
-kept_costs [] = refl
-kept_costs (f ∷ fs) =
-    omega (arith, kept_costs fs, sum_by-cons cost_of_kept (kept_file f) (map kept_file fs), sum_by-cons cost_of f fs)
+kept_costs = costs_same cost_of_kept kept_file cost_of (λ f. refl)
 
 held_costs : (entry : CustomerEntry) (fs : List WholeFile)
     → sum_by cost_of (map (held_back entry) fs) ≡ sum_by cost_of fs
-held_costs entry [] = refl
-held_costs entry (f ∷ fs) = omega (
-  arith,
-  held_costs entry fs,
-  sum_by-cons cost_of (held_back entry f) (map (held_back entry) fs),
-  sum_by-cons cost_of f fs,
-  same_cost (has_lost_route entry f),
-)
+held_costs entry = costs_same cost_of (held_back entry) cost_of (λ f. same_cost f (has_lost_route entry f))
   where
-    same_cost : (b : Bool) → cost_of (cond b (held_file f) f) ≡ cost_of f
-    same_cost true = refl
-    same_cost false = refl
+    same_cost : (f : WholeFile) (b : Bool) → cost_of (cond b (held_file f) f) ≡ cost_of f
+    same_cost f true = refl
+    same_cost f false = refl
 
 -- there is room for these
 pub record HaveRoom (s : CustomerSpool) (fs : List KeptFile) : Type 0 where

@@ -1,14 +1,13 @@
 -- What becomes of the rows of each customer.
 use Rattle.njh_keeper.proofs.Words
 use Words.{◌≡◌, ◌≢◌, ℕ, ◌+◌, ◌<◌, ◌==◌, Bool, true, false, List, [], ◌∷◌, ◌++◌, length, get_or, set, remove, map}
-use Words.{filter, Result, Ok, Err, bytes_eq, refl, sym, ap, subst, append-nil, ◌∙◌, arith, filter_passes}
-use Words.{bytes_decides, AllByRecursion, Trees, NameFault, name_of_text, all_put, put_rises, without_rises, File}
-use Words.{Holds, SpoolContents, Whole, Rise, put, whole_in, with_file, without_file, with_changed, IsOrdered, own_rows}
-use Words.{is_own, own_files}
-use Rattle.{std.proofs.lemmas.List.Elements.filter-append, njh_keeper.proofs.NumberedLaws.{all_at, all_filter}}
-use Rattle.njh_keeper.proofs.NumberedLaws.{all_weaker, filter-map, kept_apart, rises_filter, filter_there, filter-put}
-use Rattle.njh_keeper.proofs.NumberedLaws.{filter-put_other, filter-without, filter-without_other, one_at, put_at}
-use Rattle.njh_keeper.proofs.NumberedLaws.{put_last, unequal, without_at}
+use Words.{filter, refl, sym, ap, subst, append-nil, ◌∙◌, arith, filter_passes, AllByRecursion, Trees, all_put}
+use Words.{put_rises, without_rises, File, Holds, SpoolContents, Whole, Rise, put, whole_in, with_file, without_file}
+use Words.{with_changed, IsOrdered, own_rows, is_own, own_files}
+use Rattle.std.proofs.lemmas.{Bool.false_from_ne_true, List.Elements.filter-append}
+use Rattle.njh_keeper.proofs.{HubLaws.one_name, NumberedLaws.{all_at, all_filter, all_weaker, filter-map, kept_apart}}
+use Rattle.njh_keeper.proofs.NumberedLaws.{rises_filter, filter_there, filter-put, filter-put_other, filter-without}
+use Rattle.njh_keeper.proofs.NumberedLaws.{filter-without_other, one_at, put_at, put_last, unequal, without_at}
 
 -- ---- the order is there, and stays
 
@@ -119,16 +118,8 @@ module _ (name : List ℕ) (spool : SpoolContents) (ordered : IsOrdered spool) (
 
 pub owned_once : (name other : List ℕ) (file : File) → is_own name file ≡ true → name ≢ other
     → is_own other file ≡ false
-owned_once name other file owned apart = split (name_of_text file.customer) owned
-  where
-    split : (r : Result (List ℕ) NameFault) → elim r as (λ _. Bool) [ Ok read ↦ bytes_eq read name | Err fault ↦ false ]
-        ≡ true → elim r as (λ _. Bool) [ Ok read ↦ bytes_eq read other | Err fault ↦ false ] ≡ false
-    split (Ok read) is = differs (bytes_eq read other) refl
-      where
-        differs : (b : Bool) → bytes_eq read other ≡ b → b ≡ false
-        differs true also = absurd (apart (sym ((bytes_decides read name).0 is) ∙ (bytes_decides read other).0 also))
-        differs false also = refl
-    split (Err fault) is = refl
+owned_once name other file owned apart =
+    false_from_ne_true (is_own other file) (λ also. apart (one_name file.customer name other owned also))
 
 pub own_files_are : (name : List ℕ) (spool : SpoolContents)
     → own_files name spool ≡ map (whole_in spool) (own_rows name spool)

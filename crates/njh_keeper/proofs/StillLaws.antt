@@ -1,18 +1,17 @@
 -- A file that is still there: what is written anew, and what is remembered of it then.
 use Rattle.njh_keeper.proofs.Words
 use Words.{◌≡◌, ◌≢◌, ℕ, ◌<◌, ◌⊎◌, inl, inr, Bool, true, false, List, length, get_or, set, Some, None, refl, sym, ap}
-use Words.{subst, ◌∙◌, arith, get_or_default, All-from_recursion, AllByRecursion, User, Kind, In, Out, Stored}
-use Words.{destination_of, HasHeaders, File, SpoolContents, records_of, with_changed, WholeFile, IsStill}
-use Words.{FileSummaryView, said_destination, file_summary, is_held, AreAlike, Writes, GoesTo, HasFiles, IsRowFor}
-use Words.{IsStillAt, Memory, claim_of, FitsHub, HasRecords, WritesUnder, own_rows, AreOne, named_nodes, IsKept}
-use Words.{IsRowOf, KeptPartial, KeptWhole, NameOneNode, Remembers, AreApart, is_own}
-use Rattle.njh_keeper.proofs.{AlikeLaws.{alike_fit, alike_long, begun_all}, BesideLaws.BesideAt}
-use Rattle.njh_keeper.proofs.{CallLaws.change_follows, FollowingLaws.{goes, remain_same}, FollowLaws.destination_still}
-use Rattle.njh_keeper.proofs.{FollowLaws.{records_alike, records_are_same}, KeyLaws.{keyed_at, keyed_none}}
-use Rattle.njh_keeper.proofs.{ListLaws.all-set, MirrorLaws.{all_of, state_changes}, MovesLaws.moves_memory}
-use Rattle.njh_keeper.proofs.{NodeLaws.{job_names_one, names_one_node, one_node_is_named}, NumberedLaws.all_weaker}
-use Rattle.njh_keeper.proofs.{RerouteLaws.{same_by_destination, same_or_one_node}, UsesLaws.uses_as_one_changes}
-use Rattle.njh_keeper.proofs.WalkedLaws.{kept_at}
+use Words.{subst, ◌∙◌, arith, get_or_default, AllByRecursion, User, Kind, In, Out, Stored, destination_of, HasHeaders}
+use Words.{File, SpoolContents, records_of, with_changed, WholeFile, IsStill, FileSummaryView, said_destination}
+use Words.{file_summary, is_held, AreAlike, Writes, GoesTo, HasFiles, IsRowFor, IsStillAt, Memory, claim_of, FitsHub}
+use Words.{HasRecords, WritesUnder, own_rows, AreOne, named_nodes, IsKept, IsRowOf, KeptPartial, KeptWhole, NameOneNode}
+use Words.{Remembers, is_own}
+use Rattle.njh_keeper.proofs.{AlikeLaws.{alike_fit, alike_long, begun_all, rerouted_alike}, FollowingLaws.goes}
+use Rattle.njh_keeper.proofs.{FollowingLaws.remain_same, ListLaws.{BesideAt, all-set}, MirrorLaws.all_of}
+use Rattle.njh_keeper.proofs.MirrorLaws.{state_changes, changing_moves, file_changes, moves_memory}
+use Rattle.njh_keeper.proofs.NodeLaws.{job_names_one, names_one_node, one_node_is_named, same_by_destination}
+use Rattle.njh_keeper.proofs.{NodeLaws.same_or_one_node, NumberedLaws.{all_weaker, all_at}, UsesLaws.keyed_at}
+use Rattle.{njh_keeper.proofs.{UsesLaws.{keyed_none, uses_as_one_changes}, WalkLaws.kept_at}, std.proofs.Common.⊎_elim}
 
 -- ---- which nodes are named
 
@@ -29,50 +28,42 @@ job_is_named kind rs d reads job = subst (λ x. NameOneNode x rs) (sym job)
 module _ (k : KeptWhole) (f g : WholeFile) (remembers : Remembers k f) (still : IsStill f g)
     (was : HasHeaders f.kind f.records) (is : HasHeaders g.kind g.records) where
   pub alike_still : AreAlike f.records g.records
-  alike_still = records_alike k f g was.destination remembers still was.goes
+  alike_still = rerouted_alike f.kind f.records g.records was.destination still.records was.goes
+
+  -- its headers named one node, or they name several still
+  one_or_several : (k.is_mixed ≡ true → AreOne (named_nodes None g.records) → ⊥)
+      → NameOneNode f.kind f.records ⊎ (NameOneNode f.kind g.records → ⊥)
+  one_or_several several = by f.kind refl k.is_mixed refl
+    where
+      by : (kind : Kind) → f.kind ≡ kind → (b : Bool) → k.is_mixed ≡ b
+          → NameOneNode f.kind f.records ⊎ (NameOneNode f.kind g.records → ⊥)
+      by In job b mixed = inl (job_is_named f.kind f.records was.destination was.goes job)
+      by Out out false mixed = inl (remembers.mixed mixed)
+      by Out out true mixed = inr (λ one. several mixed (one_node_is_named Out g.records is.destination
+          (subst (λ x. destination_of x g.records ≡ Some is.destination) (still.kind ∙ out) is.goes)
+          (subst (λ x. NameOneNode x g.records) out one)))
 
   -- where nothing is to be written anew, its records are those that they were
   pub same_records : k.destination ≡ said_destination g.kind g.records
       → (k.is_mixed ≡ true → AreOne (named_nodes None g.records) → ⊥) → g.records ≡ f.records
-  same_records same several = by_kind f.kind refl (k.is_mixed) refl
-    where
-      by_mixed : f.kind ≡ Out → (b : Bool) → k.is_mixed ≡ b → g.records ≡ f.records
-      by_mixed out false one = records_are_same k f g was.destination remembers still was.goes same (inl one)
-      by_mixed out true mixed =
-          let kind : g.kind ≡ Out = still.kind ∙ out in
-          records_are_same k f g was.destination remembers still was.goes same
-          (inr (λ one. several mixed (one_node_is_named Out g.records is.destination
-          (subst (λ x. destination_of x g.records ≡ Some is.destination) kind is.goes)
-          (subst (λ x. NameOneNode x g.records) kind one))))
-
-      by_kind : (kind : Kind) → f.kind ≡ kind → (b : Bool) → k.is_mixed ≡ b → g.records ≡ f.records
-      by_kind In job b mixed =
-          same_by_destination f.kind f.records g.records was.destination was.goes still.records
-          (subst (λ x. NameOneNode x f.records) (sym job) (job_names_one f.records was.destination
-          (subst (λ x. destination_of x f.records ≡ Some was.destination) job was.goes)))
-          (destination_still k f g was.destination remembers still was.goes same)
-      by_kind Out out b mixed = by_mixed out b mixed
+  same_records same several = ⊎_elim (λ one.
+      same_by_destination f.kind f.records g.records was.destination was.goes still.records one
+      (ap (λ kind. said_destination kind g.records) (sym still.kind) ∙ sym same ∙ remembers.destination))
+      (λ mixed. ⊎_elim (λ records. records) (λ one. absurd (mixed one))
+      (same_or_one_node f.kind f.records g.records was.destination was.goes still.records)) (one_or_several several)
 
   -- where its headers are written anew, they name one node
   pub names_one_still : (k.destination ≡ said_destination g.kind g.records → AreOne (named_nodes None g.records))
       → NameOneNode g.kind g.records
-  names_one_still one = either (same_or_one_node f.kind f.records g.records was.destination was.goes still.records)
-    where
-      either : (g.records ≡ f.records) ⊎ NameOneNode f.kind g.records → NameOneNode g.kind g.records
-      either (inl same) = one_is_named g.kind g.records is.destination is.goes
-          (one (remembers.destination ∙ sym (λ i. said_destination (still.kind i) (same i))))
-      either (inr named) = subst (λ kind. NameOneNode kind g.records) (sym still.kind) named
+  names_one_still one = ⊎_elim (λ (same : g.records ≡ f.records).
+      one_is_named g.kind g.records is.destination is.goes
+      (one (remembers.destination ∙ sym (λ i. said_destination (still.kind i) (same i)))))
+      (subst (λ kind. NameOneNode kind g.records) (sym still.kind))
+      (same_or_one_node f.kind f.records g.records was.destination was.goes still.records)
 
 -- ---- beside what is remembered
 
 module _ (m : Memory) (i : ℕ) (k : KeptWhole) (there : i < length m.own.whole) (is : k ≡ get_or m.own.whole i k) where
-  -- files that aren't whole have other keys
-  partial_apart : AreApart (claim_of m) → AllByRecursion (λ p. p.key ≢ k.key) m.own.partial
-  partial_apart apart =
-      let once = apart k.key in
-      let has = keyed_at (λ (x : KeptWhole). x.key) m.own.whole i k there is in
-      keyed_none (λ (p : KeptPartial). p.key) k.key m.own.partial (omega (arith, once, has))
-
   module _ (s : SpoolContents) (files : List WholeFile) (has : HasFiles m s files) (f : WholeFile)
       (found : f ≡ get_or files i f) where
     at : BesideAt (IsKept s) (own_rows m.own.name s) files i k
@@ -85,8 +76,7 @@ module _ (m : Memory) (i : ℕ) (k : KeptWhole) (there : i < length m.own.whole)
     kept_here = subst (IsKept s k at.second) here at.holds
 
     headers_here : HasHeaders f.kind f.records
-    headers_here = subst (λ h. HasHeaders h.kind h.records) (sym found)
-        (All-from_recursion (λ h. HasHeaders h.kind h.records) files has.headers i f at.third_there)
+    headers_here = all_at (λ h. HasHeaders h.kind h.records) files i f has.headers at.third_there found
 
   abbrev pub memory_changed : KeptWhole → Memory
   memory_changed now = record {
@@ -120,12 +110,15 @@ module _ (m : Memory) (i : ℕ) (k : KeptWhole) (there : i < length m.own.whole)
           → IsRowOf k.key g row → HasRecords k.key g.records t → AllByRecursion FitsHub g.records
           → GoesTo m (memory_changed now) s (with_changed k.id row t) (set files i g)
       row_goes t row under owned is_row stored fits =
-          let by = change_follows m.numbers m.own s files has.ordered has.mirrored i k now g t row there is has.apart
-          under owned id key is_row remembers stored fits in
-          goes m (memory_changed now) s (with_changed k.id row t) files (set files i g) has by.moves by.mirrored refl
+          goes m (memory_changed now) s (with_changed k.id row t) files (set files i g) has
+          (changing_moves s m.own files has.ordered has.mirrored i k there is t under row owned (claim_of m)
+          (claim_of (memory_changed now)) refl refl refl (λ n. let as_was = same_uses n in omega (arith, as_was))
+          (λ n. omega arith)) (file_changes s m.own files has.ordered has.mirrored i k there is t under row owned g now
+          (let once = has.apart k.key in omega (arith, once)) id key is_row remembers stored fits) refl
           all_headers (remain_same m.own.partial) (all_weaker (λ (p : KeptPartial). p.key ≢ k.key)
           (λ p. records_of p.key (with_changed k.id row t) ≡ records_of p.key s) (λ p other. under.others p.key other)
-          m.own.partial (partial_apart has.apart))
+          m.own.partial (keyed_none (λ (p : KeptPartial). p.key) k.key m.own.partial (let once = has.apart k.key in
+          let one = keyed_at (λ (x : KeptWhole). x.key) m.own.whole i k there is in omega (arith, once, one))))
 
   -- ---- as the hub has the file now
 

@@ -1,9 +1,68 @@
 -- How often each number is used, while files come and leave and numbers are given out.
-use Rattle.std.proofs.Common.{◌≡◌, ℕ, ◌+◌, ◌<◌, ◌≤◌, ◌==◌, ◌-◌, ◌^◌, List, [], ◌∷◌, ◌++◌, length, get_or, set, remove}
-use Rattle.std.proofs.{Common.{ap, arith, ◌⊎◌, inl, inr, Bool, true, false, cond}, lemmas.Bool.Decides.nat_tests}
-use Rattle.njh_keeper.proofs.KeyLaws.{keyed-append, keyed-remove, keyed-set, keyed_at, one_itself}
-use Rattle.njh_keeper.specs.code.Remembered.{AreApart, KeptPartial, KeptWhole, Numbers, OwnFiles, Sweep, claim, keyed}
-use Rattle.njh_keeper.specs.code.Remembered.{may_be_given, one_if, uses, with_key}
+use Rattle.njh_keeper.proofs.Words
+use Words.{◌≡◌, ℕ, ◌+◌, ◌<◌, ◌≤◌, ◌==◌, ◌-◌, ◌^◌, List, [], ◌∷◌, ◌++◌, length, get_or, set, remove, ap, arith, ◌⊎◌, inl}
+use Words.{inr, Bool, true, false, cond, ◌≢◌, zero, suc, map, refl, ◌∙◌, nat_tests, AllByRecursion, AreApart}
+use Words.{KeptPartial, KeptWhole, Numbers, OwnFiles, Sweep, claim, keyed, may_be_given, one_if, uses, with_key}
+use Rattle.njh_keeper.proofs.NumberedLaws.{equal}
+
+pub one_itself : (n : ℕ) → one_if (n == n) ≡ 1
+one_itself n = ap one_if (equal n)
+
+pub one_or_none : (b : Bool) → one_if b ≤ 1
+one_or_none true = omega arith
+one_or_none false = omega arith
+
+apart_if_none : (m n : ℕ) → one_if (m == n) ≡ 0 → m ≢ n
+apart_if_none m n none here = absurd (let one = ap (λ k. one_if (k == n)) here
+    ∙ one_itself n in omega (arith, none, one))
+
+module _ {X : Type 0} (key : X → ℕ) where
+  pub keyed-append : (n : ℕ) (xs ys : List X) → keyed key n (xs ++ ys) ≡ keyed key n xs + keyed key n ys
+  keyed-append n [] ys = omega arith
+  keyed-append n (x ∷ xs) ys = omega (arith, keyed-append n xs ys)
+
+  pub keyed-map : {Y : Type 0} (f : Y → X) (n : ℕ) (ys : List Y) → keyed key n (map f ys) ≡ keyed (λ y. key (f y)) n ys
+  keyed-map f n [] = refl
+  keyed-map f n (y ∷ ys) = omega (arith, keyed-map f n ys)
+
+  pub keyed-remove : (n : ℕ) (xs : List X) (i : ℕ) (x : X) → i < length xs → x ≡ get_or xs i x
+      → keyed key n xs ≡ one_if (key x == n) + keyed key n (remove xs i)
+  keyed-remove n [] i x there is = absurd (omega (arith, there))
+  keyed-remove n (y ∷ xs) zero x there is = let same : one_if (key x == n) ≡ one_if (key y == n) =
+      ap (λ z. one_if (key z == n)) is in omega (arith, same)
+  keyed-remove n (y ∷ xs) (suc i) x there is = omega (arith, keyed-remove n xs i x (omega (arith, there)) is)
+
+  pub keyed-set : (n : ℕ) (xs : List X) (i : ℕ) (x y : X) → i < length xs → x ≡ get_or xs i x → key y ≡ key x
+      → keyed key n (set xs i y) ≡ keyed key n xs
+  keyed-set n [] i x y there is alike = refl
+  keyed-set n (z ∷ xs) zero x y there is alike =
+      let same : one_if (key y == n) ≡ one_if (key z == n) =
+      ap (λ k. one_if (k == n)) (alike ∙ ap key is) in omega (arith, same)
+  keyed-set n (z ∷ xs) (suc i) x y there is alike = omega (arith, keyed-set n xs i x y (omega (arith, there)) is alike)
+
+  pub keyed_none : (n : ℕ) (xs : List X) → keyed key n xs ≡ 0 → AllByRecursion (λ x. key x ≢ n) xs
+  keyed_none n [] none = tt
+  keyed_none n (x ∷ xs) none = (apart_if_none (key x) n (omega (arith, none)), keyed_none n xs (omega (arith, none)))
+
+  pub keyed_at : (xs : List X) (i : ℕ) (x : X) → i < length xs → x ≡ get_or xs i x → 1 ≤ keyed key (key x) xs
+  keyed_at xs i x there is = omega (arith, keyed-remove (key x) xs i x there is, one_itself (key x))
+
+  -- where no key is there twice, no other has the key of one
+  pub keyed_apart : (xs : List X) (i : ℕ) (x : X) → i < length xs → x ≡ get_or xs i x → keyed key (key x) xs ≤ 1
+      → AllByRecursion (λ y. key y ≢ key x) (remove xs i)
+  keyed_apart xs i x there is once =
+      let all = keyed-remove (key x) xs i x there is in
+      let one = one_itself (key x) in
+      keyed_none (key x) (remove xs i) (omega (arith, all, one, once))
+
+  -- what counts at least these counts each
+  pub each_counts : (m : ℕ → ℕ) (xs : List X) → ((n : ℕ) → keyed key n xs ≤ m n)
+      → AllByRecursion (λ x. 1 ≤ m (key x)) xs
+  each_counts m [] least = tt
+  each_counts m (x ∷ xs) least = (
+    (omega (arith, one_itself (key x), least (key x))),
+    each_counts m xs (λ n. omega (arith, least n)),
+  )
 
 same_key : (n a b : ℕ) → a ≡ b → one_if (a == n) ≡ one_if (b == n)
 same_key n a b same = ap (λ k. one_if (k == n)) same
@@ -110,32 +169,36 @@ module _ (w : Numbers) (own : OwnFiles) where
 
   -- one in hand is no file's, and none of the writer's
   pub in_hand_alone : (key : ℕ) → AreApart (with_key key (claim w own))
-      → keyed (λ (k : KeptWhole). k.key) key own.whole ≡ 0
-  in_hand_alone key apart = let once = apart key in let one = one_itself key in omega (arith, once, one)
+      → (keyed (λ (k : KeptWhole). k.key) key own.whole ≡ 0) × AllByRecursion (λ p. p.key ≢ key) own.partial
+  in_hand_alone key apart =
+      let once = apart key in
+      let one = one_itself key in
+      (omega (arith, once, one), keyed_none (λ (p : KeptPartial). p.key) key own.partial (omega (arith, once, one)))
 
   pub in_hand_is_used : (key : ℕ) → 1 ≤ (with_key key (claim w own)).uses key
   in_hand_is_used key = let one = one_itself key in omega (arith, one)
 
-  pub whole_once : AreApart (claim w own) → (n : ℕ) → keyed (λ (k : KeptWhole). k.key) n own.whole ≤ 1
-  whole_once apart n = let once = apart n in omega (arith, once)
-
-  pub whole_are_used : (n : ℕ) → keyed (λ (k : KeptWhole). k.key) n own.whole ≤ uses n w own
-  whole_are_used n = omega arith
-
-  -- one that is about to be given out, swept, or of a file that isn't whole is no whole file's
+  -- one that is about to be given out, swept, or of a file that isn't whole is no other file's
   pub partial_is_apart : (i : ℕ) (p : KeptPartial) → i < length own.partial → p ≡ get_or own.partial i p
-      → AreApart (claim w own) → (keyed (λ (k : KeptWhole). k.key) p.key own.whole ≡ 0) × (1 ≤ uses p.key w own)
+      → AreApart (claim w own) → (keyed (λ (k : KeptWhole). k.key) p.key own.whole ≡ 0)
+      × AllByRecursion (λ q. q.key ≢ p.key) (remove own.partial i) × (1 ≤ uses p.key w own)
   partial_is_apart i p there is apart =
       let once = apart p.key in
-      let has = keyed_at (λ (x : KeptPartial). x.key) own.partial i p there is in
-      (omega (arith, once, has), omega (arith, has))
+      let has = keyed_at (λ (x : KeptPartial). x.key) own.partial i p there is in (
+        omega (arith, once, has),
+        keyed_apart (λ (x : KeptPartial). x.key) own.partial i p there is (omega (arith, once)),
+        omega (arith, has),
+      )
 
   pub sweep_is_apart : (rest : List Sweep) (sweep : Sweep) → own.sweeps ≡ rest ++ sweep ∷ [] → AreApart (claim w own)
-      → (keyed (λ (k : KeptWhole). k.key) sweep.key own.whole ≡ 0) × (1 ≤ uses sweep.key w own)
+      → (keyed (λ (k : KeptWhole). k.key) sweep.key own.whole ≡ 0)
+      × AllByRecursion (λ p. p.key ≢ sweep.key) own.partial × (1 ≤ uses sweep.key w own)
   sweep_is_apart rest sweep are apart =
       let once = apart sweep.key in
       let one = one_itself sweep.key in
-      let all : keyed (λ (x : Sweep). x.key) sweep.key own.sweeps ≡ keyed (λ (x : Sweep). x.key) sweep.key
-      (rest ++ sweep ∷ []) = ap (keyed (λ (x : Sweep). x.key) sweep.key) are in
-      let last = keyed-append (λ (x : Sweep). x.key) sweep.key rest (sweep ∷ []) in
-      (omega (arith, once, one, all, last), omega (arith, one, all, last))
+      let all = ap (keyed (λ (x : Sweep). x.key) sweep.key) are in
+      let last = keyed-append (λ (x : Sweep). x.key) sweep.key rest (sweep ∷ []) in (
+        omega (arith, once, one, all, last),
+        keyed_none (λ (p : KeptPartial). p.key) sweep.key own.partial (omega (arith, once, one, all, last)),
+        omega (arith, one, all, last),
+      )

@@ -1,25 +1,30 @@
 -- The keeper goes through a customer's files: those that left are taken out, and each other one is found by its number.
-use Rattle.std.proofs.Common.{◌≡◌, ◌≢◌, ℕ, suc, ◌+◌, ◌<◌, ◌≤◌, ◌==◌, List, [], ◌∷◌, ◌++◌, length, get_or, set, remove}
-use Rattle.std.proofs.Common.{take, drop, count_by, refl, sym, ap, subst, ◌∙◌, arith, length-drop}
-use Rattle.std.proofs.lemmas.List.{drop-set-lt, drop_at, take_more_set, drop_all, drop_more, length-set, length-take-le}
-use Rattle.std.proofs.lemmas.List.{take-append-le, take-take, take_all, take_more, Edits.length-remove}
-use Rattle.{std.proofs.lemmas.List.Recursion.is_sum_by, njh_spool.specs.CustomerSpool.WholeFile}
-use Rattle.{njh_customer.specs.Surviving.{stays, IsStill, Survive, leaves}, njh_keeper.proofs.KeyLaws.one_itself}
-use Rattle.njh_keeper.specs.code.{Remembered.{keyed, one_if}, Walking.{AreNumbered, IsWalkedTo}}
+use Rattle.njh_keeper.proofs.Words
+use Words.{◌≡◌, ℕ, ◌<◌, ◌≤◌, ◌==◌, true, false, List, length, get_or, remove, Option, Some, None, sym, ap, ◌∙◌, arith}
+use Words.{SpoolContents, WholeFile, HasFiles, IsReached, Memory, own_rows, IsKept, KeptWhole, IsWalkedTo, ◌≢◌, suc}
+use Words.{◌+◌, [], ◌∷◌, ◌++◌, set, take, drop, count_by, refl, subst, length-drop, drop_all, drop_more, length-set}
+use Words.{length-take-le, take-append-le, take-take, take_all, take_more, length-remove, is_sum_by, IsStill, Survive}
+use Words.{leaves, none, keyed, one_if, AreNumbered}
+use Rattle.std.{proofs.{Common.eqb-true, lemmas.List.{drop-set-lt, drop_at, take_more_set}}, specs.Option.option_eq}
+use Rattle.{njh_customer.specs.Surviving.stays, njh_keeper.proofs.ListLaws.{BesideAt, beside_at, beside_lengths}}
+use Rattle.njh_keeper.proofs.{NumberedLaws.equal, UsesLaws.one_itself}
 
 abbrev number : WholeFile → ℕ
 number f = f.number
 
 -- ---- those that are still there
 
+-- no more files have a number than had it
+pub no_more_numbered : (n : ℕ) (fs still : List WholeFile) → Survive fs still → keyed number n still ≤ keyed number n fs
+no_more_numbered n _ _ none = omega arith
+no_more_numbered n _ _ (stays f g fs gs one more) =
+    omega (arith, ap (λ m. one_if (m == n)) one.number, no_more_numbered n fs gs more)
+no_more_numbered n _ _ (leaves f fs gs more) = omega (arith, no_more_numbered n fs gs more)
+
 -- one that is there now was there
 was_there : (fs : List WholeFile) (g : WholeFile) (still : List WholeFile) → Survive fs (g ∷ still)
     → 1 ≤ keyed number g.number fs
-was_there _ g still (stays f _ fs _ one more) =
-    let same : one_if (f.number == g.number) ≡ 1 =
-    ap (λ n. one_if (n == g.number)) (sym one.number) ∙ one_itself g.number in
-    omega (arith, same)
-was_there _ g still (leaves f fs _ more) = omega (arith, was_there fs g still more)
+was_there fs g still all = omega (arith, no_more_numbered g.number fs (g ∷ still) all, one_itself g.number)
 
 record IsFound (f g : WholeFile) (fs still : List WholeFile) : Type 0 where
   one : IsStill f g
@@ -49,7 +54,7 @@ all_have_left f fs (leaves _ _ _ more) = more
 numbered_behind : (f : WholeFile) (fs : List WholeFile) → AreNumbered (f ∷ fs) → AreNumbered fs
 numbered_behind f fs once n = omega (arith, once n)
 
-as_counted : (n : ℕ) (files : List WholeFile) → keyed number n files ≡ count_by (λ f. f.number == n) files
+pub as_counted : (n : ℕ) (files : List WholeFile) → keyed number n files ≡ count_by (λ f. f.number == n) files
 as_counted n files = is_sum_by (keyed number n) (λ f. one_if (f.number == n)) refl (λ _ _. refl) files
 
 pub are_numbered : (files : List WholeFile) → ((n : ℕ) → count_by (λ f. f.number == n) files ≤ 1) → AreNumbered files
@@ -138,3 +143,54 @@ module _ (still files : List WholeFile) (i : ℕ) (walk : IsWalkedTo still files
             survive = subst (λ fs. Survive fs (drop (i + 1) still)) (sym behind) found.rest;
             once = subst AreNumbered (sym behind) (numbered_behind f (drop (i + 1) files) numbered);
           }
+
+-- ---- whether a number is the one that is looked for
+
+pub is_that : (n : ℕ) (number : Option ℕ) → option_eq (λ a b. a == b) (Some n) number ≡ true → number ≡ Some n
+is_that n None same = absurd (cc same)
+is_that n (Some k) same = ap Some (sym (eqb-true n k same))
+
+pub is_another : (n : ℕ) (number : Option ℕ) → option_eq (λ a b. a == b) (Some n) number ≡ false → number ≡ Some n → ⊥
+is_another n None other same = absurd (cc same)
+is_another n (Some k) other same =
+    let here : k ≡ n = cc same in
+    let test : (n == k) ≡ true = ap (λ x. n == x) here ∙ equal n in
+    let never : true ≡ false = sym test ∙ other in
+    absurd (cc never)
+
+-- ---- beside what the hub has
+
+module _ (m : Memory) (s : SpoolContents) (files : List WholeFile) (has : HasFiles m s files) where
+  pub as_many : length files ≡ length m.own.whole
+  as_many = (beside_lengths (IsKept s) m.own.whole (own_rows m.own.name s) files has.mirrored).1
+
+  -- where no further one is remembered, the hub has none
+  pub reached_at_end : (number : Option ℕ) (still : List WholeFile) (place : ℕ) → IsReached number still place
+      → IsWalkedTo still files place → length m.own.whole ≤ place → IsReached number files place
+  reached_at_end None still place next walk end = let long = as_many in omega (arith, long, end)
+  reached_at_end (Some n) still place next walk end =
+      absurd (
+      let more = walk_has_more still files place walk next.file next.there next.is in
+      let long = as_many in
+      omega (arith, more, long, end))
+
+  module _ (place : ℕ) (k : KeptWhole) (there : place < length m.own.whole) (is : k ≡ get_or m.own.whole place k) where
+    pub kept_at : BesideAt (IsKept s) (own_rows m.own.name s) files place k
+    kept_at = beside_at (IsKept s) m.own.whole (own_rows m.own.name s) files place k has.mirrored there is
+
+    pub reached_here : (number : Option ℕ) → number ≡ Some k.number → IsReached number files place
+    reached_here None same = absurd (cc same)
+    reached_here (Some n) same = record {
+      file = kept_at.third;
+      there = kept_at.third_there;
+      is = kept_at.third_is;
+      number_is = let here : n ≡ k.number = cc same in sym kept_at.holds.remembers.number ∙ sym here;
+    }
+
+    pub passed_here : (number : Option ℕ) (still : List WholeFile) → IsReached number still place
+        → IsWalkedTo still files place → (number ≡ Some k.number → ⊥) → IsWalkedTo still (remove files place) place
+    passed_here None still next walk other =
+        walk_drops_last still files place walk kept_at.third kept_at.third_there kept_at.third_is next
+    passed_here (Some n) still next walk other =
+        walk_drops still files place walk kept_at.third kept_at.third_there kept_at.third_is next.file next.there
+        next.is (λ same. other (ap Some (sym next.number_is ∙ sym same ∙ sym kept_at.holds.remembers.number)))

@@ -47,9 +47,9 @@ pub use Rattle.njh_hub.specs.{Restored.part_with_file, Views.file_summary, Whole
 pub use Rattle.{njh_hub.specs.WholeHub.SameLines, njh_turns.specs.declared.depot.DepotFault.DepotFault}
 pub use Rattle.{njh_turns.specs.Keeping.{is_held, IsLed, kept_file, kept_of}, njh_keeper.specs.code.Alike.AreAlike}
 pub use Rattle.njh_keeper.specs.code.{Alike.{AreBegun, Writes}, Apart.{AreFilesApart, have_low_ids, rises}}
-pub use Rattle.njh_keeper.specs.code.Following.{AddsRow, AreFronts, claim_of, GoesTo, GoOnIn, HasFiles, IsAt, IsFrontOf}
-pub use Rattle.njh_keeper.specs.code.Following.{IsQuiet, IsReached, IsRowFor, IsStillAt, LeadsFiles, Memory, memory_of}
-pub use Rattle.njh_keeper.specs.code.Following.{Stage, stage_of}
+pub use Rattle.njh_keeper.specs.code.Following.{AddsRow, AreFronts, claim_of, GoesTo, GoOnIn, HasFiles, IsAt}
+pub use Rattle.njh_keeper.specs.code.Following.{IsFrontOf, IsFrontWhere, IsQuiet, IsReached, IsRowFor, IsStillAt}
+pub use Rattle.njh_keeper.specs.code.Following.{LeadsFiles, Memory, memory_of, Stage, stage_of}
 pub use Rattle.njh_keeper.specs.code.{Following.Remain, Knowing.{AreNamedApart, HasOwn, HasSpool, IsSoundPart, Knows}}
 pub use Rattle.njh_keeper.specs.code.{Knowing.{LeadsStep, StepGoes}, Leading.Leads, Memory.{numbers_of, own_memory_of}}
 pub use Rattle.njh_keeper.specs.code.{Memory.{own_of, partial_of, sweep_in, whole_of}, Mirrored.contents_from}
@@ -75,3 +75,6 @@ pub use Rattle.njh_keeper.specs.Opened.{AllAreBack, are_records_from, are_record
 pub use Rattle.njh_keeper.specs.Opened.{file_fault, file_in, hub_opened, is_name_of, is_own, is_record_at, kind_of_word}
 pub use Rattle.njh_keeper.specs.Opened.{kind_word, own_files, part_opened, whole_fault, with_whole}
 pub use Rattle.njh_keeper.specs.OpenedFiles.{as_opened, HasOpened, opened_of, OpenedFile}
+pub use Rattle.njh_keeper.proofs.LeadingLaws.{clean_before, leads_by, leads_nothing, leads_then, leads_weaker}
+pub use Rattle.njh_keeper.proofs.LeadingLaws.{survives_any, survives_both, survives_here}
+pub use Rattle.{njh_keeper.specs.code.Counting.{Grows, rows_of}, njh_turns.proofs.KeepingLaws.on_ok}

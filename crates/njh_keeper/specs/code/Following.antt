@@ -94,19 +94,20 @@ abbrev pub IsReached : Option ℕ → List WholeFile → ℕ → Type 0
 IsReached None files place = length files ≤ place
 IsReached (Some number) files place = IsFoundAt number files place
 
--- Of each file that isn't whole what is kept is a front of the records of the file that it became, but for headers.
-pub record IsFrontOf (s : SpoolContents) (p : KeptPartial) (now : List Stored) : Type 0 where
+-- Of each file that isn't whole what is kept is a front of the records of the file that it became, but for headers:
+-- so many records stand under its number.
+pub record IsFrontOf (s : SpoolContents) (key written : ℕ) (now : List Stored) : Type 0 where
   pub before : List Stored
-  pub long : length before ≡ p.written
-  pub within : p.written ≤ length now
-  pub stored : HasRecords p.key before s
-  pub alike : AreAlike before (take p.written now)
+  pub long : length before ≡ written
+  pub within : written ≤ length now
+  pub stored : HasRecords key before s
+  pub alike : AreAlike before (take written now)
+
+abbrev pub IsFrontWhere : SpoolContents → KeptPartial → WholeFile → Type 0
+IsFrontWhere s p f = f.number ≡ p.number → p.seen ≤ length f.records → IsFrontOf s p.key p.written f.records
 
 abbrev pub AreFronts : SpoolContents → List KeptPartial → List WholeFile → Type 0
-AreFronts s partial files =
-    AllByRecursion
-    (λ p. AllByRecursion (λ f. f.number ≡ p.number → p.seen ≤ length f.records → IsFrontOf s p f.records) files)
-    partial
+AreFronts s partial files = AllByRecursion (λ p. AllByRecursion (IsFrontWhere s p) files) partial
 
 -- The file of this number of a customer of a hub is this one, and so its summary says.
 pub record IsHubFile (hub : List Part) (file : HubFile) (summary : FileSummaryView) (g : WholeFile) : Type 0 where
@@ -151,8 +152,8 @@ pub record AddsRow (key : ℕ) (summary : FileSummaryView) (g : WholeFile) (befo
 
 -- ---- a number in hand
 
--- This number is in hand; under it stand so many records, a front of a file's but for headers. The files are what they
--- were.
+-- This number is in hand, and so many records stand under it, a front of a file's but for headers. The files are what
+-- they were.
 pub record IsInHand (key written : ℕ) (m m' : Memory) (s t : SpoolContents) (files : List WholeFile)
     (now : List Stored) : Type 0 where
   pub moves : Moves (claim_of m) (with_key key (claim_of m')) s t
@@ -160,11 +161,7 @@ pub record IsInHand (key written : ℕ) (m m' : Memory) (s t : SpoolContents) (f
   pub mirrored : Mirrored t m'.own files
   pub remain : Remain m.own.partial m'.own.partial
   pub records : AllByRecursion (λ p. records_of p.key t ≡ records_of p.key s) m'.own.partial
-  pub before : List Stored
-  pub long : length before ≡ written
-  pub within : written ≤ length now
-  pub stored : HasRecords key before t
-  pub alike : AreAlike before (take written now)
+  pub front : IsFrontOf t key written now
 
 abbrev pub LeadsInHand : (key written : ℕ) → WholeFile → (before after : Stage) → Type 0
 LeadsInHand key written g before after =

@@ -1,7 +1,7 @@
 use Rattle.njh_keeper.proofs.Words
 use Words.{◌≡◌, true, length, sym, ap, subst, ◌∙◌, arith, AllByRecursion, ok_then, shown, FileSummaryView, Writes}
-use Words.{AddsRow, Leads, memory_of, stage_of, numbers_of, FitsHub, part, records_in}
-use Rattle.njh_keeper.proofs.{HandLaws.add_leads, LeadingLaws.{clean_before, survives_both}}
+use Words.{AddsRow, Leads, memory_of, stage_of, numbers_of, FitsHub, part, records_in, clean_before, survives_both}
+use Rattle.njh_keeper.proofs.HandLaws.{add_leads}
 use Rattle.njh_keeper.proofs.adding.add_one.Goals as goal
 
 pub returns-clause-led : goal.returns-clause-led

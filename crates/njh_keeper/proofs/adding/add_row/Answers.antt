@@ -1,7 +1,7 @@
 use Rattle.njh_keeper.proofs.Words
 use Words.{rules, ◌≡◌, [], ◌∷◌, map, refl, ap, subst, ◌∙◌, map-append, ok_then, file_of, with_file, shown, Changes}
-use Words.{FileSummaryView, IsRowFor, memory_of, numbers_of, whole_of, SpoolWriter}
-use Rattle.{njh_turns.proofs.KeepingLaws.on_ok, njh_keeper.proofs.CountingLaws.rows_as_one_comes}
+use Words.{FileSummaryView, IsRowFor, memory_of, numbers_of, whole_of, SpoolWriter, on_ok}
+use Rattle.njh_keeper.proofs.CountingLaws.{rows_as_one_comes}
 use Rattle.njh_keeper.specs.declared.own_files.KeptWhole as declared
 use Rattle.njh_keeper.proofs.adding.add_row.Goals as goal
 

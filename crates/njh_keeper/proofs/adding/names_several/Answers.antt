@@ -1,6 +1,6 @@
-use Rattle.std.proofs.Common.{None, sym, ap, subst, ◌∙◌}
-use Rattle.njh_hub.specs.declared.file_summary.FileSummaryView.{FileSummaryView}
-use Rattle.njh_keeper.{proofs.StillLaws.{job_is_named, one_is_named}, specs.code.Nodes.{AreOne, named_nodes}}
+use Rattle.njh_keeper.proofs.Words
+use Words.{None, sym, ap, subst, ◌∙◌, FileSummaryView, AreOne, named_nodes}
+use Rattle.njh_keeper.proofs.StillLaws.{job_is_named, one_is_named}
 use Rattle.njh_keeper.proofs.adding.names_several.Goals as goal
 
 pub returns-in-In : goal.returns-in-In

@@ -1,9 +1,8 @@
-use Rattle.std.proofs.Common.{◌≤◌, arith, map, refl, sym, ap, subst, ◌∙◌}
-use Rattle.{std.specs.Prelude.string_bytes, njh_keeper.proofs.CountingLaws.rows_as_partial_goes}
-use Rattle.njh_keeper.{proofs.HandLaws.{key_leads, partial_leads}, specs.code.Counting.rows_of}
-use Rattle.njh_keeper.{proofs.ListLaws.{at_place, map-remove, within_seen}, specs.code.Following.{memory_of, stage_of}}
-use Rattle.njh_keeper.specs.code.Memory.{numbers_of, own_of}
-use Rattle.njh_keeper.specs.{code.Memory.partial_of, declared.own_files.OwnFiles.OwnFiles}
+use Rattle.njh_keeper.proofs.Words
+use Words.{◌≤◌, arith, map, refl, sym, ap, subst, ◌∙◌, memory_of, stage_of, numbers_of, own_of, partial_of, rows_of}
+use Rattle.{std.specs.Prelude.string_bytes, njh_keeper.proofs.{CountingLaws.rows_as_partial_goes, HandLaws.key_leads}}
+use Rattle.njh_keeper.proofs.{HandLaws.partial_leads, ListLaws.{at_place, map-remove, within_seen}}
+use Rattle.njh_keeper.specs.declared.own_files.OwnFiles.{OwnFiles}
 use Rattle.njh_keeper.proofs.adding.place_for.Goals as goal
 
 pub returns-in-Some-clause-led : goal.returns-in-Some-clause-led
@@ -16,15 +15,14 @@ returns-in-Some-clause-led g c f number records clean =
     let taken = c.in-Some.ensures.taken in
     let i = taken.0 in
     let others = c.take_partial.ensures.others in
-    partial_leads before after f p.key p.written i (partial_of p) (within_seen partial_of items i taken.1)
-    (at_place partial_of items i p taken.1 taken.2)
-    (sym number ∙ sym taken.4) (subst (λ n. p.seen ≤ n) records taken.5) refl refl
+    partial_leads before after.memory f i (partial_of p) (within_seen partial_of items i taken.1)
+    (at_place partial_of items i p taken.1 taken.2) (sym number ∙ sym taken.4) (subst (λ n. p.seen ≤ n) records taken.5)
     (λ j. record {
       numbers = m.numbers;
       own = (ap own_of others ∙ ap (λ xs. record m.own { partial = xs })
           (ap (map partial_of) taken.3 ∙ map-remove partial_of items i)) j;
       text = ap (λ (x : OwnFiles). string_bytes x.text) others j;
-    }) refl
+    })
 
 pub returns-in_ok-take_key-in-None-clause-led : goal.returns-in_ok-take_key-in-None-clause-led
 returns-in_ok-take_key-in-None-clause-led g c f number records clean =

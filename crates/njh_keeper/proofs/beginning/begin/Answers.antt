@@ -1,8 +1,8 @@
 use Rattle.njh_keeper.proofs.Words
-use Words.{◌≡◌, ◌++◌, length, map, sym, ap, subst, ◌∙◌, arith, length-map, ⊤, Database, HasCleanDisk, State}
-use Words.{Survives, Stands, Holds, shown, AreFilesApart, have_low_ids, numbers_of, own_of, AreRemembered}
-use Words.{HasBegun, entries, emptied_at, free_at, key_behind, without_keys, SpoolWriter}
-use Rattle.njh_keeper.proofs.{LeadingLaws.survives_any, OpeningBegun.has_begun, RowLaws.is_ordered}
+use Words.{◌≡◌, ◌++◌, length, map, sym, ap, subst, ◌∙◌, arith, length-map, ⊤, HasCleanDisk, State, Survives, Stands}
+use Words.{shown, AreFilesApart, have_low_ids, numbers_of, own_of, AreRemembered, HasBegun, entries, emptied_at}
+use Words.{free_at, key_behind, without_keys, SpoolWriter, survives_any}
+use Rattle.njh_keeper.proofs.{KnownLaws.stood_still, OpeningBegun.has_begun, RowLaws.is_ordered}
 use Rattle.njh_keeper.proofs.beginning.begin.Goals as goal
 
 pub returns-clause-begun : goal.returns-clause-begun
@@ -22,16 +22,11 @@ returns-clause-begun g c clean s stands distinct found reads =
     let clean_third : HasCleanDisk third = omega (arith, clean, c.begin_numbers.ensures.crash.clean) in
     let clean_second : HasCleanDisk second = subst HasCleanDisk same clean_third in
     let clean_first : HasCleanDisk first = omega (arith, clean_second, c.remember_all.ensures.crash.clean) in
-    let stays = c.in_ok-files.ensures.same clean_first in
     let read : entries items ≡ s.now.files = c.in_ok-files.ensures.files clean_first s.now stands.now in
     let rows : entries files ≡ s.now.files = ap entries c.deref-3.ensures.value ∙ read in
     let same_files : c.deref.result.now ≡ files = c.deref.ensures.value ∙ sym c.deref-3.ensures.value in
-    let there : Stands s first = record {
-      is_open = stays.is_open stands.is_open;
-      now = subst (λ (d : Database). Holds s.now d.trees) (sym stays.now) stands.now;
-      kept = subst (λ (d : Database). Holds s.kept d.trees) (sym stays.committed) stands.kept;
-    } in
-    let led = (c.in_ok-owns.ensures.led found clean_second).leads s there in
+    let led = (c.in_ok-owns.ensures.led found clean_second).leads s
+    (stood_still s old first (c.in_ok-files.ensures.same clean_first) stands) in
     let all : AreRemembered names hub owns s.now led.0 =
     led.2 (is_ordered s.now old.now.trees stands.now) (ap entries c.deref-2.ensures.value ∙ read) distinct reads in
     let long : length owns ≡ length names =

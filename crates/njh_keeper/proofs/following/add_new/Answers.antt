@@ -1,10 +1,8 @@
-use Rattle.std.proofs.{Common.{◌≡◌, ◌<◌, length, get_or, ap, ◌∙◌, arith}, lemmas.List.{get_or_default, take_all}}
-use Rattle.{njh_spoolfile.specs.Shelf.shown, njh_spool.specs.CustomerSpool.WholeFile, njh_hub.specs.Views.file_summary}
-use Rattle.{njh_hub.specs.WholeHub.part, njh_keeper.proofs.{FollowingLaws.goes_nowhere, LeadingLaws.clean_before}}
-use Rattle.njh_keeper.specs.code.Walking.{AreNumbered}
-use Rattle.njh_keeper.proofs.LeadingLaws.{leads_nothing, survives_both, survives_here}
+use Rattle.njh_keeper.proofs.Words
+use Words.{◌≡◌, ◌<◌, length, get_or, ap, ◌∙◌, arith, get_or_default, take_all, shown, WholeFile, file_summary, part}
+use Words.{memory_of, AreNumbered, clean_before, leads_nothing, survives_both, survives_here}
+use Rattle.njh_keeper.proofs.FollowingLaws.{goes_nowhere, quiet_changed, quiet_same, quiet_then}
 use Rattle.njh_keeper.proofs.NewFilesLaws.{added_further, any_file, hub_file_at, is_at, says_more}
-use Rattle.njh_keeper.{proofs.QuietLaws.{quiet_changed, quiet_same, quiet_then}, specs.code.Following.memory_of}
 use Rattle.njh_keeper.proofs.following.add_new.Goals as goal
 
 pub loop-index-init : goal.loop-index-init

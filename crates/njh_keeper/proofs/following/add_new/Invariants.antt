@@ -1,6 +1,6 @@
-use Rattle.{std.proofs.Common.{◌≡◌, take}, sqlite.specs.State.{HasCleanDisk, Survives}, njh_spoolfile.specs.Shelf.shown}
-use Rattle.{njh_hub.specs.WholeHub.part, njh_keeper.specs.code.Following.{AreFronts, IsQuiet, LeadsFiles, stage_of}}
-use Rattle.njh_keeper.specs.code.{Counting.Grows, Memory.own_of, Walking.AreNumbered}
+use Rattle.njh_keeper.proofs.Words
+use Words.{◌≡◌, take, HasCleanDisk, Survives, shown, part, Grows, AreFronts, IsQuiet, LeadsFiles, stage_of, own_of}
+use Words.{AreNumbered}
 use Rattle.njh_keeper.proofs.following.add_new.Given as goal
 
 -- so many files are there

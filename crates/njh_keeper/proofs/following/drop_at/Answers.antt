@@ -1,12 +1,10 @@
-use Rattle.std.proofs.Common.{◌≡◌, ◌<◌, ◌++◌, [], ◌∷◌, length, get_or, remove, map, refl, sym, ap, subst, ◌∙◌}
-use Rattle.std.{proofs.lemmas.List.map-append, specs.Prelude.{string_bytes, ⊤}}
-use Rattle.njh_spoolfile.{proofs.ReadingLaws.ok_then, specs.Shelf.shown}
-use Rattle.njh_keeper.{proofs.CountingLaws.rows_as_one_leaves, specs.code.Counting.rows_of}
-use Rattle.njh_keeper.proofs.{FollowingLaws.{file_goes, memory_without}, LeadingLaws.{leads_by, leads_weaker}}
-use Rattle.njh_keeper.proofs.ListLaws.{at_place, map-remove, within_seen}
-use Rattle.njh_keeper.specs.code.{Following.{GoesTo, LeadsFiles, memory_of}, Memory.{numbers_of, own_of, sweep_in}}
-use Rattle.njh_keeper.specs.code.{Memory.whole_of, Writing.sweep_of}
-use Rattle.njh_keeper.specs.declared.{own_files.OwnFiles.OwnFiles, writer.SpoolWriter.SpoolWriter}
+use Rattle.njh_keeper.proofs.Words
+use Words.{◌≡◌, ◌<◌, ◌++◌, [], ◌∷◌, length, get_or, remove, map, refl, sym, ap, subst, ◌∙◌, map-append, ⊤, ok_then}
+use Words.{shown, GoesTo, LeadsFiles, memory_of, numbers_of, own_of, sweep_in, whole_of, sweep_of, SpoolWriter}
+use Words.{leads_by, leads_weaker, rows_of}
+use Rattle.{std.specs.Prelude.string_bytes, njh_keeper.proofs.CountingLaws.rows_as_one_leaves}
+use Rattle.njh_keeper.proofs.{FollowingLaws.{file_goes, memory_without}, ListLaws.{at_place, map-remove, within_seen}}
+use Rattle.njh_keeper.specs.declared.own_files.OwnFiles.{OwnFiles}
 use Rattle.njh_keeper.proofs.following.drop_at.Goals as goal
 
 pub returns-clause-led : goal.returns-clause-led

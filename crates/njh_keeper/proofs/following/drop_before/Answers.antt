@@ -1,13 +1,11 @@
-use Rattle.std.proofs.{Common.{◌≡◌, ◌<◌, length, get_or, Some, sym, ap, subst, arith}, lemmas.List.length-map}
-use Rattle.{std.proofs.lemmas.List.Edits.length-remove, njh_spoolfile.specs.Shelf.shown}
+use Rattle.njh_keeper.proofs.Words
+use Words.{◌≡◌, ◌<◌, length, get_or, Some, sym, ap, subst, arith, length-map, length-remove, shown, memory_of, whole_of}
+use Words.{IsWalkedTo, clean_before, leads_nothing, leads_then, survives_both, survives_here}
+use Rattle.njh_keeper.proofs.{FollowingLaws.{goes_nowhere, goes_then, quiet_changed, quiet_same}, ListLaws.at_place}
+use Rattle.njh_keeper.proofs.{ListLaws.within_seen, NewFilesLaws.says_more, WalkLaws.{is_another, is_that, passed_here}}
+use Rattle.njh_keeper.proofs.WalkLaws.{reached_at_end, reached_here}
 use Rattle.njh_keeper.proofs.following.drop_before.Goals.{then-place-len-via-then-place-len}
 use Rattle.njh_keeper.proofs.following.drop_before.Goals.{then-place-len-via-else-place-len+then-eq}
-use Rattle.njh_keeper.proofs.{FollowingLaws.{goes_nowhere, goes_then}, LeadingLaws.{clean_before, leads_nothing}}
-use Rattle.njh_keeper.proofs.LeadingLaws.{leads_then, survives_both, survives_here}
-use Rattle.njh_keeper.proofs.{ListLaws.{at_place, within_seen}, NewFilesLaws.says_more}
-use Rattle.njh_keeper.proofs.{QuietLaws.{quiet_changed, quiet_same}, WalkedLaws.{is_another, is_that, passed_here}}
-use Rattle.njh_keeper.{proofs.WalkedLaws.{reached_at_end, reached_here}, specs.code.Following.memory_of}
-use Rattle.njh_keeper.specs.code.{Memory.whole_of, Walking.IsWalkedTo}
 use Rattle.njh_keeper.proofs.following.drop_before.Goals as goal
 
 pub loop-init : goal.loop-init

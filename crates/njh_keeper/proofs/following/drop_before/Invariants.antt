@@ -1,7 +1,6 @@
-use Rattle.{std.proofs.Common.{◌+◌, ◌≤◌, List, length}, sqlite.specs.State.{HasCleanDisk, Survives}}
-use Rattle.{njh_spoolfile.specs.Shelf.shown, njh_spool.specs.CustomerSpool.WholeFile}
-use Rattle.njh_keeper.specs.code.{Counting.Grows, Following.{IsQuiet, IsReached, LeadsFiles, stage_of}}
-use Rattle.njh_keeper.specs.code.Walking.{IsWalkedTo}
+use Rattle.njh_keeper.proofs.Words
+use Words.{◌+◌, ◌≤◌, List, length, HasCleanDisk, Survives, shown, WholeFile, IsQuiet, IsReached, LeadsFiles, stage_of}
+use Words.{IsWalkedTo, Grows}
 use Rattle.njh_keeper.proofs.following.drop_before.Given as goal
 
 -- so many files were taken out

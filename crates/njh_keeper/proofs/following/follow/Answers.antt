@@ -1,6 +1,6 @@
-use Rattle.{std.proofs.Common.{◌≡◌, ◌∙◌, arith}, njh_hub.specs.WholeHub.part}
-use Rattle.njh_keeper.proofs.{LeadingLaws.{clean_before, survives_both}, NewFilesLaws.{first_survive, followed_all}}
-use Rattle.njh_keeper.proofs.QuietLaws.{quiet_then}
+use Rattle.njh_keeper.proofs.Words
+use Words.{◌≡◌, ◌∙◌, arith, part, clean_before, survives_both}
+use Rattle.njh_keeper.proofs.{FollowingLaws.quiet_then, NewFilesLaws.{first_survive, followed_all}}
 use Rattle.njh_keeper.proofs.following.follow.Goals as goal
 
 pub returns-clause-led : goal.returns-clause-led

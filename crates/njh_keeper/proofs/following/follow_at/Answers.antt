@@ -1,7 +1,6 @@
-use Rattle.std.proofs.{Common.{◌≡◌, sym, ap, ◌∙◌}, lemmas.List.get_or_default}
-use Rattle.{njh_spoolfile.proofs.ReadingLaws.ok_then, njh_spool.specs.CustomerSpool.WholeFile}
-use Rattle.{njh_hub.specs.{Views.file_summary, WholeHub.part}, njh_keeper.proofs.LeadingLaws.clean_before}
-use Rattle.njh_keeper.proofs.{LeadingLaws.survives_both, NewFilesLaws.{hub_file_at, walked_on}, QuietLaws.quiet_then}
+use Rattle.njh_keeper.proofs.Words
+use Words.{◌≡◌, sym, ap, ◌∙◌, get_or_default, ok_then, WholeFile, file_summary, part, clean_before, survives_both}
+use Rattle.njh_keeper.proofs.{FollowingLaws.quiet_then, NewFilesLaws.{hub_file_at, walked_on}}
 use Rattle.njh_keeper.proofs.following.follow_at.Goals as goal
 
 pub returns-clause-led : goal.returns-clause-led

@@ -1,9 +1,8 @@
-use Rattle.std.proofs.Common.{◌≡◌, ◌+◌, ◌<◌, ◌≤◌, length, get_or, take, refl, sym, ap, subst, arith}
-use Rattle.{std.proofs.lemmas.List.length-take-le, njh_spoolfile.{proofs.ReadingLaws.ok_then, specs.Shelf.shown}}
-use Rattle.{njh_hub.specs.WholeHub.part, njh_keeper.proofs.{FollowingLaws.goes_nowhere, LeadingLaws.clean_before}}
-use Rattle.njh_keeper.proofs.{LeadingLaws.{leads_nothing, survives_both, survives_here}, NewFilesLaws.{any_file, is_at}}
-use Rattle.njh_keeper.proofs.{NewFilesLaws.{is_at_of_first, walked_further, walked_to_end}, QuietLaws.quiet_same}
-use Rattle.njh_keeper.{proofs.{QuietLaws.quiet_then, WalkLaws.walk_begins}, specs.code.Following.{IsAt, memory_of}}
+use Rattle.njh_keeper.proofs.Words
+use Words.{◌≡◌, ◌+◌, ◌<◌, ◌≤◌, length, get_or, take, refl, sym, ap, subst, arith, length-take-le, ok_then, shown, part}
+use Words.{IsAt, memory_of, clean_before, leads_nothing, survives_both, survives_here}
+use Rattle.njh_keeper.proofs.{FollowingLaws.{goes_nowhere, quiet_same, quiet_then}, NewFilesLaws.{any_file, is_at}}
+use Rattle.njh_keeper.proofs.{NewFilesLaws.{is_at_of_first, walked_further, walked_to_end}, WalkLaws.walk_begins}
 use Rattle.njh_keeper.proofs.following.follow_old.Goals as goal
 
 pub loop-index-init : goal.loop-index-init

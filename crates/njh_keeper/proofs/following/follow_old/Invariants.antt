@@ -1,6 +1,6 @@
-use Rattle.{std.proofs.Common.{◌≡◌, take}, sqlite.specs.State.{HasCleanDisk, Survives}, njh_spoolfile.specs.Shelf.shown}
-use Rattle.{njh_customer.specs.Surviving.Survive, njh_hub.specs.WholeHub.part, njh_keeper.specs.code.Following.IsQuiet}
-use Rattle.njh_keeper.specs.code.{Counting.Grows, Following.{LeadsFiles, stage_of}, Walking.{AreNumbered, IsWalkedTo}}
+use Rattle.njh_keeper.proofs.Words
+use Words.{◌≡◌, take, HasCleanDisk, Survives, shown, Survive, part, Grows, IsQuiet, LeadsFiles, stage_of, AreNumbered}
+use Words.{IsWalkedTo}
 use Rattle.njh_keeper.proofs.following.follow_old.Given as goal
 
 -- so many files were followed

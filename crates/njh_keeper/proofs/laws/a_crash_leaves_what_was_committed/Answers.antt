@@ -1,4 +1,4 @@
-use Rattle.njh_keeper.proofs.KeeperLaws.{committed_is_left}
+use Rattle.njh_keeper.proofs.OneSpool.{committed_is_left}
 use Rattle.njh_keeper.proofs.laws.a_crash_leaves_what_was_committed.Goals as goal
 
 pub returns : goal.returns

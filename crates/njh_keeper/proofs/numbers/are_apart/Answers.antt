@@ -1,5 +1,5 @@
 use Rattle.std.{proofs.Common.{ℕ, List, sym, ap, subst, ◌∙◌}, specs.Prelude.IsPermutation}
-use Rattle.njh_keeper.{proofs.OpeningKeys.apart_by_rising, specs.code.Apart.rises}
+use Rattle.njh_keeper.{proofs.OpeningApart.apart_by_rising, specs.code.Apart.rises}
 use Rattle.njh_keeper.proofs.numbers.are_apart.Goals as goal
 
 pub returns : goal.returns

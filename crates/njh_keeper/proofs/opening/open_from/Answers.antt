@@ -1,6 +1,5 @@
 use Rattle.std.proofs.lemmas.Result.{IfErr-weaker, IfOk-weaker, on_ok_weaker}
-use Rattle.njh_keeper.proofs.LeadingLaws.{clean_before, survives_both}
-use Rattle.njh_keeper.proofs.OpeningLaws.{come_back, found_in, opens, tells}
+use Rattle.njh_keeper.proofs.{LeadingLaws.{clean_before, survives_both}, StepLaws.{come_back, found_in, opens, tells}}
 use Rattle.njh_keeper.proofs.opening.open_from.Goals as goal
 
 pub returns-clause-hub : goal.returns-clause-hub

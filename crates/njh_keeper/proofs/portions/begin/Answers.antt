@@ -1,8 +1,8 @@
-use Rattle.std.proofs.Common.{◌≡◌, [], false, length, refl, true, ap, subst, ◌∙◌, arith}
-use Rattle.njh_spoolfile.{proofs.ReadingLaws.ok_then, specs.Shelf.shown}
-use Rattle.{njh_spool.specs.CustomerSpool.partial_records, njh_hub.specs.WholeHub.part}
-use Rattle.njh_keeper.proofs.{AlikeLaws.begun_same, LeadingLaws.leads_weaker, PortionLaws.keeps_first}
-use Rattle.njh_keeper.specs.{code.{Alike.Writes, Leading.Leads}, declared.own_files.KeptPartial.KeptPartial}
+use Rattle.njh_keeper.proofs.Words
+use Words.{◌≡◌, [], false, length, refl, true, ap, subst, ◌∙◌, arith, ok_then, shown, partial_records, part, Writes}
+use Words.{Leads, leads_weaker}
+use Rattle.njh_keeper.proofs.{AlikeLaws.begun_same, PortionLaws.keeps_first}
+use Rattle.njh_keeper.specs.declared.own_files.KeptPartial.{KeptPartial}
 use Rattle.njh_keeper.proofs.portions.begin.Goals as goal
 
 pub returns-clause-kept : goal.returns-clause-kept

@@ -1,8 +1,8 @@
-use Rattle.std.proofs.Common.{◌≡◌, ◌<◌, false, true, length, get_or, map, refl, sym, ap, ◌∙◌, arith}
-use Rattle.std.{proofs.lemmas.List.{get_or_default, length-map}, specs.Vec.with_item}
+use Rattle.njh_keeper.proofs.Words
+use Words.{◌≡◌, ◌<◌, false, true, length, get_or, map, refl, sym, ap, ◌∙◌, arith, get_or_default, length-map, with_item}
+use Words.{partial_of, IsSeen, IsUpToDate, sweep_of}
 use Rattle.njh_keeper.proofs.{PartlyLaws.halves_end, PortionLaws.{halves_gone, halves_shut, still_dropped}}
-use Rattle.njh_keeper.proofs.PortionLaws.{still_nothing, still_shut, still_then}
-use Rattle.njh_keeper.specs.code.{Memory.partial_of, Partly.{IsSameButPartial, IsSeen, IsUpToDate}, Writing.sweep_of}
+use Rattle.njh_keeper.{proofs.PortionLaws.{still_nothing, still_shut, still_then}, specs.code.Partly.IsSameButPartial}
 use Rattle.njh_keeper.specs.declared.own_files.{KeptPartial.KeptPartial, OwnFiles.OwnFiles}
 use Rattle.njh_keeper.proofs.portions.drop_given_up.Goals as goal
 

@@ -1,6 +1,6 @@
-use Rattle.{std.proofs.Common.{◌-◌, length}, njh_spool.specs.CustomerSpool.CustomerSpool}
-use Rattle.njh_keeper.{proofs.PartlyLaws.Halves, specs.code.Memory.own_of}
-use Rattle.njh_keeper.specs.code.Partly.{AllSeen, IsSeen, IsUpToDate, KeepsStill}
+use Rattle.njh_keeper.proofs.Words
+use Words.{◌-◌, length, CustomerSpool, own_of, AllSeen, IsSeen, IsUpToDate}
+use Rattle.njh_keeper.{proofs.PartlyLaws.Halves, specs.code.Partly.KeepsStill}
 use Rattle.njh_keeper.proofs.portions.drop_given_up.Given as goal
 
 abbrev pub decreases-loop-place : goal.decreases-loop-place

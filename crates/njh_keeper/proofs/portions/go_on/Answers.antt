@@ -1,8 +1,7 @@
-use Rattle.std.proofs.Common.{◌≡◌, ◌≤◌, length, refl, true, false, ap, subst, ◌∙◌, arith}
-use Rattle.{njh_spoolfile.specs.Shelf.shown, njh_spool.specs.CustomerSpool.partial_records}
-use Rattle.{njh_stream.specs.SpoolFiles.records_in, njh_hub.specs.WholeHub.part}
-use Rattle.njh_keeper.proofs.{LeadingLaws.{leads_nothing, leads_weaker}, PortionLaws.{found_at, keeps_more}}
-use Rattle.njh_keeper.{proofs.PortionLaws.{rest_is_written, waits_still}, specs.code.{Alike.Writes, Leading.Leads}}
+use Rattle.njh_keeper.proofs.Words
+use Words.{◌≡◌, ◌≤◌, length, refl, true, false, ap, subst, ◌∙◌, arith, shown, partial_records, records_in, part, Writes}
+use Words.{Leads, leads_nothing, leads_weaker}
+use Rattle.njh_keeper.proofs.PortionLaws.{found_at, keeps_more, rest_is_written, waits_still}
 use Rattle.njh_keeper.specs.declared.own_files.KeptPartial.{KeptPartial}
 use Rattle.njh_keeper.proofs.portions.go_on.Goals as goal
 

@@ -1,5 +1,5 @@
-use Rattle.{sqlite.specs.State.Survives, njh_spoolfile.specs.Shelf.shown, njh_hub.specs.WholeHub.part}
-use Rattle.njh_keeper.specs.code.Partly.{KeepsPartly}
+use Rattle.njh_keeper.proofs.Words
+use Words.{Survives, shown, part, KeepsPartly}
 use Rattle.njh_keeper.proofs.portions.keep_of_line.Given as goal
 
 -- nothing was committed, and records are kept of the files of the streams so far

@@ -1,10 +1,7 @@
-use Rattle.std.{proofs.Common.{map, sym, ap, subst, arith}, specs.List.AllByRecursion}
-use Rattle.{sqlite.specs.State.HasCleanDisk, njh_spoolfile.{proofs.ReadingLaws.ok_then, specs.Shelf.shown}}
-use Rattle.{njh_hub.specs.WholeHub.part, njh_turns.proofs.KeepingLaws.on_ok}
-use Rattle.njh_keeper.proofs.{CountingLaws.{inr_then, ok_both}, LeadingLaws.clean_before}
-use Rattle.njh_keeper.proofs.LeadingLaws.{survives_both}
-use Rattle.njh_keeper.proofs.PortionLaws.{closed_are_seen, keeps_still, keeps_then}
-use Rattle.njh_keeper.specs.code.{Counting.rows_of, Memory.{own_of, partial_of}, Partly.IsUpToDate}
+use Rattle.njh_keeper.proofs.Words
+use Words.{map, sym, ap, subst, arith, AllByRecursion, HasCleanDisk, ok_then, shown, part, own_of, partial_of}
+use Words.{IsUpToDate, on_ok, clean_before, survives_both, rows_of}
+use Rattle.njh_keeper.proofs.{CountingLaws.{inr_then, ok_both}, PortionLaws.{closed_are_seen, keeps_still, keeps_then}}
 use Rattle.njh_keeper.specs.declared.own_files.OwnFiles.{OwnFiles}
 use Rattle.njh_keeper.proofs.portions.keep_portions.Goals as goal
 

@@ -1,7 +1,7 @@
-use Rattle.std.proofs.{Common.{◌≡◌, sym, ap, ◌∙◌}, lemmas.List.{get_or_default, Elements.recursion_from_All}}
-use Rattle.{njh_header.specs.WholeFiles.HasHeaders, njh_spool.specs.CustomerSpool.WholeFile}
-use Rattle.{njh_stream.specs.SpoolFiles.records_in, njh_hub.specs.declared.file_summary.FileSummaryView.FileSummaryView}
-use Rattle.{njh_hub.specs.{Views.file_summary, WholeHub.part}, njh_keeper.proofs.NumberedLaws.all_at}
+use Rattle.njh_keeper.proofs.Words
+use Words.{◌≡◌, sym, ap, ◌∙◌, get_or_default, recursion_from_All, HasHeaders, WholeFile, records_in, FileSummaryView}
+use Words.{file_summary, part}
+use Rattle.njh_keeper.proofs.NumberedLaws.{all_at}
 use Rattle.njh_keeper.proofs.remembering.kept_at.Goals as goal
 
 pub returns-clause-remembers : goal.returns-clause-remembers

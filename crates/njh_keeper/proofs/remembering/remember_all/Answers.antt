@@ -1,10 +1,10 @@
 use Rattle.njh_keeper.proofs.Words
 use Words.{rules, ◌≡◌, ◌<◌, ◌++◌, true, [], ◌∷◌, length, map, string_bytes, refl, sym, ap, subst, ◌∙◌, arith}
 use Words.{get_or_default, length-map, map-append, take_more, AllByRecursion, shown, part, own_of, AreRemembered}
-use Words.{IsOwnOf, Remembering, entries, files_at, name_at, SpoolWriter, is_name_of}
-use Rattle.{std.proofs.lemmas.List.length-take, njh_keeper.proofs.LeadingLaws.{clean_before, leads_nothing, leads_then}}
-use Rattle.njh_keeper.proofs.{LeadingLaws.{survives_here, survives_both}, NumberedLaws.all-push}
-use Rattle.njh_keeper.proofs.OpeningCustomers.{none_remembered, one_more_remembered}
+use Words.{IsOwnOf, Remembering, entries, files_at, name_at, SpoolWriter, is_name_of, clean_before, leads_nothing}
+use Words.{leads_then, survives_here, survives_both}
+use Rattle.{std.proofs.lemmas.List.length-take, njh_keeper.proofs.{NumberedLaws.all-push, OpeningLists.none_remembered}}
+use Rattle.njh_keeper.proofs.OpeningLists.{one_more_remembered}
 use Rattle.njh_keeper.proofs.remembering.remember_all.Goals as goal
 
 pub loop-place-init : goal.loop-place-init

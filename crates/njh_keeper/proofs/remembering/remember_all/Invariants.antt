@@ -1,7 +1,7 @@
-use Rattle.std.{proofs.Common.{◌≡◌, true, map, take, string_bytes}, specs.List.AllByRecursion}
-use Rattle.{sqlite.specs.State.{HasCleanDisk, Survives}, njh_spoolfile.specs.Shelf.shown}
-use Rattle.njh_keeper.specs.code.{Leading.Leads, Memory.own_of, Opening.{RememberingAll, AllAreFound, entries}}
-use Rattle.njh_keeper.specs.Opened.{is_name_of}
+use Rattle.njh_keeper.proofs.Words
+use Words.{◌≡◌, true, map, take, string_bytes, AllByRecursion, HasCleanDisk, Survives, shown, Leads, own_of}
+use Words.{AllAreFound, entries, is_name_of}
+use Rattle.njh_keeper.specs.code.Opening.{RememberingAll}
 use Rattle.njh_keeper.proofs.remembering.remember_all.Given as goal
 
 -- so many customers' files are remembered

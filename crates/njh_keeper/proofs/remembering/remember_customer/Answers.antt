@@ -1,7 +1,7 @@
-use Rattle.{std.proofs.Common.{◌≡◌, true, [], map, string_bytes, ap, subst, ◌∙◌}, njh_spoolfile.specs.Shelf.shown}
-use Rattle.{njh_hub.specs.WholeHub.part, njh_keeper.proofs.{LeadingLaws.leads_weaker, OpeningLists.remembered}}
-use Rattle.njh_keeper.specs.code.{Leading.Leads, Memory.{own_of, partial_of, sweep_in, whole_of}}
-use Rattle.njh_keeper.specs.{code.Opening.{Reads, entries, owned_of}, Opened.is_name_of}
+use Rattle.njh_keeper.proofs.Words
+use Words.{◌≡◌, true, [], map, string_bytes, ap, subst, ◌∙◌, shown, part, Leads, own_of, partial_of, sweep_in, whole_of}
+use Words.{Reads, entries, owned_of, is_name_of, leads_weaker}
+use Rattle.njh_keeper.proofs.OpeningLists.{remembered}
 use Rattle.njh_keeper.proofs.remembering.remember_customer.Goals as goal
 
 pub returns-clause-own : goal.returns-clause-own

@@ -1,7 +1,7 @@
 use Rattle.njh_keeper.proofs.Words
 use Words.{rules, ◌≡◌, ◌+◌, true, [], ◌∷◌, drop, map, string_bytes, refl, sym, ap, subst, ◌∙◌, arith, drop_all}
-use Words.{drop_more, entry_of, shown, part, Leads, whole_of, Reads, entries, owned_of, is_name_of}
-use Rattle.njh_keeper.proofs.LeadingLaws.{clean_before, leads_nothing, leads_then, survives_both, survives_here}
+use Words.{drop_more, entry_of, shown, part, Leads, whole_of, Reads, entries, owned_of, is_name_of, clean_before}
+use Words.{leads_nothing, leads_then, survives_both, survives_here}
 use Rattle.njh_keeper.proofs.remembering.remember_files.Goals as goal
 
 pub loop-at-init : goal.loop-at-init

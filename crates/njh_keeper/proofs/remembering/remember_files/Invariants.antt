@@ -1,6 +1,6 @@
-use Rattle.{std.proofs.Common.{◌≡◌, true, drop, map, string_bytes}, sqlite.specs.State.{HasCleanDisk, Survives}}
-use Rattle.{njh_spoolfile.specs.Shelf.shown, njh_hub.specs.WholeHub.part, njh_keeper.specs.code.Leading.Leads}
-use Rattle.njh_keeper.specs.{code.{Memory.whole_of, Opening.{AreFound, Reads, entries, owned_of}}, Opened.is_name_of}
+use Rattle.njh_keeper.proofs.Words
+use Words.{◌≡◌, true, drop, map, string_bytes, HasCleanDisk, Survives, shown, part, Leads, whole_of, AreFound, Reads}
+use Words.{entries, owned_of, is_name_of}
 use Rattle.njh_keeper.proofs.remembering.remember_files.Given as goal
 
 -- the customer's rows among the first so many were read

@@ -1,7 +1,6 @@
-use Rattle.std.proofs.Common.{◌≡◌, ℕ, Bool, true, false, cond, List, ◌∷◌, map, sym, ap, subst, ◌∙◌}
-use Rattle.{std.proofs.lemmas.Result.on_ok_weaker, njh_spoolfile.specs.{Kept.{File, entry_of}, Shelf.shown}}
-use Rattle.{njh_hub.specs.WholeHub.part, njh_keeper.{proofs.LeadingLaws.leads_nothing, specs.code.Leading.Leads}}
-use Rattle.njh_keeper.specs.{code.{Memory.whole_of, Opening.{IsRead, Reads, owned_of}}, Opened.{is_name_of, is_own}}
+use Rattle.njh_keeper.proofs.Words
+use Words.{◌≡◌, ℕ, Bool, true, false, cond, List, ◌∷◌, map, sym, ap, subst, ◌∙◌, on_ok_weaker, File, entry_of, shown}
+use Words.{part, Leads, whole_of, IsRead, Reads, owned_of, is_name_of, is_own, leads_nothing}
 use Rattle.njh_keeper.proofs.remembering.remember_if_own.Goals as goal
 
 pub returns-then-reads_as-clause-led : goal.returns-then-reads_as-clause-led

@@ -1,9 +1,8 @@
 use Rattle.njh_keeper.proofs.Words
 use Words.{rules, ◌≡◌, ◌<◌, ◌++◌, List, [], ◌∷◌, length, get_or, map, sym, ap, subst, ◌∙◌, arith, get_or_default}
 use Words.{length-map, map-append, on_ok_weaker, SpoolContents, entry_of, with_changed, FileSummaryView, file_summary}
-use Words.{part, is_held, whole_of, IsRead, KeptWhole, Remembers}
-use Rattle.njh_keeper.proofs.{LeadingLaws.{leads_by, leads_nothing, leads_weaker}, OpeningLists.goes_on_anew}
-use Rattle.njh_keeper.proofs.OpeningLists.{goes_on_same, next_read}
+use Words.{part, is_held, whole_of, IsRead, KeptWhole, Remembers, leads_by, leads_nothing, leads_weaker}
+use Rattle.njh_keeper.proofs.OpeningLists.{goes_on_anew, goes_on_same, next_read}
 use Rattle.njh_keeper.proofs.remembering.remember_one.Goals as goal
 
 pub returns-then-is_held-stored-clause-led : goal.returns-then-is_held-stored-clause-led

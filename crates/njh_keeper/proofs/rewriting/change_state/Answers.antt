@@ -1,12 +1,11 @@
 use Rattle.njh_keeper.proofs.Words
-use Words.{◌≡◌, ◌<◌, arith, true, None, length, get_or, set, map, refl, sym, ap, subst, ◌∙◌, get_or_default}
-use Words.{map-set, with_item, HasCleanDisk, shown, is_held, GoesTo, memory_of, numbers_of, whole_of}
-use Words.{AreOne, named_nodes, SpoolWriter}
-use Rattle.njh_keeper.proofs.rewriting.change_state.Goals.{then-changes_hold+in_ok-change_row, else-changes_hold}
-use Rattle.njh_keeper.proofs.CountingLaws.{rows_as_one_changes}
-use Rattle.njh_keeper.proofs.{LeadingLaws.{leads_by, leads_nothing, leads_weaker}, ListLaws.{at_place, within_seen}}
-use Rattle.njh_keeper.proofs.QuietLaws.{quiet_changed, quiet_same}
-use Rattle.njh_keeper.proofs.StillLaws.{held_goes, kept_goes, memory_changed, now_kept}
+use Words.{◌≡◌, ◌<◌, arith, true, None, length, get_or, set, map, refl, sym, ap, subst, ◌∙◌, get_or_default, map-set}
+use Words.{with_item, HasCleanDisk, shown, is_held, GoesTo, memory_of, numbers_of, whole_of, AreOne, named_nodes}
+use Words.{SpoolWriter, leads_by, leads_nothing, leads_weaker}
+use Rattle.njh_keeper.proofs.{CountingLaws.rows_as_one_changes, FollowingLaws.{quiet_changed, quiet_same}}
+use Rattle.njh_keeper.proofs.{ListLaws.{at_place, within_seen}, StillLaws.{held_goes, kept_goes, memory_changed}}
+use Rattle.njh_keeper.proofs.{StillLaws.now_kept, rewriting.change_state.Goals.then-changes_hold+in_ok-change_row}
+use Rattle.njh_keeper.proofs.rewriting.change_state.Goals.{else-changes_hold}
 use Rattle.njh_keeper.proofs.rewriting.change_state.Goals as goal
 
 pub returns-clause-led : goal.returns-clause-led

@@ -1,5 +1,5 @@
 use Rattle.{std.proofs.Common.{None, sym, subst}, njh_spoolfile.proofs.ReadingLaws.ok_then}
-use Rattle.njh_keeper.{proofs.QuietLaws.quiet_changed, specs.code.Nodes.{AreOne, named_nodes}}
+use Rattle.njh_keeper.{proofs.FollowingLaws.quiet_changed, specs.code.Nodes.{AreOne, named_nodes}}
 use Rattle.njh_keeper.proofs.rewriting.follow_one.Goals as goal
 
 pub returns-then-is_rewritten-clause-led : goal.returns-then-is_rewritten-clause-led

@@ -1,9 +1,9 @@
 use Rattle.njh_keeper.proofs.Words
 use Words.{◌≡◌, ◌<◌, SpoolWriter, arith, false, true, length, get_or, set, refl, sym, ap, subst, ◌∙◌, get_or_default}
-use Words.{map-set, with_item, FileSummaryView, Writes, GoesTo, memory_of, numbers_of, whole_of}
-use Rattle.njh_keeper.proofs.CountingLaws.{rows_as_one_changes}
-use Rattle.njh_keeper.proofs.{LeadingLaws.{clean_before, leads_by, leads_then, survives_both}, ListLaws.at_place}
-use Rattle.njh_keeper.proofs.{ListLaws.within_seen, StillLaws.{memory_changed, now_rewritten, rewritten_goes}}
+use Words.{map-set, with_item, FileSummaryView, Writes, GoesTo, memory_of, numbers_of, whole_of, clean_before, leads_by}
+use Words.{leads_then, survives_both}
+use Rattle.njh_keeper.proofs.{CountingLaws.rows_as_one_changes, ListLaws.{at_place, within_seen}}
+use Rattle.njh_keeper.proofs.StillLaws.{memory_changed, now_rewritten, rewritten_goes}
 use Rattle.njh_keeper.proofs.rewriting.rewrite_one.Goals as goal
 
 pub returns-clause-led : goal.returns-clause-led

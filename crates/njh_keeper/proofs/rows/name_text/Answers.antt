@@ -1,8 +1,8 @@
-use Rattle.std.proofs.Common.{◌≡◌, ℕ, Bool, true, false, List, bytes_eq, string_bytes, Result, Ok, Err, IfOk, refl, ap}
-use Rattle.std.proofs.{Common.{subst, ◌∙◌}, lemmas.{Result.IfOk-weaker, Slice.Eq.bytes_eq-Decides}}
+use Rattle.njh_keeper.proofs.Words
+use Words.{◌≡◌, ℕ, Bool, true, false, List, bytes_eq, string_bytes, Result, Ok, Err, IfOk, refl, ap, subst, ◌∙◌}
+use Words.{IfOk-weaker, bytes_eq-Decides, NameFault, is_name, is_name_of}
 use Rattle.{std.specs.Prelude.IsTrue, njh_ebcdic.proofs.ReadBack.name_of_text-shown_text}
-use Rattle.{njh_ebcdic.specs.{declared.name.NameFault.NameFault, Names.is_name}, njh_keeper.specs.code.Shown.field_text}
-use Rattle.njh_keeper.specs.Opened.{is_name_of}
+use Rattle.njh_keeper.specs.code.Shown.{field_text}
 use Rattle.njh_keeper.proofs.rows.name_text.Goals as goal
 
 pub returns : goal.returns

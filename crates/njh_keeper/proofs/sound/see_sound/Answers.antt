@@ -1,5 +1,5 @@
-use Rattle.{std.proofs.{Common.{◌≡◌, inl, inr, subst, arith}, lemmas.Bool.cases_lt}, njh_spool.specs.Spools.IsSound}
-use Rattle.{njh_stream.specs.WholeFiles.HaveHeaders, njh_hub.specs.WholeHub.part}
+use Rattle.njh_keeper.proofs.Words
+use Words.{◌≡◌, inl, inr, subst, arith, cases_lt, IsSound, HaveHeaders, part}
 use Rattle.njh_keeper.proofs.sound.see_sound.Goals as goal
 
 pub loop-at-preserved : goal.loop-at-preserved

@@ -1,5 +1,5 @@
-use Rattle.{std.proofs.Common.{ℕ, ◌<◌}, njh_spool.specs.Spools.IsSound, njh_stream.specs.WholeFiles.HaveHeaders}
-use Rattle.njh_hub.specs.WholeHub.{part}
+use Rattle.njh_keeper.proofs.Words
+use Words.{ℕ, ◌<◌, IsSound, HaveHeaders, part}
 use Rattle.njh_keeper.proofs.sound.see_sound.Given as goal
 
 -- so it is of those before this one

@@ -1,7 +1,7 @@
-use Rattle.std.proofs.{Common.{◌≡◌, ◌<◌, get_or, length, map, set, refl, subst, sym, arith}, lemmas.List.map-set}
-use Rattle.{std.specs.Vec.with_item, njh_keeper.proofs.{KnownLaws.{known_after, ok_given}, LeadingLaws.clean_before}}
-use Rattle.njh_keeper.{proofs.ListLaws.{at_place, within_seen}, specs.code.Memory.own_memory_of}
-use Rattle.njh_keeper.specs.Keeper.{KnowsHub}
+use Rattle.njh_keeper.proofs.Words
+use Words.{◌≡◌, ◌<◌, get_or, length, map, set, refl, subst, sym, arith, map-set, with_item, KnowsHub, own_memory_of}
+use Words.{clean_before, on_ok}
+use Rattle.njh_keeper.proofs.{KnownLaws.{known_after, ok_given}, ListLaws.{at_place, within_seen}}
 use Rattle.njh_keeper.proofs.keeper.SpoolKeeper.follow_files.Goals as goal
 
 pub returns-clause-known : goal.returns-clause-known
@@ -14,12 +14,11 @@ returns-clause-known g c before leads knows =
     let there : i < length items = omega (arith, c.if-from-len.false, c.from.ensures, c.len.ensures, c.from-2.ensures)
     in
     let within : i < length (map own_memory_of items) = within_seen own_memory_of items i there in
-    ok_given c.keep_step.result _ _ _ (c.keep_step.ensures.led c.files_are_sound.ensures.sound
-    c.files_are_sound.ensures.headers) (λ led clean began found.
-    known_after g.S.Store _ _ before c.args.hub.now c.args.customer
-    (knew (clean_before c.keep_step.ensures.crash clean) began found) leads
-    c.files_are_sound.ensures.sound c.files_are_sound.ensures.headers
-    (own_memory_of own) (own_memory_of own2) (subst (λ n. n < length (map own_memory_of items)) c.from-2.ensures within)
+    ok_given c.keep_step.result (Unit {0}) _ _ _ (on_ok c.keep_step.result tt) (c.keep_step.ensures.led
+    c.files_are_sound.ensures.sound c.files_are_sound.ensures.headers) (λ one led clean began found.
+    known_after g.S.Store _ _ before c.args.customer (knew (clean_before c.keep_step.ensures.crash clean) began found)
+    (subst (λ n. n < length (map own_memory_of items)) c.from-2.ensures within) c.args.hub.now leads
+    c.files_are_sound.ensures.sound c.files_are_sound.ensures.headers (own_memory_of own) (own_memory_of own2)
     (subst (λ n. own_memory_of own ≡ get_or (map own_memory_of items) n (own_memory_of own)) c.from-2.ensures
     (at_place own_memory_of items i own there c.index_mut-own.ensures.value))
     (subst (λ n. map own_memory_of (with_item c.self.inside.customers i own2).items ≡ set (map own_memory_of items) n

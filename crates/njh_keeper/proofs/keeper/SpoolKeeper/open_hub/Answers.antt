@@ -1,10 +1,9 @@
 use Rattle.njh_keeper.proofs.Words
-use Words.{◌≡◌, List, length, map, Result, Ok, Err, IfOk, OnOk, sym, ap, subst, ◌∙◌, arith, IfOk-weaker, AllByRecursion}
-use Words.{HasCleanDisk, State, CommitState, Stands, Holds, StandsAsFound, shown, AreDistinct, HasShortRests, Part}
-use Words.{SameLines, part_at_open, DepotFault, AllAreFound, AllAreRead, IsSettledFrom, KnowsHub, KnowsNow}
+use Words.{List, map, sym, ap, subst, ◌∙◌, arith, IfOk-weaker, HasCleanDisk, State, CommitState, Stands, Holds}
+use Words.{StandsAsFound, shown, AreDistinct, Part, SameLines, part_at_open, KnowsNow, clean_before, on_ok}
 use Rattle.{std.proofs.lemmas.Result.IfErr-weaker, njh_hub.specs.Parts.entries_of}
-use Rattle.njh_keeper.proofs.{KnownLaws.{ok_always, opened_so, stood_still}, LeadingLaws.clean_before}
-use Rattle.njh_keeper.{proofs.OpeningLaws.noted_so, specs.Keeper.IsCommitted}
+use Rattle.njh_keeper.proofs.{KnownLaws.{opened_so, stood_still, if_ok_given}, StepLaws.noted_so}
+use Rattle.njh_keeper.specs.Keeper.{IsCommitted}
 use Rattle.njh_keeper.proofs.keeper.SpoolKeeper.open_hub.Goals as goal
 
 pub returns-clause-opened : goal.returns-clause-opened
@@ -21,20 +20,9 @@ returns-clause-opened g c =
     }) c.remember_hub.ensures.hub
 
 pub returns-clause-settled : goal.returns-clause-settled
-returns-clause-settled g c = by c.remember_hub.result c.remember_hub.ensures.hub c.remember_hub.ensures.names
-    c.remember_hub.ensures.kept
-  where
-    by : (r : Result (List Part) DepotFault) → IfOk r (λ remembered. remembered ≡ c.in-Ok-open_from.hub)
-        → OnOk r (c.remember_hub.new.self.names ≡ c.in-Ok.names.items)
-        → (HasCleanDisk (shown g.S.Store c.remember_hub.new.self.store)
-        → OnOk r ((s : CommitState) → Stands s (shown g.S.Store c.open_from.new.store) → AreDistinct c.in-Ok.names.items
-        → AllAreFound c.in-Ok.names.items c.in-Ok-open_from.hub
-        → AllAreRead c.in-Ok.names.items c.in-Ok-open_from.hub s.now
-        → length c.in-Ok.names.items ≡ length c.in-Ok-open_from.hub
-        → IsCommitted g.S.Store c.remember_hub.new.self c.in-Ok-open_from.hub))
-        → IfOk r (λ hub. IsSettledFrom g.S.Store c.args.self.now c.remember_hub.new.self c.args.tables hub)
-    by (Err e) same names kept = tt
-    by (Ok hub) same names kept = record {
+returns-clause-settled g c =
+    if_ok_given c.remember_hub.result _ _ _ _ _ c.remember_hub.ensures.names c.remember_hub.ensures.kept
+    c.remember_hub.ensures.hub (λ hub names kept same. record {
       names = names ∙ c.in-Ok.ensures.each;
       committed = λ clean s given.
           let stands = subst (λ (at : State). Stands s at) (ap (λ k. shown g.S.Store k.store) (sym c.self.view_is))
@@ -45,35 +33,26 @@ returns-clause-settled g c = by c.remember_hub.result c.remember_hub.ensures.hub
           in subst (λ (ps : List Part). IsCommitted g.S.Store c.remember_hub.new.self ps) (sym same)
           (kept clean s (stood_still s _ _ (c.in-Ok-open_from.ensures.same early) stands)
           (subst AreDistinct (sym c.in-Ok.ensures.each) c.names_of.ensures.accepted.names) so.0 so.1 so.2);
-    }
+    })
 
 pub returns-clause-known : goal.returns-clause-known
-returns-clause-known g c = by c.remember_hub.result c.remember_hub.ensures.hub c.remember_hub.ensures.known
-  where
-    by : (r : Result (List Part) DepotFault) → IfOk r (λ remembered. remembered ≡ c.in-Ok-open_from.hub)
-        → (HasCleanDisk (shown g.S.Store c.remember_hub.new.self.store)
-        → OnOk r ((s : CommitState) → Stands s (shown g.S.Store c.open_from.new.store) → AreDistinct c.in-Ok.names.items
-        → AllAreFound c.in-Ok.names.items c.in-Ok-open_from.hub
-        → AllAreRead c.in-Ok.names.items c.in-Ok-open_from.hub s.now
-        → length c.in-Ok.names.items ≡ length c.in-Ok-open_from.hub → AllByRecursion HasShortRests c.in-Ok-open_from.hub
-        → KnowsNow g.S.Store c.remember_hub.new.self c.in-Ok-open_from.hub))
-        → IfOk r (λ hub. KnowsHub g.S.Store g.S.Origin.found c.remember_hub.new.self hub)
-    by (Err e) same known = tt
-    by (Ok hub) same known = λ clean began found.
-        let s : CommitState = record { now = began; kept = began } in
-        let early = clean_before c.remember_hub.ensures.crash clean in
-        let first : HasCleanDisk (shown g.S.Store c.self.inside.writer.store) =
-        omega (arith, early, c.open_from.ensures.crash.clean) in
-        let stands = c.self.invariant c.if-not-self.false first began found in
-        let so = opened_so c.args.tables began c.in-Ok.names.items c.in-Ok-open_from.hub c.in-Ok.ensures.each
-        (c.in-Ok-open_from.ensures.hub early began stands.now) (c.in-Ok-open_from.ensures.back early began stands.now)
-        in subst (λ (ps : List Part). KnowsNow g.S.Store c.remember_hub.new.self ps) (sym same)
-        (known clean s (stood_still s _ _ (c.in-Ok-open_from.ensures.same early) stands)
-        (subst AreDistinct (sym c.in-Ok.ensures.each) c.names_of.ensures.accepted.names) so.0 so.1 so.2 so.3)
+returns-clause-known g c =
+    if_ok_given c.remember_hub.result _ _ _ _ _ c.remember_hub.ensures.names c.remember_hub.ensures.known
+    c.remember_hub.ensures.hub (λ hub names known same clean began found.
+    let s : CommitState = record { now = began; kept = began } in
+    let early = clean_before c.remember_hub.ensures.crash clean in
+    let first : HasCleanDisk (shown g.S.Store c.self.inside.writer.store) =
+    omega (arith, early, c.open_from.ensures.crash.clean) in
+    let stands = c.self.invariant c.if-not-self.false first began found in
+    let so = opened_so c.args.tables began c.in-Ok.names.items c.in-Ok-open_from.hub c.in-Ok.ensures.each
+    (c.in-Ok-open_from.ensures.hub early began stands.now) (c.in-Ok-open_from.ensures.back early began stands.now) in
+    subst (λ (ps : List Part). KnowsNow g.S.Store c.remember_hub.new.self ps) (sym same)
+    (known clean s (stood_still s _ _ (c.in-Ok-open_from.ensures.same early) stands)
+    (subst AreDistinct (sym c.in-Ok.ensures.each) c.names_of.ensures.accepted.names) so.0 so.1 so.2 so.3))
 
 pub returns-clause-stood : goal.returns-clause-stood
 returns-clause-stood g c =
-    ok_always c.remember_hub.result _ (subst (λ k. StandsAsFound g.S.Store g.S.Origin.found k.store) c.self.view_is
+    on_ok c.remember_hub.result (subst (λ k. StandsAsFound g.S.Store g.S.Origin.found k.store) c.self.view_is
     (c.self.invariant c.if-not-self.false))
 
 pub returns-in-Err-open_from-clause-refused : goal.returns-in-Err-open_from-clause-refused

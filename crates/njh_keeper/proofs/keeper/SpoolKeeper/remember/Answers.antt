@@ -1,7 +1,7 @@
-use Rattle.{std.proofs.Common.{◌≡◌, length, refl, sym, ap, subst, ◌∙◌, arith}, njh_spoolfile.specs.CommitState.Stands}
-use Rattle.{njh_spoolfile.specs.Shelf.shown, njh_table.specs.Accepted.AreDistinct}
-use Rattle.njh_keeper.{proofs.{KnownLaws.begun_known, OpeningSettled.left_after}, specs.code.Memory.numbers_of}
-use Rattle.njh_keeper.specs.{code.Opening.{AllAreFound, AllAreRead}, Keeper.left_in}
+use Rattle.njh_keeper.proofs.Words
+use Words.{◌≡◌, length, refl, sym, ap, subst, ◌∙◌, arith, Stands, shown, AreDistinct, numbers_of, AllAreFound}
+use Words.{AllAreRead, left_in}
+use Rattle.njh_keeper.proofs.{BegunLaws.left_after, KnownLaws.begun_known}
 use Rattle.njh_keeper.proofs.keeper.SpoolKeeper.remember.Goals as goal
 
 pub returns-clause-kept : goal.returns-clause-kept

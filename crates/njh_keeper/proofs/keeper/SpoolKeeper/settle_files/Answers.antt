@@ -1,4 +1,4 @@
-use Rattle.{std.proofs.Common.refl, njh_keeper.proofs.KeeperLaws.commit_leaves}
+use Rattle.{std.proofs.Common.refl, njh_keeper.proofs.OneSpool.commit_leaves}
 use Rattle.njh_keeper.proofs.keeper.SpoolKeeper.settle_files.Goals as goal
 
 pub returns-clause-crash : goal.returns-clause-crash

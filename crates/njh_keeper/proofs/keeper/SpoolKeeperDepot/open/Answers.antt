@@ -1,7 +1,7 @@
-use Rattle.{std.proofs.Common.{List, Result, Ok, Err, IfOk, OnOk, ◌∙◌}, sqlite.specs.State.HasCleanDisk}
-use Rattle.{njh_spoolfile.specs.{Origin.StandsAsFound, Shelf.shown}, njh_hub.specs.WholeHub.Part}
-use Rattle.njh_turns.specs.{declared.depot.DepotFault.DepotFault, Keeping.IsSettled}
-use Rattle.njh_keeper.specs.Keeper.{IsSettledFrom, KnowsHub, MayLeaveOf}
+use Rattle.njh_keeper.proofs.Words
+use Words.{List, Result, Ok, Err, IfOk, OnOk, ◌∙◌, HasCleanDisk, StandsAsFound, shown, Part, DepotFault, IsSettledFrom}
+use Words.{KnowsHub, MayLeaveOf}
+use Rattle.njh_turns.specs.Keeping.{IsSettled}
 use Rattle.njh_keeper.proofs.keeper.SpoolKeeperDepot.open.Goals as goal
 
 pub returns-clause-settled : goal.returns-clause-settled
