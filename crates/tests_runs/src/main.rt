@@ -5,8 +5,9 @@
 
 use njh_program::{Failure, Spooling, carry_out};
 use std::alloc::Global;
+use std::fs::File;
 use std::io;
-use std::net::Net;
+use std::net::{Net, TcpListener, TcpStream};
 use std::process::ExitCode;
 use std::rt::{Clock, Env, Files};
 use tests_trials::{Log, Program, Run, try_all};
@@ -21,6 +22,7 @@ impl<R: Files + Spooling + Net + Clock + AllocGlobal> Program for WholeProgram<'
     fn run(&self, words: &[&str], run: &mut Run<'_>) -> io::Result<u8> {
         let log = Log {
             bytes: &mut run.logged,
+            peer: &mut run.peer,
         };
         match carry_out(self.rt, words, &mut run.source, &mut run.drain, log) {
             Ok(()) => Ok(0),
@@ -44,10 +46,17 @@ fn keep_failure(alloc: Global, failure: &Failure, run: &mut Run<'_>) -> io::Resu
 }
 
 /// Tries all, and then is the program itself.
-fn play<R: Env + Files + Spooling + Net + Clock + Input + Print + AllocGlobal, E: Print>(
-    rt: &R,
-    errors: &E,
-) -> ExitCode {
+fn play<
+    R: Env
+        + Files<File = File>
+        + Spooling
+        + Net<Listener = TcpListener, Stream = TcpStream>
+        + Clock
+        + Input
+        + Print
+        + AllocGlobal,
+    E: Print,
+>(rt: &R, errors: &E) -> ExitCode {
     match try_all(rt, &WholeProgram { rt }) {
         Ok(()) => njh_program::run(rt, errors),
         Err(error) => njh_program::end(Err(Failure::from(error)), errors),

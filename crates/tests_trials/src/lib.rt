@@ -4,6 +4,9 @@
 //! the program is given to read, what it must print, and its status. Then each option that the
 //! program's help tells of is looked for in the man page.
 //!
+//! A run may have a peer, who plays a line that the program dials, and more may be asked of its spool
+//! file than what the program says of it.
+//!
 //! Nothing is known of the program but how it is called, so this is proved beside it. `tests_runs`
 //! calls it, and has the stored runs.
 #![tactic(auto)]
@@ -11,9 +14,12 @@
 mod likeness;
 mod man_page;
 mod mishaps;
+mod peer;
+mod plays;
 mod program;
 mod registry;
 mod runs;
+mod spool_file;
 mod streams;
 mod texts;
 mod trial;

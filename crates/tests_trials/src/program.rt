@@ -2,7 +2,9 @@
 
 use crate::streams::Run;
 use crate::{man_page, runs};
+use std::fs::File;
 use std::io;
+use std::net::{Net, TcpListener, TcpStream};
 use std::rt::Files;
 
 /// A program that is tried.
@@ -12,7 +14,10 @@ pub trait Program {
 }
 
 /// Tries all that is stored, and prints what came of it.
-pub fn try_all<R: Files + Print + AllocGlobal, P: Program>(rt: &R, program: &P) -> io::Result<()> {
+pub fn try_all<
+    R: Files<File = File> + Net<Listener = TcpListener, Stream = TcpStream> + Print + AllocGlobal,
+    P: Program,
+>(rt: &R, program: &P) -> io::Result<()> {
     runs::compare_all(rt, program)?;
     man_page::compare(rt, program)
 }

@@ -63,6 +63,17 @@ impl<'a> Entry<'a> {
         Ok(words)
     }
 
+    /// What else is asked of the run: what stands behind these words in its part of `how`, if they
+    /// are there.
+    pub fn asked(&self, words: &str) -> Option<&'a str> {
+        for part in self.how.split(", ") {
+            if let Some(rest) = part.strip_prefix(words) {
+                return Some(rest);
+            }
+        }
+        None
+    }
+
     /// Whether the script is about this: where it begins with a comment, that begins so.
     pub fn is_said_by(&self, script: &[u8]) -> bool {
         match script.strip_prefix(b"# ") {

@@ -2,6 +2,7 @@
 
 ghost use Rattle.std.specs.Prelude.{◌≤◌, IfOk};
 
+use crate::peer::Peer;
 use std::alloc::{AllocError, Global};
 use std::io;
 use std::io::{ErrorKind, Read, Write};
@@ -101,13 +102,18 @@ impl Write for Drain {
 
 /// A log in memory.
 #[derive(Drop)]
-pub struct Log<'a> {
+pub struct Log<'a, 'b> {
     pub bytes: &'a mut Vec<u8>,
+    /// The run's peer, who looks at each line whether the program is connected.
+    pub peer: &'a mut Option<Peer<'b>>,
 }
 
-impl Write for Log<'_> {
+impl Write for Log<'_, '_> {
     fn write(&mut self, buf: &[u8]) -> io::Result<usize> {
         self.bytes.extend_from_slice(buf)?;
+        if let Some(peer) = self.peer.as_mut() {
+            peer.look();
+        }
         Ok(buf.len())
     }
 
@@ -127,6 +133,8 @@ pub struct Run<'a> {
     pub line: String,
     /// What `clap` says of arguments that are refused, or where help is asked for.
     pub refusal: String,
+    /// Who plays a line that the program dials, if somebody does.
+    pub peer: Option<Peer<'a>>,
 }
 
 impl<'a> Run<'a> {
@@ -144,6 +152,22 @@ impl<'a> Run<'a> {
             logged: Vec::new(alloc),
             line: String::new(alloc),
             refusal: String::new(alloc),
+            peer: None,
+        }
+    }
+
+    /// A run over a script beside a peer.
+    pub(crate) fn beside(alloc: Global, script: &'a [u8], peer: Peer<'a>) -> Run<'a> {
+        let mut run = Run::new(alloc, script, Calls::good(), Calls::good());
+        run.peer = Some(peer);
+        run
+    }
+
+    /// All that the peer was sent, once the program has ended.
+    pub(crate) fn heard(&mut self, alloc: Global) -> Result<Vec<u8>, AllocError> {
+        match self.peer.as_mut() {
+            Some(peer) => peer.heard(alloc),
+            None => Ok(Vec::new(alloc)),
         }
     }
 
