@@ -2,7 +2,8 @@
 use Rattle.njh_keeper.proofs.Words
 use Words.{◌≡◌, ℕ, ◌+◌, ◌-◌, ◌<◌, ◌≤◌, ◌^◌, ◌==◌, min, nat_le, nat_lt, Bool, true, false, cond, List, [], ◌∷◌, length}
 use Words.{get_or, inl, inr, refl, sym, ap, subst, ◌∙◌, arith, cases_Bool, eqb-false, nat_tests, AllByRecursion}
-use Words.{StoredFile, File, SpoolContents, entry_of, records_of, without_records, AreDistinct, Part, AreFilesApart, have_low_ids}
+use Words.{StoredFile, File, SpoolContents, entry_of, records_of, without_records, AreDistinct, Part, AreFilesApart}
+use Words.{have_low_ids}
 use Words.{IsOrdered, own_rows, AreRemembered, HasBegun, IsOpened, entries, files_at, keyed_rows, name_at, KeptWhole}
 use Words.{Numbers, OwnFiles, keyed, one_if, emptied_at, free_at, id_behind, is_used, key_behind, without_keys}
 use Rattle.njh_keeper.proofs.{FrameLaws.drops_records, ListLaws.{all_both, all-map}, MirrorLaws.mirrored_still}

@@ -109,7 +109,7 @@ impl NextRow {
         self.write(writer)?;
         self.place += self.count;
         self.count = 0;
-        self.pack = Pack::new();
+        self.pack.clear();
         Ok(())
     }
 

@@ -33,7 +33,8 @@ use Rattle.sqlite.specs.Clock.{timed}
 use Rattle.sqlite.proofs.Callers.{command_of, statement_of, runs_as, one_step}
 use Rattle.sqlite_keyed.proofs.ListLemmas.{all-filter}
 use Rattle.njh_spoolfile.specs.declared.versions.Version.TheVariants.{Current}
-use Rattle.njh_spoolfile.specs.Kept.{IsOf, IsNumbered, File, Record, file_values, file_row, flag, record_values, record_row}
+use Rattle.njh_spoolfile.specs.Kept.{IsOf, IsNumbered, File, Record, file_values, file_row, flag, record_values}
+use Rattle.njh_spoolfile.specs.Kept.{record_row}
 use Rattle.njh_spoolfile.specs.Kept.{record_number, with_file, with_record, without_file, without_records}
 use Rattle.njh_spoolfile.specs.Tables.{spool_schema, files_table, records_table}
 use Rattle.sqlite_catalog.specs.Listing.{IsSound}

@@ -32,6 +32,7 @@ unpacked_up_to (suc most) bytes = elim (first_packed bytes) [
   | Some first ↦ first.0 ∷ elim first.1 [ [] ↦ [] | b ∷ bs ↦ unpacked_up_to most first.1 ]
 ]
 
+-- Each has three bytes at least, so there are no more than bytes.
 abbrev pub unpacked : List ℕ → List (ℕ × List ℕ)
 unpacked bytes = unpacked_up_to (length bytes) bytes
 

@@ -1,6 +1,7 @@
 //! What becomes of the list of whole files, and what is left of it.
 
-ghost use Rattle.std.specs.Prelude.{◌≡◌, ◌<◌, ◌≤◌, ◌^◌, ◌==◌, ◌++◌, [], ◌∷◌, ℕ, Bool, not, true, false, if◌then◌else◌};
+ghost use Rattle.std.specs.Prelude.{◌≡◌, ◌<◌, ◌≤◌, ◌^◌, ◌==◌, ◌++◌, [], ◌∷◌, ℕ, Bool, List, not, true, false};
+ghost use Rattle.std.specs.Prelude.{if◌then◌else◌};
 ghost use Rattle.std.specs.Prelude.{filter, map, IsTrue};
 ghost use Rattle.std.specs.List.{AllByRecursion};
 ghost use Rattle.sqlite.specs.Files.{file_state, HoldsDatabase};
@@ -16,6 +17,7 @@ ghost use Rattle.njh_spoolfile.specs.Kept.{record_number, with_file, with_change
 ghost use Rattle.njh_spoolfile.specs.Kept.{without_records};
 ghost use Rattle.njh_spoolfile.specs.Lists.{IsFree, has_file, kept_where};
 ghost use Rattle.njh_spoolfile.specs.Origin.{IsFoundIn};
+ghost use Rattle.njh_spoolfile.specs.Packed.{packed, several, stands_alone, unpacked_row};
 ghost use Rattle.njh_spoolfile.specs.Reopened.{OpensFrom};
 ghost use Rattle.njh_spoolfile.specs.declared.versions.Version.{Version};
 
@@ -64,6 +66,13 @@ pub fn others_do_not_show()
     ensures { (passes : File → Bool) (id : ℕ) (file : File) (spool : SpoolContents)
         → AllByRecursion (λ e. e.0 < id) spool.files → passes file ≡ false
         → kept_where passes (with_file id file spool) ≡ kept_where passes spool }
+{}
+
+/// Records that are packed in a row are read back from it, each as it was. Of a row that stands
+/// alone this is so by its definition.
+pub fn what_is_packed_is_read_back()
+    ensures { (r : ℕ × List ℕ) (rs : List (ℕ × List ℕ)) → AllByRecursion (λ r. stands_alone r.0 ≡ false) (r ∷ rs)
+        → unpacked_row several (packed (r ∷ rs)) ≡ r ∷ rs }
 {}
 
 /// Whoever opens files that hold a spool of the older version finds that spool, of this version.

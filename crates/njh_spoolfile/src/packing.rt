@@ -71,6 +71,13 @@ impl Pack {
         self.bytes.try_extend_from_slice(bytes).unwrap();
     }
 
+    /// Begins anew, with no record.
+    pub fn clear(&mut self)
+        ensures { self.new ≡ [] }
+    {
+        self.bytes.clear()
+    }
+
     /// The bytes of the row.
     pub fn bytes(&self) -> &[u8]
         ensures { result.now ≡ self.now }

@@ -19,7 +19,7 @@ use std::io;
 const ACME: u16 = 0;
 
 /// The name of a script, and how many bytes its piece has, where a line of the table is one's.
-pub fn script_of(line: &str) -> Option<(&str, usize)> {
+pub(crate) fn script_of(line: &str) -> Option<(&str, usize)> {
     let cells = line.strip_prefix("| ")?;
     let (name, rest) = cells.split_once(" | ")?;
     let (count, _) = rest.split_once(" | ")?;
@@ -27,7 +27,12 @@ pub fn script_of(line: &str) -> Option<(&str, usize)> {
 }
 
 /// What a script does, cut after each place of its piece of so many bytes.
-pub fn play_all(alloc: Global, tables: &str, script: &str, count: usize) -> io::Result<String> {
+pub(crate) fn play_all(
+    alloc: Global,
+    tables: &str,
+    script: &str,
+    count: usize,
+) -> io::Result<String> {
     let mut told = String::new(alloc);
     let mut before = String::new(alloc);
     for place in 0..=count {

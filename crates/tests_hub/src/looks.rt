@@ -167,7 +167,7 @@ fn characters(alloc: Global, bytes: &[u8]) -> Result<String, AllocError> {
 }
 
 /// A file is refused, and its notice stays until another file comes.
-pub fn refuse<R: Print + AllocGlobal>(rt: &R, hub: &mut Hub) -> io::Result<()> {
+pub(crate) fn refuse<R: Print + AllocGlobal>(rt: &R, hub: &mut Hub) -> io::Result<()> {
     for digits in [CONTACT, SIGN_ON, REQUEST, FOR_PARIS, REST, ANOTHER] {
         let piece = bytes_of(rt.alloc(), digits)?;
         let mut out = Vec::new(rt.alloc());
@@ -180,7 +180,7 @@ pub fn refuse<R: Print + AllocGlobal>(rt: &R, hub: &mut Hub) -> io::Result<()> {
 }
 
 /// A line from Down to Up, a file in and out, and a line whose tries are used up.
-pub fn look<R: Print + AllocGlobal>(rt: &R, hub: &mut Hub) -> io::Result<()> {
+pub(crate) fn look<R: Print + AllocGlobal>(rt: &R, hub: &mut Hub) -> io::Result<()> {
     come(rt, hub)?;
     match file_coming(hub, A1) {
         Some(file) => go(rt, hub, file)?,

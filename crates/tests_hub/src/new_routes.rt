@@ -33,7 +33,7 @@ fn set_routes<R: Print>(
 }
 
 /// Says which routes are refused.
-pub fn refuse<R: Print>(rt: &R, hub: &mut Hub) -> io::Result<()> {
+pub(crate) fn refuse<R: Print>(rt: &R, hub: &mut Hub) -> io::Result<()> {
     let lyon = route_by("LYON", A1, None)?;
     set_routes(rt, hub, 0, &[route_by("LYON", B1, None)?])?;
     set_routes(rt, hub, 0, &[lyon, lyon])?;

@@ -68,7 +68,7 @@ fn events_of(alloc: Global, with_bolt: bool) -> Result<Vec<Event>, AllocError> {
 }
 
 /// Runs a hub of both customers and one of ACME alone, and says what ACME has in each.
-pub fn compare<R: Print + AllocGlobal>(rt: &R, both: &str, alone: &str) -> io::Result<()> {
+pub(crate) fn compare<R: Print + AllocGlobal>(rt: &R, both: &str, alone: &str) -> io::Result<()> {
     let alloc = rt.alloc();
     let all = events_of(alloc, true)?;
     let own = events_of(alloc, false)?;

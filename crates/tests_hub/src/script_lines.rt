@@ -10,7 +10,7 @@ use std::io::{ErrorKind, Read};
 
 /// Says how many of a text's lines are said as they are to be: each is followed by what is said of
 /// it.
-pub fn say_each<R: Print + AllocGlobal>(rt: &R, tables: &str, text: &str) -> io::Result<()> {
+pub(crate) fn say_each<R: Print + AllocGlobal>(rt: &R, tables: &str, text: &str) -> io::Result<()> {
     let tables = tables_of(rt.alloc(), tables)?;
     let said = say_lines(rt, &tables, text);
     drop(tables);
@@ -43,7 +43,7 @@ fn is_said(alloc: Global, tables: &Tables, line: &str, wanted: &str) -> io::Resu
 }
 
 /// Says what is printed of a check that doesn't come to its end.
-pub fn say_faults<R: Print>(rt: &R) -> io::Result<()> {
+pub(crate) fn say_faults<R: Print>(rt: &R) -> io::Result<()> {
     println!(rt; "a check: {}, {}", CheckFault::Device, CheckFault::Memory)
 }
 
@@ -52,7 +52,7 @@ const LIMIT: u64 = 1_048_576;
 
 /// Says how replays of scripts end that are one character again and again: of the greatest length,
 /// and longer.
-pub fn try_lengths<R: Print + AllocGlobal>(rt: &R, tables: &str) -> io::Result<()> {
+pub(crate) fn try_lengths<R: Print + AllocGlobal>(rt: &R, tables: &str) -> io::Result<()> {
     for (what, character, count) in [
         ("a comment", b'#', LIMIT),
         ("blanks", b' ', LIMIT),

@@ -110,7 +110,7 @@ fn take_signal<R: Print + AllocGlobal>(
 }
 
 /// Each step answers where there is memory, and takes the bytes of one frame that is answered.
-pub fn take<R: Print + AllocGlobal>(rt: &R, hub: &mut Hub) -> io::Result<()> {
+pub(crate) fn take<R: Print + AllocGlobal>(rt: &R, hub: &mut Hub) -> io::Result<()> {
     for digits in [CONTACTS, "", SIGN_ON] {
         take_bytes(rt, hub, digits)?;
     }
@@ -122,7 +122,7 @@ pub fn take<R: Print + AllocGlobal>(rt: &R, hub: &mut Hub) -> io::Result<()> {
 
 /// A step asks for memory where `out` has no room for the longest frame, of 8,196 bytes, and
 /// nowhere else.
-pub fn fit<R: Print + AllocGlobal>(rt: &R, hub: &mut Hub) -> io::Result<()> {
+pub(crate) fn fit<R: Print + AllocGlobal>(rt: &R, hub: &mut Hub) -> io::Result<()> {
     for room in [8_195, 8_196] {
         take_within(rt, hub, room)?;
     }
@@ -176,7 +176,7 @@ fn show_file<R: Print + AllocGlobal>(rt: &R, file: &FileView) -> io::Result<()> 
 }
 
 /// A file comes in: its customer has it, with its records, and the other has none.
-pub fn keep<R: Print + AllocGlobal>(rt: &R, hub: &mut Hub) -> io::Result<()> {
+pub(crate) fn keep<R: Print + AllocGlobal>(rt: &R, hub: &mut Hub) -> io::Result<()> {
     for digits in [CONTACT, SIGN_ON, REQUEST, FILE] {
         take_bytes(rt, hub, digits)?;
     }
@@ -193,7 +193,7 @@ fn bytes_came(alloc: Global, digits: &str) -> Result<Event, AllocError> {
 
 /// A sink refuses the second frame: the run says so, with that step counted, and the hub goes on
 /// after it.
-pub fn refuse<R: Print + AllocGlobal>(rt: &R, hub: &mut Hub) -> io::Result<()> {
+pub(crate) fn refuse<R: Print + AllocGlobal>(rt: &R, hub: &mut Hub) -> io::Result<()> {
     count_files(rt, hub, 0)?;
     count_files(rt, hub, 2)?;
     run_refused(rt, hub)?;

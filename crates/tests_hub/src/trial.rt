@@ -43,7 +43,7 @@ enum Trial {
 }
 
 /// Tries each, on a hub of these tables.
-pub fn try_each<R: Print + AllocGlobal>(rt: &R, tables: &str) -> io::Result<()> {
+pub(crate) fn try_each<R: Print + AllocGlobal>(rt: &R, tables: &str) -> io::Result<()> {
     for trial in [
         Trial::Steps,
         Trial::Room,
@@ -74,7 +74,7 @@ fn try_on<R: Print + AllocGlobal>(rt: &R, hub: &mut Hub, trial: Trial) -> io::Re
 }
 
 /// Tables of a text.
-pub fn tables_of(alloc: Global, text: &str) -> io::Result<Tables> {
+pub(crate) fn tables_of(alloc: Global, text: &str) -> io::Result<Tables> {
     match Tables::read(alloc, text) {
         Ok(tables) => Ok(tables),
         Err(_) => Err(io::Error::from(ErrorKind::InvalidData)),
@@ -82,7 +82,7 @@ pub fn tables_of(alloc: Global, text: &str) -> io::Result<Tables> {
 }
 
 /// A hub of the tables that a text has.
-pub fn open(alloc: Global, text: &str) -> io::Result<Hub> {
+pub(crate) fn open(alloc: Global, text: &str) -> io::Result<Hub> {
     match Hub::open(alloc, tables_of(alloc, text)?) {
         Ok(hub) => Ok(hub),
         Err(fault) => Err(of_hub(fault)),
@@ -90,7 +90,7 @@ pub fn open(alloc: Global, text: &str) -> io::Result<Hub> {
 }
 
 /// What a fault of the hub ends the program with, where none is to come.
-pub fn of_hub(fault: HubFault) -> io::Error {
+pub(crate) fn of_hub(fault: HubFault) -> io::Error {
     match fault {
         HubFault::Memory => io::Error::from(ErrorKind::OutOfMemory),
         _ => io::Error::from(ErrorKind::InvalidInput),
@@ -98,7 +98,7 @@ pub fn of_hub(fault: HubFault) -> io::Error {
 }
 
 /// The bytes that hex digits spell.
-pub fn bytes_of(alloc: Global, digits: &str) -> Result<Vec<u8>, AllocError> {
+pub(crate) fn bytes_of(alloc: Global, digits: &str) -> Result<Vec<u8>, AllocError> {
     match hex::decode(alloc, digits) {
         Ok(bytes) => Ok(bytes),
         Err(_) => Err(AllocError),

@@ -2,7 +2,6 @@ use Rattle.std.proofs.Common.{◌≡◌, ◌∙◌, Some, None, codes, option_ma
 use Rattle.clap.specs.Words.{first_of, found_of, rows_of}
 use Rattle.njh_arguments.specs.Arguments.{is_given}
 use Rattle.njh_arguments.proofs.ArgumentLaws.{first_value-rows, unclear-into}
-use Rattle.njh_arguments.proofs.files_options.files_in.Goals.{then-not-is_given-via-then-not-is_given, then-not-is_given-via-else-not-is_given+then-is_given, then-not-is_given-via-else-not-is_given+else-is_given+then-is_printing}
 use Rattle.njh_arguments.proofs.files_options.files_in.Goals as goal
 
 pub compacted_in-requires : goal.compacted_in-requires
@@ -17,9 +16,9 @@ returns-then-not-is_given-clause-refused c =
     unclear-into rows c.in-Some.into.now
     (sym (first_value-rows c.args.options.now (codes "into")) ∙ (sym c.get_str.ensures ∙ found))
     (λ prints compact customer. elim c.then-not-is_given.branch [
-      | then-not-is_given-via-then-not-is_given w ↦ search rules
-      | then-not-is_given-via-else-not-is_given+then-is_given w ↦ search rules
-      | then-not-is_given-via-else-not-is_given+else-is_given+then-is_printing w ↦
+      | goal.then-not-is_given-via-then-not-is_given w ↦ search rules
+      | goal.then-not-is_given-via-else-not-is_given+then-is_given w ↦ search rules
+      | goal.then-not-is_given-via-else-not-is_given+else-is_given+then-is_printing w ↦
           w.is_printing.ensures.something (search rules) prints
     ])
 

@@ -2,9 +2,6 @@ use Rattle.njh_keeper.proofs.Words
 use Words.{◌≡◌, ℕ, ◌+◌, ◌^◌, ◌-◌, ◌<◌, ◌≤◌, true, List, length, drop, slice_get, refl, sym, ap, subst, ◌∙◌, min, arith}
 use Words.{and_parts, on_ok_weaker, take_all, AllByRecursion, Stored, Record, shown, records_numbered, records_in, part}
 use Words.{Result, Ok, Err, OnOk, Changes, AreBegun, FitsHub, Leads, SpoolWriter}
-use Rattle.njh_keeper.proofs.hub_records.write_records.Goals.{then-place-written+in_ok-add}
-use Rattle.njh_keeper.proofs.hub_records.write_records.Goals.{else-place-written+then-is_old_header+in_ok-replace_record}
-use Rattle.njh_keeper.proofs.hub_records.write_records.Goals.{else-place-written+else-is_old_header}
 use Rattle.njh_keeper.proofs.{GatheringLaws.none_gathered, LeadingLaws.{clean_before, survives_both, survives_here}}
 use Rattle.njh_keeper.proofs.ReachLaws.{Reaches, begun_front, begun_is_same, bytes_read, file_is_read, next_stands}
 use Rattle.njh_keeper.proofs.ReachLaws.{none_is_left, one_fewer_left, one_more_fits, only_waits, reach_begins}
@@ -69,7 +66,7 @@ loop-place-preserved g c =
     let front = begun_front c.args.is_old c.args.written all in
     let waiting = min (c.loop-place.writer.waiting + 1) (2 ^ 32 - 1) in
     elim c.if-place-written.branch [
-      | then-place-written+in_ok-add w ↦
+      | goal.then-place-written+in_ok-add w ↦
           let now = w.add.new.self in
           let new = shown g.S.Store w.add.new.writer.store in
           let here : row.place + row.count ≡ at = omega (arith, so_far.next, w.if-place-written.true) in
@@ -100,7 +97,7 @@ loop-place-preserved g c =
             next = omega (arith, next, here, w.if-place-written.true);
             key = forward.key ∙ so_far.key;
           })
-      | else-place-written+then-is_old_header+in_ok-replace_record w ↦
+      | goal.else-place-written+then-is_old_header+in_ok-replace_record w ↦
           let new = shown g.S.Store w.replace_record.new.self.store in
           let header : is_header c.in-Some-next.srcb ≡ true =
           (and_parts c.args.is_old (is_header c.in-Some-next.srcb) (sym w.is_old_header.ensures
@@ -132,7 +129,7 @@ loop-place-preserved g c =
             next = omega (arith, so_far.next, low);
             key = so_far.key;
           })
-      | else-place-written+else-is_old_header w ↦
+      | goal.else-place-written+else-is_old_header w ↦
           let low : at < c.args.written = omega (arith, w.if-place-written.false) in
           let here : min at row.place ≡ at = omega (arith, low, so_far.behind) in
           let further : at + 1 ≡ min (at + 1) row.place = omega (arith, low, so_far.behind) in

@@ -10,5 +10,6 @@ returns-in-Copy-clause-begun g c =
     let old = g.W.Write.contents c.args.out.now in
     let new = g.W.Write.contents c.copy_files.new.out in
     let left = g.R.Read.remaining c.args.script.now in
-    let P : Request → Type 0 = λ request. OnErr c.copy_files.result (Keeps old new ⊎ IsDoneInPart request left old new) in
+    let P : Request → Type 0 =
+    λ request. OnErr c.copy_files.result (Keeps old new ⊎ IsDoneInPart request left old new) in
     subst P (sym c.in-Copy.is) c.copy_files.ensures.begun

@@ -2,7 +2,8 @@ use Rattle.std.proofs.Common.{arith}
 use Rattle.sqlite.specs.State.{HasCleanDisk}
 use Rattle.sqlite.specs.Held.{state}
 use Rattle.sqlite.proofs.StateLemmas.{survives_weaker}
-use Rattle.njh_spoolfile.proofs.ReadingLaws.{versions_are, select_version_keeps_nothing, if_ok, on_ok, shown_same, stays}
+use Rattle.njh_spoolfile.proofs.ReadingLaws.{versions_are, select_version_keeps_nothing, if_ok, on_ok, shown_same}
+use Rattle.njh_spoolfile.proofs.ReadingLaws.{stays}
 use Rattle.njh_spoolfile.proofs.Meaning.{select_version, select_version_plain}
 use Rattle.njh_spoolfile.proofs.versions.rows_of_versions.Goals as goal
 
