@@ -77,6 +77,31 @@ pub fn copy<S: Alter, T: Alter, W: Write>(
     }
 }
 
+/// Copies whole files (`copy`), and takes the mark away that a log belongs to the other spool file,
+/// which is to be closed.
+fn copy_unmarked<A: Alter, B: Alter, W: Write>(
+    alloc: Global,
+    from: &mut Store<A>,
+    into: &mut Store<B>,
+    customer: Option<&str>,
+    out: &mut W,
+) -> Result<(), FilesFault>
+    ensures done { OnOk result (IsListed (option_map (λ c. c.now) customer.entry) (W.contents out.old)
+        (W.contents out.new)) }
+    ensures begun { OnErr result (Keeps (W.contents out.old) (W.contents out.new)
+        ⊎ IsListedInPart (option_map (λ c. c.now) customer.entry) (W.contents out.old) (W.contents out.new)) }
+    ensures silent { IfErr result (λ fault. Keeps (W.contents out.old) (W.contents out.new) ⊎ IsOfSpool fault) }
+{
+    match copy(alloc, from, into, customer, out) {
+        Ok(()) => {}
+        Err(fault) => return Err(fault),
+    }
+    match into.clear_mark() {
+        Ok(()) => Ok(()),
+        Err(error) => Err(FilesFault::from(error)),
+    }
+}
+
 /// Copies whole files of the spool file at a path, which has to be there and stays as it is
 /// (`copy`), and closes the other one: it has all that it holds without its log then. If it is the
 /// closing that failed, the files were copied and listed, and it has them together with its log.
@@ -148,7 +173,7 @@ fn copy_from<F: SpoolFiles + AllocGlobal, A: Alter, S: Start, W: Write>(
 }
 
 /// Closes a spool file, whose log it has in itself then.
-fn close<S: Start>(store: Store<FileStore<FileFrom<S>>>) -> Result<(), FilesFault>
+pub(crate) fn close<S: Start>(store: Store<FileStore<FileFrom<S>>>) -> Result<(), FilesFault>
     ensures { IfErr result IsOfSpool }
 {
     match store.close() {
@@ -181,7 +206,7 @@ fn copy_into<A: Alter, B: Alter + Drop, W: Write>(
         Ok(store) => store,
         Err(fault) => return Err(fault),
     };
-    match copy(alloc, from, &mut into, customer, out) {
+    match copy_unmarked(alloc, from, &mut into, customer, out) {
         Ok(()) => Ok(into),
         Err(fault) => {
             drop(into);

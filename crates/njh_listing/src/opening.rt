@@ -12,8 +12,9 @@ ghost use Rattle.njh_listing.specs.Taken.{is_other};
 
 use crate::copying::{copy_files, fault_of, hold, make_folder, real_path, remove_folder};
 use crate::fault::FilesFault;
+use crate::moving::close;
 use njh_spoolfile::Store;
-use sqlite::{Alter, FileFrom, FileStore, Start};
+use sqlite::{Alter, FileFrom, FileStore, Start, Unknown};
 use std::fs;
 use std::fs::{File, OpenOptions, Permissions};
 use std::io::{ErrorKind, Read};
@@ -23,6 +24,9 @@ use std::rt::HostRuntime;
 /// The mode of a spool file and of its log: whole files are their users' letters, and none of other
 /// users of the host.
 const MODE: u32 = 0o600;
+
+/// How many bytes a log has that was copied into its spool file; none of them counts.
+const EMPTY_LOG: u64 = 41;
 
 /// What opens spool files. `start` is what a proof knows of the files before they are opened. No
 /// impl says of which type an open one is, so that a crate that only has what opens them doesn't
@@ -39,6 +43,12 @@ pub trait SpoolFiles {
             → IsFoundIn (image_at S.Start) spool
             → Stands (record { now = spool; kept = spool }) (file_state store.conn)) }
         ensures refused { IfErr result IsOfSpool };
+
+    /// Marks the spool file at the path, in itself, as one to which a log belongs, if its log holds
+    /// nothing or isn't there; makes it if it isn't there. Answers whether it had the mark and its
+    /// log isn't there, so that what the log held is lost.
+    fn mark_spool(&self, path: &str) -> Result<bool, FilesFault>
+        ensures { IfErr result IsOfSpool };
 
     /// Makes the spool file at the path, where nothing may be, as `open_spool` does.
     fn make_spool<S: Start>(
@@ -115,6 +125,33 @@ fn log_of(rt: &HostRuntime, file: &str) -> Result<String, FilesFault>
     ensures { IfErr result IsOfSpool }
 {
     Ok(format!(in rt.alloc(); "{file}-wal")?)
+}
+
+/// How many bytes a spool file's log has, if it is there.
+fn log_len(rt: &HostRuntime, path: &str) -> Option<u64> {
+    let file = real_path(rt, path).ok()?;
+    let log = log_of(rt, file.as_str()).ok()?;
+    match fs::metadata(rt, log.as_str()) {
+        Ok(found) => Some(found.len()),
+        Err(_) => None,
+    }
+}
+
+/// Marks a spool file as one to which a log belongs, and closes it, so that it has the mark in
+/// itself. Answers whether it had it.
+fn mark<S: Start>(mut store: Store<FileStore<FileFrom<S>>>) -> Result<bool, FilesFault>
+    ensures { IfErr result IsOfSpool }
+{
+    match store.set_mark() {
+        Ok(had) => match close(store) {
+            Ok(()) => Ok(had),
+            Err(fault) => Err(fault),
+        },
+        Err(error) => {
+            drop(store);
+            Err(FilesFault::from(error))
+        }
+    }
 }
 
 /// How many bytes a file has; none if it isn't there.
@@ -281,6 +318,20 @@ impl SpoolFiles for HostRuntime {
         }
         match open_store(self, path, start) {
             Ok(store) => where_set(store, set_modes(self, path)),
+            Err(fault) => Err(fault),
+        }
+    }
+
+    fn mark_spool(&self, path: &str) -> Result<bool, FilesFault> {
+        let log = log_len(self, path);
+        if log.unwrap_or(0) > EMPTY_LOG {
+            return Ok(false);
+        }
+        match self.open_spool(path, Unknown) {
+            Ok(store) => match mark(store) {
+                Ok(had) => Ok(had && log.is_none()),
+                Err(fault) => Err(fault),
+            },
             Err(fault) => Err(fault),
         }
     }

@@ -38,12 +38,45 @@ pub(crate) fn serve_spool_file<
     ensures served { OnOk result (AreServedOf path.now options.turns (Some spool.now)) }
     ensures refused { IfErr result (λ failure. AreRefused (Some path.now) failure ⊎ IsFilesEnd failure) }
 {
-    match rt.open_spool(spool, start) {
-        Ok(store) => serve_kept(rt, path, spool, options, log, store),
+    let opened = match rt.mark_spool(spool) {
+        Ok(is_gone) => {
+            if is_gone {
+                log.write(utc_seconds(rt), &LogGone { spool });
+            }
+            rt.open_spool(spool, start)
+        }
+        Err(fault) => Err(fault),
+    };
+    match opened {
+        Ok(store) => serve_marked(rt, path, spool, options, log, store),
         Err(fault) => {
             let failure = first_failure(rt, path, fault);
             log_failure(rt, path, &mut log, &failure);
             Err(failure)
+        }
+    }
+}
+
+/// Serves the lines of a table file, and keeps whole files in a spool file that is open, which is
+/// marked as one to which a log belongs, if an older program left it without the mark.
+fn serve_marked<F: Files + Net + Clock + AllocGlobal, L: Write + Drop, S: Origin + Drop>(
+    rt: &F,
+    path: &str,
+    spool: &str,
+    options: Options,
+    log: Log<L>,
+    mut store: Store<S>,
+) -> Result<(), Failure>
+    requires { StandsAsFound S.Store S.found store }
+    ensures served { OnOk result (AreServedOf path.now options.turns (Some spool.now)) }
+    ensures refused { IfErr result (λ failure. AreRefused (Some path.now) failure ⊎ IsFilesEnd failure) }
+{
+    match store.set_mark() {
+        Ok(_) => serve_kept(rt, path, spool, options, log, store),
+        Err(error) => {
+            drop(store);
+            drop(log);
+            Err(Failure::Files(FilesFault::from(error)))
         }
     }
 }
@@ -166,6 +199,22 @@ impl fmt::Display for Strangers<'_> {
             f,
             "spool file {}: {} files of customers that the table file doesn't have stay there",
             self.spool, self.count
+        )
+    }
+}
+
+/// A spool file whose log is gone.
+#[derive(Clone, Copy, Drop)]
+struct LogGone<'a> {
+    spool: &'a str,
+}
+
+impl fmt::Display for LogGone<'_> {
+    fn fmt<W: fmt::Write>(&self, f: &mut fmt::Formatter<W>) -> fmt::Result {
+        write!(
+            f,
+            "spool file {}: its log {}-wal isn't there, and what it held is lost",
+            self.spool, self.spool
         )
     }
 }

@@ -187,13 +187,36 @@ select_version_plain = (refl, refl)
 
 -- ---- what makes the tables
 
+abbrev pub number_terms : ℕ → List Term
+number_terms number = lit (Int (pos number)) ∷ lit Null ∷ []
+
+abbrev pub insert_mark : List ℕ
+insert_mark = codes "INSERT INTO spool VALUES (0)"
+
+pub insert_mark_is : command_of (understood spool_schema insert_mark) ≡ Insert 0 (Values (number_terms 0) 2)
+unfolding understood everything
+insert_mark_is = refl
+
+pub insert_mark_plain : IsPlain (understood spool_schema insert_mark)
+unfolding understood everything
+insert_mark_plain = (refl, refl)
+
+abbrev pub delete_mark : List ℕ
+delete_mark = codes "DELETE FROM spool WHERE version = ?1"
+
+pub delete_mark_is : command_of (understood spool_schema delete_mark)
+    ≡ Delete 0 (record { lets = []; body = rowids_where 0 has_id })
+unfolding understood everything
+delete_mark_is = refl
+
+pub delete_mark_plain : IsPlain (understood spool_schema delete_mark)
+unfolding understood everything
+delete_mark_plain = (refl, refl)
+
 abbrev pub insert_version : List ℕ
 insert_version = codes "INSERT INTO spool VALUES (2)"
 
-abbrev pub version_terms : List Term
-version_terms = lit (Int (pos 2)) ∷ lit Null ∷ []
-
-pub insert_version_is : command_of (understood spool_schema insert_version) ≡ Insert 0 (Values version_terms 2)
+pub insert_version_is : command_of (understood spool_schema insert_version) ≡ Insert 0 (Values (number_terms 2) 2)
 unfolding understood everything
 insert_version_is = refl
 

@@ -1,11 +1,10 @@
 -- What makes a new spool.
-use Rattle.std.proofs.Common.{◌≡◌, inl, ℕ, pos, List, [], ◌∷◌, true, false, None, Ok, refl, sym, ap, subst, ◌∙◌, arith}
-use Rattle.std.proofs.lemmas.List.Sorted.{IsPermutation-refl}
-use Rattle.sqlite.specs.declared.types.Value.TheVariants.{Int}
+use Rattle.std.proofs.Common.{◌≡◌, ℕ, pos, List, [], ◌∷◌, true, false, None, Ok, refl, sym, ap, subst, ◌∙◌, arith}
 use Rattle.sqlite.specs.Table.{Table}
 use Rattle.sqlite.specs.Schema.{Schema}
 use Rattle.sqlite.specs.Source.TheVariants.{Values}
 use Rattle.sqlite.specs.Command.TheVariants.{Insert, CreateTable}
+use Rattle.sqlite.proofs.Callers.{IsPlain, command_of}
 use Rattle.sqlite.specs.Change.{created, next_tree}
 use Rattle.sqlite.specs.Edit.{edit_of, edited, numbered, put_all}
 use Rattle.sqlite.specs.Cast.{cast_row}
@@ -21,15 +20,14 @@ use Rattle.sqlite_catalog.specs.Listing.{IsSound}
 use Rattle.sqlite_catalog.proofs.ReadLemmas.{lists_once}
 use Rattle.sqlite_trees.specs.Objects.{catalog_tree}
 use Rattle.sqlite_catalog.specs.Change.{KeepsRows}
-use Rattle.njh_spoolfile.specs.Kept.{SpoolContents, Holds, HoldsAs, IsOf, no_files, version_row}
+use Rattle.njh_spoolfile.specs.Kept.{SpoolContents, Holds, HoldsAs, IsOf, has_number, is_marked, no_files, version_row}
 use Rattle.njh_spoolfile.specs.declared.versions.Version.{Version}
 use Rattle.njh_spoolfile.specs.declared.versions.Version.TheVariants.{Older, Current}
 use Rattle.njh_spoolfile.specs.Tables.{spool_schema, spool_table}
-use Rattle.njh_spoolfile.specs.Steps.{Makes, Sets, SetsVersion}
-use Rattle.njh_spoolfile.proofs.Meaning.{IsCreation, insert_version, insert_version_is, insert_version_plain}
-use Rattle.njh_spoolfile.proofs.Meaning.{version_terms}
+use Rattle.njh_spoolfile.specs.Steps.{Changes, Makes, Sets, SetsNumber, SetsVersion}
+use Rattle.njh_spoolfile.proofs.Meaning.{IsCreation, number_terms}
 use Rattle.njh_spoolfile.proofs.Runs.{went, same_value, cast_int, cast_null}
-use Rattle.njh_spoolfile.proofs.VersionLaws.{taken_over}
+use Rattle.njh_spoolfile.proofs.VersionLaws.{has_mark, marked, taken_over}
 
 pub creates : (text : List ℕ) (before after : Schema) (table : Table) (tree : ℕ) → IsCreation text before table
     → created before table ≡ after → next_tree before ≡ tree → lacks_sequence after ≡ false
@@ -58,16 +56,17 @@ creates text before after table tree is next at uncounted old new count has wait
       others = subst (λ (d : Database). KeepsRows old.now.schema.tables old.now.trees d.trees) (sym now) made.others;
     }
 
-cast_version : cast_row spool_table (version_row 2) ≡ version_row 2
-cast_version = rw (cast_int (pos 2), cast_null) refl
+cast_version : (number : ℕ) → cast_row spool_table (version_row number) ≡ version_row number
+cast_version number = rw (cast_int (pos number), cast_null) refl
 
-pub sets : (old new : State) (count : ℕ) → old.now.schema ≡ spool_schema → old.in_transaction ≡ true
-    → Executes insert_version [] old new (Ok count) → Sets old new
-sets old new count has waits h =
+pub sets : (number : ℕ) (sql : List ℕ) → command_of (understood spool_schema sql) ≡ Insert 0 (Values (number_terms number)
+    2) → IsPlain (understood spool_schema sql) → (old new : State) (count : ℕ) → old.now.schema ≡ spool_schema
+    → old.in_transaction ≡ true → Executes sql [] old new (Ok count) → Sets number old new
+sets number sql is plain old new count has waits h =
     let db = old.now.trees in
-    let command = Insert 0 (Values version_terms 2) in
-    let w = runs_as insert_version [] old new spool_schema has command insert_version_is insert_version_plain count h in
-    let text = statement_of insert_version (understood spool_schema insert_version) in
+    let command = Insert 0 (Values (number_terms number) 2) in
+    let w = runs_as sql [] old new spool_schema has command is plain count h in
+    let text = statement_of sql (understood spool_schema sql) in
     let done = went (subst (λ s. Does old.step_limit (mode_of old) [] (record old.now { schema = s }) text None command
     (Ok (w.tally, new.now))) has w.changed) in
     let now = ap (λ (p : Tally × Database). p.1) (same_value (went (went done.2).2).2) in
@@ -77,9 +76,9 @@ sets old new count has waits h =
     let trees : done.0.trees ≡ written.0 =
     ap (λ (it : Written). it.trees) (same_value counted.2) ∙ same_value counted.1 in
     let applied = one_step spool_schema _ db written.0 (edit_of db spool_table [] Chosen 0 given.0) refl written.1 in
-    let edit : edited db (edit_of db spool_table [] Chosen 0 given.0) ≡ put_row (version_row 2) (db 0) =
+    let edit : edited db (edit_of db spool_table [] Chosen 0 given.0) ≡ put_row (version_row number) (db 0) =
     ap (λ all. edited db (edit_of db spool_table [] Chosen 0 all)) given.1.1
-    ∙ ap (λ row. put_all (db 0) (numbered Chosen (db 0) (row ∷ []))) cast_version in
+    ∙ ap (λ row. put_all (db 0) (numbered Chosen (db 0) (row ∷ []))) (cast_version number) in
     let at : (t : ℕ) → new.now.trees t ≡ written.0 t =
     λ t. ap (λ (d : Database). d.trees t) now ∙ ap (λ (all : Trees). all t) trees in
     let schema : new.now.schema ≡ spool_schema = ap (λ (d : Database). d.schema) now in
@@ -101,8 +100,7 @@ pub starts : (found now : Trees) → SetsVersion found now → found 0 ≡ [] �
     → Holds no_files now
 starts found now it no_version none no_record = record {
   sound = it.sound;
-  version = subst (IsOf Current) (sym (it.versions ∙ ap (put_row (version_row 2)) no_version))
-      (inl (IsPermutation-refl (Int (pos 2) ∷ [])));
+  version = subst (IsOf Current) (sym (it.versions ∙ ap (put_row (version_row 2)) no_version)) refl;
   files = it.files ∙ none;
   files_rise = tt;
   records = it.records ∙ no_record;
@@ -122,6 +120,29 @@ takes_over spool found now it held = record {
   records_rise = held.records_rise;
   numbered = held.numbered;
 }
+
+-- the mark is set, and the spool is the same
+pub marks : (old new : State) → Sets 0 old new → Changes (λ spool. spool) old new
+marks old new it = record {
+  is_open = it.is_open;
+  schema = it.schema;
+  waits = it.waits;
+  committed = it.committed;
+  holds = λ spool held. record {
+    sound = it.sets.sound;
+    version = subst (IsOf Current) (sym it.sets.versions) (marked (old.now.trees 0) held.version);
+    files = it.sets.files ∙ held.files;
+    files_rise = held.files_rise;
+    records = it.sets.records ∙ held.records;
+    records_rise = held.records_rise;
+    numbered = held.numbered;
+  };
+}
+
+pub is_marked_then : (spool : SpoolContents) (found now : Trees) → SetsNumber 0 found now → Holds spool found
+    → is_marked now ≡ true
+is_marked_then spool found now it held =
+    ap (has_number 0) it.versions ∙ has_mark (found 0) held.version
 
 -- trees list one schema at most
 pub one_schema : (trees : Trees) (s t : Schema) → IsSound s trees → IsSound t trees → s ≡ t

@@ -9,7 +9,7 @@ use Rattle.njh_spoolfile.specs.Kept.{SpoolContents, Holds, IsOf}
 use Rattle.njh_spoolfile.specs.Origin.{IsFoundIn}
 use Rattle.njh_spoolfile.specs.Reopened.{BecomesSpool, OpensFrom}
 use Rattle.njh_spoolfile.specs.CommitState.{Stands}
-use Rattle.njh_spoolfile.specs.Steps.{IsIdle, TakesOver}
+use Rattle.njh_spoolfile.specs.Steps.{TakesOver}
 use Rattle.njh_spoolfile.specs.Tables.{spool_schema}
 use Rattle.njh_spoolfile.specs.declared.versions.Version.TheVariants.{Current}
 

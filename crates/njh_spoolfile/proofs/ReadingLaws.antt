@@ -19,7 +19,6 @@ use Rattle.sqlite_sql.specs.Query.{Output, output, IsAnswer}
 use Rattle.sqlite_keyed.proofs.ListLemmas.{map-map}
 use Rattle.sqlite_value.specs.declared.value.Value.{Value}
 use Rattle.std.proofs.lemmas.List.Sorted.{IsPermutation-map}
-use Rattle.sqlite.specs.Term.{col}
 use Rattle.sqlite.specs.Listing.{understood}
 use Rattle.sqlite.proofs.Callers.{reads_as, never_commits, IsPlain}
 use Rattle.sqlite_typed.proofs.AnswerLemmas.{answer_by_keys, last_table, at_end, unfiltered}

@@ -1,6 +1,6 @@
 -- What the statements do, and what they may keep.
 use Rattle.std.proofs.Common.{◌≡◌, ◌⊎◌, inl, inr, ℕ, ◌<◌, ◌^◌, ◌==◌, not, ℤ, pos, nat_le, nat_lt, ◌&&◌, List, [], ◌∷◌}
-use Rattle.std.proofs.Common.{Bool, true, false, cond, Option, Some, None, Ok, Err, Result, refl, sym, ap, subst, ◌∙◌}
+use Rattle.std.proofs.Common.{Bool, true, false, cond, Option, Some, None, Ok, Err, Result, map, refl, sym, ap, subst, ◌∙◌}
 use Rattle.std.proofs.Common.{arith}
 use Rattle.sqlite.specs.declared.types.Value.{Value}
 use Rattle.sqlite.specs.declared.types.Value.TheVariants.{Null, Int}
@@ -34,16 +34,18 @@ use Rattle.sqlite.proofs.Callers.{command_of, statement_of, runs_as, one_step}
 use Rattle.sqlite_keyed.proofs.ListLemmas.{all-filter}
 use Rattle.njh_spoolfile.specs.declared.versions.Version.TheVariants.{Current}
 use Rattle.njh_spoolfile.specs.Kept.{IsOf, IsNumbered, File, Record, file_values, file_row, flag, record_values}
-use Rattle.njh_spoolfile.specs.Kept.{record_row}
+use Rattle.njh_spoolfile.specs.Kept.{record_row, is_marked, without, SpoolContents, Holds}
 use Rattle.njh_spoolfile.specs.Kept.{record_number, with_file, with_record, without_file, without_records}
-use Rattle.njh_spoolfile.specs.Tables.{spool_schema, files_table, records_table}
+use Rattle.njh_spoolfile.specs.Tables.{spool_schema, spool_table, files_table, records_table}
 use Rattle.sqlite_catalog.specs.Listing.{IsSound}
 use Rattle.njh_spoolfile.specs.Steps.{Begins, Changes, Commits}
 use Rattle.njh_spoolfile.proofs.Meaning.{begin_text, begin_is, begin_plain, commit_text, commit_is, commit_plain}
 use Rattle.njh_spoolfile.proofs.Meaning.{insert_file, insert_file_is, insert_file_plain, file_terms, insert_record}
 use Rattle.njh_spoolfile.proofs.Meaning.{insert_record_is, insert_record_plain, record_terms, rowids_where, has_id}
 use Rattle.njh_spoolfile.proofs.Meaning.{delete_file, delete_file_is, delete_file_plain, is_between, delete_records}
-use Rattle.njh_spoolfile.proofs.Meaning.{delete_records_is, delete_records_plain}
+use Rattle.njh_spoolfile.proofs.Meaning.{delete_records_is, delete_records_plain, delete_mark, delete_mark_is}
+use Rattle.njh_spoolfile.proofs.Meaning.{delete_mark_plain}
+use Rattle.njh_spoolfile.proofs.VersionLaws.{current_shown, has_no_mark, numbers, numbered_row, unmarked}
 use Rattle.njh_spoolfile.proofs.Rows.{all_put, put_shown, numbers_cmp, put_rises, without_rises}
 use Rattle.njh_spoolfile.proofs.Deleting.{deleted}
 
@@ -317,6 +319,55 @@ drops_file old new id count has waits h =
         records = at 2 ∙ applied.others 2 (λ e. absurd (omega (arith, e))) tt ∙ held.records;
       };
     }
+
+number_is : (n : ℕ) (e : ℕ × List Value) → list_all (holds ((Int (pos n) ∷ []) ∷ numbered_row e ∷ [])) has_id
+    ≡ (e.0 == n)
+unfolding binary
+number_is n e = alone _ ∙ truth_of (is_eq (value_cmp (Int (pos e.0)) (Int (pos n)))) ∙ ap is_eq (numbers_cmp e.0 n)
+    ∙ eq_is e.0 n
+
+pub drops_mark : (old new : State) (count : ℕ) → old.now.schema ≡ spool_schema → old.in_transaction ≡ true
+    → Executes delete_mark (Int (pos 0) ∷ []) old new (Ok count) → Changes (λ spool. spool) old new
+    × ((spool : SpoolContents) → Holds spool old.now.trees → is_marked new.now.trees ≡ false)
+drops_mark old new count has waits h =
+    let params = Int (pos 0) ∷ [] in
+    let db = old.now.trees in
+    let command = Delete 0 (record { lets = []; body = rowids_where 0 has_id }) in
+    let w = runs_as delete_mark params old new spool_schema has command delete_mark_is delete_mark_plain count h in
+    let text = statement_of delete_mark (understood spool_schema delete_mark) in
+    let done = went (subst (λ s. Does old.step_limit (mode_of old) params (record old.now { schema = s }) text None
+    command (Ok (w.tally, new.now))) has w.changed) in
+    let now = ap (λ (p : Tally × Database). p.1) (same_value (went (went done.2).2).2) in
+    let given = went done.1 in
+    let written = went given.2 in
+    let trees : done.0.trees ≡ written.0 = ap (λ (it : Written). it.trees) (same_value written.2) in
+    let applied = one_step spool_schema _ db written.0 (edit_of db spool_table (ids_of given.0) Given 0 []) refl
+    written.1 in
+    let at : (t : ℕ) → new.now.trees t ≡ written.0 t =
+    λ t. ap (λ (d : Database). d.trees t) now ∙ ap (λ (all : Trees). all t) trees in
+    let schema : new.now.schema ≡ spool_schema = ap (λ (d : Database). d.schema) now in
+    let left : (es : List (ℕ × List Value)) → db 0 ≡ map numbered_row es
+    → new.now.trees 0 ≡ map numbered_row (without (λ n. n == 0) es) = λ es are. at 0 ∙ applied.rows
+    ∙ deleted numbered_row numbers 0 has_id params (λ n. n == 0) (number_is 0) (overlay db []) es given.0 are refl
+    (given.1.answer Null) in (
+      record {
+        is_open = w.shown.is_open;
+        schema = schema;
+        waits = w.shown.mode ∙ waits;
+        committed = w.shown.committed_is ∙ rw waits refl;
+        holds = λ spool held. let es = current_shown (db 0) held.version in record {
+          sound = subst (λ s. IsSound s new.now.trees) schema w.sound;
+          version = unmarked (db 0) (new.now.trees 0) es.0 es.1 (left es.0 es.1) held.version;
+          files = at 1 ∙ applied.others 1 (λ e. absurd (omega (arith, e))) tt ∙ held.files;
+          files_rise = held.files_rise;
+          records = at 2 ∙ applied.others 2 (λ e. absurd (omega (arith, e))) tt ∙ held.records;
+          records_rise = held.records_rise;
+          numbered = held.numbered;
+        };
+      },
+      λ spool held. let es = current_shown (db 0) held.version in
+          has_no_mark (db 0) (new.now.trees 0) es.0 es.1 (left es.0 es.1),
+    )
 
 pub drops_records : (old new : State) (key first end count : ℕ) → old.now.schema ≡ spool_schema
     → old.in_transaction ≡ true

@@ -1,174 +1,198 @@
--- Which version rows are of.
-use Rattle.std.proofs.Common.{◌≡◌, ◌⊎◌, inl, inr, ◌↔◌, ℕ, ◌<◌, ◌≤◌, pos, Bool, true, false, IsTrue, List, [], ◌∷◌, map}
-use Rattle.std.proofs.Common.{length, slice_index_or, Some, Less, IsPermutation, refl, sym, ap, subst, ◌∙◌, arith}
-use Rattle.std.specs.List.{AllByRecursion}
-use Rattle.std.proofs.lemmas.List.Sorted.{IsPermutation-refl, IsPermutation-sym, IsPermutation-trans}
-use Rattle.std.proofs.lemmas.List.Sorted.{length_permutation, All-permutation, IsPermutation-swap}
-use Rattle.std.proofs.lemmas.List.Elements.{All-from_recursion, recursion_from_All}
-use Rattle.std.proofs.lemmas.List.{length-map}
+-- Which version rows are of, and whether they have the mark.
+use Rattle.std.proofs.Common.{◌≡◌, ℕ, zero, suc, pos, negsuc, Bool, true, false, not, ◌||◌, ◌==◌, cond, List, [], ◌∷◌, map}
+use Rattle.std.proofs.Common.{Option, None, Some, IsPermutation, refl, sym, ap, ◌∙◌, arith}
+use Rattle.std.specs.List.{list_any}
+use Rattle.std.specs.declared.cmp.Ordering.{Ordering}
+use Rattle.std.specs.declared.cmp.Ordering.TheVariants.{Less, Equal, Greater}
+use Rattle.std.specs.Ordering.{nat_cmp, match_ordering}
+use Rattle.std.proofs.lemmas.Bool.Decides.{nat_tests}
+use Rattle.std.proofs.lemmas.List.Sorted.{list_any-IsPermutation}
 use Rattle.sqlite.specs.declared.types.Value.{Value}
-use Rattle.sqlite.specs.declared.types.Value.TheVariants.{Int}
+use Rattle.sqlite.specs.declared.types.Value.TheVariants.{Null, Int, Real, Text, Blob}
 use Rattle.sqlite.specs.Order.{Row}
 use Rattle.sqlite.specs.Tree.{rowid, put_row}
-use Rattle.sqlite_value.specs.Order.{value_cmp}
-use Rattle.std.specs.Ordering.{match_ordering}
-use Rattle.njh_spoolfile.specs.Kept.{AreOf, IsOf, version_row}
+use Rattle.njh_spoolfile.specs.Kept.{IsOf, has_number, is_known, is_number, is_value, put, version_in, version_row}
+use Rattle.njh_spoolfile.specs.Kept.{without}
 use Rattle.njh_spoolfile.specs.declared.versions.Version.{Version}
 use Rattle.njh_spoolfile.specs.declared.versions.Version.TheVariants.{Older, Current}
-use Rattle.njh_spoolfile.proofs.Rows.{numbers_cmp}
+use Rattle.njh_spoolfile.proofs.Rows.{put_shown, same}
 
--- the same rows in another order are of the same version
-of_all : (xs ys : List Row) → IsPermutation (map rowid xs) (map rowid ys) → (version : Version) → IsOf version xs
-    → IsOf version ys
-of_all xs ys same Older h = IsPermutation-trans _ _ _ (IsPermutation-sym _ _ same) h
-of_all xs ys same Current (inl h) = inl (IsPermutation-trans _ _ _ (IsPermutation-sym _ _ same) h)
-of_all xs ys same Current (inr h) = inr (IsPermutation-trans _ _ _ (IsPermutation-sym _ _ same) h)
+-- by what is told of some rows: whether one is unknown, of this version, of the older one
+abbrev by_tests : Bool → Bool → Bool → Option Version
+by_tests unknown current older = cond unknown None (cond current (Some Current) (cond older (Some Older) None))
 
--- ---- rows of one version, and of two
+abbrev is_unknown : Row → Bool
+is_unknown row = not (is_known row)
 
-long : (versions : List Value) (rows : List Row) → AreOf versions rows → length rows ≡ length versions
-long versions rows h = sym (length-map rows rowid) ∙ sym (length_permutation _ _ h)
+-- ---- the same rows in another order
 
-all_of : (P : Value → Type 0) (xs ys : List Value) → IsPermutation xs ys → AllByRecursion P xs → AllByRecursion P ys
-all_of P xs ys same all = recursion_from_All P ys (All-permutation P xs ys same (All-from_recursion P xs all))
+any_map : (p : Value → Bool) (rows : List Row) → list_any p (map rowid rows) ≡ list_any (λ r. p (rowid r)) rows
+any_map p [] = refl
+any_map p (r ∷ rows) = ap (λ b. p (rowid r) || b) (any_map p rows)
 
-one_is : (v w : Value) → IsPermutation (v ∷ []) (w ∷ []) → v ≡ w
-one_is v w h = sym (all_of (λ x. x ≡ v) (v ∷ []) (w ∷ []) h (refl, tt)).0
+same_any : (p : Value → Bool) (xs ys : List Row) → IsPermutation (map rowid xs) (map rowid ys)
+    → list_any (λ r. p (rowid r)) xs ≡ list_any (λ r. p (rowid r)) ys
+same_any p xs ys same = sym (any_map p xs) ∙ list_any-IsPermutation p _ _ same ∙ any_map p ys
 
-one : (v : Value) (rows : List Row) → AreOf (v ∷ []) rows → (r : Row) × (rows ≡ r ∷ []) × (rowid r ≡ v)
-one v [] h = absurd (let e = long (v ∷ []) [] h in omega (arith, e))
-one v (r ∷ []) h = (r, refl, one_is (rowid r) v h)
-one v (r ∷ s ∷ rs) h = absurd (let e = long (v ∷ []) (r ∷ s ∷ rs) h in omega (arith, e))
+pub same_number : (n : ℕ) (xs ys : List Row) → IsPermutation (map rowid xs) (map rowid ys)
+    → has_number n xs ≡ has_number n ys
+same_number n = same_any (is_value n)
 
-of_one : (v : Value) (r : Row) → rowid r ≡ v → AreOf (v ∷ []) (r ∷ [])
-of_one v r e = subst (λ x. IsPermutation (rowid r ∷ []) (x ∷ [])) e (IsPermutation-refl (rowid r ∷ []))
-
-two_are : (v w a b : Value) → ¬ (a ≡ b) → IsPermutation (v ∷ w ∷ []) (a ∷ b ∷ [])
-    → ((v ≡ a) × (w ≡ b)) ⊎ ((w ≡ a) × (v ≡ b))
-two_are v w a b apart h =
-    let all = all_of (λ x. (x ≡ v) ⊎ (x ≡ w)) (v ∷ w ∷ []) (a ∷ b ∷ []) h (inl refl, (inr refl, tt)) in
-    elim all.0 [
-      | inl av ↦ elim all.1.0 [
-        | inl bv ↦ absurd (apart (av ∙ sym bv))
-        | inr bw ↦ inl (sym av, sym bw)
-      ]
-      | inr aw ↦ elim all.1.0 [
-        | inl bv ↦ inr (sym aw, sym bv)
-        | inr bw ↦ absurd (apart (aw ∙ sym bw))
-      ]
-    ]
-
-two : (a b : Value) → ¬ (a ≡ b) → (r s : Row) → AreOf (a ∷ b ∷ []) (r ∷ s ∷ [])
-    → ((rowid r ≡ a) × (rowid s ≡ b)) ⊎ ((rowid s ≡ a) × (rowid r ≡ b))
-two a b apart r s h = two_are (rowid r) (rowid s) a b apart h
-
-of_two : (a b : Value) (r s : Row) → ((rowid r ≡ a) × (rowid s ≡ b)) ⊎ ((rowid s ≡ a) × (rowid r ≡ b))
-    → AreOf (a ∷ b ∷ []) (r ∷ s ∷ [])
-of_two a b r s (inl e) = rw (e.0, e.1) (IsPermutation-refl (a ∷ b ∷ []))
-of_two a b r s (inr e) = rw (e.0, e.1) (IsPermutation-swap (b ∷ a ∷ []) (a ∷ b ∷ []) 0 1 (omega arith) (omega arith) refl)
-
--- ---- the older version and this one
-
-apart : ¬ (Int (pos 1) ≡ Int (pos 2))
-apart e = absurd (cc)
+pub same_version : (xs ys : List Row) → IsPermutation (map rowid xs) (map rowid ys) → version_in xs ≡ version_in ys
+same_version xs ys same =
+    λ i. by_tests (same_any (λ v. not (is_value 0 v || is_value 1 v || is_value 2 v)) xs ys same i)
+    (same_number 2 xs ys same i) (same_number 1 xs ys same i)
 
 pub not_both : (rows : List Row) → IsOf Older rows → ¬ IsOf Current rows
-not_both rows h (inl k) =
-    let a = one (Int (pos 1)) rows h in
-    apart (sym a.2 ∙ one_is (rowid a.0) (Int (pos 2)) (subst (AreOf (Int (pos 2) ∷ [])) a.1 k))
-not_both rows h (inr k) =
-    let m = long (Int (pos 1) ∷ []) rows h in
-    let n = long (Int (pos 1) ∷ Int (pos 2) ∷ []) rows k in omega (arith, m, n)
+not_both rows older current = absurd (let e = sym older ∙ current in cc)
+
+-- ---- rows whose numbers are known, as numbered values
+
+abbrev pub numbered_row : ℕ × List Value → Row
+numbered_row e = Int (pos e.0) ∷ e.1
+
+pub numbers : (e : ℕ × List Value) → rowid (numbered_row e) ≡ Int (pos e.0)
+numbers e = refl
+
+second : (a b : Bool) → (a || b) ≡ false → b ≡ false
+second true b h = absurd (cc)
+second false b h = h
+
+shown : (rows : List Row) → list_any is_unknown rows ≡ false
+    → (es : List (ℕ × List Value)) × (rows ≡ map numbered_row es)
+shown [] known = ([], refl)
+shown ([] ∷ rows) known = absurd (cc)
+shown ((Null ∷ r) ∷ rows) known = absurd (cc)
+shown ((Int (pos n) ∷ r) ∷ rows) known =
+    let rest = shown rows (second (is_unknown (Int (pos n) ∷ r)) _ known) in
+    ((n, r) ∷ rest.0, ap (λ (all : List Row). (Int (pos n) ∷ r) ∷ all) rest.1)
+shown ((Int (negsuc n) ∷ r) ∷ rows) known = absurd (cc)
+shown ((Real x ∷ r) ∷ rows) known = absurd (cc)
+shown ((Text x ∷ r) ∷ rows) known = absurd (cc)
+shown ((Blob x ∷ r) ∷ rows) known = absurd (cc)
+
+any_number : (p : Row → Bool) (es : List (ℕ × List Value))
+    → list_any p (map numbered_row es) ≡ list_any (λ e. p (numbered_row e)) es
+any_number p [] = refl
+any_number p (e ∷ es) = ap (λ b. p (numbered_row e) || b) (any_number p es)
+
+twice : (a b : Bool) → (a || (a || b)) ≡ (a || b)
+twice true b = refl
+twice false b = refl
+
+exchanged : (a b d : Bool) → (a || (b || d)) ≡ (b || (a || d))
+exchanged true true d = refl
+exchanged true false d = refl
+exchanged false b d = refl
+
+any_put : (p : ℕ → Bool) (new : ℕ × List Value) (es : List (ℕ × List Value))
+    → list_any (λ e. p e.0) (put new es) ≡ (p new.0 || list_any (λ e. p e.0) es)
+any_put p new [] = refl
+any_put p new (e ∷ es) = split (any_put p new es) (nat_cmp e.0 new.0) refl
+  where
+    split : list_any (λ x. p x.0) (put new es) ≡ (p new.0 || list_any (λ x. p x.0) es) → (o : Ordering)
+        → nat_cmp e.0 new.0 ≡ o → list_any (λ x. p x.0) (match_ordering o (e ∷ put new es) (new ∷ es) (new ∷ e ∷ es))
+        ≡ (p new.0 || (p e.0 || list_any (λ x. p x.0) es))
+    split rest Less is = ap (λ b. p e.0 || b) rest ∙ exchanged (p e.0) (p new.0) _
+    split rest Equal is =
+        sym (twice (p new.0) _) ∙ ap (λ n. p new.0 || (p n || list_any (λ x. p x.0) es)) (sym (same e.0 new.0 is))
+    split rest Greater is = refl
+
+-- a row is added
+any_row : (p : Value → Bool) (n : ℕ) (rows : List Row) → list_any is_unknown rows ≡ false
+    → list_any (λ r. p (rowid r)) (put_row (version_row n) rows)
+    ≡ (p (Int (pos n)) || list_any (λ r. p (rowid r)) rows)
+any_row p n rows known =
+    let es = shown rows known in
+    let new : ℕ × List Value = (n, Null ∷ []) in
+    let q : Row → Bool = λ r. p (rowid r) in
+    ap (λ (rs : List Row). list_any q (put_row (numbered_row new) rs)) es.1
+    ∙ ap (λ (rs : List Row). list_any q rs) (put_shown numbered_row numbers new es.0)
+    ∙ any_number q (put new es.0) ∙ any_put (λ m. p (Int (pos m))) new es.0
+    ∙ ap (λ b. p (Int (pos n)) || b) (sym (any_number q es.0))
+    ∙ ap (λ (rs : List Row). p (Int (pos n)) || list_any q rs) (sym es.1)
+
+all_known : (a b d : Bool) (version : Version) → by_tests a b d ≡ Some version → a ≡ false
+all_known true b d version h = absurd (cc)
+all_known false b d version h = refl
+
+known_rows : (version : Version) (rows : List Row) → IsOf version rows → list_any is_unknown rows ≡ false
+known_rows version rows h = all_known _ (has_number 2 rows) (has_number 1 rows) version h
+
+-- the row of a version, or the mark's, is added to rows that are known
+added : (n : ℕ) (rows : List Row) → list_any is_unknown rows ≡ false → is_unknown (version_row n) ≡ false
+    → version_in (put_row (version_row n) rows)
+    ≡ by_tests false (is_value 2 (Int (pos n)) || has_number 2 rows) (is_value 1 (Int (pos n)) || has_number 1 rows)
+added n rows known too =
+    let unknown : list_any is_unknown (put_row (version_row n) rows) ≡ false =
+    any_row (λ v. not (is_value 0 v || is_value 1 v || is_value 2 v)) n rows known
+    ∙ (λ i. too i || known i) in
+    λ i. by_tests (unknown i) (any_row (is_value 2) n rows known i) (any_row (is_value 1) n rows known i)
 
 -- the row of this version beside that of the older one
 pub taken_over : (rows : List Row) → IsOf Older rows → IsOf Current (put_row (version_row 2) rows)
-taken_over rows h =
-    let a = one (Int (pos 1)) rows h in
-    let r : Row = a.0 in
-    let order : value_cmp (rowid r) (rowid (version_row 2)) ≡ Less =
-    ap (λ v. value_cmp v (Int (pos 2))) a.2 ∙ numbers_cmp 1 2 in
-    let both : put_row (version_row 2) rows ≡ r ∷ version_row 2 ∷ [] =
-    ap (put_row (version_row 2)) a.1
-    ∙ ap (λ o. match_ordering o (r ∷ version_row 2 ∷ []) (version_row 2 ∷ []) (version_row 2 ∷ r ∷ [])) order in
-    subst (IsOf Current) (sym both) (inr (of_two (Int (pos 1)) (Int (pos 2)) r (version_row 2) (inl (a.2, refl))))
+taken_over rows h = added 2 rows (known_rows Older rows h) refl
 
--- ---- what is told of rows
+-- the mark beside them
+pub marked : (rows : List Row) → IsOf Current rows → IsOf Current (put_row (version_row 0) rows)
+marked rows h =
+    let known = known_rows Current rows h in
+    added 0 rows known refl ∙ ap (λ a. by_tests a (has_number 2 rows) (has_number 1 rows)) (sym known) ∙ h
 
-few : (rows : List Row) → IsOf Current rows → (1 ≤ length rows) × (length rows ≤ 2)
-few rows (inl h) = let n = long _ rows h in (omega (arith, n), omega (arith, n))
-few rows (inr h) = let n = long _ rows h in (omega (arith, n), omega (arith, n))
+pub has_mark : (rows : List Row) → IsOf Current rows → has_number 0 (put_row (version_row 0) rows) ≡ true
+has_mark rows h = any_row (is_value 0) 0 rows (known_rows Current rows h)
 
-never : (P : Type 0) → ¬ P → IsTrue false ↔ P
-never P none = (λ t. absurd (cc), λ p. absurd (none p))
+-- ---- the mark is taken away
 
-pub not_older : (rows : List Row) → (length rows < 1) ⊎ (2 ≤ length rows) → IsTrue false ↔ IsOf Older rows
-not_older rows (inl n) = never _ (λ h. let m = long _ rows h in omega (arith, m, n))
-not_older rows (inr n) = never _ (λ h. let m = long _ rows h in omega (arith, m, n))
+any_without : (p q : ℕ → Bool) (es : List (ℕ × List Value)) → ((n : ℕ) → p n ≡ true → q n ≡ false)
+    → list_any (λ e. p e.0) (without q es) ≡ list_any (λ e. p e.0) es
+any_without p q [] apart = refl
+any_without p q (e ∷ es) apart = split (any_without p q es apart) (p e.0) refl (q e.0) refl
+  where
+    split : list_any (λ x. p x.0) (without q es) ≡ list_any (λ x. p x.0) es → (b : Bool) → p e.0 ≡ b → (d : Bool)
+        → q e.0 ≡ d → list_any (λ x. p x.0) (cond (not d) (e ∷ without q es) (without q es))
+        ≡ (p e.0 || list_any (λ x. p x.0) es)
+    split rest b is false also = ap (λ a. p e.0 || a) rest
+    split rest true is true also = absurd (let e = sym also ∙ apart e.0 is in cc)
+    split rest false is true also = rest ∙ ap (λ a. a || list_any (λ x. p x.0) es) (sym is)
 
-pub not_current : (rows : List Row) → (length rows < 1) ⊎ (3 ≤ length rows) → IsTrue false ↔ IsOf Current rows
-not_current rows (inl n) = never _ (λ h. let m = few rows h in omega (arith, m.0, n))
-not_current rows (inr n) = never _ (λ h. let m = few rows h in omega (arith, m.1, n))
+none_without : (q : ℕ → Bool) (es : List (ℕ × List Value)) → list_any (λ e. q e.0) (without q es) ≡ false
+none_without q [] = refl
+none_without q (e ∷ es) = split (none_without q es) (q e.0) refl
+  where
+    split : list_any (λ x. q x.0) (without q es) ≡ false → (d : Bool) → q e.0 ≡ d
+        → list_any (λ x. q x.0) (cond (not d) (e ∷ without q es) (without q es)) ≡ false
+    split rest true is = rest
+    split rest false is = ap (λ a. a || list_any (λ x. q x.0) (without q es)) is ∙ rest
 
-alone : (rows : List Row) (r : Row) → 1 ≤ length rows → length rows < 2 → r ≡ slice_index_or rows 0 r → rows ≡ r ∷ []
-alone [] r low high is = absurd (omega (arith, low))
-alone (s ∷ []) r low high is = ap (λ x. x ∷ []) (sym is)
-alone (s ∷ t ∷ rest) r low high is = absurd (omega (arith, high))
+number_is : (m n : ℕ) → is_value m (Int (pos n)) ≡ (n == m)
+number_is m n = grind (arith, nat_tests)
 
-pair : (rows : List Row) (r s : Row) → 2 ≤ length rows → length rows < 3 → r ≡ slice_index_or rows 0 r
-    → s ≡ slice_index_or rows 1 s → rows ≡ r ∷ s ∷ []
-pair [] r s low high is also = absurd (omega (arith, low))
-pair (a ∷ []) r s low high is also = absurd (omega (arith, low))
-pair (a ∷ b ∷ []) r s low high is also = ap (λ x. x ∷ b ∷ []) (sym is) ∙ ap (λ y. r ∷ y ∷ []) (sym also)
-pair (a ∷ b ∷ d ∷ rest) r s low high is also = absurd (omega (arith, high))
+not_mark : (m n : ℕ) → is_value (suc m) (Int (pos n)) ≡ true → (n == 0) ≡ false
+not_mark m n h = grind (arith, nat_tests, h)
 
-pub older_told : (rows : List Row) (r : Row) (b : Bool) → 1 ≤ length rows → length rows < 2
-    → r ≡ slice_index_or rows 0 r → (IsTrue b ↔ (rowid r ≡ Int (pos 1))) → IsTrue b ↔ IsOf Older rows
-older_told rows r b low high is test =
-    let e = alone rows r low high is in (
-      λ t. subst (IsOf Older) (sym e) (of_one (Int (pos 1)) r (test.0 t)),
-      λ h. test.1 (one_is (rowid r) (Int (pos 1)) (subst (IsOf Older) e h)),
-    )
+known_mark : (n : ℕ) → is_unknown (version_row n) ≡ true → (n == 0) ≡ false
+known_mark zero h = absurd (cc)
+known_mark (suc n) h = grind (arith, nat_tests)
 
-pub current_told : (rows : List Row) (r : Row) (b : Bool) → 1 ≤ length rows → length rows < 2
-    → r ≡ slice_index_or rows 0 r → (IsTrue b ↔ (rowid r ≡ Int (pos 2))) → IsTrue b ↔ IsOf Current rows
-current_told rows r b low high is test =
-    let e = alone rows r low high is in (
-      λ t. subst (IsOf Current) (sym e) (inl (of_one (Int (pos 2)) r (test.0 t))),
-      λ h. elim h [
-        | inl k ↦ test.1 (one_is (rowid r) (Int (pos 2)) (subst (AreOf (Int (pos 2) ∷ [])) e k))
-        | inr k ↦ absurd (let n = long _ rows k in omega (arith, n, high))
-      ],
-    )
+module _ (rows left : List Row) (es : List (ℕ × List Value)) (are : rows ≡ map numbered_row es)
+    (now : left ≡ map numbered_row (without (λ n. n == 0) es)) where
+  any_left : (p : Value → Bool) → ((n : ℕ) → p (Int (pos n)) ≡ true → (n == 0) ≡ false)
+      → list_any (λ r. p (rowid r)) left ≡ list_any (λ r. p (rowid r)) rows
+  any_left p apart =
+      let q : Row → Bool = λ r. p (rowid r) in
+      ap (λ (rs : List Row). list_any q rs) now
+      ∙ any_number q (without (λ n. n == 0) es) ∙ any_without (λ n. p (Int (pos n))) (λ n. n == 0) es apart
+      ∙ sym (any_number q es) ∙ ap (λ (rs : List Row). list_any q rs) (sym are)
 
-module _ (rows : List Row) (r s : Row) (low : 2 ≤ length rows) (high : length rows < 3)
-    (is : r ≡ slice_index_or rows 0 r) (also : s ≡ slice_index_or rows 1 s) where
-  both : ((rowid r ≡ Int (pos 1)) × (rowid s ≡ Int (pos 2))) ⊎ ((rowid s ≡ Int (pos 1)) × (rowid r ≡ Int (pos 2)))
-      → IsOf Current rows
-  both e = subst (IsOf Current) (sym (pair rows r s low high is also)) (inr (of_two (Int (pos 1)) (Int (pos 2)) r s e))
+  pub unmarked : IsOf Current rows → IsOf Current left
+  unmarked h = (λ i. by_tests (any_left (λ v. not (is_value 0 v || is_value 1 v || is_value 2 v)) known_mark i)
+      (any_left (is_value 2) (not_mark 1) i) (any_left (is_value 1) (not_mark 0) i)) ∙ h
 
-  pub both_told : (a b : Bool) → (IsTrue a ↔ ((rowid r ≡ Int (pos 1)) × (rowid s ≡ Int (pos 2))))
-      → (IsTrue b ↔ ((rowid s ≡ Int (pos 1)) × (rowid r ≡ Int (pos 2)))) → a ≡ false → IsTrue b ↔ IsOf Current rows
-  both_told a b first second not_first = (
-    λ t. both (inr (second.0 t)),
-    λ h. elim h [
-      | inl k ↦ absurd (let n = long _ rows k in omega (arith, n, low))
-      | inr k ↦ elim (two (Int (pos 1)) (Int (pos 2)) apart r s
-          (subst (AreOf (Int (pos 1) ∷ Int (pos 2) ∷ [])) (pair rows r s low high is also) k)) [
-            | inl here ↦ absurd (let t = first.1 here in cc)
-            | inr here ↦ second.1 here
-          ]
-    ],
-  )
+  pub has_no_mark : has_number 0 left ≡ false
+  has_no_mark = ap (λ (rs : List Row). has_number 0 rs) now ∙ any_number (is_number 0) (without (λ n. n == 0) es)
+      ∙ (λ i. list_any (λ e. number_is 0 e.0 i) (without (λ n. n == 0) es)) ∙ none_without (λ n. n == 0) es
 
-pub says_older : (rows : List Row) → IsOf Older rows → (version : Version)
-    → (Some Older ≡ Some version) ↔ IsOf version rows
-says_older rows h Older = (λ _. h, λ _. refl)
-says_older rows h Current = (λ e. absurd (cc), λ k. absurd (not_both rows h k))
-
--- the same is told of the same rows in another order
-pub as_told : (P : Type 0) (xs ys : List Row) → IsPermutation (map rowid xs) (map rowid ys) → (version : Version)
-    → (P ↔ IsOf version ys) → P ↔ IsOf version xs
-as_told P xs ys same version told = (
-  λ p. of_all ys xs (IsPermutation-sym _ _ same) version (told.0 p),
-  λ h. told.1 (of_all xs ys same version h),
-)
+-- the rows of a spool, as numbered values
+pub current_shown : (rows : List Row) → IsOf Current rows → (es : List (ℕ × List Value)) × (rows ≡ map numbered_row es)
+current_shown rows h = shown rows (known_rows Current rows h)

@@ -1,8 +1,8 @@
 -- What a spool file holds, as plain values, and the rows that stand for them.
-use Rattle.std.specs.Prelude.{◌≡◌, ◌⊎◌, ℕ, ◌<◌, ◌+◌, ◌*◌, ◌^◌, ◌==◌, ℤ, pos, Bool, not, ◌&&◌, nat_le, nat_lt}
-use Rattle.std.specs.Prelude.{if◌then◌else◌, List, [], ◌∷◌, map, filter, flat_map, string_bytes, IsPermutation}
-use Rattle.std.specs.List.{AllByRecursion}
-use Rattle.std.specs.Ordering.{nat_cmp, match_ordering}
+use Rattle.std.specs.Prelude.{◌≡◌, ℕ, ◌<◌, ◌+◌, ◌*◌, ◌^◌, ◌==◌, ℤ, pos, Bool, false, not, ◌&&◌, ◌||◌, nat_le, nat_lt}
+use Rattle.std.specs.Prelude.{if◌then◌else◌, List, [], ◌∷◌, map, filter, flat_map, string_bytes, Option, None, Some}
+use Rattle.std.specs.List.{AllByRecursion, list_any}
+use Rattle.std.specs.Ordering.{nat_cmp, int_eq, match_ordering}
 use Rattle.sqlite_value.specs.declared.value.Value.{Value}
 use Rattle.sqlite_value.specs.declared.value.Value.TheVariants.{Null, Int, Text, Blob}
 use Rattle.sqlite_value.specs.Order.{Row}
@@ -137,15 +137,33 @@ IsNumbered e = (e.0 ≡ record_number e.1.key e.1.place) × (e.1.place < 2 ^ 23)
 abbrev pub version_row : ℕ → Row
 version_row version = Int (pos version) ∷ Null ∷ []
 
--- the rows are of these versions, in any order
-abbrev pub AreOf : List Value → List Row → Type 0
-AreOf versions rows = IsPermutation (map rowid rows) versions
+-- whether a row has this number
+abbrev pub is_value : ℕ → Value → Bool
+is_value n (Int z) = int_eq z (pos n)
+is_value n _ = false
 
--- A spool file has a row for each version that wrote to it: of the older one its row, of this one its own, and the older
--- one's where the file was taken over.
+abbrev pub is_number : ℕ → Row → Bool
+is_number n row = is_value n (rowid row)
+
+abbrev pub has_number : ℕ → List Row → Bool
+has_number n = list_any (is_number n)
+
+-- a row of one of the two versions, or the mark's
+abbrev pub is_known : Row → Bool
+is_known row = is_number 0 row || is_number 1 row || is_number 2 row
+
+-- A spool file has a row for each version that wrote to it, and is of the last.
+abbrev pub version_in : List Row → Option Version
+version_in rows =
+    if list_any (λ row. not (is_known row)) rows then None else
+    if has_number 2 rows then Some Current else if has_number 1 rows then Some Older else None
+
 abbrev pub IsOf : Version → List Row → Type 0
-IsOf Older rows = AreOf (Int (pos 1) ∷ []) rows
-IsOf Current rows = AreOf (Int (pos 2) ∷ []) rows ⊎ AreOf (Int (pos 1) ∷ Int (pos 2) ∷ []) rows
+IsOf version rows = version_in rows ≡ Some version
+
+-- It has row 0 while what it holds may stand in its log: from the first start on, until it is closed whole.
+abbrev pub is_marked : Trees → Bool
+is_marked trees = has_number 0 (trees 0)
 
 -- the trees are a spool file's of the version, and hold the spool
 pub record HoldsAs (of : Version) (spool : SpoolContents) (trees : Trees) : Type 0 where

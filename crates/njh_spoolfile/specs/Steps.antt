@@ -65,25 +65,29 @@ pub record MakesAll (old new : State) : Type 0 where
   pub no_files : new.now.trees 1 ≡ []
   pub no_records : new.now.trees 2 ≡ []
 
--- this version's row is added, and nothing else changes
-pub record SetsVersion (found now : Trees) : Type 0 where
+-- a version's row, or the mark's, is added, and nothing else changes
+pub record SetsNumber (number : ℕ) (found now : Trees) : Type 0 where
   pub sound : IsSound spool_schema now
-  pub versions : now 0 ≡ put_row (version_row 2) (found 0)
+  pub versions : now 0 ≡ put_row (version_row number) (found 0)
   pub files : now 1 ≡ found 1
   pub records : now 2 ≡ found 2
+
+-- it is this version's
+abbrev pub SetsVersion : Trees → Trees → Type 0
+SetsVersion = SetsNumber 2
 
 -- a spool of the older version is of this one now
 pub record TakesOver (found now : Trees) : Type 0 where
   pub older : IsOf Older (found 0)
   pub sets : SetsVersion found now
 
--- the version is set, and waits for the commit
-pub record Sets (old new : State) : Type 0 where
+-- the row is added, and waits for the commit
+pub record Sets (number : ℕ) (old new : State) : Type 0 where
   pub is_open : IsTrue new.is_open
   pub schema : new.now.schema ≡ spool_schema
   pub waits : new.in_transaction ≡ true
   pub committed : new.committed ≡ old.committed
-  pub sets : SetsVersion old.now.trees new.now.trees
+  pub sets : SetsNumber number old.now.trees new.now.trees
 
 -- the tables of a spool that has no file, which wait for the commit
 pub record StartsEmpty (old new : State) : Type 0 where

@@ -6,6 +6,7 @@ mod files;
 mod kept;
 mod laws;
 mod making;
+mod marking;
 mod opening;
 mod origin;
 mod packing;

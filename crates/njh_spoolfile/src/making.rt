@@ -57,7 +57,7 @@ fn create_records<S: Alter>(conn: &mut Connection<S>) -> Result<(), Error>
 
 fn add_version<S: Alter>(conn: &mut Connection<S>) -> Result<(), Error>
     requires ready { IsWriting spool_schema (state S.Store conn.old) }
-    ensures added { HasCleanDisk (state S.Store conn.new) → OnOk result (Sets (state S.Store conn.old)
+    ensures added { HasCleanDisk (state S.Store conn.new) → OnOk result (Sets 2 (state S.Store conn.old)
         (state S.Store conn.new)) }
     ensures crash { Survives (state S.Store conn.old) (state S.Store conn.new) (λ _. ⊥) }
 {

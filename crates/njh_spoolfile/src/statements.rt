@@ -1,11 +1,11 @@
 //! The statements of a spool, one a function.
 
-ghost use Rattle.std.specs.Prelude.{◌≡◌, ◌<◌, ◌≤◌, ◌^◌, length, IfOk, IsTrue, OnOk};
+ghost use Rattle.std.specs.Prelude.{◌≡◌, ◌<◌, ◌≤◌, ◌^◌, true, false, length, IfOk, IsTrue, OnOk};
 ghost use Rattle.sqlite.specs.State.{HasCleanDisk, Survives};
 ghost use Rattle.sqlite.specs.Held.{Held, state};
 ghost use Rattle.sqlite.specs.Tree.{Trees};
 ghost use Rattle.njh_spoolfile.specs.Kept.{file_of, record_of, with_file, with_record, without_file, without_records};
-ghost use Rattle.njh_spoolfile.specs.Kept.{SpoolContents, Holds, records_between};
+ghost use Rattle.njh_spoolfile.specs.Kept.{SpoolContents, Holds, is_marked, records_between};
 ghost use Rattle.njh_spoolfile.specs.Tables.{spool_schema};
 ghost use Rattle.njh_spoolfile.specs.Steps.{IsWriting, Begins, Changes, Commits};
 
@@ -33,6 +33,32 @@ pub fn commit<S: Alter>(conn: &mut Connection<S>) -> Result<(), Error>
         (state S.Store conn.old).now.trees) }
 {
     let _ = conn.execute("COMMIT", &[])?;
+    Ok(())
+}
+
+/// Sets the mark that a log belongs to the spool file, which hasn't it.
+pub fn insert_mark<S: Alter>(conn: &mut Connection<S>) -> Result<(), Error>
+    requires ready { IsWriting spool_schema (state S.Store conn.old) }
+    ensures added { HasCleanDisk (state S.Store conn.new) → OnOk result (Changes (λ spool. spool)
+        (state S.Store conn.old) (state S.Store conn.new)) }
+    ensures marked { HasCleanDisk (state S.Store conn.new) → OnOk result ((spool : SpoolContents)
+        → Holds spool (state S.Store conn.old).now.trees → is_marked (state S.Store conn.new).now.trees ≡ true) }
+    ensures crash { Survives (state S.Store conn.old) (state S.Store conn.new) (λ _. ⊥) }
+{
+    let _ = conn.execute("INSERT INTO spool VALUES (0)", &[])?;
+    Ok(())
+}
+
+/// Takes the mark away.
+pub fn delete_mark<S: Alter>(conn: &mut Connection<S>) -> Result<(), Error>
+    requires ready { IsWriting spool_schema (state S.Store conn.old) }
+    ensures dropped { HasCleanDisk (state S.Store conn.new) → OnOk result (Changes (λ spool. spool)
+        (state S.Store conn.old) (state S.Store conn.new)) }
+    ensures unmarked { HasCleanDisk (state S.Store conn.new) → OnOk result ((spool : SpoolContents)
+        → Holds spool (state S.Store conn.old).now.trees → is_marked (state S.Store conn.new).now.trees ≡ false) }
+    ensures crash { Survives (state S.Store conn.old) (state S.Store conn.new) (λ _. ⊥) }
+{
+    let _ = conn.execute("DELETE FROM spool WHERE version = ?1", &values_of_number(0))?;
     Ok(())
 }
 

@@ -11,14 +11,14 @@ ghost use Rattle.sqlite_trees.specs.View.{IsClean};
 ghost use Rattle.njh_spoolfile.specs.Kept.{SpoolContents, Holds, file_of, record_of, with_file, with_changed};
 ghost use Rattle.njh_spoolfile.specs.Kept.{with_record};
 ghost use Rattle.njh_spoolfile.specs.Kept.{without_file, without_records, as_stands, entry_of, contents_in};
-ghost use Rattle.njh_spoolfile.specs.Kept.{contents_of, records_between};
+ghost use Rattle.njh_spoolfile.specs.Kept.{contents_of, is_marked, records_between};
 ghost use Rattle.njh_spoolfile.specs.Origin.{StandsAlone};
 ghost use Rattle.njh_spoolfile.specs.Shelf.{shown, IsUsable};
 ghost use Rattle.njh_spoolfile.specs.Steps.{Begins, Changes, Commits, IsWriting, Stays};
 ghost use Rattle.njh_spoolfile.specs.Tables.{spool_schema};
 
 use crate::kept::{FileRow, RecordRow, StoredFile, StoredRecord};
-use crate::{reads, statements};
+use crate::{reads, statements, versions};
 use sqlite::{Alter, Connection, Error, ErrorCode, FileStore, Files};
 use sqlite_disk::Disk;
 use std::alloc::Global;
@@ -230,6 +230,56 @@ impl<S: Alter> Store<S> {
     {
         self.begin()?;
         let done = statements::delete_records(&mut self.conn, key, first, end);
+        self.failed = done.is_err();
+        done
+    }
+
+    /// Whether the spool file has the mark that a log belongs to it.
+    pub(crate) fn is_marked(&mut self) -> Result<bool, Error>
+        ensures marked { HasCleanDisk (shown S.Store self.new) → IfOk result (λ marked. marked
+            ≡ is_marked (shown S.Store self.old).now.trees) }
+        ensures same { HasCleanDisk (shown S.Store self.new) → OnOk result (Stays (shown S.Store self.old)
+            (shown S.Store self.new)) }
+        ensures crash { Survives (shown S.Store self.old) (shown S.Store self.new) (λ _. ⊥) }
+        ensures failed { OnErr result (self.new.failed ≡ true) }
+        ensures works { OnOk result ((self.old.failed ≡ false) × (self.new.failed ≡ false)) }
+    {
+        if self.failed {
+            return Err(closed());
+        }
+        let marked = versions::is_marked(&mut self.conn);
+        self.failed = marked.is_err();
+        marked
+    }
+
+    /// Sets that mark, which the spool file hasn't yet; it waits for the commit.
+    pub(crate) fn mark(&mut self) -> Result<(), Error>
+        ensures changed { HasCleanDisk (shown S.Store self.new) → OnOk result (Changes (λ spool. spool)
+            (shown S.Store self.old) (shown S.Store self.new)) }
+        ensures marked { HasCleanDisk (shown S.Store self.new) → OnOk result ((spool : SpoolContents)
+            → Holds spool (shown S.Store self.old).now.trees → is_marked (shown S.Store self.new).now.trees ≡ true) }
+        ensures crash { Survives (shown S.Store self.old) (shown S.Store self.new) (λ _. ⊥) }
+        ensures failed { OnErr result (self.new.failed ≡ true) }
+        ensures works { OnOk result ((self.old.failed ≡ false) × (self.new.failed ≡ false)) }
+    {
+        self.begin()?;
+        let done = statements::insert_mark(&mut self.conn);
+        self.failed = done.is_err();
+        done
+    }
+
+    /// Takes that mark away, if the spool file has it; that waits for the commit.
+    pub(crate) fn unmark(&mut self) -> Result<(), Error>
+        ensures changed { HasCleanDisk (shown S.Store self.new) → OnOk result (Changes (λ spool. spool)
+            (shown S.Store self.old) (shown S.Store self.new)) }
+        ensures unmarked { HasCleanDisk (shown S.Store self.new) → OnOk result ((spool : SpoolContents)
+            → Holds spool (shown S.Store self.old).now.trees → is_marked (shown S.Store self.new).now.trees ≡ false) }
+        ensures crash { Survives (shown S.Store self.old) (shown S.Store self.new) (λ _. ⊥) }
+        ensures failed { OnErr result (self.new.failed ≡ true) }
+        ensures works { OnOk result ((self.old.failed ≡ false) × (self.new.failed ≡ false)) }
+    {
+        self.begin()?;
+        let done = statements::delete_mark(&mut self.conn);
         self.failed = done.is_err();
         done
     }

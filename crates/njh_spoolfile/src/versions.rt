@@ -1,13 +1,12 @@
-//! Which version a spool file is of.
+//! Which version a spool file is of, and whether a log belongs to it.
 
-ghost use Rattle.std.specs.Prelude.{◌≡◌, ◌↔◌, pos, Some, IsPermutation, map, IsTrue, IfOk, OnOk};
+ghost use Rattle.std.specs.Prelude.{◌≡◌, not, IsPermutation, map, IfOk, OnOk};
+ghost use Rattle.std.specs.List.{list_any};
 ghost use Rattle.sqlite.specs.State.{HasCleanDisk, Survives};
 ghost use Rattle.sqlite.specs.Tree.{rowid};
 ghost use Rattle.sqlite.specs.Held.{state};
-ghost use Rattle.sqlite_value.specs.declared.value.Value.TheVariants.{Int};
-ghost use Rattle.njh_spoolfile.specs.Kept.{IsOf};
+ghost use Rattle.njh_spoolfile.specs.Kept.{has_number, is_known, is_marked, is_number, version_in};
 ghost use Rattle.njh_spoolfile.specs.Steps.{IsReady, Stays};
-ghost use Rattle.njh_spoolfile.specs.declared.versions.Version.{Version};
 
 use sqlite::types::ValueRef;
 use sqlite::{Alter, Connection, Error, Row};
@@ -21,11 +20,14 @@ pub enum Version {
     Current,
 }
 
+/// The number of the row that says that a log belongs to the spool file.
+const MARK: u8 = 0;
+
 /// The number of the version before.
-const OLDER: i64 = 1;
+const OLDER: u8 = 1;
 
 /// The number of the version that is written here.
-const CURRENT: i64 = 2;
+const CURRENT: u8 = 2;
 
 fn rows_of_versions<S: Alter>(conn: &mut Connection<S>) -> Result<Vec<Row>, Error>
     requires ready { IsReady (state S.Store conn.old) }
@@ -38,47 +40,42 @@ fn rows_of_versions<S: Alter>(conn: &mut Connection<S>) -> Result<Vec<Row>, Erro
     conn.query_all("SELECT version FROM spool", &[])
 }
 
-fn has_number(row: &Row, number: i64) -> bool
-    ensures { IsTrue result ↔ (rowid row.now ≡ Int number) }
+fn is_number(row: &Row, number: u8) -> bool
+    ensures { result ≡ is_number number row.now }
 {
     match row.get_ref(0) {
-        Ok(ValueRef::Int(version)) => version == number,
+        Ok(ValueRef::Int(value)) => value == i64::from(number),
         _ => false,
     }
 }
 
-fn are_older(rows: &[Row]) -> bool
-    ensures { IsTrue result ↔ IsOf Version.Older rows.now }
+fn has_number(rows: &[Row], number: u8) -> bool
+    ensures { result ≡ has_number number rows.now }
 {
-    let [row] = rows else {
-        return false;
-    };
-    has_number(row, OLDER)
+    rows.iter().any(|row| is_number(row, number))
 }
 
-fn are_both(first: &Row, second: &Row) -> bool
-    ensures { IsTrue result ↔ ((rowid first.now ≡ Int (pos 1)) × (rowid second.now ≡ Int (pos 2))) }
+fn is_known(row: &Row) -> bool
+    ensures { result ≡ is_known row.now }
 {
-    has_number(first, OLDER) && has_number(second, CURRENT)
+    is_number(row, MARK) || is_number(row, OLDER) || is_number(row, CURRENT)
 }
 
-fn are_current(rows: &[Row]) -> bool
-    ensures { IsTrue result ↔ IsOf Version.Current rows.now }
+fn has_unknown(rows: &[Row]) -> bool
+    ensures { result ≡ list_any (λ row. not (is_known row)) rows.now }
 {
-    match rows {
-        [row] => has_number(row, CURRENT),
-        [first, second] => are_both(first, second) || are_both(second, first),
-        _ => false,
-    }
+    rows.iter().any(|row| !is_known(row))
 }
 
 fn version_in(rows: &[Row]) -> Option<Version>
-    ensures { (version : Version) → (result ≡ Some version) ↔ IsOf version rows.now }
+    ensures { result ≡ version_in rows.now }
 {
-    if are_older(rows) {
-        Some(Version::Older)
-    } else if are_current(rows) {
+    if has_unknown(rows) {
+        None
+    } else if has_number(rows, CURRENT) {
         Some(Version::Current)
+    } else if has_number(rows, OLDER) {
+        Some(Version::Older)
     } else {
         None
     }
@@ -87,12 +84,25 @@ fn version_in(rows: &[Row]) -> Option<Version>
 /// Which version the spool is of, if it is one that is read here.
 pub(crate) fn version_of<S: Alter>(conn: &mut Connection<S>) -> Result<Option<Version>, Error>
     requires ready { IsReady (state S.Store conn.old) }
-    ensures version { HasCleanDisk (state S.Store conn.new) → IfOk result (λ found. (version : Version)
-        → (found ≡ Some version) ↔ IsOf version ((state S.Store conn.old).now.trees 0)) }
+    ensures version { HasCleanDisk (state S.Store conn.new) → IfOk result (λ found. found
+        ≡ version_in ((state S.Store conn.old).now.trees 0)) }
     ensures same { HasCleanDisk (state S.Store conn.new) → OnOk result (Stays (state S.Store conn.old)
         (state S.Store conn.new)) }
     ensures crash { Survives (state S.Store conn.old) (state S.Store conn.new) (λ _. ⊥) }
 {
     let rows = rows_of_versions(conn)?;
     Ok(version_in(rows.as_slice()))
+}
+
+/// Whether the spool file has the mark that a log belongs to it.
+pub(crate) fn is_marked<S: Alter>(conn: &mut Connection<S>) -> Result<bool, Error>
+    requires ready { IsReady (state S.Store conn.old) }
+    ensures marked { HasCleanDisk (state S.Store conn.new) → IfOk result (λ marked. marked
+        ≡ is_marked (state S.Store conn.old).now.trees) }
+    ensures same { HasCleanDisk (state S.Store conn.new) → OnOk result (Stays (state S.Store conn.old)
+        (state S.Store conn.new)) }
+    ensures crash { Survives (state S.Store conn.old) (state S.Store conn.new) (λ _. ⊥) }
+{
+    let rows = rows_of_versions(conn)?;
+    Ok(has_number(rows.as_slice(), MARK))
 }

@@ -113,6 +113,32 @@ fn reads_cut_row<S: Start>(files: &SpoolFiles<'_>, start: S) -> Result<bool, Fai
     Ok(are_cut(records.as_slice()))
 }
 
+/// Whether the mark is set once, is there after an open, and goes.
+fn marks_once<S: Start, T: Start>(
+    files: &SpoolFiles<'_>,
+    first: S,
+    second: T,
+) -> Result<bool, Fail> {
+    let mut store = files.open(first)?;
+    let new = store.set_mark()?;
+    kill(store);
+    let mut store = files.open(second)?;
+    let again = store.set_mark()?;
+    store.clear_mark()?;
+    let cleared = store.set_mark()?;
+    kill(store);
+    Ok(!new && again && !cleared)
+}
+
+#[test]
+fn the_mark_is_set_once_and_taken_away(rt: HostRuntime) -> Result<(), Fail> {
+    let files = SpoolFiles::of(&rt, "mark")?;
+    match marks_once(&files, Unknown, Unknown)? {
+        true => Ok(()),
+        false => Err("the mark of a spool file is not what was set".into()),
+    }
+}
+
 #[test]
 fn records_of_a_row_are_read_in_order(rt: HostRuntime) -> Result<(), Fail> {
     let files = SpoolFiles::of(&rt, "records_of_a_row")?;

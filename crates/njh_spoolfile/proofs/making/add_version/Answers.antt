@@ -3,7 +3,7 @@ use Rattle.sqlite.specs.State.{HasCleanDisk}
 use Rattle.sqlite.specs.Held.{state}
 use Rattle.sqlite.proofs.StateLemmas.{survives_weaker}
 use Rattle.njh_spoolfile.specs.Tables.{spool_schema}
-use Rattle.njh_spoolfile.proofs.Meaning.{insert_version, insert_version_is}
+use Rattle.njh_spoolfile.proofs.Meaning.{insert_version, insert_version_is, insert_version_plain}
 use Rattle.njh_spoolfile.proofs.Runs.{keeps_nothing}
 use Rattle.njh_spoolfile.proofs.NewTables.{sets}
 use Rattle.njh_spoolfile.proofs.making.add_version.Goals as goal
@@ -11,8 +11,9 @@ use Rattle.njh_spoolfile.proofs.making.add_version.Goals as goal
 pub returns-clause-added : goal.returns-clause-added
 returns-clause-added g c clean =
     let early : HasCleanDisk (state g.S.Store c.args.conn.now) = omega (arith, c.execute.ensures.survives.clean) in
-    sets (state g.S.Store c.args.conn.now) (state g.S.Store c.execute.new.self) _ (c.requires.ready early).0
-    (c.requires.ready early).1 (c.in_ok-execute.ensures.runs clean)
+    sets 2 insert_version insert_version_is insert_version_plain (state g.S.Store c.args.conn.now)
+    (state g.S.Store c.execute.new.self) _ (c.requires.ready early).0 (c.requires.ready early).1
+    (c.in_ok-execute.ensures.runs clean)
 
 pub returns-clause-crash : goal.returns-clause-crash
 returns-clause-crash g c =
