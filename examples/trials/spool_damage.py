@@ -11,7 +11,8 @@ of each copy that
 - `njehub files` prints one of the listings that there were, in the order of the acts, with status 0; or nothing, with
   one line on standard error and status 2;
 - `njehub files --export --raw` of some files that are listed gives its bytes, or nothing and status 2 with one line;
-- `njehub serve --turns 1` ends with status 0, or with status 2 and one line;
+- `njehub serve --turns 1` ends with status 0, or with status 2 and one line; its log says that the log isn't there if
+  that was left out, and doesn't say so of a copy that is as it was;
 - nothing ends by a signal or lasts over 20 seconds.
 
 The table has a row for each kind of damage: how many copies there were, how many were refused, how many were listed as
@@ -47,6 +48,9 @@ from spool_served import raw_of
 from spool_traffic import Sending
 
 WIDTHS = (14, 7, 8, 6, 8, 9, 8)
+
+# Of which copies the hub's log is to say that theirs isn't there, or not to.
+TOLD = {"log left out": True, "none": False}
 
 
 class Anna:
@@ -184,15 +188,22 @@ class Damage:
             raise Wrong(f"export {name}: status {status}, {err!r}, {len(out)} bytes")
 
     def serve(self, harm):
-        copy = self.served.copy(self.built.runs.folder / "harmed")
-        harm(copy)
-        line = [self.served.program, "serve", "--tables", self.served.table, "--spool", copy, "--turns", "1", "--quiet"]
-        try:
-            done = subprocess.run(line, stdin=subprocess.DEVNULL, capture_output=True, timeout=20)
-        except subprocess.TimeoutExpired:
-            raise Wrong("serve --turns 1 lasts over 20 seconds") from None
+        done = self.turn(harm, "--quiet")
         if done.returncode not in (0, 2) or done.stderr.count(b"\n") != (done.returncode == 2):
             raise Wrong(f"serve: status {done.returncode}, {done.stderr!r}")
+        if self.name in TOLD:
+            done = self.turn(harm)
+            if (b"-wal isn't there" in done.stderr) != TOLD[self.name]:
+                raise Wrong(f"serve: its log says {done.stderr!r}")
+
+    def turn(self, harm, *words):
+        copy = self.served.copy(self.built.runs.folder / "harmed")
+        harm(copy)
+        line = [self.served.program, "serve", "--tables", self.served.table, "--spool", copy, "--turns", "1", *words]
+        try:
+            return subprocess.run(line, stdin=subprocess.DEVNULL, capture_output=True, timeout=20)
+        except subprocess.TimeoutExpired:
+            raise Wrong("serve --turns 1 lasts over 20 seconds") from None
 
     def show(self):
         counts = (self.copies, self.refused, self.last, self.earlier, self.exports, self.unread)

@@ -1,6 +1,7 @@
-/* The load of spool_rate.py: pairs of lines of a hub, of which one sends files and the other takes them.
+/* The load of spool_rate.py, and what waits in spool_long.py: pairs of lines of a hub, of which one sends files and the
+   other takes them.
 
-       cc -O2 -o spool_load spool_load.c && ./spool_load SECONDS RECORDS < pairs
+       cc -O2 -o spool_load spool_load.c && ./spool_load SECONDS RECORDS [REST] < pairs
 
    A line of standard input is a pair: the ports of the sender and of the receiver on 127.0.0.1, and in hexadecimal the
    frames with which they sign on and the records of the sender's file as they stand in a frame, on SYSOUT 1 and on
@@ -13,7 +14,11 @@
 
    Half a second after all lines are up it prints "begin", and after so many seconds a line: files that the receivers
    took, exchanges, the longest answer in microseconds, those of processor that the load used, and how often a line was
-   asked again. Anything else that happens ends it with status 1 and a word. */
+   asked again. Anything else that happens ends it with status 1 and a word.
+
+   With REST a sender rests so many microseconds, half more or less, before it says its next block, and waits without
+   sleeping. Then a line is printed for each answer too: of which kind of line it was, 1 of a sender, and when its frame
+   was said and when the answer came, in nanoseconds of the monotonic clock. */
 #include <arpa/inet.h>
 #include <netinet/tcp.h>
 #include <stdio.h>
@@ -27,7 +32,7 @@
 enum { STX = 0x02, DLE = 0x10, ETB = 0x26, NAK = 0x3D };
 enum { REQUEST = 0x90, SYSOUT_1 = 0x99, PERMISSION = 0xA0, SYSOUT_2 = 0xA9, REFUSAL = 0xB0, COMPLETE = 0xC0 };
 enum { OUT_OF_SEQUENCE = 0xE0, GENERAL = 0xF0, ANSWERED_SIGN_ON = 0xD1 };
-enum { LINES = 256, WINDOW = 8, ROOM = 8192 };
+enum { LINES = 256, WINDOW = 8, ROOM = 8192, ANSWERS = 1 << 20 };
 
 typedef unsigned char byte;
 
@@ -43,10 +48,16 @@ struct line {
     int granted;                      /* of a sender: which of its streams was permitted, or -1 */
     int records[16];                  /* of a receiver: how many came on each stream */
     long files, said;                 /* how many files it sent or took; when it said its last frame, in nanoseconds */
+    long due;                         /* of a sender that rests: when it goes on */
     struct bytes sign_on, file[2], answers, in, out;
 } lines[LINES];
 
-static long wanted, files, exchanges, asked_again, longest;
+static struct answer {
+    int is_sender;
+    long said, came;
+} noted[ANSWERS];
+
+static long wanted, rest, made, files, exchanges, asked_again, longest, answers;
 
 static void stop(const char *why)
 {
@@ -188,7 +199,9 @@ static void act(struct line *line, const struct bytes *text)
 {
     exchanges++;
     if (text->length) hear(line, text);
-    if (line->is_up)
+    if (line->is_up && line->is_sender && rest)
+        line->due = now() + rest / 2 + rand() % rest;
+    else if (line->is_up)
         turn(line);
     else {
         line->out = line->sign_on;
@@ -212,6 +225,7 @@ static void readable(struct line *line, long moment)
         in->length -= taken;
         memmove(in->at, in->at + taken, in->length);
         if (moment - line->said > longest) longest = moment - line->said;
+        if (rest && answers < ANSWERS) noted[answers++] = (struct answer){line->is_sender, line->said, moment};
         if (is_nak) {
             asked_again++;
             say(line);
@@ -241,22 +255,34 @@ static void begin(struct line *line, int port, int poll)
     say(line);
 }
 
+/* The senders whose rest is over go on. */
+static void wake(void)
+{
+    for (struct line *line = lines; line < lines + made; line++)
+        if (line->due && line->due <= now()) {
+            line->due = 0;
+            turn(line);
+        }
+}
+
 /* Serves what comes for so many nanoseconds. */
 static void serve(int poll, long nanoseconds)
 {
     static struct epoll_event ready[LINES];
     for (long moment = now(), end = moment + nanoseconds; moment < end;) {
-        int count = epoll_wait(poll, ready, LINES, 100);
+        int count = epoll_wait(poll, ready, LINES, rest ? 0 : 100);
         moment = now();
         for (int at = 0; at < count; at++) readable(ready[at].data.ptr, moment);
+        wake();
     }
 }
 
 int main(int count, char **words)
 {
-    if (count != 3) return 1;
-    int poll = epoll_create1(0), made = 0, ports[2];
+    if (count < 3 || count > 4) return 1;
+    int poll = epoll_create1(0), ports[2];
     wanted = atol(words[2]);
+    rest = count == 4 ? atol(words[3]) * 1000 : 0;
     while (made < LINES && scanf("%d %d", &ports[0], &ports[1]) == 2) {
         struct line *sender = &lines[made], *receiver = &lines[made + 1];
         sender->other = receiver, receiver->other = sender, sender->is_sender = 1;
@@ -265,7 +291,7 @@ int main(int count, char **words)
         begin(sender, ports[0], poll), begin(receiver, ports[1], poll);
         made += 2;
     }
-    for (int at = 0, tries = 0; at < made; at += lines[at].is_up) {
+    for (long at = 0, tries = 0; at < made; at += lines[at].is_up) {
         if (tries++ == made + 100) stop("a line isn't up");
         if (!lines[at].is_up) serve(poll, 100000000L);
     }
@@ -273,8 +299,9 @@ int main(int count, char **words)
     puts("begin");
     fflush(stdout);
     long used = read_clock(CLOCK_PROCESS_CPUTIME_ID);
-    files = exchanges = longest = asked_again = 0;
+    files = exchanges = longest = asked_again = answers = 0;
     serve(poll, atol(words[1]) * 1000000000L);
     used = read_clock(CLOCK_PROCESS_CPUTIME_ID) - used;
     printf("%ld %ld %ld %ld %ld\n", files, exchanges, longest / 1000, used / 1000, asked_again);
+    for (long at = 0; at < answers; at++) printf("%d %ld %ld\n", noted[at].is_sender, noted[at].said, noted[at].came);
 }

@@ -2,10 +2,11 @@
 
     python3 examples/trials/spool_long.py PROGRAM [--seconds 10] [--cores 2 3 1] [PLAY ..]
 
-The hub is on the first of `--cores`, on the second are two lines of another customer: one sends blocks without records,
-and one sends and takes small files. Each says its next block some milliseconds after the last one was answered, some
-300 times a second. On the third core is the first customer's line, which sends frames of up to 4,096 bytes as fast as
-they are answered. It plays, in turn and each with a new hub:
+The hub is on the first of `--cores`, on the second is a pair of lines of another customer, played by spool_load.c, so
+that nothing but the hub makes an answer wait: one sends files of three cards, and the other takes them, some 300 a
+second, each line its next block some milliseconds after the last one was answered. On the third core is the first
+customer's line, which sends frames of up to 4,096 bytes as fast as they are answered. It plays, in turn and each with a
+new hub:
 
 - `quiet`: it says nothing.
 - `large`: a file of 10 MB, in records of 256 bytes.
@@ -16,20 +17,21 @@ they are answered. It plays, in turn and each with a new hub:
 There too a probe writes 4,096 bytes some twenty times a second to a file beside the spool file, and syncs it.
 
 The table has a row for each: the median and the longest sync in milliseconds, of the probe and of the hub, whose syncs
-are noted by a library that is loaded before it (spool_syncs.c, which cc builds); and of each of the two lines how many
-answers there were, their median and the longest in milliseconds, and the longest of them without the time of it in
-which the hub was syncing. That is to be under 10 milliseconds. What the first line played is said below each row.
+are noted by a library that is loaded before it (spool_syncs.c, which cc builds); and of the sender and of the receiver
+how many answers there were, their median and the longest in milliseconds, and the longest of them without the time of
+it in which the hub was syncing. That is to be under 10 milliseconds. What the first line played is said below each row.
 """
 
 import bisect
 import multiprocessing
 import os
-import random
 import statistics
+import subprocess
 import tempfile
 import time
 
 from frames import (
+    BLOCK,
     CARD,
     COMPLETE,
     MESSAGE,
@@ -45,9 +47,13 @@ from frames import (
 )
 from hop_ends import End
 from hub import options_of, places_of, row
-from peers import Crowd
-from spool_hub import PinnedHub, built
-from spool_speed import BIG, Brisk, table_for
+from spool_hub import PinnedHub, built, on_core
+from spool_rate import LARGE, pair_of
+from spool_rate import CARDS as ALL_CARDS
+from spool_speed import BIG, table_for
+
+# The cards of a file of the other customer.
+CARDS = ALL_CARDS[:3]
 
 PLAYS = ("quiet", "large", "flood", "many", "smallest")
 
@@ -60,30 +66,25 @@ ROOM = 4060
 QUOTA, FILLED = 65000, 8000
 
 
-class Asking(Brisk):
-    """A line of the other customer. It notes when each block was said and answered, and rests before the next one."""
+class Waiting:
+    """A pair of lines of another customer, and its answers once it has ended."""
 
-    def begin(self):
-        self.times = []
-        super().begin()
+    def __init__(self, load, places, seconds, core):
+        words = [load, str(seconds), str(len(CARDS) + 3), "3000"]
+        pipes = {"stdin": subprocess.PIPE, "stdout": subprocess.PIPE}
+        self.process = subprocess.Popen(words, text=True, preexec_fn=on_core(core), **pipes)
+        self.process.stdin.write(pair_of(*places, cards=CARDS))
+        self.process.stdin.close()
+        if self.process.stdout.readline() != "begin\n":
+            raise ConnectionError("the pair isn't up")
 
-    def turn(self, frame):
-        self.times.append((self.at, time.monotonic()))
-        time.sleep(random.uniform(0.001, 0.005))
-        if self.other:
-            super().turn(frame)
-        else:
-            self.say_block(b"")
-
-
-def asking(place, other, core):
-    def made(loop):
-        os.sched_setaffinity(0, {core})
-        peer = Asking(loop, place.port, place.node)
-        peer.other = other
-        return [peer]
-
-    return Crowd(made, lambda peer: peer.times)
+    def stop(self):
+        """Of the sender and of the receiver when each frame was said and when its answer came, in seconds."""
+        found = {"1": [], "0": []}
+        for kind, *times in map(str.split, self.process.stdout.read().splitlines()[1:]):
+            found[kind].append(tuple(int(time) / 1e9 for time in times))
+        self.process.wait()
+        return found["1"], found["0"]
 
 
 class Probe:
@@ -212,23 +213,21 @@ def cells_of(times, *more):
     return [f"{1000 * figure:.2f}" for figure in (statistics.median(lasted), max(lasted), *more)]
 
 
-def trial(options, library, name):
-    places, (core, others, own) = places_of([2, 3]), options.cores
+def trial(options, library, load, name):
+    places, (core, others, own) = places_of([2, 2]), options.cores
     os.sched_setaffinity(0, {own})
     table = table_for(places, FILLED if name == "smallest" else QUOTA, 1024)
+    table = table.replace(f"block = {BLOCK}", f"block = {LARGE}")
     with PinnedHub(options.program, table, core, library) as hub:
         hub.wait_for(places[-1].port)
-        nodes = [None, "N2", "N1"]
-        lines = [asking(place, other, others) for place, other in zip(places[2:], nodes)]
+        waiting = Waiting(load, places[2:], options.seconds, others)
         asker, probe = Asker(places[0].port, "N0"), Probe(hub.place.name, own)
         note = globals()[name](asker, options.seconds)
         syncs, probed = hub.syncs(asker.begun), [pair for pair in probe.stop() if pair[0] > asker.begun]
         cells = [*cells_of(probed), *cells_of(syncs)]
-        for line in lines[:2]:
-            times = [pair for pair in line.look()[0][0] if pair[0] > asker.begun]
+        for answers in waiting.stop():
+            times = [pair for pair in answers if asker.begun < pair[0]]
             cells += [len(times), *cells_of(times, max(beyond(times, syncs), default=0.0))]
-        for line in lines:
-            line.__exit__()
     row(WIDTHS, name, *cells)
     print(f"    {note}; {len(syncs)} syncs")
 
@@ -241,11 +240,11 @@ def main():
         (("plays",), {"nargs": "*", "metavar": "PLAY", "help": ", ".join(PLAYS) + "; all where none is named"}),
     )
     with tempfile.TemporaryDirectory() as folder:
-        library = built(folder, "spool_syncs.c", "-shared", "-fPIC", "-ldl")
+        library, load = built(folder, "spool_syncs.c", "-shared", "-fPIC", "-ldl"), built(folder, "spool_load.c")
         line = ("count", "median", "longest", "beyond")
-        row(WIDTHS, "", "probe:", "longest", "hub:", "longest", "blocks:", *line[1:], "files:", *line[1:])
+        row(WIDTHS, "", "probe:", "longest", "hub:", "longest", "sender:", *line[1:], "taker:", *line[1:])
         for name in options.plays or PLAYS:
-            trial(options, library, name)
+            trial(options, library, load, name)
 
 
 if __name__ == "__main__":

@@ -57,9 +57,9 @@ def on_stream(stream, records):
     return found.replace(b"\x10", b"\x10\x10")
 
 
-def pair_of(sender, receiver, is_ended=True):
+def pair_of(sender, receiver, is_ended=True, cards=CARDS):
     """What spool_load is told of a pair. A file without an end is given up by the next request on its stream."""
-    records = file_of(1, sender.node, "ANNA", receiver.node, "PAUL", CARDS) + [(CARD, b"")] * is_ended
+    records = file_of(1, sender.node, "ANNA", receiver.node, "PAUL", cards) + [(CARD, b"")] * is_ended
     frames = [sign_on(0xC9, place.node, LARGE) for place in (sender, receiver)]
     frames += [on_stream(stream, records) for stream in STREAMS]
     return " ".join([str(sender.port), str(receiver.port), *(frame.hex() for frame in frames)]) + "\n"
