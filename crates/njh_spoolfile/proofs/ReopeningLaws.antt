@@ -1,11 +1,11 @@
 -- What is found by the next open.
-use Rattle.std.proofs.Common.{◌≡◌, [], inl, inr, IsTrue, sym, ap, subst, ◌∙◌}
+use Rattle.std.proofs.Common.{◌≡◌, [], inl, inr, ◌<◌, length, IsTrue, sym, ap, subst, ◌∙◌, arith}
 use Rattle.std.proofs.Math.Logic.{∥∥₁_elim, ∥∥₁_map}
 use Rattle.sqlite.specs.Recovery.{Image}
 use Rattle.sqlite.specs.Tree.{Trees}
 use Rattle.sqlite.specs.Schema.{Schema}
 use Rattle.sqlite.specs.Closing.{HoldsAlone, IsCopied}
-use Rattle.sqlite.specs.Files.{HoldsDatabase, file_state}
+use Rattle.sqlite.specs.Files.{AreFoundIn, HoldsDatabase, IsEmpty, file_state}
 use Rattle.sqlite.specs.Held.{Held}
 use Rattle.sqlite_catalog.specs.Listing.{IsSound}
 use Rattle.sqlite_trees.specs.Props.{Trees-set}
@@ -14,7 +14,7 @@ use Rattle.sqlite_disk.specs.declared.Files.{Files}
 use Rattle.sqlite_store.specs.declared.store.FileStore.{FileStore}
 use Rattle.sqlite_store.specs.FileStore.{state, view, recovers}
 use Rattle.sqlite.proofs.Theorems.{opens_again}
-use Rattle.njh_spoolfile.specs.Kept.{SpoolContents, Holds, HoldsAs}
+use Rattle.njh_spoolfile.specs.Kept.{SpoolContents, Holds, HoldsAs, IsOf, no_files}
 use Rattle.njh_spoolfile.specs.Tables.{spool_schema, no_tables}
 use Rattle.njh_spoolfile.specs.Origin.{IsFoundAlone, IsFoundIn, StandsAlone}
 use Rattle.njh_spoolfile.specs.Reopened.{OpensFrom, IsOrBecomes}
@@ -90,3 +90,21 @@ stands_alone conn files is spool held = record {
   seen = found_alone spool _ _ held is.seen;
   left = λ image may. found_alone spool image _ held (is.left image may);
 }
+
+-- ---- a file without a byte
+
+no_rows : (image : Image) (found : Trees) → image.db ≡ [] → AreFoundIn image found → IsEmpty found
+no_rows image found none (inl read) =
+    absurd (let n : 0 < length image.db = read.3.found.present in let e = ap length none in omega (arith, n, e))
+no_rows image found none (inr made) = made.1
+
+is_made : (found now : Trees) → found 0 ≡ [] → IsOrBecomes found now → Holds no_files now
+is_made found now none (inl same) =
+    absurd (let e = subst (IsOf Current) none same.1 in cc)
+is_made found now none (inr (inl made)) = made.1
+is_made found now none (inr (inr taken)) =
+    absurd (let e = subst (IsOf Older) none taken.older in cc)
+
+pub empty_found : (image : Image) → image.db ≡ [] → IsFoundIn image no_files
+empty_found image none = λ now sound o.
+    is_made o.found now ((no_rows image o.found none o.reads).0 0 (omega arith)) o.kept

@@ -14,7 +14,7 @@ ghost use Rattle.njh_spoolfile.specs.Kept.{File, Record, SpoolContents, Holds, H
 ghost use Rattle.njh_spoolfile.specs.Kept.{kept, whole_in};
 ghost use Rattle.njh_spoolfile.specs.Kept.{records_of};
 ghost use Rattle.njh_spoolfile.specs.Kept.{record_number, with_file, with_changed, with_record, without_file};
-ghost use Rattle.njh_spoolfile.specs.Kept.{without_records};
+ghost use Rattle.njh_spoolfile.specs.Kept.{no_files, without_records};
 ghost use Rattle.njh_spoolfile.specs.Lists.{IsFree, has_file, kept_where};
 ghost use Rattle.njh_spoolfile.specs.Origin.{IsFoundIn};
 ghost use Rattle.njh_spoolfile.specs.Packed.{packed, several, stands_alone, unpacked_row};
@@ -97,4 +97,9 @@ pub fn what_is_left_is_found<D: Disk>()
         → IsTrue (file_state conn).is_open → (spool : SpoolContents) → Holds spool (file_state conn).committed.trees
         → (left : Image) → (files.state conn.store).may_leave left → (now : Trees) → OpensFrom left now
         → Holds spool now }
+{}
+
+/// Whoever opens a spool file that has no byte, whatever its log has, finds a spool without a file.
+pub fn an_empty_file_has_no_files()
+    ensures { (image : Image) → image.db ≡ [] → IsFoundIn image no_files }
 {}

@@ -20,8 +20,8 @@ pub use copying::{CopyFault, copy_files};
 pub use kept::{FileRow, GREATEST_ID, RecordRow, StoredFile, StoredRecord};
 pub use laws::{
     a_file_comes_last, a_file_keeps_its_place, a_file_leaves, a_record_comes_last,
-    an_older_spool_is_taken_over, others_do_not_show, records_in_part_do_not_show,
-    what_is_left_is_found, what_is_packed_is_read_back,
+    an_empty_file_has_no_files, an_older_spool_is_taken_over, others_do_not_show,
+    records_in_part_do_not_show, what_is_left_is_found, what_is_packed_is_read_back,
 };
 pub use opening::OpenFault;
 pub use origin::Origin;
