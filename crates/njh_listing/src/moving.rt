@@ -5,10 +5,11 @@ ghost use Rattle.std.specs.Io.KnownBytes.{Keeps};
 ghost use Rattle.njh_listing.specs.Faults.{IsOfSpool};
 ghost use Rattle.njh_listing.specs.Listed.{IsListed, IsListedInPart};
 ghost use Rattle.njh_listing.specs.Moved.{IsMoved};
+ghost use Rattle.njh_spoolfile.specs.Copies.{IsCopied};
 ghost use Rattle.njh_spoolfile.specs.Kept.{Holds, SpoolContents};
 ghost use Rattle.njh_spoolfile.specs.Shelf.{shown};
 ghost use Rattle.njh_spoolfile.specs.Steps.{Stays};
-ghost use Rattle.sqlite.specs.State.{HasCleanDisk};
+ghost use Rattle.sqlite.specs.State.{HasCleanDisk, Survives};
 
 use crate::fault::FilesFault;
 use crate::listing::print_files;
@@ -65,6 +66,12 @@ pub fn copy<S: Alter, T: Alter, W: Write>(
         (W.contents out.old) (W.contents out.new)) }
     ensures same { HasCleanDisk (shown S.Store from.new) → OnOk result (Stays (shown S.Store from.old)
         (shown S.Store from.new)) }
+    ensures crash_from { Survives (shown S.Store from.old) (shown S.Store from.new) (λ _. ⊥) }
+    ensures crash { Survives (shown T.Store into.old) (shown T.Store into.new)
+        (λ trees. HasCleanDisk (shown S.Store from.new) → (spool before : SpoolContents)
+        → Holds spool (shown S.Store from.old).now.trees → Holds before (shown T.Store into.old).now.trees
+        → (after : SpoolContents) × Holds after trees
+        × IsCopied (option_map (λ c. c.now) customer.entry) spool before after) }
     ensures done { OnOk result (IsListed (option_map (λ c. c.now) customer.entry) (W.contents out.old)
         (W.contents out.new)) }
     ensures begun { OnErr result (Keeps (W.contents out.old) (W.contents out.new)
@@ -86,6 +93,9 @@ fn copy_unmarked<A: Alter, B: Alter, W: Write>(
     customer: Option<&str>,
     out: &mut W,
 ) -> Result<(), FilesFault>
+    ensures same { HasCleanDisk (shown A.Store from.new) → OnOk result (Stays (shown A.Store from.old)
+        (shown A.Store from.new)) }
+    ensures crash_from { Survives (shown A.Store from.old) (shown A.Store from.new) (λ _. ⊥) }
     ensures done { OnOk result (IsListed (option_map (λ c. c.now) customer.entry) (W.contents out.old)
         (W.contents out.new)) }
     ensures begun { OnErr result (Keeps (W.contents out.old) (W.contents out.new)
@@ -155,6 +165,9 @@ fn copy_from<F: SpoolFiles + AllocGlobal, A: Alter, S: Start, W: Write>(
     start: S,
     out: &mut W,
 ) -> Result<(), FilesFault>
+    ensures same { HasCleanDisk (shown A.Store from.new) → OnOk result (Stays (shown A.Store from.old)
+        (shown A.Store from.new)) }
+    ensures crash_from { Survives (shown A.Store from.old) (shown A.Store from.new) (λ _. ⊥) }
     ensures done { OnOk result (IsListed (option_map (λ c. c.now) moved.now.customer) (W.contents out.old)
         (W.contents out.new)) }
     ensures begun { OnErr result (Keeps (W.contents out.old) (W.contents out.new)
@@ -196,6 +209,9 @@ fn copy_into<A: Alter, B: Alter + Drop, W: Write>(
     out: &mut W,
 ) -> Result<Store<B>, FilesFault>
     requires { IfErr opened IsOfSpool }
+    ensures same { HasCleanDisk (shown A.Store from.new) → OnOk result (Stays (shown A.Store from.old)
+        (shown A.Store from.new)) }
+    ensures crash_from { Survives (shown A.Store from.old) (shown A.Store from.new) (λ _. ⊥) }
     ensures done { OnOk result (IsListed (option_map (λ c. c.now) customer.entry) (W.contents out.old)
         (W.contents out.new)) }
     ensures begun { OnErr result (Keeps (W.contents out.old) (W.contents out.new)

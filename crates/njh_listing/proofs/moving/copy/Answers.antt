@@ -1,4 +1,5 @@
 use Rattle.std.proofs.Common.{option_map}
+use Rattle.sqlite.proofs.StateLemmas.{survives_then}
 use Rattle.njh_spoolfile.specs.Shelf.{shown}
 use Rattle.njh_listing.proofs.MovedLaws.{clean_before, moved}
 use Rattle.njh_listing.proofs.moving.copy.Goals as goal
@@ -13,3 +14,8 @@ returns-in-Ok-clause-moved g c = λ clean_from clean_into.
     (λ from before. c.in-Ok.ensures.copied clean_from clean from before)
     (c.print_files.ensures.same clean_into)
     (c.print_files.ensures.kept clean_into)
+
+pub returns-in-Ok-clause-crash : goal.returns-in-Ok-clause-crash
+returns-in-Ok-clause-crash g c =
+    survives_then _ _ _ _ _ _ (λ clean db made. made) (λ clean db none. absurd none) c.copy_files.ensures.crash
+    c.print_files.ensures.crash
