@@ -5,6 +5,7 @@ pub mod OpenedLaws
 pub mod RestingFiles
 pub mod IdleLines
 pub mod LinesLostLaws
+pub mod StartedLaws
 pub mod StepLaws
 pub mod WriterLaws
 pub mod OpeningNumbers

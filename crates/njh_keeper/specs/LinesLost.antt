@@ -12,10 +12,14 @@ use Rattle.njh_customer.specs.InOrder.{IsIdle, IsInOrder, after_losses, at_rest,
 use Rattle.njh_customer.specs.NewRoutes.{entry_with, part_after_routes}
 use Rattle.njh_customer.specs.Part.{rest_on}
 use Rattle.njh_customer.specs.Runs.{OwnEvent, alone_run}
-use Rattle.njh_hub.specs.WholeHub.{Part, part_at_open}
-use Rattle.njh_turns.specs.Keeping.{kept_files}
-use Rattle.njh_spoolfile.specs.Kept.{Whole}
-use Rattle.njh_keeper.specs.Opened.{AreBack, file_in, part_opened}
+use Rattle.njh_hub.specs.OwnEvents.{events_of}
+use Rattle.njh_hub.specs.WholeHub.{Part, hub_run, part, part_at_open}
+use Rattle.njh_hub.specs.declared.event.Event.{Event}
+use Rattle.njh_turns.specs.Keeping.{kept_files, kept_of}
+use Rattle.njh_table.specs.TableFile.{TableFile, customer_at, entry_of}
+use Rattle.njh_spoolfile.specs.Kept.{SpoolContents, Whole, kept}
+use Rattle.njh_keeper.specs.Keeper.{left_in}
+use Rattle.njh_keeper.specs.Opened.{AllAreBack, AreBack, file_in, hub_opened, own_files, part_opened}
 use Rattle.njh_keeper.specs.OpenedFiles.{OpenedFile, opened_of}
 
 -- ---- what is compared
@@ -83,3 +87,22 @@ LeftAsLinesLost =
     let p = (alone_run (part_opened entry before) events).after in
     AreLeftOf ws p → AreBack (part_at_open (entry_with routes entry)) ws
     → StandsAs (part_opened (entry_with routes entry) ws) (part_after_routes routes (after_losses p))
+
+-- ---- a hub that is started again
+
+-- A hub was opened from a spool file, and whatever events came, the spool file was left with the whole files of its
+-- customers as it had them then. If a hub of the same tables, or of others, is opened from what was left, a customer
+-- whose name and entry are the same but for its routes has what it would have alone, over its own events, if the
+-- sessions of all its lines were lost and it were then given these routes.
+abbrev pub StartedAgain : Type 0
+StartedAgain =
+    (table again : TableFile) (spool left : SpoolContents) (events : List Event) → AllAreBack table (kept spool)
+    → left_in (map (λ c. c.name) table.customers) left ≡ kept_of (hub_run (hub_opened table spool) events).parts
+    → AllAreBack again (kept left)
+    → (c d : ℕ) (routes : List RouteEntry) → c < length table.customers → d < length again.customers →
+    let name = (customer_at table c).name in
+    let entry = entry_of (customer_at table c) in
+    (customer_at again d).name ≡ name → entry_of (customer_at again d) ≡ entry_with routes entry
+    → All (λ line. line.streams ≤ 4) entry.lines →
+    let alone = (alone_run (part_opened entry (own_files name spool)) (events_of c events)).after in
+    StandsAs (part d (hub_opened again left)) (part_after_routes routes (after_losses alone))

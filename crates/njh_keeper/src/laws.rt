@@ -5,7 +5,7 @@ ghost use Rattle.std.specs.Prelude.{◌≡◌, ℕ, ◌<◌, false, List, length
 ghost use Rattle.std.specs.List.{AllByRecursion};
 ghost use Rattle.njh_hub.specs.WholeHub.{Part, part, part_at_open};
 ghost use Rattle.njh_keeper.specs.Opened.{AreBack, hub_opened, is_own, own_files, part_opened};
-ghost use Rattle.njh_keeper.specs.LinesLost.{LeftAsLinesLost, OpenedAsLinesLost};
+ghost use Rattle.njh_keeper.specs.LinesLost.{LeftAsLinesLost, OpenedAsLinesLost, StartedAgain};
 ghost use Rattle.njh_keeper.specs.OpenedFiles.{HasOpened};
 ghost use Rattle.njh_keeper.specs.Keeper.{IsSettledFrom, Keeping, MayLeave, left_in};
 ghost use Rattle.njh_turns.specs.Keeping.{LeavesOnly};
@@ -35,6 +35,15 @@ pub fn files_stand_again()
 pub fn opened_again_as_after_the_loss_of_all_lines()
     ensures had { OpenedAsLinesLost }
     ensures left { LeftAsLinesLost }
+{}
+
+/// A hub was opened from a spool file, and whatever events came, and whosever they were, a crash left
+/// there the whole files of its customers as it had them. If a hub is opened again from that, by the
+/// old entries with whatever routes, each customer has on it what it alone, over its own events,
+/// would have if the sessions of all its lines were lost and it were then given these routes; but
+/// for what `opened_again_as_after_the_loss_of_all_lines` leaves out.
+pub fn started_again_each_is_alone()
+    ensures { StartedAgain }
 {}
 
 /// What a customer has after the opening is decided by its own entry and its own files: on two

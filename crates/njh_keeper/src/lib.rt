@@ -30,6 +30,6 @@ pub use keeper::SpoolKeeper;
 pub use laws::{
     a_crash_leaves_what_was_committed, a_crash_leaves_what_was_opened,
     a_file_of_another_does_not_show, files_stand_again,
-    opened_again_as_after_the_loss_of_all_lines, own_files_decide,
+    opened_again_as_after_the_loss_of_all_lines, own_files_decide, started_again_each_is_alone,
 };
 pub use opening::open_from;
