@@ -62,8 +62,8 @@ pub survives_both : {old mid new : State} → Survives old mid (λ _. ⊥) → S
 survives_both {old} {mid} {new} = survives_then old mid new (λ _. ⊥) (λ _. ⊥) (λ _. ⊥) (λ clean db none. none)
     (λ clean db none. none)
 
--- of two calls, whatever they commit
-pub survives_any : {old mid new : State} {P Q : Trees → Type 0} → Survives old mid P → Survives mid new Q
-    → Survives old new (λ _. Unit {0})
-survives_any {old} {mid} {new} {P} {Q} = survives_then old mid new P Q (λ _. Unit {0}) (λ clean db may. tt)
-    (λ clean db may. tt)
+-- what it commits says more
+pub survives_as : {old new : State} {P Q : Trees → Type 0} → (HasCleanDisk new → (db : Trees) → P db → Q db)
+    → Survives old new P → Survives old new Q
+survives_as {old} {new} {P} {Q} less one =
+    survives_then old new new P (λ _. ⊥) Q less (λ clean db none. absurd none) one (survives_here new (λ _. ⊥))

@@ -27,6 +27,7 @@ pub mod NodeLaws
 pub mod FinishLaws
 pub mod ReadBackLaws
 pub mod LeadingLaws
+pub mod KeptLaws
 pub mod GatheringLaws
 pub mod ReachLaws
 pub mod NextNodeLaws

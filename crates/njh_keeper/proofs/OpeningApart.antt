@@ -5,8 +5,10 @@ use Words.{cond, List, [], ◌∷◌, ◌++◌, length, get_or, inl, inr, refl, 
 use Words.{cases_lt, nat_tests, AllByRecursion, ⊤, StoredFile, File, SpoolContents, entry_of, AreDistinct, Part}
 use Words.{AreFilesApart, own_rows, AreRemembered, entries, keyed_rows, owned_of, AllAreApart, Numbers, OwnFiles, keyed}
 use Words.{may_be_given, one_if, uses_of_all, uses_of_files, free_at, is_used, key_behind, numbers_but, is_own, map}
-use Words.{is_sum_by, IsPermutation, rises}
-use Rattle.njh_keeper.proofs.{BegunLaws.all_by_place, ListLaws.all_both, OpeningNumbers.{after_all, unused_high}}
+use Words.{is_sum_by, IsPermutation, marked_by, replicate, rises, subst, unmarked}
+use Rattle.njh_keeper.proofs.{BegunLaws.all_by_place, ListLaws.all_both}
+use Rattle.njh_keeper.proofs.OpeningNumbers.{after_all, marks_of_files, unused_high}
+use Rattle.njh_keeper.specs.code.Writing.{AreBelow, AreUnused}
 use Rattle.njh_keeper.proofs.{RowLaws.owned_once, UsesLaws.{keyed-append, keyed-map, one_or_none}}
 use Rattle.std.proofs.lemmas.{Bool.cond_both, List.Sorted.{IsPermutation-sym, sum_by-IsPermutation}}
 use Rattle.{std.specs.List.sum_by, sqlite_trees.proofs.ListLemmas.{all-permutation, all_from_map}}
@@ -189,6 +191,17 @@ pub few_are : (many : Bool) (passes : ℕ → Bool) (end n : ℕ)
     → AreBut (cond many [] (numbers_but passes end)) passes end n
 few_are true passes end n = none_are passes end n
 few_are false passes end n = numbers_are passes end n
+
+-- no file's records stand under numbers that are emptied, nor under those without a mark
+pub few_unused : (files : List StoredFile) (many : Bool) (end : ℕ)
+    → AreUnused files (cond many [] (numbers_but (is_used files) end))
+few_unused files many end = λ n used. (few_are many (is_used files) end n).passed used
+
+pub unmarked_unused : (files : List StoredFile) (marks : List Bool) (next end : ℕ) → next ≤ 200000
+    → AreBelow files next → marks ≡ marked_by (replicate 200000 false) files → AreUnused files (unmarked marks end)
+unmarked_unused files marks next end few all are =
+    subst (AreUnused files) (sym (ap (λ ms. unmarked ms end) are ∙ marks_of_files files next end (all few) few))
+    (few_unused files false end)
 
 pub rows_count : (n : ℕ) (files : List StoredFile) → keyed_rows n (entries files) ≡ keyed (λ f. f.file.key) n files
 rows_count n files = keyed-map (λ (e : ℕ × File). e.1.key) entry_of n files

@@ -6,7 +6,8 @@ use Words.{length-map, AllZip, File, SpoolContents, Whole, contents_in, kept, re
 use Words.{entry_unmarked, NamedCustomer, TableFile, customer_at, no_customer, next_number-fresh, WholeFile}
 use Words.{with_arrived, KeptFile, records_in, Part, no_part, part, part_at_open, own_rows, AreFound, IsReadFor}
 use Words.{files_at, name_at, AllAreBack, AreBack, file_in, hub_opened, own_files, part_opened, OpenedFile, as_opened}
-use Words.{opened_of}
+use Words.{cond, destination_of, destination_unrouted, filter_map, Held, is_held, kept_file, opened_of, Ready, ◌||◌}
+use Rattle.njh_keeper.{proofs.LeftLaws.found_all, specs.{code.Opening.IsWritten, Keeper.IsStillKept}}
 use Rattle.{njh_table.specs.TableFile.entry_of as entry_in, njh_customer.proofs.FileLimits.{apart_arrived, apart_fresh}}
 use Rattle.njh_customer.{proofs.FileLimits.{apart_routes, whole_distinct}, specs.InOrder.AreApart}
 use Rattle.njh_keeper.proofs.{BegunLaws.all_by_place, NewFilesLaws.records_at, OpenedLaws.{fits_in, put_back, stays_so}}
@@ -38,6 +39,24 @@ read_from s entry (e ∷ es) (g ∷ gs) (f ∷ fs) all opened =
       read_for s e f g first (ap (λ (o : OpenedFile). o.kind) here) (ap (λ (o : OpenedFile). o.records) here),
       read_from s entry es gs fs (ap (λ (os : List (Option KeptFile)). drop 1 os) all)
           (ap (λ (os : List OpenedFile). drop 1 os) opened),
+    )
+
+-- what is written of them is the same, but that some are Held now
+still_kept : (entry : CustomerEntry) (gs : List WholeFile) (fs : List KeptFile)
+    → map opened_of gs ≡ map (as_opened entry) fs → AllZip IsStillKept fs (map kept_file gs)
+still_kept entry [] [] opened = tt
+still_kept entry [] (f ∷ fs) opened = absurd (let long = ap length opened in omega (arith, long))
+still_kept entry (g ∷ gs) [] opened = absurd (let long = ap length opened in omega (arith, long))
+still_kept entry (g ∷ gs) (f ∷ fs) opened =
+    let here : opened_of g ≡ as_opened entry f = ap (λ (os : List OpenedFile). get_or os 0 (opened_of g)) opened in (
+      record {
+        kind = ap (λ (o : OpenedFile). o.kind) here;
+        records = ap (λ (o : OpenedFile). o.records) here;
+        held = λ was. ap (λ (o : OpenedFile). is_held o.state) here
+            ∙ ap (λ b. is_held (cond (b || destination_unrouted entry (destination_of f.kind f.records)) Held Ready))
+            was;
+      },
+      still_kept entry gs fs (ap (λ (os : List OpenedFile). drop 1 os) opened),
     )
 
 -- ---- by its number
@@ -73,6 +92,10 @@ module _ (table : TableFile) (spool : SpoolContents) (back : AllAreBack table (k
   part_is P so = subst P (sym (get_or-map (λ (x : NamedCustomer). part_opened (entry_in x) (own_files x.name spool))
       table.customers c no_customer no_part there)) so
 
+  named : name_at names c ≡ its_name
+  named = ap (λ ns. get_or ns c []) are
+      ∙ get_or-map (λ (x : NamedCustomer). x.name) table.customers c no_customer [] there
+
   pub all_found : AreFound (part c (hub_opened table spool)).customer.spool
   all_found = part_is (λ (p : Part). AreFound p.customer.spool)
       (let s = its_part.customer.spool in
@@ -86,9 +109,26 @@ module _ (table : TableFile) (spool : SpoolContents) (back : AllAreBack table (k
       let rows : map (λ (w : Whole). file_in w.file w.records) (map (whole_in spool) (own_rows its_name spool))
       ≡ map Some opened.files =
       ap (map (λ (w : Whole). file_in w.file w.records)) (sym (own_files_are its_name spool)) ∙ opened.all in
-      let named : name_at names c ≡ its_name = ap (λ ns. get_or ns c []) are
-      ∙ get_or-map (λ (x : NamedCustomer). x.name) table.customers c no_customer [] there in
       part_is (λ (p : Part). AllZip (IsReadFor spool) (own_rows (name_at names c) spool) p.customer.spool.whole)
       (subst (λ who. AllZip (IsReadFor spool) (own_rows who spool) its_part.customer.spool.whole) (sym named)
       (read_from spool (entry_unmarked its_entry) (own_rows its_name spool) its_part.customer.spool.whole opened.files
       rows opened.whole))
+
+  abbrev pub read_of : List ℕ → SpoolContents → List KeptFile
+  read_of name s = filter_map (λ (w : Whole). file_in w.file w.records) (own_files name s)
+
+  pub all_still : (t : SpoolContents) → IsWritten names (hub_opened table spool) spool t
+      → AllZip IsStillKept (read_of (name_at names c) spool) (read_of (name_at names c) t)
+  all_still t written =
+      let files = files_at c (hub_opened table spool) in
+      let opened = opened_files its_entry (own_files its_name spool) (back c there) in
+      let before : read_of (name_at names c) spool ≡ opened.files =
+      ap (λ name. read_of name spool) named ∙ found_all (λ (w : Whole). file_in w.file w.records)
+      (own_files its_name spool) opened.files opened.all in
+      let now : read_of (name_at names c) t ≡ map kept_file files =
+      found_all (λ (w : Whole). file_in w.file w.records) (own_files (name_at names c) t) (map kept_file files)
+      (written.each c low) in
+      subst (λ fs. AllZip IsStillKept fs (read_of (name_at names c) t)) (sym before)
+      (subst (AllZip IsStillKept opened.files) (sym now)
+      (part_is (λ (p : Part). AllZip IsStillKept opened.files (map kept_file p.customer.spool.whole))
+      (still_kept (entry_unmarked its_entry) its_part.customer.spool.whole opened.files opened.whole)))

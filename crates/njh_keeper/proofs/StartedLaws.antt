@@ -1,7 +1,7 @@
 -- A hub that is opened from a spool file, runs, and is opened again from what was left.
 use Rattle.njh_keeper.proofs.Words
 use Words.{◌≡◌, ℕ, ◌<◌, List, [], length, map, get_or, get_or-map, sym, ap, subst, ◌∙◌, arith, length-map, filter_map}
-use Words.{CustomerEntry, RouteEntry, NamedCustomer, TableFile, customer_at, no_customer, SpoolContents, Whole, KeptFile}
+use Words.{CustomerEntry, NamedCustomer, TableFile, customer_at, no_customer, SpoolContents, Whole, KeptFile}
 use Words.{Part, no_part, part, part_at_open, kept_of, left_in, file_in, hub_opened, own_files, part_opened, AreBack}
 use Words.{entry_with, part_after_routes}
 use Rattle.njh_hub.{proofs.{NamedLaws.hub_run-length, RunLaws.each_is_alone}, specs.WholeHub.hub_run}

@@ -76,5 +76,5 @@ pub use Rattle.njh_keeper.specs.Opened.{file_fault, file_in, hub_opened, is_name
 pub use Rattle.njh_keeper.specs.Opened.{kind_word, own_files, part_opened, whole_fault, with_whole}
 pub use Rattle.njh_keeper.specs.OpenedFiles.{as_opened, HasOpened, opened_of, OpenedFile}
 pub use Rattle.njh_keeper.proofs.LeadingLaws.{clean_before, leads_by, leads_nothing, leads_then, leads_weaker}
-pub use Rattle.njh_keeper.proofs.LeadingLaws.{survives_any, survives_both, survives_here}
+pub use Rattle.njh_keeper.proofs.LeadingLaws.{survives_as, survives_both, survives_here}
 pub use Rattle.{njh_keeper.specs.code.Counting.{Grows, rows_of}, njh_turns.proofs.KeepingLaws.on_ok}

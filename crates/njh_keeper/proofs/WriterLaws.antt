@@ -3,10 +3,11 @@ use Rattle.njh_keeper.proofs.Words
 use Words.{◌≡◌, ℕ, suc, ◌+◌, ◌-◌, ◌<◌, ◌≤◌, ◌^◌, ◌&&◌, min, nat_le, nat_lt, Bool, true, false, not, cond, List, []}
 use Words.{◌∷◌, ◌++◌, filter, length, slice_index_or, refl, inl, inr, sym, ap, subst, ◌∙◌, arith, cases_lt, nat_tests}
 use Words.{Database, State, CommitState, Stands, Record, SpoolContents, Holds, without_records, Changes, is_marked}
-use Words.{numbers_but, ShowsNow, unmarked, without_keys}
+use Words.{clean_before, HasCleanDisk, numbers_but, ShowsNow, Survives, unmarked, without_keys}
+use Rattle.sqlite.proofs.StateLemmas.{survives_then}
 use Rattle.{std.proofs.lemmas.List.{append-nil, append_assoc}, njh_spoolfile.specs.Steps.Commits}
 use Rattle.njh_spoolfile.specs.Kept.{record_number, records_between}
-use Rattle.njh_keeper.specs.code.Writing.{below, Drops, is_due}
+use Rattle.njh_keeper.specs.code.Writing.{below, Drops, HoldChanged, is_due}
 
 -- a change that waits
 stands_changed : (change : SpoolContents → SpoolContents) (s : CommitState) (old new : State)
@@ -102,19 +103,49 @@ pub unmarked_more : (marks : List Bool) (key : ℕ) → slice_index_or marks key
     → unmarked marks (key + 1) ≡ unmarked marks key ++ key ∷ []
 unmarked_more marks key is = fails_more (is_marked marks) key is
 
+pub dropped_more : (marks : List Bool) (key : ℕ) (s : SpoolContents) → slice_index_or marks key false ≡ false
+    → without_records key 0 (2 ^ 23) (without_keys (unmarked marks key) s) ≡ without_keys (unmarked marks (key + 1)) s
+dropped_more marks key s is = sym (keys_more (unmarked marks key) key s)
+    ∙ ap (λ keys. without_keys keys s) (sym (unmarked_more marks key is))
+
 pub emptied_more : (marks : List Bool) (key waited waiting : ℕ) (s : CommitState) (mid new : State)
     → slice_index_or marks key false ≡ false → ShowsNow (without_keys (unmarked marks key)) s mid
     → ((t : CommitState) → Stands t mid → Drops (without_records key 0 (2 ^ 23)) waited waiting t new)
     → ShowsNow (without_keys (unmarked marks (key + 1))) s new
 emptied_more marks key waited waiting s mid new is at made =
-    let so_far = unmarked marks key in
-    let same : without_records key 0 (2 ^ 23) (without_keys so_far s.now) ≡ without_keys (unmarked marks (key + 1))
-    s.now = sym (keys_more so_far key s.now)
-    ∙ ap (λ keys. without_keys keys s.now) (sym (unmarked_more marks key is)) in
-    let more = made (record { now = without_keys so_far s.now; kept = at.0 }) at.1 in (
+    let more = made (record { now = without_keys (unmarked marks key) s.now; kept = at.0 }) at.1 in (
       more.kept,
-      subst (λ now. Stands (record { now = now; kept = more.kept }) new) same more.stands,
+      subst (λ now. Stands (record { now = now; kept = more.kept }) new) (dropped_more marks key s.now is) more.stands,
     )
+
+-- ---- what may be committed on the way
+
+-- a change that waits is
+pub changed_kept : (change : SpoolContents → SpoolContents) (old mid new : State)
+    → (HasCleanDisk mid → Changes change old mid) → Survives old mid (λ _. ⊥)
+    → Survives mid new (λ trees. trees ≡ mid.now.trees)
+    → Survives old new (HoldChanged change old)
+changed_kept change old mid new made one more =
+    survives_then old mid new (λ _. ⊥) (λ trees. trees ≡ mid.now.trees) (HoldChanged change old)
+    (λ clean db none. absurd none)
+    (λ clean db is s at. subst (Holds (change s.now)) (sym is) ((made (clean_before more clean)).holds s.now at.now))
+    one more
+
+-- what is dropped under one more number
+pub emptied_kept : (marks : List Bool) (key : ℕ) (old mid new : State) → slice_index_or marks key false ≡ false
+    → (HasCleanDisk mid → (s : CommitState) → Stands s old
+    → ShowsNow (without_keys (unmarked marks key)) s mid)
+    → Survives old mid (λ trees. (n : ℕ) × HoldChanged (without_keys (unmarked marks n)) old trees)
+    → Survives mid new (HoldChanged (without_records key 0 (2 ^ 23)) mid)
+    → Survives old new (λ trees. (n : ℕ) × HoldChanged (without_keys (unmarked marks n)) old trees)
+emptied_kept marks key old mid new is so_far one more =
+    survives_then old mid new _ (HoldChanged (without_records key 0 (2 ^ 23)) mid) _ (λ clean db made. made)
+    (λ clean db made. (
+      key + 1,
+      λ s at. let here = so_far (clean_before more clean) s at in
+          subst (λ now. Holds now db) (dropped_more marks key s.now is)
+          (made (record { now = without_keys (unmarked marks key) s.now; kept = here.0 }) here.1),
+    )) one more
 
 -- of the numbers below another one too
 low : (a b : ℕ) → a < b → (min a b ≡ a) × (min (a + 1) b ≡ a + 1) × (below b a ≡ a ∷ [])

@@ -1,8 +1,8 @@
 -- What keeps whole files in a spool file, and the hub that it opens.
 use Rattle.std.specs.Prelude.{◌≡◌, ℕ, Bool, true, false, List, map, Option, refl}
-use Rattle.std.specs.List.{AllByRecursion, filter_map}
+use Rattle.std.specs.List.{AllByRecursion, AllZip, filter_map}
 use Rattle.std.specs.Coded.{Coded, code_by, coded×, coded_bool, coded_list, coded_option, coded_ℕ}
-use Rattle.sqlite.specs.State.{HasCleanDisk}
+use Rattle.sqlite.specs.State.{HasCleanDisk, State}
 use Rattle.sqlite.specs.Store.{Ghosts}
 use Rattle.sqlite.specs.Tree.{Trees}
 use Rattle.njh_hub.specs.Parts.{entries_of}
@@ -128,6 +128,28 @@ pub record IsSettledFrom {S : Type 0} (g : Ghosts S) (before behind : Keeping S)
   pub names : behind.names ≡ map (λ c. c.name) table.customers
   pub committed : HasCleanDisk (shown g behind.store) → (s : CommitState) → Stands s (shown g before.store)
       → IsCommitted g behind parts
+
+-- ---- what an opening may commit
+
+-- A file is kept as it was, or is Held now and wasn't.
+pub record IsStillKept (before left : KeptFile) : Type 0 where
+  pub kind : left.kind ≡ before.kind
+  pub records : left.records ≡ before.records
+  pub held : before.held ≡ true → left.held ≡ true
+
+-- Each customer has the same files, in their order.
+abbrev pub AreStillKept : (before left : List (List KeptFile)) → Type 0
+AreStillKept before left = AllZip (AllZip IsStillKept) before left
+
+-- So it is of customers of whatever names.
+abbrev pub KeepsAll : SpoolContents → SpoolContents → Type 0
+KeepsAll before now = (names : List (List ℕ)) → AreStillKept (left_in names before) (left_in names now)
+
+-- If the files held a spool when they were opened, these trees hold one that keeps all.
+abbrev pub MayOpenTo : (SpoolContents → Type 0) → State → Trees → Type 0
+MayOpenTo found old trees =
+    (began : SpoolContents) → found began
+    → (now : SpoolContents) × Stands (record { now = began; kept = began }) old × Holds now trees × KeepsAll began now
 
 -- ---- what is known of a hub
 

@@ -1,11 +1,11 @@
 //! The memory of a keeper begins with a hub that was opened from its spool file.
 
-ghost use Rattle.std.specs.Prelude.{◌≡◌, true, false, map, string_bytes, ⊤, IfOk, OnOk};
+ghost use Rattle.std.specs.Prelude.{◌≡◌, true, false, map, string_bytes, IfOk, OnOk};
 ghost use Rattle.std.specs.List.{AllByRecursion};
 ghost use Rattle.sqlite.specs.State.{HasCleanDisk, Survives};
 ghost use Rattle.njh_keeper.specs.Opened.{is_name_of};
 ghost use Rattle.njh_keeper.specs.code.Memory.{numbers_of, own_of};
-ghost use Rattle.njh_keeper.specs.code.Opening.{Begins};
+ghost use Rattle.njh_keeper.specs.code.Opening.{Begins, MayBegin};
 ghost use Rattle.njh_spoolfile.specs.Shelf.{shown};
 
 use crate::numbers::check_numbers;
@@ -34,7 +34,8 @@ pub(crate) fn begin<S: Alter + Drop>(
     ensures texts { IfOk result (λ owns. AllByRecursion
         (λ own. is_name_of (string_bytes own.text) own.name ≡ true) owns.items) }
     ensures settled { OnOk result ((writer.new.is_changed ≡ false) × (writer.new.waiting ≡ 0)) }
-    ensures crash { Survives (shown S.Store writer.old.store) (shown S.Store writer.new.store) (λ _. ⊤) }
+    ensures crash { Survives (shown S.Store writer.old.store) (shown S.Store writer.new.store)
+        (MayBegin names.now hub.now (shown S.Store writer.old.store)) }
 {
     let files = writer.store.files(writer.alloc)?;
     check_numbers(writer.alloc, &files)?;

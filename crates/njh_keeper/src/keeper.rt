@@ -1,6 +1,6 @@
 //! The whole files of a hub's customers are kept in a spool file.
 
-ghost use Rattle.std.specs.Prelude.{◌≡◌, ◌≢◌, ◌⊎◌, ◌≤◌, List, false, true, length, option_map, None, ⊤, IfOk, IfErr};
+ghost use Rattle.std.specs.Prelude.{◌≡◌, ◌≢◌, ◌⊎◌, ◌≤◌, List, false, true, length, option_map, None, IfOk, IfErr};
 ghost use Rattle.std.specs.Prelude.{OnOk};
 ghost use Rattle.std.specs.List.{AllByRecursion};
 ghost use Rattle.sqlite.specs.State.{HasCleanDisk, Survives};
@@ -17,8 +17,8 @@ ghost use Rattle.njh_spoolfile.specs.CommitState.{CommitState, Stands};
 ghost use Rattle.njh_spoolfile.specs.Steps.{Stays};
 ghost use Rattle.njh_keeper.specs.Refusal.{IsFirstRefused, refusal_of};
 ghost use Rattle.njh_keeper.specs.Keeper.{IsAsKept, IsCommitted, IsKeptNow, IsOpenedFrom, IsSettledFrom, KnowsHub};
-ghost use Rattle.njh_keeper.specs.Keeper.{KnowsNow, MayLeave, left_in};
-ghost use Rattle.njh_keeper.specs.code.Opening.{AllAreFound, AllAreRead};
+ghost use Rattle.njh_keeper.specs.Keeper.{KnowsNow, MayLeave, MayOpenTo, left_in};
+ghost use Rattle.njh_keeper.specs.code.Opening.{AllAreFound, AllAreRead, MayBegin};
 ghost use Rattle.njh_keeper.specs.code.Refusing.{Notes};
 ghost use Rattle.njh_table.specs.Accepted.{AreDistinct};
 
@@ -228,7 +228,8 @@ impl<'a, R: Clock, S: Origin + Drop> SpoolKeeper<'a, R, S> {
             → AllAreFound self.old.names hub.now → AllAreRead self.old.names hub.now s.now
             → length self.old.names ≡ length hub.now → AllByRecursion HasShortRests hub.now
             → KnowsNow S.Store self.new hub.now) }
-        ensures crash { Survives (shown S.Store self.old.store) (shown S.Store self.new.store) (λ _. ⊤) }
+        ensures crash { Survives (shown S.Store self.old.store) (shown S.Store self.new.store)
+            (MayBegin self.old.names hub.now (shown S.Store self.old.store)) }
     {
         self.is_fresh = false;
         see_sound(hub, self.names.len())?;
@@ -249,6 +250,10 @@ impl<'a, R: Clock, S: Origin + Drop> SpoolKeeper<'a, R, S> {
         ensures refused { HasCleanDisk (shown S.Store self.new.store) → IfErr result (λ fault. fault ≡ Refused
             → (spool : SpoolContents) → Holds spool (shown S.Store self.old.store).now.trees
             → IsFirstRefused tables spool self.new.refused) }
+        ensures spared { IfErr result (λ fault. fault ≡ Refused
+            → Survives (shown S.Store self.old.store) (shown S.Store self.new.store) (λ _. ⊥)) }
+        ensures crash { Survives (shown S.Store self.old.store) (shown S.Store self.new.store)
+            (MayOpenTo S.found (shown S.Store self.old.store)) }
     {
         if !self.is_fresh {
             drop(tables);
@@ -284,7 +289,8 @@ impl<'a, R: Clock, S: Origin + Drop> SpoolKeeper<'a, R, S> {
             → Stands s (shown S.Store self.old.store) → AreDistinct names.items → AllAreFound names.items hub
             → AllAreRead names.items hub s.now → length names.items ≡ length hub → AllByRecursion HasShortRests hub
             → KnowsNow S.Store self.new hub) }
-        ensures crash { Survives (shown S.Store self.old.store) (shown S.Store self.new.store) (λ _. ⊤) }
+        ensures crash { Survives (shown S.Store self.old.store) (shown S.Store self.new.store)
+            (MayBegin names.items hub (shown S.Store self.old.store)) }
     {
         self.names = names;
         match self.remember(&hub) {

@@ -1,15 +1,17 @@
 -- What the keeper does with the rows of a spool file from which a hub was opened.
-use Rattle.std.specs.Prelude.{◌≡◌, ◌≢◌, ℕ, ◌+◌, ◌<◌, List, [], ◌++◌, length, map, filter, slice_index_or}
+use Rattle.std.specs.Prelude.{◌≡◌, ◌≢◌, ℕ, ◌+◌, ◌<◌, List, [], ◌++◌, length, map, filter, slice_index_or, Some}
 use Rattle.std.specs.List.{AllByRecursion, AllZip}
 use Rattle.njh_spool.specs.CustomerSpool.{CustomerSpool, WholeFile}
 use Rattle.njh_stream.specs.SpoolFiles.{records_in}
 use Rattle.njh_hub.specs.WholeHub.{Part, part}
 use Rattle.njh_table.specs.Accepted.{AreDistinct}
+use Rattle.njh_turns.specs.Keeping.{kept_file}
 use Rattle.sqlite.specs.State.{State}
-use Rattle.njh_spoolfile.specs.Kept.{File, SpoolContents, entry_of}
+use Rattle.sqlite.specs.Tree.{Trees}
+use Rattle.njh_spoolfile.specs.Kept.{File, Holds, SpoolContents, entry_of}
 use Rattle.njh_spoolfile.specs.CommitState.{CommitState, Stands}
 use Rattle.njh_spoolfile.specs.declared.kept.StoredFile.{StoredFile}
-use Rattle.njh_keeper.specs.Opened.{is_own}
+use Rattle.njh_keeper.specs.Opened.{file_in, is_own, own_files}
 use Rattle.njh_keeper.specs.code.Mirrored.{IsOrdered, ReadsAs, WritesRowsOf, own_rows}
 use Rattle.njh_keeper.specs.code.Remembered.{AllAreApart, AllBeside, AreBelow, IsKept, KeptWhole, Mirrored, Numbers}
 use Rattle.njh_keeper.specs.code.Remembered.{OwnFiles, keyed}
@@ -139,3 +141,16 @@ abbrev pub Begins : (names : List (List ℕ)) (hub : List Part) (owns : List Own
 Begins names hub owns w old new =
     (s : CommitState) → Stands s old → AreDistinct names → AllAreFound names hub → AllAreRead names hub s.now
     → (t : SpoolContents) × HasBegun names hub owns w t × Stands (record { now = t; kept = t }) new
+
+-- The hub's files of each of these customers stand there, and all other files as they stood.
+pub record IsWritten (names : List (List ℕ)) (hub : List Part) (s t : SpoolContents) : Type 0 where
+  pub each : (c : ℕ) → c < length names
+      → map (λ w. file_in w.file w.records) (own_files (name_at names c) t) ≡ map Some (map kept_file (files_at c hub))
+  pub others : (name : List ℕ) → ((c : ℕ) → c < length names → name_at names c ≢ name)
+      → own_files name t ≡ own_files name s
+
+-- From such a spool these trees may be committed on the way.
+abbrev pub MayBegin : (names : List (List ℕ)) (hub : List Part) → State → Trees → Type 0
+MayBegin names hub old trees =
+    (s : CommitState) → Stands s old → AreDistinct names → AllAreFound names hub → AllAreRead names hub s.now
+    → (t : SpoolContents) × Holds t trees × IsWritten names hub s.now t

@@ -4,9 +4,11 @@ use Rattle.std.specs.Prelude.{Bool, true, false, if◌then◌else◌, List, [], 
 use Rattle.std.specs.Prelude.{slice_set}
 use Rattle.std.specs.List.{AllByRecursion, list_any}
 use Rattle.sqlite.specs.State.{State}
-use Rattle.njh_spoolfile.specs.Kept.{Record, SpoolContents, with_record, without_records}
+use Rattle.sqlite.specs.Tree.{Trees}
+use Rattle.njh_spoolfile.specs.Kept.{Holds, Record, SpoolContents, with_record, without_records}
 use Rattle.njh_spoolfile.specs.CommitState.{CommitState, Stands}
 use Rattle.njh_spoolfile.specs.declared.kept.StoredFile.{StoredFile}
+use Rattle.njh_keeper.specs.code.Remembered.{keyed}
 use Rattle.njh_keeper.specs.declared.own_files.Sweep.{Sweep}
 
 -- a record in the place of the one that stood there
@@ -115,6 +117,18 @@ below end key = if nat_lt key end then key ∷ [] else []
 -- nothing stands under these numbers any more
 abbrev pub without_keys : List ℕ → SpoolContents → SpoolContents
 without_keys keys spool = fold (λ s key. without_records key 0 (2 ^ 23) s) spool keys
+
+-- no file's records stand under any of these
+abbrev pub AreUnused : List StoredFile → List ℕ → Type 0
+AreUnused files keys = (n : ℕ) → is_used files n ≡ true → keyed (λ k. k) n keys ≡ 0
+
+-- these trees hold another spool than the connection shows
+abbrev pub HoldChanged : (SpoolContents → SpoolContents) → State → Trees → Type 0
+HoldChanged change at trees = (s : CommitState) → Stands s at → Holds (change s.now) trees
+
+-- nothing stands in them under some numbers that no file's records stand under
+abbrev pub LackUnused : List StoredFile → State → Trees → Type 0
+LackUnused files at trees = (keys : List ℕ) × AreUnused files keys × HoldChanged (without_keys keys) at trees
 
 -- the spool is another one, whatever was committed
 abbrev pub ShowsNow : (SpoolContents → SpoolContents) → CommitState → State → Type 0

@@ -1,12 +1,13 @@
 //! Which numbers are next and which are free when a spool file was opened.
 
-ghost use Rattle.std.specs.Prelude.{◌≡◌, ◌<◌, ◌+◌, ◌-◌, ◌^◌, ◌++◌, ⊤, false, min, replicate, IfOk, OnOk};
+ghost use Rattle.std.specs.Prelude.{◌≡◌, ◌<◌, ◌+◌, ◌-◌, ◌^◌, ◌++◌, ℕ, false, min, replicate, IfOk, OnOk};
 ghost use Rattle.sqlite.specs.State.{HasCleanDisk, Survives};
 ghost use Rattle.njh_spoolfile.specs.Kept.{without_records};
 ghost use Rattle.njh_spoolfile.specs.Shelf.{shown};
 ghost use Rattle.njh_spoolfile.specs.CommitState.{CommitState, Stands};
-ghost use Rattle.njh_keeper.specs.code.Writing.{AreBelow, Drops, ShowsNow, below, emptied_at, free_at, id_behind};
-ghost use Rattle.njh_keeper.specs.code.Writing.{is_marked, key_behind, marked_by, shows_kept, unmarked, without_keys};
+ghost use Rattle.njh_keeper.specs.code.Writing.{AreBelow, Drops, HoldChanged, LackUnused, ShowsNow, below};
+ghost use Rattle.njh_keeper.specs.code.Writing.{emptied_at, free_at, id_behind, is_marked, key_behind, marked_by};
+ghost use Rattle.njh_keeper.specs.code.Writing.{shows_kept, unmarked, without_keys};
 
 use crate::writer::{PLACES, SpoolWriter};
 use njh_spoolfile::{GREATEST_ID, StoredFile};
@@ -32,7 +33,8 @@ impl<S: Alter + Drop> SpoolWriter<S> {
             × (self.new.free_keys.items ≡ self.old.free_keys.items ++ free_at files.now self.new.next_key)
             × (self.new.waiting ≡ 0) × (self.new.is_changed ≡ false)) }
         ensures others { self.new.now ≡ self.old.now }
-        ensures crash { Survives (shown S.Store self.old.store) (shown S.Store self.new.store) (λ _. ⊤) }
+        ensures crash { Survives (shown S.Store self.old.store) (shown S.Store self.new.store)
+            (LackUnused files.now (shown S.Store self.old.store)) }
     {
         self.go_behind(files);
         self.empty_others(files)?;
@@ -66,7 +68,8 @@ impl<S: Alter + Drop> SpoolWriter<S> {
           waiting = self.new.waiting;
           is_changed = self.new.is_changed;
         } }
-        ensures crash { Survives (shown S.Store self.old.store) (shown S.Store self.new.store) (λ _. ⊤) }
+        ensures crash { Survives (shown S.Store self.old.store) (shown S.Store self.new.store)
+            (LackUnused files.now (shown S.Store self.old.store)) }
     {
         if self.next_key > LOOKED_FOR {
             return Ok(());
@@ -90,7 +93,9 @@ impl<S: Alter + Drop> SpoolWriter<S> {
           waiting = self.new.waiting;
           is_changed = self.new.is_changed;
         } }
-        ensures crash { Survives (shown S.Store self.old.store) (shown S.Store self.new.store) (λ _. ⊤) }
+        ensures crash { Survives (shown S.Store self.old.store) (shown S.Store self.new.store)
+            (λ trees. (n : ℕ) × HoldChanged (without_keys (unmarked marks.now n)) (shown S.Store self.old.store)
+            trees) }
     {
         for key in 0..self.next_key.saturating_add(MARGIN) {
             if !is_marked(marks, key) {
@@ -107,7 +112,8 @@ impl<S: Alter + Drop> SpoolWriter<S> {
             self.new.waiting s (shown S.Store self.new.store)) }
         ensures free { OnOk result (self.new.free_keys.items
             ≡ self.old.free_keys.items ++ below self.old.next_key key) }
-        ensures crash { Survives (shown S.Store self.old.store) (shown S.Store self.new.store) (λ _. ⊤) }
+        ensures crash { Survives (shown S.Store self.old.store) (shown S.Store self.new.store)
+            (HoldChanged (without_records key 0 (2 ^ 23)) (shown S.Store self.old.store)) }
         ensures others { self.new ≡ record self.old {
           store = self.new.store;
           free_keys = self.new.free_keys;
@@ -129,7 +135,8 @@ impl<S: Alter + Drop> SpoolWriter<S> {
             → Stands s (shown S.Store self.old.store) → Drops (without_records key 0 (2 ^ 23)) self.old.waiting
             self.new.waiting s (shown S.Store self.new.store)) }
         ensures few { OnOk result (self.new.waiting < 4096) }
-        ensures crash { Survives (shown S.Store self.old.store) (shown S.Store self.new.store) (λ _. ⊤) }
+        ensures crash { Survives (shown S.Store self.old.store) (shown S.Store self.new.store)
+            (HoldChanged (without_records key 0 (2 ^ 23)) (shown S.Store self.old.store)) }
         ensures others { self.new ≡ record self.old {
           store = self.new.store;
           waiting = self.new.waiting;

@@ -1,8 +1,10 @@
 use Rattle.njh_keeper.proofs.Words
-use Words.{◌≡◌, ◌++◌, length, map, sym, ap, subst, ◌∙◌, arith, length-map, ⊤, HasCleanDisk, State, Survives, Stands}
+use Words.{◌≡◌, ◌++◌, length, map, sym, ap, subst, ◌∙◌, arith, length-map, HasCleanDisk, State, Survives, Stands}
 use Words.{shown, AreFilesApart, have_low_ids, numbers_of, own_of, AreRemembered, HasBegun, entries, emptied_at}
-use Words.{free_at, key_behind, without_keys, SpoolWriter, survives_any}
-use Rattle.njh_keeper.proofs.{KnownLaws.stood_still, OpeningBegun.has_begun, RowLaws.is_ordered}
+use Words.{free_at, key_behind, Leads, without_keys, SpoolWriter, survives_as, survives_both}
+use Rattle.njh_keeper.proofs.{KeptLaws.begun_commits, KnownLaws.stood_still, OpeningBegun.has_begun}
+use Rattle.njh_keeper.{proofs.RowLaws.is_ordered, specs.code.Opening.RememberingAll}
+use Rattle.njh_keeper.specs.code.Writing.{LackUnused}
 use Rattle.njh_keeper.proofs.beginning.begin.Goals as goal
 
 pub returns-clause-begun : goal.returns-clause-begun
@@ -49,18 +51,55 @@ returns-clause-begun g c clean s stands distinct found reads =
     )
 
 pub returns-in_err-owns-clause-crash : goal.returns-in_err-owns-clause-crash
-returns-in_err-owns-clause-crash g c = survives_any c.files.ensures.crash c.remember_all.ensures.crash
+returns-in_err-owns-clause-crash g c =
+    survives_as (λ clean db none. absurd none) (survives_both c.files.ensures.crash c.remember_all.ensures.crash)
 
 pub returns-in_err-begin_numbers-clause-crash : goal.returns-in_err-begin_numbers-clause-crash
 returns-in_err-begin_numbers-clause-crash g c =
-    let same = ap (λ (x : SpoolWriter g.row.S.Denot). shown g.S.Store x.store) c.forget_numbers.ensures.others in
-    survives_any c.files.ensures.crash (survives_any c.remember_all.ensures.crash
-    (subst (λ (x : State). Survives x (shown g.S.Store c.begin_numbers.new.self.store) (λ _. ⊤)) same
+    let first = shown g.S.Store c.files.new.self in
+    let second = shown g.S.Store c.remember_all.new.writer.store in
+    let new = shown g.S.Store c.begin_numbers.new.self.store in
+    let names = c.args.names.now in
+    let hub = c.args.hub.now in
+    let owns = map own_of c.in_ok-owns.owns.items in
+    begun_commits c.in_ok-files.files.items names hub owns _ first second new
+    (omega (
+      arith,
+      length-map c.in_ok-owns.owns.items own_of,
+      length-map c.in_ok-owns.owns.items (λ own. own.name),
+      ap length c.in_ok-owns.ensures.names,
+    ))
+    c.in_ok-files.ensures.files c.in_ok-files.ensures.same
+    (λ found clean. subst (λ fs. Leads (RememberingAll names hub (entries fs) owns) first second)
+    c.deref-2.ensures.value (c.in_ok-owns.ensures.led found clean))
+    c.files.ensures.crash c.remember_all.ensures.crash
+    (subst (λ (x : State). Survives x new (LackUnused c.in_ok-files.files.items x))
+    (ap (λ (x : SpoolWriter g.row.S.Denot). shown g.S.Store x.store) c.forget_numbers.ensures.others)
+    (subst (λ fs. Survives (shown g.S.Store c.forget_numbers.new.self.store) new
+    (LackUnused fs (shown g.S.Store c.forget_numbers.new.self.store))) c.deref-3.ensures.value
     c.begin_numbers.ensures.crash))
 
 pub returns-clause-crash : goal.returns-clause-crash
 returns-clause-crash g c =
-    let same = ap (λ (x : SpoolWriter g.row.S.Denot). shown g.S.Store x.store) c.forget_numbers.ensures.others in
-    survives_any c.files.ensures.crash (survives_any c.remember_all.ensures.crash
-    (subst (λ (x : State). Survives x (shown g.S.Store c.begin_numbers.new.self.store) (λ _. ⊤)) same
+    let first = shown g.S.Store c.files.new.self in
+    let second = shown g.S.Store c.remember_all.new.writer.store in
+    let new = shown g.S.Store c.begin_numbers.new.self.store in
+    let names = c.args.names.now in
+    let hub = c.args.hub.now in
+    let owns = map own_of c.in_ok-owns.owns.items in
+    begun_commits c.in_ok-files.files.items names hub owns _ first second new
+    (omega (
+      arith,
+      length-map c.in_ok-owns.owns.items own_of,
+      length-map c.in_ok-owns.owns.items (λ own. own.name),
+      ap length c.in_ok-owns.ensures.names,
+    ))
+    c.in_ok-files.ensures.files c.in_ok-files.ensures.same
+    (λ found clean. subst (λ fs. Leads (RememberingAll names hub (entries fs) owns) first second)
+    c.deref-2.ensures.value (c.in_ok-owns.ensures.led found clean))
+    c.files.ensures.crash c.remember_all.ensures.crash
+    (subst (λ (x : State). Survives x new (LackUnused c.in_ok-files.files.items x))
+    (ap (λ (x : SpoolWriter g.row.S.Denot). shown g.S.Store x.store) c.forget_numbers.ensures.others)
+    (subst (λ fs. Survives (shown g.S.Store c.forget_numbers.new.self.store) new
+    (LackUnused fs (shown g.S.Store c.forget_numbers.new.self.store))) c.deref-3.ensures.value
     c.begin_numbers.ensures.crash))

@@ -1,9 +1,11 @@
 use Rattle.njh_keeper.proofs.Words
 use Words.{List, map, sym, ap, subst, ◌∙◌, arith, IfOk-weaker, HasCleanDisk, State, CommitState, Stands, Holds}
-use Words.{StandsAsFound, shown, AreDistinct, Part, SameLines, part_at_open, KnowsNow, clean_before, on_ok}
+use Words.{StandsAsFound, shown, AreDistinct, Part, SameLines, part_at_open, KnowsNow, clean_before, on_ok, Survives}
+use Words.{survives_as}
 use Rattle.{std.proofs.lemmas.Result.IfErr-weaker, njh_hub.specs.Parts.entries_of}
 use Rattle.njh_keeper.proofs.{KnownLaws.{opened_so, stood_still, if_ok_given}, StepLaws.noted_so}
-use Rattle.njh_keeper.specs.Keeper.{IsCommitted}
+use Rattle.sqlite.proofs.StateLemmas.{survives_then}
+use Rattle.njh_keeper.{proofs.KeptLaws.keeps_all, specs.{code.Opening.MayBegin, Keeper.{IsCommitted, MayOpenTo}}}
 use Rattle.njh_keeper.proofs.keeper.SpoolKeeper.open_hub.Goals as goal
 
 pub returns-clause-opened : goal.returns-clause-opened
@@ -67,3 +69,46 @@ returns-in-Err-open_from-clause-refused g c clean is spool held =
 pub returns-clause-refused : goal.returns-clause-refused
 returns-clause-refused g c clean =
     IfErr-weaker c.remember_hub.result _ _ (λ fault other is spool held. absurd (other is)) c.remember_hub.ensures.told
+
+pub returns-in-Err-open_from-clause-spared : goal.returns-in-Err-open_from-clause-spared
+returns-in-Err-open_from-clause-spared g c is =
+    subst (λ k. Survives (shown g.S.Store k.store) (shown g.S.Store c.refuse.new.self.store) (λ _. ⊥)) c.self.view_is
+    (subst (λ k. Survives (shown g.S.Store c.self.inside.writer.store) (shown g.S.Store k.store) (λ _. ⊥))
+    (sym c.refuse.ensures.others) c.open_from.ensures.crash)
+
+pub returns-clause-spared : goal.returns-clause-spared
+returns-clause-spared g c =
+    IfErr-weaker c.remember_hub.result _ _ (λ fault other is. absurd (other is)) c.remember_hub.ensures.told
+
+pub returns-in-Err-open_from-clause-crash : goal.returns-in-Err-open_from-clause-crash
+returns-in-Err-open_from-clause-crash g c =
+    survives_as (λ clean db none. absurd none)
+    (subst (λ k. Survives (shown g.S.Store k.store) (shown g.S.Store c.refuse.new.self.store) (λ _. ⊥)) c.self.view_is
+    (subst (λ k. Survives (shown g.S.Store c.self.inside.writer.store) (shown g.S.Store k.store) (λ _. ⊥))
+    (sym c.refuse.ensures.others) c.open_from.ensures.crash))
+
+pub returns-clause-crash : goal.returns-clause-crash
+returns-clause-crash g c =
+    let first = shown g.S.Store c.self.inside.writer.store in
+    let mid = shown g.S.Store c.open_from.new.store in
+    let last = shown g.S.Store c.remember_hub.new.self.store in
+    subst (λ k. Survives (shown g.S.Store k.store) last (MayOpenTo g.S.Origin.found (shown g.S.Store k.store)))
+    c.self.view_is
+    (survives_then first mid last (λ _. ⊥) (MayBegin c.in-Ok.names.items c.in-Ok-open_from.hub mid)
+    (MayOpenTo g.S.Origin.found first) (λ clean db none. absurd none)
+    (λ clean db made began found.
+    let s : CommitState = record { now = began; kept = began } in
+    let early = clean_before c.remember_hub.ensures.crash clean in
+    let stands = c.self.invariant c.if-not-self.false (clean_before c.open_from.ensures.crash early) began found in
+    let hub_is = c.in-Ok-open_from.ensures.hub early began stands.now in
+    let back = c.in-Ok-open_from.ensures.back early began stands.now in
+    let so = opened_so c.args.tables began c.in-Ok.names.items c.in-Ok-open_from.hub c.in-Ok.ensures.each hub_is back in
+    let there = made s (stood_still s first mid (c.in-Ok-open_from.ensures.same early) stands)
+    (subst AreDistinct (sym c.in-Ok.ensures.each) c.names_of.ensures.accepted.names) so.0 so.1 in (
+      there.0,
+      stands,
+      there.1,
+      keeps_all c.args.tables began there.0 c.in-Ok.names.items c.in-Ok-open_from.hub c.in-Ok.ensures.each hub_is back
+          there.2,
+    ))
+    c.open_from.ensures.crash c.remember_hub.ensures.crash)

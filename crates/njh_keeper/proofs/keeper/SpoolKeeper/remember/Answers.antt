@@ -1,6 +1,7 @@
 use Rattle.njh_keeper.proofs.Words
 use Words.{◌≡◌, length, refl, sym, ap, subst, ◌∙◌, arith, Stands, shown, AreDistinct, numbers_of, AllAreFound}
-use Words.{AllAreRead, left_in}
+use Words.{AllAreRead, left_in, Survives}
+use Rattle.njh_keeper.specs.code.Opening.{MayBegin}
 use Rattle.njh_keeper.proofs.{BegunLaws.left_after, KnownLaws.begun_known}
 use Rattle.njh_keeper.proofs.keeper.SpoolKeeper.remember.Goals as goal
 
@@ -39,3 +40,19 @@ returns-clause-known g c clean s stands distinct found reads long rests =
     (subst (λ ns. length ns ≡ length hub) here (subst (λ k. length k.names ≡ length hub) view long))
     c.in_ok-customers.ensures.texts
     (λ d low. c.in_ok-see_sound.ensures d (let many = ap length here in omega (arith, low, many, c.len.ensures))) rests
+
+pub returns-in_err-customers-clause-crash : goal.returns-in_err-customers-clause-crash
+returns-in_err-customers-clause-crash g c =
+    let hub = c.args.hub.now in
+    subst (λ k. Survives (shown g.S.Store k.store) (shown g.S.Store c.begin.new.writer.store)
+    (MayBegin k.names hub (shown g.S.Store k.store))) c.self.view_is
+    (subst (λ ns. Survives (shown g.S.Store c.self.inside.writer.store) (shown g.S.Store c.begin.new.writer.store)
+    (MayBegin ns hub (shown g.S.Store c.self.inside.writer.store))) c.deref.ensures.value c.begin.ensures.crash)
+
+pub returns-clause-crash : goal.returns-clause-crash
+returns-clause-crash g c =
+    let hub = c.args.hub.now in
+    subst (λ k. Survives (shown g.S.Store k.store) (shown g.S.Store c.begin.new.writer.store)
+    (MayBegin k.names hub (shown g.S.Store k.store))) c.self.view_is
+    (subst (λ ns. Survives (shown g.S.Store c.self.inside.writer.store) (shown g.S.Store c.begin.new.writer.store)
+    (MayBegin ns hub (shown g.S.Store c.self.inside.writer.store))) c.deref.ensures.value c.begin.ensures.crash)

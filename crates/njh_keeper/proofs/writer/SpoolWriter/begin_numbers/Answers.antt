@@ -1,7 +1,10 @@
 use Rattle.{std.proofs.Common.{◌≡◌, ap, subst, sym, arith}, njh_spoolfile.proofs.ReadingLaws.ok_then}
 use Rattle.njh_spoolfile.specs.{CommitState.Stands, Shelf.shown}
-use Rattle.njh_keeper.proofs.{LeadingLaws.clean_before, OpeningNumbers.are_below, WriterLaws.stands_kept}
-use Rattle.njh_keeper.specs.code.Writing.{emptied_at, key_behind, shows_kept, without_keys}
+use Rattle.{std.proofs.Common.{nat_lt, ◌+◌}, sqlite.{proofs.StateLemmas.survives_then, specs.State.{State, Survives}}}
+use Rattle.njh_spoolfile.specs.Kept.{Holds}
+use Rattle.njh_keeper.proofs.{LeadingLaws.clean_before, OpeningApart.few_unused, OpeningNumbers.are_below}
+use Rattle.njh_keeper.proofs.WriterLaws.{stands_kept}
+use Rattle.njh_keeper.specs.code.Writing.{emptied_at, is_used, key_behind, LackUnused, shows_kept, without_keys}
 use Rattle.njh_keeper.specs.declared.writer.SpoolWriter.{SpoolWriter}
 use Rattle.njh_keeper.proofs.writer.SpoolWriter.begin_numbers.Goals as goal
 
@@ -29,3 +32,23 @@ returns-clause-begun g c clean =
     (subst (Stands s) (sym same) at) in
     subst (λ end. Stands (shows_kept (without_keys (emptied_at files end)) s) new) is
     (stands_kept _ mid new by there.1)) (c.commit.ensures.kept clean)
+
+pub returns-in_err-empty_others-clause-crash : goal.returns-in_err-empty_others-clause-crash
+returns-in_err-empty_others-clause-crash g c =
+    let same = ap (λ (x : SpoolWriter g.row.S.Denot). shown g.S.Store x.store) c.go_behind.ensures in
+    subst (λ (x : State). Survives x (shown g.S.Store c.empty_others.new.self.store) (LackUnused c.args.files.now x))
+    same c.empty_others.ensures.crash
+
+pub returns-clause-crash : goal.returns-clause-crash
+returns-clause-crash g c =
+    let files = c.args.files.now in
+    let end = c.go_behind.new.self.next_key in
+    let mid = shown g.S.Store c.empty_others.new.self.store in
+    let same = ap (λ (x : SpoolWriter g.row.S.Denot). shown g.S.Store x.store) c.go_behind.ensures in
+    subst (λ (x : State). Survives x (shown g.S.Store c.commit.new.self.store) (LackUnused files x)) same
+    (survives_then _ mid _ _ _ _ (λ clean db made. made) (λ clean db is. (
+      emptied_at files end,
+      few_unused files (nat_lt 200000 end) (end + 64),
+      λ s at. subst (Holds (without_keys (emptied_at files end) s.now)) (sym is)
+          (c.in_ok-empty_others.ensures.emptied (clean_before c.commit.ensures.crash clean) s at).1.now,
+    )) c.empty_others.ensures.crash c.commit.ensures.crash)

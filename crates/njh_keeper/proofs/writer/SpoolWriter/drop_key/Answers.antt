@@ -1,7 +1,7 @@
 use Rattle.std.proofs.Common.{Result, Ok, Err, OnOk, inl, inr, sym, subst, ◌^◌}
 use Rattle.{std.proofs.lemmas.Bool.cases_Bool, sqlite.specs.State.HasCleanDisk}
 use Rattle.njh_spoolfile.{proofs.ReadingLaws.ok_then, specs.{Kept.without_records, Shelf.shown}}
-use Rattle.njh_keeper.proofs.{LeadingLaws.{clean_before, survives_any}, WriterLaws.{drops_kept, drops_waiting, not_due}}
+use Rattle.njh_keeper.proofs.{LeadingLaws.clean_before, WriterLaws.{changed_kept, drops_kept, drops_waiting, not_due}}
 use Rattle.njh_keeper.specs.{code.Writing.{Drops, is_due}, declared.writer.SpoolWriter.SpoolWriter}
 use Rattle.njh_keeper.proofs.writer.SpoolWriter.drop_key.Goals as goal
 
@@ -32,4 +32,6 @@ returns-clause-dropped g c clean =
     ]
 
 pub returns-clause-crash : goal.returns-clause-crash
-returns-clause-crash g c = survives_any c.drop_records.ensures.crash c.settle.ensures.crash
+returns-clause-crash g c =
+    changed_kept (without_records c.args.key 0 (2 ^ 23)) _ (shown g.S.Store c.drop_records.new.self) _
+    c.in_ok-dropped.ensures.changed c.drop_records.ensures.crash c.settle.ensures.crash

@@ -1,9 +1,10 @@
-use Rattle.std.proofs.Common.{◌≡◌, ◌++◌, min, slice_index_or, false, true, refl, sym, ap, ◌∙◌, append-nil, arith}
-use Rattle.{std.specs.Prelude.⊤, njh_spoolfile.specs.Shelf.shown, njh_keeper.specs.code.Writing.unmarked}
-use Rattle.njh_keeper.proofs.LeadingLaws.{clean_before, survives_any, survives_here}
+use Rattle.std.proofs.Common.{◌≡◌, ◌++◌, ◌+◌, ◌-◌, ◌^◌, min, slice_index_or, false, true, refl, sym, ap, subst, ◌∙◌}
+use Rattle.std.proofs.Common.{append-nil, arith}
+use Rattle.{njh_spoolfile.specs.Shelf.shown, njh_keeper.specs.code.Writing.{ShowsNow, unmarked, without_keys}}
+use Rattle.njh_keeper.proofs.LeadingLaws.{clean_before, survives_here}
 use Rattle.njh_keeper.proofs.writer.SpoolWriter.empty_unmarked.Goals.{then-not-is_marked+in_ok-empty_key}
 use Rattle.njh_keeper.proofs.{writer.SpoolWriter.empty_unmarked.Goals.else-not-is_marked, WriterLaws.emptied_more}
-use Rattle.njh_keeper.proofs.WriterLaws.{free_more, marked_below, marked_more}
+use Rattle.njh_keeper.proofs.WriterLaws.{emptied_kept, free_more, marked_below, marked_more}
 use Rattle.njh_keeper.specs.declared.writer.SpoolWriter.{SpoolWriter}
 use Rattle.njh_keeper.proofs.writer.SpoolWriter.empty_unmarked.Goals as goal
 
@@ -12,7 +13,7 @@ loop-key-init g c =
     let keys = c.args.self.now.free_keys.items in
     let none : min 0 c.args.self.now.next_key ≡ 0 = omega arith in
     record {
-      crash = survives_here (shown g.S.Store c.args.self.now.store) (λ _. ⊤);
+      crash = survives_here (shown g.S.Store c.args.self.now.store) _;
       emptied = λ clean s at. (s.kept, at);
       free = sym (append-nil keys) ∙ ap (λ n. keys ++ unmarked c.args.marks.now n) (sym none);
       others = refl;
@@ -30,7 +31,7 @@ loop-key-preserved g c =
           let new = shown g.S.Store w.empty_key.new.self.store in
           let is : slice_index_or marks key false ≡ false = sym c.is_marked.ensures ∙ w.if-not-is_marked.true in
           rw w.self-is (record {
-            crash = survives_any so_far.crash w.empty_key.ensures.crash;
+            crash = emptied_kept marks key _ mid new is so_far.emptied so_far.crash w.empty_key.ensures.crash;
             emptied = λ clean s at. emptied_more marks key _ _ s mid new is
                 (so_far.emptied (clean_before w.empty_key.ensures.crash clean) s at)
                 (w.in_ok-empty_key.ensures.emptied clean);
@@ -55,5 +56,15 @@ loop-key-preserved g c =
           })
     ]
 
+pub returns-clause-emptied : goal.returns-clause-emptied
+returns-clause-emptied g c clean s at =
+    let end : c.loop-key.key ≡ min (c.args.self.now.next_key + 64) (2 ^ 32 - 1) =
+    omega (arith, c.loop-key-test.false, c.loop-key.auto.key-end, c.saturating_add-key-end.ensures) in
+    subst (λ n. ShowsNow (without_keys (unmarked c.args.marks.now n)) s (shown g.S.Store c.loop-key.self.store)) end
+    (c.loop-key.invariant.emptied clean s at)
+
 pub returns-in_err-empty_key-clause-crash : goal.returns-in_err-empty_key-clause-crash
-returns-in_err-empty_key-clause-crash g c = survives_any c.loop-key.invariant.crash c.empty_key.ensures.crash
+returns-in_err-empty_key-clause-crash g c =
+    emptied_kept c.args.marks.now c.loop-key.key _ (shown g.S.Store c.loop-key.self.store) _
+    (sym c.is_marked.ensures ∙ c.if-not-is_marked.true) c.loop-key.invariant.emptied c.loop-key.invariant.crash
+    c.empty_key.ensures.crash
