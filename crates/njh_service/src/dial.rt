@@ -1,5 +1,10 @@
 //! When a line is dialled.
 
+ghost use Rattle.std.specs.Prelude.{◌≡◌, ◌↔◌, IsTrue, IsSome, true, false};
+ghost use Rattle.njh_service.specs.Dialling.{connection_in, dial_moment, failed, given_up_at, next_dial, pause_after};
+ghost use Rattle.njh_service.specs.Dialling.{IsToCome};
+ghost use Rattle.njh_service.specs.declared.dial.State.TheVariants.{Connected, Dialling, Resting};
+
 use std::net::SocketAddr;
 
 /// How long after a connection that was made, or after a first failure, the next dial comes, in
@@ -18,8 +23,8 @@ pub(crate) struct Dial<C: Drop> {
     /// Where to.
     address: SocketAddr,
     state: State<C>,
-    /// How long after the next failure or end the next dial comes.
-    pause: u64,
+    /// Whether a dial failed since the last connection was made.
+    has_failed: bool,
 }
 
 /// What becomes of a dial.
@@ -35,21 +40,27 @@ enum State<C: Drop> {
 
 impl<C: Drop> Dial<C> {
     /// Dials to an address, of which the first comes at once.
-    pub(crate) fn new(address: SocketAddr) -> Dial<C> {
+    pub(crate) fn new(address: SocketAddr) -> Dial<C>
+        ensures { result ≡ record { address = address; state = Resting 0; has_failed = false } }
+    {
         Dial {
             address,
             state: State::Resting(0),
-            pause: SOON,
+            has_failed: false,
         }
     }
 
     /// Where to.
-    pub(crate) fn address(&self) -> SocketAddr {
+    pub(crate) fn address(&self) -> SocketAddr
+        ensures { result ≡ self.now.address }
+    {
         self.address
     }
 
     /// When it wants to be looked at.
-    pub(crate) fn moment(&self) -> u64 {
+    pub(crate) fn moment(&self) -> u64
+        ensures { result ≡ dial_moment self.now.state }
+    {
         match &self.state {
             State::Resting(moment) => *moment,
             State::Dialling(_, moment) => *moment,
@@ -58,7 +69,9 @@ impl<C: Drop> Dial<C> {
     }
 
     /// Whether a dial is to come now.
-    pub(crate) fn is_to_come(&self, now: u64) -> bool {
+    pub(crate) fn is_to_come(&self, now: u64) -> bool
+        ensures { IsTrue result ↔ IsToCome self.now.state now }
+    {
         match &self.state {
             State::Resting(moment) => *moment <= now,
             State::Dialling(_, _) => false,
@@ -67,7 +80,9 @@ impl<C: Drop> Dial<C> {
     }
 
     /// The connection that isn't made yet, if there is one.
-    pub(crate) fn connection(&mut self) -> Option<&mut C> {
+    pub(crate) fn connection(&mut self) -> Option<&mut C>
+        ensures { IsSome result ↔ IsSome (connection_in self.old.state) }
+    {
         match &mut self.state {
             State::Resting(_) => None,
             State::Dialling(connection, _) => Some(connection),
@@ -76,21 +91,28 @@ impl<C: Drop> Dial<C> {
     }
 
     /// A dial has begun.
-    pub(crate) fn begin(&mut self, connection: C, now: u64) {
+    pub(crate) fn begin(&mut self, connection: C, now: u64)
+        ensures { self.new ≡ record self.old { state = Dialling connection (given_up_at now) } }
+    {
         self.state = State::Dialling(connection, now.saturating_add(PATIENCE));
     }
 
     /// A dial failed.
-    pub(crate) fn fail(&mut self, now: u64) {
+    pub(crate) fn fail(&mut self, now: u64)
+        ensures { self.new ≡ failed self.old now }
+    {
         self.rest(now);
-        self.pause = LATER;
+        self.has_failed = true;
     }
 
     /// The connection was made. Answers it.
-    pub(crate) fn take(&mut self) -> Option<C> {
+    pub(crate) fn take(&mut self) -> Option<C>
+        ensures connection { result ≡ connection_in self.old.state }
+        ensures taken { self.new ≡ record self.old { state = Connected; has_failed = false } }
+    {
         let mut state = State::Connected;
         std::mem::swap(&mut state, &mut self.state);
-        self.pause = SOON;
+        self.has_failed = false;
         match state {
             State::Resting(_) => None,
             State::Dialling(connection, _) => Some(connection),
@@ -99,12 +121,23 @@ impl<C: Drop> Dial<C> {
     }
 
     /// The line has no connection any more.
-    pub(crate) fn lose(&mut self, now: u64) {
+    pub(crate) fn lose(&mut self, now: u64)
+        ensures { self.new ≡ record self.old { state = Resting (next_dial self.old.has_failed now) } }
+    {
         self.rest(now);
     }
 
     /// The next dial comes after the pause.
-    fn rest(&mut self, now: u64) {
-        self.state = State::Resting(now.saturating_add(self.pause));
+    fn rest(&mut self, now: u64)
+        ensures { self.new ≡ record self.old { state = Resting (next_dial self.old.has_failed now) } }
+    {
+        self.state = State::Resting(now.saturating_add(pause_after(self.has_failed)));
     }
+}
+
+/// For how long no dial comes.
+fn pause_after(has_failed: bool) -> u64
+    ensures { result ≡ pause_after has_failed }
+{
+    if has_failed { LATER } else { SOON }
 }

@@ -1,6 +1,7 @@
 //! A line that is served, as the attendant sees it.
 
 ghost use Rattle.std.specs.Prelude.{◌≡◌};
+ghost use Rattle.njh_service.specs.Dialling.{moment_of_loss};
 
 use crate::dial::Dial;
 use crate::site::Site;
@@ -104,7 +105,9 @@ impl<Li: Drop, C: Drop> Post<Li, C> {
 
     /// The line has no connection any more.
     pub(crate) fn lose(&mut self, now: u64)
-        ensures { self.new.line ≡ self.old.line }
+        ensures line { self.new.line ≡ self.old.line }
+        ensures moment { self.new.moment ≡ moment_of_loss self.old.site self.old.moment now }
+        ensures label { self.new.label ≡ self.old.label }
     {
         match &mut self.site {
             Site::Listens(_) => self.moment = self.moment.min(now),
