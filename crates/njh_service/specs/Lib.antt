@@ -1,3 +1,4 @@
+pub mod Connecting
 pub mod Dialling
 pub mod Endpoints
 pub mod Logging

@@ -1,12 +1,17 @@
 //! How a line gets a connection and loses it, and what is told of that.
 
-ghost use Rattle.std.specs.Prelude.{◌≡◌, ◌≤◌};
+ghost use Rattle.std.specs.Prelude.{◌≡◌, ◌<◌, ◌≤◌, ◌⊎◌, None, false};
+ghost use Rattle.njh_wire.specs.Standing.{after_admission, after_displacement};
+ghost use Rattle.njh_service.specs.Connecting.{answer_of, end_event, keeps_line, kept_until, listens_again, silence_of};
+ghost use Rattle.njh_service.specs.Connecting.{told_connected, IsConnected};
+ghost use Rattle.njh_service.specs.Dialling.{connection_in, dial_moment, failed, given_up_at, next_dial, IsToCome};
 
 use crate::desk::Desk;
 use crate::dial::Dial;
 use crate::entry::{ConnectionFailure, LogEvent};
 use crate::post::Label;
 use njh_wire::{Connection, ConnectionEnd, LineWire, Network};
+use std::io;
 use std::io::Write;
 
 /// For how long a connection is silent when another may take its place, in milliseconds.
@@ -17,6 +22,28 @@ const PAUSE: u64 = 1_000;
 
 /// How often connections of a line are told at most.
 const TELL: u64 = 1_000;
+
+/// What came of a look at a listener.
+#[derive(Clone, Copy, Debug, Drop, PartialEq, Eq)]
+pub(crate) enum Admission {
+    /// A connection was taken, or dropped.
+    Taken,
+    /// Nobody waits.
+    NobodyWaits,
+    /// One that waits could not be taken.
+    NotTaken,
+}
+
+/// What is known of a dial that is under way.
+#[derive(Clone, Copy, Debug, Drop, PartialEq, Eq)]
+pub(crate) enum DialAnswer {
+    /// The connection was made.
+    Made,
+    /// Nobody answered yet.
+    Waits,
+    /// It was refused, or nobody answered for too long.
+    Failed,
+}
 
 impl<N: Network + Drop, L: Write + Drop> Desk<N, L> {
     /// Takes a connection that waits, if the line has none or one that is silent. Answers when
@@ -29,23 +56,44 @@ impl<N: Network + Drop, L: Write + Drop> Desk<N, L> {
     ) -> u64
         ensures counts { wire.old.failures ≤ wire.new.failures }
         ensures place { wire.new.place ≡ wire.old.place }
+        ensures clock { wire.new.clock ≡ wire.old.clock }
+        ensures kept { IsConnected wire.old → silence_of wire.old < 10000 →
+            (wire.new ≡ wire.old) × (result ≡ kept_until (silence_of wire.old) self.old.now) }
+        ensures same { self.old.now < result → wire.new ≡ wire.old }
     {
         let silent = wire.silent_for();
-        if wire.is_connected() && silent < SILENCE {
-            return self.now.saturating_add(SILENCE - silent);
+        if keeps_line(wire.is_connected(), silent) {
+            return kept_until(silent, self.now);
         }
+        let admission = self.accept(listener, label, wire);
+        listens_again(admission, self.now)
+    }
+
+    /// Takes a connection that waits, if there is one.
+    fn accept(
+        &mut self,
+        listener: &mut N::Listener,
+        label: &mut Label,
+        wire: &mut LineWire<N::Connection>,
+    ) -> Admission
+        ensures counts { wire.old.failures ≤ wire.new.failures }
+        ensures place { wire.new.place ≡ wire.old.place }
+        ensures clock { wire.new.clock ≡ wire.old.clock }
+        ensures now { self.new.now ≡ self.old.now }
+        ensures same { (result ≡ Admission.Taken) ⊎ (wire.new ≡ wire.old) }
+    {
         match self.network.accept(listener) {
             Ok(Some((connection, address))) => {
                 self.connect(label, wire, connection, LogEvent::ConnectedFrom(address));
-                self.now
+                Admission::Taken
             }
-            Ok(None) => u64::MAX,
+            Ok(None) => Admission::NobodyWaits,
             Err(_) => {
                 if label.again <= self.now {
                     label.again = self.now.saturating_add(TELL);
                     self.tell(label, LogEvent::AcceptFailed);
                 }
-                self.now.saturating_add(PAUSE)
+                Admission::NotTaken
             }
         }
     }
@@ -61,6 +109,10 @@ impl<N: Network + Drop, L: Write + Drop> Desk<N, L> {
     )
         ensures counts { wire.old.failures ≤ wire.new.failures }
         ensures place { wire.new.place ≡ wire.old.place }
+        ensures clock { wire.new.clock ≡ wire.old.clock }
+        ensures now { self.new.now ≡ self.old.now }
+        ensures taken { N.Connection.place_of connection ≡ wire.old.place →
+            wire.new ≡ record (after_admission connection (after_displacement wire.old)) { end = None } }
     {
         if connection.place() != wire.place() {
             return;
@@ -85,6 +137,11 @@ impl<N: Network + Drop, L: Write + Drop> Desk<N, L> {
     )
         ensures counts { wire.old.failures ≤ wire.new.failures }
         ensures place { wire.new.place ≡ wire.old.place }
+        ensures clock { wire.new.clock ≡ wire.old.clock }
+        ensures begun { IsToCome dial.old.state self.old.now → (dial_moment dial.new.state ≡ given_up_at self.old.now)
+            ⊎ (dial_moment dial.new.state ≡ next_dial dial.old.has_failed self.old.now) }
+        ensures idle { ¬ IsToCome dial.old.state self.old.now → connection_in dial.old.state ≡ None →
+            wire.new ≡ wire.old }
     {
         if dial.is_to_come(self.now) {
             match self.network.dial(dial.address(), place) {
@@ -93,11 +150,12 @@ impl<N: Network + Drop, L: Write + Drop> Desk<N, L> {
             }
             return;
         }
+        let until = dial.moment();
         let Some(connection) = dial.connection() else {
             return;
         };
-        match self.network.is_connected(connection) {
-            Ok(true) => {
+        match answer_of(self.network.is_connected(connection), until, self.now) {
+            DialAnswer::Made => {
                 if let Some(connection) = dial.take() {
                     self.connect(
                         label,
@@ -107,23 +165,24 @@ impl<N: Network + Drop, L: Write + Drop> Desk<N, L> {
                     );
                 }
             }
-            Ok(false) => {
-                if dial.moment() <= self.now {
-                    self.give_up(dial, label);
-                }
-            }
-            Err(_) => self.give_up(dial, label),
+            DialAnswer::Waits => {}
+            DialAnswer::Failed => self.give_up(dial, label),
         }
     }
 
     /// A dial failed.
-    fn give_up(&mut self, dial: &mut Dial<N::Connection>, label: &Label) {
+    fn give_up(&mut self, dial: &mut Dial<N::Connection>, label: &Label)
+        ensures { dial.new ≡ failed dial.old self.old.now }
+    {
         dial.fail(self.now);
         self.tell(label, LogEvent::DialFailed(dial.address()));
     }
 
     /// Tells of a new connection, unless one was told in the second before.
-    fn tell_connected(&mut self, label: &mut Label, event: LogEvent) {
+    fn tell_connected(&mut self, label: &mut Label, event: LogEvent)
+        ensures told { label.new ≡ told_connected label.old self.old.now }
+        ensures now { self.new.now ≡ self.old.now }
+    {
         label.connected = label.again <= self.now;
         if !label.connected {
             return;
@@ -133,20 +192,69 @@ impl<N: Network + Drop, L: Write + Drop> Desk<N, L> {
     }
 
     /// Tells of the end of a connection that was told.
-    pub(crate) fn tell_end(&mut self, label: &mut Label, end: ConnectionEnd) {
+    pub(crate) fn tell_end(&mut self, label: &mut Label, end: ConnectionEnd)
+        ensures told { label.new ≡ record label.old { connected = false } }
+        ensures now { self.new.now ≡ self.old.now }
+    {
         if !label.connected {
             return;
         }
         label.connected = false;
-        self.tell(
-            label,
-            match end {
-                ConnectionEnd::Ended => LogEvent::Closed,
-                ConnectionEnd::Closed => LogEvent::Closed,
-                ConnectionEnd::Failed => LogEvent::Failed(ConnectionFailure::Broken),
-                ConnectionEnd::Stalled => LogEvent::Failed(ConnectionFailure::Stalled),
-                ConnectionEnd::Replaced => LogEvent::Failed(ConnectionFailure::Replaced),
-            },
-        );
+        self.tell(label, end_event(end));
+    }
+}
+
+/// Whether a line keeps its connection, on which nothing came for so long, if another waits.
+fn keeps_line(is_connected: bool, silent: u64) -> bool
+    ensures { result ≡ keeps_line is_connected silent }
+{
+    is_connected && silent < SILENCE
+}
+
+/// When the listener of a line that keeps its connection is looked at again.
+fn kept_until(silent: u64, now: u64) -> u64
+    ensures { result ≡ kept_until silent now }
+{
+    now.saturating_add(SILENCE.saturating_sub(silent))
+}
+
+/// When a listener is looked at again.
+fn listens_again(admission: Admission, now: u64) -> u64
+    ensures { result ≡ listens_again admission now }
+{
+    match admission {
+        Admission::Taken => now,
+        Admission::NobodyWaits => u64::MAX,
+        Admission::NotTaken => now.saturating_add(PAUSE),
+    }
+}
+
+/// What is known of a dial that is given up at a moment, by what the network says.
+fn answer_of(made: io::Result<bool>, until: u64, now: u64) -> DialAnswer
+    ensures { result ≡ answer_of made until now }
+{
+    match made {
+        Ok(true) => DialAnswer::Made,
+        Ok(false) => {
+            if until <= now {
+                DialAnswer::Failed
+            } else {
+                DialAnswer::Waits
+            }
+        }
+        Err(_) => DialAnswer::Failed,
+    }
+}
+
+/// What is told of a connection's end.
+fn end_event(end: ConnectionEnd) -> LogEvent
+    ensures { result ≡ end_event end }
+{
+    match end {
+        ConnectionEnd::Ended => LogEvent::Closed,
+        ConnectionEnd::Closed => LogEvent::Closed,
+        ConnectionEnd::Failed => LogEvent::Failed(ConnectionFailure::Broken),
+        ConnectionEnd::Stalled => LogEvent::Failed(ConnectionFailure::Stalled),
+        ConnectionEnd::Replaced => LogEvent::Failed(ConnectionFailure::Replaced),
     }
 }

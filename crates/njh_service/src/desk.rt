@@ -109,13 +109,17 @@ impl<N: Network + Drop, L: Write + Drop> Desk<N, L> {
     }
 
     /// Tells of a line.
-    pub(crate) fn tell(&mut self, label: &Label, event: LogEvent) {
+    pub(crate) fn tell(&mut self, label: &Label, event: LogEvent)
+        ensures { self.new.now ≡ self.old.now }
+    {
         let place = Place::Line(label.customer, label.line.as_str());
         self.write(&LogEntry { place, event });
     }
 
     /// Writes a line of the log, with the time.
-    pub(crate) fn write<T: fmt::Display>(&mut self, text: &T) {
+    pub(crate) fn write<T: fmt::Display>(&mut self, text: &T)
+        ensures { self.new.now ≡ self.old.now }
+    {
         let second = self.network.utc();
         self.log.write(second, text);
     }
