@@ -6,5 +6,6 @@ pub mod Opened
 pub mod Prompting
 pub mod Revisions
 pub mod Serving
+pub mod Sessions
 pub mod Waking
 pub mod code

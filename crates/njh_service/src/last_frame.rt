@@ -1,5 +1,8 @@
 //! What came last on a line.
 
+ghost use Rattle.std.specs.Prelude.{◌≡◌};
+ghost use Rattle.njh_service.specs.Sessions.{last_frame};
+
 use njh_wire::LastBytes;
 use std::fmt;
 
@@ -22,7 +25,9 @@ pub enum LastFrame {
 
 impl LastFrame {
     /// What these bytes end.
-    pub(crate) fn of(bytes: LastBytes) -> LastFrame {
+    pub(crate) fn of(bytes: LastBytes) -> LastFrame
+        ensures { result ≡ last_frame bytes }
+    {
         match (bytes.before, bytes.last) {
             (0x10, 0x70) => LastFrame::Ack0,
             (0x01, 0x2D) => LastFrame::Enquiry,

@@ -9,6 +9,7 @@ mod customers;
 mod desk;
 mod dial;
 mod difference;
+mod ending;
 mod endpoints;
 mod entry;
 mod exchange;

@@ -1,14 +1,17 @@
 //! What the attendant sees of a line's session, and tells of it.
 
-ghost use Rattle.std.specs.Prelude.{◌≡◌, ◌<◌, ◌≤◌, ◌↔◌, [], length, IsTrue};
+ghost use Rattle.std.specs.Prelude.{◌≡◌, ◌<◌, ◌≤◌, ◌↔◌, ◌⊎◌, [], length, None, IsSome, IfSome, IsTrue};
 ghost use Rattle.njh_hub.specs.Resting.{IsResting};
 ghost use Rattle.njh_hub.specs.Views.{HasGivenUp, hub_line, line_view};
 ghost use Rattle.njh_hub.specs.WholeHub.{HasLine};
+ghost use Rattle.njh_wire.specs.Standing.{after_close};
+ghost use Rattle.njh_service.specs.Connecting.{silence_of, IsConnected};
 ghost use Rattle.njh_service.specs.Prompting.{HasSeen};
+ghost use Rattle.njh_service.specs.Sessions.{after_session, tries_end, IsInSession, IsReady};
 
 use crate::desk::Desk;
-use crate::entry::{LogEvent, SessionEnd};
-use crate::last_frame::LastFrame;
+use crate::ending::{is_session, is_up, session_end, session_event, tries_end, tries_since};
+use crate::entry::SessionEnd;
 use crate::post::{Label, Post};
 use crate::traffic::Sight;
 use njh_hub::{Hub, SessionView};
@@ -39,20 +42,12 @@ impl<N: Network + Drop, L: Write + Drop> Desk<N, L> {
         ensures place { wire.new.place ≡ wire.old.place }
         ensures line { post.new.line ≡ post.old.line }
         ensures kept { ¬ HasGivenUp hub.now post.old.line → wire.new.connection ≡ wire.old.connection }
+        ensures ended { IsInSession post.old.label.in_session wire.old → HasGivenUp hub.now post.old.line →
+            ¬ IsConnected wire.new }
     {
-        // Without a connection the session ended by its loss.
-        let gave_up = post.label.in_session && wire.is_connected() && hub.has_given_up(post.line);
-        if gave_up {
-            wire.close();
-        }
-        let end = heard_end(wire, gave_up);
-        let session_end = if gave_up {
-            self.tries_end(&post.label, wire)
-        } else if end.is_some() || post.label.lost {
-            SessionEnd::Lost
-        } else {
-            SessionEnd::ByPeer
-        };
+        let gave_up = self.end_tries(post.line, &post.label, hub, wire);
+        let end = heard_end(wire, gave_up.is_some());
+        let session_end = session_end(gave_up, end.is_some() || post.label.lost);
         self.tell_files(post.line, &post.label, &mut post.streams, hub);
         self.tell_session(&mut post.label, session_of(hub, post.line), session_end);
         if let Some(end) = end {
@@ -62,36 +57,44 @@ impl<N: Network + Drop, L: Write + Drop> Desk<N, L> {
         }
     }
 
-    /// How a session ended that made five tries in a row: without an answer if nothing came
-    /// since the first of them.
-    fn tries_end(&self, label: &Label, wire: &LineWire<N::Connection>) -> SessionEnd {
-        let since = label.tries_since.unwrap_or(self.now);
-        if wire.silent_for() > self.now.saturating_sub(since) {
-            SessionEnd::NoAnswer
+    /// Ends the connection of a line that was in a session which gave up. Answers how that ended.
+    /// Without a connection it ended by its loss.
+    fn end_tries(
+        &self,
+        id: LineId,
+        label: &Label,
+        hub: &Hub,
+        wire: &mut LineWire<N::Connection>,
+    ) -> Option<SessionEnd>
+        ensures gave_up { IsSome result ↔ (IsInSession label.now.in_session wire.old × HasGivenUp hub.now id) }
+        ensures why { IfSome result (λ end.
+            end ≡ tries_end label.now.tries_since (silence_of wire.old) self.entry.now.now wire.old.last_bytes) }
+        ensures counts { wire.old.failures ≤ wire.new.failures }
+        ensures place { wire.new.place ≡ wire.old.place }
+        ensures closed { IsSome result → wire.new ≡ after_close wire.old }
+        ensures kept { result ≡ None → wire.new ≡ wire.old }
+    {
+        if label.in_session && wire.is_connected() && hub.has_given_up(id) {
+            wire.close();
+            let silent = wire.silent_for();
+            Some(tries_end(label.tries_since, silent, self.now, wire.last_bytes()))
         } else {
-            SessionEnd::Tries(LastFrame::of(wire.last_bytes()))
+            None
         }
     }
 
     /// Tells of a session that went up or down, and keeps since when it tries again.
-    fn tell_session(&mut self, label: &mut Label, session: SessionView, end: SessionEnd) {
+    fn tell_session(&mut self, label: &mut Label, session: SessionView, end: SessionEnd)
+        ensures { label.new ≡ after_session label.old session self.old.now }
+    {
+        let was_up = label.up;
         label.in_session = is_session(session.phase);
-        label.tries_since = if session.tries > 0 {
-            Some(label.tries_since.unwrap_or(self.now))
-        } else {
-            None
-        };
-        let up = session.phase == Phase::Up;
-        if up == label.up {
-            return;
+        label.tries_since = tries_since(label.tries_since, session.tries, self.now);
+        label.up = is_up(session.phase);
+        match session_event(was_up, label.up, label.node, end) {
+            Some(event) => self.tell(label, event),
+            None => {}
         }
-        label.up = up;
-        let event = if up {
-            LogEvent::SessionUp(label.node)
-        } else {
-            LogEvent::SessionDown(end)
-        };
-        self.tell(label, event);
     }
 }
 
@@ -101,6 +104,10 @@ fn heard_end<C: Connection + Drop>(wire: &mut LineWire<C>, gave_up: bool) -> Opt
     ensures counts { wire.old.failures ≤ wire.new.failures }
     ensures place { wire.new.place ≡ wire.old.place }
     ensures kept { wire.new.connection ≡ wire.old.connection }
+    ensures connected { IsConnected wire.old → (result ≡ None) × (wire.new ≡ wire.old) }
+    ensures waits { ¬ IsTrue gave_up → IsReady wire.old → (result ≡ None) × (wire.new ≡ wire.old) }
+    ensures heard { ¬ IsConnected wire.old → (IsTrue gave_up ⊎ ¬ IsReady wire.old) →
+        (result ≡ wire.old.end) × (wire.new ≡ record wire.old { end = None }) }
 {
     if wire.is_connected() {
         return None;
@@ -139,13 +146,5 @@ pub(crate) fn sight_of<C: Connection + Drop>(id: LineId, hub: &Hub, wire: &LineW
         rests: hub.is_resting(id) && wire.is_connected() && !waits,
         waits,
         begun: wire.begun(),
-    }
-}
-
-/// Whether a line in this phase is in a session.
-fn is_session(phase: Phase) -> bool {
-    match phase {
-        Phase::Down | Phase::Calling => false,
-        Phase::Answered | Phase::SentI | Phase::Up => true,
     }
 }

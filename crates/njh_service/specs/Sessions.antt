@@ -1,0 +1,84 @@
+-- When a line is in a session, and what is told of a session's end.
+use Rattle.std.specs.Prelude.{ℕ, zero, suc, ◌-◌, Bool, true, false, ◌&&◌, ◌==◌, nat_lt, if◌then◌else◌}
+use Rattle.std.specs.Prelude.{Option, Some, None, ◌≡◌, ◌⊎◌, List, [], IsSome, IsTrue}
+use Rattle.njh_line.specs.declared.Phase.{Phase}
+use Rattle.njh_line.specs.declared.Phase.TheVariants.{Down, Calling, Answered, SentI, Up}
+use Rattle.njh_wire.specs.declared.last_bytes.LastBytes.{LastBytes}
+use Rattle.njh_wire.specs.Readings.{IsOpen}
+use Rattle.njh_wire.specs.Standing.{Standing}
+use Rattle.njh_hub.specs.declared.session_view.SessionView.{SessionView}
+use Rattle.njh_service.specs.Connecting.{IsConnected}
+use Rattle.njh_service.specs.declared.post.Label.{Label}
+use Rattle.njh_service.specs.declared.entry.LogEvent.{LogEvent}
+use Rattle.njh_service.specs.declared.entry.LogEvent.TheVariants as events
+use Rattle.njh_service.specs.declared.entry.SessionEnd.{SessionEnd}
+use Rattle.njh_service.specs.declared.entry.SessionEnd.TheVariants as why
+use Rattle.njh_service.specs.declared.last_frame.LastFrame.{LastFrame}
+use Rattle.njh_service.specs.declared.last_frame.LastFrame.TheVariants as frames
+
+-- a line is in a session once a call was answered
+abbrev pub is_session : Phase → Bool
+is_session Down = false
+is_session Calling = false
+is_session Answered = true
+is_session SentI = true
+is_session Up = true
+
+abbrev pub is_up : Phase → Bool
+is_up Down = false
+is_up Calling = false
+is_up Answered = false
+is_up SentI = false
+is_up Up = true
+
+-- since when a session tries again: since that was seen first, of the tries in a row that it has made, if it has any
+abbrev pub tries_since : (was : Option ℕ) → (tries now : ℕ) → Option ℕ
+tries_since was zero now = None
+tries_since None (suc tries) now = Some now
+tries_since (Some since) (suc tries) now = Some since
+
+-- what is kept of a line once its session was seen so
+abbrev pub after_session : Label → SessionView → (now : ℕ) → Label
+after_session label session now = record label {
+  in_session = is_session session.phase;
+  tries_since = tries_since label.tries_since session.tries now;
+  up = is_up session.phase;
+}
+
+-- ---- why it ended
+
+-- a line was in a session, and still has its connection: this ends if that session gave up
+abbrev pub IsInSession : {C : Type 0} → (in_session : Bool) → Standing C → Type 0
+IsInSession in_session wire = IsTrue in_session × IsConnected wire
+
+-- the hub is still to hear of something on a wire: something may be there to read, or an end is to be told
+abbrev pub IsReady : {C : Type 0} → Standing C → Type 0
+IsReady wire = (wire.waiting ≡ []) × (IsSome wire.parting ⊎ IsOpen wire)
+
+-- the frame whose end the last two bytes are: DLE and the second byte of an ACK0, SOH and ENQ, DLE and ETB, NAK, EOT
+abbrev pub last_frame : LastBytes → LastFrame
+last_frame bytes =
+    if bytes.before == 16 && bytes.last == 112 then frames.Ack0 else
+    if bytes.before == 1 && bytes.last == 45 then frames.Enquiry else
+    if bytes.before == 16 && bytes.last == 38 then frames.Text else
+    if bytes.last == 61 then frames.Nak else
+    if bytes.last == 55 then frames.Eot else frames.Other
+
+-- A session that used up its tries had no answer if nothing came since the first of them; else something came last.
+abbrev pub tries_end : (since : Option ℕ) → (silent now : ℕ) → LastBytes → SessionEnd
+tries_end None silent now bytes = if nat_lt 0 silent then why.NoAnswer else why.Tries (last_frame bytes)
+tries_end (Some since) silent now bytes =
+    if nat_lt (now - since) silent then why.NoAnswer else why.Tries (last_frame bytes)
+
+-- it gave up, or lost its line, or else its peer ended it
+abbrev pub session_end : (gave_up : Option SessionEnd) → (is_lost : Bool) → SessionEnd
+session_end (Some tries) is_lost = tries
+session_end None true = why.Lost
+session_end None false = why.ByPeer
+
+-- what is told of a session that was up or wasn't, and is now
+abbrev pub session_event : (was_up is_up : Bool) → (node : List ℕ) → SessionEnd → Option LogEvent
+session_event false true node end = Some (events.SessionUp node)
+session_event true false node end = Some (events.SessionDown end)
+session_event false false node end = None
+session_event true true node end = None

@@ -1,0 +1,89 @@
+//! When a line is in a session, and what is told of a session's end.
+
+ghost use Rattle.std.specs.Prelude.{◌≡◌};
+ghost use Rattle.njh_service.specs.Sessions.{is_session, is_up, session_end, session_event, tries_end, tries_since};
+
+use crate::entry::{LogEvent, SessionEnd};
+use crate::last_frame::LastFrame;
+use njh_ebcdic::Name;
+use njh_line::Phase;
+use njh_wire::LastBytes;
+
+/// Whether a line in this phase is in a session.
+pub(crate) fn is_session(phase: Phase) -> bool
+    ensures { result ≡ is_session phase }
+{
+    match phase {
+        Phase::Down | Phase::Calling => false,
+        Phase::Answered | Phase::SentI | Phase::Up => true,
+    }
+}
+
+/// Whether it is up.
+pub(crate) fn is_up(phase: Phase) -> bool
+    ensures { result ≡ is_up phase }
+{
+    match phase {
+        Phase::Down | Phase::Calling | Phase::Answered | Phase::SentI => false,
+        Phase::Up => true,
+    }
+}
+
+/// Since when a session tries again that made so many tries in a row.
+pub(crate) fn tries_since(was: Option<u64>, tries: u8, now: u64) -> Option<u64>
+    ensures { result ≡ tries_since was tries now }
+{
+    if tries > 0 {
+        Some(was.unwrap_or(now))
+    } else {
+        None
+    }
+}
+
+/// How a session ended that made five tries in a row: without an answer if nothing came since the
+/// first of them.
+pub(crate) fn tries_end(since: Option<u64>, silent: u64, now: u64, last: LastBytes) -> SessionEnd
+    ensures { result ≡ tries_end since silent now last }
+{
+    let since = since.unwrap_or(now);
+    if silent > now.saturating_sub(since) {
+        SessionEnd::NoAnswer
+    } else {
+        SessionEnd::Tries(LastFrame::of(last))
+    }
+}
+
+/// Why a session ended that is down: it gave up so, or its line was lost, or its peer ended it.
+pub(crate) fn session_end(gave_up: Option<SessionEnd>, is_lost: bool) -> SessionEnd
+    ensures { result ≡ session_end gave_up is_lost }
+{
+    match gave_up {
+        Some(end) => end,
+        None => {
+            if is_lost {
+                SessionEnd::Lost
+            } else {
+                SessionEnd::ByPeer
+            }
+        }
+    }
+}
+
+/// What is told of a session with this node that was up or wasn't, and is now.
+pub(crate) fn session_event(
+    was_up: bool,
+    is_up: bool,
+    node: Name,
+    end: SessionEnd,
+) -> Option<LogEvent>
+    ensures { result ≡ session_event was_up is_up node end }
+{
+    if is_up == was_up {
+        return None;
+    }
+    Some(if is_up {
+        LogEvent::SessionUp(node)
+    } else {
+        LogEvent::SessionDown(end)
+    })
+}
