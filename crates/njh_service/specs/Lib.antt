@@ -1,3 +1,4 @@
+pub mod Attention
 pub mod Connecting
 pub mod Dialling
 pub mod Endpoints

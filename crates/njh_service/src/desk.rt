@@ -1,10 +1,14 @@
 //! What the attendant does with one line.
 
-ghost use Rattle.std.specs.Prelude.{◌≡◌, ◌≤◌};
+ghost use Rattle.std.specs.Prelude.{◌≡◌, ◌<◌, ◌≤◌, ◌↔◌, [], length, IsSome, IsTrue};
 ghost use Rattle.njh_hub.specs.Quiets.{quiet_on};
 ghost use Rattle.njh_hub.specs.Views.{HasGivenUp};
 ghost use Rattle.njh_hub.specs.WholeHub.{HasLine};
+ghost use Rattle.njh_wire.specs.Standing.{due};
+ghost use Rattle.njh_service.specs.Attention.{again_at, first_of, stalled_at, IsDue, IsMarked};
+ghost use Rattle.njh_service.specs.Sessions.{IsReady};
 
+use crate::attention::{NOTHING, Watch, is_marked};
 use crate::customers::Customers;
 use crate::entry::{LogEntry, LogEvent, Place};
 use crate::log::Log;
@@ -31,6 +35,37 @@ pub(crate) struct Desk<N: Network + Drop, L: Write + Drop> {
 }
 
 impl<N: Network + Drop, L: Write + Drop> Desk<N, L> {
+    /// Looks at a line if something of it is ready or its moment came, and sets its wire's clock
+    /// then. No mark of it stays.
+    pub(crate) fn begin(
+        &mut self,
+        place: usize,
+        post: &mut Post<N::Listener, N::Connection>,
+        ready: &mut Readiness,
+        watch: &mut Watch,
+        wire: &mut LineWire<N::Connection>,
+    )
+        ensures due { IsTrue watch.new.is_due ↔ IsDue ready.old watch.old.moment self.old.now }
+        ensures moment { watch.new.moment ≡ watch.old.moment }
+        ensures unmarked { ¬ IsMarked ready.new }
+        ensures clock { IsTrue watch.new.is_due → wire.new.clock ≡ self.old.now }
+        ensures still { ¬ IsTrue watch.new.is_due → wire.new ≡ wire.old }
+        ensures counts { wire.old.failures ≤ wire.new.failures }
+        ensures place { wire.new.place ≡ wire.old.place }
+        ensures line { post.new.line ≡ post.old.line }
+    {
+        let mark = *ready;
+        let is_ready = is_marked(mark);
+        if !watch.begin(is_ready, self.now) {
+            return;
+        }
+        *ready = NOTHING;
+        wire.set_clock(self.now);
+        if is_ready || post.moment <= self.now {
+            self.attend(place, post, wire, mark);
+        }
+    }
+
     /// Looks at a line of which something is ready, or whose site's moment came.
     pub(crate) fn attend(
         &mut self,
@@ -41,6 +76,7 @@ impl<N: Network + Drop, L: Write + Drop> Desk<N, L> {
     )
         ensures counts { wire.old.failures ≤ wire.new.failures }
         ensures place { wire.new.place ≡ wire.old.place }
+        ensures clock { wire.new.clock ≡ wire.old.clock }
         ensures line { post.new.line ≡ post.old.line }
     {
         if mark.reads {
@@ -89,15 +125,8 @@ impl<N: Network + Drop, L: Write + Drop> Desk<N, L> {
         }
         set_quiet(post.line, hub, wire);
         self.note(post.line, &mut post.traffic, sight_of(post.line, hub, wire));
-        if wire.waits_to_send() {
-            let again = self.now.saturating_add(AGAIN);
-            return again.min(post.moment).min(wire.deadline());
-        }
-        if wire.is_ready() {
-            return self.now;
-        }
         let soon = post.traffic.soon(self.now);
-        wire.deadline().min(post.moment).min(soon)
+        next_look(wire, post.moment, soon, self.now)
     }
 
     /// Notes how a line is at the end of its turn, and of its customer whether a line may have
@@ -135,4 +164,22 @@ fn set_quiet<C: Connection + Drop>(id: LineId, hub: &Hub, wire: &mut LineWire<C>
     if let Ok(session) = hub.session(id) {
         wire.set_quiet(session.quiet_time());
     }
+}
+
+/// When a line wants to be looked at: at once if something is ready; else at the first of what it
+/// waits for. `moment` is its site's, `soon` that of texts that were on it of late.
+fn next_look<C: Connection + Drop>(wire: &LineWire<C>, moment: u64, soon: u64, now: u64) -> u64
+    ensures waits { 0 < length wire.now.waiting → result ≡ first_of (again_at now) moment (stalled_at wire.now) }
+    ensures ready { IsReady wire.now → result ≡ now }
+    ensures rests { wire.now.waiting ≡ [] → ¬ IsReady wire.now → IsSome wire.now.connection →
+        result ≡ first_of (due wire.now) moment soon }
+{
+    if wire.waits_to_send() {
+        let again = now.saturating_add(AGAIN);
+        return again.min(moment).min(wire.deadline());
+    }
+    if wire.is_ready() {
+        return now;
+    }
+    wire.deadline().min(moment).min(soon)
 }

@@ -7,10 +7,13 @@ ghost use Rattle.njh_hub.specs.Quiets.{quiet_on};
 ghost use Rattle.njh_hub.specs.Views.{HasGivenUp};
 ghost use Rattle.njh_hub.specs.WholeHub.{HasLine};
 ghost use Rattle.njh_service.specs.Prompting.{IsPrompted};
+ghost use Rattle.njh_service.specs.Attention.{at_once};
+ghost use Rattle.njh_service.specs.declared.attention.Watch.{Watch};
 ghost use Rattle.njh_service.specs.declared.traffic.Traffic.{Traffic};
 
 mod waking;
 
+use crate::attention::{AT_ONCE, NOTHING, Watch, is_any_marked, wait_of};
 use crate::customers::Customers;
 use crate::desk::Desk;
 use crate::log::Log;
@@ -26,22 +29,9 @@ use std::io::Write;
 use std::marker::Model;
 use std::net::SocketAddr;
 
-/// How long all lines wait at most, in milliseconds.
-const LONGEST: u64 = 100;
-
-/// Moments fall on multiples of so many milliseconds, so that those of several lines fall together.
-const GRID: u64 = 5;
-
 /// So many lines in a row are watched together: a group in which nothing is ready or due costs a
 /// round one look.
 const GROUP: usize = 16;
-
-/// Nothing is ready.
-const NOTHING: Readiness = Readiness {
-    listener: false,
-    reads: false,
-    writes: false,
-};
 
 /// What is done between the turns of a service's lines: it waits for the network, accepts, dials,
 /// ends connections, lets out what waits, brings new routes, and writes the log.
@@ -59,21 +49,6 @@ pub struct Exchange<N: Network + Drop, L: Write + Drop, S: TableSource + Drop> {
     pub(crate) revision: Revision<S>,
 }
 
-/// When a line is looked at, or the first of a group.
-#[derive(Clone, Copy, Drop)]
-struct Watch {
-    /// When it wants to be looked at next, on the service's clock.
-    moment: u64,
-    /// Whether it is looked at in this round.
-    is_due: bool,
-}
-
-/// What wants to be looked at at once.
-const AT_ONCE: Watch = Watch {
-    moment: 0,
-    is_due: true,
-};
-
 impl<N: Network + Drop, L: Write + Drop, S: TableSource + Drop> Model for Exchange<N, L, S> {
     ghost use Rattle.std.specs.Prelude.{map};
     ghost use Rattle.njh_service.specs.Prompting.{Watched};
@@ -83,6 +58,7 @@ impl<N: Network + Drop, L: Write + Drop, S: TableSource + Drop> Model for Exchan
     ghost view = { λ exchange. record {
       lines = map (λ post. post.line) exchange.posts.items;
       noted = map (λ post. post.traffic) exchange.posts.items;
+      watches = exchange.watches.items;
       now = exchange.desk.now;
     } };
 }
@@ -116,6 +92,7 @@ impl<N: Network + Drop, L: Write + Drop, S: TableSource + Drop> Exchange<N, L, S
         site: Site<N::Listener, SocketAddr>,
     ) -> Result<(), AllocError>
         ensures added { OnOk result (self.new.lines ≡ self.old.lines ++ id ∷ []) }
+        ensures watched { OnOk result (self.new.watches ≡ self.old.watches ++ at_once ∷ []) }
         ensures err { OnErr result (self.new ≡ self.old) }
     {
         let label = Label::of(names);
@@ -124,8 +101,9 @@ impl<N: Network + Drop, L: Write + Drop, S: TableSource + Drop> Exchange<N, L, S
             self.groups.push(AT_ONCE)?;
         }
         self.ready.push(NOTHING)?;
+        self.posts.reserve(1)?;
         self.watches.push(AT_ONCE)?;
-        self.posts.push(Post::new(id, label, site))?;
+        self.posts.push_reserved(Post::new(id, label, site));
         Ok(())
     }
 
@@ -135,22 +113,12 @@ impl<N: Network + Drop, L: Write + Drop, S: TableSource + Drop> Exchange<N, L, S
         ensures lines { self.new.lines ≡ self.old.lines }
     {
         self.desk.now = self.desk.network.now();
-        let wait = self.wait();
+        let wait = wait_of(self.desk.now, self.next);
         let _waited = self.desk.network.wait(wait, &mut self.ready).is_ok();
         self.desk.now = self.desk.network.now();
         for group in 0..self.groups.len() {
             self.begin_group(group, wires);
         }
-    }
-
-    /// How long to wait.
-    fn wait(&self) -> u64 {
-        let now = self.desk.now;
-        if self.next <= now {
-            return 0;
-        }
-        let left = (self.next - now).min(LONGEST);
-        left.saturating_add(GRID - 1 - now.saturating_add(left - 1) % GRID)
     }
 
     /// Whether something of a group's lines is ready, or the moment of one came.
@@ -161,20 +129,13 @@ impl<N: Network + Drop, L: Write + Drop, S: TableSource + Drop> Exchange<N, L, S
         let Some(watch) = self.groups.get_mut(group) else {
             return true;
         };
-        watch.is_due = is_ready || watch.moment <= self.desk.now;
-        watch.is_due
+        watch.begin(is_ready, self.desk.now)
     }
 
     /// Whether something of a group's lines is ready.
     fn is_ready(&self, group: usize) -> bool {
         let first = group.saturating_mul(GROUP);
-        let last = first.saturating_add(GROUP).min(self.ready.len());
-        let mut is_ready = false;
-        for place in first..last {
-            let mark = self.ready[place];
-            is_ready = is_ready | mark.listener | mark.reads | mark.writes;
-        }
-        is_ready
+        is_any_marked(&self.ready, first, first.saturating_add(GROUP))
     }
 
     /// Looks at the lines of a group, if something of one is ready or the moment of one came.
@@ -206,21 +167,13 @@ impl<N: Network + Drop, L: Write + Drop, S: TableSource + Drop> Exchange<N, L, S
         ) else {
             return;
         };
-        let mark = *ready;
-        watch.is_due = mark != NOTHING || watch.moment <= self.desk.now;
-        if !watch.is_due {
-            return;
-        }
-        wire.set_clock(self.desk.now);
-        if mark == NOTHING && self.desk.now < post.moment {
-            return;
-        }
-        *ready = NOTHING;
-        self.desk.attend(place, post, wire, mark);
+        self.desk.begin(place, post, ready, watch, wire);
     }
 
     /// Whether a line is looked at in this round.
-    pub(crate) fn is_due(&self, place: usize) -> bool {
+    pub(crate) fn is_due(&self, place: usize) -> bool
+        ensures due { (watch : Watch) → slice_get self.now.watches place ≡ Some watch → result ≡ watch.is_due }
+    {
         match self.watches.get(place) {
             Some(watch) => watch.is_due,
             None => true,
@@ -288,10 +241,7 @@ impl<N: Network + Drop, L: Write + Drop, S: TableSource + Drop> Exchange<N, L, S
         ensures lines { self.new.lines ≡ self.old.lines }
     {
         if let Some(watch) = self.groups.get_mut(group) {
-            *watch = Watch {
-                moment,
-                is_due: false,
-            };
+            *watch = Watch::until(moment);
         }
     }
 
@@ -311,10 +261,7 @@ impl<N: Network + Drop, L: Write + Drop, S: TableSource + Drop> Exchange<N, L, S
         }
         let moment = self.apply_session(place, hub, wire);
         if let Some(watch) = self.watches.get_mut(place) {
-            *watch = Watch {
-                moment,
-                is_due: false,
-            };
+            *watch = Watch::until(moment);
         }
         moment
     }

@@ -3,6 +3,7 @@
 #![tactic(auto)]
 
 mod attending;
+mod attention;
 mod connecting;
 mod customer_routes;
 mod customers;
