@@ -8,5 +8,6 @@ pub mod Prompting
 pub mod Revisions
 pub mod Serving
 pub mod Sessions
+pub mod Telling
 pub mod Waking
 pub mod code

@@ -1,6 +1,7 @@
 //! What the streams of a line were about when it was last looked at.
 
-ghost use Rattle.std.specs.Prelude.{◌≡◌, ◌<◌, ◌↔◌, length, IsTrue, IfSome};
+ghost use Rattle.std.specs.Prelude.{◌≡◌, ℕ, ◌<◌, ◌↔◌, ◌&&◌, not, None, get_or, length, IsTrue, IfSome};
+ghost use Rattle.njh_service.specs.Telling.{coming_at, ended_at, going_at};
 ghost use Rattle.njh_service.specs.code.Streams.{first_gone, is_gone, near_after};
 
 use crate::entry::FileLine;
@@ -59,25 +60,46 @@ fn is_gone(was: Option<FileId>, now: Option<FileId>) -> bool
 }
 
 /// The files that come in on a line's streams.
-pub(crate) fn files_coming(receivers: &[Receiver]) -> [Option<FileId>; STREAMS] {
+pub(crate) fn files_coming(receivers: &[Receiver]) -> [Option<FileId>; STREAMS]
+    ensures { (place : ℕ) → place < 8 → get_or result place None ≡ coming_at receivers.now place }
+{
     let mut files = [None; STREAMS];
     for place in 0..STREAMS {
-        if let Some(Receiver::Open { file, .. }) = receivers.get(place) {
-            files[place] = Some(*file);
-        }
+        files[place] = coming_at(receivers, place);
     }
     files
 }
 
+/// The file that comes in on the stream of a place.
+fn coming_at(receivers: &[Receiver], place: usize) -> Option<FileId>
+    ensures { result ≡ coming_at receivers.now place }
+{
+    match receivers.get(place) {
+        Some(Receiver::Open { file, .. }) => Some(*file),
+        Some(_) => None,
+        None => None,
+    }
+}
+
 /// The files that go out on a line's streams.
-pub(crate) fn files_going(senders: &[Sender]) -> [Option<FileId>; STREAMS] {
+pub(crate) fn files_going(senders: &[Sender]) -> [Option<FileId>; STREAMS]
+    ensures { (place : ℕ) → place < 8 → get_or result place None ≡ going_at senders.now place }
+{
     let mut files = [None; STREAMS];
     for place in 0..STREAMS {
-        if let Some(sender) = senders.get(place) {
-            files[place] = sender.file();
-        }
+        files[place] = going_at(senders, place);
     }
     files
+}
+
+/// The file that goes out on the stream of a place.
+fn going_at(senders: &[Sender], place: usize) -> Option<FileId>
+    ensures { result ≡ going_at senders.now place }
+{
+    match senders.get(place) {
+        Some(sender) => sender.file(),
+        None => None,
+    }
 }
 
 /// On which of a line's streams the end of a file was sent, and the peer hasn't said yet that it
@@ -85,14 +107,35 @@ pub(crate) fn files_going(senders: &[Sender]) -> [Option<FileId>; STREAMS] {
 pub(crate) fn ended(senders: &[Sender]) -> [bool; STREAMS] {
     let mut ended = [false; STREAMS];
     for place in 0..STREAMS {
-        ended[place] = matches!(senders.get(place), Some(Sender::EofSent(_)));
+        ended[place] = ended_at(senders, place);
     }
     ended
 }
 
+/// Whether the end of a file was sent on the stream of a place.
+fn ended_at(senders: &[Sender], place: usize) -> bool
+    ensures { result ≡ ended_at senders.now place }
+{
+    match senders.get(place) {
+        Some(Sender::EofSent(_)) => true,
+        Some(_) => false,
+        None => false,
+    }
+}
+
+/// Notes whether a customer counts as near its quota. Answers whether it has come near it since.
+pub(crate) fn has_come_near(near: &mut bool, used: u32, quota: u32) -> bool
+    ensures noted { near.new ≡ near_after near.old used quota }
+    ensures told { result ≡ (not near.old && near_after near.old used quota) }
+{
+    let was = *near;
+    *near = near_after(was, used, quota);
+    !was && *near
+}
+
 /// Whether a customer counts as near its quota, which it begins to be at nine tenths of it and
 /// ceases to be below eight.
-pub(crate) fn near_after(was: bool, used: u32, quota: u32) -> bool
+fn near_after(was: bool, used: u32, quota: u32) -> bool
     ensures { result ≡ near_after was used quota }
 {
     let tenths = if was { 8 } else { 9 };

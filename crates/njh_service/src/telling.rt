@@ -1,16 +1,20 @@
 //! What is told of a line's files, and of its customer's quota.
 
-ghost use Rattle.std.specs.Prelude.{◌<◌};
+ghost use Rattle.std.specs.Prelude.{◌≡◌, ◌<◌, ℕ, Bool, Some, slice_get};
+ghost use Rattle.njh_service.specs.Telling.{arrival, departure, loss, state_on};
+ghost use Rattle.njh_service.specs.declared.entry.FileLine.{FileLine};
 
 use crate::desk::Desk;
 use crate::entry::{FileLine, LogEntry, LogEvent, Place};
 use crate::notice_line::NoticeLine;
 use crate::post::Label;
-use crate::streams::{STREAMS, Streams, ended, files_coming, files_going, first_gone, near_after};
+use crate::streams::{
+    STREAMS, Streams, ended, files_coming, files_going, first_gone, has_come_near,
+};
 use njh_block::Stream;
-use njh_hub::{FileSummaryView, Hub};
+use njh_hub::Hub;
 use njh_spool::{FileId, State};
-use njh_stream::{Notice, Receiver};
+use njh_stream::Receiver;
 use njh_table::LineId;
 use njh_wire::Network;
 use std::io::Write;
@@ -45,11 +49,11 @@ impl<N: Network + Drop, L: Write + Drop> Desk<N, L> {
             };
             if let Some(file) = streams.coming[place] {
                 let event = match hub.file_summary(id.customer, file) {
-                    Some(summary) => arrival(&summary),
+                    Some(summary) => arrival(summary.state, FileLine::of(&summary)),
                     None => {
                         let drains = matches!(receivers.get(place), Some(Receiver::Draining));
                         let notice = notices.get(place).and_then(|notice| notice.as_ref());
-                        loss(Stream::at(place as u8), drains, notice)
+                        loss(Stream::at(place as u8), drains, notice.map(NoticeLine::of))
                     }
                 };
                 self.tell(label, event);
@@ -86,7 +90,7 @@ impl<N: Network + Drop, L: Write + Drop> Desk<N, L> {
             let Some(place) = first_gone(&streams.going, now) else {
                 break;
             };
-            if let Some(event) = departure(hub, customer, streams, place) {
+            if let Some(event) = event_of_gone(hub, customer, streams, place) {
                 self.tell(label, event);
             }
             streams.going[place] = None;
@@ -108,9 +112,7 @@ impl<N: Network + Drop, L: Write + Drop> Desk<N, L> {
         let Some(near) = self.customers.near.get_mut(usize::from(customer)) else {
             return;
         };
-        let was = *near;
-        *near = near_after(was, used, quota);
-        if *near && !was {
+        if has_come_near(near, used, quota) {
             let place = Place::Customer(label.customer);
             let event = LogEvent::NearQuota(used, quota);
             self.write(&LogEntry { place, event });
@@ -119,9 +121,10 @@ impl<N: Network + Drop, L: Write + Drop> Desk<N, L> {
 }
 
 /// What is told of a file that came whole.
-fn arrival(file: &FileSummaryView) -> LogEvent {
-    let line = FileLine::of(file);
-    if file.state == State::Held {
+fn arrival(state: State, line: FileLine) -> LogEvent
+    ensures { result ≡ arrival state line }
+{
+    if state == State::Held {
         LogEvent::FileHeld(line)
     } else {
         LogEvent::FileIn(line)
@@ -131,31 +134,42 @@ fn arrival(file: &FileSummaryView) -> LogEvent {
 /// What is told of a file that came in on a stream and isn't kept. `drains` if its rest is
 /// ignored, `notice` if its owner was told something: then the hub refused it. Else its peer
 /// gave it up, or its session ended.
-fn loss(stream: Stream, drains: bool, notice: Option<&Notice>) -> LogEvent {
+fn loss(stream: Stream, drains: bool, notice: Option<NoticeLine>) -> LogEvent
+    ensures { result ≡ loss stream drains notice }
+{
     if drains || notice.is_some() {
-        LogEvent::ComingRefused(stream, notice.map(NoticeLine::of))
+        LogEvent::ComingRefused(stream, notice)
     } else {
         LogEvent::ComingCutOff(stream)
     }
 }
 
-/// What became of a file that a stream from the hub is about no more, if it went out or was
-/// refused.
-fn departure(hub: &Hub, customer: u16, streams: &Streams, place: usize) -> Option<LogEvent>
+/// What is told of the file that a stream from the hub is about no more.
+fn event_of_gone(hub: &Hub, customer: u16, streams: &Streams, place: usize) -> Option<LogEvent>
     requires { place < 8 }
+    ensures { (file : ℕ) → (line : FileLine) → (ended : Bool) → slice_get streams.now.going place ≡ Some (Some file)
+        → slice_get streams.now.lines place ≡ Some (Some line) → slice_get streams.now.ended place ≡ Some ended
+        → result ≡ departure (state_on customer file hub.now) ended line }
 {
     let file = streams.going[place]?;
     let line = streams.lines[place]?;
-    match hub.file_summary(customer, file) {
-        Some(summary) => {
-            if summary.state == State::Refused {
-                Some(LogEvent::FileRefused(line))
-            } else {
-                None
-            }
-        }
+    let kept = match hub.file_summary(customer, file) {
+        Some(summary) => Some(summary.state),
+        None => None,
+    };
+    departure(kept, streams.ended[place], line)
+}
+
+/// What became of a file that went out, of which the end was sent or wasn't: `kept` is how it
+/// waits if the customer still has it.
+fn departure(kept: Option<State>, ended: bool, line: FileLine) -> Option<LogEvent>
+    ensures { result ≡ departure kept ended line }
+{
+    match kept {
+        Some(State::Refused) => Some(LogEvent::FileRefused(line)),
+        Some(_) => None,
         None => {
-            if streams.ended[place] {
+            if ended {
                 Some(LogEvent::FileOut(line))
             } else {
                 None
