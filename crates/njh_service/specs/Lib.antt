@@ -2,6 +2,7 @@ pub mod Attention
 pub mod Connecting
 pub mod Dialling
 pub mod Endpoints
+pub mod Giving
 pub mod Logging
 pub mod Opened
 pub mod Prompting

@@ -1,7 +1,8 @@
 //! New tables for a hub that runs.
 
-ghost use Rattle.std.specs.Prelude.{◌≡◌, ◌<◌, length, option_map, Some, None, IfSome, IfOk};
+ghost use Rattle.std.specs.Prelude.{◌≡◌, ◌<◌, ◌⊎◌, length, option_map, Some, None, IfSome, IfOk};
 ghost use Rattle.njh_table.specs.TableFile.{customer_at};
+ghost use Rattle.njh_service.specs.Giving.{state_after, state_given, IsFirstWaiting, IsPassedOver};
 ghost use Rattle.njh_service.specs.Revisions.{given_routes, AreKept};
 
 use crate::customer_routes::{have_other_routes, routes_of};
@@ -124,7 +125,9 @@ impl<S: TableSource + Drop> Revision<S> {
 
     /// Takes new tables, if these differ in routes alone.
     fn take(&mut self, tables: Tables) -> Option<SourceOutcome<S::Fault>>
-        ensures { AreKept self.old self.new }
+        ensures kept { AreKept self.old self.new }
+        ensures taken { IfSome self.old (λ _. IsPassedOver result ⊎ (self.new ≡ Some tables)) }
+        ensures passed { IsPassedOver result → self.new ≡ self.old }
     {
         let Some(known) = &self.tables else {
             return None;
@@ -174,11 +177,7 @@ impl<S: TableSource + Drop> Revision<S> {
         ensures { self.new ≡ self.old }
     {
         match self.route_states.get_mut(usize::from(customer)) {
-            Some(state) => *state = if given {
-                RouteState::Has
-            } else {
-                RouteState::Lacks
-            },
+            Some(state) => *state = state_given(given),
             None => {}
         }
         let customer = self
@@ -207,7 +206,9 @@ fn routes_in(
 }
 
 /// The first customer from a place on that waits for routes.
-fn first_waiting(route_states: &[RouteState], from: usize) -> Option<usize> {
+fn first_waiting(route_states: &[RouteState], from: usize) -> Option<usize>
+    ensures { IsFirstWaiting route_states.now from result }
+{
     for place in from..route_states.len() {
         if route_states[place] == RouteState::Waits {
             return Some(place);
@@ -216,15 +217,36 @@ fn first_waiting(route_states: &[RouteState], from: usize) -> Option<usize> {
     None
 }
 
+/// How a customer is once there are new tables, in which its routes differ or don't.
+fn state_after(state: RouteState, differs: bool) -> RouteState
+    ensures { result ≡ state_after state differs }
+{
+    if state != RouteState::Has || differs {
+        RouteState::Waits
+    } else {
+        RouteState::Has
+    }
+}
+
+/// How a customer is once its routes were given, or couldn't be.
+fn state_given(given: bool) -> RouteState
+    ensures { result ≡ state_given given }
+{
+    if given {
+        RouteState::Has
+    } else {
+        RouteState::Lacks
+    }
+}
+
 /// Marks each customer that has to be given its routes of new tables: those differ from the ones
 /// that it has, or it lacks them. Says whether there is any.
 fn mark(route_states: &mut [RouteState], known: &Tables, tables: &Tables) -> bool {
     let mut any = false;
     for place in 0..route_states.len() {
-        if route_states[place] != RouteState::Has || differ_at(place, known, tables) {
-            route_states[place] = RouteState::Waits;
-            any = true;
-        }
+        let state = state_after(route_states[place], differ_at(place, known, tables));
+        route_states[place] = state;
+        any = any | (state == RouteState::Waits);
     }
     any
 }
