@@ -59,7 +59,7 @@ def spans(text):
 
 def fault_of(signature):
     """The fault that a function may answer, if any."""
-    answer = re.search(r"\) -> ([\w:]*)Result<(.*)>", signature)
+    answer = re.search(r"\) -> \(?([\w:]*)Result<(.*)>", signature)
     if not answer or answer[1]:
         return answer and f"{answer[1]}Error"
     depth, last = 0, 0

@@ -39,33 +39,34 @@ pub(crate) fn serve_file<F: Files + Net + Clock + AllocGlobal, L: Write + Drop>(
     ensures served { OnOk result (AreServedOf {Spool = ⊤} path.now options.turns None) }
     ensures refused { IfErr result (AreRefused (Some path.now)) }
 {
-    serve_over(rt, path, options, log, &mut KeepsNothing)
+    let (served, _) = serve_over(rt, path, options, log, KeepsNothing);
+    served
 }
 
-/// Serves the lines of a table file, over a depot.
-pub(crate) fn serve_over<F: Files + Net + Clock + AllocGlobal, L: Write + Drop, D: Depot>(
+/// Serves the lines of a table file, over a depot, which is given back.
+pub(crate) fn serve_over<F: Files + Net + Clock + AllocGlobal, L: Write + Drop, D: Depot + Drop>(
     rt: &F,
     path: &str,
     options: Options,
     mut log: Log<L>,
-    depot: &mut D,
-) -> Result<(), Failure>
-    ensures served { OnOk result ((tables : TableFile) × AreGiven (Some path.now) tables
-        × AreServedFrom D.opens D.says depot.old tables options.turns) }
-    ensures refused { IfErr result (AreRefused (Some path.now)) }
+    depot: D,
+) -> (Result<(), Failure>, D)
+    ensures served { OnOk result.0 ((tables : TableFile) × AreGiven (Some path.now) tables
+        × AreServedFrom D.opens D.says depot result.1 tables options.turns) }
+    ensures refused { IfErr result.0 (AreRefused (Some path.now)) }
 {
     match tables_and_revision(rt, path) {
         Ok((tables, revision)) => match exchange_of(rt, log, revision) {
             Ok(exchange) => serve_tables(rt.alloc(), depot, tables, exchange, options),
             Err(failure) => {
                 drop(tables);
-                Err(failure)
+                (Err(failure), depot)
             }
         },
         Err(failure) => {
             log_failure(rt, path, &mut log, &failure);
             drop(log);
-            Err(failure)
+            (Err(failure), depot)
         }
     }
 }
@@ -132,21 +133,21 @@ fn network_on<'a, R: Net + Clock + AllocGlobal, L: Write + Drop>(
     }
 }
 
-/// Serves the lines of tables, over a depot.
-fn serve_tables<N: Network + Drop, L: Write + Drop, S: TableSource + Drop, D: Depot>(
+/// Serves the lines of tables, over a depot, which is given back.
+fn serve_tables<N: Network + Drop, L: Write + Drop, S: TableSource + Drop, D: Depot + Drop>(
     alloc: Global,
-    depot: &mut D,
+    depot: D,
     tables: Tables,
     exchange: Exchange<N, L, S>,
     options: Options,
-) -> Result<(), Failure>
-    ensures served { OnOk result (AreServedFrom D.opens D.says depot.old tables options.turns) }
-    ensures refused { IfErr result IsOfDevices }
+) -> (Result<(), Failure>, D)
+    ensures served { OnOk result.0 (AreServedFrom D.opens D.says depot result.1 tables options.turns) }
+    ensures refused { IfErr result.0 IsOfDevices }
 {
     let Options { turns, listen } = options;
     match serve(alloc, depot, tables, exchange, listen, turns) {
-        Ok(()) => Ok(()),
-        Err(fault) => Err(failure_of(fault)),
+        (Ok(()), depot) => (Ok(()), depot),
+        (Err(fault), depot) => (Err(failure_of(fault)), depot),
     }
 }
 

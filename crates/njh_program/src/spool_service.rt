@@ -1,8 +1,12 @@
 //! Serves the lines of a table file, and keeps whole files in a spool file.
 
 ghost use Rattle.std.specs.Prelude.{◌≡◌, ◌⊎◌, Some, OnOk, IfErr};
+ghost use Rattle.sqlite.specs.State.{HasCleanDisk};
 ghost use Rattle.njh_program.specs.ProgramOutcome.{AreServedOf, IsFilesEnd};
+ghost use Rattle.njh_program.specs.SpoolService.{AreServedOver};
 ghost use Rattle.njh_spoolfile.specs.Origin.{StandsAsFound};
+ghost use Rattle.njh_spoolfile.specs.Shelf.{shown};
+ghost use Rattle.njh_spoolfile.specs.Steps.{Stays};
 ghost use Rattle.njh_subcommands.specs.TableBytes.{AreRefused};
 
 use crate::service::{Options, serve_over};
@@ -81,7 +85,7 @@ fn serve_marked<F: Files + Net + Clock + AllocGlobal, L: Write + Drop, S: Origin
     }
 }
 
-/// Serves the lines of a table file, and keeps whole files in a spool file that is open.
+/// Serves the lines of a table file, and keeps whole files in this spool file, which is open.
 fn serve_kept<F: Files + Net + Clock + AllocGlobal, L: Write + Drop, S: Origin + Drop>(
     rt: &F,
     path: &str,
@@ -92,6 +96,7 @@ fn serve_kept<F: Files + Net + Clock + AllocGlobal, L: Write + Drop, S: Origin +
 ) -> Result<(), Failure>
     requires { StandsAsFound S.Store S.found store }
     ensures served { OnOk result (AreServedOf path.now options.turns (Some spool.now)) }
+    ensures kept { OnOk result (AreServedOver S.Store S.found store path.now options.turns) }
     ensures refused { IfErr result (λ failure. AreRefused (Some path.now) failure ⊎ IsFilesEnd failure) }
 {
     let mut keeper = SpoolKeeper::new(rt, rt.alloc(), store);
@@ -103,7 +108,7 @@ fn serve_kept<F: Files + Net + Clock + AllocGlobal, L: Write + Drop, S: Origin +
             return Err(failure);
         }
     }
-    let served = serve_over(rt, path, options, log, &mut keeper);
+    let (served, keeper) = serve_over(rt, path, options, log, keeper);
     let refusal = refusal_of(rt.alloc(), &keeper);
     drop(keeper);
     match served {
@@ -124,7 +129,9 @@ fn log_strangers<F: Files + Clock + AllocGlobal, R: Clock, S: Origin + Drop, L: 
     keeper: &mut SpoolKeeper<'_, R, S>,
     log: &mut Log<L>,
 ) -> Result<(), Failure>
-    ensures { IfErr result IsFilesEnd }
+    ensures refused { IfErr result IsFilesEnd }
+    ensures stays { HasCleanDisk (shown S.Store keeper.new.store) → OnOk result (Stays (shown S.Store keeper.old.store)
+        (shown S.Store keeper.new.store)) }
 {
     let Ok(tables) = tables_of(rt, Some(path)) else {
         return Ok(());

@@ -3,19 +3,20 @@ use Rattle.std.specs.Prelude.{◌≡◌, ℕ, List, length, map, All, Option, So
 use Rattle.njh_table.specs.declared.LineId.{LineId}
 use Rattle.njh_table.specs.TableFile.{TableFile}
 use Rattle.njh_hub.specs.Parts.{entries_of}
-use Rattle.njh_hub.specs.WholeHub.{Part, part_at_open}
+use Rattle.njh_hub.specs.WholeHub.{Part, hub_run, part_at_open}
 use Rattle.njh_turns.specs.Breaks.{ServiceBreaks}
 use Rattle.njh_turns.specs.Keeping.{KeeperSays, KeptFile, IsSettled}
-use Rattle.njh_turns.specs.Service.{Happening, ArePossible, IsAttended, service_rounds}
+use Rattle.njh_turns.specs.Service.{Happening, ArePossible, IsAttended, service_events, service_rounds}
 use Rattle.njh_turns.specs.Turns.{hub_wires, moment, no_quiets}
 use Rattle.njh_turns.specs.Wires.{WireSays}
 use Rattle.njh_service.specs.declared.endpoints.Endpoint.{Endpoint}
 use Rattle.njh_service.specs.Endpoints.{endpoints_of, lines_of}
 use Rattle.njh_service.specs.Opened.{IsApart}
 
--- A hub with the lines of it that are served, the quiets in a row on each, and their wires.
-pub record Served (W : Type 0) : Type 0 where
+-- A hub with its depot, the lines of it that are served, the quiets in a row on each, and their wires.
+pub record Served (W D : Type 0) : Type 0 where
   pub hub : List Part
+  pub depot : D
   pub lines : List LineId
   pub quiets : List ℕ
   pub wires : List W
@@ -27,29 +28,29 @@ turn_count (Some turns) = turns
 
 -- So many turns of the lines were taken, each line on its own wire, and the hub was told of these, of new routes and of
 -- nothing else.
-pub record HasServed {W : Type 0} (says : WireSays W) (brings : Type 0) (turns : ℕ)
-    (old new : Served W) : Type 0 where
+pub record HasServed {W D : Type 0} (says : WireSays W) (brings : Type 0) (turns : ℕ)
+    (old new : Served W D) : Type 0 where
   pub attended : IsAttended says brings old.lines turns (moment old.hub old.quiets old.wires)
       (moment new.hub new.quiets new.wires)
   pub lines : new.lines ≡ old.lines
 
 -- Such a service that the keeper's fault broke off.
-pub record IsBrokenOff {W : Type 0} (says : WireSays W) (may_leave : List (List KeptFile) → Type 0)
-    (brings : Type 0) (turns : ℕ) (old new : Served W) : Type 0 where
+pub record IsBrokenOff {W D : Type 0} (says : WireSays W) (may_leave : List (List KeptFile) → Type 0)
+    (brings : Type 0) (turns : ℕ) (old new : Served W D) : Type 0 where
   pub breaks : ServiceBreaks says may_leave brings old.lines turns (moment old.hub old.quiets old.wires)
       (hub_wires new.hub new.wires)
   pub lines : new.lines ≡ old.lines
 
 -- A service that was just opened: a hub that was opened so, and these lines of it, no two on one port.
-pub record IsOpenedOn {W : Type 0} (opened : List Part → Type 0) (endpoints : List Endpoint)
-    (service : Served W) : Type 0 where
+pub record IsOpenedOn {W D : Type 0} (opened : List Part → Type 0) (endpoints : List Endpoint)
+    (service : Served W D) : Type 0 where
   pub apart : IsApart endpoints
   pub hub : opened service.hub
   pub lines : service.lines ≡ lines_of endpoints
   pub calm : service.quiets ≡ no_quiets (lines_of endpoints)
 
 -- One that was just opened on tables: its lines are those that have a port or a peer.
-abbrev pub IsOpened : {W : Type 0} → (List Part → Type 0) → TableFile → Served W → Type 0
+abbrev pub IsOpened : {W D : Type 0} → (List Part → Type 0) → TableFile → Served W D → Type 0
 IsOpened opened tables service = IsOpenedOn opened (endpoints_of tables) service
 
 -- a hub of these tables that has no files
@@ -71,9 +72,15 @@ pub record AreServed (opened : List Part → Type 0) (tables : TableFile) (turns
   pub each : All (λ round. length round ≡ length lines) (service_rounds story)
   pub possible : ArePossible hub lines quiets story
 
+-- what the hub has after its story
+abbrev pub parts_served : {opened : List Part → Type 0} {tables : TableFile} {turns : Option ℕ}
+    → AreServed opened tables turns → List Part
+parts_served served = (hub_run served.hub (service_events served.lines served.quiets served.story)).parts
+
 -- The hub was opened by this depot: with what was kept there, and nothing else could have been left of it then by a
--- crash.
-abbrev pub AreServedFrom : {D : Type 0} → (D → D → TableFile → List Part → Type 0)
-    → KeeperSays D → D → TableFile → Option ℕ → Type 0
-AreServedFrom {D} opens says depot tables turns =
-    (opened : D) × AreServed (λ parts. opens depot opened tables parts × IsSettled says opened parts) tables turns
+-- crash. At the end the depot keeps what that hub has, and a crash leaves that and nothing else.
+pub record AreServedFrom {D : Type 0} (opens : D → D → TableFile → List Part → Type 0) (says : KeeperSays D)
+    (depot new_depot : D) (tables : TableFile) (turns : Option ℕ) : Type 0 where
+  pub opened : D
+  pub served : AreServed (λ parts. opens depot opened tables parts × IsSettled says opened parts) tables turns
+  pub kept : IsSettled says new_depot (parts_served served)

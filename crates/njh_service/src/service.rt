@@ -1,6 +1,6 @@
-//! A hub, the wires of its lines that are served, and who attends them.
+//! A hub, the depot that opened it, the wires of its lines that are served, and who attends them.
 
-ghost use Rattle.std.specs.Prelude.{◌≡◌, length, All, IfOk, OnOk, OnErr, Err};
+ghost use Rattle.std.specs.Prelude.{◌≡◌, length, All, IfErr, IfOk, OnOk, OnErr, Err};
 ghost use Rattle.njh_hub.specs.WholeHub.{HasLine};
 ghost use Rattle.njh_turns.specs.Keeping.{IsSettled, Keeps};
 ghost use Rattle.njh_turns.specs.Turns.{no_quiets};
@@ -14,24 +14,27 @@ use njh_turns::{Attendant, KeepFault, Keeper, Rounds, Wire, attend};
 use std::alloc::{AllocError, Global};
 use std::marker::Model;
 
-/// A hub, the wires of those of its lines that are served, and their attendant.
+/// A hub, the depot that keeps its customers' whole files, the wires of those of its lines that are
+/// served, and their attendant.
 #[derive(Drop)]
-pub struct Service<W: Drop, A: Drop> {
+pub struct Service<W: Drop, A: Drop, D: Drop> {
     hub: Hub,
+    depot: D,
     wires: Vec<W>,
     rounds: Rounds,
     attendant: A,
 }
 
-impl<W: Drop, A: Drop> Model for Service<W, A> {
+impl<W: Drop, A: Drop, D: Drop> Model for Service<W, A, D> {
     ghost use Rattle.std.specs.Prelude.{◌≡◌, length, All};
     ghost use Rattle.njh_hub.specs.WholeHub.{HasLine as HubHasLine};
     ghost use Rattle.njh_service.specs.Serving.{Served};
 
-    ghost Value = { Served W };
+    ghost Value = { Served W D };
 
     ghost view = { λ s. record {
       hub = s.hub;
+      depot = s.depot;
       lines = s.rounds.lines;
       quiets = s.rounds.quiets;
       wires = s.wires.items;
@@ -40,22 +43,22 @@ impl<W: Drop, A: Drop> Model for Service<W, A> {
     ghost invariant = { λ s. (length s.wires.items ≡ length s.rounds.lines) × All (HubHasLine s.hub) s.rounds.lines };
 }
 
-impl<W: Wire + Drop, A: Attendant<W> + Drop> Service<W, A> {
+impl<W: Wire + Drop, A: Attendant<W> + Drop, D: Keeper + Drop> Service<W, A, D> {
     /// So many turns of each line, or turns without an end if no number is given: as many as can
-    /// be counted. What becomes of the customers' whole files in a round is kept by this keeper
-    /// before a byte of that round goes out. `Err` if the keeper fails; nothing is read or
-    /// written after that.
-    pub fn run<K: Keeper>(&mut self, keeper: &mut K, turns: Option<u32>) -> Result<(), KeepFault>
-        requires settled { IsSettled K.says keeper.old self.old.hub }
+    /// be counted. What becomes of the customers' whole files in a round is kept by the depot
+    /// before a byte of that round goes out. `Err` if the depot fails: nothing is read or written
+    /// after that, and nothing can be run again, since what the hub has isn't settled then.
+    pub fn run(&mut self, turns: Option<u32>) -> Result<(), KeepFault>
+        requires settled { IsSettled D.says self.old.depot self.old.hub }
         ensures served { OnOk result (HasServed W.says A.brings (turn_count turns) self.old self.new) }
-        ensures breaks { OnErr result (IsBrokenOff W.says (K.says.may_leave keeper.new) A.brings (turn_count turns)
+        ensures breaks { OnErr result (IsBrokenOff W.says (D.says.may_leave self.new.depot) A.brings (turn_count turns)
             self.old self.new) }
-        ensures keeps { Keeps K.says keeper.old result self.new.hub keeper.new }
+        ensures keeps { Keeps D.says self.old.depot result self.new.hub self.new.depot }
     {
         let turns = turn_count(turns);
         attend(
             &mut self.hub,
-            keeper,
+            &mut self.depot,
             &mut self.wires,
             &mut self.rounds,
             &mut self.attendant,
@@ -74,32 +77,41 @@ fn turn_count(turns: Option<u32>) -> u64
     }
 }
 
-impl<W: Drop, A: Drop> Service<W, A> {
-    /// This hub, of which these lines are served, each on its own wire. Want of memory is the only
-    /// refusal.
+impl<W: Drop, A: Drop, D: Drop> Service<W, A, D> {
+    /// This hub with its depot, of which these lines are served, each on its own wire. Want of
+    /// memory is the only refusal; the depot is given back then.
     pub fn new(
         alloc: Global,
         hub: Hub,
+        depot: D,
         endpoints: &[Endpoint],
         wires: Vec<W>,
         attendant: A,
-    ) -> Result<Service<W, A>, HubFault>
+    ) -> Result<Service<W, A, D>, (HubFault, D)>
         requires same { length wires.items ≡ length endpoints.now }
         requires known { All (λ endpoint. HasLine hub endpoint.line) endpoints.now }
         ensures hub { IfOk result (λ service. service.hub ≡ hub) }
+        ensures depot { IfOk result (λ service. service.depot ≡ depot) }
         ensures lines { IfOk result (λ service. service.lines ≡ lines_of endpoints.now) }
         ensures calm { IfOk result (λ service. service.quiets ≡ no_quiets (lines_of endpoints.now)) }
         ensures wires { IfOk result (λ service. service.wires ≡ wires.items) }
-        ensures memory { OnErr result (result ≡ Err HubFault.Memory) }
+        ensures memory { IfErr result (λ refused. (refused.0 ≡ HubFault.Memory) × (refused.1 ≡ depot)) }
     {
-        let lines = lines_of(alloc, endpoints)?;
-        let rounds = Rounds::new(alloc, &lines)?;
-        Ok(Service {
-            hub,
-            wires,
-            rounds,
-            attendant,
-        })
+        match rounds_of(alloc, endpoints) {
+            Ok(rounds) => Ok(Service {
+                hub,
+                depot,
+                wires,
+                rounds,
+                attendant,
+            }),
+            Err(fault) => {
+                drop(hub);
+                drop(wires);
+                drop(attendant);
+                Err((fault, depot))
+            }
+        }
     }
 
     /// The hub.
@@ -115,6 +127,35 @@ impl<W: Drop, A: Drop> Service<W, A> {
     {
         self.rounds.lines()
     }
+
+    /// The depot, where nothing more is to be served.
+    pub fn into_depot(self) -> D
+        ensures { result ≡ self.depot }
+    {
+        let Service {
+            hub,
+            depot,
+            wires,
+            rounds,
+            attendant,
+        } = self;
+        drop(hub);
+        drop(wires);
+        drop(rounds);
+        drop(attendant);
+        depot
+    }
+}
+
+/// Rounds of the lines of endpoints, on which no quiet came yet. Want of memory is the only
+/// refusal.
+fn rounds_of(alloc: Global, endpoints: &[Endpoint]) -> Result<Rounds, HubFault>
+    ensures lines { IfOk result (λ rounds. rounds.lines ≡ lines_of endpoints.now) }
+    ensures calm { IfOk result (λ rounds. rounds.quiets ≡ no_quiets (lines_of endpoints.now)) }
+    ensures memory { OnErr result (result ≡ Err HubFault.Memory) }
+{
+    let lines = lines_of(alloc, endpoints)?;
+    Rounds::new(alloc, &lines)
 }
 
 /// The lines of endpoints.

@@ -25,90 +25,89 @@ use std::net::IpAddr;
 /// Serves the lines of tables that have a port or a peer, by an attendant that serves no line yet,
 /// for so many turns; if no number is given, until the program is ended. Lines with a port listen
 /// on this address. Each customer has the whole files that the depot kept of it, and what becomes
-/// of them is kept there before it shows on a line.
+/// of them is kept there before it shows on a line. The depot is given back.
 ///
 /// `Device` if a port can't be listened on, if what is kept can't be read, or if no line has a port
 /// or a peer and no number of turns is given: of ports and lines the log says why. `Refused` if a
 /// kept file can't be put back. `Memory` if there is no room for the hub or its wires. Nothing was
 /// read then. `Device` too if files couldn't be kept: nothing was read or written after that.
-pub fn serve<N: Network + Drop, L: Write + Drop, S: TableSource + Drop, D: Depot>(
+pub fn serve<N: Network + Drop, L: Write + Drop, S: TableSource + Drop, D: Depot + Drop>(
     alloc: Global,
-    depot: &mut D,
+    depot: D,
     tables: Tables,
     exchange: Exchange<N, L, S>,
     address: IpAddr,
     turns: Option<u32>,
-) -> Result<(), ServeFault>
-    ensures { OnOk result (AreServedFrom D.opens D.says depot.old tables turns) }
+) -> (Result<(), ServeFault>, D)
+    ensures { OnOk result.0 (AreServedFrom D.opens D.says depot result.1 tables turns) }
 {
-    let mut service = service_on(alloc, depot, tables, exchange, address, turns.is_none())?;
-    match service.run(depot, turns) {
-        Ok(()) => {}
-        Err(_) => {
-            drop(service);
-            return Err(ServeFault::Device);
-        }
+    match service_on(alloc, depot, tables, exchange, address, turns.is_none()) {
+        Ok(mut service) => match service.run(turns) {
+            Ok(()) => (Ok(()), service.into_depot()),
+            Err(_) => (Err(ServeFault::Device), service.into_depot()),
+        },
+        Err((fault, depot)) => (Err(fault), depot),
     }
-    drop(service);
-    Ok(())
 }
 
 /// A service of the lines of tables that have a port or a peer, of a hub that the depot opens. If
 /// such a line is `needed`, tables without one are refused.
 ///
 /// Refusals are those of `serve`.
-pub fn service_on<N: Network + Drop, L: Write + Drop, S: TableSource + Drop, D: Depot>(
+pub fn service_on<N: Network + Drop, L: Write + Drop, S: TableSource + Drop, D: Depot + Drop>(
     alloc: Global,
-    depot: &mut D,
+    depot: D,
     tables: Tables,
     mut exchange: Exchange<N, L, S>,
     address: IpAddr,
     needed: bool,
-) -> Result<Service<LineWire<N::Connection>, Exchange<N, L, S>>, ServeFault>
-    ensures opened { IfOk result (IsOpened (D.opens depot.old depot.new tables) tables) }
-    ensures settled { IfOk result (λ service. IsSettled D.says depot.new service.hub) }
+) -> Result<Service<LineWire<N::Connection>, Exchange<N, L, S>, D>, (ServeFault, D)>
+    ensures opened { IfOk result (λ service. IsOpened (D.opens depot service.depot tables) tables service) }
+    ensures settled { IfOk result (λ service. IsSettled D.says service.depot service.hub) }
 {
     match exchange.open_lines(alloc, &tables, address, needed) {
         Ok(endpoints) => service_of(alloc, depot, tables, &endpoints, exchange),
         Err(fault) => {
             drop(exchange);
             drop(tables);
-            Err(fault)
+            Err((fault, depot))
         }
     }
 }
 
 /// A service of lines of tables, by an attendant that serves these.
-fn service_of<N: Network + Drop, L: Write + Drop, S: TableSource + Drop, D: Depot>(
+fn service_of<N: Network + Drop, L: Write + Drop, S: TableSource + Drop, D: Depot + Drop>(
     alloc: Global,
-    depot: &mut D,
+    mut depot: D,
     tables: Tables,
     endpoints: &[Endpoint],
     exchange: Exchange<N, L, S>,
-) -> Result<Service<LineWire<N::Connection>, Exchange<N, L, S>>, ServeFault>
+) -> Result<Service<LineWire<N::Connection>, Exchange<N, L, S>, D>, (ServeFault, D)>
     requires known { All (λ endpoint. HasLine tables endpoint.line) endpoints.now }
     requires apart { IsApart endpoints.now }
-    ensures opened { IfOk result (IsOpenedOn (D.opens depot.old depot.new tables) endpoints.now) }
-    ensures settled { IfOk result (λ service. IsSettled D.says depot.new service.hub) }
+    ensures opened { IfOk result (λ service. IsOpenedOn (D.opens depot service.depot tables) endpoints.now service) }
+    ensures settled { IfOk result (λ service. IsSettled D.says service.depot service.hub) }
 {
     match depot.open(alloc, tables) {
-        Ok(hub) => service_over(alloc, hub, endpoints, exchange),
+        Ok(hub) => service_over(alloc, hub, depot, endpoints, exchange),
         Err(fault) => {
             drop(exchange);
-            Err(ServeFault::from(fault))
+            Err((ServeFault::from(fault), depot))
         }
     }
 }
 
-/// A service of lines of a hub.
-fn service_over<N: Network + Drop, L: Write + Drop, S: TableSource + Drop>(
+/// A service of lines of a hub, with its depot.
+fn service_over<N: Network + Drop, L: Write + Drop, S: TableSource + Drop, D: Drop>(
     alloc: Global,
     hub: Hub,
+    depot: D,
     endpoints: &[Endpoint],
     exchange: Exchange<N, L, S>,
-) -> Result<Service<LineWire<N::Connection>, Exchange<N, L, S>>, ServeFault>
+) -> Result<Service<LineWire<N::Connection>, Exchange<N, L, S>, D>, (ServeFault, D)>
     requires { All (λ endpoint. HubHasLine hub endpoint.line) endpoints.now }
     ensures hub { IfOk result (λ service. service.hub ≡ hub) }
+    ensures depot { IfOk result (λ service. service.depot ≡ depot) }
     ensures lines { IfOk result (λ service. service.lines ≡ lines_of endpoints.now) }
     ensures calm { IfOk result (λ service. service.quiets ≡ no_quiets (lines_of endpoints.now)) }
 {
@@ -117,12 +116,12 @@ fn service_over<N: Network + Drop, L: Write + Drop, S: TableSource + Drop>(
         Err(_) => {
             drop(exchange);
             drop(hub);
-            return Err(ServeFault::Memory);
+            return Err((ServeFault::Memory, depot));
         }
     };
-    match Service::new(alloc, hub, endpoints, wires, exchange) {
+    match Service::new(alloc, hub, depot, endpoints, wires, exchange) {
         Ok(service) => Ok(service),
-        Err(_) => Err(ServeFault::Memory),
+        Err((_, depot)) => Err((ServeFault::Memory, depot)),
     }
 }
 

@@ -16,9 +16,9 @@ pub trait Rounds {
     fn round(&mut self);
 }
 
-impl<W: Wire + Drop, A: Attendant<W> + Drop> Rounds for Service<W, A> {
+impl<W: Wire + Drop, A: Attendant<W> + Drop> Rounds for Service<W, A, KeepsNothing> {
     fn round(&mut self) {
-        let _ran = self.run(&mut KeepsNothing, Some(1));
+        let _ran = self.run(Some(1));
     }
 }
 
@@ -36,8 +36,8 @@ pub fn serve<N: Network + Drop, L: Write + Drop, P: Player>(
     address: IpAddr,
     player: &mut P,
 ) -> Result<(), Fail> {
-    match service_on(alloc, &mut KeepsNothing, tables, exchange, address, true) {
+    match service_on(alloc, KeepsNothing, tables, exchange, address, true) {
         Ok(mut service) => player.play(&mut service),
-        Err(fault) => Err(Fail::from(fault)),
+        Err((fault, _)) => Err(Fail::from(fault)),
     }
 }

@@ -1,22 +1,25 @@
 use Rattle.njh_service.proofs.serving.serve.Goals as goal
 
--- the story of the service that was opened
-pub returns : goal.returns
-returns g c =
-    let opened = c.in_ok-service.ensures.opened in
-    let ran = c.in-Ok.ensures.served.attended in (
-      c.service_on.new.depot,
-      record {
+-- the story of the service that was opened, and what its depot keeps behind it
+pub returns-in-Ok-run : goal.returns-in-Ok-run
+returns-in-Ok-run g c =
+    let opened = c.in-Ok.ensures.opened in
+    let ran = c.in-Ok-run.ensures.served.attended in
+    let kept = c.in-Ok-run.ensures.keeps.settled in
+    record {
+      opened = c.in-Ok.service.depot;
+      served = record {
         apart = opened.apart;
-        hub = c.in_ok-service.service.hub;
-        lines = c.in_ok-service.service.lines;
-        quiets = c.in_ok-service.service.quiets;
+        hub = c.in-Ok.service.hub;
+        lines = c.in-Ok.service.lines;
+        quiets = c.in-Ok.service.quiets;
         story = ran.story;
-        hub_of = (opened.hub, c.in_ok-service.ensures.settled);
+        hub_of = (opened.hub, c.in-Ok.ensures.settled);
         lines_of_tables = opened.lines;
         calm = opened.calm;
         many = ran.many;
         each = ran.each;
         possible = ran.possible;
-      },
-    )
+      };
+      kept = rw (c.into_depot.ensures, ← ran.hub) kept;
+    }

@@ -8,5 +8,5 @@ use Rattle.njh_service.proofs.serving.service_on.Goals as goal
 pub returns-in-Ok-clause-opened : goal.returns-in-Ok-clause-opened
 returns-in-Ok-clause-opened g c =
     subst (λ (endpoints : List Endpoint). IfOk c.service_of.result
-    (IsOpenedOn (g.D.Depot.opens c.args.depot.now c.service_of.new.depot c.args.tables) endpoints))
+    (λ service. IsOpenedOn (g.D.Depot.opens c.args.depot service.depot c.args.tables) endpoints service))
     (c.deref.ensures.value ∙ c.in-Ok.ensures.all) c.service_of.ensures.opened

@@ -6,8 +6,8 @@ use Rattle.njh_service.proofs.service.Service.new.Goals as goal
 
 pub invariant_of-result : goal.invariant_of-result
 invariant_of-result g c =
-    let lines = c.in_ok-rounds.ensures.lines ∙ (c.deref.ensures.value ∙ c.in_ok-lines.ensures) in
+    let lines = c.in-Ok.ensures.lines in
     let counted = length-map c.args.endpoints.now (λ (endpoint : Endpoint). endpoint.line) in
     let many = c.requires.same ∙ sym (ap length lines ∙ counted) in
-    let served = c.in_ok-rounds.rounds.lines in
+    let served = c.in-Ok.rounds.lines in
     (many, opened_lines c.args.hub c.args.endpoints.now served lines c.requires.known)
