@@ -6,7 +6,7 @@ use Rattle.njh_listing.specs.Faults.{IsOfSpool}
 use Rattle.njh_listing.specs.declared.fault.FilesFault.{FilesFault}
 use Rattle.njh_listing.specs.declared.fault.FilesFault.TheVariants.{Damaged, Device, InUse, Memory, NoFile, NotASpool}
 use Rattle.njh_listing.specs.declared.fault.FilesFault.TheVariants.{AlreadyThere, Full, OtherVersion, Refused, Several}
-use Rattle.njh_listing.specs.declared.fault.FilesFault.TheVariants.{Taken}
+use Rattle.njh_listing.specs.declared.fault.FilesFault.TheVariants.{NoRoom, NotFound, NotPermitted, Taken}
 
 pub spool_fits : (keys named : List ℕ) (fault : FilesFault) → IsOfSpool fault → FitsFault keys named fault
 spool_fits keys named (NoFile name) is = absurd is
@@ -19,6 +19,9 @@ spool_fits keys named Full is = tt
 spool_fits keys named NotASpool is = tt
 spool_fits keys named OtherVersion is = tt
 spool_fits keys named Damaged is = tt
+spool_fits keys named NotFound is = tt
+spool_fits keys named NotPermitted is = tt
+spool_fits keys named NoRoom is = tt
 spool_fits keys named Device is = tt
 spool_fits keys named Memory is = tt
 

@@ -29,6 +29,9 @@ pub(crate) fn fault_of(error: io::Error) -> FilesFault
 {
     match error.kind() {
         ErrorKind::OutOfMemory => FilesFault::Memory,
+        ErrorKind::NotFound | ErrorKind::NotADirectory => FilesFault::NotFound,
+        ErrorKind::PermissionDenied | ErrorKind::ReadOnlyFilesystem => FilesFault::NotPermitted,
+        ErrorKind::StorageFull | ErrorKind::QuotaExceeded => FilesFault::NoRoom,
         _ => FilesFault::Device,
     }
 }

@@ -32,8 +32,14 @@ pub enum FilesFault {
     OtherVersion,
     /// It is no database, or is damaged.
     Damaged,
-    /// The file can't be opened or read, or a write failed. A beginning of what was to be written
-    /// is written.
+    /// A folder of its path, or the file itself if it has to be there, isn't there.
+    NotFound,
+    /// This user may not open or make the file or its log, or set its mode.
+    NotPermitted,
+    /// The disk has no room, or this user may have no more of it.
+    NoRoom,
+    /// The file can't be opened or read for another reason, or a write failed. A beginning of what
+    /// was to be written is written.
     Device,
     /// Memory was refused.
     Memory,
@@ -53,7 +59,10 @@ impl fmt::Display for FilesFault {
             FilesFault::NotASpool => f.write_str("spool is another database"),
             FilesFault::OtherVersion => f.write_str("spool of another version"),
             FilesFault::Damaged => f.write_str("spool damaged, or no database"),
-            FilesFault::Device => f.write_str("device"),
+            FilesFault::NotFound
+            | FilesFault::NotPermitted
+            | FilesFault::NoRoom
+            | FilesFault::Device => f.write_str("device"),
             FilesFault::Memory => f.write_str("U3 Memory"),
         }
     }
@@ -66,9 +75,9 @@ impl From<Error> for FilesFault {
         match error {
             Error::SqliteFailure(ErrorCode::OutOfMemory) => FilesFault::Memory,
             Error::SqliteFailure(ErrorCode::DatabaseBusy) => FilesFault::InUse,
-            Error::SqliteFailure(
-                ErrorCode::CannotOpen | ErrorCode::SystemIoFailure | ErrorCode::DiskFull,
-            ) => FilesFault::Device,
+            Error::SqliteFailure(ErrorCode::DiskFull) => FilesFault::NoRoom,
+            Error::SqliteFailure(ErrorCode::CannotOpen | ErrorCode::SystemIoFailure) =>
+                FilesFault::Device,
             _ => FilesFault::Damaged,
         }
     }

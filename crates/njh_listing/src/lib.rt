@@ -11,6 +11,7 @@ mod moving;
 mod opening;
 mod order;
 mod printing;
+mod unopened;
 mod writing;
 
 pub use fault::FilesFault;

@@ -13,6 +13,7 @@ ghost use Rattle.njh_listing.specs.Taken.{is_other};
 use crate::copying::{copy_files, fault_of, hold, make_folder, real_path, remove_folder};
 use crate::fault::FilesFault;
 use crate::moving::close;
+use crate::unopened::{log_of, told_by_files};
 use njh_spoolfile::Store;
 use sqlite::{Alter, FileFrom, FileStore, Start, Unknown};
 use std::fs;
@@ -118,13 +119,6 @@ fn set_modes(rt: &HostRuntime, path: &str) -> Result<(), FilesFault>
     set_mode(rt, file.as_str())?;
     let log = log_of(rt, file.as_str())?;
     set_mode(rt, log.as_str())
-}
-
-/// The path of a spool file's log.
-fn log_of(rt: &HostRuntime, file: &str) -> Result<String, FilesFault>
-    ensures { IfErr result IsOfSpool }
-{
-    Ok(format!(in rt.alloc(); "{file}-wal")?)
 }
 
 /// How many bytes a spool file's log has, if it is there.
@@ -318,7 +312,7 @@ impl SpoolFiles for HostRuntime {
         }
         match open_store(self, path, start) {
             Ok(store) => where_set(store, set_modes(self, path)),
-            Err(fault) => Err(fault),
+            Err(fault) => Err(told_by_files(self, path, fault)),
         }
     }
 
