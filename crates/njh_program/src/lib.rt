@@ -5,6 +5,7 @@
 mod program;
 mod requests;
 mod service;
+mod spool_log;
 mod spool_service;
 mod spooling;
 mod standard_error;

@@ -10,6 +10,7 @@ ghost use Rattle.njh_spoolfile.specs.Steps.{Stays};
 ghost use Rattle.njh_subcommands.specs.TableBytes.{AreRefused};
 
 use crate::service::{Options, serve_over};
+use crate::spool_log::log_unopened;
 use crate::start_log::log_failure;
 use njh_keeper::SpoolKeeper;
 use njh_listing::{FilesFault, SpoolFiles};
@@ -25,8 +26,8 @@ use std::net::Net;
 use std::rt::{Clock, Files};
 
 /// Serves the lines of a table file, and keeps whole files in a spool file. If the table file can't
-/// be read, or its lines can't be served, the log says why. The table file's fault comes
-/// before that of the spool file.
+/// be read, the spool file opened, or the lines served, the log says why. The table file's fault
+/// comes before that of the spool file.
 pub(crate) fn serve_spool_file<
     F: Files + SpoolFiles + Net + Clock + AllocGlobal,
     S: Start,
@@ -56,6 +57,7 @@ pub(crate) fn serve_spool_file<
         Err(fault) => {
             let failure = first_failure(rt, path, fault);
             log_failure(rt, path, &mut log, &failure);
+            log_unopened(rt, spool, &mut log, &failure);
             Err(failure)
         }
     }
@@ -103,6 +105,7 @@ fn serve_kept<F: Files + Net + Clock + AllocGlobal, L: Write + Drop, S: Origin +
     match log_strangers(rt, path, spool, &mut keeper, &mut log) {
         Ok(()) => {}
         Err(failure) => {
+            log_unopened(rt, spool, &mut log, &failure);
             drop(keeper);
             drop(log);
             return Err(failure);
