@@ -416,29 +416,22 @@ def refusals(options):
 
 
 def few_handles(options):
-    """`ulimit -n` under the number of lines, and over it but under what 64 connections need."""
+    """`ulimit -n` under the number of lines, one under what 64 lines need, and just that."""
     places = places_of([4] * 16)
     limit = lambda count: {"preexec_fn": lambda: resource.setrlimit(resource.RLIMIT_NOFILE, (count, count))}
-    start(options, "64 lines, 40 handles", table_of(places, 16), **limit(40))
-    with Hub(options, table_of(places, 16), **limit(100)) as hub:
-        peers, count = [connected(place.port, timeout=2) for place in places], 0
-        before, begin = hub.seconds_used(), time.monotonic()
+    for count in (40, 137):
+        start(options, f"64 lines, {count} handles", table_of(places, 16), **limit(count))
+    with Hub(options, table_of(places, 16), **limit(138)) as hub:
+        peers = [connected(place.port, timeout=2) for place in places]
         for peer in peers:
             peer.sendall(CONTACT)
         time.sleep(3)
-        served = [peer for peer in peers if select.select([peer], [], [], 0)[0]]
-        used = (hub.seconds_used() - before) / (time.monotonic() - begin) if hub.runs() else 0.0
-        for peer in served:
-            peer.close()
-        time.sleep(3)
-        rest = [peer for peer in peers if peer not in served]
-        count = sum(bool(select.select([peer], [], [], 0)[0]) for peer in rest)
-        print(f"64 lines, 100 handles, 64 peers: {len(served)} are answered, {100 * used:.1f} % of a core")
-        state = "goes on" if hub.runs() else f"has ended with status {hub.process.returncode}"
-        print(f"    once these are gone, {count} of the {len(rest)} others; the program {state}")
+        served = sum(bool(select.select([peer], [], [], 0)[0]) for peer in peers)
+        held = len(os.listdir(f"/proc/{hub.process.pid}/fd"))
+        print(f"64 lines, 138 handles, 64 peers: {served} are answered, {held} handles are held")
         for line in hub.log()[-4:]:
             print(f"    {line}")
-        for peer in rest:
+        for peer in peers:
             peer.close()
 
 

@@ -2,6 +2,7 @@
 //! print what a spool file holds, or a task of njh_subcommands.
 #![tactic(auto)]
 
+mod handles;
 mod program;
 mod requests;
 mod service;

@@ -6,6 +6,7 @@ ghost use Rattle.njh_service.specs.Serving.{AreServedFrom};
 ghost use Rattle.njh_subcommands.specs.TableBytes.{AreGiven, AreRefused};
 ghost use Rattle.njh_table.specs.TableFile.{TableFile};
 
+use crate::handles::refuse_few;
 use crate::start_log::log_failure;
 use crate::table_source::TableFileSource;
 use njh_service::{Exchange, Log, Revision, ServeFault, TableSource, serve};
@@ -56,7 +57,7 @@ pub(crate) fn serve_over<F: Files + Net + Clock + AllocGlobal, L: Write + Drop, 
     ensures refused { IfErr result.0 (AreRefused (Some path.now)) }
 {
     match tables_and_revision(rt, path) {
-        Ok((tables, revision)) => match exchange_of(rt, log, revision) {
+        Ok((tables, revision)) => match exchange_of(rt, &tables, log, revision) {
             Ok(exchange) => serve_tables(rt.alloc(), depot, tables, exchange, options),
             Err(failure) => {
                 drop(tables);
@@ -96,15 +97,16 @@ fn tables_and_revision<'a, F: Files + AllocGlobal>(
     }
 }
 
-/// An attendant of no line yet, on the sockets of this machine.
-fn exchange_of<'a, R: Net + Clock + AllocGlobal, L: Write + Drop, S: TableSource + Drop>(
+/// An attendant of no line yet, on the sockets of this machine, for the lines of these tables.
+fn exchange_of<'a, R: Files + Net + Clock + AllocGlobal, L: Write + Drop, S: TableSource + Drop>(
     rt: &'a R,
+    tables: &Tables,
     mut log: Log<L>,
     revision: Revision<S>,
 ) -> Result<Exchange<MioNetwork<'a, R>, L, S>, Failure>
     ensures { IfErr result IsOfDevices }
 {
-    match network_on(rt, &mut log) {
+    match network_for(rt, tables, &mut log) {
         Ok(network) => Ok(Exchange::new(rt.alloc(), network, log, revision)),
         Err(failure) => {
             drop(log);
@@ -112,6 +114,18 @@ fn exchange_of<'a, R: Net + Clock + AllocGlobal, L: Write + Drop, S: TableSource
             Err(failure)
         }
     }
+}
+
+/// The sockets of this machine, if the lines of these tables may have as many as they need.
+fn network_for<'a, R: Files + Net + Clock + AllocGlobal, L: Write + Drop>(
+    rt: &'a R,
+    tables: &Tables,
+    log: &mut Log<L>,
+) -> Result<MioNetwork<'a, R>, Failure>
+    ensures { IfErr result IsOfDevices }
+{
+    refuse_few(rt, tables, log)?;
+    network_on(rt, log)
 }
 
 /// The sockets of this machine. If they can't be waited for the log says so.

@@ -3,6 +3,7 @@ pub mod Connecting
 pub mod Dialling
 pub mod Endpoints
 pub mod Giving
+pub mod Handles
 pub mod Logging
 pub mod Opened
 pub mod Prompting

@@ -1,6 +1,6 @@
-//! Which lines of tables are served.
+//! Which lines of tables are served, and how many handles they need.
 
-use njh_service::{Endpoint, Site, endpoints_of};
+use njh_service::{Endpoint, Site, endpoints_of, handles_needed};
 use njh_table::{LineId, Tables};
 use std::alloc::Global;
 use std::process::Abort;
@@ -46,6 +46,8 @@ fn compare<R: Abort>(rt: &R, endpoints: &[Endpoint]) {
     assert_eq!(rt; endpoints.len(), 2);
     compare_one(rt, endpoints[0], 0, 2);
     compare_one(rt, endpoints[1], 1, 7);
+    // Two for each, and ten for what else is open.
+    assert_eq!(rt; handles_needed(endpoints), 14);
 }
 
 /// Of either customer it is the line of the customer's own number.
