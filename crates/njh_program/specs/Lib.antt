@@ -1,2 +1,1 @@
 pub mod ProgramOutcome
-pub mod SpoolService

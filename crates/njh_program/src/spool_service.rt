@@ -1,12 +1,8 @@
 //! Serves the lines of a table file, and keeps whole files in a spool file.
 
 ghost use Rattle.std.specs.Prelude.{◌≡◌, ◌⊎◌, Some, OnOk, IfErr};
-ghost use Rattle.sqlite.specs.State.{HasCleanDisk};
 ghost use Rattle.njh_program.specs.ProgramOutcome.{AreServedOf, IsFilesEnd};
-ghost use Rattle.njh_program.specs.SpoolService.{AreServedOver};
 ghost use Rattle.njh_spoolfile.specs.Origin.{StandsAsFound};
-ghost use Rattle.njh_spoolfile.specs.Shelf.{shown};
-ghost use Rattle.njh_spoolfile.specs.Steps.{Stays};
 ghost use Rattle.njh_subcommands.specs.TableBytes.{AreRefused};
 
 use crate::service::{Options, serve_over};
@@ -43,24 +39,38 @@ pub(crate) fn serve_spool_file<
     ensures served { OnOk result (AreServedOf path.now options.turns (Some spool.now)) }
     ensures refused { IfErr result (λ failure. AreRefused (Some path.now) failure ⊎ IsFilesEnd failure) }
 {
-    let opened = match rt.mark_spool(spool) {
-        Ok(is_gone) => {
-            if is_gone {
-                log.write(utc_seconds(rt), &LogGone { spool });
-            }
-            rt.open_spool(spool, start)
-        }
-        Err(fault) => Err(fault),
-    };
-    match opened {
-        Ok(store) => serve_marked(rt, path, spool, options, log, store),
-        Err(fault) => {
-            let failure = first_failure(rt, path, fault);
-            log_failure(rt, path, &mut log, &failure);
-            log_unopened(rt, spool, &mut log, &failure);
-            Err(failure)
-        }
+    match rt.mark_spool(spool) {
+        Ok(is_gone) => log_gone(rt, spool, is_gone, &mut log),
+        Err(fault) => return Err(refused(rt, path, spool, log, fault)),
     }
+    match rt.open_spool(spool, start) {
+        Ok(store) => serve_marked(rt, path, spool, options, log, store),
+        Err(fault) => Err(refused(rt, path, spool, log, fault)),
+    }
+}
+
+/// Logs that a spool file's log is gone, if it is.
+fn log_gone<R: Clock, L: Write + Drop>(rt: &R, spool: &str, is_gone: bool, log: &mut Log<L>) {
+    if is_gone {
+        log.write(utc_seconds(rt), &LogGone { spool });
+    }
+}
+
+/// Logs why nothing is served, since the spool file isn't opened: the table file's fault, if it has
+/// one, and else that of the spool file. Answers it.
+fn refused<F: Files + Clock + AllocGlobal, L: Write + Drop>(
+    rt: &F,
+    path: &str,
+    spool: &str,
+    mut log: Log<L>,
+    fault: FilesFault,
+) -> Failure
+    ensures { AreRefused (Some path.now) result ⊎ IsFilesEnd result }
+{
+    let failure = first_failure(rt, path, fault);
+    log_failure(rt, path, &mut log, &failure);
+    log_unopened(rt, spool, &mut log, &failure);
+    failure
 }
 
 /// Serves the lines of a table file, and keeps whole files in a spool file that is open, which is
@@ -98,7 +108,6 @@ fn serve_kept<F: Files + Net + Clock + AllocGlobal, L: Write + Drop, S: Origin +
 ) -> Result<(), Failure>
     requires { StandsAsFound S.Store S.found store }
     ensures served { OnOk result (AreServedOf path.now options.turns (Some spool.now)) }
-    ensures kept { OnOk result (AreServedOver S.Store S.found store path.now options.turns) }
     ensures refused { IfErr result (λ failure. AreRefused (Some path.now) failure ⊎ IsFilesEnd failure) }
 {
     let mut keeper = SpoolKeeper::new(rt, rt.alloc(), store);
@@ -132,9 +141,7 @@ fn log_strangers<F: Files + Clock + AllocGlobal, R: Clock, S: Origin + Drop, L: 
     keeper: &mut SpoolKeeper<'_, R, S>,
     log: &mut Log<L>,
 ) -> Result<(), Failure>
-    ensures refused { IfErr result IsFilesEnd }
-    ensures stays { HasCleanDisk (shown S.Store keeper.new.store) → OnOk result (Stays (shown S.Store keeper.old.store)
-        (shown S.Store keeper.new.store)) }
+    ensures { IfErr result IsFilesEnd }
 {
     let Ok(tables) = tables_of(rt, Some(path)) else {
         return Ok(());
