@@ -55,6 +55,9 @@ from spool_speed import BIG, table_for
 # The cards of a file of the other customer.
 CARDS = ALL_CARDS[:3]
 
+# How many seconds more the other customer's lines last, in which a play is made ready.
+MORE = {"many": 15}
+
 PLAYS = ("quiet", "large", "flood", "many", "smallest")
 
 WIDTHS = (9, 7, 8, 7, 8, 8, 7, 8, 8, 8, 7, 8, 8)
@@ -220,7 +223,7 @@ def trial(options, library, load, name):
     table = table.replace(f"block = {BLOCK}", f"block = {LARGE}")
     with PinnedHub(options.program, table, core, library) as hub:
         hub.wait_for(places[-1].port)
-        waiting = Waiting(load, places[2:], options.seconds, others)
+        waiting = Waiting(load, places[2:], options.seconds + MORE.get(name, 0), others)
         asker, probe = Asker(places[0].port, "N0"), Probe(hub.place.name, own)
         note = globals()[name](asker, options.seconds)
         syncs, probed = hub.syncs(asker.begun), [pair for pair in probe.stop() if pair[0] > asker.begun]
