@@ -1,7 +1,7 @@
 -- A file's records are finished: of those that stand there the headers are written anew.
 use Rattle.njh_keeper.proofs.Words
 use Words.{◌≡◌, ℕ, zero, suc, ◌+◌, ◌<◌, ◌≤◌, true, false, List, [], ◌∷◌, ◌++◌, length, get_or, take, drop, sym, ap}
-use Words.{subst, ◌∙◌, append-nil, arith, drop_all, get_or-take, length-take-le, take-take, take_all, Stored, Record}
+use Words.{subst, ◌∙◌, arith, get_or-take, length-take-le, take-take, Stored, Record}
 use Words.{SpoolContents, with_record, without_records, HasRecords, IsOrdered, records_midway, stored_of}
 use Rattle.njh_keeper.proofs.{AlikeLaws.{AreAlike, alike_at, is_header}, WritingLaws.next_is_rewritten}
 use Rattle.njh_keeper.proofs.WritingLaws.{next_is_the_same}
@@ -61,8 +61,3 @@ module _ (before now : List Stored) (shorter : length before ≤ length now)
       subst (λ rs. HasRecords key rs (with_record r (without_records key at (at + 1) spool)))
       (of_front (at + 1) (omega (arith, within)))
       (next_is_rewritten at front before front_long there key r spool h has_front mine place here was header)
-
-  -- then all stand there
-  pub finish_ends : length now ≤ at → records_midway at now before ≡ now
-  finish_ends past =
-      (λ i. take_all at now past i ++ drop_all at before (omega (arith, past, shorter)) i) ∙ append-nil now

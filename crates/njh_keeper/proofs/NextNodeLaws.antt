@@ -1,6 +1,8 @@
 -- The data set headers of a file are gone through, and the nodes that they name compared.
-use Rattle.std.proofs.Common.{◌≡◌, ℕ, ◌+◌, ◌≤◌, false, List, [], ◌∷◌, length, drop, slice_get, Option, Some, None}
-use Rattle.{std.proofs.Common.{is_some, refl, sym, ap, subst, ◌∙◌, arith}, njh_record.specs.Stored.Stored}
+use Rattle.std.proofs.Common.{◌≡◌, ℕ, ◌+◌, ◌≤◌, ◌==◌, ◌&&◌, ◌⊎◌, inl, inr, not, cond, false, List, [], ◌∷◌, length}
+use Rattle.std.proofs.Common.{drop, slice_get, Option, Some, None, option_map, is_some, refl, sym, ap, subst, ◌∙◌, arith}
+use Rattle.{std.proofs.lemmas.Bool.{cases_Bool, eqb-true}, std.specs.Result.result_ok, njh_record.specs.Stored.Stored}
+use Rattle.njh_header.specs.Headers.{data_set_header}
 use Rattle.njh_keeper.{proofs.NodeLaws.AllAre, specs.code.Nodes.{named_node, AreOne, named_nodes, with_first}}
 
 -- ---- the next node
@@ -22,15 +24,46 @@ pub empty : (records : List Stored) → length records ≤ 0 → records ≡ []
 empty [] e = refl
 empty (x ∷ rs) e = absurd (omega arith)
 
-pub read_one : (before : ℕ) (records rest : List Stored) (r : Stored) (bytes : List ℕ) (said : Option (List ℕ))
-    → Some r ≡ slice_get records 0 → rest ≡ drop 1 records → bytes ≡ r.bytes
-    → said ≡ named_node (Some before) (record { srcb = r.srcb; bytes = bytes })
-    → named_nodes (Some before) records ≡ with_first said (named_nodes (Some r.srcb) rest)
-read_one before records rest r bytes said first left same named =
-    at_first before records r first
-    ∙ ap (λ (rs : List Stored). with_first (named_node (Some before) r) (named_nodes (Some r.srcb) rs)) (sym left)
-    ∙ ap (λ (n : Option (List ℕ)). with_first n (named_nodes (Some r.srcb) rest))
-    (ap (λ (b : List ℕ). named_node (Some before) (record { srcb = r.srcb; bytes = b })) (sym same) ∙ sym named)
+-- the next record's SRCB was read, and of a header its bytes
+pub next_of : (next : Option Stored) (srcb : ℕ) → option_map (λ r. r.srcb) next ≡ Some srcb
+    → (r : Stored) × (Some r ≡ next) × (r.srcb ≡ srcb)
+next_of None srcb is = absurd (cc is)
+next_of (Some r) srcb is = (r, refl, cc is)
+
+pub no_next : (next : Option Stored) → option_map (λ r. r.srcb) next ≡ None → None ≡ next
+no_next None is = refl
+no_next (Some r) is = absurd (cc is)
+
+abbrev pub IsRead : Option Stored → ℕ → List ℕ → Type 0
+IsRead next srcb bytes = (code : ℕ) → (code ≡ 0xc0) ⊎ (code ≡ 0xe0) → Some srcb ≡ Some code
+    → next ≡ Some (record { srcb = code; bytes = bytes })
+
+names_none : (before : ℕ) (r : Stored) → (r.srcb == 0xe0) ≡ false → named_node (Some before) r ≡ None
+names_none before r other =
+    ap (λ is. cond (is && not (before == 0xe0)) (option_map (λ h. h.destination.node)
+    (result_ok (data_set_header r.bytes))) None) other
+
+pub read_one : (before : ℕ) (records rest : List Stored) (srcb : ℕ) (read bytes : List ℕ) (said : Option (List ℕ))
+    → option_map (λ r. r.srcb) (slice_get records 0) ≡ Some srcb → IsRead (slice_get records 0) srcb read
+    → rest ≡ drop 1 records → bytes ≡ read → said ≡ named_node (Some before) (record { srcb = srcb; bytes = bytes })
+    → named_nodes (Some before) records ≡ with_first said (named_nodes (Some srcb) rest)
+read_one before records rest srcb read bytes said first header left same named =
+    let r = next_of (slice_get records 0) srcb first in
+    let told : Stored = record { srcb = srcb; bytes = bytes } in
+    let says : named_node (Some before) r.0 ≡ said = elim (cases_Bool (srcb == 0xe0)) [
+      | inl is ↦
+          let found : Some r.0 ≡ Some (record { srcb = srcb; bytes = read }) =
+          r.1 ∙ header srcb (inr (eqb-true srcb 0xe0 is)) refl in
+          let one : r.0 ≡ record { srcb = srcb; bytes = read } = cc in
+          ap (named_node (Some before)) (one ∙ ap (λ (xs : List ℕ). record { srcb = srcb; bytes = xs }) (sym same))
+          ∙ sym named
+      | inr other ↦ names_none before r.0 (ap (λ code. code == 0xe0) r.2 ∙ other)
+          ∙ sym (named ∙ names_none before told other)
+    ] in
+    at_first before records r.0 r.1
+    ∙ ap (λ (rs : List Stored). with_first (named_node (Some before) r.0) (named_nodes (Some r.0.srcb) rs)) (sym left)
+    ∙ ap (λ (n : Option (List ℕ)). with_first n (named_nodes (Some r.0.srcb) rest)) says
+    ∙ ap (λ (code : ℕ). with_first said (named_nodes (Some code) rest)) r.2
 
 pub at_end : (before : ℕ) (records rest : List Stored) (said : Option (List ℕ)) → None ≡ slice_get records 0
     → rest ≡ drop 1 records → said ≡ None

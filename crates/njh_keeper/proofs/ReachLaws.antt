@@ -1,14 +1,15 @@
 -- The records of a hub's file are gone through, and what of them stands on a spool file.
 use Rattle.njh_keeper.proofs.Words
-use Words.{◌≡◌, ℕ, zero, suc, ◌+◌, ◌^◌, ◌<◌, ◌≤◌, ◌&&◌, Bool, true, false, List, [], ◌∷◌, ◌++◌, length, get_or, take}
-use Words.{drop, slice_get, Option, Some, None, refl, sym, ap, subst, ◌∙◌, arith, take-append-drop, take-take}
+use Words.{◌≡◌, ℕ, zero, suc, ◌+◌, ◌^◌, ◌<◌, ◌≤◌, Bool, true, false, List, [], ◌∷◌, ◌++◌, length, get_or, take}
+use Words.{drop, slice_get, Option, Some, None, refl, sym, ap, subst, ◌∙◌, arith}
 use Words.{AllByRecursion, State, Stored, Record, SpoolContents, with_record, without_records, Changes, CustomerSpool}
 use Words.{records_numbered, records_in, AreAlike, AreBegun, Writes, Leads, FitsHub, HasRecords, IsOrdered, WritesUnder}
+use Words.{◌==◌, ◌||◌, ◌⊎◌, inl, inr, cases_Bool, eqb-true, option_map, take_all}
 use Words.{records_midway, stored_of, SpoolWriter, append-nil, drop_all}
-use Rattle.{std.proofs.lemmas.List.drop-drop, njh_keeper.proofs.FinishLaws.{finish_ends, finish_passes}}
-use Rattle.njh_keeper.proofs.{FinishLaws.finish_rewrites, FrameLaws.{changes_record, writes_nothing}}
+use Rattle.{std.proofs.lemmas.List.drop-drop, njh_keeper.proofs.AlikeLaws.begun_same}
+use Rattle.njh_keeper.proofs.{FinishLaws.{finish_passes, finish_rewrites}, FrameLaws.{changes_record, writes_nothing}}
 use Rattle.njh_keeper.proofs.{FrameLaws.writes_then, LeadingLaws.{leads_by, leads_nothing, leads_then, leads_weaker}}
-use Rattle.njh_keeper.specs.code.{Alike.is_header, Gathering.Continues, Writing.with_replaced}
+use Rattle.njh_keeper.specs.code.{Alike.{Rewrites, is_header}, Gathering.Continues, Writing.with_replaced}
 
 -- ---- the next record of those that are left
 
@@ -53,6 +54,16 @@ pub file_is_read : (number : ℕ) (spool : CustomerSpool) (rs : List Stored) →
     → rs ≡ records_in number spool
 file_is_read number spool rs is = sym (ap (λ (o : Option (List Stored)). elim o [ Some records ↦ records | None ↦ [] ])
     is)
+
+rest_of : (n : ℕ) (o : Option (List Stored)) (rs : List Stored) → option_map (λ records. drop n records) o ≡ Some rs
+    → rs ≡ drop n (elim o [ Some records ↦ records | None ↦ [] ])
+rest_of n None rs is = absurd (cc is)
+rest_of n (Some xs) rs is = cc is
+
+pub rest_is_read : (number n : ℕ) (spool : CustomerSpool) (rs : List Stored)
+    → option_map (λ records. drop n records) (records_numbered number spool) ≡ Some rs
+    → rs ≡ drop n (records_in number spool)
+rest_is_read number n spool rs is = rest_of n (records_numbered number spool) rs is
 
 -- a writer's memory but for what waits
 pub only_waits : {S : Type 0} (a b c : SpoolWriter S) (waiting : ℕ)
@@ -110,61 +121,61 @@ module _ (key : ℕ) (Given : List Stored → Type 0) (all : List Stored)
               (within before given) header),
         ))
 
-    -- rows come behind those that stood there
-    pub reach_continues : (first next last : ℕ) {new : State} → Leads (Continues key all first next) mid new
-        → ((before : List Stored) → Given before
-        → (length before ≤ first) × (at ≡ first) × (first ≤ next) × (last ≡ next))
-        → Leads (Reaches key Given all last) old new
-    reach_continues first next last rows behind =
-        leads_then so_far rows (λ s t u reached more before h has given.
-        let one = reached before h has given in
-        let are = behind before given in
-        let none : (n : ℕ) → length before ≤ n → records_midway n all before ≡ take n all =
-        λ n past. ap (λ rs. take n all ++ rs) (drop_all n before past) ∙ append-nil (take n all) in
-        let two = more one.0.ordered
-        (subst (λ rs. HasRecords key rs t) (ap (λ n. records_midway n all before) are.1 ∙ none first are.0) one.1) in (
-          writes_then key s t u one.0 two.0,
-          subst (λ rs. HasRecords key rs u)
-              (sym (ap (λ n. records_midway n all before) are.3 ∙ none next (omega (arith, are.0, are.2)))) two.1,
-        ))
-
-  -- none is left
-  pub reach_ends : (at : ℕ) {old new : State} → length all ≤ at → Leads (Reaches key Given all at) old new
-      → Leads (λ s t. (before : List Stored) → IsOrdered s → HasRecords key before s → Given before
-      → WritesUnder key s t × HasRecords key all t) old new
-  reach_ends at past so_far =
-      leads_weaker so_far (λ s t reached before h has given.
-      let one = reached before h has given in
-      let all_front = front before given in
-      (one.0, subst (λ rs. HasRecords key rs t) (finish_ends before all all_front.0 all_front.1 at past) one.1))
-
 -- ---- what stood there
+
+pub which_header : (code : ℕ) → is_header code ≡ true → (code ≡ 0xc0) ⊎ (code ≡ 0xe0)
+which_header code is = elim (cases_Bool (code == 0xc0)) [
+  | inl is_one ↦ inl (eqb-true code 0xc0 is_one)
+  | inr other ↦ inr (eqb-true code 0xe0 (sym (ap (λ b. b || code == 0xe0) other) ∙ is))
+]
 
 pub begun_front : (is_old : Bool) (written : ℕ) (all before : List Stored) → AreBegun is_old written all before
     → IsFront all before
 begun_front is_old written all before given =
     (omega (arith, given.0, given.1), subst (λ n. AreAlike before (take n all)) (sym given.0) given.2)
 
-front_again : (written : ℕ) (all before : List Stored) (at : ℕ) → before ≡ take written all → at ≤ written
-    → records_midway at all before ≡ before
-front_again written all before at same within =
-    ap (λ rs. rs ++ drop at before)
-    (sym (take-take at written all within) ∙ ap (λ (rs : List Stored). take at rs) (sym same))
-    ∙ take-append-drop at before
-
--- one that isn't to be written anew is passed over
-pub begun_is_same : (is_old : Bool) (written : ℕ) (all : List Stored) (at : ℕ) (r : Stored) → at < written
-    → r ≡ get_or all at r → (is_old && is_header r.srcb) ≡ false
-    → (before : List Stored) → AreBegun is_old written all before
+-- one that is no header is passed over
+pub begun_is_same : (written : ℕ) (all : List Stored) (at : ℕ) (r : Stored) → at < written → r ≡ get_or all at r
+    → is_header r.srcb ≡ false → (before : List Stored) → AreBegun true written all before
     → records_midway (at + 1) all before ≡ records_midway at all before
-begun_is_same false written all at r low is other before given =
-    front_again written all before (at + 1) (given.3 refl) (omega (arith, low))
-    ∙ sym (front_again written all before at (given.3 refl) (omega (arith, low)))
-begun_is_same true written all at r low is other before given =
+begun_is_same written all at r low is other before given =
     let all_front = begun_front true written all before given in
     finish_passes before all all_front.0 all_front.1 at r (omega (arith, low, given.0)) is other
 
-pub write_done : (is_old : Bool) (key written : ℕ) (all : List Stored) (at : ℕ) {old new : State} → length all ≤ at
-    → Leads (Reaches key (AreBegun is_old written all) all at) old new → Leads (Writes is_old key written all) old new
-write_done is_old key written all at past so_far =
-    reach_ends key (AreBegun is_old written all) all (begun_front is_old written all) at past so_far
+pub rewrite_done : (key written : ℕ) (all : List Stored) {old new : State}
+    → Leads (Reaches key (AreBegun true written all) all written) old new → Leads (Rewrites key written all) old new
+rewrite_done key written all so_far =
+    leads_weaker so_far (λ s t reached before h has given.
+    let one = reached before h has given in
+    let none : records_midway written all before ≡ take written all =
+    ap (λ rs. take written all ++ rs) (drop_all written before (omega (arith, given.0)))
+    ∙ append-nil (take written all) in
+    (one.0, subst (λ rs. HasRecords key rs t) none one.1))
+
+-- ---- what comes behind
+
+-- the first of them stand there as they are, and then all
+pub rest_done : (key written : ℕ) (all : List Stored) (next : ℕ) {old new : State} → length all ≤ next
+    → Leads (Continues key all written next) old new → Leads (Writes false key written all) old new
+rest_done key written all next past rows =
+    leads_weaker rows (λ s t continues before h has given.
+    let two = continues h (subst (λ rs. HasRecords key rs s) (given.3 refl) has) in
+    (two.0, subst (λ rs. HasRecords key rs t) (take_all next all past) two.1))
+
+pub nothing_left : (key written : ℕ) (all : List Stored) → length all ≤ written → {at : State}
+    → Leads (Writes false key written all) at at
+nothing_left key written all past =
+    leads_nothing (λ s before h has given. (
+      writes_nothing key s h,
+      subst (λ rs. HasRecords key rs s) (given.3 refl ∙ take_all written all past) has,
+    ))
+
+-- headers are written anew, and then the others
+pub all_are_written : (key written : ℕ) (all : List Stored) {old mid new : State}
+    → Leads (Rewrites key written all) old mid → Leads (Writes false key written all) mid new
+    → Leads (Writes true key written all) old new
+all_are_written key written all one more =
+    leads_then one more (λ s t u rewrites writes before h has given.
+    let first = rewrites before h has given in
+    let second = writes (take written all) first.0.ordered first.1 (begun_same written all given.1) in
+    (writes_then key s t u first.0 second.0, second.1))

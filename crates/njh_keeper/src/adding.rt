@@ -37,7 +37,7 @@ pub(crate) fn add_one<S: Alter + Drop>(
     ensures crash { Survives (shown S.Store writer.old.store) (shown S.Store writer.new.store) (λ _. ⊥) }
 {
     let place = place_for(writer, own, file.number, summary.records)?;
-    write_records(writer, hub, file, place.key, place.written, true)?;
+    write_records(writer, hub, file, place.key, place.written)?;
     add_row(writer, own, hub, file, place.key, summary)
 }
 

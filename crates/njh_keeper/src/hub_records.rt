@@ -1,12 +1,12 @@
 //! The records of a hub's file, as they are written into a spool file.
 
-ghost use Rattle.std.specs.Prelude.{◌≡◌, ◌≤◌, ◌<◌, ◌-◌, ◌&&◌, true, false, [], length, IsSome, OnOk, Some, None};
+ghost use Rattle.std.specs.Prelude.{◌≡◌, ◌≤◌, ◌<◌, ◌-◌, true, false, [], length, take, IsSome, OnOk, Some, None};
 ghost use Rattle.std.specs.List.{AllByRecursion};
 ghost use Rattle.sqlite.specs.State.{HasCleanDisk, Survives};
 ghost use Rattle.njh_stream.specs.SpoolFiles.{records_in};
 ghost use Rattle.njh_hub.specs.WholeHub.{part};
 ghost use Rattle.njh_spoolfile.specs.Shelf.{shown};
-ghost use Rattle.njh_keeper.specs.code.Alike.{Writes, is_header};
+ghost use Rattle.njh_keeper.specs.code.Alike.{Rewrites, Writes};
 ghost use Rattle.njh_keeper.specs.code.Counting.{CountsMore};
 ghost use Rattle.njh_keeper.specs.code.Leading.{Leads};
 ghost use Rattle.njh_keeper.specs.code.Mirrored.{FitsHub};
@@ -26,17 +26,16 @@ use sqlite::{Alter, Error};
 /// Blanks, if a field has nothing.
 const BLANKS: [u8; 8] = [0x40; 8];
 
-/// Writes the records of a file of which so many stand there. Where the file may have been sent
-/// elsewhere since those were written (`is_old`), the headers among them are written anew.
+/// Writes the records of a whole file of which so many stand there. Since it may have been sent
+/// elsewhere since those were written, the headers among them are written anew.
 pub(crate) fn write_records<S: Alter + Drop>(
     writer: &mut SpoolWriter<S>,
     hub: &Hub,
     file: &HubFile,
     key: u32,
     written: u32,
-    is_old: bool,
 ) -> Result<(), Error>
-    ensures led { HasCleanDisk (shown S.Store writer.new.store) → OnOk result (Leads (Writes is_old key written
+    ensures led { HasCleanDisk (shown S.Store writer.new.store) → OnOk result (Leads (Writes true key written
         (records_in file.now.number (part file.now.customer hub.now).customer.spool))
         (shown S.Store writer.old.store) (shown S.Store writer.new.store)) }
     ensures fit { OnOk result (AllByRecursion FitsHub
@@ -48,20 +47,43 @@ pub(crate) fn write_records<S: Alter + Drop>(
         writer.old writer.new) }
     ensures crash { Survives (shown S.Store writer.old.store) (shown S.Store writer.new.store) (λ _. ⊥) }
 {
+    rewrite_headers(writer, hub, file, key, written)?;
+    write_rest(writer, hub, file, key, written)
+}
+
+/// Writes the headers anew among the first so many records of a file, which stand there. The others
+/// aren't read.
+fn rewrite_headers<S: Alter + Drop>(
+    writer: &mut SpoolWriter<S>,
+    hub: &Hub,
+    file: &HubFile,
+    key: u32,
+    written: u32,
+) -> Result<(), Error>
+    ensures led { HasCleanDisk (shown S.Store writer.new.store) → OnOk result (Leads (Rewrites key written
+        (records_in file.now.number (part file.now.customer hub.now).customer.spool))
+        (shown S.Store writer.old.store) (shown S.Store writer.new.store)) }
+    ensures fit { OnOk result (AllByRecursion FitsHub
+        (take written (records_in file.now.number (part file.now.customer hub.now).customer.spool))) }
+    ensures others { OnOk result (writer.new
+        ≡ record writer.old { store = writer.new.store; waiting = writer.new.waiting }) }
+    ensures counted { OnOk result (CountsMore 0 writer.old writer.new) }
+    ensures crash { Survives (shown S.Store writer.old.store) (shown S.Store writer.new.store) (λ _. ⊥) }
+{
     let Some(mut records) = hub.read_file(file.customer, file.number) else {
         return Err(astray());
     };
-    let mut row = NextRow::new(key, written);
+    if written > PLACES {
+        return Err(astray());
+    }
     let mut record = Record::new();
-    for place in 0..PLACES {
-        let Some(srcb) = records.next(&mut record) else {
-            return row.write(writer);
+    for place in 0..written {
+        let Some(srcb) = records.next_header(&mut record) else {
+            return Err(astray());
         };
-        let bytes: &[u8] = &record;
-        if place >= written {
-            row.add(writer, srcb, bytes)?;
-        } else if is_old_header(is_old, srcb) {
+        if stands_alone(srcb) {
             let srcb = u16::from(srcb);
+            let bytes: &[u8] = &record;
             writer.replace_record(&RecordRow {
                 key,
                 place,
@@ -70,15 +92,50 @@ pub(crate) fn write_records<S: Alter + Drop>(
             })?;
         }
     }
-    Err(astray())
+    Ok(())
 }
 
-/// Whether a record that stands there is to be written anew: a header, in which a node stands, of a
-/// file that may have been sent elsewhere.
-fn is_old_header(is_old: bool, srcb: u8) -> bool
-    ensures { result ≡ (is_old && is_header srcb) }
+/// Writes the records of a file of which the first so many stand there as they are.
+pub(crate) fn write_rest<S: Alter + Drop>(
+    writer: &mut SpoolWriter<S>,
+    hub: &Hub,
+    file: &HubFile,
+    key: u32,
+    written: u32,
+) -> Result<(), Error>
+    ensures led { HasCleanDisk (shown S.Store writer.new.store) → OnOk result (Leads (Writes false key written
+        (records_in file.now.number (part file.now.customer hub.now).customer.spool))
+        (shown S.Store writer.old.store) (shown S.Store writer.new.store)) }
+    ensures fit { OnOk result (AllByRecursion FitsHub
+        (take written (records_in file.now.number (part file.now.customer hub.now).customer.spool))
+        → AllByRecursion FitsHub (records_in file.now.number (part file.now.customer hub.now).customer.spool)) }
+    ensures others { OnOk result (writer.new
+        ≡ record writer.old { store = writer.new.store; waiting = writer.new.waiting }) }
+    ensures counted { OnOk result (CountsMore
+        (length (records_in file.now.number (part file.now.customer hub.now).customer.spool) - written)
+        writer.old writer.new) }
+    ensures crash { Survives (shown S.Store writer.old.store) (shown S.Store writer.new.store) (λ _. ⊥) }
 {
-    is_old && stands_alone(srcb)
+    let count = hub.record_count(file.customer, file.number);
+    if written >= count {
+        return Ok(());
+    }
+    if count > PLACES {
+        return Err(astray());
+    }
+    let Some(mut records) = hub.read_file_from(file.customer, file.number, written) else {
+        return Err(astray());
+    };
+    let mut row = NextRow::new(key, written);
+    let mut record = Record::new();
+    for _ in written..count {
+        let Some(srcb) = records.next(&mut record) else {
+            return Err(astray());
+        };
+        let bytes: &[u8] = &record;
+        row.add(writer, srcb, bytes)?;
+    }
+    row.write(writer)
 }
 
 /// Whether a file's data set headers name more than one node.
@@ -131,7 +188,7 @@ fn next_node(records: &mut RecordReader<'_>, before: &mut u8, count: u32) -> Opt
 {
     let mut record = Record::new();
     for _ in 0..count {
-        let srcb = records.next(&mut record)?;
+        let srcb = records.next_header(&mut record)?;
         let node = node_of(*before, srcb, &record);
         *before = srcb;
         if node.is_some() {

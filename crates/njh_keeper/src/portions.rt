@@ -14,7 +14,7 @@ ghost use Rattle.njh_stream.specs.SpoolFiles.{records_in};
 ghost use Rattle.njh_spoolfile.specs.Shelf.{shown};
 ghost use Rattle.sqlite.specs.State.{Survives};
 
-use crate::hub_records::write_records;
+use crate::hub_records::write_rest;
 use crate::own_files::{HubFile, KeptPartial, OwnFiles};
 use crate::sweeping::{sweep, sweep_later};
 use crate::writer::SpoolWriter;
@@ -148,7 +148,7 @@ fn begin<S: Alter + Drop>(
         written: count,
         is_open: true,
     };
-    write_records(writer, hub, file, key, 0, false)?;
+    write_rest(writer, hub, file, key, 0)?;
     remember(own, partial)
 }
 
@@ -189,7 +189,7 @@ fn go_on<S: Alter + Drop>(
         };
         return Ok(());
     }
-    write_records(writer, hub, file, partial.key, partial.written, false)?;
+    write_rest(writer, hub, file, partial.key, partial.written)?;
     own.partial[place] = KeptPartial {
         seen,
         written: seen,

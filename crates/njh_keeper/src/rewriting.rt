@@ -68,7 +68,7 @@ fn rewrite_one<S: Alter + Drop>(
     ensures crash { Survives (shown S.Store writer.old.store) (shown S.Store writer.new.store) (λ _. ⊥) }
 {
     let kept = own.whole[place];
-    write_records(writer, hub, file, kept.key, summary.records, true)?;
+    write_records(writer, hub, file, kept.key, summary.records)?;
     let now = KeptWhole {
         state: summary.state,
         destination: summary.destination,

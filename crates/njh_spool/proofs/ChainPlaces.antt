@@ -1,5 +1,5 @@
 -- Where the blocks of a chain lie.
-use Rattle.std.proofs.Common.{◌≡◌, ℕ, zero, suc, ◌+◌, ◌*◌, ◌<◌, ◌≤◌, List, length, get_or, Option, Some, refl, sym, ap}
+use Rattle.std.proofs.Common.{◌≡◌, ℕ, zero, suc, ◌+◌, ◌-◌, ◌*◌, ◌<◌, ◌≤◌, List, length, get_or, Option, Some, refl, sym, ap}
 use Rattle.std.proofs.Common.{◌∙◌, arith}
 use Rattle.std.specs.Prelude.{slice_get}
 use Rattle.std.proofs.lemmas.Option.{slice_get-get_or, get_or_from_slice_get}
@@ -13,7 +13,7 @@ use Rattle.njh_spool.specs.code.ChainedBlocks.{link_in, data_in, next_at, keys_f
 use Rattle.njh_spool.specs.code.ChainedBlocks.{IsChained, empty_ends}
 use Rattle.njh_spool.proofs.ChainLists.{field-take}
 use Rattle.njh_spool.proofs.ChainKeys.{length-keys_from, field-data_of}
-use Rattle.njh_spool.proofs.ChainLaws.{len_is, keys_is, bytes_is, head_here, has_here, full_here, key_lies}
+use Rattle.njh_spool.proofs.ChainLaws.{len_is, keys_is, bytes_is, head_here, last_here, has_here, full_here, key_lies}
 use Rattle.njh_spool.proofs.ChainLaws.{ends_within, count_within, used_is}
 use Rattle.std.proofs.lemmas.List.{get_or_default}
 
@@ -79,6 +79,13 @@ module _ (on : OnChain) where
 
   pub used_on : (blocks_used store ≡ slab_len s) × (store.capacity ≡ capacity)
   used_on = used_is s chains capacity store chained view
+
+  pub last_key : 0 < ends.len → slice_get (chain_at i store).keys (blocks_for ends.len - 1) ≡ Some ends.last
+  last_key some =
+      ap (λ (keys : List ℕ). slice_get keys (blocks_for ends.len - 1)) keys_on
+      ∙ slice_get-get_or (keys_of s ends) (blocks_for ends.len - 1) 0
+      (omega (arith, length-keys_from s (blocks_for ends.len) ends.head))
+      ∙ ap Some (last_here s chains i capacity ends chained within is some)
 
   -- the key of a block is that of the chain's value
   module _ (b : ℕ) (inside : 252 * b < length (chain_at i store).bytes) where

@@ -1,6 +1,7 @@
 -- What a reader has left, step by step.
-use Rattle.std.proofs.Common.{◌≡◌, ◌+◌, ◌≤◌, [], ◌∷◌, drop, Some, ap, ◌∙◌, arith}
+use Rattle.std.proofs.Common.{◌≡◌, ℕ, ◌+◌, ◌≤◌, [], ◌∷◌, drop, Option, None, Some, refl, ap, ◌∙◌, arith}
 use Rattle.std.specs.Prelude.{slice_get}
+use Rattle.std.specs.Option.{option_map}
 use Rattle.std.proofs.lemmas.List.{drop_more, drop_all}
 use Rattle.std.proofs.lemmas.Option.{slice_get_within, get_or_from_slice_get}
 use Rattle.njh_record.specs.Stored.{Stored}
@@ -26,3 +27,19 @@ one_less slot chain from next r found after =
     rw after (drop_more records from.record_index r (slice_get_within records from.record_index r found)
     ∙ ap (λ (x : Stored). x ∷ drop (from.record_index + 1) records)
     (get_or_from_slice_get records from.record_index r r found))
+
+mapped : (found : Option Stored) (srcb : ℕ) → option_map (λ r. r.srcb) found ≡ Some srcb
+    → (r : Stored) × (found ≡ Some r) × (r.srcb ≡ srcb)
+mapped None srcb is = cc
+mapped (Some r) srcb is = (r, refl, cc)
+
+-- a record of which the SRCB alone is read
+pub one_passed : (slot : FileSlot) (chain : Chain) (from next : RecordPlace) (srcb : ℕ) →
+    option_map (λ r. r.srcb) (slice_get (unpacked_records slot.count chain.bytes) from.record_index) ≡ Some srcb
+    → next.record_index ≡ from.record_index + 1
+    → (r : Stored) × (r.srcb ≡ srcb)
+    × (slice_get (unpacked_records slot.count chain.bytes) from.record_index ≡ Some r)
+    × (records_from slot chain from ≡ r ∷ records_from slot chain next)
+one_passed slot chain from next srcb found after =
+    let r = mapped (slice_get (unpacked_records slot.count chain.bytes) from.record_index) srcb found in
+    (r.0, r.2, r.1, one_less slot chain from next r.0 r.1 after)

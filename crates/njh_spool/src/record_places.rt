@@ -1,6 +1,7 @@
 //! Where the records of a file lie.
 
 ghost use Rattle.std.specs.Prelude.{◌≡◌, ◌+◌, ◌<◌, ◌≤◌, ◌++◌, length, IsSomeAnd, slice_get, Some};
+ghost use Rattle.std.specs.Option.{option_map};
 ghost use Rattle.njh_spool.specs.code.Chains.{chain_at, IsBlockOf};
 ghost use Rattle.njh_spool.specs.code.Packing.{packed_record, unpacked_records};
 ghost use Rattle.njh_spool.specs.code.Slots.{IsFile, IsPlace};
@@ -100,6 +101,21 @@ pub fn place_of_record(store: &BlockStore, at: u32, slot: &FileSlot, n: u32) -> 
     place
 }
 
+/// Where a record would begin that is put last.
+pub fn place_of_end(store: &BlockStore, at: u32, slot: &FileSlot) -> RecordPlace
+    requires range { at < length store.now.chains }
+    requires file { IsFile slot.now (chain_at at store.now) }
+    ensures place { IsPlace (unpacked_records slot.now.count (chain_at at store.now).bytes)
+        (chain_at at store.now).keys result }
+    ensures index { result.record_index ≡ slot.now.count }
+{
+    RecordPlace {
+        record_index: slot.count,
+        place: store.len(at),
+        block: store.last_block(at),
+    }
+}
+
 /// Puts the bytes of the record at a place into `into`, and gives its SRCB and where the next
 /// record begins.
 pub fn read_record(
@@ -127,6 +143,34 @@ pub fn read_record(
         record_index: from.record_index + 1,
         place: begins + u32::from(head.length),
         block,
+    };
+    (head.srcb, next)
+}
+
+/// The SRCB of the record at a place, and where the next record begins.
+pub fn pass_record(
+    store: &BlockStore,
+    at: u32,
+    slot: &FileSlot,
+    from: RecordPlace,
+) -> (u8, RecordPlace)
+    requires range { at < length store.now.chains }
+    requires file { IsFile slot.now (chain_at at store.now) }
+    requires place { IsPlace (unpacked_records slot.now.count (chain_at at store.now).bytes)
+        (chain_at at store.now).keys from }
+    requires more { from.record_index < slot.now.count }
+    ensures srcb { option_map (λ r. r.srcb) (slice_get (unpacked_records slot.now.count
+        (chain_at at store.now).bytes) from.record_index) ≡ Some result.0 }
+    ensures place { IsPlace (unpacked_records slot.now.count (chain_at at store.now).bytes)
+        (chain_at at store.now).keys result.1 }
+    ensures next { result.1.record_index ≡ from.record_index + 1 }
+{
+    let mut room = Record::new();
+    let head = read_head(store, at, slot, from, &mut room);
+    let next = RecordPlace {
+        record_index: from.record_index + 1,
+        place: from.place + RECORD_HEAD as u32 + u32::from(head.length),
+        block: head.block,
     };
     (head.srcb, next)
 }

@@ -1,14 +1,15 @@
 //! The records of a file, one after another.
 
-ghost use Rattle.std.specs.Prelude.{◌≡◌, ◌<◌, length, drop, slice_get, None};
-ghost use Rattle.std.specs.Option.{option_map};
+ghost use Rattle.std.specs.Prelude.{◌≡◌, ◌<◌, ◌≤◌, ◌⊎◌, ℕ, length, drop, slice_get, None, Some};
+ghost use Rattle.std.specs.Option.{option_map, ForSome};
 ghost use Rattle.njh_spool.specs.code.Chains.{chain_at};
 ghost use Rattle.njh_spool.specs.code.Packing.{unpacked_records};
-ghost use Rattle.njh_spool.specs.code.Slots.{IsFile};
+ghost use Rattle.njh_spool.specs.code.Slots.{IsFile, IsPlace};
 
 use crate::file_slot::{FileSlot, RecordPlace};
-use crate::record_places::read_record;
+use crate::record_places::{pass_record, read_record};
 use crate::store::BlockStore;
+use njh_header::srcb;
 use njh_record::Record;
 use std::marker::Model;
 
@@ -43,11 +44,27 @@ impl<'a> RecordReader<'a> {
         requires file { IsFile slot (chain_at at store.now) }
         ensures { result ≡ unpacked_records slot.count (chain_at at store.now).bytes }
     {
+        RecordReader::starting_at(store, at, slot, RecordPlace::FIRST)
+    }
+
+    /// The records of a file from the one on that begins at a place.
+    pub(crate) fn starting_at(
+        store: &'a BlockStore,
+        at: u32,
+        slot: FileSlot,
+        next: RecordPlace,
+    ) -> Self
+        requires range { at < length store.now.chains }
+        requires file { IsFile slot (chain_at at store.now) }
+        requires place { IsPlace (unpacked_records slot.count (chain_at at store.now).bytes)
+            (chain_at at store.now).keys next }
+        ensures { result ≡ drop next.record_index (unpacked_records slot.count (chain_at at store.now).bytes) }
+    {
         RecordReader {
             store,
             at,
             slot,
-            next: RecordPlace::FIRST,
+            next,
         }
     }
 
@@ -64,6 +81,26 @@ impl<'a> RecordReader<'a> {
         }
         let (srcb, next) = read_record(self.store, self.at, &self.slot, self.next, into);
         self.next = next;
+        Some(srcb)
+    }
+
+    /// As `next`, but of a record that is neither a job header nor a data set header it gives the
+    /// SRCB alone and goes past its bytes; then `into` has any.
+    pub fn next_header(&mut self, into: &mut Record) -> Option<u8>
+        ensures srcb { option_map (λ r. r.srcb) (slice_get self.old 0) ≡ result }
+        ensures header { (srcb : ℕ) → (srcb ≡ 0xc0) ⊎ (srcb ≡ 0xe0) → result ≡ Some srcb
+            → slice_get self.old 0 ≡ Some (record { srcb = srcb; bytes = into.new.items }) }
+        ensures short { ForSome (slice_get self.old 0) (λ r. length r.bytes ≤ 256) }
+        ensures rest { self.new ≡ drop 1 self.old }
+    {
+        if self.next.record_index >= self.slot.count {
+            return None;
+        }
+        let (srcb, behind) = pass_record(self.store, self.at, &self.slot, self.next);
+        if srcb == srcb::JOB_HEADER || srcb == srcb::DATA_SET_HEADER {
+            read_record(self.store, self.at, &self.slot, self.next, into);
+        }
+        self.next = behind;
         Some(srcb)
     }
 }

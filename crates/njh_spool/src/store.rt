@@ -15,7 +15,7 @@ ghost use Rattle.njh_spool.specs.code.Chains.{empty_chain, chain_at, with_chain,
 ghost use Rattle.njh_spool.specs.code.Chains.{blocks_used, Grows, IsBlockOf, IsNear};
 ghost use Rattle.njh_table.specs.Limits.{max_capacity};
 
-use chain_block::ChainBlock;
+use chain_block::{ChainBlock, FIRST_BLOCK};
 use chain_ends::{ChainEnds, empty_chains};
 pub use laws::each_block_lies_once;
 use njh_record::Record;
@@ -68,6 +68,22 @@ impl BlockStore {
         ensures blocks { length (chain_at chain self.now).keys ≡ blocks_for result }
     {
         self.chains[chain as usize].len
+    }
+
+    /// A chain's last block, from which the end of its string is found; the first where it has none.
+    pub fn last_block(&self, chain: u32) -> ChainBlock
+        requires { chain < length self.now.chains }
+        ensures block { IsBlockOf (chain_at chain self.now).keys result }
+        ensures near { IsNear result (length (chain_at chain self.now).bytes) }
+    {
+        let ends = self.chains[chain as usize];
+        if ends.len == 0 {
+            return FIRST_BLOCK;
+        }
+        ChainBlock {
+            index: ends.len.div_ceil(BLOCK_DATA as u32) - 1,
+            key: ends.last,
+        }
     }
 
     /// Appends to a chain's string.

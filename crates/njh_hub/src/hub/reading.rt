@@ -1,6 +1,6 @@
 //! What a keeper reads of a customer's files.
 
-ghost use Rattle.std.specs.Prelude.{◌≡◌, ◌<◌, length};
+ghost use Rattle.std.specs.Prelude.{◌≡◌, ◌<◌, drop, length, option_map};
 ghost use Rattle.njh_command.specs.Files.{file_at};
 ghost use Rattle.njh_spool.specs.Spools.{records_numbered};
 ghost use Rattle.njh_stream.specs.SpoolFiles.{records_in};
@@ -28,6 +28,22 @@ impl Hub {
             return None;
         }
         match self.shared.spool.read_all(customer, file) {
+            Ok(reader) => Some(reader),
+            Err(_) => None,
+        }
+    }
+
+    /// The records of a customer's file of a number, whole or partial, from the n-th on. Of a partial
+    /// file the records that came last cost no walk over those before.
+    pub fn read_file_from(&self, customer: u16, file: FileId, n: u32) -> Option<RecordReader<'_>>
+        requires { n < length (records_in file (part customer self.now).customer.spool) }
+        ensures { result ≡ option_map (λ records. drop n records)
+            (records_numbered file (part customer self.now).customer.spool) }
+    {
+        if usize::from(customer) >= self.lines.len() {
+            return None;
+        }
+        match self.shared.spool.read_from(customer, file, n) {
             Ok(reader) => Some(reader),
             Err(_) => None,
         }

@@ -1,5 +1,5 @@
 -- Records of a file that was sent elsewhere, beside those that it had.
-use Rattle.std.specs.Prelude.{◌≡◌, ℕ, ◌≤◌, Bool, false, List, length, take}
+use Rattle.std.specs.Prelude.{◌≡◌, ℕ, ◌≤◌, Bool, true, false, List, length, take}
 use Rattle.std.specs.List.{AllZip}
 use Rattle.njh_record.specs.Stored.{Stored}
 use Rattle.njh_spoolfile.specs.{Kept.SpoolContents, Packed.stands_alone}
@@ -26,6 +26,12 @@ abbrev pub AreBegun : (is_old : Bool) (written : ℕ) (now before : List Stored)
 AreBegun is_old written now before =
     (length before ≡ written) × (written ≤ length now) × AreAlike before (take written now)
     × (is_old ≡ false → before ≡ take written now)
+
+-- then its first ones stand there as they are now
+abbrev pub Rewrites : (key written : ℕ) (now : List Stored) → SpoolContents → SpoolContents → Type 0
+Rewrites key written now s t =
+    (before : List Stored) → IsOrdered s → HasRecords key before s → AreBegun true written now before
+    → WritesUnder key s t × HasRecords key (take written now) t
 
 -- then all stand there
 abbrev pub Writes : (is_old : Bool) (key written : ℕ) (now : List Stored) → SpoolContents → SpoolContents → Type 0

@@ -9,13 +9,17 @@ ghost use Rattle.njh_spool.specs.Spools.{spool_at, begin_fault, append_fault, or
 
 use crate::file_headers::read_headers;
 use crate::file_id::FileId;
-use crate::file_slot::{FileSlot, Stage};
-use crate::record_places::{RECORD_HEAD, head_of};
+use crate::file_slot::{FileSlot, KeptPlaces, Stage};
+use crate::record_places::{RECORD_HEAD, head_of, place_of_end};
 use crate::slot_places::{free_number, place, slot_at};
 use crate::spool::Spool;
 use crate::store::spool_block::BLOCK_DATA;
 use crate::{SpoolFault, State};
 use njh_record::Kind;
+
+/// After how many records more of a partial file it is kept where it ends. With the two places that
+/// are kept its last 2,048 records at least are found at the cost of these and as many more.
+const KEPT_EACH: u32 = 2_048;
 
 /// How many blocks so many bytes take.
 pub(super) fn blocks_for(size: u32) -> u32
@@ -75,6 +79,29 @@ impl Spool {
             (spool_at customer self.old))) }
         ensures err { OnErr result (self.new ≡ self.old) }
     {
+        self.append_last(customer, id, srcb, bytes)?;
+        self.keep_end(customer, id);
+        Ok(())
+    }
+
+    /// As `append`, but nothing is kept of where the file ends.
+    fn append_last(
+        &mut self,
+        customer: u16,
+        id: FileId,
+        srcb: u8,
+        bytes: &[u8],
+    ) -> Result<(), SpoolFault>
+        requires range { customer < length self.old }
+        requires short { length bytes.now ≤ 256 }
+        ensures fault { MatchOption (append_fault id (record { srcb = srcb; bytes = bytes.now })
+            (spool_at customer self.old))
+            (IsOk result) (λ fault. result ≡ Err fault) }
+        ensures ok { OnOk result (self.new
+            ≡ slice_set self.old customer (with_appended id (record { srcb = srcb; bytes = bytes.now })
+            (spool_at customer self.old))) }
+        ensures err { OnErr result (self.new ≡ self.old) }
+    {
         let mut slot = slot_at(&self.slots, customer, id);
         if !slot.is_partial() {
             return Err(SpoolFault::NoSuchFile);
@@ -92,6 +119,24 @@ impl Spool {
         slot.count += 1;
         self.slots.set(customer, id, slot);
         Ok(())
+    }
+
+    /// Keeps in a file's slot where the file ends, each time that so many more records came, so that
+    /// those that came last are found without a walk over those before.
+    fn keep_end(&mut self, customer: u16, id: FileId)
+        requires { customer < length self.old }
+        ensures { self.new ≡ self.old }
+    {
+        let mut slot = slot_at(&self.slots, customer, id);
+        if slot.is_free() || slot.count % KEPT_EACH != 0 {
+            return;
+        }
+        let at = place(customer, id);
+        slot.places = KeptPlaces {
+            last: slot.places.next,
+            next: place_of_end(&self.store, at, &slot),
+        };
+        self.slots.set(customer, id, slot);
     }
 
     /// A partial file becomes the customer's last whole file, Ready, and counts as arrived.

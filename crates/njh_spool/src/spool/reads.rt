@@ -1,6 +1,6 @@
 //! What is read of any file, whole or partial.
 
-ghost use Rattle.std.specs.Prelude.{◌≡◌, ◌<◌, length, IfOk, IsOk, OnErr, MatchOption, Some};
+ghost use Rattle.std.specs.Prelude.{◌≡◌, ◌<◌, drop, length, IfOk, IsOk, OnErr, MatchOption, Some};
 ghost use Rattle.std.specs.Option.{option_map, ForSome};
 ghost use Rattle.njh_spool.specs.Spools.{spool_at, or_no_file, kind_numbered, records_numbered, record_numbered};
 
@@ -50,6 +50,28 @@ impl Spool {
             return Err(SpoolFault::NoSuchFile);
         }
         Ok(RecordReader::of(&self.store, place(customer, id), slot))
+    }
+
+    /// The records of a file, whole or partial, from the n-th on. Of a partial file the records that
+    /// came last cost no walk over those before. S3 where the number is no file's.
+    pub fn read_from(
+        &self,
+        customer: u16,
+        id: FileId,
+        n: u32,
+    ) -> Result<RecordReader<'_>, SpoolFault>
+        requires range { customer < length self.now }
+        requires within { ForSome (records_numbered id (spool_at customer self.now)) (λ records. n < length records) }
+        ensures { result ≡ or_no_file (option_map (λ records. drop n records)
+            (records_numbered id (spool_at customer self.now))) }
+    {
+        let slot = slot_at(&self.slots, customer, id);
+        if slot.is_free() {
+            return Err(SpoolFault::NoSuchFile);
+        }
+        let at = place(customer, id);
+        let begins = place_of_record(&self.store, at, &slot, n);
+        Ok(RecordReader::starting_at(&self.store, at, slot, begins))
     }
 
     /// Puts the n-th record's bytes into `into` and gives its SRCB. S3 where the number is no

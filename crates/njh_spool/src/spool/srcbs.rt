@@ -1,43 +1,15 @@
 //! What is read of a file's records without their bytes.
 
-ghost use Rattle.std.specs.Prelude.{◌≡◌, ◌+◌, ◌<◌, length, Some, slice_get};
+ghost use Rattle.std.specs.Prelude.{◌≡◌, ◌<◌, length};
 ghost use Rattle.std.specs.Option.{option_map, ForSome};
 ghost use Rattle.njh_spool.specs.Spools.{spool_at, or_no_file, records_numbered, record_numbered};
-ghost use Rattle.njh_spool.specs.code.Chains.{chain_at};
-ghost use Rattle.njh_spool.specs.code.Packing.{unpacked_records};
-ghost use Rattle.njh_spool.specs.code.Slots.{IsFile, IsPlace};
 
 use crate::SpoolFault;
 use crate::file_id::FileId;
-use crate::file_slot::{FileSlot, KeptPlaces, RecordPlace};
-use crate::record_places::{RECORD_HEAD, place_of_record, read_head};
+use crate::file_slot::KeptPlaces;
+use crate::record_places::{pass_record, place_of_record};
 use crate::slot_places::{place, slot_at};
 use crate::spool::Spool;
-use crate::store::BlockStore;
-use njh_record::Record;
-
-/// The SRCB of the record at a place, and where the next record begins.
-fn pass_record(store: &BlockStore, at: u32, slot: &FileSlot, from: RecordPlace) -> (u8, RecordPlace)
-    requires range { at < length store.now.chains }
-    requires file { IsFile slot.now (chain_at at store.now) }
-    requires place { IsPlace (unpacked_records slot.now.count (chain_at at store.now).bytes)
-        (chain_at at store.now).keys from }
-    requires more { from.record_index < slot.now.count }
-    ensures srcb { option_map (λ r. r.srcb) (slice_get (unpacked_records slot.now.count
-        (chain_at at store.now).bytes) from.record_index) ≡ Some result.0 }
-    ensures place { IsPlace (unpacked_records slot.now.count (chain_at at store.now).bytes)
-        (chain_at at store.now).keys result.1 }
-    ensures next { result.1.record_index ≡ from.record_index + 1 }
-{
-    let mut room = Record::new();
-    let head = read_head(store, at, slot, from, &mut room);
-    let next = RecordPlace {
-        record_index: from.record_index + 1,
-        place: from.place + RECORD_HEAD as u32 + u32::from(head.length),
-        block: head.block,
-    };
-    (head.srcb, next)
-}
 
 impl Spool {
     /// The SRCB of the n-th record. As `read_on` it keeps in the file's slot where the record and

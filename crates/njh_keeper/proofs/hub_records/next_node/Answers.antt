@@ -1,5 +1,6 @@
 use Rattle.std.proofs.Common.{◌≡◌, ℕ, List, Option, length, Some, None, refl, sym, ◌∙◌, ap, arith}
-use Rattle.{njh_record.specs.Stored.Stored, njh_keeper.proofs.NextNodeLaws.{at_end, empty, fewer, is_none, read_one}}
+use Rattle.{njh_record.specs.Stored.Stored, njh_keeper.proofs.NextNodeLaws.{at_end, empty, fewer, is_none, next_of}}
+use Rattle.{std.specs.Prelude.slice_get, njh_keeper.proofs.NextNodeLaws.{no_next, read_one}}
 use Rattle.njh_keeper.specs.code.Nodes.{named_nodes, with_first}
 use Rattle.njh_keeper.proofs.hub_records.next_node.Goals as goal
 
@@ -9,38 +10,37 @@ loop-init c = (refl, omega arith)
 pub returns-in_err-srcb-clause-nodes : goal.returns-in_err-srcb-clause-nodes
 returns-in_err-srcb-clause-nodes c =
     c.loop.invariant.0
-    ∙ at_end c.loop.before c.loop.records c.next.new.self c.from_residual.result c.in_err-srcb.ensures.first
-    c.in_err-srcb.ensures.rest c.from_residual.ensures
+    ∙ at_end c.loop.before c.loop.records c.next_header.new.self c.from_residual.result
+    (no_next (slice_get c.loop.records 0) c.in_err-srcb.ensures.srcb) c.in_err-srcb.ensures.rest c.from_residual.ensures
 
 pub returns-then-is_some-clause-nodes : goal.returns-then-is_some-clause-nodes
 returns-then-is_some-clause-nodes c =
-    c.loop.invariant.0 ∙ read_one c.loop.before c.loop.records c.next.new.self
-    (record { srcb = c.in_ok-srcb.srcb; bytes = c.next.new.into.items })
-    c.deref.result.now c.node_of-node.result c.in_ok-srcb.ensures.first c.in_ok-srcb.ensures.rest c.deref.ensures.0
-    c.node_of-node.ensures
+    c.loop.invariant.0 ∙ read_one c.loop.before c.loop.records c.next_header.new.self c.in_ok-srcb.srcb
+    c.next_header.new.into.items c.deref.result.now c.node_of-node.result c.in_ok-srcb.ensures.srcb
+    c.in_ok-srcb.ensures.header c.in_ok-srcb.ensures.rest c.deref.ensures.0 c.node_of-node.ensures
 
 pub returns-then-is_some-clause-fewer : goal.returns-then-is_some-clause-fewer
 returns-then-is_some-clause-fewer c =
-    let one = fewer c.loop.records (record { srcb = c.in_ok-srcb.srcb; bytes = c.next.new.into.items })
-    c.in_ok-srcb.ensures.first in
+    let r = next_of (slice_get c.loop.records 0) c.in_ok-srcb.srcb c.in_ok-srcb.ensures.srcb in
+    let one = fewer c.loop.records r.0 r.1 in
     omega (arith, c.loop.invariant.1, ap (λ (rs : List Stored). length rs) c.in_ok-srcb.ensures.rest)
 
 pub returns-then-is_some-clause-fewer_where : goal.returns-then-is_some-clause-fewer_where
 returns-then-is_some-clause-fewer_where c =
-    let one = fewer c.loop.records (record { srcb = c.in_ok-srcb.srcb; bytes = c.next.new.into.items })
-    c.in_ok-srcb.ensures.first in
+    let r = next_of (slice_get c.loop.records 0) c.in_ok-srcb.srcb c.in_ok-srcb.ensures.srcb in
+    let one = fewer c.loop.records r.0 r.1 in
     λ some. omega (arith, c.loop.invariant.1, ap (λ (rs : List Stored). length rs) c.in_ok-srcb.ensures.rest)
 
 pub loop-preserved : goal.loop-preserved
 loop-preserved c =
-    let r : Stored = record { srcb = c.in_ok-srcb.srcb; bytes = c.next.new.into.items } in
-    let one = fewer c.loop.records r c.in_ok-srcb.ensures.first in
+    let r = next_of (slice_get c.loop.records 0) c.in_ok-srcb.srcb c.in_ok-srcb.ensures.srcb in
+    let one = fewer c.loop.records r.0 r.1 in
     let none : c.node_of-node.result ≡ None =
     is_none c.node_of-node.result (sym c.is_some.ensures ∙ c.if-is_some.false) in (
-      c.loop.invariant.0 ∙ read_one c.loop.before c.loop.records c.next.new.self r
-          c.deref.result.now c.node_of-node.result c.in_ok-srcb.ensures.first c.in_ok-srcb.ensures.rest
-          c.deref.ensures.0 c.node_of-node.ensures
-          ∙ ap (λ (n : Option (List ℕ)). with_first n (named_nodes (Some c.in_ok-srcb.srcb) c.next.new.self)) none,
+      c.loop.invariant.0 ∙ read_one c.loop.before c.loop.records c.next_header.new.self c.in_ok-srcb.srcb
+          c.next_header.new.into.items c.deref.result.now c.node_of-node.result c.in_ok-srcb.ensures.srcb
+          c.in_ok-srcb.ensures.header c.in_ok-srcb.ensures.rest c.deref.ensures.0 c.node_of-node.ensures
+          ∙ ap (λ (n : Option (List ℕ)). with_first n (named_nodes (Some c.in_ok-srcb.srcb) c.next_header.new.self)) none,
       omega (arith, c.loop.invariant.1, ap (λ (rs : List Stored). length rs) c.in_ok-srcb.ensures.rest),
     )
 

@@ -19,12 +19,12 @@ returns-clause-kept g c =
       is_open = true;
     } in
     let old = shown g.S.Store c.args.writer.now.store in
-    let new = shown g.S.Store c.write_records.new.writer.store in
+    let new = shown g.S.Store c.write_rest.new.writer.store in
     ok_then c.remember.result _ _ (λ last.
-    keeps_first g.S.Store now c.args.writer.now c.write_records.new.writer c.args.own.now c.remember.new.own
-    c.in_ok-write_records.ensures.others c.remember.ensures.others p last refl
+    keeps_first g.S.Store now c.args.writer.now c.write_rest.new.writer c.args.own.now c.remember.new.own
+    c.in_ok-write_rest.ensures.others c.remember.ensures.others p last refl
     counted (omega (arith, c.record_count-count.ensures, c.requires.many)) counted
-    (omega (arith, c.record_count-count.ensures, c.in_ok-write_records.ensures.counted))
+    (omega (arith, c.record_count-count.ensures, c.in_ok-write_rest.ensures.counted))
     (λ clean. leads_weaker (subst (λ rs. Leads (Writes false c.args.key 0 rs) old new) c.requires.partial
-    (c.in_ok-write_records.ensures.led clean)) (λ s t wrote h empty. wrote [] h empty
+    (c.in_ok-write_rest.ensures.led clean)) (λ s t wrote h empty. wrote [] h empty
     (begun_same 0 (partial_records c.args.file.now.number now) (omega arith))))) c.remember.ensures.last

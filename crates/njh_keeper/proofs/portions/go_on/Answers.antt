@@ -35,11 +35,11 @@ returns-clause-kept g c =
     let grown : p.seen ≤ length rs = subst (λ xs. p.seen ≤ length xs) c.requires.partial found.1 in
     let counted : seen ≡ length rs = c.record_count-seen.ensures ∙ ap length c.requires.partial in
     let old = shown g.S.Store c.args.writer.now.store in
-    let new = shown g.S.Store c.write_records.new.writer.store in
-    keeps_more g.S.Store now c.args.writer.now c.write_records.new.writer c.args.own.now _
-    c.in_ok-write_records.ensures.others refl c.args.place p q c.args.file.now.number c.requires.within
+    let new = shown g.S.Store c.write_rest.new.writer.store in
+    keeps_more g.S.Store now c.args.writer.now c.write_rest.new.writer c.args.own.now _
+    c.in_ok-write_rest.ensures.others refl c.args.place p q c.args.file.now.number c.requires.within
     c.index-partial.ensures refl found.0 refl refl grown counted
     (omega (arith, c.record_count-seen.ensures, c.requires.many))
-    (omega (arith, c.record_count-seen.ensures, c.in_ok-write_records.ensures.counted))
+    (omega (arith, c.record_count-seen.ensures, c.in_ok-write_rest.ensures.counted))
     (λ clean. leads_weaker (subst (λ xs. Leads (Writes false p.key p.written xs) old new) c.requires.partial
-    (c.in_ok-write_records.ensures.led clean)) (λ s t wrote. rest_is_written p q rs refl s t counted wrote))
+    (c.in_ok-write_rest.ensures.led clean)) (λ s t wrote. rest_is_written p q rs refl s t counted wrote))

@@ -14,9 +14,9 @@ use Rattle.njh_spool.specs.code.Packing.{packed_record}
 use Rattle.njh_spool.proofs.PackingLaws.{length-packed_record}
 use Rattle.njh_spool.proofs.QuotaLaws.{room_within}
 use Rattle.njh_spool.proofs.Calls.{MovesTo, call_on, slot_at, chain_of_file, spools_in}
-use Rattle.njh_spool.proofs.spool.Spool.append.Goals as goal
-use Rattle.njh_spool.proofs.spool.Spool.append.Goals.{After-is_partial, After-blocks_for, After-blocks_for-2}
-use Rattle.njh_spool.proofs.spool.Spool.append.Goals.{After-append_both}
+use Rattle.njh_spool.proofs.spool.Spool.append_last.Goals as goal
+use Rattle.njh_spool.proofs.spool.Spool.append_last.Goals.{After-is_partial, After-blocks_for, After-blocks_for-2}
+use Rattle.njh_spool.proofs.spool.Spool.append_last.Goals.{After-append_both}
 
 pub slot_at-slot-requires : goal.slot_at-slot-requires
 slot_at-slot-requires c = finds.row_fits

@@ -3,7 +3,7 @@ use Rattle.std.specs.Option.{option_map}
 use Rattle.njh_record.specs.Stored.{Stored}
 use Rattle.njh_spool.specs.code.Chains.{chain_at}
 use Rattle.njh_spool.proofs.RecordLaws.{in_file, next_place}
-use Rattle.njh_spool.proofs.spool.srcbs.pass_record.Goals as goal
+use Rattle.njh_spool.proofs.record_places.pass_record.Goals as goal
 
 pub overflow_add-next-2 : goal.overflow_add-next-2
 overflow_add-next-2 c =
