@@ -1,13 +1,15 @@
 -- What keeps whole files in a spool file, and the hub that it opens.
-use Rattle.std.specs.Prelude.{◌≡◌, ℕ, Bool, true, false, List, map, Option, refl}
+use Rattle.std.specs.Prelude.{◌≡◌, ℕ, Bool, true, false, List, map, Option, Result, IfErr, refl}
 use Rattle.std.specs.List.{AllByRecursion, AllZip, filter_map}
 use Rattle.std.specs.Coded.{Coded, code_by, coded×, coded_bool, coded_list, coded_option, coded_ℕ}
-use Rattle.sqlite.specs.State.{HasCleanDisk, State}
+use Rattle.sqlite.specs.State.{HasCleanDisk, State, Survives}
 use Rattle.sqlite.specs.Store.{Ghosts}
 use Rattle.sqlite.specs.Tree.{Trees}
 use Rattle.njh_hub.specs.Parts.{entries_of}
 use Rattle.njh_hub.specs.WholeHub.{Part, SameLines, part_at_open}
 use Rattle.njh_turns.specs.Keeping.{kept_of}
+use Rattle.njh_turns.specs.declared.depot.DepotFault.{DepotFault}
+use Rattle.njh_turns.specs.declared.depot.DepotFault.TheVariants.{Refused}
 use Rattle.njh_spoolfile.specs.Kept.{SpoolContents, Holds, kept}
 use Rattle.njh_spoolfile.specs.Shelf.{Shelf, shelf_code, shown}
 use Rattle.njh_spoolfile.specs.CommitState.{CommitState, Stands}
@@ -150,6 +152,13 @@ abbrev pub MayOpenTo : (SpoolContents → Type 0) → State → Trees → Type 0
 MayOpenTo found old trees =
     (began : SpoolContents) → found began
     → (now : SpoolContents) × Stands (record { now = began; kept = began }) old × Holds now trees × KeepsAll began now
+
+-- An opening that ended so, or was broken off, keeps all whole files; one that a file refuses changes nothing.
+pub record AreSpared {S : Type 0} (g : Ghosts S) (found : SpoolContents → Type 0) (before behind : Keeping S)
+    (result : Result (List Part) DepotFault) : Type 0 where
+  pub crash : Survives (shown g before.store) (shown g behind.store) (MayOpenTo found (shown g before.store))
+  pub refused : IfErr result (λ fault. fault ≡ Refused
+      → Survives (shown g before.store) (shown g behind.store) (λ _. ⊥))
 
 -- ---- what is known of a hub
 

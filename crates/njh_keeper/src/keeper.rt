@@ -339,10 +339,12 @@ impl<'a, R: Clock, S: Origin + Drop> Keeper for SpoolKeeper<'a, R, S> {
 }
 
 impl<'a, R: Clock, S: Origin + Drop> Depot for SpoolKeeper<'a, R, S> {
-    ghost use Rattle.njh_keeper.specs.Keeper.{IsOpenedFrom, IsSettledFrom};
+    ghost use Rattle.njh_keeper.specs.Keeper.{AreSpared, IsOpenedFrom, IsSettledFrom};
 
     ghost opens = { λ before behind table parts. IsOpenedFrom S.Store before behind table parts
         × IsSettledFrom S.Store before behind table parts };
+
+    ghost spares = { AreSpared S.Store S.found };
 
     fn open(&mut self, alloc: Global, tables: Tables) -> Result<Hub, DepotFault> {
         a_crash_leaves_what_was_committed::<S>();

@@ -27,27 +27,35 @@ pub enum DepotFault {
 
 /// Opens a hub whose customers have the whole files that a keeper keeps.
 pub trait Depot: Keeper {
-    ghost use Rattle.std.specs.Prelude.{List};
+    ghost use Rattle.std.specs.Prelude.{List, Result};
     ghost use Rattle.njh_table.specs.TableFile.{TableFile};
     ghost use Rattle.njh_hub.specs.WholeHub.{Part};
+    ghost use Rattle.njh_turns.specs.declared.depot.DepotFault.{DepotFault};
 
     /// Which customers' parts a hub of tables has that was just opened, by what was kept before the
     /// opening, and by the depot behind it.
     ghost opens: { Self → Self → TableFile → List Part → Type 0 };
 
+    /// What may be there of the files that were kept once an opening has ended so, or was broken off,
+    /// by what was kept before it, and by the depot behind it.
+    ghost spares: { Self → Self → Result (List Part) DepotFault → Type 0 };
+
     /// Opens a hub of these tables. All lines are down, and each customer has those of its entry.
     fn open(&mut self, alloc: Global, tables: Tables) -> Result<Hub, DepotFault>
         ensures opened { IfOk result (λ hub. opens self.old self.new tables hub) }
         ensures lines { IfOk result (λ hub. SameLines (map part_at_open (entries_of tables)) hub) }
-        ensures settled { IfOk result (λ hub. IsSettled Self.says self.new hub) };
+        ensures settled { IfOk result (λ hub. IsSettled Self.says self.new hub) }
+        ensures spared { spares self.old self.new result };
 }
 
 impl Depot for KeepsNothing {
-    ghost use Rattle.std.specs.Prelude.{◌≡◌, map};
+    ghost use Rattle.std.specs.Prelude.{◌≡◌, map, ⊤};
     ghost use Rattle.njh_hub.specs.Parts.{entries_of};
     ghost use Rattle.njh_hub.specs.WholeHub.{part_at_open};
 
     ghost opens = { λ before behind table parts. parts ≡ map part_at_open (entries_of table) };
+
+    ghost spares = { λ before behind result. ⊤ };
 
     fn open(&mut self, alloc: Global, tables: Tables) -> Result<Hub, DepotFault> {
         match Hub::open(alloc, tables) {

@@ -27,3 +27,6 @@ returns-clause-settled g c =
           let done = settled.committed m.0.clean _ (stood (early m.0.clean) m.1.0 m.1.1) in
           c.a_crash_leaves_what_was_committed.ensures c.open_hub.new.self _ left done.stands m.0 ∙ done.left;
     }
+
+pub returns-clause-spared : goal.returns-clause-spared
+returns-clause-spared g c = record { crash = c.open_hub.ensures.crash; refused = c.open_hub.ensures.spared }
