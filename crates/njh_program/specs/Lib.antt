@@ -1,1 +1,2 @@
 pub mod ProgramOutcome
+pub mod SpoolService

@@ -2,8 +2,12 @@
 
 ghost use Rattle.std.specs.Prelude.{◌≡◌, ◌⊎◌, Some, OnOk, IfErr};
 ghost use Rattle.njh_program.specs.ProgramOutcome.{AreServedOf, IsFilesEnd};
+ghost use Rattle.njh_program.specs.SpoolService.{AreServedOver};
 ghost use Rattle.njh_spoolfile.specs.Origin.{StandsAsFound};
+ghost use Rattle.njh_spoolfile.specs.Shelf.{shown};
+ghost use Rattle.njh_spoolfile.specs.Steps.{Stays};
 ghost use Rattle.njh_subcommands.specs.TableBytes.{AreRefused};
+ghost use Rattle.sqlite.specs.State.{HasCleanDisk};
 
 use crate::service::{Options, serve_over};
 use crate::spool_log::log_unopened;
@@ -108,6 +112,7 @@ fn serve_kept<F: Files + Net + Clock + AllocGlobal, L: Write + Drop, S: Origin +
 ) -> Result<(), Failure>
     requires { StandsAsFound S.Store S.found store }
     ensures served { OnOk result (AreServedOf path.now options.turns (Some spool.now)) }
+    ensures kept { OnOk result (AreServedOver S.Store S.found store path.now options.turns) }
     ensures refused { IfErr result (λ failure. AreRefused (Some path.now) failure ⊎ IsFilesEnd failure) }
 {
     let mut keeper = SpoolKeeper::new(rt, rt.alloc(), store);
@@ -141,7 +146,9 @@ fn log_strangers<F: Files + Clock + AllocGlobal, R: Clock, S: Origin + Drop, L: 
     keeper: &mut SpoolKeeper<'_, R, S>,
     log: &mut Log<L>,
 ) -> Result<(), Failure>
-    ensures { IfErr result IsFilesEnd }
+    ensures refused { IfErr result IsFilesEnd }
+    ensures stays { HasCleanDisk (shown S.Store keeper.new.store) → OnOk result (Stays (shown S.Store keeper.old.store)
+        (shown S.Store keeper.new.store)) }
 {
     let Ok(tables) = tables_of(rt, Some(path)) else {
         return Ok(());
