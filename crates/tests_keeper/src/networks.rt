@@ -38,7 +38,7 @@ route = [{ node = "LYON", line = "b1" }, { node = "METZ", line = "b2" }]
 const ROUTE_TO_NICE: &str = "  { node = \"NICE\", line = \"a3\" },\n";
 
 /// The tables, with a route to NICE or without.
-pub fn tables(alloc: Global, has_nice: bool) -> Result<String, AllocError> {
+pub(crate) fn tables(alloc: Global, has_nice: bool) -> Result<String, AllocError> {
     let (before, behind) = TABLES.split_once(ROUTE_TO_NICE).unwrap_or((TABLES, ""));
     let mut text = String::new(alloc);
     text.push_str(before)?;
@@ -53,7 +53,7 @@ pub fn tables(alloc: Global, has_nice: bool) -> Result<String, AllocError> {
 pub const CUSTOMERS: [u16; 2] = [0, 1];
 
 /// The line of a name.
-pub fn line_of(name: &str) -> Option<LineId> {
+pub(crate) fn line_of(name: &str) -> Option<LineId> {
     let (customer, number) = match name {
         "a1" => (0, 0),
         "a2" => (0, 1),
@@ -66,7 +66,7 @@ pub fn line_of(name: &str) -> Option<LineId> {
 }
 
 /// The number of the customer of a name.
-pub fn customer_of(name: &str) -> Option<u16> {
+pub(crate) fn customer_of(name: &str) -> Option<u16> {
     match name {
         "ACME" => Some(0),
         "BOLT" => Some(1),

@@ -68,7 +68,7 @@ fn openings_over<S: Origin + Drop>(
 }
 
 /// The same, of the spool file as it was left.
-pub fn openings<S: Start>(files: &SpoolFiles<'_>, start: S) -> Result<(bool, bool), Fail> {
+pub(crate) fn openings<S: Start>(files: &SpoolFiles<'_>, start: S) -> Result<(bool, bool), Fail> {
     let store = files.open(start)?;
     let (opened, store) = openings_over(files, store);
     kill(store);

@@ -34,13 +34,13 @@ const WITHOUT_NICE: &str = "# NICE has no route\n";
 /// 20 blocks come, up to `# uncut`. `# ACME has LYON.42 TO METZ PAUL OUT 4 RECORDS READY, ..`:
 /// these whole files of the customer are kept. Then and before the program is killed all that is
 /// kept is what the hub has.
-pub fn play(rt: &HostRuntime, name: &str, words: &str) -> Result<(), Fail> {
+pub(crate) fn play(rt: &HostRuntime, name: &str, words: &str) -> Result<(), Fail> {
     drop(SpoolFiles::of(rt, name)?);
     play_on(rt, name, words)
 }
 
 /// Plays lines of words with the spool file that the test of this name left.
-pub fn play_on(rt: &HostRuntime, name: &str, words: &str) -> Result<(), Fail> {
+pub(crate) fn play_on(rt: &HostRuntime, name: &str, words: &str) -> Result<(), Fail> {
     let alloc = rt.alloc();
     let mut files = SpoolFiles::left_by(rt, name)?;
     let mut script = Vec::new(alloc);

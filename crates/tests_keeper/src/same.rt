@@ -12,7 +12,7 @@ const PLACES: u32 = 1 << 23;
 
 /// Checks that a customer has the same whole files on a hub that was opened from what is kept, in
 /// the same order.
-pub fn check_same(kept: &Hub, hub: &Hub, customer: u16, moment: &str) -> Result<(), Fail> {
+pub(crate) fn check_same(kept: &Hub, hub: &Hub, customer: u16, moment: &str) -> Result<(), Fail> {
     let count = hub.file_count(customer);
     let found = kept.file_count(customer);
     if found != count {
@@ -85,7 +85,7 @@ fn other_record(wanted: RecordReader<'_>, found: RecordReader<'_>) -> Option<u32
 }
 
 /// What LIST would say of a customer's whole files, one after the other with a comma between.
-pub fn listing(alloc: Global, hub: &Hub, customer: u16) -> Result<String, Fail> {
+pub(crate) fn listing(alloc: Global, hub: &Hub, customer: u16) -> Result<String, Fail> {
     let mut text = String::new(alloc);
     for index in 0..hub.file_count(customer) {
         if index > 0 {

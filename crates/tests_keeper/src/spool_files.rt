@@ -36,7 +36,7 @@ pub struct SpoolFiles<'a> {
 
 impl<'a> SpoolFiles<'a> {
     /// Those of the test of this name. None of them is there.
-    pub fn of(rt: &'a HostRuntime, name: &str) -> Result<SpoolFiles<'a>, Fail> {
+    pub(crate) fn of(rt: &'a HostRuntime, name: &str) -> Result<SpoolFiles<'a>, Fail> {
         let files = SpoolFiles::left_by(rt, name)?;
         let _ = fs::remove_file(rt, files.kept.as_str());
         let _ = fs::remove_file(rt, files.kept_log.as_str());
@@ -44,7 +44,7 @@ impl<'a> SpoolFiles<'a> {
     }
 
     /// Those of the test of this name, as it left them.
-    pub fn left_by(rt: &'a HostRuntime, name: &str) -> Result<SpoolFiles<'a>, Fail> {
+    pub(crate) fn left_by(rt: &'a HostRuntime, name: &str) -> Result<SpoolFiles<'a>, Fail> {
         let alloc = rt.alloc();
         Ok(SpoolFiles {
             rt,
@@ -57,18 +57,18 @@ impl<'a> SpoolFiles<'a> {
     }
 
     /// From the next hub on there is a route to NICE, or there is none.
-    pub fn give_routes(&mut self, has_nice: bool) -> Result<(), Fail> {
+    pub(crate) fn give_routes(&mut self, has_nice: bool) -> Result<(), Fail> {
         self.tables = tables(self.rt.alloc(), has_nice)?;
         Ok(())
     }
 
     /// Where memory comes from.
-    pub fn allocator(&self) -> Global {
+    pub(crate) fn allocator(&self) -> Global {
         self.rt.alloc()
     }
 
     /// The spool file, opened or made.
-    pub fn open<S: Start>(&self, start: S) -> Result<Store<FileStore<FileFrom<S>>>, Fail>
+    pub(crate) fn open<S: Start>(&self, start: S) -> Result<Store<FileStore<FileFrom<S>>>, Fail>
         ensures { IfOk result (λ store. HasCleanDisk (file_state store.conn) → (spool : SpoolContents)
             → IsFoundIn (image_at S.Start) spool
             → Stands (record { now = spool; kept = spool }) (file_state store.conn)) }
@@ -77,7 +77,7 @@ impl<'a> SpoolFiles<'a> {
     }
 
     /// Whether the spool file is refused as one that is open already.
-    pub fn is_in_use(&self) -> bool {
+    pub(crate) fn is_in_use(&self) -> bool {
         match Store::open(self.rt, self.kept.as_str(), Unknown) {
             Ok(store) => {
                 kill(store);
@@ -88,21 +88,24 @@ impl<'a> SpoolFiles<'a> {
     }
 
     /// A keeper of a spool file that is open.
-    pub fn keeper<S: Origin + Drop>(&self, store: Store<S>) -> SpoolKeeper<'a, HostRuntime, S>
+    pub(crate) fn keeper<S: Origin + Drop>(
+        &self,
+        store: Store<S>,
+    ) -> SpoolKeeper<'a, HostRuntime, S>
         requires { StandsAsFound S.Store S.found store }
     {
         SpoolKeeper::new(self.rt, self.rt.alloc(), store)
     }
 
     /// A hub of the tables that a depot opens.
-    pub fn hub_of<D: Depot>(&self, keeper: &mut D) -> Result<Hub, Fail>
+    pub(crate) fn hub_of<D: Depot>(&self, keeper: &mut D) -> Result<Hub, Fail>
         ensures { IfOk result (λ hub. D.says.knows keeper.new hub) }
     {
         Ok(self.opening(keeper)??)
     }
 
     /// What a depot answers that is to open a hub of the tables.
-    pub fn opening<D: Depot>(&self, depot: &mut D) -> Result<Result<Hub, DepotFault>, Fail>
+    pub(crate) fn opening<D: Depot>(&self, depot: &mut D) -> Result<Result<Hub, DepotFault>, Fail>
         ensures { IfOk result (λ opened. IfOk opened (λ hub. D.says.knows depot.new hub)) }
     {
         let alloc = self.rt.alloc();
@@ -111,7 +114,7 @@ impl<'a> SpoolFiles<'a> {
     }
 
     /// The hub that is opened from the spool file where the program is killed now.
-    pub fn hub_left(&self) -> Result<Hub, Fail> {
+    pub(crate) fn hub_left(&self) -> Result<Hub, Fail> {
         let _ = fs::remove_file(self.rt, self.left.as_str());
         let _ = fs::remove_file(self.rt, self.left_log.as_str());
         fs::copy(self.rt, self.kept.as_str(), self.left.as_str())?;
