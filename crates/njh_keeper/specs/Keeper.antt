@@ -1,5 +1,5 @@
 -- What keeps whole files in a spool file, and the hub that it opens.
-use Rattle.std.specs.Prelude.{◌≡◌, ℕ, Bool, true, false, List, map, Option, Result, IfErr, refl}
+use Rattle.std.specs.Prelude.{◌≡◌, ℕ, Bool, true, false, List, map, Option, Some, None, Result, IfErr, refl}
 use Rattle.std.specs.List.{AllByRecursion, AllZip, filter_map}
 use Rattle.std.specs.Coded.{Coded, code_by, coded×, coded_bool, coded_list, coded_option, coded_ℕ}
 use Rattle.sqlite.specs.State.{HasCleanDisk, State, Survives}
@@ -78,6 +78,11 @@ keeping_code {S} store = code_by
       refused = p.1.1.1.1.1.1.1.1;
     })
     (λ _. refl)
+
+-- the first cause of failures, now that there is another
+abbrev pub first_cause : {E : Type 0} → Option E → E → Option E
+first_cause None error = Some error
+first_cause (Some first) error = Some first
 
 -- ---- the opening
 

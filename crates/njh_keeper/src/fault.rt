@@ -1,7 +1,13 @@
-//! Why no hub is opened from a spool file.
+//! Why no hub is opened from a spool file, and why keeping fails.
+
+ghost use Rattle.std.specs.Prelude.{◌≡◌, ◌≢◌};
+ghost use Rattle.njh_turns.specs.declared.depot.DepotFault.TheVariants.{Refused};
+ghost use Rattle.njh_keeper.specs.Keeper.{first_cause};
 
 use njh_hub::RestoreFault;
 use njh_spoolfile::StoredFile;
+use njh_turns::DepotFault;
+use sqlite::ErrorCode;
 use std::alloc::AllocError;
 use thiserror::Error;
 
@@ -57,5 +63,28 @@ impl From<sqlite::Error> for OpeningFault {
 
     fn from(error: sqlite::Error) -> OpeningFault {
         OpeningFault::Store(error)
+    }
+}
+
+/// The first cause, now that there is another.
+pub(crate) fn first_cause(
+    known: Option<sqlite::Error>,
+    error: sqlite::Error,
+) -> Option<sqlite::Error>
+    ensures { result ≡ first_cause known error }
+{
+    match known {
+        Some(first) => Some(first),
+        None => Some(error),
+    }
+}
+
+/// Why no hub is opened, if the spool file fails.
+pub(crate) fn depot_fault(error: sqlite::Error) -> DepotFault
+    ensures { result ≢ Refused }
+{
+    match error {
+        sqlite::Error::SqliteFailure(ErrorCode::OutOfMemory) => DepotFault::Memory,
+        _ => DepotFault::Device,
     }
 }

@@ -1,7 +1,7 @@
 //! The whole files of a hub's customers are kept in a spool file.
 
-ghost use Rattle.std.specs.Prelude.{◌≡◌, ◌≢◌, ◌⊎◌, ◌≤◌, List, false, true, length, option_map, None, IfOk, IfErr};
-ghost use Rattle.std.specs.Prelude.{OnOk};
+ghost use Rattle.std.specs.Prelude.{◌≡◌, ◌≢◌, ◌⊎◌, ◌<◌, ◌≤◌, List, false, true, length, option_map, None, IfOk, IfErr};
+ghost use Rattle.std.specs.Prelude.{IsSome, OnOk};
 ghost use Rattle.std.specs.List.{AllByRecursion};
 ghost use Rattle.sqlite.specs.State.{HasCleanDisk, Survives};
 ghost use Rattle.njh_customer.specs.Growing.{HasShortRests};
@@ -23,7 +23,7 @@ ghost use Rattle.njh_keeper.specs.code.Refusing.{Notes};
 ghost use Rattle.njh_table.specs.Accepted.{AreDistinct};
 
 use crate::beginning::begin;
-use crate::fault::{OpeningFault, RefusedFile};
+use crate::fault::{OpeningFault, RefusedFile, depot_fault, first_cause};
 use crate::laws::a_crash_leaves_what_was_committed;
 use crate::names::{names_of, number_among};
 use crate::opening::open_from;
@@ -53,12 +53,14 @@ pub struct SpoolKeeper<'a, R, S: Origin + Drop> {
     customers: Vec<OwnFiles>,
     refused: Option<RefusedFile>,
     failures: u64,
+    /// Why the first of them came, or why no hub was opened.
+    cause: Option<Error>,
     /// Whether no hub was opened yet.
     is_fresh: bool,
 }
 
 impl<'a, R, S: Origin + Drop> Model for SpoolKeeper<'a, R, S> {
-    ghost use Rattle.std.specs.Prelude.{◌≡◌, map, option_map, true};
+    ghost use Rattle.std.specs.Prelude.{◌≡◌, ◌<◌, IsSome, map, option_map, true};
     ghost use Rattle.njh_spoolfile.specs.Origin.{StandsAsFound};
     ghost use Rattle.njh_keeper.specs.Refusal.{refusal_of};
     ghost use Rattle.njh_keeper.specs.Keeper.{Keeping, keeping_code};
@@ -80,7 +82,8 @@ impl<'a, R, S: Origin + Drop> Model for SpoolKeeper<'a, R, S> {
       refused = option_map refusal_of keeper.refused;
     } };
 
-    ghost invariant = { λ keeper. keeper.is_fresh ≡ true → StandsAsFound S.Store S.found keeper.writer.store };
+    ghost invariant = { λ keeper. (keeper.is_fresh ≡ true → StandsAsFound S.Store S.found keeper.writer.store)
+        × (0 < keeper.failures → IsSome keeper.cause) };
 }
 
 impl<'a, R: Clock, S: Origin + Drop> SpoolKeeper<'a, R, S> {
@@ -97,6 +100,7 @@ impl<'a, R: Clock, S: Origin + Drop> SpoolKeeper<'a, R, S> {
             customers: Vec::new(alloc),
             refused: None,
             failures: 0,
+            cause: None,
             is_fresh: true,
         }
     }
@@ -109,6 +113,14 @@ impl<'a, R: Clock, S: Origin + Drop> SpoolKeeper<'a, R, S> {
         ensures { option_map (λ refused. refusal_of refused.now) result ≡ self.now.refused }
     {
         self.refused.as_ref()
+    }
+
+    /// Why keeping failed first, or why no hub was opened if the spool file failed then; none if
+    /// neither was so.
+    pub fn cause(&self) -> Option<Error>
+        ensures { 0 < self.now.failures → IsSome result }
+    {
+        self.cause
     }
 
     /// How many whole files of the spool file are of customers that these tables don't have. They
@@ -189,13 +201,23 @@ impl<'a, R: Clock, S: Origin + Drop> SpoolKeeper<'a, R, S> {
         self.writer.settle()
     }
 
-    /// Counts a failure.
-    fn fail(&mut self)
+    /// Counts a failure, and notes why it came.
+    fn fail(&mut self, error: Error)
         ensures counts { self.old.failures ≤ self.new.failures }
         ensures counted { IsCounted self.old.failures self.new.failures }
         ensures others { self.new ≡ record self.old { failures = self.new.failures } }
     {
         self.failures = self.failures.saturating_add(1);
+        self.cause = first_cause(self.cause, error);
+    }
+
+    /// Notes why the spool file failed as a hub was opened, and answers what is told of it.
+    fn fail_opening(&mut self, error: Error) -> DepotFault
+        ensures told { result ≢ Refused }
+        ensures same { self.new ≡ self.old }
+    {
+        self.cause = first_cause(self.cause, error);
+        depot_fault(error)
     }
 
     /// Notes why no hub could be opened.
@@ -205,7 +227,7 @@ impl<'a, R: Clock, S: Origin + Drop> SpoolKeeper<'a, R, S> {
     {
         match fault {
             OpeningFault::Memory => DepotFault::Memory,
-            OpeningFault::Store(error) => depot_fault(error),
+            OpeningFault::Store(error) => self.fail_opening(error),
             OpeningFault::File(file) => {
                 self.refused = Some(file);
                 DepotFault::Refused
@@ -297,7 +319,7 @@ impl<'a, R: Clock, S: Origin + Drop> SpoolKeeper<'a, R, S> {
             Ok(()) => Ok(hub),
             Err(error) => {
                 drop(hub);
-                Err(depot_fault(error))
+                Err(self.fail_opening(error))
             }
         }
     }
@@ -319,8 +341,8 @@ impl<'a, R: Clock, S: Origin + Drop> Keeper for SpoolKeeper<'a, R, S> {
     fn follow(&mut self, hub: &Hub, customer: u16) -> Result<(), KeepFault> {
         match self.follow_files(hub, customer) {
             Ok(()) => Ok(()),
-            Err(_) => {
-                self.fail();
+            Err(error) => {
+                self.fail(error);
                 Err(KeepFault)
             }
         }
@@ -330,8 +352,8 @@ impl<'a, R: Clock, S: Origin + Drop> Keeper for SpoolKeeper<'a, R, S> {
         a_crash_leaves_what_was_committed::<S>();
         match self.settle_files() {
             Ok(()) => Ok(()),
-            Err(_) => {
-                self.fail();
+            Err(error) => {
+                self.fail(error);
                 Err(KeepFault)
             }
         }
@@ -349,16 +371,6 @@ impl<'a, R: Clock, S: Origin + Drop> Depot for SpoolKeeper<'a, R, S> {
     fn open(&mut self, alloc: Global, tables: Tables) -> Result<Hub, DepotFault> {
         a_crash_leaves_what_was_committed::<S>();
         self.open_hub(alloc, tables)
-    }
-}
-
-/// Why no hub is opened, if the spool file fails.
-fn depot_fault(error: Error) -> DepotFault
-    ensures { result ≢ Refused }
-{
-    match error {
-        Error::SqliteFailure(ErrorCode::OutOfMemory) => DepotFault::Memory,
-        _ => DepotFault::Device,
     }
 }
 

@@ -40,18 +40,19 @@ pub(crate) fn serve_file<F: Files + Net + Clock + AllocGlobal, L: Write + Drop>(
     ensures served { OnOk result (AreServedOf {Spool = ⊤} path.now options.turns None) }
     ensures refused { IfErr result (AreRefused (Some path.now)) }
 {
-    let (served, _) = serve_over(rt, path, options, log, KeepsNothing);
+    let (served, _, log) = serve_over(rt, path, options, log, KeepsNothing);
+    drop(log);
     served
 }
 
-/// Serves the lines of a table file, over a depot, which is given back.
+/// Serves the lines of a table file, over a depot. It and the log are given back.
 pub(crate) fn serve_over<F: Files + Net + Clock + AllocGlobal, L: Write + Drop, D: Depot + Drop>(
     rt: &F,
     path: &str,
     options: Options,
     mut log: Log<L>,
     depot: D,
-) -> (Result<(), Failure>, D)
+) -> (Result<(), Failure>, D, Log<L>)
     ensures served { OnOk result.0 ((tables : TableFile) × AreGiven (Some path.now) tables
         × AreServedFrom D.opens D.says depot result.1 tables options.turns) }
     ensures refused { IfErr result.0 (AreRefused (Some path.now)) }
@@ -59,15 +60,14 @@ pub(crate) fn serve_over<F: Files + Net + Clock + AllocGlobal, L: Write + Drop, 
     match tables_and_revision(rt, path) {
         Ok((tables, revision)) => match exchange_of(rt, &tables, log, revision) {
             Ok(exchange) => serve_tables(rt.alloc(), depot, tables, exchange, options),
-            Err(failure) => {
+            Err((failure, log)) => {
                 drop(tables);
-                (Err(failure), depot)
+                (Err(failure), depot, log)
             }
         },
         Err(failure) => {
             log_failure(rt, path, &mut log, &failure);
-            drop(log);
-            (Err(failure), depot)
+            (Err(failure), depot, log)
         }
     }
 }
@@ -97,21 +97,21 @@ fn tables_and_revision<'a, F: Files + AllocGlobal>(
     }
 }
 
-/// An attendant of no line yet, on the sockets of this machine, for the lines of these tables.
+/// An attendant of no line yet, on the sockets of this machine, for the lines of these tables. If
+/// there is none the log is given back.
 fn exchange_of<'a, R: Files + Net + Clock + AllocGlobal, L: Write + Drop, S: TableSource + Drop>(
     rt: &'a R,
     tables: &Tables,
     mut log: Log<L>,
     revision: Revision<S>,
-) -> Result<Exchange<MioNetwork<'a, R>, L, S>, Failure>
-    ensures { IfErr result IsOfDevices }
+) -> Result<Exchange<MioNetwork<'a, R>, L, S>, (Failure, Log<L>)>
+    ensures { IfErr result (λ refused. IsOfDevices refused.0) }
 {
     match network_for(rt, tables, &mut log) {
         Ok(network) => Ok(Exchange::new(rt.alloc(), network, log, revision)),
         Err(failure) => {
-            drop(log);
             drop(revision);
-            Err(failure)
+            Err((failure, log))
         }
     }
 }
@@ -147,21 +147,21 @@ fn network_on<'a, R: Net + Clock + AllocGlobal, L: Write + Drop>(
     }
 }
 
-/// Serves the lines of tables, over a depot, which is given back.
+/// Serves the lines of tables, over a depot. It and the log are given back.
 fn serve_tables<N: Network + Drop, L: Write + Drop, S: TableSource + Drop, D: Depot + Drop>(
     alloc: Global,
     depot: D,
     tables: Tables,
     exchange: Exchange<N, L, S>,
     options: Options,
-) -> (Result<(), Failure>, D)
+) -> (Result<(), Failure>, D, Log<L>)
     ensures served { OnOk result.0 (AreServedFrom D.opens D.says depot result.1 tables options.turns) }
     ensures refused { IfErr result.0 IsOfDevices }
 {
     let Options { turns, listen } = options;
     match serve(alloc, depot, tables, exchange, listen, turns) {
-        (Ok(()), depot) => (Ok(()), depot),
-        (Err(fault), depot) => (Err(failure_of(fault)), depot),
+        (Ok(()), depot, log) => (Ok(()), depot, log),
+        (Err(fault), depot, log) => (Err(failure_of(fault)), depot, log),
     }
 }
 

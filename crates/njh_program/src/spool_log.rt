@@ -1,9 +1,10 @@
-//! What the log says of a spool file that isn't opened.
+//! What the log says of a spool file that isn't opened, or fails.
 
 use njh_listing::FilesFault;
 use njh_service::Log;
 use njh_sockets::utc_seconds;
 use njh_subcommands::Failure;
+use sqlite::Error;
 use std::fmt;
 use std::io::Write;
 use std::rt::Clock;
@@ -18,6 +19,18 @@ pub(crate) fn log_unopened<R: Clock, L: Write + Drop>(
     if let Failure::Files(fault) = failure {
         let why = why_unopened(fault);
         log.write(utc_seconds(rt), &Unopened { spool, why });
+    }
+}
+
+/// Logs why a spool file failed, if it did.
+pub(crate) fn log_cause<R: Clock, L: Write + Drop>(
+    rt: &R,
+    spool: &str,
+    log: &mut Log<L>,
+    cause: Option<Error>,
+) {
+    if let Some(error) = cause {
+        log.write(utc_seconds(rt), &Failed { spool, error });
     }
 }
 
@@ -46,5 +59,18 @@ struct Unopened<'a> {
 impl fmt::Display for Unopened<'_> {
     fn fmt<W: fmt::Write>(&self, f: &mut fmt::Formatter<W>) -> fmt::Result {
         write!(f, "spool file {}: {}", self.spool, self.why)
+    }
+}
+
+/// A spool file that fails.
+#[derive(Clone, Copy, Drop)]
+struct Failed<'a> {
+    spool: &'a str,
+    error: Error,
+}
+
+impl fmt::Display for Failed<'_> {
+    fn fmt<W: fmt::Write>(&self, f: &mut fmt::Formatter<W>) -> fmt::Result {
+        write!(f, "spool file {}: {}", self.spool, self.error)
     }
 }

@@ -10,7 +10,7 @@ ghost use Rattle.njh_subcommands.specs.TableBytes.{AreRefused};
 ghost use Rattle.sqlite.specs.State.{HasCleanDisk};
 
 use crate::service::{Options, serve_over};
-use crate::spool_log::log_unopened;
+use crate::spool_log::{log_cause, log_unopened};
 use crate::start_log::log_failure;
 use njh_keeper::SpoolKeeper;
 use njh_listing::{FilesFault, SpoolFiles};
@@ -84,7 +84,7 @@ fn serve_marked<F: Files + Net + Clock + AllocGlobal, L: Write + Drop, S: Origin
     path: &str,
     spool: &str,
     options: Options,
-    log: Log<L>,
+    mut log: Log<L>,
     mut store: Store<S>,
 ) -> Result<(), Failure>
     requires { StandsAsFound S.Store S.found store }
@@ -95,13 +95,15 @@ fn serve_marked<F: Files + Net + Clock + AllocGlobal, L: Write + Drop, S: Origin
         Ok(_) => serve_kept(rt, path, spool, options, log, store),
         Err(error) => {
             drop(store);
+            log_cause(rt, spool, &mut log, Some(error));
             drop(log);
             Err(Failure::Files(FilesFault::from(error)))
         }
     }
 }
 
-/// Serves the lines of a table file, and keeps whole files in this spool file, which is open.
+/// Serves the lines of a table file, and keeps whole files in this spool file, which is open. If the
+/// spool file fails, the log says why.
 fn serve_kept<F: Files + Net + Clock + AllocGlobal, L: Write + Drop, S: Origin + Drop>(
     rt: &F,
     path: &str,
@@ -125,7 +127,9 @@ fn serve_kept<F: Files + Net + Clock + AllocGlobal, L: Write + Drop, S: Origin +
             return Err(failure);
         }
     }
-    let (served, keeper) = serve_over(rt, path, options, log, keeper);
+    let (served, keeper, mut log) = serve_over(rt, path, options, log, keeper);
+    log_cause(rt, spool, &mut log, keeper.cause());
+    drop(log);
     let refusal = refusal_of(rt.alloc(), &keeper);
     drop(keeper);
     match served {

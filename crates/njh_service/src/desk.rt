@@ -35,6 +35,21 @@ pub(crate) struct Desk<N: Network + Drop, L: Write + Drop> {
 }
 
 impl<N: Network + Drop, L: Write + Drop> Desk<N, L> {
+    /// The log, where nothing more is done.
+    pub(crate) fn into_log(self) -> Log<L>
+        ensures { result ≡ self.log }
+    {
+        let Desk {
+            network,
+            log,
+            customers,
+            ..
+        } = self;
+        drop(network);
+        drop(customers);
+        log
+    }
+
     /// Looks at a line if something of it is ready or its moment came, and sets its wire's clock
     /// then. No mark of it stays.
     pub(crate) fn begin(

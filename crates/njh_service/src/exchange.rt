@@ -84,6 +84,25 @@ impl<N: Network + Drop, L: Write + Drop, S: TableSource + Drop> Exchange<N, L, S
         }
     }
 
+    /// Its log, where it attends no more.
+    pub(crate) fn into_log(self) -> Log<L> {
+        let Exchange {
+            desk,
+            posts,
+            ready,
+            watches,
+            groups,
+            revision,
+            ..
+        } = self;
+        drop(posts);
+        drop(ready);
+        drop(watches);
+        drop(groups);
+        drop(revision);
+        desk.into_log()
+    }
+
     /// Serves a further line. Out of memory is the only refusal.
     pub fn add(
         &mut self,

@@ -79,7 +79,7 @@ fn turn_count(turns: Option<u32>) -> u64
 
 impl<W: Drop, A: Drop, D: Drop> Service<W, A, D> {
     /// This hub with its depot, of which these lines are served, each on its own wire. Want of
-    /// memory is the only refusal; the depot is given back then.
+    /// memory is the only refusal; the depot and the attendant are given back then.
     pub fn new(
         alloc: Global,
         hub: Hub,
@@ -87,7 +87,7 @@ impl<W: Drop, A: Drop, D: Drop> Service<W, A, D> {
         endpoints: &[Endpoint],
         wires: Vec<W>,
         attendant: A,
-    ) -> Result<Service<W, A, D>, (HubFault, D)>
+    ) -> Result<Service<W, A, D>, (HubFault, D, A)>
         requires same { length wires.items ≡ length endpoints.now }
         requires known { All (λ endpoint. HasLine hub endpoint.line) endpoints.now }
         ensures hub { IfOk result (λ service. service.hub ≡ hub) }
@@ -95,7 +95,8 @@ impl<W: Drop, A: Drop, D: Drop> Service<W, A, D> {
         ensures lines { IfOk result (λ service. service.lines ≡ lines_of endpoints.now) }
         ensures calm { IfOk result (λ service. service.quiets ≡ no_quiets (lines_of endpoints.now)) }
         ensures wires { IfOk result (λ service. service.wires ≡ wires.items) }
-        ensures memory { IfErr result (λ refused. (refused.0 ≡ HubFault.Memory) × (refused.1 ≡ depot)) }
+        ensures memory { IfErr result (λ refused. (refused.0 ≡ HubFault.Memory) × (refused.1 ≡ depot)
+            × (refused.2 ≡ attendant)) }
     {
         match rounds_of(alloc, endpoints) {
             Ok(rounds) => Ok(Service {
@@ -108,8 +109,7 @@ impl<W: Drop, A: Drop, D: Drop> Service<W, A, D> {
             Err(fault) => {
                 drop(hub);
                 drop(wires);
-                drop(attendant);
-                Err((fault, depot))
+                Err((fault, depot, attendant))
             }
         }
     }
@@ -128,9 +128,9 @@ impl<W: Drop, A: Drop, D: Drop> Service<W, A, D> {
         self.rounds.lines()
     }
 
-    /// The depot, where nothing more is to be served.
-    pub fn into_depot(self) -> D
-        ensures { result ≡ self.depot }
+    /// The depot and the attendant, where nothing more is to be served.
+    pub fn into_parts(self) -> (D, A)
+        ensures { result.0 ≡ self.depot }
     {
         let Service {
             hub,
@@ -142,8 +142,7 @@ impl<W: Drop, A: Drop, D: Drop> Service<W, A, D> {
         drop(hub);
         drop(wires);
         drop(rounds);
-        drop(attendant);
-        depot
+        (depot, attendant)
     }
 }
 

@@ -12,6 +12,7 @@ ghost use Rattle.njh_service.specs.Serving.{AreServedFrom, IsOpened, IsOpenedOn}
 use crate::endpoints::Endpoint;
 use crate::exchange::Exchange;
 use crate::fault::ServeFault;
+use crate::log::Log;
 use crate::service::Service;
 use crate::table_source::TableSource;
 use njh_hub::Hub;
@@ -25,7 +26,7 @@ use std::net::IpAddr;
 /// Serves the lines of tables that have a port or a peer, by an attendant that serves no line yet,
 /// for so many turns; if no number is given, until the program is ended. Lines with a port listen
 /// on this address. Each customer has the whole files that the depot kept of it, and what becomes
-/// of them is kept there before it shows on a line. The depot is given back.
+/// of them is kept there before it shows on a line. The depot and the log are given back.
 ///
 /// `Device` if a port can't be listened on, if what is kept can't be read, or if no line has a port
 /// or a peer and no number of turns is given: of ports and lines the log says why. `Refused` if a
@@ -38,20 +39,37 @@ pub fn serve<N: Network + Drop, L: Write + Drop, S: TableSource + Drop, D: Depot
     exchange: Exchange<N, L, S>,
     address: IpAddr,
     turns: Option<u32>,
-) -> (Result<(), ServeFault>, D)
+) -> (Result<(), ServeFault>, D, Log<L>)
     ensures { OnOk result.0 (AreServedFrom D.opens D.says depot result.1 tables turns) }
 {
     match service_on(alloc, depot, tables, exchange, address, turns.is_none()) {
         Ok(mut service) => match service.run(turns) {
-            Ok(()) => (Ok(()), service.into_depot()),
-            Err(_) => (Err(ServeFault::Device), service.into_depot()),
+            Ok(()) => {
+                let (depot, log) = ended(service);
+                (Ok(()), depot, log)
+            }
+            Err(_fault) => {
+                let (depot, log) = ended(service);
+                (Err(ServeFault::Device), depot, log)
+            }
         },
-        Err((fault, depot)) => (Err(fault), depot),
+        Err((fault, depot, exchange)) => (Err(fault), depot, exchange.into_log()),
     }
 }
 
+/// What is left of a service of which no more lines are served: its depot and its log.
+fn ended<W: Drop, N: Network + Drop, L: Write + Drop, S: TableSource + Drop, D: Drop>(
+    service: Service<W, Exchange<N, L, S>, D>,
+) -> (D, Log<L>)
+    ensures { result.0 ≡ service.depot }
+{
+    let (depot, exchange) = service.into_parts();
+    (depot, exchange.into_log())
+}
+
 /// A service of the lines of tables that have a port or a peer, of a hub that the depot opens. If
-/// such a line is `needed`, tables without one are refused.
+/// such a line is `needed`, tables without one are refused. What is refused gives back the depot
+/// and the attendant.
 ///
 /// Refusals are those of `serve`.
 pub fn service_on<N: Network + Drop, L: Write + Drop, S: TableSource + Drop, D: Depot + Drop>(
@@ -61,16 +79,18 @@ pub fn service_on<N: Network + Drop, L: Write + Drop, S: TableSource + Drop, D: 
     mut exchange: Exchange<N, L, S>,
     address: IpAddr,
     needed: bool,
-) -> Result<Service<LineWire<N::Connection>, Exchange<N, L, S>, D>, (ServeFault, D)>
+) -> Result<
+    Service<LineWire<N::Connection>, Exchange<N, L, S>, D>,
+    (ServeFault, D, Exchange<N, L, S>),
+>
     ensures opened { IfOk result (λ service. IsOpened (D.opens depot service.depot tables) tables service) }
     ensures settled { IfOk result (λ service. IsSettled D.says service.depot service.hub) }
 {
     match exchange.open_lines(alloc, &tables, address, needed) {
         Ok(endpoints) => service_of(alloc, depot, tables, &endpoints, exchange),
         Err(fault) => {
-            drop(exchange);
             drop(tables);
-            Err((fault, depot))
+            Err((fault, depot, exchange))
         }
     }
 }
@@ -82,7 +102,10 @@ fn service_of<N: Network + Drop, L: Write + Drop, S: TableSource + Drop, D: Depo
     tables: Tables,
     endpoints: &[Endpoint],
     exchange: Exchange<N, L, S>,
-) -> Result<Service<LineWire<N::Connection>, Exchange<N, L, S>, D>, (ServeFault, D)>
+) -> Result<
+    Service<LineWire<N::Connection>, Exchange<N, L, S>, D>,
+    (ServeFault, D, Exchange<N, L, S>),
+>
     requires known { All (λ endpoint. HasLine tables endpoint.line) endpoints.now }
     requires apart { IsApart endpoints.now }
     ensures opened { IfOk result (λ service. IsOpenedOn (D.opens depot service.depot tables) endpoints.now service) }
@@ -90,10 +113,7 @@ fn service_of<N: Network + Drop, L: Write + Drop, S: TableSource + Drop, D: Depo
 {
     match depot.open(alloc, tables) {
         Ok(hub) => service_over(alloc, hub, depot, endpoints, exchange),
-        Err(fault) => {
-            drop(exchange);
-            Err((ServeFault::from(fault), depot))
-        }
+        Err(fault) => Err((ServeFault::from(fault), depot, exchange)),
     }
 }
 
@@ -104,7 +124,10 @@ fn service_over<N: Network + Drop, L: Write + Drop, S: TableSource + Drop, D: Dr
     depot: D,
     endpoints: &[Endpoint],
     exchange: Exchange<N, L, S>,
-) -> Result<Service<LineWire<N::Connection>, Exchange<N, L, S>, D>, (ServeFault, D)>
+) -> Result<
+    Service<LineWire<N::Connection>, Exchange<N, L, S>, D>,
+    (ServeFault, D, Exchange<N, L, S>),
+>
     requires { All (λ endpoint. HubHasLine hub endpoint.line) endpoints.now }
     ensures hub { IfOk result (λ service. service.hub ≡ hub) }
     ensures depot { IfOk result (λ service. service.depot ≡ depot) }
@@ -114,14 +137,13 @@ fn service_over<N: Network + Drop, L: Write + Drop, S: TableSource + Drop, D: Dr
     let wires = match wires_for(alloc, endpoints) {
         Ok(wires) => wires,
         Err(_) => {
-            drop(exchange);
             drop(hub);
-            return Err((ServeFault::Memory, depot));
+            return Err((ServeFault::Memory, depot, exchange));
         }
     };
     match Service::new(alloc, hub, depot, endpoints, wires, exchange) {
         Ok(service) => Ok(service),
-        Err((_, depot)) => Err((ServeFault::Memory, depot)),
+        Err((_, depot, exchange)) => Err((ServeFault::Memory, depot, exchange)),
     }
 }
 

@@ -84,9 +84,9 @@ fn records_of_no_file_are_dropped(rt: HostRuntime) -> Result<(), Fail> {
     if records_left(&files, Unknown)? != 12 {
         return Err("records that are dropped are not counted".into());
     }
-    match openings(&files, Unknown)? {
-        (false, true) => {}
-        _ => return Err("a spool file with records of no file is not opened".into()),
+    let opened = openings(&files, Unknown)?;
+    if opened.first || !opened.second {
+        return Err("a spool file with records of no file is not opened".into());
     }
     match records_left(&files, Unknown)? {
         0 => Ok(()),
@@ -182,8 +182,10 @@ fn the_greatest_number_of_a_row_is_damage(rt: HostRuntime) -> Result<(), Fail> {
         return Err("a row has a number of 64 bits".into());
     }
     renumber(&files, Unknown, GREATEST_ID)?;
-    match openings(&files, Unknown)? {
-        (true, true) => Ok(()),
-        _ => Err("a spool file that has no number left is opened".into()),
+    let opened = openings(&files, Unknown)?;
+    if opened.first && opened.second {
+        Ok(())
+    } else {
+        Err("a spool file that has no number left is opened".into())
     }
 }

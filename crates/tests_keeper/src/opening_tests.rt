@@ -6,7 +6,7 @@ use crate::playing::play;
 use crate::spool_files::{SpoolFiles, kill};
 use njh_spoolfile::{Origin, Store};
 use njh_turns::{Depot, DepotFault};
-use sqlite::{Alter, Start, Unknown};
+use sqlite::{Alter, Error, ErrorCode, Start, Unknown};
 use std::alloc::Global;
 use std::rt::HostRuntime;
 use std::test::Fail;
@@ -18,6 +18,14 @@ a1: sign on as LYON block 1024
 a1: file LYON.1 of ANNA to PAUL@METZ, lines from 2
 # ACME has LYON.1 TO METZ PAUL OUT 5 RECORDS READY
 "#;
+
+/// Whether a spool file failed since it is damaged.
+fn is_damage(cause: Option<Error>) -> bool {
+    match cause {
+        Some(Error::SqliteFailure(ErrorCode::DatabaseCorrupt)) => true,
+        _ => false,
+    }
+}
 
 /// Adds the row of the first whole file once more, after it: two files' records have one number.
 fn add_first_again<S: Alter>(alloc: Global, store: &mut Store<S>) -> Result<(), Fail> {
@@ -49,17 +57,32 @@ fn fails<D: Depot>(files: &SpoolFiles<'_>, depot: &mut D) -> Result<bool, Fail> 
     }
 }
 
-/// Whether the first opening of a hub fails, and whether a second one does.
+/// What came of two openings of a hub by one keeper.
+#[derive(Clone, Copy)]
+pub(crate) struct TwoOpenings {
+    /// Whether the first fails.
+    pub(crate) first: bool,
+    /// Whether the second fails.
+    pub(crate) second: bool,
+    /// Why the spool file failed, if it did.
+    pub(crate) cause: Option<Error>,
+}
+
+/// What comes of two openings.
 fn openings_over<S: Origin + Drop>(
     files: &SpoolFiles<'_>,
     store: Store<S>,
-) -> (Result<(bool, bool), Fail>, Store<S>)
+) -> (Result<TwoOpenings, Fail>, Store<S>)
     requires { StandsAsFound S.Store S.found store }
 {
     let mut keeper = files.keeper(store);
     let opened = match fails(files, &mut keeper) {
         Ok(first) => match fails(files, &mut keeper) {
-            Ok(second) => Ok((first, second)),
+            Ok(second) => Ok(TwoOpenings {
+                first,
+                second,
+                cause: keeper.cause(),
+            }),
             Err(fail) => Err(fail),
         },
         Err(fail) => Err(fail),
@@ -68,7 +91,7 @@ fn openings_over<S: Origin + Drop>(
 }
 
 /// The same, of the spool file as it was left.
-pub(crate) fn openings<S: Start>(files: &SpoolFiles<'_>, start: S) -> Result<(bool, bool), Fail> {
+pub(crate) fn openings<S: Start>(files: &SpoolFiles<'_>, start: S) -> Result<TwoOpenings, Fail> {
     let store = files.open(start)?;
     let (opened, store) = openings_over(files, store);
     kill(store);
@@ -79,9 +102,11 @@ pub(crate) fn openings<S: Start>(files: &SpoolFiles<'_>, start: S) -> Result<(bo
 fn a_keeper_opens_one_hub(rt: HostRuntime) -> Result<(), Fail> {
     play(&rt, "one_hub", ONE_FILE)?;
     let files = SpoolFiles::left_by(&rt, "one_hub")?;
-    match openings(&files, Unknown)? {
-        (false, true) => Ok(()),
-        _ => Err("a keeper opens a second hub, or none".into()),
+    let opened = openings(&files, Unknown)?;
+    if !opened.first && opened.second && opened.cause.is_none() {
+        Ok(())
+    } else {
+        Err("a keeper opens a second hub, or none".into())
     }
 }
 
@@ -90,9 +115,11 @@ fn two_files_under_one_number_are_damage(rt: HostRuntime) -> Result<(), Fail> {
     play(&rt, "one_number", ONE_FILE)?;
     let files = SpoolFiles::left_by(&rt, "one_number")?;
     add_row(&files, Unknown)?;
-    match openings(&files, Unknown)? {
-        (true, true) => Ok(()),
-        _ => Err("a damaged spool file is opened".into()),
+    let opened = openings(&files, Unknown)?;
+    if opened.first && opened.second && is_damage(opened.cause) {
+        Ok(())
+    } else {
+        Err("a damaged spool file is opened".into())
     }
 }
 

@@ -38,6 +38,9 @@ pub fn serve<N: Network + Drop, L: Write + Drop, P: Player>(
 ) -> Result<(), Fail> {
     match service_on(alloc, KeepsNothing, tables, exchange, address, true) {
         Ok(mut service) => player.play(&mut service),
-        Err((fault, _)) => Err(Fail::from(fault)),
+        Err((fault, _, exchange)) => {
+            drop(exchange);
+            Err(Fail::from(fault))
+        }
     }
 }

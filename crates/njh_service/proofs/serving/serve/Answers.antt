@@ -21,5 +21,5 @@ returns-in-Ok-run g c =
         each = ran.each;
         possible = ran.possible;
       };
-      kept = rw (c.into_depot.ensures, ← ran.hub) kept;
+      kept = rw (c.ended-depot.ensures, ← ran.hub) kept;
     }

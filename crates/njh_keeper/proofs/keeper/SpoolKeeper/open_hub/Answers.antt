@@ -45,7 +45,7 @@ returns-clause-known g c =
     let early = clean_before c.remember_hub.ensures.crash clean in
     let first : HasCleanDisk (shown g.S.Store c.self.inside.writer.store) =
     omega (arith, early, c.open_from.ensures.crash.clean) in
-    let stands = c.self.invariant c.if-not-self.false first began found in
+    let stands = c.self.invariant.0 c.if-not-self.false first began found in
     let so = opened_so c.args.tables began c.in-Ok.names.items c.in-Ok-open_from.hub c.in-Ok.ensures.each
     (c.in-Ok-open_from.ensures.hub early began stands.now) (c.in-Ok-open_from.ensures.back early began stands.now) in
     subst (λ (ps : List Part). KnowsNow g.S.Store c.remember_hub.new.self ps) (sym same)
@@ -55,7 +55,7 @@ returns-clause-known g c =
 pub returns-clause-stood : goal.returns-clause-stood
 returns-clause-stood g c =
     on_ok c.remember_hub.result (subst (λ k. StandsAsFound g.S.Store g.S.Origin.found k.store) c.self.view_is
-    (c.self.invariant c.if-not-self.false))
+    (c.self.invariant.0 c.if-not-self.false))
 
 pub returns-in-Err-open_from-clause-refused : goal.returns-in-Err-open_from-clause-refused
 returns-in-Err-open_from-clause-refused g c clean is spool held =
@@ -99,7 +99,7 @@ returns-clause-crash g c =
     (λ clean db made began found.
     let s : CommitState = record { now = began; kept = began } in
     let early = clean_before c.remember_hub.ensures.crash clean in
-    let stands = c.self.invariant c.if-not-self.false (clean_before c.open_from.ensures.crash early) began found in
+    let stands = c.self.invariant.0 c.if-not-self.false (clean_before c.open_from.ensures.crash early) began found in
     let hub_is = c.in-Ok-open_from.ensures.hub early began stands.now in
     let back = c.in-Ok-open_from.ensures.back early began stands.now in
     let so = opened_so c.args.tables began c.in-Ok.names.items c.in-Ok-open_from.hub c.in-Ok.ensures.each hub_is back in
