@@ -1,6 +1,6 @@
 -- When a line takes a connection, and when it is looked for one again.
-use Rattle.std.specs.Prelude.{ℕ, ◌⊎◌, ◌+◌, ◌-◌, Bool, true, false, ◌&&◌, nat_le, nat_lt, min, if◌then◌else◌}
-use Rattle.std.specs.Prelude.{IsSome, Result, Ok, Err}
+use Rattle.std.specs.Prelude.{ℕ, ◌⊎◌, ◌+◌, ◌-◌, ◌<◌, Bool, true, false, ◌&&◌, ◌||◌, nat_le, nat_lt, min}
+use Rattle.std.specs.Prelude.{if◌then◌else◌, IsSome, IsTrue, Result, Ok, Err}
 use Rattle.njh_wire.specs.Standing.{Standing}
 use Rattle.njh_service.specs.declared.post.Label.{Label}
 use Rattle.njh_wire.specs.declared.end.ConnectionEnd.{ConnectionEnd}
@@ -23,13 +23,23 @@ IsConnected wire = IsSome wire.connection ⊎ IsSome wire.next
 abbrev pub silence_of : {C : Type 0} → Standing C → ℕ
 silence_of wire = wire.clock - wire.heard
 
--- a connection keeps its line, unless nothing came on it for ten seconds
-abbrev pub keeps_line : (is_connected : Bool) → (silent : ℕ) → Bool
-keeps_line is_connected silent = is_connected && nat_lt silent 10000
+-- A connection keeps its line while its session is up, and for ten seconds without one: since it came, or since its
+-- session ended. What comes on it meanwhile is nothing to that.
+abbrev pub KeepsLine : {C : Type 0} → Standing C → Label → (now : ℕ) → Type 0
+KeepsLine wire label now = IsConnected wire × (IsTrue label.up ⊎ (now - label.no_session_since < 10000))
 
--- then its listener is looked at once those ten seconds are over
-abbrev pub kept_until : (silent now : ℕ) → ℕ
-kept_until silent now = min (now + (10000 - silent)) 18446744073709551615
+abbrev pub keeps_line : (is_connected is_up : Bool) → (since now : ℕ) → Bool
+keeps_line is_connected is_up since now = is_connected && (is_up || nat_lt (now - since) 10000)
+
+-- then its listener is looked at once those ten seconds are over; while the session is up, not at all
+abbrev pub kept_until : (is_up : Bool) → (since : ℕ) → ℕ
+kept_until true since = 18446744073709551615
+kept_until false since = min (since + 10000) 18446744073709551615
+
+-- when it is looked at once its session was seen: as before, but ten seconds after this ended if that comes first
+abbrev pub moment_behind : (was_up is_up : Bool) → (since moment : ℕ) → ℕ
+moment_behind false is_up since moment = moment
+moment_behind true is_up since moment = min moment (kept_until is_up since)
 
 -- else at once behind one that was taken, since another may wait; a second after one that couldn't be taken; and if
 -- nobody waits, when somebody comes

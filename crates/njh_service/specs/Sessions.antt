@@ -7,7 +7,7 @@ use Rattle.njh_wire.specs.declared.last_bytes.LastBytes.{LastBytes}
 use Rattle.njh_wire.specs.Readings.{IsOpen}
 use Rattle.njh_wire.specs.Standing.{Standing}
 use Rattle.njh_hub.specs.declared.session_view.SessionView.{SessionView}
-use Rattle.njh_service.specs.Connecting.{IsConnected}
+use Rattle.njh_service.specs.Connecting.{IsConnected, moment_behind}
 use Rattle.njh_service.specs.declared.post.Label.{Label}
 use Rattle.njh_service.specs.declared.entry.LogEvent.{LogEvent}
 use Rattle.njh_service.specs.declared.entry.LogEvent.TheVariants as events
@@ -37,13 +37,26 @@ tries_since was zero now = None
 tries_since None (suc tries) now = Some now
 tries_since (Some since) (suc tries) now = Some since
 
+-- since when its connection is without a session that is up: since this ended, or as before
+abbrev pub no_session_since : (since : ℕ) → (was_up is_up : Bool) → (now : ℕ) → ℕ
+no_session_since since true false now = now
+no_session_since since true true now = since
+no_session_since since false is_up now = since
+
 -- what is kept of a line once its session was seen so
 abbrev pub after_session : Label → SessionView → (now : ℕ) → Label
 after_session label session now = record label {
   in_session = is_session session.phase;
   tries_since = tries_since label.tries_since session.tries now;
+  no_session_since = no_session_since label.no_session_since label.up (is_up session.phase) now;
   up = is_up session.phase;
 }
+
+-- when its listener is looked at then
+abbrev pub moment_seen : Label → SessionView → (now moment : ℕ) → ℕ
+moment_seen label session now moment =
+    let seen = after_session label session now in
+    moment_behind label.up seen.up seen.no_session_since moment
 
 -- ---- why it ended
 

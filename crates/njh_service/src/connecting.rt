@@ -2,8 +2,8 @@
 
 ghost use Rattle.std.specs.Prelude.{◌≡◌, ◌<◌, ◌≤◌, ◌⊎◌, None, false};
 ghost use Rattle.njh_wire.specs.Standing.{after_admission, after_displacement};
-ghost use Rattle.njh_service.specs.Connecting.{answer_of, end_event, keeps_line, kept_until, listens_again, silence_of};
-ghost use Rattle.njh_service.specs.Connecting.{told_connected, IsConnected};
+ghost use Rattle.njh_service.specs.Connecting.{answer_of, end_event, keeps_line, kept_until, listens_again};
+ghost use Rattle.njh_service.specs.Connecting.{told_connected, KeepsLine};
 ghost use Rattle.njh_service.specs.Dialling.{connection_in, dial_moment, failed, given_up_at, next_dial, IsToCome};
 
 use crate::desk::Desk;
@@ -14,8 +14,9 @@ use njh_wire::{Connection, ConnectionEnd, LineWire, Network};
 use std::io;
 use std::io::Write;
 
-/// For how long a connection is silent when another may take its place, in milliseconds.
-const SILENCE: u64 = 10_000;
+/// For how long a connection is without a session when another may take its place, in
+/// milliseconds.
+const PATIENCE: u64 = 10_000;
 
 /// How long after a failure to take a connection the next one is tried.
 const PAUSE: u64 = 1_000;
@@ -46,8 +47,8 @@ pub(crate) enum DialAnswer {
 }
 
 impl<N: Network + Drop, L: Write + Drop> Desk<N, L> {
-    /// Takes a connection that waits, if the line has none or one that is silent. Answers when
-    /// the listener is to be looked at again.
+    /// Takes a connection that waits, if the line has none or one that was without a session for
+    /// ten seconds. Answers when the listener is to be looked at again.
     pub(crate) fn admit(
         &mut self,
         listener: &mut N::Listener,
@@ -57,13 +58,15 @@ impl<N: Network + Drop, L: Write + Drop> Desk<N, L> {
         ensures counts { wire.old.failures ≤ wire.new.failures }
         ensures place { wire.new.place ≡ wire.old.place }
         ensures clock { wire.new.clock ≡ wire.old.clock }
-        ensures kept { IsConnected wire.old → silence_of wire.old < 10000 →
-            (wire.new ≡ wire.old) × (result ≡ kept_until (silence_of wire.old) self.old.now) }
+        ensures kept { KeepsLine wire.old label.old self.old.now → (wire.new ≡ wire.old) × ((label.new ≡ label.old)
+            × (result ≡ kept_until label.old.up label.old.no_session_since)) }
+        ensures tried { ¬ KeepsLine wire.old label.old self.old.now →
+            (admission : Admission) × (result ≡ listens_again admission self.old.now) }
         ensures same { self.old.now < result → wire.new ≡ wire.old }
     {
-        let silent = wire.silent_for();
-        if keeps_line(wire.is_connected(), silent) {
-            return kept_until(silent, self.now);
+        let since = label.no_session_since;
+        if keeps_line(wire.is_connected(), label.up, since, self.now) {
+            return kept_until(label.up, since);
         }
         let admission = self.accept(listener, label, wire);
         listens_again(admission, self.now)
@@ -113,6 +116,8 @@ impl<N: Network + Drop, L: Write + Drop> Desk<N, L> {
         ensures now { self.new.now ≡ self.old.now }
         ensures taken { N.Connection.place_of connection ≡ wire.old.place →
             wire.new ≡ record (after_admission connection (after_displacement wire.old)) { end = None } }
+        ensures came { N.Connection.place_of connection ≡ wire.old.place →
+            (label.new.no_session_since ≡ self.old.now) × (label.new.in_session ≡ false) }
     {
         if connection.place() != wire.place() {
             return;
@@ -124,6 +129,7 @@ impl<N: Network + Drop, L: Write + Drop> Desk<N, L> {
         label.lost = false;
         // That the session before used up its tries ends its own connection, and not this one.
         label.in_session = false;
+        label.no_session_since = self.now;
         self.tell_connected(label, event);
     }
 
@@ -204,18 +210,24 @@ impl<N: Network + Drop, L: Write + Drop> Desk<N, L> {
     }
 }
 
-/// Whether a line keeps its connection, on which nothing came for so long, if another waits.
-fn keeps_line(is_connected: bool, silent: u64) -> bool
-    ensures { result ≡ keeps_line is_connected silent }
+/// Whether a line keeps its connection, if another waits: its session is up, or it isn't and the
+/// connection is without one since a moment.
+fn keeps_line(is_connected: bool, is_up: bool, since: u64, now: u64) -> bool
+    ensures { result ≡ keeps_line is_connected is_up since now }
 {
-    is_connected && silent < SILENCE
+    is_connected && (is_up || now.saturating_sub(since) < PATIENCE)
 }
 
-/// When the listener of a line that keeps its connection is looked at again.
-fn kept_until(silent: u64, now: u64) -> u64
-    ensures { result ≡ kept_until silent now }
+/// When the listener of a line that keeps its connection is looked at again; `u64::MAX` while its
+/// session is up.
+pub(crate) fn kept_until(is_up: bool, since: u64) -> u64
+    ensures { result ≡ kept_until is_up since }
 {
-    now.saturating_add(SILENCE.saturating_sub(silent))
+    if is_up {
+        u64::MAX
+    } else {
+        since.saturating_add(PATIENCE)
+    }
 }
 
 /// When a listener is looked at again.

@@ -1,7 +1,8 @@
 //! When a line is in a session, and what is told of a session's end.
 
 ghost use Rattle.std.specs.Prelude.{◌≡◌};
-ghost use Rattle.njh_service.specs.Sessions.{is_session, is_up, session_end, session_event, tries_end, tries_since};
+ghost use Rattle.njh_service.specs.Sessions.{is_session, is_up, no_session_since, session_end, session_event, tries_end};
+ghost use Rattle.njh_service.specs.Sessions.{tries_since};
 
 use crate::entry::{LogEvent, SessionEnd};
 use crate::last_frame::LastFrame;
@@ -38,6 +39,13 @@ pub(crate) fn tries_since(was: Option<u64>, tries: u8, now: u64) -> Option<u64>
     } else {
         None
     }
+}
+
+/// Since when a connection is without a session that is up, now that its session was seen.
+pub(crate) fn no_session_since(since: u64, was_up: bool, is_up: bool, now: u64) -> u64
+    ensures { result ≡ no_session_since since was_up is_up now }
+{
+    if was_up && !is_up { now } else { since }
 }
 
 /// How a session ended that made five tries in a row: without an answer if nothing came since the

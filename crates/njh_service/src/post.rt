@@ -2,13 +2,17 @@
 
 ghost use Rattle.std.specs.Prelude.{◌≡◌};
 ghost use Rattle.njh_service.specs.Dialling.{moment_of_loss};
+ghost use Rattle.njh_service.specs.Sessions.{after_session, moment_seen};
 
+use crate::connecting::kept_until;
 use crate::dial::Dial;
+use crate::ending::{is_session, is_up, no_session_since, tries_since};
 use crate::site::Site;
 use crate::streams::Streams;
 use crate::traffic::Traffic;
 use arrayvec::ArrayString;
 use njh_ebcdic::Name;
+use njh_hub::SessionView;
 use njh_table::LineId;
 use std::net::SocketAddr;
 
@@ -39,6 +43,9 @@ pub(crate) struct Label {
     pub(crate) node: Name,
     /// Whether its session was up.
     pub(crate) up: bool,
+    /// Since when its connection is without a session that is up, on the service's clock: since it
+    /// came, or since its session ended.
+    pub(crate) no_session_since: u64,
     /// Whether it was in a session, up or on the way there.
     pub(crate) in_session: bool,
     /// When it was seen that the session tried again, the first time of the tries in a row that it
@@ -58,12 +65,24 @@ impl Label {
             line,
             node: names.node,
             up: false,
+            no_session_since: 0,
             in_session: false,
             tries_since: None,
             lost: false,
             again: 0,
             connected: false,
         }
+    }
+
+    /// Its session was seen so.
+    pub(crate) fn see(&mut self, session: SessionView, now: u64)
+        ensures { self.new ≡ after_session self.old session now }
+    {
+        let is_up = is_up(session.phase);
+        self.in_session = is_session(session.phase);
+        self.tries_since = tries_since(self.tries_since, session.tries, now);
+        self.no_session_since = no_session_since(self.no_session_since, self.up, is_up, now);
+        self.up = is_up;
     }
 }
 
@@ -100,6 +119,22 @@ impl<Li: Drop, C: Drop> Post<Li, C> {
             label,
             streams: Streams::idle(),
             traffic: Traffic::none(),
+        }
+    }
+
+    /// Its session was seen so. If it ended, the site is looked at ten seconds later, if not before:
+    /// another connection may wait there.
+    pub(crate) fn see(&mut self, session: SessionView, now: u64)
+        ensures { self.new ≡ record self.old {
+          label = after_session self.old.label session now;
+          moment = moment_seen self.old.label session now self.old.moment;
+        } }
+    {
+        let was_up = self.label.up;
+        self.label.see(session, now);
+        if was_up {
+            let until = kept_until(self.label.up, self.label.no_session_since);
+            self.moment = self.moment.min(until);
         }
     }
 

@@ -7,10 +7,11 @@ ghost use Rattle.njh_hub.specs.WholeHub.{HasLine};
 ghost use Rattle.njh_wire.specs.Standing.{after_close};
 ghost use Rattle.njh_service.specs.Connecting.{silence_of, IsConnected};
 ghost use Rattle.njh_service.specs.Prompting.{HasSeen};
-ghost use Rattle.njh_service.specs.Sessions.{after_session, tries_end, IsInSession, IsReady};
+ghost use Rattle.njh_service.specs.Dialling.{moment_of_loss};
+ghost use Rattle.njh_service.specs.Sessions.{moment_seen, tries_end, IsInSession, IsReady};
 
 use crate::desk::Desk;
-use crate::ending::{is_session, is_up, session_end, session_event, tries_end, tries_since};
+use crate::ending::{session_end, session_event, tries_end};
 use crate::entry::SessionEnd;
 use crate::post::{Label, Post};
 use crate::traffic::Sight;
@@ -41,19 +42,26 @@ impl<N: Network + Drop, L: Write + Drop> Desk<N, L> {
         ensures counts { wire.old.failures ≤ wire.new.failures }
         ensures place { wire.new.place ≡ wire.old.place }
         ensures line { post.new.line ≡ post.old.line }
+        ensures moment { HasLine hub.now post.old.line →
+            let session = line_view (hub_line post.old.line hub.now).state in
+            let moment = moment_seen post.old.label session self.old.now post.old.moment in
+            (post.new.moment ≡ moment) ⊎ (post.new.moment ≡ moment_of_loss post.old.site moment self.old.now) }
         ensures kept { ¬ HasGivenUp hub.now post.old.line → wire.new.connection ≡ wire.old.connection }
         ensures ended { IsInSession post.old.label.in_session wire.old → HasGivenUp hub.now post.old.line →
             ¬ IsConnected wire.new }
     {
+        let now = self.now;
+        let was_up = post.label.up;
         let gave_up = self.end_tries(post.line, &post.label, hub, wire);
         let end = heard_end(wire, gave_up.is_some());
         let session_end = session_end(gave_up, end.is_some() || post.label.lost);
+        post.see(session_of(hub, post.line), now);
         self.tell_files(post.line, &post.label, &mut post.streams, hub);
-        self.tell_session(&mut post.label, session_of(hub, post.line), session_end);
+        self.tell_session(&post.label, was_up, session_end);
         if let Some(end) = end {
             self.tell_end(&mut post.label, end);
             post.label.lost = true;
-            post.lose(self.now);
+            post.lose(now);
         }
     }
 
@@ -83,14 +91,8 @@ impl<N: Network + Drop, L: Write + Drop> Desk<N, L> {
         }
     }
 
-    /// Tells of a session that went up or down, and keeps since when it tries again.
-    fn tell_session(&mut self, label: &mut Label, session: SessionView, end: SessionEnd)
-        ensures { label.new ≡ after_session label.old session self.old.now }
-    {
-        let was_up = label.up;
-        label.in_session = is_session(session.phase);
-        label.tries_since = tries_since(label.tries_since, session.tries, self.now);
-        label.up = is_up(session.phase);
+    /// Tells of a session that was up or wasn't, if that changed.
+    fn tell_session(&mut self, label: &Label, was_up: bool, end: SessionEnd) {
         match session_event(was_up, label.up, label.node, end) {
             Some(event) => self.tell(label, event),
             None => {}

@@ -120,33 +120,76 @@ fn add_tries(wanted: &mut Vec<u8>) -> Result<(), AllocError> {
     )
 }
 
-/// Who connects to a busy line waits until its peer has said nothing for ten seconds.
+/// Who connects to a line on which nobody signs on waits until its peer has been there for ten
+/// seconds.
 #[test]
 fn another_takes_the_place_after_ten_seconds(rt: HostRuntime) -> Result<(), Fail> {
     let acts = [
         at(1000, 0, Act::Connects(1)),
         at(2000, 1, Act::Connects(1)),
         at(2000, 1, CONTACT),
-        at(5000, 0, Act::Sends(b"\x3d")),
     ];
     let wanted = "\
 1970-01-01T00:00:01Z ACME a1: connected from 10.0.0.0:5000
-1970-01-01T00:00:15Z ACME a1: failed: replaced by another connection
-1970-01-01T00:00:15Z ACME a1: connected from 10.0.0.1:5000
-15000 to 1: 1070
+1970-01-01T00:00:11Z ACME a1: failed: replaced by another connection
+1970-01-01T00:00:11Z ACME a1: connected from 10.0.0.1:5000
+11000 to 1: 1070
 ";
-    play(&rt, rt.alloc(), TABLES, &acts, 15_500, wanted)
+    play(&rt, rt.alloc(), TABLES, &acts, 11_500, wanted)
 }
 
-/// Who takes the place of a peer that was asked five times and is not yet given up keeps it.
+/// So it is if that peer sends a byte each five seconds, and contacts between.
 #[test]
-fn another_takes_the_place_after_five_tries(rt: HostRuntime) -> Result<(), Fail> {
+fn bytes_without_a_session(rt: HostRuntime) -> Result<(), Fail> {
+    let nak = Act::Sends(b"\x3d");
+    let acts = [
+        at(1000, 0, Act::Connects(1)),
+        at(2000, 1, Act::Connects(1)),
+        at(2000, 1, CONTACT),
+        at(3000, 0, nak),
+        at(8000, 0, nak),
+        at(9000, 0, CONTACT),
+        at(10_500, 0, nak),
+    ];
+    let wanted = "\
+1970-01-01T00:00:01Z ACME a1: connected from 10.0.0.0:5000
+9000 to 0: 1070
+10500 to 0: 1070
+1970-01-01T00:00:11Z ACME a1: failed: replaced by another connection
+1970-01-01T00:00:11Z ACME a1: connected from 10.0.0.1:5000
+11000 to 1: 1070
+";
+    play(&rt, rt.alloc(), TABLES, &acts, 11_500, wanted)
+}
+
+/// Nobody is put out if nobody waits; and who comes after those ten seconds has the line at once.
+#[test]
+fn line_without_a_program(rt: HostRuntime) -> Result<(), Fail> {
+    let acts = [
+        at(1000, 0, Act::Connects(1)),
+        at(60_000, 0, CONTACT),
+        at(61_000, 1, Act::Connects(1)),
+        at(61_000, 1, CONTACT),
+    ];
+    let wanted = "\
+1970-01-01T00:00:01Z ACME a1: connected from 10.0.0.0:5000
+60000 to 0: 1070
+1970-01-01T00:01:01Z ACME a1: failed: replaced by another connection
+1970-01-01T00:01:01Z ACME a1: connected from 10.0.0.1:5000
+61000 to 1: 1070
+";
+    play(&rt, rt.alloc(), TABLES, &acts, 61_500, wanted)
+}
+
+/// A peer in a session that is silent keeps its line until its tries are over, whoever waits.
+#[test]
+fn session_keeps_its_line(rt: HostRuntime) -> Result<(), Fail> {
     let acts = [
         at(1000, 0, Act::Connects(1)),
         at(1000, 0, CONTACT),
         at(1050, 0, SIGN_ON),
-        at(14_000, 1, Act::Connects(1)),
-        at(14_050, 1, CONTACT),
+        at(2000, 1, Act::Connects(1)),
+        at(2000, 1, CONTACT),
     ];
     let wanted = "\
 1970-01-01T00:00:01Z ACME a1: connected from 10.0.0.0:5000
@@ -159,9 +202,59 @@ fn another_takes_the_place_after_five_tries(rt: HostRuntime) -> Result<(), Fail>
 8550 to 0: 3d
 11050 to 0: 3d
 13550 to 0: 3d
+1970-01-01T00:00:16Z ACME a1: session down: no answer after five tries
+1970-01-01T00:00:16Z ACME a1: closed
+1970-01-01T00:00:16Z ACME a1: connected from 10.0.0.1:5000
+16050 to 1: 1070
+";
+    play(&rt, rt.alloc(), TABLES, &acts, 16_500, wanted)
+}
+
+/// Once its session has ended it keeps the line for ten seconds.
+#[test]
+fn ten_seconds_after_a_session(rt: HostRuntime) -> Result<(), Fail> {
+    let acts = [
+        at(1000, 0, Act::Connects(1)),
+        at(1000, 0, CONTACT),
+        at(1050, 0, SIGN_ON),
+        at(2000, 1, Act::Connects(1)),
+        at(2000, 1, CONTACT),
+        at(3000, 0, Act::Sends(b"\x37")),
+        at(8000, 0, Act::Sends(b"\x37")),
+    ];
+    let wanted = "\
+1970-01-01T00:00:01Z ACME a1: connected from 10.0.0.0:5000
+1000 to 0: 1070
+1050 to 0: 1002a08fcff0d129c2e4d9c5c1e4404001000000000000040040404040404040404040404040404040\
+0000000000001026
+1970-01-01T00:00:01Z ACME a1: session up with LYON
+1970-01-01T00:00:03Z ACME a1: session down: the peer ended it
+1970-01-01T00:00:13Z ACME a1: failed: replaced by another connection
+1970-01-01T00:00:13Z ACME a1: connected from 10.0.0.1:5000
+13000 to 1: 1070
+";
+    play(&rt, rt.alloc(), TABLES, &acts, 13_500, wanted)
+}
+
+/// Who takes the place of a peer that was asked five times and is not yet given up keeps it.
+#[test]
+fn another_takes_the_place_after_five_tries(rt: HostRuntime) -> Result<(), Fail> {
+    let acts = [
+        at(1000, 0, Act::Connects(1)),
+        at(1000, 0, CONTACT),
+        at(14_000, 1, Act::Connects(1)),
+        at(14_050, 1, CONTACT),
+    ];
+    let wanted = "\
+1970-01-01T00:00:01Z ACME a1: connected from 10.0.0.0:5000
+1000 to 0: 1070
+3500 to 0: 3d
+6000 to 0: 3d
+8500 to 0: 3d
+11000 to 0: 3d
+13500 to 0: 3d
 1970-01-01T00:00:14Z ACME a1: failed: replaced by another connection
 1970-01-01T00:00:14Z ACME a1: connected from 10.0.0.1:5000
-1970-01-01T00:00:14Z ACME a1: session down: the peer ended it
 14050 to 1: 1070
 ";
     play(&rt, rt.alloc(), TABLES, &acts, 14_500, wanted)
