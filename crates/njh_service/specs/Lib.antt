@@ -5,6 +5,7 @@ pub mod Endpoints
 pub mod Giving
 pub mod Handles
 pub mod Logging
+pub mod News
 pub mod Opened
 pub mod Prompting
 pub mod Revisions

@@ -1,4 +1,4 @@
--- When a line is in a session, and what is told of a session's end.
+-- When a line is in a session, and how a session ended.
 use Rattle.std.specs.Prelude.{ℕ, zero, suc, ◌-◌, Bool, true, false, ◌&&◌, ◌==◌, nat_lt, if◌then◌else◌}
 use Rattle.std.specs.Prelude.{Option, Some, None, ◌≡◌, ◌⊎◌, List, [], IsSome, IsTrue}
 use Rattle.njh_line.specs.declared.Phase.{Phase}
@@ -9,8 +9,9 @@ use Rattle.njh_wire.specs.Standing.{Standing}
 use Rattle.njh_hub.specs.declared.session_view.SessionView.{SessionView}
 use Rattle.njh_service.specs.Connecting.{IsConnected, moment_behind}
 use Rattle.njh_service.specs.declared.post.Label.{Label}
-use Rattle.njh_service.specs.declared.entry.LogEvent.{LogEvent}
-use Rattle.njh_service.specs.declared.entry.LogEvent.TheVariants as events
+use Rattle.njh_service.specs.News.{with_change}
+use Rattle.njh_service.specs.declared.entry.SessionChange.{SessionChange}
+use Rattle.njh_service.specs.declared.entry.SessionChange.TheVariants as changes
 use Rattle.njh_service.specs.declared.entry.SessionEnd.{SessionEnd}
 use Rattle.njh_service.specs.declared.entry.SessionEnd.TheVariants as why
 use Rattle.njh_service.specs.declared.last_frame.LastFrame.{LastFrame}
@@ -43,20 +44,28 @@ no_session_since since true false now = now
 no_session_since since true true now = since
 no_session_since since false is_up now = since
 
--- what is kept of a line once its session was seen so
-abbrev pub after_session : Label → SessionView → (now : ℕ) → Label
-after_session label session now = record label {
+-- what is to be told of a session that was up or wasn't, and is now
+abbrev pub session_change : (was_up is_up : Bool) → (node : List ℕ) → SessionEnd → Option SessionChange
+session_change false true node end = Some (changes.Up node)
+session_change true false node end = Some (changes.Down end)
+session_change false false node end = None
+session_change true true node end = None
+
+-- what is kept of a line once its session was seen so; if that is down, it ended so
+abbrev pub after_session : Label → SessionView → SessionEnd → (now : ℕ) → Label
+after_session label session end now = record label {
   in_session = is_session session.phase;
   tries_since = tries_since label.tries_since session.tries now;
   no_session_since = no_session_since label.no_session_since label.up (is_up session.phase) now;
   up = is_up session.phase;
+  news = with_change (session_change label.up (is_up session.phase) label.node end) label.news;
 }
 
 -- when its listener is looked at then
 abbrev pub moment_seen : Label → SessionView → (now moment : ℕ) → ℕ
 moment_seen label session now moment =
-    let seen = after_session label session now in
-    moment_behind label.up seen.up seen.no_session_since moment
+    let since = no_session_since label.no_session_since label.up (is_up session.phase) now in
+    moment_behind label.up (is_up session.phase) since moment
 
 -- ---- why it ended
 
@@ -88,10 +97,3 @@ abbrev pub session_end : (gave_up : Option SessionEnd) → (is_lost : Bool) → 
 session_end (Some tries) is_lost = tries
 session_end None true = why.Lost
 session_end None false = why.ByPeer
-
--- what is told of a session that was up or wasn't, and is now
-abbrev pub session_event : (was_up is_up : Bool) → (node : List ℕ) → SessionEnd → Option LogEvent
-session_event false true node end = Some (events.SessionUp node)
-session_event true false node end = Some (events.SessionDown end)
-session_event false false node end = None
-session_event true true node end = None

@@ -6,6 +6,7 @@ ghost use Rattle.njh_hub.specs.Views.{HasGivenUp};
 ghost use Rattle.njh_hub.specs.WholeHub.{HasLine};
 ghost use Rattle.njh_wire.specs.Standing.{due};
 ghost use Rattle.njh_service.specs.Attention.{again_at, first_of, stalled_at, IsDue, IsMarked};
+ghost use Rattle.njh_service.specs.News.{news_moment, IsTold};
 ghost use Rattle.njh_service.specs.Sessions.{IsReady};
 
 use crate::attention::{NOTHING, Watch, is_marked};
@@ -127,21 +128,45 @@ impl<N: Network + Drop, L: Write + Drop> Desk<N, L> {
         ensures counts { wire.old.failures ≤ wire.new.failures }
         ensures place { wire.new.place ≡ wire.old.place }
         ensures line { post.new.line ≡ post.old.line }
+        ensures told { IsTold post.new.label.news self.old.now }
+        ensures tells { result ≤ news_moment post.new.label.news }
         ensures kept { ¬ HasGivenUp hub.now post.old.line → wire.new.connection ≡ wire.old.connection }
         ensures quiet { HasLine hub.now post.old.line → wire.new.quiet ≡ quiet_on post.old.line hub.now }
     {
-        let begun = wire.begun();
-        if begun != post.traffic.seen.begun
-            || begun == self.now
-            || (post.linked && !wire.is_connected())
-        {
-            self.look(post, hub, wire);
-            post.linked = wire.is_connected() || wire.is_ready();
-        }
+        let now = self.now;
+        self.visit(post, hub, wire);
         set_quiet(post.line, hub, wire);
         self.note(post.line, &mut post.traffic, sight_of(post.line, hub, wire));
-        let soon = post.traffic.soon(self.now);
-        next_look(wire, post.moment, soon, self.now)
+        let soon = post.traffic.soon(now);
+        let moment = next_look(wire, post.moment, soon, now);
+        moment.min(post.label.news.moment())
+    }
+
+    /// Looks at a line, if something came, or the line was quiet or prompted. Else tells only what
+    /// of its sessions waited to be told.
+    fn visit(
+        &mut self,
+        post: &mut Post<N::Listener, N::Connection>,
+        hub: &Hub,
+        wire: &mut LineWire<N::Connection>,
+    )
+        ensures counts { wire.old.failures ≤ wire.new.failures }
+        ensures place { wire.new.place ≡ wire.old.place }
+        ensures line { post.new.line ≡ post.old.line }
+        ensures told { IsTold post.new.label.news self.old.now }
+        ensures kept { ¬ HasGivenUp hub.now post.old.line → wire.new.connection ≡ wire.old.connection }
+    {
+        let now = self.now;
+        let begun = wire.begun();
+        if begun == post.traffic.seen.begun
+            && begun != now
+            && (!post.linked || wire.is_connected())
+        {
+            self.tell_sessions(&mut post.label, now);
+            return;
+        }
+        self.look(post, hub, wire);
+        post.linked = wire.is_connected() || wire.is_ready();
     }
 
     /// Notes how a line is at the end of its turn, and of its customer whether a line may have

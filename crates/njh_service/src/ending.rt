@@ -1,10 +1,10 @@
 //! When a line is in a session, and what is told of a session's end.
 
 ghost use Rattle.std.specs.Prelude.{◌≡◌};
-ghost use Rattle.njh_service.specs.Sessions.{is_session, is_up, no_session_since, session_end, session_event, tries_end};
+ghost use Rattle.njh_service.specs.Sessions.{is_session, is_up, no_session_since, session_change, session_end, tries_end};
 ghost use Rattle.njh_service.specs.Sessions.{tries_since};
 
-use crate::entry::{LogEvent, SessionEnd};
+use crate::entry::{SessionChange, SessionEnd};
 use crate::last_frame::LastFrame;
 use njh_ebcdic::Name;
 use njh_line::Phase;
@@ -77,21 +77,22 @@ pub(crate) fn session_end(gave_up: Option<SessionEnd>, is_lost: bool) -> Session
     }
 }
 
-/// What is told of a session with this node that was up or wasn't, and is now.
-pub(crate) fn session_event(
+/// The change of a session with this node that was up or wasn't, and is now; if it is down, it ended
+/// so.
+pub(crate) fn session_change(
     was_up: bool,
     is_up: bool,
     node: Name,
     end: SessionEnd,
-) -> Option<LogEvent>
-    ensures { result ≡ session_event was_up is_up node end }
+) -> Option<SessionChange>
+    ensures { result ≡ session_change was_up is_up node end }
 {
     if is_up == was_up {
         return None;
     }
     Some(if is_up {
-        LogEvent::SessionUp(node)
+        SessionChange::Up(node)
     } else {
-        LogEvent::SessionDown(end)
+        SessionChange::Down(end)
     })
 }

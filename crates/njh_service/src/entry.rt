@@ -46,10 +46,10 @@ pub enum LogEvent {
     DialFailed(SocketAddr),
     /// A connection that waits could not be taken.
     AcceptFailed,
-    /// The session is up with this node.
-    SessionUp(Name),
-    /// The session is down.
-    SessionDown(SessionEnd),
+    /// The session went up or down.
+    SessionChanged(SessionChange),
+    /// It did both, so many times in all, and this was the last.
+    SessionsChanged(SessionChange, u64),
     /// A file came whole, and waits.
     FileIn(FileLine),
     /// A file came whole, and is held.
@@ -82,6 +82,15 @@ pub enum ConnectionFailure {
     Stalled,
     /// Another connection took its place.
     Replaced,
+}
+
+/// A change of a line's session.
+#[derive(Clone, Copy, Drop)]
+pub enum SessionChange {
+    /// It is up with this node.
+    Up(Name),
+    /// It is down.
+    Down(SessionEnd),
 }
 
 /// Why a session is down.
@@ -136,8 +145,10 @@ impl fmt::Display for LogEvent {
             LogEvent::Failed(failure) => write!(f, "failed: {failure}"),
             LogEvent::DialFailed(address) => write!(f, "no connection to {address}"),
             LogEvent::AcceptFailed => write!(f, "a connection could not be taken"),
-            LogEvent::SessionUp(node) => write!(f, "session up with {node}"),
-            LogEvent::SessionDown(end) => write!(f, "session down: {end}"),
+            LogEvent::SessionChanged(change) => write!(f, "{change}"),
+            LogEvent::SessionsChanged(change, count) => {
+                write!(f, "{change}, the last of {count} changes")
+            }
             LogEvent::FileIn(file) => write!(f, "file in: {file}"),
             LogEvent::FileHeld(file) => write!(f, "file held: {file}"),
             LogEvent::FileOut(file) => write!(f, "file out: {file}"),
@@ -168,6 +179,15 @@ impl fmt::Display for ConnectionFailure {
             ConnectionFailure::Stalled => "the peer did not take its bytes within a second",
             ConnectionFailure::Replaced => "replaced by another connection",
         })
+    }
+}
+
+impl fmt::Display for SessionChange {
+    fn fmt<W: fmt::Write>(&self, f: &mut fmt::Formatter<W>) -> fmt::Result {
+        match self {
+            SessionChange::Up(node) => write!(f, "session up with {node}"),
+            SessionChange::Down(end) => write!(f, "session down: {end}"),
+        }
     }
 }
 

@@ -20,6 +20,7 @@ mod last_frame;
 mod line_text;
 mod log;
 mod moment;
+mod news;
 mod notice_line;
 mod open_lines;
 mod opening;
@@ -39,7 +40,9 @@ mod traffic;
 pub use customer_routes::routes_of;
 pub use difference::{CustomerKey, Difference, LineKey, difference_of};
 pub use endpoints::{Endpoint, endpoints_of};
-pub use entry::{ConnectionFailure, FileLine, LogEntry, LogEvent, Place, SessionEnd};
+pub use entry::{
+    ConnectionFailure, FileLine, LogEntry, LogEvent, Place, SessionChange, SessionEnd,
+};
 pub use exchange::Exchange;
 pub use fault::ServeFault;
 pub use handles::handles_needed;

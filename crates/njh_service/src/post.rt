@@ -6,7 +6,9 @@ ghost use Rattle.njh_service.specs.Sessions.{after_session, moment_seen};
 
 use crate::connecting::kept_until;
 use crate::dial::Dial;
-use crate::ending::{is_session, is_up, no_session_since, tries_since};
+use crate::ending::{is_session, is_up, no_session_since, session_change, tries_since};
+use crate::entry::SessionEnd;
+use crate::news::News;
 use crate::site::Site;
 use crate::streams::Streams;
 use crate::traffic::Traffic;
@@ -43,6 +45,8 @@ pub(crate) struct Label {
     pub(crate) node: Name,
     /// Whether its session was up.
     pub(crate) up: bool,
+    /// What of its sessions isn't told yet.
+    pub(crate) news: News,
     /// Since when its connection is without a session that is up, on the service's clock: since it
     /// came, or since its session ended.
     pub(crate) no_session_since: u64,
@@ -65,6 +69,7 @@ impl Label {
             line,
             node: names.node,
             up: false,
+            news: News::none(),
             no_session_since: 0,
             in_session: false,
             tries_since: None,
@@ -74,11 +79,12 @@ impl Label {
         }
     }
 
-    /// Its session was seen so.
-    pub(crate) fn see(&mut self, session: SessionView, now: u64)
-        ensures { self.new ≡ after_session self.old session now }
+    /// Its session was seen so; if it is down, it ended so.
+    pub(crate) fn see(&mut self, session: SessionView, end: SessionEnd, now: u64)
+        ensures { self.new ≡ after_session self.old session end now }
     {
         let is_up = is_up(session.phase);
+        self.news.add(session_change(self.up, is_up, self.node, end));
         self.in_session = is_session(session.phase);
         self.tries_since = tries_since(self.tries_since, session.tries, now);
         self.no_session_since = no_session_since(self.no_session_since, self.up, is_up, now);
@@ -122,16 +128,16 @@ impl<Li: Drop, C: Drop> Post<Li, C> {
         }
     }
 
-    /// Its session was seen so. If it ended, the site is looked at ten seconds later, if not before:
-    /// another connection may wait there.
-    pub(crate) fn see(&mut self, session: SessionView, now: u64)
+    /// Its session was seen so; if it is down, it ended so. If it was up before, the site is looked
+    /// at ten seconds later, if not before: another connection may wait there.
+    pub(crate) fn see(&mut self, session: SessionView, end: SessionEnd, now: u64)
         ensures { self.new ≡ record self.old {
-          label = after_session self.old.label session now;
+          label = after_session self.old.label session end now;
           moment = moment_seen self.old.label session now self.old.moment;
         } }
     {
         let was_up = self.label.up;
-        self.label.see(session, now);
+        self.label.see(session, end, now);
         if was_up {
             let until = kept_until(self.label.up, self.label.no_session_since);
             self.moment = self.moment.min(until);

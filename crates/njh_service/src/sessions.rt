@@ -6,12 +6,13 @@ ghost use Rattle.njh_hub.specs.Views.{HasGivenUp, hub_line, line_view};
 ghost use Rattle.njh_hub.specs.WholeHub.{HasLine};
 ghost use Rattle.njh_wire.specs.Standing.{after_close};
 ghost use Rattle.njh_service.specs.Connecting.{silence_of, IsConnected};
-ghost use Rattle.njh_service.specs.Prompting.{HasSeen};
 ghost use Rattle.njh_service.specs.Dialling.{moment_of_loss};
+ghost use Rattle.njh_service.specs.News.{after_telling, IsTold};
+ghost use Rattle.njh_service.specs.Prompting.{HasSeen};
 ghost use Rattle.njh_service.specs.Sessions.{moment_seen, tries_end, IsInSession, IsReady};
 
 use crate::desk::Desk;
-use crate::ending::{session_end, session_event, tries_end};
+use crate::ending::{session_end, tries_end};
 use crate::entry::SessionEnd;
 use crate::post::{Label, Post};
 use crate::traffic::Sight;
@@ -46,18 +47,18 @@ impl<N: Network + Drop, L: Write + Drop> Desk<N, L> {
             let session = line_view (hub_line post.old.line hub.now).state in
             let moment = moment_seen post.old.label session self.old.now post.old.moment in
             (post.new.moment ≡ moment) ⊎ (post.new.moment ≡ moment_of_loss post.old.site moment self.old.now) }
+        ensures told { IsTold post.new.label.news self.old.now }
         ensures kept { ¬ HasGivenUp hub.now post.old.line → wire.new.connection ≡ wire.old.connection }
         ensures ended { IsInSession post.old.label.in_session wire.old → HasGivenUp hub.now post.old.line →
             ¬ IsConnected wire.new }
     {
         let now = self.now;
-        let was_up = post.label.up;
         let gave_up = self.end_tries(post.line, &post.label, hub, wire);
         let end = heard_end(wire, gave_up.is_some());
         let session_end = session_end(gave_up, end.is_some() || post.label.lost);
-        post.see(session_of(hub, post.line), now);
+        post.see(session_of(hub, post.line), session_end, now);
         self.tell_files(post.line, &post.label, &mut post.streams, hub);
-        self.tell_session(&post.label, was_up, session_end);
+        self.tell_sessions(&mut post.label, now);
         if let Some(end) = end {
             self.tell_end(&mut post.label, end);
             post.label.lost = true;
@@ -91,9 +92,12 @@ impl<N: Network + Drop, L: Write + Drop> Desk<N, L> {
         }
     }
 
-    /// Tells of a session that was up or wasn't, if that changed.
-    fn tell_session(&mut self, label: &Label, was_up: bool, end: SessionEnd) {
-        match session_event(was_up, label.up, label.node, end) {
+    /// Tells of a line's sessions what is to be told now, if anything is.
+    pub(crate) fn tell_sessions(&mut self, label: &mut Label, now: u64)
+        ensures told { label.new ≡ record label.old { news = after_telling label.old.news now } }
+        ensures now { self.new.now ≡ self.old.now }
+    {
+        match label.news.take(now) {
             Some(event) => self.tell(label, event),
             None => {}
         }

@@ -36,4 +36,6 @@ mod prompting_tests;
 #[cfg(test)]
 mod serving;
 #[cfg(test)]
+mod session_tests;
+#[cfg(test)]
 mod world;

@@ -28,14 +28,14 @@ line = [{ name = "b1", node = "LYON", role = "answer", block = 1024, streams = 4
 pub const CONTACT: Act = Act::Sends(b"\x01\x2d");
 
 /// LYON signs on.
-const SIGN_ON: Act = Act::Sends(
+pub const SIGN_ON: Act = Act::Sends(
     b"\x10\x02\xa0\x8f\xcf\xf0\xc9\x29\xd3\xe8\xd6\xd5\x40\x40\x40\x40\x01\x00\x00\x00\x00\x00\
     \x00\x04\x00\x40\x40\x40\x40\x40\x40\x40\x40\x40\x40\x40\x40\x40\x40\x40\x40\x00\x00\x00\x00\x00\
     \x00\x10\x26",
 );
 
 /// The hub's J block, as it goes out to peer 0.
-const RESPONSE: &str =
+pub const RESPONSE: &str =
     " to 0: 1002a08fcff0d129c2e4d9c5c1e44040010000000000000400404040404040404040404040404040400000000\
 000001026\n";
 
@@ -293,7 +293,8 @@ fn peer_that_stalls(rt: HostRuntime) -> Result<(), Fail> {
     play(&rt, rt.alloc(), TABLES, &acts, 2300, wanted)
 }
 
-/// A peer that sends no more gets the answers to all that came before; then the line is lost.
+/// A peer that sends no more gets the answers to all that came before; then the line is lost. That
+/// its session is down is told a second after it went up.
 #[test]
 fn peer_that_sends_no_more(rt: HostRuntime) -> Result<(), Fail> {
     let acts = [
@@ -307,10 +308,10 @@ fn peer_that_sends_no_more(rt: HostRuntime) -> Result<(), Fail> {
 00000000000010261002808fcf9a80c82077000ed3e8d6d584c500c1d5d5c184c6c2e4d9c5c1e482cf00d5d1c8f0f0f2\
 40f040c6c9d3c5e200001026
 1970-01-01T00:00:01Z ACME a1: session up with LYON
-1970-01-01T00:00:01Z ACME a1: session down: the line was lost
 1970-01-01T00:00:01Z ACME a1: closed
+1970-01-01T00:00:02Z ACME a1: session down: the line was lost
 ";
-    play(&rt, rt.alloc(), TABLES, &acts, 1500, wanted)
+    play(&rt, rt.alloc(), TABLES, &acts, 2500, wanted)
 }
 
 /// A reset in the middle of a frame is a failure of its own line, which then takes the next peer.
@@ -342,10 +343,10 @@ fn answer_that_fails(rt: HostRuntime) -> Result<(), Fail> {
         at(1000, 0, Act::Connects(1)),
         at(1000, 0, CONTACT),
         at(1050, 0, SIGN_ON),
-        at(1100, 0, Act::Deafens),
-        at(1200, 0, LIST),
-        at(2500, 1, Act::Connects(1)),
-        at(2500, 1, CONTACT),
+        at(2100, 0, Act::Deafens),
+        at(2200, 0, LIST),
+        at(3500, 1, Act::Connects(1)),
+        at(3500, 1, CONTACT),
     ];
     let wanted = "\
 1970-01-01T00:00:01Z ACME a1: connected from 10.0.0.0:5000
@@ -353,12 +354,12 @@ fn answer_that_fails(rt: HostRuntime) -> Result<(), Fail> {
 1050 to 0: 1002a08fcff0d129c2e4d9c5c1e4404001000000000000040040404040404040404040404040404040\
 0000000000001026
 1970-01-01T00:00:01Z ACME a1: session up with LYON
-1970-01-01T00:00:01Z ACME a1: session down: the line was lost
-1970-01-01T00:00:01Z ACME a1: failed: a read or a write failed
-1970-01-01T00:00:02Z ACME a1: connected from 10.0.0.1:5000
-2500 to 1: 1070
+1970-01-01T00:00:02Z ACME a1: session down: the line was lost
+1970-01-01T00:00:02Z ACME a1: failed: a read or a write failed
+1970-01-01T00:00:03Z ACME a1: connected from 10.0.0.1:5000
+3500 to 1: 1070
 ";
-    play(&rt, rt.alloc(), TABLES, &acts, 2700, wanted)
+    play(&rt, rt.alloc(), TABLES, &acts, 3700, wanted)
 }
 
 /// A silent line that was only contacted has its ticks two and a half seconds apart, whatever comes
