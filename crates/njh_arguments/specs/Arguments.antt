@@ -36,7 +36,7 @@ abbrev pub replay_app : App
 replay_app = with_rule (with_rule (new_app (codes "replay")) tables_rule) (flag_rule (codes "decode"))
 
 -- the options of `serve`: a table file, which it must have, a number of turns, an address, which is this machine's own
--- if none is given, and the flag `--quiet`
+-- if none is given, and the flags `--strict` and `--quiet`
 abbrev pub wanted_tables_rule : Rule
 wanted_tables_rule = record tables_rule { required = true }
 
@@ -59,8 +59,11 @@ listen_rule = record (new_rule (codes "listen")) {
 abbrev pub bounded_serve_app : App
 bounded_serve_app = with_rule (with_rule (new_app (codes "serve")) wanted_tables_rule) turns_rule
 
+abbrev pub addressed_app : App
+addressed_app = with_rule (with_rule bounded_serve_app listen_rule) (flag_rule (codes "strict"))
+
 abbrev pub listening_app : App
-listening_app = with_rule (with_rule bounded_serve_app listen_rule) (flag_rule (codes "quiet"))
+listening_app = with_rule addressed_app (flag_rule (codes "quiet"))
 
 -- the option `--spool FILE`
 abbrev pub spool_rule : Rule
@@ -201,9 +204,9 @@ AsksForTask named (CheckScript tables file) = (named.0 ≡ codes "check")
     × (first_of (codes "tables") named.1 ≡ option_map (λ s. s.now) tables)
     × (first_of (codes "script") named.1 ≡ Some file.now)
 
--- What they ask for: such a task; to serve the tables of this file, for so many turns, at that address, with a log or
--- without, and with a spool file or without; to print of a spool file the files or a file's records; or to copy whole
--- files of a spool file into another.
+-- What they ask for: such a task; to serve the tables of this file, for so many turns, at that address, on all ports or
+-- on those that can be listened on, with a log or without, and with a spool file or without; to print of a spool file
+-- the files or a file's records; or to copy whole files of a spool file into another.
 abbrev pub AsksFor : Text × List Row → Request → Type 0
 AsksFor named (request.Task task) = AsksForTask named task
 AsksFor named (Files spool customer file number raw) = (named.0 ≡ codes "files")
@@ -217,10 +220,11 @@ AsksFor named (Copy spool customer into is_new) = (named.0 ≡ codes "files")
     × (first_of (codes "spool") named.1 ≡ Some spool.now)
     × (first_of (codes "customer") named.1 ≡ option_map (λ s. s.now) customer)
     × IsTarget named.1 into.now is_new
-AsksFor named (Serve tables turns listen quiet spool) = (named.0 ≡ codes "serve")
+AsksFor named (Serve tables turns listen strict quiet spool) = (named.0 ≡ codes "serve")
     × (first_of (codes "tables") named.1 ≡ Some tables.now)
     × SpellsNumber (first_of (codes "turns") named.1) turns
     × ListensAt (first_of (codes "listen") named.1) listen
+    × IsFlag (codes "strict") named.1 strict
     × IsFlag (codes "quiet") named.1 quiet
     × (first_of (codes "spool") named.1 ≡ option_map (λ s. s.now) spool)
 

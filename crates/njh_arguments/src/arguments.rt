@@ -35,6 +35,8 @@ pub enum Request<'a> {
         turns: Option<u32>,
         /// Where lines listen.
         listen: IpAddr,
+        /// Only if each port can be listened on.
+        strict: bool,
         /// Without a log.
         quiet: bool,
         /// The spool file that keeps whole files, if there is one.

@@ -3,7 +3,7 @@
 ghost use Rattle.std.specs.Prelude.{◌≡◌, codes, false, IfOk, IfErr};
 ghost use Rattle.clap.specs.Words.{app_of, first_of, found_of, new_app, rows_of, rule_of};
 ghost use Rattle.clap.specs.declared.builder.command.Command.TheViews.{out-Command};
-ghost use Rattle.njh_arguments.specs.Arguments.{AsksFor, IsUnasked, ListensAt, bounded_serve_app};
+ghost use Rattle.njh_arguments.specs.Arguments.{AsksFor, IsUnasked, ListensAt, addressed_app, bounded_serve_app};
 ghost use Rattle.njh_arguments.specs.Arguments.{listen_rule, listening_app, serve_app, turns_rule};
 
 use crate::arguments::Request;
@@ -51,6 +51,7 @@ pub(crate) fn served_in<'a>(options: &ArgMatches<'a>) -> Result<Request<'a>, Una
         tables,
         turns,
         listen,
+        strict: is_set(options, "strict"),
         quiet: is_set(options, "quiet"),
         spool: options.get_str("spool"),
     })
@@ -83,13 +84,27 @@ pub(crate) fn serve_command<'a>(alloc: Global) -> Result<Command<'a>, AllocError
     with_option(listening_command(alloc), spool)
 }
 
-/// `serve`, with its tables, turns, address and quiet.
+/// `serve`, with its tables, turns, address, strict and quiet.
 fn listening_command<'a>(alloc: Global) -> Result<Command<'a>, AllocError>
     ensures app { IfOk result (λ command. app_of command ≡ listening_app) }
     ensures local { IfOk result (λ command. (out-Command command).has_globals ≡ false) }
 {
+    let quiet = flag(alloc, "quiet", "No log on standard error");
+    with_option(addressed_command(alloc), quiet)
+}
+
+/// `serve`, with its tables, turns, address and strict.
+fn addressed_command<'a>(alloc: Global) -> Result<Command<'a>, AllocError>
+    ensures app { IfOk result (λ command. app_of command ≡ addressed_app) }
+    ensures local { IfOk result (λ command. (out-Command command).has_globals ≡ false) }
+{
     let listening = with_option(bounded_command(alloc), listen_option(alloc));
-    with_option(listening, flag(alloc, "quiet", "No log on standard error"))
+    let strict = flag(
+        alloc,
+        "strict",
+        "Doesn't start if a port can't be listened on, which else is tried again each ten seconds",
+    );
+    with_option(listening, strict)
 }
 
 /// `serve`, with its tables and turns.

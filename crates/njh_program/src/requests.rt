@@ -15,7 +15,7 @@ use crate::service::{Options, serve_file};
 use crate::spooling::Spooling;
 use njh_arguments::Request;
 use njh_listing::{Asked, Move};
-use njh_service::Log;
+use njh_service::{Listening, Log};
 use njh_subcommands::{Failure, perform};
 use std::io::{Read, Write};
 use std::net::Net;
@@ -78,11 +78,16 @@ pub(crate) fn carry_out_request<
             tables,
             turns,
             listen,
+            strict,
             quiet,
             spool,
         } => {
             let log = Log::new(if quiet { None } else { Some(log) });
-            return serve_lines(rt, tables, spool, Options { turns, listen }, log);
+            let listening = Listening {
+                address: listen,
+                strict,
+            };
+            return serve_lines(rt, tables, spool, Options { turns, listening }, log);
         }
     }
 }

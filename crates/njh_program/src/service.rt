@@ -9,7 +9,7 @@ ghost use Rattle.njh_table.specs.TableFile.{TableFile};
 use crate::handles::refuse_few;
 use crate::start_log::log_failure;
 use crate::table_source::TableFileSource;
-use njh_service::{Exchange, Log, Revision, ServeFault, TableSource, serve};
+use njh_service::{Exchange, Listening, Log, Revision, ServeFault, TableSource, serve};
 use njh_sockets::{MioNetwork, utc_seconds};
 use njh_subcommands::{Failure, tables_twice};
 use njh_table::Tables;
@@ -17,7 +17,7 @@ use njh_turns::{Depot, KeepsNothing};
 use njh_wire::Network;
 use std::alloc::Global;
 use std::io::Write;
-use std::net::{IpAddr, Net};
+use std::net::Net;
 use std::rt::{Clock, Files};
 
 /// How lines are served.
@@ -25,8 +25,8 @@ use std::rt::{Clock, Files};
 pub struct Options {
     /// For how many turns, if they end.
     pub turns: Option<u32>,
-    /// Where they listen.
-    pub listen: IpAddr,
+    /// How those with a port listen.
+    pub listening: Listening,
 }
 
 /// Serves the lines of a table file. No file is kept. If the table file can't be read, or its lines
@@ -158,8 +158,8 @@ fn serve_tables<N: Network + Drop, L: Write + Drop, S: TableSource + Drop, D: De
     ensures served { OnOk result.0 (AreServedFrom D.opens D.says depot result.1 tables options.turns) }
     ensures refused { IfErr result.0 IsOfDevices }
 {
-    let Options { turns, listen } = options;
-    match serve(alloc, depot, tables, exchange, listen, turns) {
+    let Options { turns, listening } = options;
+    match serve(alloc, depot, tables, exchange, listening, turns) {
         (Ok(()), depot, log) => (Ok(()), depot, log),
         (Err(fault), depot, log) => (Err(failure_of(fault)), depot, log),
     }

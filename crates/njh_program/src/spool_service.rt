@@ -102,8 +102,8 @@ fn serve_marked<F: Files + Net + Clock + AllocGlobal, L: Write + Drop, S: Origin
     }
 }
 
-/// Serves the lines of a table file, and keeps whole files in this spool file, which is open. If the
-/// spool file fails, the log says why.
+/// Serves the lines of a table file, and keeps whole files in this spool file, which is open. If it
+/// fails, the log says why.
 fn serve_kept<F: Files + Net + Clock + AllocGlobal, L: Write + Drop, S: Origin + Drop>(
     rt: &F,
     path: &str,

@@ -25,6 +25,12 @@ apart_more es n d within apart free =
     (none_passes (is_same_port e) (take n es) free))
 
 -- what a function gives of one item more
-pub map_more : {X Y : Type 0} (f : X → Y) (xs : List X) (n : ℕ) (d : X) → n < length xs
+map_more : {X Y : Type 0} (f : X → Y) (xs : List X) (n : ℕ) (d : X) → n < length xs
     → map f (take (n + 1) xs) ≡ map f (take n xs) ++ f (get_or xs n d) ∷ []
 map_more f xs n d within = ap (map f) (take_more xs n d within) ∙ map-append f (take n xs) (get_or xs n d ∷ [])
+
+-- what was made of the items so far, and of one more
+pub made_more : {X Y : Type 0} (f : X → Y) (xs : List X) (n : ℕ) (d : X) (so_far made : List Y) → n < length xs
+    → so_far ≡ map f (take n xs) → made ≡ so_far ++ f (get_or xs n d) ∷ [] → made ≡ map f (take (n + 1) xs)
+made_more {X} {Y} f xs n d so_far made within is one =
+    one ∙ (ap (λ (ys : List Y). ys ++ f (get_or xs n d) ∷ []) is ∙ sym (map_more f xs n d within))

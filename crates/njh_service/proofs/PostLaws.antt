@@ -2,7 +2,7 @@
 use Rattle.std.proofs.Common.{◌≡◌, ℕ, ◌<◌, List, length, map, set, get_or, Some, sym, ap, subst, ◌∙◌, arith}
 use Rattle.std.specs.Prelude.{slice_get}
 use Rattle.std.proofs.lemmas.List.{length-map}
-use Rattle.std.proofs.lemmas.Option.{slice_get-get_or, same_Some}
+use Rattle.std.proofs.lemmas.Option.{slice_get-get_or, slice_get_within, same_Some}
 use Rattle.std.proofs.Math.ListN.{get_or-map}
 use Rattle.std.proofs.Math.Seq.{map-set_same}
 
@@ -25,3 +25,11 @@ line_there {P} {L} line_of posts lines place post line seen there read found =
     same_Some line (get_or (map line_of posts) place (line_of post))
     (sym mapped ∙ slice_get-get_or (map line_of posts) place (line_of post) within)
     ∙ (get_or-map line_of posts place post ∙ sym (ap line_of read))
+
+-- where there is a line there is a post
+pub post_there : {P L : Type 0} (line_of : P → L) (posts : List P) (lines : List L) (place : ℕ) (line : L)
+    → map line_of posts ≡ lines → slice_get lines place ≡ Some line → place < length posts
+post_there line_of posts lines place line seen found =
+    let there : place < length lines = slice_get_within lines place line found in
+    let many : length lines ≡ length posts = ap length (sym seen) ∙ length-map posts line_of in
+    omega (arith, there, many)

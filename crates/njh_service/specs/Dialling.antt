@@ -1,5 +1,5 @@
 -- When a line is dialled, and when a dial is given up.
-use Rattle.std.specs.Prelude.{ℕ, ◌+◌, ◌≤◌, Bool, true, false, min, if◌then◌else◌, Option, Some, None}
+use Rattle.std.specs.Prelude.{ℕ, ◌+◌, ◌≤◌, Bool, true, min, if◌then◌else◌, Option, Some, None}
 use Rattle.njh_service.specs.declared.dial.Dial.{Dial}
 use Rattle.njh_service.specs.declared.dial.State.{State}
 use Rattle.njh_service.specs.declared.site.Site.{Site}

@@ -1,6 +1,7 @@
 pub mod Attention
 pub mod Connecting
 pub mod Dialling
+pub mod Doors
 pub mod Endpoints
 pub mod Giving
 pub mod Handles

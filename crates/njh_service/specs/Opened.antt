@@ -4,6 +4,8 @@ use Rattle.std.specs.List.{list_any}
 use Rattle.std.specs.declared.net.ip_addr.IpAddr.{IpAddr}
 use Rattle.std.specs.declared.net.socket_addr.SocketAddr.{SocketAddr}
 use Rattle.std.specs.Net.Socket.{socket_ip, socket_port}
+use Rattle.njh_service.specs.Doors.{door_address}
+use Rattle.njh_service.specs.declared.door.Door.{Door}
 use Rattle.njh_service.specs.declared.endpoints.Endpoint.{Endpoint}
 use Rattle.njh_service.specs.declared.site.Site.{Site}
 use Rattle.njh_service.specs.declared.site.Site.TheVariants.{Listens, Dials}
@@ -13,10 +15,10 @@ abbrev pub site_on : IpAddr → Site ℕ SocketAddr → Site (IpAddr × ℕ) Soc
 site_on address (Listens port) = Listens (address, port)
 site_on address (Dials peer) = Dials peer
 
--- what a line has
-abbrev pub site_opened : {L : Type 0} → (L → SocketAddr) → Site L SocketAddr → Site (IpAddr × ℕ) SocketAddr
-site_opened address_of (Listens listener) =
-    Listens (socket_ip (address_of listener), socket_port (address_of listener))
+-- what a line has, whether its door is open or shut
+abbrev pub site_opened : {L : Type 0} → (L → SocketAddr) → Site (Door L) SocketAddr → Site (IpAddr × ℕ) SocketAddr
+site_opened address_of (Listens door) =
+    Listens (socket_ip (door_address address_of door), socket_port (door_address address_of door))
 site_opened address_of (Dials peer) = Dials peer
 
 -- two lines have the same port

@@ -102,9 +102,9 @@ impl<N: Network + Drop, L: Write + Drop> Desk<N, L> {
             wire.flush();
         }
         match &mut post.site {
-            Site::Listens(listener) => {
+            Site::Listens(door) => {
                 if mark.listener || post.moment <= self.now {
-                    post.moment = self.admit(listener, &mut post.label, wire);
+                    post.moment = self.keep_door(place, door, &mut post.label, wire);
                 }
             }
             Site::Dials(dial) => {

@@ -2,6 +2,7 @@
 
 use crate::last_frame::LastFrame;
 use crate::notice_line::NoticeLine;
+use crate::opening::ListenCause;
 use njh_block::Stream;
 use njh_ebcdic::{Name, text_of};
 use njh_header::{Destination, FileName, User};
@@ -38,6 +39,10 @@ pub enum LogEvent {
     ConnectedFrom(SocketAddr),
     /// The hub connected to this address.
     ConnectedTo(SocketAddr),
+    /// The port of this address can't be listened on, for this cause.
+    ListenFailed(SocketAddr, ListenCause),
+    /// The port of this address is listened on, which it couldn't be before.
+    Listening(SocketAddr),
     /// The peer ended the connection, or the hub did after the tries.
     Closed,
     /// The connection failed.
@@ -141,6 +146,11 @@ impl fmt::Display for LogEvent {
         match self {
             LogEvent::ConnectedFrom(address) => write!(f, "connected from {address}"),
             LogEvent::ConnectedTo(address) => write!(f, "connected to {address}"),
+            LogEvent::ListenFailed(address, cause) => write!(
+                f,
+                "can't listen on {address}: {cause}"
+            ),
+            LogEvent::Listening(address) => write!(f, "listens on {address}"),
             LogEvent::Closed => write!(f, "closed"),
             LogEvent::Failed(failure) => write!(f, "failed: {failure}"),
             LogEvent::DialFailed(address) => write!(f, "no connection to {address}"),

@@ -16,6 +16,7 @@ mod waking;
 use crate::attention::{AT_ONCE, NOTHING, Watch, is_any_marked, wait_of};
 use crate::customers::Customers;
 use crate::desk::Desk;
+use crate::door::Door;
 use crate::log::Log;
 use crate::post::{Label, LineNames, Post};
 use crate::revision::Revision;
@@ -108,7 +109,7 @@ impl<N: Network + Drop, L: Write + Drop, S: TableSource + Drop> Exchange<N, L, S
         &mut self,
         id: LineId,
         names: &LineNames<'_>,
-        site: Site<N::Listener, SocketAddr>,
+        site: Site<Door<N::Listener>, SocketAddr>,
     ) -> Result<(), AllocError>
         ensures added { OnOk result (self.new.lines ≡ self.old.lines ++ id ∷ []) }
         ensures watched { OnOk result (self.new.watches ≡ self.old.watches ++ at_once ∷ []) }

@@ -8,8 +8,8 @@ use thiserror::Error;
 /// Why lines weren't served, or not to the end.
 #[derive(Clone, Copy, Debug, PartialEq, Eq, Error)]
 pub enum ServeFault {
-    /// A port can't be listened on, or what is kept can't be read, and no wire was read; or files
-    /// couldn't be kept.
+    /// A port that has to be listened on can't be, two lines have one port, or what is kept can't be
+    /// read, and no wire was read; or files couldn't be kept.
     #[error("device")]
     Device,
     /// There was no memory, and no wire was read.

@@ -10,6 +10,7 @@ mod customers;
 mod desk;
 mod dial;
 mod difference;
+mod door;
 mod ending;
 mod endpoints;
 mod entry;
@@ -39,6 +40,7 @@ mod traffic;
 
 pub use customer_routes::routes_of;
 pub use difference::{CustomerKey, Difference, LineKey, difference_of};
+pub use door::Door;
 pub use endpoints::{Endpoint, endpoints_of};
 pub use entry::{
     ConnectionFailure, FileLine, LogEntry, LogEvent, Place, SessionChange, SessionEnd,
@@ -49,7 +51,7 @@ pub use handles::handles_needed;
 pub use last_frame::LastFrame;
 pub use log::Log;
 pub use notice_line::NoticeLine;
-pub use opening::{ListenCause, ListenFault, open};
+pub use opening::{ListenCause, ListenFault, Listening, open};
 pub use post::LineNames;
 pub use revision::{Revision, SourceOutcome};
 pub use service::Service;

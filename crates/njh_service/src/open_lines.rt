@@ -5,11 +5,12 @@ ghost use Rattle.njh_table.specs.TableFile.{HasLine};
 ghost use Rattle.njh_service.specs.Endpoints.{endpoints_of};
 ghost use Rattle.njh_service.specs.Opened.{IsApart};
 
+use crate::door::{Door, begin_event};
 use crate::endpoints::{Endpoint, endpoints_of};
 use crate::exchange::Exchange;
 use crate::fault::ServeFault;
-use crate::opening::{ListenCause, open};
-use crate::post::LineNames;
+use crate::opening::{ListenCause, Listening, open};
+use crate::post::{Label, LineNames};
 use crate::refusal::Refusal;
 use crate::site::Site;
 use crate::table_source::TableSource;
@@ -17,17 +18,17 @@ use njh_table::{LineId, Tables};
 use njh_wire::Network;
 use std::alloc::{AllocError, Global};
 use std::io::Write;
-use std::net::{IpAddr, SocketAddr};
+use std::net::SocketAddr;
 
 impl<N: Network + Drop, L: Write + Drop, S: TableSource + Drop> Exchange<N, L, S> {
     /// Opens the sockets of the lines of tables that have a port or a peer, and serves these lines.
     /// Answers them. If one can't be opened, or there is none and one is `needed`, the log says
-    /// why.
+    /// why. A port that can't be listened on and doesn't have to be is tried again.
     pub(crate) fn open_lines(
         &mut self,
         alloc: Global,
         tables: &Tables,
-        address: IpAddr,
+        listening: Listening,
         needed: bool,
     ) -> Result<Vec<Endpoint>, ServeFault>
         ensures all { IfOk result (λ endpoints. endpoints.items ≡ endpoints_of tables.now) }
@@ -40,7 +41,7 @@ impl<N: Network + Drop, L: Write + Drop, S: TableSource + Drop> Exchange<N, L, S
                 .write(&"no line of the tables has a port or a peer");
             return Err(ServeFault::Device);
         }
-        let sites = self.sites_on(alloc, tables, address, &endpoints)?;
+        let sites = self.sites_on(alloc, tables, listening, &endpoints)?;
         self.add_lines(tables, &endpoints, sites)?;
         Ok(endpoints)
     }
@@ -50,12 +51,13 @@ impl<N: Network + Drop, L: Write + Drop, S: TableSource + Drop> Exchange<N, L, S
         &mut self,
         alloc: Global,
         tables: &Tables,
-        address: IpAddr,
+        listening: Listening,
         endpoints: &[Endpoint],
-    ) -> Result<Vec<Site<N::Listener, SocketAddr>>, ServeFault>
+    ) -> Result<Vec<Site<Door<N::Listener>, SocketAddr>>, ServeFault>
         ensures { OnOk result (IsApart endpoints.now) }
     {
-        match open(alloc, &mut self.desk.network, address, endpoints) {
+        let now = self.desk.network.now();
+        match open(alloc, &mut self.desk.network, listening, now, endpoints) {
             Ok(sites) => Ok(sites),
             Err(fault) => {
                 self.desk.write(&Refusal::of(tables, endpoints, fault));
@@ -64,12 +66,13 @@ impl<N: Network + Drop, L: Write + Drop, S: TableSource + Drop> Exchange<N, L, S
         }
     }
 
-    /// Serves lines of tables, each at its site.
+    /// Serves lines of tables, each at its site. The log tells of the ports that can't be listened
+    /// on.
     fn add_lines(
         &mut self,
         tables: &Tables,
         endpoints: &[Endpoint],
-        sites: Vec<Site<N::Listener, SocketAddr>>,
+        sites: Vec<Site<Door<N::Listener>, SocketAddr>>,
     ) -> Result<(), AllocError>
         requires { All (λ endpoint. HasLine tables.now endpoint.line) endpoints.now }
     {
@@ -79,7 +82,12 @@ impl<N: Network + Drop, L: Write + Drop, S: TableSource + Drop> Exchange<N, L, S
             let Some(site) = sites.next() else {
                 return Ok(());
             };
-            self.add(id, &names_of(tables, id), site)?;
+            let names = names_of(tables, id);
+            match begin_event(&site) {
+                Some(event) => self.desk.tell(&Label::of(&names), event),
+                None => {}
+            }
+            self.add(id, &names, site)?;
         }
         Ok(())
     }

@@ -1,10 +1,13 @@
 //! Opens the sockets of lines: each listens on its port, or has the address that it dials.
 
-ghost use Rattle.std.specs.Prelude.{◌≡◌, ◌≢◌, ◌∷◌, ◌++◌, [], None, map, IfOk, IfErr, IfSome, OnOk};
+ghost use Rattle.std.specs.Prelude.{◌≡◌, ◌≢◌, ◌⊎◌, ◌∷◌, ◌++◌, [], None, map, All, IfOk, IfErr, IfSome, IsOk, OnOk};
+ghost use Rattle.std.specs.Prelude.{false};
 ghost use Rattle.std.specs.List.{list_any, Contains};
 ghost use Rattle.njh_service.specs.declared.opening.ListenCause.TheVariants as cause;
+ghost use Rattle.njh_service.specs.Doors.{IsBegun};
 ghost use Rattle.njh_service.specs.Opened.{IsApart, IsRepeated, is_same_port, site_on, site_opened};
 
+use crate::door::{Door, admitted, listen};
 use crate::endpoints::Endpoint;
 use crate::site::Site;
 use njh_wire::Network;
@@ -12,6 +15,15 @@ use std::alloc::Global;
 use std::io;
 use std::io::ErrorKind;
 use std::net::{IpAddr, SocketAddr};
+
+/// How lines with a port listen.
+#[derive(Clone, Copy)]
+pub struct Listening {
+    /// At this address.
+    pub address: IpAddr,
+    /// Whether each has to. Else a port that can't be listened on is tried again each ten seconds.
+    pub strict: bool,
+}
 
 /// A line whose socket could not be opened.
 #[derive(Clone, Copy, Drop)]
@@ -41,19 +53,23 @@ pub enum ListenCause {
     Memory,
 }
 
-/// Opens the sockets of lines, in their order. Those that have a port listen there, on this
-/// address.
+/// Opens the sockets of lines, in their order, at this moment of the service's clock. Those that
+/// have a port listen there, or have a door that is shut, unless each has to listen.
 ///
 /// Two lines on one port are refused before any is listened on. What was opened before a fault is
 /// closed.
 pub fn open<N: Network>(
     alloc: Global,
     network: &mut N,
-    address: IpAddr,
+    listening: Listening,
+    now: u64,
     endpoints: &[Endpoint],
-) -> Result<Vec<Site<N::Listener, SocketAddr>>, ListenFault>
+) -> Result<Vec<Site<Door<N::Listener>, SocketAddr>>, ListenFault>
     ensures opened { IfOk result (λ sites. map (site_opened N.address_of) sites.items
-        ≡ map (λ endpoint. site_on address endpoint.site) endpoints.now) }
+        ≡ map (λ endpoint. site_on listening.address endpoint.site) endpoints.now) }
+    ensures begun { IfOk result (λ sites. All (IsBegun listening.strict now) sites.items) }
+    ensures lax { listening.strict ≡ false → IfErr result (λ fault.
+        (fault.cause ≡ cause.SamePort) ⊎ (fault.cause ≡ cause.Memory)) }
     ensures apart { IfOk result (λ sites. IsApart endpoints.now) }
     ensures same { IfErr result (λ fault. fault.cause ≡ cause.SamePort → IsRepeated endpoints.now fault.endpoint) }
     ensures other { IfErr result (λ fault. fault.cause ≢ cause.SamePort → IsApart endpoints.now) }
@@ -64,7 +80,7 @@ pub fn open<N: Network>(
             endpoint,
             cause: ListenCause::SamePort,
         }),
-        None => open_all(alloc, network, address, endpoints),
+        None => open_all(alloc, network, listening, now, endpoints),
     }
 }
 
@@ -102,18 +118,21 @@ fn is_same_port(endpoint: &Endpoint, other: &Endpoint) -> bool
 fn open_all<N: Network>(
     alloc: Global,
     network: &mut N,
-    address: IpAddr,
+    listening: Listening,
+    now: u64,
     endpoints: &[Endpoint],
-) -> Result<Vec<Site<N::Listener, SocketAddr>>, ListenFault>
+) -> Result<Vec<Site<Door<N::Listener>, SocketAddr>>, ListenFault>
     ensures opened { IfOk result (λ sites. map (site_opened N.address_of) sites.items
-        ≡ map (λ endpoint. site_on address endpoint.site) endpoints.now) }
+        ≡ map (λ endpoint. site_on listening.address endpoint.site) endpoints.now) }
+    ensures begun { IfOk result (λ sites. All (IsBegun listening.strict now) sites.items) }
+    ensures lax { listening.strict ≡ false → IfErr result (λ fault. fault.cause ≡ cause.Memory) }
     ensures cause { IfErr result (λ fault. fault.cause ≢ cause.SamePort) }
     ensures known { IfErr result (λ fault. Contains endpoints.now fault.endpoint) }
 {
     let mut sites = Vec::new(alloc);
     for place in 0..endpoints.len() {
         let endpoint = endpoints[place];
-        match add_site(network, address, endpoint.site, &mut sites) {
+        match add_site(network, listening, now, endpoint.site, &mut sites) {
             Ok(()) => {}
             Err(cause) => return Err(ListenFault { endpoint, cause }),
         }
@@ -121,18 +140,22 @@ fn open_all<N: Network>(
     Ok(sites)
 }
 
-/// Adds a line's site with its socket, if it listens.
+/// Adds a line's site with its door, if it listens.
 fn add_site<N: Network>(
     network: &mut N,
-    address: IpAddr,
+    listening: Listening,
+    now: u64,
     site: Site<u16, SocketAddr>,
-    sites: &mut Vec<Site<N::Listener, SocketAddr>>,
+    sites: &mut Vec<Site<Door<N::Listener>, SocketAddr>>,
 ) -> Result<(), ListenCause>
     ensures opened { OnOk result (map (site_opened N.address_of) sites.new.items
-        ≡ map (site_opened N.address_of) sites.old.items ++ site_on address site ∷ []) }
+        ≡ map (site_opened N.address_of) sites.old.items ++ site_on listening.address site ∷ []) }
+    ensures begun { All (IsBegun listening.strict now) sites.old.items
+        → OnOk result (All (IsBegun listening.strict now) sites.new.items) }
+    ensures lax { listening.strict ≡ false → IfErr result (λ why. why ≡ cause.Memory) }
     ensures cause { IfErr result (λ why. why ≢ cause.SamePort) }
 {
-    let opened = open_site(network, address, site, sites.len())?;
+    let opened = open_site(network, listening, now, site, sites.len())?;
     match sites.push(opened) {
         Ok(()) => Ok(()),
         Err(_) => Err(ListenCause::Memory),
@@ -142,24 +165,28 @@ fn add_site<N: Network>(
 /// Listens on a line's port, if it has one.
 fn open_site<N: Network>(
     network: &mut N,
-    address: IpAddr,
+    listening: Listening,
+    now: u64,
     site: Site<u16, SocketAddr>,
     place: usize,
-) -> Result<Site<N::Listener, SocketAddr>, ListenCause>
-    ensures opened { IfOk result (λ opened. site_opened N.address_of opened ≡ site_on address site) }
+) -> Result<Site<Door<N::Listener>, SocketAddr>, ListenCause>
+    ensures opened { IfOk result (λ opened. site_opened N.address_of opened ≡ site_on listening.address site) }
+    ensures begun { IfOk result (IsBegun listening.strict now) }
+    ensures lax { listening.strict ≡ false → IsOk result }
     ensures cause { IfErr result (λ why. why ≢ cause.SamePort) }
 {
     match site {
-        Site::Listens(port) => match network.listen(SocketAddr::new(address, port), place) {
-            Ok(listener) => Ok(Site::Listens(listener)),
-            Err(error) => Err(cause_of(&error)),
-        },
+        Site::Listens(port) => {
+            let address = SocketAddr::new(listening.address, port);
+            let door = listen(network, address, place, now);
+            Ok(Site::Listens(admitted(door, listening.strict)?))
+        }
         Site::Dials(peer) => Ok(Site::Dials(peer)),
     }
 }
 
 /// Why a port could not be listened on.
-fn cause_of(error: &io::Error) -> ListenCause
+pub(crate) fn cause_of(error: &io::Error) -> ListenCause
     ensures { result ≢ cause.SamePort }
 {
     match error.raw_os_error() {

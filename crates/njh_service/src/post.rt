@@ -6,6 +6,7 @@ ghost use Rattle.njh_service.specs.Sessions.{after_session, moment_seen};
 
 use crate::connecting::kept_until;
 use crate::dial::Dial;
+use crate::door::Door;
 use crate::ending::{is_session, is_up, no_session_since, session_change, tries_since};
 use crate::entry::SessionEnd;
 use crate::news::News;
@@ -84,7 +85,8 @@ impl Label {
         ensures { self.new ≡ after_session self.old session end now }
     {
         let is_up = is_up(session.phase);
-        self.news.add(session_change(self.up, is_up, self.node, end));
+        self.news
+            .add(session_change(self.up, is_up, self.node, end));
         self.in_session = is_session(session.phase);
         self.tries_since = tries_since(self.tries_since, session.tries, now);
         self.no_session_since = no_session_since(self.no_session_since, self.up, is_up, now);
@@ -100,8 +102,8 @@ pub(crate) struct Post<Li: Drop, C: Drop> {
     /// Whether its wire had a connection, or an end to tell, when it was last looked at.
     pub(crate) linked: bool,
     pub(crate) line: LineId,
-    /// Its listener, or its dials.
-    pub(crate) site: Site<Li, Dial<C>>,
+    /// Its door, or its dials.
+    pub(crate) site: Site<Door<Li>, Dial<C>>,
     pub(crate) label: Label,
     /// What its streams were about when it was last looked at.
     pub(crate) streams: Streams,
@@ -111,7 +113,7 @@ pub(crate) struct Post<Li: Drop, C: Drop> {
 
 impl<Li: Drop, C: Drop> Post<Li, C> {
     /// A line on which nothing happened yet.
-    pub(crate) fn new(id: LineId, label: Label, site: Site<Li, SocketAddr>) -> Post<Li, C>
+    pub(crate) fn new(id: LineId, label: Label, site: Site<Door<Li>, SocketAddr>) -> Post<Li, C>
         ensures { result.line ≡ id }
     {
         Post {
@@ -119,7 +121,7 @@ impl<Li: Drop, C: Drop> Post<Li, C> {
             linked: false,
             line: id,
             site: match site {
-                Site::Listens(listener) => Site::Listens(listener),
+                Site::Listens(door) => Site::Listens(door),
                 Site::Dials(address) => Site::Dials(Dial::new(address)),
             },
             label,

@@ -13,6 +13,7 @@ use crate::endpoints::Endpoint;
 use crate::exchange::Exchange;
 use crate::fault::ServeFault;
 use crate::log::Log;
+use crate::opening::Listening;
 use crate::service::Service;
 use crate::table_source::TableSource;
 use njh_hub::Hub;
@@ -21,15 +22,15 @@ use njh_turns::Depot;
 use njh_wire::{Connection, LineWire, Network};
 use std::alloc::{AllocError, Global};
 use std::io::Write;
-use std::net::IpAddr;
 
 /// Serves the lines of tables that have a port or a peer, by an attendant that serves no line yet,
 /// for so many turns; if no number is given, until the program is ended. Lines with a port listen
-/// on this address. Each customer has the whole files that the depot kept of it, and what becomes
+/// as they are to. Each customer has the whole files that the depot kept of it, and what becomes
 /// of them is kept there before it shows on a line. The depot and the log are given back.
 ///
-/// `Device` if a port can't be listened on, if what is kept can't be read, or if no line has a port
-/// or a peer and no number of turns is given: of ports and lines the log says why. `Refused` if a
+/// `Device` if a port that has to be listened on can't be, if two lines have one port, if what is
+/// kept can't be read, or if no line has a port or a peer and no number of turns is given: of ports
+/// and lines the log says why. `Refused` if a
 /// kept file can't be put back. `Memory` if there is no room for the hub or its wires. Nothing was
 /// read then. `Device` too if files couldn't be kept: nothing was read or written after that.
 pub fn serve<N: Network + Drop, L: Write + Drop, S: TableSource + Drop, D: Depot + Drop>(
@@ -37,12 +38,12 @@ pub fn serve<N: Network + Drop, L: Write + Drop, S: TableSource + Drop, D: Depot
     depot: D,
     tables: Tables,
     exchange: Exchange<N, L, S>,
-    address: IpAddr,
+    listening: Listening,
     turns: Option<u32>,
 ) -> (Result<(), ServeFault>, D, Log<L>)
     ensures { OnOk result.0 (AreServedFrom D.opens D.says depot result.1 tables turns) }
 {
-    match service_on(alloc, depot, tables, exchange, address, turns.is_none()) {
+    match service_on(alloc, depot, tables, exchange, listening, turns.is_none()) {
         Ok(mut service) => match service.run(turns) {
             Ok(()) => {
                 let (depot, log) = ended(service);
@@ -77,7 +78,7 @@ pub fn service_on<N: Network + Drop, L: Write + Drop, S: TableSource + Drop, D: 
     depot: D,
     tables: Tables,
     mut exchange: Exchange<N, L, S>,
-    address: IpAddr,
+    listening: Listening,
     needed: bool,
 ) -> Result<
     Service<LineWire<N::Connection>, Exchange<N, L, S>, D>,
@@ -86,7 +87,7 @@ pub fn service_on<N: Network + Drop, L: Write + Drop, S: TableSource + Drop, D: 
     ensures opened { IfOk result (λ service. IsOpened (D.opens depot service.depot tables) tables service) }
     ensures settled { IfOk result (λ service. IsSettled D.says service.depot service.hub) }
 {
-    match exchange.open_lines(alloc, &tables, address, needed) {
+    match exchange.open_lines(alloc, &tables, listening, needed) {
         Ok(endpoints) => service_of(alloc, depot, tables, &endpoints, exchange),
         Err(fault) => {
             drop(tables);

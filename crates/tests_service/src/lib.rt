@@ -32,6 +32,8 @@ mod memory_network;
 #[cfg(test)]
 mod play;
 #[cfg(test)]
+mod port_tests;
+#[cfg(test)]
 mod prompting_tests;
 #[cfg(test)]
 mod serving;

@@ -3,7 +3,7 @@
 ghost use Rattle.std.specs.Prelude.{◌≡◌, IfOk};
 
 use crate::memory_connection::MemoryConnection;
-use crate::world::{Answer, Mark, World};
+use crate::world::{Answer, Mark, Ports, World};
 use njh_wire::{Network, Readiness};
 use std::io;
 use std::io::ErrorKind;
@@ -34,8 +34,14 @@ impl<'a> Network for MemoryNetwork<'a> {
     ghost listener_place = { λ listener. listener.place };
 
     fn listen(&mut self, address: SocketAddr, place: usize) -> io::Result<MemoryListener> {
-        self.world.listen(place, address.port());
-        Ok(MemoryListener { address, place })
+        match self.world.ports() {
+            Ports::Free => {
+                self.world.listen(place, address.port());
+                Ok(MemoryListener { address, place })
+            }
+            Ports::InUse => Err(io::Error::from(ErrorKind::AddrInUse)),
+            Ports::NotPermitted => Err(io::Error::from(ErrorKind::PermissionDenied)),
+        }
     }
 
     fn accept(

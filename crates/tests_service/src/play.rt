@@ -2,7 +2,7 @@
 
 use crate::memory_log::MemoryLog;
 use crate::memory_network::MemoryNetwork;
-use crate::serving::{Player, Rounds, serve};
+use crate::serving::{Player, Rounds, is_refused, serve};
 use crate::world::{Happens, World};
 use njh_service::{Exchange, Log, Revision};
 use njh_table::Tables;
@@ -15,6 +15,11 @@ use std::test::Fail;
 /// How many rounds a second of a service may take, if each of its lines is due ten times and
 /// something happens fifty times.
 const ROUNDS: u64 = 100;
+
+/// Where the hub listens.
+fn hub_address() -> IpAddr {
+    IpAddr::V4(Ipv4Addr::new(10, 0, 0, 100))
+}
 
 /// Plays what happens up to a moment on a service of these tables, and compares what is seen.
 pub fn play<R: Abort>(
@@ -33,13 +38,43 @@ pub fn play<R: Abort>(
     Ok(())
 }
 
+/// Asks for a service of these tables that has to listen on each port, and compares what is seen if
+/// it is refused.
+pub fn refuse<R: Abort>(
+    rt: &R,
+    alloc: Global,
+    tables: &str,
+    acts: &[Happens],
+    wanted: &str,
+) -> Result<(), Fail> {
+    let world = World::new(alloc, acts);
+    let is_refused = is_refused_in(alloc, &world, tables)?;
+    assert!(rt; is_refused, "lines are served");
+    let seen = world.into_seen();
+    assert_eq!(rt; str::from_utf8(&seen).unwrap_or("no text"), wanted);
+    Ok(())
+}
+
+/// Whether lines of tables aren't served in a world if each has to listen on its port.
+fn is_refused_in<'a>(alloc: Global, world: &'a World<'a>, tables: &str) -> Result<bool, Fail> {
+    let tables = Tables::read(alloc, tables)?;
+    let log = Log::new(Some(MemoryLog { world }));
+    let exchange = Exchange::new(alloc, MemoryNetwork { world }, log, Revision::none(alloc));
+    Ok(is_refused(alloc, tables, exchange, hub_address()))
+}
+
 /// Serves the lines of tables in a world up to a moment.
 fn play_in<'a>(alloc: Global, world: &'a World<'a>, tables: &str, end: u64) -> Result<(), Fail> {
     let tables = Tables::read(alloc, tables)?;
     let log = Log::new(Some(MemoryLog { world }));
     let exchange = Exchange::new(alloc, MemoryNetwork { world }, log, Revision::none(alloc));
-    let address = IpAddr::V4(Ipv4Addr::new(10, 0, 0, 100));
-    serve(alloc, tables, exchange, address, &mut Until { world, end })
+    serve(
+        alloc,
+        tables,
+        exchange,
+        hub_address(),
+        &mut Until { world, end },
+    )
 }
 
 /// Plays what happens in a world up to a moment.

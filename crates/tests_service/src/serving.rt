@@ -1,7 +1,7 @@
 //! A service that is made, lent and dropped in one place, over whatever network: nothing else names
 //! its type.
 
-use njh_service::{Exchange, NoSource, Service, service_on};
+use njh_service::{Exchange, Listening, NoSource, ServeFault, Service, service_on};
 use njh_table::Tables;
 use njh_turns::{Attendant, KeepsNothing, Wire};
 use njh_wire::Network;
@@ -28,7 +28,7 @@ pub trait Player {
     fn play<H: Rounds>(&mut self, hub: &mut H) -> Result<(), Fail>;
 }
 
-/// Serves the lines of tables, which listen on this address, while somebody plays.
+/// Serves the lines of tables, which listen on this address or are to, while somebody plays.
 pub fn serve<N: Network + Drop, L: Write + Drop, P: Player>(
     alloc: Global,
     tables: Tables,
@@ -36,11 +36,38 @@ pub fn serve<N: Network + Drop, L: Write + Drop, P: Player>(
     address: IpAddr,
     player: &mut P,
 ) -> Result<(), Fail> {
-    match service_on(alloc, KeepsNothing, tables, exchange, address, true) {
+    let listening = Listening {
+        address,
+        strict: false,
+    };
+    match service_on(alloc, KeepsNothing, tables, exchange, listening, true) {
         Ok(mut service) => player.play(&mut service),
         Err((fault, _, exchange)) => {
             drop(exchange);
             Err(Fail::from(fault))
+        }
+    }
+}
+
+/// Whether the lines of tables aren't served, if each has to listen on its port of this address.
+pub fn is_refused<N: Network + Drop, L: Write + Drop>(
+    alloc: Global,
+    tables: Tables,
+    exchange: Exchange<N, L, NoSource>,
+    address: IpAddr,
+) -> bool {
+    let listening = Listening {
+        address,
+        strict: true,
+    };
+    match service_on(alloc, KeepsNothing, tables, exchange, listening, true) {
+        Ok(service) => {
+            drop(service);
+            false
+        }
+        Err((fault, _, exchange)) => {
+            drop(exchange);
+            fault == ServeFault::Device
         }
     }
 }

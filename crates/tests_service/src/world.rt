@@ -32,6 +32,8 @@ pub enum Act {
     Answers(Answer),
     /// From now on the log's writer takes so many bytes of a line, of whatever peer this is said.
     LogTakes(usize),
+    /// From now on this becomes of listening, of whatever peer this is said.
+    Ports(Ports),
 }
 
 /// What becomes of a dial.
@@ -45,6 +47,17 @@ pub enum Answer {
     Nothing,
     /// It is made.
     Made,
+}
+
+/// What becomes of listening on a port.
+#[derive(Clone, Copy, PartialEq, Eq)]
+pub enum Ports {
+    /// It is listened on.
+    Free,
+    /// Another program listens there.
+    InUse,
+    /// It may not be listened on.
+    NotPermitted,
 }
 
 /// At a moment, in milliseconds, a peer does something.
@@ -163,7 +176,7 @@ impl Peer {
             Act::Resets => self.broken.set(true),
             Act::Deafens => self.deaf.set(true),
             Act::Answers(answer) => self.answer.set(answer),
-            Act::LogTakes(_) => {}
+            Act::LogTakes(_) | Act::Ports(_) => {}
         }
     }
 
@@ -188,6 +201,8 @@ pub struct World<'a> {
     /// On which port each line listens.
     ports: Cell<[u16; LINES]>,
     log_takes: Cell<usize>,
+    /// What becomes of listening.
+    listening: Cell<Ports>,
     seen: RefCell<Vec<u8>>,
 }
 
@@ -208,6 +223,7 @@ impl<'a> World<'a> {
             ],
             ports: Cell::new([0; LINES]),
             log_takes: Cell::new(1_000_000),
+            listening: Cell::new(Ports::Free),
             seen: RefCell::new(Vec::new(alloc)),
         }
     }
@@ -220,6 +236,24 @@ impl<'a> World<'a> {
     /// A peer.
     pub fn peer(&self, peer: usize) -> Option<&Peer> {
         self.peers.get(peer)
+    }
+
+    /// What becomes of listening on a port. What is to happen by now has happened.
+    pub fn ports(&self) -> Ports {
+        self.see_ports();
+        self.listening.get()
+    }
+
+    /// If the next act has come and says what becomes of listening, it does so from now on.
+    fn see_ports(&self) {
+        match self.acts.get(self.next.get()) {
+            Some(next) if next.at <= self.now.get() => {
+                if let Act::Ports(ports) = next.act {
+                    self.listening.set(ports);
+                }
+            }
+            _ => {}
+        }
     }
 
     /// A line listens on a port.
@@ -289,8 +323,10 @@ impl<'a> World<'a> {
             return None;
         }
         self.next.set(self.next.get().saturating_add(1));
-        if let Act::LogTakes(count) = next.act {
-            self.log_takes.set(count);
+        match next.act {
+            Act::LogTakes(count) => self.log_takes.set(count),
+            Act::Ports(ports) => self.listening.set(ports),
+            _ => {}
         }
         let peer = self.peers.get(next.peer)?;
         peer.act(next.act);
@@ -316,7 +352,7 @@ impl<'a> World<'a> {
                 mark.reads = true;
                 mark.writes = true;
             }
-            Act::Deafens | Act::LogTakes(_) => {}
+            Act::Deafens | Act::LogTakes(_) | Act::Ports(_) => {}
         }
         mark
     }

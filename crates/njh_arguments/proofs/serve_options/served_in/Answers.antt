@@ -11,5 +11,6 @@ returns-clause-asked c =
       c.in_ok-turns.ensures.asked,
       c.in_ok-listen.ensures.asked,
       c.is_set.ensures,
+      c.is_set-2.ensures,
       sym (first_value-rows options (codes "spool")) ∙ sym c.get_str-2.ensures,
     )

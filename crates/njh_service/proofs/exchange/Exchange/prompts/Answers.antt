@@ -4,7 +4,7 @@ use Rattle.njh_table.specs.declared.LineId.{LineId}
 use Rattle.njh_service.specs.Prompting.{IsPrompted, Watched}
 use Rattle.njh_service.specs.declared.post.Post.{Post}
 use Rattle.njh_service.specs.declared.traffic.Traffic.{Traffic}
-use Rattle.njh_service.proofs.PostLaws.{line_there}
+use Rattle.njh_service.proofs.PostLaws.{line_there, post_there}
 use Rattle.njh_service.proofs.exchange.Exchange.prompts.Goals as goal
 
 -- what is seen of the line and what was noted of it are those of the post there
@@ -30,4 +30,16 @@ returns g c = record {
       λ id. IsTrue c.prompts.result ↔ IsPrompted c.in-Some.post.now.traffic c.args.hub.now id c.self.inside.desk.now in
       subst At (ap (λ (seen : Watched). seen.now) c.self.view_is)
       (subst Of (sym its) (subst On (sym own) c.prompts.ensures));
+}
+
+-- no line is where no post is
+pub returns-in_default : goal.returns-in_default
+returns-in_default g c = record {
+  prompted = λ line noted found known.
+      let P : Type 0 = Post g.row.N-Listener.Denot g.row.N-Connection.Denot in
+      let Lines : List P → Type 0 = λ posts. map (λ (post : P). post.line) posts ≡ c.args.self.now.lines in
+      let there : c.args.place < length c.deref.result.now =
+      post_there (λ (post : P). post.line) c.deref.result.now c.args.self.now.lines c.args.place line
+      (subst Lines (sym c.deref.ensures.value) (ap (λ (seen : Watched). seen.lines) c.self.view_is)) found in
+      let none : ⊥ = omega (arith, there, c.in_default.ensures.lookup) in absurd none;
 }
