@@ -6,6 +6,7 @@ ghost use Rattle.njh_hub.specs.Views.{HasGivenUp};
 ghost use Rattle.njh_hub.specs.WholeHub.{HasLine};
 ghost use Rattle.njh_wire.specs.Standing.{due};
 ghost use Rattle.njh_service.specs.Attention.{again_at, first_of, stalled_at, IsDue, IsMarked};
+ghost use Rattle.njh_service.specs.Logging.{IsLogged};
 ghost use Rattle.njh_service.specs.News.{news_moment, IsTold};
 ghost use Rattle.njh_service.specs.Sessions.{IsReady};
 
@@ -179,7 +180,8 @@ impl<N: Network + Drop, L: Write + Drop> Desk<N, L> {
 
     /// Tells of a line.
     pub(crate) fn tell(&mut self, label: &Label, event: LogEvent)
-        ensures { self.new.now ≡ self.old.now }
+        ensures now { self.new.now ≡ self.old.now }
+        ensures logged { IsSome self.old.log.writer → IsLogged L.contents self.old.log self.new.log }
     {
         let place = Place::Line(label.customer, label.line.as_str());
         self.write(&LogEntry { place, event });
@@ -187,7 +189,8 @@ impl<N: Network + Drop, L: Write + Drop> Desk<N, L> {
 
     /// Writes a line of the log, with the time.
     pub(crate) fn write<T: fmt::Display>(&mut self, text: &T)
-        ensures { self.new.now ≡ self.old.now }
+        ensures now { self.new.now ≡ self.old.now }
+        ensures logged { IsSome self.old.log.writer → IsLogged L.contents self.old.log self.new.log }
     {
         let second = self.network.utc();
         self.log.write(second, text);

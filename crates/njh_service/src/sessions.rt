@@ -7,7 +7,8 @@ ghost use Rattle.njh_hub.specs.WholeHub.{HasLine};
 ghost use Rattle.njh_wire.specs.Standing.{after_close};
 ghost use Rattle.njh_service.specs.Connecting.{silence_of, IsConnected};
 ghost use Rattle.njh_service.specs.Dialling.{moment_of_loss};
-ghost use Rattle.njh_service.specs.News.{after_telling, IsTold};
+ghost use Rattle.njh_service.specs.Logging.{IsLogged};
+ghost use Rattle.njh_service.specs.News.{after_telling, told_now, IsTold};
 ghost use Rattle.njh_service.specs.Prompting.{HasSeen};
 ghost use Rattle.njh_service.specs.Sessions.{moment_seen, tries_end, IsInSession, IsReady};
 
@@ -96,6 +97,9 @@ impl<N: Network + Drop, L: Write + Drop> Desk<N, L> {
     pub(crate) fn tell_sessions(&mut self, label: &mut Label, now: u64)
         ensures told { label.new ≡ record label.old { news = after_telling label.old.news now } }
         ensures now { self.new.now ≡ self.old.now }
+        ensures silent { told_now label.old.news now ≡ None → self.new ≡ self.old }
+        ensures logged { IsSome (told_now label.old.news now) → IsSome self.old.log.writer →
+            IsLogged L.contents self.old.log self.new.log }
     {
         match label.news.take(now) {
             Some(event) => self.tell(label, event),
