@@ -5,7 +5,7 @@
 Without a PLAY all are played, which takes some five minutes; `--help` lists them. Each play starts the program on
 eight lines of two customers and misbehaves on lines of the first. The table says what became of that, and how long
 the answers on a line of the second customer took meanwhile, which makes contact a hundred times a second: how many
-there were, the median and the longest, in milliseconds. The plays on starts (`refusals`, `few_handles`,
+there were, the median and the longest, in milliseconds. The plays on starts (`refusals`, `port_in_use`, `few_handles`,
 `unreachable`) print what the program says as well.
 
 `machine_gone` needs root and `ip`: it runs in a network namespace of its own, where from one moment on nothing comes
@@ -13,6 +13,7 @@ from the peer's address nor gets there, so the peer's end comes without FIN and 
 acknowledged.
 """
 
+import contextlib
 import multiprocessing
 import os
 import pathlib
@@ -26,7 +27,7 @@ import subprocess
 import sys
 import time
 
-from frames import ACK0, CONTACT, NAK, Deframer, Text, framed, sign_on
+from frames import ACK0, CONTACT, EOT, NAK, Deframer, Text, framed, sign_on
 from hub import Hub, connected, customer_of, free_ports, line_of, options_of, places_of, row, table_of
 from peers import Crowd, Peer
 
@@ -252,6 +253,39 @@ def connects_twice(hub, places):
     return f"the second waits until the first is gone, and is answered {time.monotonic() - begin:.2f} s after"
 
 
+def holds_the_line(hub, places):
+    """A peer without a session sends a byte each two seconds, and another one waits."""
+    with connected(places[0].port) as first:
+        begin = time.monotonic()
+        with connected(places[0].port) as second:
+            second.sendall(CONTACT)
+            second.settimeout(2)
+            while time.monotonic() < begin + 20:
+                with contextlib.suppress(OSError):
+                    first.sendall(b"\x01")
+                with contextlib.suppress(socket.timeout):
+                    if second.recv(2) == ACK0:
+                        return f"the one that waits is answered after {time.monotonic() - begin:.1f} s"
+    return "the one that waits isn't answered in 20 s"
+
+
+def sessions_in_a_loop(hub, places):
+    """A peer signs on and ends its session again and again for five seconds: how often the log tells of it."""
+    rounds, signed_on = 0, sign_on(0xC9, places[0].node)
+    with connected(places[0].port, timeout=2) as peer:
+        begin = time.monotonic()
+        while time.monotonic() < begin + 5:
+            peer.sendall(CONTACT)
+            peer.recv(2)
+            peer.sendall(signed_on)
+            peer.recv(65536)
+            peer.sendall(EOT)
+            rounds += 1
+        time.sleep(1.2)
+    told = sum("session" in line for line in hub.log())
+    return f"{rounds} sign-ons in 5 s, {told} lines of the log"
+
+
 def frozen(hub, places):
     """A peer's process stands still in a session, with its connection open: when does the next peer get in?"""
     child = multiprocessing.get_context("fork").Process(target=sign_on_and_sleep, args=(places[0],), daemon=True)
@@ -356,6 +390,8 @@ PLAYS = (
     closes_in_mid_frame,
     resets_in_mid_frame,
     connects_twice,
+    holds_the_line,
+    sessions_in_a_loop,
     frozen,
     machine_gone,
     floods_contacts,
@@ -381,9 +417,9 @@ def play(options, one):
         show(one.__name__, what, times, wrong)
 
 
-def start(options, what, table, **given):
+def start(options, what, table, *words, **given):
     """Starts the program where it should be refused: its status, and all that it says."""
-    with Hub(options, table, **given) as hub:
+    with Hub(options, table, *words, **given) as hub:
         try:
             status = f"status {hub.process.wait(timeout=8)}"
         except subprocess.TimeoutExpired:
@@ -396,12 +432,12 @@ def start(options, what, table, **given):
 def refusals(options):
     places = places_of([1, 1])
     with socket.create_server(("127.0.0.1", places[1].port)):
-        start(options, "a port in use", table_of(places, 16))
+        start(options, "a port in use", table_of(places, 16), "--strict")
     places[1].port = places[0].port
     start(options, "two lines on a port", table_of(places, 16))
     places[0].port, places[1].port = 7, 0
     nobody = {"user": 65534, "group": 65534, "extra_groups": []} if os.geteuid() == 0 else {}
-    start(options, "port 7 as nobody", table_of(places, 16), **nobody)
+    start(options, "port 7 as nobody", table_of(places, 16), "--strict", **nobody)
     places[0].port = 0
     start(options, "no line has a port", table_of(places, 16))
     start(options, "a table file that is no TOML", "capacity = \n")
@@ -413,6 +449,27 @@ def refusals(options):
             print("".join(f"    {line}\n" for line in done.stderr.splitlines()), end="")
         except subprocess.TimeoutExpired:
             print(f"table file {name}: it goes on for 8 s")
+
+
+def port_in_use(options):
+    """A port that another program has at the start, and gives back after a second: the other line is served meanwhile."""
+    places = places_of([1, 1])
+    taken = socket.create_server(("127.0.0.1", places[0].port))
+    with Hub(options, table_of(places, 16)) as hub:
+        time.sleep(1)
+        # A process that is forked before this has the socket too.
+        taken.close()
+        begin, other = time.monotonic(), Other(places[1].port)
+        while time.monotonic() < begin + 15 and not any("listens on" in line for line in hub.log()):
+            time.sleep(0.1)
+        waited = time.monotonic() - begin
+        with connected(places[0].port, timeout=2) as peer:
+            peer.sendall(CONTACT)
+            answer = peer.recv(2)
+        times, wrong = other.stop()
+        show("port_in_use", f"listens {waited:.1f} s after it was free; then {answer.hex()}", times, wrong)
+        for line in hub.log():
+            print(f"    {line}")
 
 
 def few_handles(options):
@@ -465,7 +522,7 @@ def unreachable(options):
             filler.close()
 
 
-STARTS = (refusals, few_handles, unreachable)
+STARTS = (refusals, port_in_use, few_handles, unreachable)
 
 
 def apart(options, name):

@@ -17,7 +17,7 @@ import subprocess
 import sys
 import tempfile
 
-from hub import Hub, customer_of, free_ports, line_of, options_of
+from hub import Hub, connected, customer_of, free_ports, line_of, options_of
 
 PEER = pathlib.Path(__file__).resolve().parent.parent / "peer.py"
 
@@ -62,7 +62,10 @@ class Trial:
         self.ports = dict(zip(("ACME", "BOLT", "CARL"), free_ports(3)))
 
     def hub(self, spool, *names):
-        return Hub(self.options, table_of([entry_of(name, self.ports[name]) for name in names]), "--spool", spool)
+        hub = Hub(self.options, table_of([entry_of(name, self.ports[name]) for name in names]), "--spool", spool)
+        for name in names:
+            connected(self.ports[name]).close()
+        return hub
 
     def files(self, spool, *words, status=0):
         return said([self.options.program, "files", "--spool", spool, *words], status)
