@@ -13,6 +13,7 @@ new hub:
 - `flood`: HOLD and RELEASE of its file in turn, an odd number of them in each frame, so that each changes the file.
 - `many`: the same of 1,024 files of one name.
 - `smallest`: it fills its quota with records of a blank, until one is refused, and begins anew.
+- `whole`: it sends files of 406,000 such records, and cancels each when it is whole.
 
 There too a probe writes 4,096 bytes some twenty times a second to a file beside the spool file, and syncs it.
 
@@ -58,7 +59,7 @@ CARDS = ALL_CARDS[:3]
 # How many seconds more the other customer's lines last, in which a play is made ready.
 MORE = {"many": 15}
 
-PLAYS = ("quiet", "large", "flood", "many", "smallest")
+PLAYS = ("quiet", "large", "flood", "many", "smallest", "whole")
 
 WIDTHS = (9, 7, 8, 7, 8, 8, 7, 8, 8, 8, 7, 8, 8)
 
@@ -197,6 +198,24 @@ def smallest(asker, seconds):
     return f"{frames} frames of {len(block) // 4} records in {seconds} s; {fills} times the quota was full"
 
 
+def whole(asker, seconds):
+    piece = bytes([SYSOUT, CARD, 0x81, 0x00])
+    block, (first, last) = piece * (ROOM // len(piece)), (file_of(1, "N0", "ANNA", "N1", "PAUL", []), [])
+    first, last = first[:2], first[2:]
+    spell = lambda records: b"".join(bytes([SYSOUT, srcb]) + spelled(record) for srcb, record in records)
+    cancel = command("BUREAU", "N0", "ANNA", "CANCEL N0.1")
+    asker.begin()
+    files, end = 0, asker.begun + seconds
+    while time.monotonic() < end:
+        asker.expect(PERMISSION, bytes([REQUEST, SYSOUT, 0]) + spell(first))
+        for _ in range(400):
+            asker.exchange(block)
+        asker.expect(COMPLETE, spell(last) + bytes([SYSOUT, CARD, 0x00]))
+        asker.exchange(cancel)
+        files += 1
+    return f"{files} files of {400 * len(block) // 4} records in {time.monotonic() - asker.begun:.0f} s"
+
+
 def beyond(times, syncs):
     """How long each answer took without what of it the hub was syncing."""
     ends, found = [end for _, end in syncs], []
@@ -219,7 +238,7 @@ def cells_of(times, *more):
 def trial(options, library, load, name):
     places, (core, others, own) = places_of([2, 2]), options.cores
     os.sched_setaffinity(0, {own})
-    table = table_for(places, FILLED if name == "smallest" else QUOTA, 1024)
+    table = table_for(places, FILLED if name in ("smallest", "whole") else QUOTA, 1024)
     table = table.replace(f"block = {BLOCK}", f"block = {LARGE}")
     with PinnedHub(options.program, table, core, library) as hub:
         hub.wait_for(places[-1].port)
