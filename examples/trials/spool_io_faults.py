@@ -13,10 +13,10 @@ log alone:
 - `cuts`: what was written since the last fsync of each file is lost at SIGKILL, all of it or sectors of 512 bytes at
   random, as by a power cut, so many times on one spool file.
 
-Of the first, second and fourth it is asserted that the program ends with status 2 and `njehub: device` as the last line
-on standard error, that nothing is missing then, and that a start without faults goes on. The table has a row for each
-play: how many runs there were, how many ended with status 2, how many went on, and the files that were complete and
-that were taken. The last line says "right", or the script ends with status 1 and says what is wrong.
+Of the first, second and fourth it is asserted that the program ends with status 2, with a line on standard error that
+names the spool file and why it failed and `njehub: device` as the last one, that nothing is missing then, and that a
+start without faults goes on. The table has a row for each play: how many runs there were, how many ended with status 2,
+how many went on, and the files that were complete and that were taken. The last line says "right", or the script ends with status 1 and says what is wrong.
 """
 
 import os
@@ -62,7 +62,7 @@ class Play:
     def refused(self, runs, status):
         """It ended by itself, as it should."""
         log = runs.served.log()
-        if status != 2 or not log or log[-1] != "njehub: device":
+        if status != 2 or len(log) < 2 or " spool file " not in log[-2] or log[-1] != "njehub: device":
             raise Wrong(f"status {status}, and the last of standard error: {log[-2:]}")
 
     def show(self, name):
