@@ -30,6 +30,7 @@ session_view role s = record {
   role = role;
   next_count = s.next_count;
   last_bcb = s.last_bcb;
+  refusals = s.refusals;
 }
 
 -- what is shown of a line

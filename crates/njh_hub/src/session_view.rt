@@ -34,6 +34,9 @@ pub struct SessionView {
     /// The BCB of the last block of the peer that was acted on in this session, those whose count
     /// isn't checked aside.
     pub last_bcb: Option<u8>,
+    /// How many blocks were acted on where a sign-on was due and none came that fits, over all
+    /// sessions of the line; the count stays at the greatest `u64`.
+    pub refusals: u64,
 }
 
 impl SessionView {
@@ -48,6 +51,7 @@ impl SessionView {
             role,
             next_count: session.next_count,
             last_bcb: session.last_bcb.map(|bcb| bcb.byte()),
+            refusals: session.refusals,
         }
     }
 

@@ -20,7 +20,7 @@ use Rattle.njh_line.specs.Counts.{count_verdict, expected_count, after_acting}
 use Rattle.njh_line.specs.LineTable as input
 use Rattle.njh_line.specs.LineTable.{Input, table_outcome, cell, none, enquiry, ack0, hang_up, end, end_with}
 use Rattle.njh_line.specs.LineTable.{end_and_contact, try_with, try_again, try_nak, with_reply, contact, call, i_block}
-use Rattle.njh_line.specs.LineTable.{next_or_turn, next_in_turn, by_count, signed_on, i_sign_on, j_sign_on, act}
+use Rattle.njh_line.specs.LineTable.{next_or_turn, next_in_turn, by_count, signed_on, i_sign_on, j_sign_on, act, refuse}
 use Rattle.njh_line.specs.Openings.{fitting}
 
 -- ---- records act
@@ -60,7 +60,7 @@ calls role.Answer s = still (none s) refl
 
 signs_on : (r : LineReply) (line : Config) (o : Option SignOn) (s : Session) → IsAnswered (signed_on r line o s)
 signs_on r line (Some x) s = still (signed_on r line (Some x) s) refl
-signs_on r line None s = still (hang_up s) refl
+signs_on r line None s = still (refuse s) refl
 
 by_counts : (bcb : ℕ) (fcs : ℕ × ℕ) (acted : Session → SessionOutcome) (s : Session)
     → IsAnswered (acted (after_acting bcb fcs s))

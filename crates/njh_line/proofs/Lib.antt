@@ -1,5 +1,6 @@
 pub mod CountLaws
 pub mod RowLaws
 pub mod TableLaws
+pub mod RefusalLaws
 pub mod UpLaws
 pub mod AnsweringLaws

@@ -28,7 +28,7 @@ use Rattle.njh_line.proofs.RowLaws as rows
 
 -- ---- what holds of each cell holds of the row
 
-every : (P : Phase → SessionOutcome → Type 0) (p : Phase) (d c a i u : SessionOutcome)
+pub every : (P : Phase → SessionOutcome → Type 0) (p : Phase) (d c a i u : SessionOutcome)
     → P Down d → P Calling c → P Answered a → P SentI i → P Up u → P p (cell p d c a i u)
 every P Down down calling answered sent_i up d c a i u = d
 every P Calling down calling answered sent_i up d c a i u = c

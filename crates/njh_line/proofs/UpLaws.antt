@@ -20,7 +20,7 @@ use Rattle.njh_line.specs.Laws.{is_up}
 use Rattle.njh_line.specs.LineTable as input
 use Rattle.njh_line.specs.LineTable.{Input, table_outcome, cell, none, enquiry, ack0, hang_up, end, end_with}
 use Rattle.njh_line.specs.LineTable.{end_and_contact, try_with, try_again, try_nak, with_reply, contact, call, i_block}
-use Rattle.njh_line.specs.LineTable.{next_or_turn, next_in_turn, by_count, signed_on, i_sign_on, j_sign_on, act}
+use Rattle.njh_line.specs.LineTable.{next_or_turn, next_in_turn, by_count, signed_on, i_sign_on, j_sign_on, act, refuse}
 use Rattle.njh_line.specs.Openings.{fitting}
 use Rattle.njh_line.specs.Up.{InputsKeepUp, is_next}
 
@@ -99,7 +99,7 @@ module _ (s : Session) where
   signed : (r : LineReply) (config : Config) (o : Option SignOn) (t : Session) → is_up s.phase ≡ false
       → Follows s.phase (signed_on r config o t)
   signed r config (Some x) t down = is_up_then (signed_on r config (Some x) t) refl refl
-  signed r config None t down = low (hang_up t) refl (refl, refl) down
+  signed r config None t down = low (refuse t) refl (refl, refl) down
 
   by_counts : (bcb : ℕ) (fcs : ℕ × ℕ) (acted : Session → SessionOutcome)
       → Follows s.phase (acted (after_acting bcb fcs s)) → Follows s.phase (by_count bcb fcs acted s)

@@ -18,7 +18,7 @@ use Rattle.njh_line.specs.declared.verdict.LineReply.TheVariants.{Nothing, Contr
 use Rattle.njh_line.specs.declared.verdict.LineReply.TheVariants.{Next, Sequence}
 use Rattle.njh_line.specs.Counts.{count_verdict, expected_count, after_acting}
 use Rattle.njh_line.specs.Openings.{First, fitting, shown_first}
-use Rattle.njh_line.specs.Sessions.{entered_session, acknowledged_session, down_session}
+use Rattle.njh_line.specs.Sessions.{entered_session, acknowledged_session, down_session, refused_session}
 
 -- What comes to a line.
 pub data Input : Type 0 where
@@ -118,10 +118,14 @@ by_count bcb fcs acted s =
       | OutOfSequence ↦ end_with (Sequence (0x80 + expected_count s.last_bcb)) s
     ]
 
+-- none came that fits where a sign-on was due
+abbrev pub refuse : Session → SessionOutcome
+refuse s = none (refused_session s)
+
 -- a sign-on that fits, or none that does
 abbrev pub signed_on : LineReply → Config → Option SignOn → Session → SessionOutcome
 signed_on reply line (Some x) s = with_reply reply (record s { phase = Up; size = min line.block x.block })
-signed_on reply line None s = hang_up s
+signed_on reply line None s = refuse s
 
 -- an I that fits: the J block
 abbrev pub i_sign_on : Config → First → Session → SessionOutcome

@@ -6,7 +6,8 @@ ghost use Rattle.njh_line.specs.declared.config.Config.{Config};
 ghost use Rattle.njh_line.specs.declared.counts.Counted.TheVariants.{Acts, Repeats, OutOfSequence};
 ghost use Rattle.njh_line.specs.declared.session.Session.{Session};
 ghost use Rattle.njh_line.specs.Counts.{bcb_count, bcb_type, count_verdict, is_taken};
-ghost use Rattle.njh_line.specs.Laws.{KeepsRest, MovesTriesAlone, is_disregarded, last_bcb_after, sets_tries};
+ghost use Rattle.njh_line.specs.Laws.{KeepsRest, MovesTriesAlone, is_disregarded, last_bcb_after, refusals_after};
+ghost use Rattle.njh_line.specs.Laws.{sets_tries};
 ghost use Rattle.njh_line.specs.LineTable.{Block, Input, table_outcome, end, try_again};
 ghost use Rattle.njh_line.specs.Lines.{LineState, after_input};
 ghost use Rattle.njh_line.specs.Openings.{First};
@@ -62,6 +63,14 @@ pub fn sessions_begin_afresh()
     ensures { (line : Config) (s : Session) (input : Input) → in_session s.phase ≡ false
         → in_session (table_outcome line input s).session.phase ≡ true
         → ((table_outcome line input s).session.tries ≡ 0) × ((table_outcome line input s).session.last_bcb ≡ None) }
+{}
+
+/// A block that is acted on where a sign-on is due, and whose first record is none that fits, is
+/// one refusal more. Every other input leaves their count, in all phases, where a session ends or
+/// begins too.
+pub fn refusals_are_counted()
+    ensures { (line : Config) (s : Session) (input : Input)
+        → (table_outcome line input s).session.refusals ≡ refusals_after line input s }
 {}
 
 /// A line that is up stays so until its session ends, and then it isn't. Records act, and the next

@@ -1,7 +1,7 @@
 //! A line's session.
 
 ghost use Rattle.std.specs.Prelude.{◌≡◌};
-ghost use Rattle.njh_line.specs.Sessions.{fresh, entered_session, down_session, acknowledged_session};
+ghost use Rattle.njh_line.specs.Sessions.{fresh, entered_session, down_session, refused_session, acknowledged_session};
 
 use crate::Phase;
 use njh_block::{Bcb, Fcs};
@@ -28,6 +28,9 @@ pub struct Session {
     pub peer_fcs: Fcs,
     /// The last function control sequence that the hub sent in this session.
     pub own_fcs: Fcs,
+    /// How many blocks were acted on where a sign-on was due and none came that fits, over all
+    /// sessions of the line; the count stays at the greatest `u64`.
+    pub refusals: u64,
 }
 
 impl Session {
@@ -44,6 +47,7 @@ impl Session {
             size: LEAST_SIZE,
             peer_fcs: Fcs::nothing_suspended(),
             own_fcs: Fcs::nothing_suspended(),
+            refusals: 0,
         }
     }
 
@@ -68,6 +72,17 @@ impl Session {
     {
         Session {
             phase: Phase::Down,
+            ..self
+        }
+    }
+
+    /// The peer's sign-on is refused: the line goes down.
+    pub(crate) fn refused(self) -> Session
+        ensures { result ≡ refused_session self }
+    {
+        Session {
+            phase: Phase::Down,
+            refusals: self.refusals.saturating_add(1),
             ..self
         }
     }

@@ -258,7 +258,7 @@ fn signed_on(
     ensures kept { IsSession result.session }
 {
     match sign_on {
-        None => none(session.down()),
+        None => none(session.refused()),
         Some(sign_on) => with_reply(
             Session {
                 phase: Up,

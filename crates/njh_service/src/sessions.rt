@@ -31,6 +31,7 @@ const NO_SESSION: SessionView = SessionView {
     role: Role::Answer,
     next_count: 0,
     last_bcb: None,
+    refusals: 0,
 };
 
 impl<N: Network + Drop, L: Write + Drop> Desk<N, L> {
