@@ -19,13 +19,14 @@ use Rattle.njh_spool.specs.CustomerSpool.{CustomerSpool, cost, stored_size, next
 use Rattle.njh_spool.specs.CustomerSpool.{with_appended, without_partial, with_finished, without_whole, with_state}
 use Rattle.njh_spool.specs.CustomerSpool.{with_rewritten_bytes, at_index, rewritten_record, one_more}
 use Rattle.njh_spool.specs.Spools.{spool_at}
-use Rattle.njh_spool.specs.code.Packing.{packed_record, packed_bytes, unpacked_records, IsShort}
+use Rattle.njh_spool.specs.code.Packing.{packed_record, packed_bytes, unpacked_records, HasByteSrcb, IsShort}
 use Rattle.njh_spool.specs.code.Slots.{Content, content, contents, slot_of, chain_of, free_slot, no_files, is_free}
 use Rattle.njh_spool.specs.code.Slots.{is_partial, is_whole_stage, whole_file, spool_of, spools_of, first_places}
-use Rattle.njh_spool.specs.code.Slots.{ArePlaces, IsOwn, IsFile, KeepsHeaders}
+use Rattle.njh_spool.specs.code.Slots.{with_record, ArePlaces, IsOwn, IsFile, KeepsHeaders}
 use Rattle.njh_spool.specs.Headers.{header_count, kept_headers}
 use Rattle.njh_spool.specs.declared.file_headers.KeptHeaders.{KeptHeaders}
 use Rattle.njh_spool.proofs.HeaderLaws.{kept_headers-behind}
+use Rattle.njh_spool.proofs.HeadersEndLaws.{no_headers, headers_end-rewritten}
 use Rattle.njh_spool.proofs.CostLaws.{cost-rewritten, stored_size-rewritten}
 use Rattle.njh_spool.proofs.IndexLaws.{put, put_again, at_is}
 use Rattle.njh_spool.proofs.Calls.{Call, MovesTo}
@@ -33,7 +34,7 @@ use Rattle.njh_spool.proofs.KeptLaws.{own_of, HasOwn, moves}
 use Rattle.njh_spool.proofs.FileLaws.{records_are, file_of, first_are, appended-records, appended-file, size_is}
 use Rattle.njh_spool.proofs.ReadLaws.{partial_stage as stage_of, whole_not_partial as not_partial_of}
 use Rattle.njh_spool.proofs.PackingLaws.{length-packed, length-unpacked}
-use Rattle.njh_spool.proofs.RewriteLaws.{packed-at_index, short-at_index, length-at_index, place-rewritten}
+use Rattle.njh_spool.proofs.RewriteLaws.{packed-at_index, short-at_index, codes-at_index, length-at_index, place-rewritten}
 use Rattle.njh_spool.proofs.OwnLaws.{whole_from}
 use Rattle.njh_spool.proofs.PartialLaws as partial
 use Rattle.njh_spool.proofs.WholeLaws as whole
@@ -91,11 +92,11 @@ module _ (here : Call) where
   keeps_none : (slot' : FileSlot) (chain' : Chain) → is_whole_stage slot'.stage ≡ false → KeepsHeaders slot' chain'
   keeps_none slot' chain' other = λ whole. absurd (let clash : false ≡ true = sym other ∙ whole in cc)
 
-  empty_file : (slot' : FileSlot) (keys : List ℕ) → slot'.count ≡ 0 → slot'.places ≡ first_places → IsFile slot'
-      (record { keys = keys; bytes = [] })
-  empty_file slot' keys none first =
-      file_of [] slot' (record { keys = keys; bytes = [] }) (λ k d within. absurd (omega arith)) none refl (λ _. none)
-      (omega arith) (first_are [] keys slot'.places first)
+  empty_file : (slot' : FileSlot) (keys : List ℕ) → slot'.count ≡ 0 → slot'.headers_end ≡ 0
+      → slot'.places ≡ first_places → IsFile slot' (record { keys = keys; bytes = [] })
+  empty_file slot' keys none headerless first =
+      file_of [] slot' (record { keys = keys; bytes = [] }) (λ k d within. absurd (omega arith)) tt none refl (λ _. none)
+      (omega arith) (no_headers slot'.headers_end headerless) (first_are [] keys slot'.places first)
 
   pub abandons : (slot' : FileSlot) (own' : CustomerFiles) → is_partial slot.stage ≡ true → slot' ≡ free_slot →
       own' ≡ record own { used = own.used - blocks_of chain.bytes; partial = filter (λ m. not (eqb m n)) own.partial } →
@@ -112,7 +113,7 @@ module _ (here : Call) where
       let left : own'.used ≡ own.used - cost (files n).records = ap (λ (o : CustomerFiles). o.used) now in
       goes (without_partial n) slot' empty_chain own' small (ap (λ (o : CustomerFiles). o.quota) owns)
       (omega (arith, left, enough, blocks_are)) (empty_file slot' [] (ap (λ (x : FileSlot). x.count) free)
-      (ap (λ (x : FileSlot). x.places) free)) (keeps_none slot' empty_chain
+      (ap (λ (x : FileSlot). x.headers_end) free) (ap (λ (x : FileSlot). x.places) free)) (keeps_none slot' empty_chain
       (ap (λ (x : FileSlot). is_whole_stage x.stage) free))
       (partial.abandons own files n has.own stage (content slot' empty_chain) own' (ap (λ (x : FileSlot). x.stage) free)
       now)
@@ -130,7 +131,7 @@ module _ (here : Call) where
       let left : own'.used ≡ own.used - cost (files n).records = ap (λ (o : CustomerFiles). o.used) now in
       goes (without_whole n) slot' empty_chain own' small (ap (λ (o : CustomerFiles). o.quota) owns)
       (omega (arith, left, enough, blocks_are)) (empty_file slot' [] (ap (λ (x : FileSlot). x.count) free)
-      (ap (λ (x : FileSlot). x.places) free)) (keeps_none slot' empty_chain
+      (ap (λ (x : FileSlot). x.headers_end) free) (ap (λ (x : FileSlot). x.places) free)) (keeps_none slot' empty_chain
       (ap (λ (x : FileSlot). is_whole_stage x.stage) free))
       (whole.removes own files n has.own there other (content slot' empty_chain) own'
       (ap (λ (x : FileSlot). x.stage) free) now)
@@ -143,9 +144,11 @@ module _ (here : Call) where
       record {
         bytes = file.bytes;
         short = file.short;
+        codes = file.codes;
         free = λ free. absurd (let clash : false ≡ true = sym used'
             ∙ free in cc);
         small = file.small;
+        headers_end = file.headers_end;
         places = file.places;
       }
 
@@ -194,7 +197,15 @@ module _ (here : Call) where
       (subst (λ (t : StoreValue). MovesTo here t (set slots (1024 * c + n) slot') (set customers c own) (λ s. s))
       (store_same small)
       (goes (λ (s : CustomerSpool). s) slot' chain own small refl refl
-      (record { bytes = file.bytes; short = file.short; free = file.free; small = file.small; places = places })
+      (record {
+        bytes = file.bytes;
+        short = file.short;
+        codes = file.codes;
+        free = file.free;
+        small = file.small;
+        headers_end = file.headers_end;
+        places = places;
+      })
       (kept.headers c n) (
         subst (λ (fs : ℕ → Content). IsOwn own fs) (sym (put_again files n)) has.own,
         ap (spool_of own) (put_again files n),
@@ -214,8 +225,9 @@ module _ (here : Call) where
       (file.free free) in
       let none : slot'.count ≡ 0 = ap (λ (x : FileSlot). x.count) is in
       let blocks = ap (λ (o : CustomerFiles). o.used) owns in
-      let made : IsFile slot' chain = file_of [] slot' chain (λ k d within. absurd (omega arith)) none empty (λ _. none)
-      file.small (first_are [] chain.keys slot'.places (ap (λ (x : FileSlot). x.places) is)) in
+      let made : IsFile slot' chain = file_of [] slot' chain (λ k d within. absurd (omega arith)) tt none empty (λ _. none)
+      file.small (no_headers slot'.headers_end (ap (λ (x : FileSlot). x.headers_end) is))
+      (first_are [] chain.keys slot'.places (ap (λ (x : FileSlot). x.places) is)) in
       let same : content slot' chain ≡ record { stage = Partial; kind = kind; records = [] } = ap
       (λ (x : FileSlot). content x chain) is in
       subst (λ (t : StoreValue). MovesTo here t (set slots (1024 * c + n) slot') (set customers c own')
@@ -225,23 +237,23 @@ module _ (here : Call) where
       (begin.begins own files has.own n kind (content slot' chain) own' room next free same owns))
 
   -- one record more
-  pub appends : (r : Stored) (keys : List ℕ) (blocks : ℕ) → is_partial slot.stage ≡ true → IsShort r
+  pub appends : (r : Stored) (keys : List ℕ) (blocks : ℕ) → is_partial slot.stage ≡ true → IsShort r → HasByteSrcb r
       → take (length chain.keys)
       keys ≡ chain.keys → blocks ≡ own.used - blocks_of chain.bytes + blocks_of (chain.bytes ++ packed_record r) →
       blocks ≤ own.quota → n < 1024 → MovesTo here (with_chain (1024 * c + n)
       (record { keys = keys; bytes = chain.bytes ++ packed_record r }) store)
-      (set slots (1024 * c + n) (record slot { count = slot.count + 1 }))
+      (set slots (1024 * c + n) (with_record r.srcb slot))
       (set customers c (record own { used = blocks })) (with_appended n r)
-  appends r keys blocks there short front counts fits small =
+  appends r keys blocks there short code front counts fits small =
       let stage = stage_of slot.stage there in
       let file = kept.files c n in
       let enough = partial.covered own files n has.own stage in
-      let slot' : FileSlot = record slot { count = slot.count + 1 } in
+      let slot' : FileSlot = with_record r.srcb slot in
       let chain' : Chain = record { keys = keys; bytes = chain.bytes ++ packed_record r } in
       let limit : own.quota ≤ 65535 = has.own.sound.quota_limit in
-      let made = appended-file slot chain keys r file short front (not_free-partial slot.stage there)
+      let made = appended-file slot chain keys r file short code front (not_free-partial slot.stage there)
       (omega (arith, enough, blocks_are)) in
-      let records = appended-records slot chain keys r file short front in
+      let records = appended-records slot chain keys r file short code front in
       let longer : blocks_of (chain.bytes ++ packed_record r) ≡ cost ((files n).records ++ r ∷ []) =
       ap (λ (size : ℕ). (size + 251) / 252) (size_is slot' chain' made ∙ ap stored_size records) in
       goes (with_appended n r) slot' chain' (record own { used = blocks }) small refl
@@ -302,8 +314,10 @@ module _ (here : Call) where
 
     made : (headers : KeptHeaders) → IsFile (record slot { headers = headers }) chain'
     made headers =
-        file_of changed (record slot { headers = headers }) chain' short counted bytes (kept.files c n).free
-        (omega (arith, size, (kept.files c n).small)) (record {
+        file_of changed (record slot { headers = headers }) chain' short
+        (codes-at_index k place new records (kept.files c n).codes) counted bytes (kept.files c n).free
+        (omega (arith, size, (kept.files c n).small))
+        (headers_end-rewritten k place new records slot.headers_end (kept.files c n).headers_end) (record {
           last = place-rewritten k place new records chain.keys slot.places.last fits (kept.files c n).places.last;
           next = place-rewritten k place new records chain.keys slot.places.next fits (kept.files c n).places.next;
         })

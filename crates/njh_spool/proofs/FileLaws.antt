@@ -2,6 +2,7 @@
 use Rattle.std.proofs.Common.{◌≡◌, ℕ, zero, suc, ◌+◌, ◌*◌, ◌<◌, ◌≤◌, true, false, List, [], ◌∷◌, ◌++◌, length, take}
 use Rattle.std.proofs.Common.{get_or, Some, refl, sym, ap, subst, ◌∙◌, arith, length-append}
 use Rattle.std.specs.Prelude.{All, slice_get}
+use Rattle.std.specs.List.{AllByRecursion}
 use Rattle.std.proofs.lemmas.List.{take-append-le, append-nil}
 use Rattle.std.proofs.lemmas.List.Elements.{All-head, All-tail}
 use Rattle.njh_record.specs.Stored.{Stored}
@@ -11,8 +12,10 @@ use Rattle.njh_spool.specs.declared.file_slot.KeptPlaces.{KeptPlaces}
 use Rattle.njh_spool.specs.declared.store.chain_block.ChainBlock.{ChainBlock}
 use Rattle.njh_spool.specs.code.Chains.{Chain, IsBlockOf}
 use Rattle.njh_spool.specs.CustomerSpool.{stored_size}
-use Rattle.njh_spool.specs.code.Packing.{packed_record, packed_bytes, unpacked_records, IsShort}
-use Rattle.njh_spool.specs.code.Slots.{is_free, first_place, first_places, IsPlace, ArePlaces, IsFile}
+use Rattle.njh_spool.specs.code.Packing.{packed_record, packed_bytes, unpacked_records, HasByteSrcb, IsShort}
+use Rattle.njh_spool.specs.code.Slots.{is_free, first_place, first_places, with_record, AreHeadersEnd, IsPlace}
+use Rattle.njh_spool.specs.code.Slots.{ArePlaces, IsFile}
+use Rattle.njh_spool.proofs.HeadersEndLaws.{headers_end-push}
 use Rattle.njh_spool.proofs.PackingLaws.{length-packed, packed-append, length-unpacked}
 use Rattle.njh_spool.proofs.PackingLaws.{unpacked-packed}
 
@@ -26,17 +29,19 @@ records_are records count bytes short counted is =
 
 -- a file of these records
 pub file_of : (records : List Stored) (slot : FileSlot) (chain : Chain) → All IsShort records
-    → slot.count ≡ length records →
+    → AllByRecursion HasByteSrcb records → slot.count ≡ length records →
     chain.bytes ≡ packed_bytes records → (is_free slot.stage ≡ true → slot.count ≡ 0) → length chain.bytes ≤ 252 * 65535
     →
-    ArePlaces records chain.keys slot.places → IsFile slot chain
-file_of records slot chain short counted is free small places =
+    AreHeadersEnd records slot.headers_end → ArePlaces records chain.keys slot.places → IsFile slot chain
+file_of records slot chain short codes counted is free small headers_end places =
     let same = records_are records slot.count chain.bytes short counted is in
     record {
       bytes = is ∙ ap packed_bytes (sym same);
       short = subst (λ (rs : List Stored). All IsShort rs) (sym same) short;
+      codes = subst (λ (rs : List Stored). AllByRecursion HasByteSrcb rs) (sym same) codes;
       free = free;
       small = small;
+      headers_end = subst (λ (rs : List Stored). AreHeadersEnd rs slot.headers_end) (sym same) headers_end;
       places = subst (λ (rs : List Stored). ArePlaces rs chain.keys slot.places) (sym same) places;
     }
 
@@ -58,6 +63,11 @@ All-push P (x ∷ xs) y all here =
     let rest = All-push P xs y (All-tail P x xs all) here in
     λ k d within. elim k as (λ k'. k' < suc (length (xs ++ y ∷ [])) → P (get_or (x ∷ (xs ++ y ∷ [])) k' d))
     [ zero ↦ λ _. All-head P x xs all | suc k' ↦ λ w. rest k' d (omega arith) ] within
+
+codes-push : (xs : List Stored) (y : Stored) → AllByRecursion HasByteSrcb xs → HasByteSrcb y
+    → AllByRecursion HasByteSrcb (xs ++ y ∷ [])
+codes-push [] y all here = (here, tt)
+codes-push (x ∷ xs) y all here = (all.0, codes-push xs y all.1 here)
 
 -- a chain's block stays one where the chain grows
 slice_get-front : (n i : ℕ) (xs : List ℕ) (key : ℕ) → slice_get (take n xs) i ≡ Some key → slice_get xs i ≡ Some key
@@ -84,7 +94,7 @@ place-grown records r keys keys' at front is =
 
 -- one record more
 module _ (slot : FileSlot) (chain : Chain) (keys : List ℕ) (r : Stored) (file : IsFile slot chain) (short : IsShort r)
-    (front : take (length chain.keys) keys ≡ chain.keys) where
+    (code : HasByteSrcb r) (front : take (length chain.keys) keys ≡ chain.keys) where
   abbrev records : List Stored
   records = unpacked_records slot.count chain.bytes
 
@@ -95,7 +105,7 @@ module _ (slot : FileSlot) (chain : Chain) (keys : List ℕ) (r : Stored) (file 
   chain' = record { keys = keys; bytes = chain.bytes ++ packed_record r }
 
   abbrev slot' : FileSlot
-  slot' = record slot { count = slot.count + 1 }
+  slot' = with_record r.srcb slot
 
   bytes_are : chain.bytes ++ packed_record r ≡ packed_bytes longer
   bytes_are = ap (λ (xs : List ℕ). xs ++ packed_record r) file.bytes ∙ ap (λ (xs : List ℕ). packed_bytes records ++ xs)
@@ -113,8 +123,10 @@ module _ (slot : FileSlot) (chain : Chain) (keys : List ℕ) (r : Stored) (file 
   pub appended-file : is_free slot.stage ≡ false → length (chain.bytes ++ packed_record r) ≤ 252 * 65535
       → IsFile slot' chain'
   appended-file used small =
-      file_of longer slot' chain' all_short counted bytes_are
-      (λ free. absurd (let clash : false ≡ true = sym used ∙ free in cc)) small (record {
+      file_of longer slot' chain' all_short (codes-push records r file.codes code) counted bytes_are
+      (λ free. absurd (let clash : false ≡ true = sym used ∙ free in cc)) small
+      (headers_end-push records r slot.headers_end slot.count file.headers_end
+      (sym (length-unpacked slot.count chain.bytes))) (record {
         last = place-grown records r chain.keys keys slot.places.last front file.places.last;
         next = place-grown records r chain.keys keys slot.places.next front file.places.next;
       })

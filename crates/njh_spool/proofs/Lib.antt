@@ -18,6 +18,7 @@ pub mod CountLaws
 pub mod FileLaws
 pub mod GrowingLaws
 pub mod HeaderLaws
+pub mod HeadersEndLaws
 pub mod IndexLaws
 pub mod KeptLaws
 pub mod NumberLaws

@@ -16,6 +16,7 @@ use Rattle.njh_spool.specs.Spools.{IsSound}
 use Rattle.njh_spool.specs.code.Slots.{Content, contents, slot_of, chain_of, is_whole_stage, free_slot, no_files}
 use Rattle.njh_spool.specs.code.Slots.{spools_from, IsOwn, IsFile, IsKept}
 use Rattle.njh_spool.proofs.KeptLaws.{own_of}
+use Rattle.njh_spool.proofs.HeadersEndLaws.{no_headers}
 use Rattle.njh_spool.proofs.FileLaws.{file_of, first_are}
 
 abbrev pub opened : Quota → CustomerFiles
@@ -86,8 +87,8 @@ sum_by-opened (q ∷ quotas) =
     )
 
 empty_file : IsFile free_slot empty_chain
-empty_file = file_of [] free_slot empty_chain (λ k d within. absurd (omega arith)) refl refl (λ _. refl) (omega arith)
-    (first_are [] [] free_slot.places refl)
+empty_file = file_of [] free_slot empty_chain (λ k d within. absurd (omega arith)) tt refl refl (λ _. refl) (omega arith)
+    (no_headers 0 refl) (first_are [] [] free_slot.places refl)
 
 own_opened : (q : Quota) (files : ℕ → Content) → ((n : ℕ) → (files n).stage ≡ Free) → IsWithinLimits q
     → IsOwn (opened q) files

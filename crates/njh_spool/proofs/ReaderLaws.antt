@@ -1,14 +1,17 @@
 -- What a reader has left, step by step.
-use Rattle.std.proofs.Common.{◌≡◌, ℕ, ◌+◌, ◌≤◌, [], ◌∷◌, drop, Option, None, Some, refl, ap, ◌∙◌, arith}
-use Rattle.std.specs.Prelude.{slice_get}
+use Rattle.std.proofs.Common.{◌≡◌, ℕ, zero, suc, ◌+◌, ◌≤◌, List, [], ◌∷◌, drop, Option, None, Some, refl, ap, ◌∙◌, arith}
+use Rattle.std.specs.Prelude.{All, slice_get}
+use Rattle.std.specs.List.{AllByRecursion}
 use Rattle.std.specs.Option.{option_map}
 use Rattle.std.proofs.lemmas.List.{drop_more, drop_all}
+use Rattle.std.proofs.lemmas.List.Elements.{All-head, All-tail}
 use Rattle.std.proofs.lemmas.Option.{slice_get_within, get_or_from_slice_get}
 use Rattle.njh_record.specs.Stored.{Stored}
 use Rattle.njh_spool.specs.declared.file_slot.FileSlot.{FileSlot}
 use Rattle.njh_spool.specs.declared.file_slot.RecordPlace.{RecordPlace}
+use Rattle.njh_spool.specs.Spools.{IsStorable}
 use Rattle.njh_spool.specs.code.Chains.{Chain}
-use Rattle.njh_spool.specs.code.Packing.{unpacked_records}
+use Rattle.njh_spool.specs.code.Packing.{unpacked_records, HasByteSrcb, IsShort}
 use Rattle.njh_spool.specs.code.RecordReader.{records_from}
 use Rattle.njh_spool.proofs.PackingLaws.{length-unpacked}
 
@@ -43,3 +46,12 @@ pub one_passed : (slot : FileSlot) (chain : Chain) (from next : RecordPlace) (sr
 one_passed slot chain from next srcb found after =
     let r = mapped (slice_get (unpacked_records slot.count chain.bytes) from.record_index) srcb found in
     (r.0, r.2, r.1, one_less slot chain from next r.0 r.1 after)
+
+-- those that are left can be stored
+pub storable_from : (k : ℕ) (records : List Stored) → All IsShort records → AllByRecursion HasByteSrcb records
+    → AllByRecursion IsStorable (drop k records)
+storable_from zero [] short codes = tt
+storable_from (suc k) [] short codes = tt
+storable_from zero (r ∷ records) short codes =
+    ((codes.0, All-head IsShort r records short), storable_from zero records (All-tail IsShort r records short) codes.1)
+storable_from (suc k) (r ∷ records) short codes = storable_from k records (All-tail IsShort r records short) codes.1

@@ -2,6 +2,7 @@
 use Rattle.std.proofs.Common.{◌≡◌, ℕ, zero, suc, ◌+◌, ◌<◌, ◌≤◌, List, [], ◌∷◌, ◌++◌, length, get_or, take, drop, refl}
 use Rattle.std.proofs.Common.{sym, ap, ◌∙◌, arith, append_assoc}
 use Rattle.std.specs.Prelude.{All, slice_get, IsSomeAnd}
+use Rattle.std.specs.List.{AllByRecursion}
 use Rattle.std.proofs.lemmas.List.{take-append-le, drop-append-le}
 use Rattle.std.proofs.lemmas.List.Elements.{All-head, All-tail}
 use Rattle.std.proofs.lemmas.List.Sums.{sum_by-cons}
@@ -9,7 +10,7 @@ use Rattle.njh_record.specs.Bytes.{with_field, two_bytes}
 use Rattle.njh_record.specs.Stored.{Stored}
 use Rattle.njh_spool.specs.declared.file_slot.RecordPlace.{RecordPlace}
 use Rattle.njh_spool.specs.CustomerSpool.{stored_size, at_index, rewritten_record}
-use Rattle.njh_spool.specs.code.Packing.{packed_record, packed_bytes, IsShort}
+use Rattle.njh_spool.specs.code.Packing.{packed_record, packed_bytes, HasByteSrcb, IsShort}
 use Rattle.njh_spool.specs.code.Slots.{IsPlace}
 use Rattle.njh_spool.proofs.CostLaws.{length-with_field}
 use Rattle.njh_spool.proofs.PackingLaws.{length-packed_record}
@@ -85,6 +86,12 @@ short-at_index zero place new (r ∷ records) fits short =
 short-at_index (suc k) place new (r ∷ records) fits short =
     All-cons IsShort r (at_index k (rewritten_record place new) records) (All-head IsShort r records short)
     (short-at_index k place new records fits (All-tail IsShort r records short))
+
+pub codes-at_index : (k place : ℕ) (new : List ℕ) (records : List Stored) → AllByRecursion HasByteSrcb records
+    → AllByRecursion HasByteSrcb (at_index k (rewritten_record place new) records)
+codes-at_index k place new [] codes = tt
+codes-at_index zero place new (r ∷ records) codes = (codes.0, codes.1)
+codes-at_index (suc k) place new (r ∷ records) codes = (codes.0, codes-at_index k place new records codes.1)
 
 pub length-at_index : (k : ℕ) (f : Stored → Stored) (records : List Stored)
     → length (at_index k f records) ≡ length records

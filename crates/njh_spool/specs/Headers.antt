@@ -1,5 +1,5 @@
 -- What the headers of a file say of it, and how far into the file they reach.
-use Rattle.std.specs.Prelude.{ℕ, suc, true, false, List, [], ◌∷◌, length, Option, None, ◌==◌}
+use Rattle.std.specs.Prelude.{ℕ, suc, Bool, true, false, List, [], ◌∷◌, length, Option, None, ◌==◌, ◌||◌}
 use Rattle.std.specs.Option.{option_map}
 use Rattle.njh_ebcdic.specs.Users.{User}
 use Rattle.njh_record.specs.Stored.{Stored}
@@ -11,6 +11,13 @@ use Rattle.njh_spool.specs.declared.file_headers.FileHeaders.{FileHeaders}
 use Rattle.njh_spool.specs.declared.file_headers.KeptHeaders.{KeptHeaders}
 use Rattle.njh_spool.specs.declared.file_headers.FileSummary.{FileSummary}
 use Rattle.njh_spool.specs.CustomerSpool.{WholeFile}
+
+-- a job header or a data set header, or a continuation of one
+abbrev pub is_header_srcb : ℕ → Bool
+is_header_srcb srcb = (srcb == 0xc0) || (srcb == 0xe0)
+
+abbrev pub is_header : Stored → Bool
+is_header r = is_header_srcb r.srcb
 
 abbrev pub headers_of : Kind → List Stored → FileHeaders
 headers_of kind records =

@@ -1,5 +1,5 @@
 -- The spool as the list of its customers' spools: what its calls answer, and what holds of each after every call.
-use Rattle.std.specs.Prelude.{◌≡◌, ℕ, ◌+◌, ◌≤◌, Bool, true, false, List, length, count_by, slice_get, slice_index_or}
+use Rattle.std.specs.Prelude.{◌≡◌, ℕ, ◌+◌, ◌<◌, ◌≤◌, Bool, true, false, List, length, count_by, slice_get, slice_index_or}
 use Rattle.std.specs.Prelude.{Option, Some, None, Result, ◌==◌, All}
 use Rattle.std.specs.Option.{option_map, option_or, option_and_then, ok_or, is_some}
 use Rattle.njh_record.specs.Stored.{Stored}
@@ -34,6 +34,10 @@ pub record IsSound (s : CustomerSpool) : Type 0 where
 -- each record of a whole file is of 256 bytes at most
 abbrev pub HasShortRecords : WholeFile → Type 0
 HasShortRecords f = All (λ r. length r.bytes ≤ 256) f.records
+
+-- what a file can have as a record: its SRCB is a byte, and it is of 256 bytes at most
+abbrev pub IsStorable : Stored → Type 0
+IsStorable r = (r.srcb < 256) × (length r.bytes ≤ 256)
 
 -- a fault where a test fails
 abbrev pub fault_unless : Bool → SpoolFault → Option SpoolFault

@@ -1,11 +1,13 @@
 //! The slot of a customer's file.
 
-ghost use Rattle.std.specs.Prelude.{◌≡◌};
+ghost use Rattle.std.specs.Prelude.{◌≡◌, ◌+◌, ◌<◌, ◌^◌};
+ghost use Rattle.njh_spool.specs.Headers.{is_header_srcb};
 
 use crate::State;
 use crate::file_headers::{FileSummary, KeptHeaders};
 use crate::file_id::FileId;
 use crate::store::chain_block::{ChainBlock, FIRST_BLOCK};
+use njh_header::srcb;
 use njh_record::Kind;
 
 /// Whether a file is in a slot, and whether it is whole yet.
@@ -39,8 +41,18 @@ pub struct FileSlot {
     pub stage: Stage,
     pub kind: Kind,
     pub count: u32,
+    /// How many records there are up to the last header, that one too; none where there is no
+    /// header.
+    pub headers_end: u32,
     pub places: KeptPlaces,
     pub headers: KeptHeaders,
+}
+
+/// Whether a record is a job header or a data set header, or a continuation of one.
+pub fn is_header(srcb: u8) -> bool
+    ensures { result ≡ is_header_srcb srcb }
+{
+    srcb == srcb::JOB_HEADER || srcb == srcb::DATA_SET_HEADER
 }
 
 impl RecordPlace {
@@ -61,7 +73,7 @@ impl KeptPlaces {
 }
 
 impl FileSlot {
-    ghost use Rattle.njh_spool.specs.code.Slots.{free_slot, is_free, is_partial, is_whole_stage, state_of};
+    ghost use Rattle.njh_spool.specs.code.Slots.{free_slot, is_free, is_partial, is_whole_stage, state_of, with_record};
 
     /// A slot in which a file begins, or none is.
     pub fn empty(stage: Stage, kind: Kind) -> Self
@@ -71,6 +83,7 @@ impl FileSlot {
             stage,
             kind,
             count: 0,
+            headers_end: 0,
             places: KeptPlaces::FIRST,
             headers: KeptHeaders::NONE,
         }
@@ -92,6 +105,17 @@ impl FileSlot {
         ensures { result ≡ is_whole_stage self.now.stage }
     {
         matches!(self.stage, Stage::Whole(_))
+    }
+
+    /// Counts a record that is put last, of an SRCB.
+    pub fn add_record(&mut self, srcb: u8)
+        requires { self.old.count + 1 < 2 ^ 32 }
+        ensures { self.new ≡ with_record srcb self.old }
+    {
+        self.count += 1;
+        if is_header(srcb) {
+            self.headers_end = self.count;
+        }
     }
 
     /// What is known of the file of a number, where it is whole.

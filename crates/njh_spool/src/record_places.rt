@@ -49,31 +49,6 @@ pub fn read_head(
     }
 }
 
-/// Where the next record begins. `room` is for the head of this one.
-fn place_behind(
-    store: &BlockStore,
-    at: u32,
-    slot: &FileSlot,
-    from: RecordPlace,
-    room: &mut Record,
-) -> RecordPlace
-    requires range { at < length store.now.chains }
-    requires file { IsFile slot.now (chain_at at store.now) }
-    requires place { IsPlace (unpacked_records slot.now.count (chain_at at store.now).bytes)
-        (chain_at at store.now).keys from }
-    requires more { from.record_index < slot.now.count }
-    ensures place { IsPlace (unpacked_records slot.now.count (chain_at at store.now).bytes)
-        (chain_at at store.now).keys result }
-    ensures next { result.record_index ≡ from.record_index + 1 }
-{
-    let head = read_head(store, at, slot, from, room);
-    RecordPlace {
-        record_index: from.record_index + 1,
-        place: from.place + RECORD_HEAD as u32 + u32::from(head.length),
-        block: head.block,
-    }
-}
-
 /// Where the n-th record begins, looked for from the last of the places that the slot keeps that
 /// isn't behind it.
 pub fn place_of_record(store: &BlockStore, at: u32, slot: &FileSlot, n: u32) -> RecordPlace
@@ -92,11 +67,9 @@ pub fn place_of_record(store: &BlockStore, at: u32, slot: &FileSlot, n: u32) -> 
     } else {
         RecordPlace::FIRST
     };
-    if place.record_index < n {
-        let mut room = Record::new();
-        while place.record_index < n {
-            place = place_behind(store, at, slot, place, &mut room);
-        }
+    while place.record_index < n {
+        let (_srcb, behind) = pass_record(store, at, slot, place);
+        place = behind;
     }
     place
 }

@@ -1,15 +1,17 @@
 //! The records of a file, one after another.
 
 ghost use Rattle.std.specs.Prelude.{◌≡◌, ◌<◌, ◌≤◌, ◌⊎◌, ℕ, length, drop, slice_get, None, Some};
+ghost use Rattle.std.specs.List.{AllByRecursion, list_any};
 ghost use Rattle.std.specs.Option.{option_map, ForSome};
+ghost use Rattle.njh_spool.specs.Headers.{is_header};
+ghost use Rattle.njh_spool.specs.Spools.{IsStorable};
 ghost use Rattle.njh_spool.specs.code.Chains.{chain_at};
 ghost use Rattle.njh_spool.specs.code.Packing.{unpacked_records};
 ghost use Rattle.njh_spool.specs.code.Slots.{IsFile, IsPlace};
 
-use crate::file_slot::{FileSlot, RecordPlace};
+use crate::file_slot::{FileSlot, RecordPlace, is_header};
 use crate::record_places::{pass_record, read_record};
 use crate::store::BlockStore;
-use njh_header::srcb;
 use njh_record::Record;
 use std::marker::Model;
 
@@ -68,6 +70,22 @@ impl<'a> RecordReader<'a> {
         }
     }
 
+    /// What holds of the records that are left: the SRCB of each is a byte, and each is of 256 bytes
+    /// at most.
+    pub fn records_are_storable(&self)
+        ensures { AllByRecursion IsStorable self.now }
+    {
+        let _slot = &self.slot;
+    }
+
+    /// Whether a job header or a data set header, or a continuation of one, is among the records
+    /// that are left. It reads none of them.
+    pub fn has_headers(&self) -> bool
+        ensures { result ≡ list_any is_header self.now }
+    {
+        self.next.record_index < self.slot.headers_end
+    }
+
     /// Puts the next record's bytes into `into` and gives its SRCB. Where none is left it gives
     /// none, and `into` stays.
     pub fn next(&mut self, into: &mut Record) -> Option<u8>
@@ -97,7 +115,7 @@ impl<'a> RecordReader<'a> {
             return None;
         }
         let (srcb, behind) = pass_record(self.store, self.at, &self.slot, self.next);
-        if srcb == srcb::JOB_HEADER || srcb == srcb::DATA_SET_HEADER {
+        if is_header(srcb) {
             read_record(self.store, self.at, &self.slot, self.next, into);
         }
         self.next = behind;

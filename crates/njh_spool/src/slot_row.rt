@@ -47,6 +47,7 @@ fn push_free(slots: &mut Vec<FileSlot>)
         stage: Stage::Free,
         kind: Kind::In,
         count: 0,
+        headers_end: 0,
         places: KeptPlaces::FIRST,
         headers: KeptHeaders {
             said: FileHeaders {

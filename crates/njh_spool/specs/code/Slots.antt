@@ -1,7 +1,7 @@
 -- What the slots of the files and the chains of the store are to each customer, and what always holds of them.
 use Rattle.std.specs.Prelude.{◌≡◌, ℕ, ◌+◌, ◌*◌, ◌<◌, ◌≤◌, Bool, true, false, List, [], ◌∷◌, length, take, map, cond}
-use Rattle.std.specs.Prelude.{nat_lt, sum_by, count_by, slice_index_or, ◌==◌}
-use Rattle.std.specs.List.{All}
+use Rattle.std.specs.Prelude.{drop, nat_lt, sum_by, count_by, slice_index_or, ◌==◌}
+use Rattle.std.specs.List.{All, AllByRecursion, list_any}
 use Rattle.njh_record.specs.Stored.{Stored}
 use Rattle.njh_record.specs.declared.Kind.{Kind}
 use Rattle.njh_record.specs.declared.Kind.TheVariants.{In}
@@ -17,8 +17,8 @@ use Rattle.njh_spool.specs.declared.customer_files.CustomerFiles.{CustomerFiles}
 use Rattle.njh_spool.specs.code.Chains.{Chain, StoreValue, empty_chain, blocks_used, IsBlockOf}
 use Rattle.njh_spool.specs.CustomerSpool.{CustomerSpool, WholeFile, PartialFile, stored_size, used_blocks}
 use Rattle.njh_spool.specs.Spools.{IsSound}
-use Rattle.njh_spool.specs.Headers.{kept_headers, no_headers}
-use Rattle.njh_spool.specs.code.Packing.{packed_bytes, unpacked_records, IsShort}
+use Rattle.njh_spool.specs.Headers.{is_header, is_header_srcb, kept_headers, no_headers}
+use Rattle.njh_spool.specs.code.Packing.{packed_bytes, unpacked_records, HasByteSrcb, IsShort}
 
 -- where the first record of any file begins
 abbrev pub first_place : RecordPlace
@@ -30,7 +30,14 @@ first_places = record { last = first_place; next = first_place }
 
 -- a slot in which no file is
 abbrev pub free_slot : FileSlot
-free_slot = record { stage = Free; kind = In; count = 0; places = first_places; headers = no_headers }
+free_slot = record {
+  stage = Free;
+  kind = In;
+  count = 0;
+  headers_end = 0;
+  places = first_places;
+  headers = no_headers;
+}
 
 -- a customer that the spool does not have
 abbrev pub no_files : CustomerFiles
@@ -122,13 +129,27 @@ pub record ArePlaces (records : List Stored) (keys : List ℕ) (kept : KeptPlace
   pub last : IsPlace records keys kept.last
   pub next : IsPlace records keys kept.next
 
+-- So many records reach to the last header, that one too: from a record on there is a header exactly where the record
+-- is one of these.
+abbrev pub AreHeadersEnd : List Stored → ℕ → Type 0
+AreHeadersEnd records headers_end = (k : ℕ) → list_any is_header (drop k records) ≡ nat_lt k headers_end
+
+-- a file's slot with a record more, of this SRCB
+abbrev pub with_record : ℕ → FileSlot → FileSlot
+with_record srcb slot = record slot {
+  count = slot.count + 1;
+  headers_end = cond (is_header_srcb srcb) (slot.count + 1) slot.headers_end;
+}
+
 -- what always holds of a slot and its chain: the chain has the bytes of as many records as the slot counts, none where
--- the slot is free, and records begin at the places that the slot keeps
+-- the slot is free, the slot knows how far they reach that have headers, and records begin at the places that it keeps
 pub record IsFile (slot : FileSlot) (chain : Chain) : Type 0 where
   pub bytes : chain.bytes ≡ packed_bytes (unpacked_records slot.count chain.bytes)
   pub short : All IsShort (unpacked_records slot.count chain.bytes)
+  pub codes : AllByRecursion HasByteSrcb (unpacked_records slot.count chain.bytes)
   pub free : is_free slot.stage ≡ true → slot.count ≡ 0
   pub small : length chain.bytes ≤ 252 * max_quota
+  pub headers_end : AreHeadersEnd (unpacked_records slot.count chain.bytes) slot.headers_end
   pub places : ArePlaces (unpacked_records slot.count chain.bytes) chain.keys slot.places
 
 -- a whole file's slot keeps what the headers of its records say

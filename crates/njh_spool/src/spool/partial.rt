@@ -79,19 +79,20 @@ impl Spool {
             (spool_at customer self.old))) }
         ensures err { OnErr result (self.new ≡ self.old) }
     {
-        self.append_last(customer, id, srcb, bytes)?;
-        self.keep_end(customer, id);
+        if self.append_last(customer, id, srcb, bytes)? {
+            self.keep_end(customer, id);
+        }
         Ok(())
     }
 
-    /// As `append`, but nothing is kept of where the file ends.
+    /// As `append`, but nothing is kept of where the file ends. Says whether that is to be kept now.
     fn append_last(
         &mut self,
         customer: u16,
         id: FileId,
         srcb: u8,
         bytes: &[u8],
-    ) -> Result<(), SpoolFault>
+    ) -> Result<bool, SpoolFault>
         requires range { customer < length self.old }
         requires short { length bytes.now ≤ 256 }
         ensures fault { MatchOption (append_fault id (record { srcb = srcb; bytes = bytes.now })
@@ -116,19 +117,19 @@ impl Spool {
         }
         own.used = used;
         self.store.append_both(at, &head_of(srcb, bytes), bytes);
-        slot.count += 1;
+        slot.add_record(srcb);
         self.slots.set(customer, id, slot);
-        Ok(())
+        Ok(slot.count % KEPT_EACH == 0)
     }
 
-    /// Keeps in a file's slot where the file ends, each time that so many more records came, so that
-    /// those that came last are found without a walk over those before.
+    /// Keeps in a file's slot where the file ends, so that the records that came last are found
+    /// without a walk over those before.
     fn keep_end(&mut self, customer: u16, id: FileId)
         requires { customer < length self.old }
         ensures { self.new ≡ self.old }
     {
         let mut slot = slot_at(&self.slots, customer, id);
-        if slot.is_free() || slot.count % KEPT_EACH != 0 {
+        if slot.is_free() {
             return;
         }
         let at = place(customer, id);

@@ -1,11 +1,13 @@
-use Rattle.std.proofs.Common.{◌≡◌, ℕ, inl, inr, List, drop, Option, None, Some, sym, subst, ap, ◌∙◌, arith}
+use Rattle.std.proofs.Common.{◌≡◌, ℕ, true, false, List, drop, Option, None, Some, sym, subst, ap, ◌∙◌, arith}
 use Rattle.std.specs.Prelude.{slice_get}
 use Rattle.std.specs.Option.{option_map}
 use Rattle.njh_record.specs.Stored.{Stored}
+use Rattle.njh_spool.specs.Headers.{is_header_srcb}
 use Rattle.njh_spool.specs.code.Chains.{chain_at}
 use Rattle.njh_spool.specs.code.Packing.{IsShort}
 use Rattle.njh_spool.proofs.RecordLaws.{in_file}
 use Rattle.njh_spool.proofs.ReaderLaws.{none_left, one_passed}
+use Rattle.njh_spool.proofs.HeadersEndLaws.{header_srcb}
 use Rattle.njh_spool.proofs.record_reader.RecordReader.next_header.Goals as goal
 
 abbrev srcb_of : Option Stored → Option ℕ
@@ -39,8 +41,8 @@ returns-clause-header c =
     ap (λ (xs : List Stored). slice_get xs 0) (sym c.self.view_is ∙ passed.3) in
     λ srcb is same.
     let value : c.pass_record-srcb.result.0 ≡ srcb = cc in
-    elim c.if-srcb.branch [
-      | goal.then-srcb w ↦
+    elim c.if-is_header.branch [
+      | goal.then-is_header w ↦
           let found : Some passed.0 ≡ Some (record {
             srcb = w.read_record.result.0;
             bytes = w.read_record.new.into.items;
@@ -49,10 +51,10 @@ returns-clause-header c =
           let code : w.read_record.result.0 ≡ srcb = sym (ap (λ (r : Stored). r.srcb) read) ∙ passed.1 ∙ value in
           rw w.into-is (first ∙ ap Some (read
           ∙ ap (λ (n : ℕ). record { srcb = n; bytes = w.read_record.new.into.items }) code))
-      | goal.else-srcb+else-srcb-2 w ↦ absurd (elim is [
-        | inl low ↦ w.if-srcb.false (value ∙ low)
-        | inr high ↦ w.if-srcb-2.false (value ∙ high)
-      ])
+      | goal.else-is_header w ↦
+          let is_one : is_header_srcb c.pass_record-srcb.result.0 ≡ true =
+          ap is_header_srcb value ∙ header_srcb srcb is in
+          absurd (let clash : false ≡ true = sym w.if-is_header.false ∙ c.is_header.ensures ∙ is_one in cc)
     ]
 
 pub returns-clause-rest : goal.returns-clause-rest

@@ -1,11 +1,11 @@
-use Rattle.std.proofs.Common.{◌≡◌, ℕ, ◌+◌, ◌-◌, ◌*◌, ◌≤◌, true, List, ◌++◌, length, set, refl, sym, ap, subst, ◌∙◌}
+use Rattle.std.proofs.Common.{◌≡◌, ℕ, ◌+◌, ◌-◌, ◌*◌, ◌<◌, ◌≤◌, true, List, ◌++◌, length, set, refl, sym, ap, subst, ◌∙◌}
 use Rattle.std.proofs.Common.{arith, ◌/◌, take, length-append}
 use Rattle.njh_spool.specs.declared.file_slot.FileSlot.{FileSlot}
 use Rattle.njh_spool.specs.declared.customer_files.CustomerFiles.{CustomerFiles}
 use Rattle.njh_spool.specs.code.Chains.{Chain, StoreValue, chain_at, with_chain, blocks_of}
 use Rattle.njh_spool.specs.CustomerSpool.{CustomerSpool, with_appended}
 use Rattle.njh_spool.specs.Spools.{spool_at}
-use Rattle.njh_spool.specs.code.Slots.{slot_of, chain_of, is_partial}
+use Rattle.njh_spool.specs.code.Slots.{slot_of, chain_of, is_partial, with_record}
 use Rattle.njh_spool.proofs.KeptLaws.{own_of, own_is, within_all, quotas_fit}
 use Rattle.njh_spool.proofs.CallFinds as finds
 use Rattle.njh_spool.proofs.CallLaws as call
@@ -16,7 +16,7 @@ use Rattle.njh_spool.proofs.QuotaLaws.{room_within}
 use Rattle.njh_spool.proofs.Calls.{MovesTo, call_on, slot_at, chain_of_file, spools_in}
 use Rattle.njh_spool.proofs.spool.Spool.append_last.Goals as goal
 use Rattle.njh_spool.proofs.spool.Spool.append_last.Goals.{After-is_partial, After-blocks_for, After-blocks_for-2}
-use Rattle.njh_spool.proofs.spool.Spool.append_last.Goals.{After-append_both}
+use Rattle.njh_spool.proofs.spool.Spool.append_last.Goals.{After-slot-2-1}
 
 pub slot_at-slot-requires : goal.slot_at-slot-requires
 slot_at-slot-requires c = finds.row_fits
@@ -164,16 +164,16 @@ append_both-requires-clause-room c =
     (rw c.self.view_is c.requires.range)) in
     rw (bytes, c.place-at.ensures, finds.chain_is here small) room
 
-pub overflow_add-slot : goal.overflow_add-slot
-overflow_add-slot c =
+pub add_record-requires : goal.add_record-requires
+add_record-requires c =
     let here = call_on c.self.inside c.args.customer c.args.id c.self.invariant (rw c.self.view_is c.requires.range) in
     let count = ap (λ (x : FileSlot). x.count) (c.slot_at-slot.ensures) in
     omega (arith, count, finds.count_small here)
 
-moved : (c : After-append_both) → MovesTo (call_on c.self.inside c.args.customer c.args.id c.self.invariant
+moved : (c : After-slot-2-1) → MovesTo (call_on c.self.inside c.args.customer c.args.id c.self.invariant
     (rw c.self.view_is c.requires.range)) c.append_both.new.self
     (set c.self.inside.slots (1024 * c.args.customer + c.args.id)
-    (record c.slot_at-slot.result { count = c.slot_at-slot.result.count + 1 }))
+    (with_record c.args.srcb c.slot_at-slot.result))
     (set c.self.inside.customers.items c.from.result
     (record c.index_mut-own.result.now {
       used = c.index_mut-own.result.now.used - c.blocks_for.result +
@@ -181,8 +181,8 @@ moved : (c : After-append_both) → MovesTo (call_on c.self.inside c.args.custom
     })) (with_appended c.args.id (record { srcb = c.args.srcb; bytes = c.args.bytes.now }))
 moved c =
     let here = call_on c.self.inside c.args.customer c.args.id c.self.invariant (rw c.self.view_is c.requires.range) in
-    let at = (goal.at.overflow_add-slot c).After-blocks_for-2 in
-    let first = (goal.at.overflow_add-slot c).After-blocks_for in
+    let at = (goal.at.add_record-requires c).After-blocks_for-2 in
+    let first = (goal.at.add_record-requires c).After-blocks_for in
     let there = there_is first in
     let small = finds.small_partial here there in
     let chain = chain_same first in
@@ -194,6 +194,7 @@ moved c =
     let keys = (chain_at c.place-at.result c.append_both.new.self).keys in
     let blocks = c.index_mut-own.result.now.used - c.blocks_for.result + c.blocks_for-2.result in
     let r : Stored = record { srcb = c.args.srcb; bytes = c.args.bytes.now } in
+    let code : c.args.srcb < 256 = omega arith in
     let longer : Chain = record { keys = keys; bytes = (chain_of_file here).bytes ++ packed_record r } in
     let after : StoreValue = with_chain (1024 * c.args.customer + c.args.id) longer c.self.inside.store in
     let front : take (length (chain_of_file here).keys) keys ≡ (chain_of_file here).keys =
@@ -206,24 +207,23 @@ moved c =
     ∙ ap (λ (x : Chain). with_chain c.place-at.result
     (record { keys = keys; bytes = x.bytes ++ packed_record r }) c.self.inside.store) chain
     ∙ ap (λ (i : ℕ). with_chain i longer c.self.inside.store) c.place-at.ensures in
-    call.arrives here after c.append_both.new.self (record c.slot_at-slot.result
-    { count = c.slot_at-slot.result.count + 1 }) (record c.index_mut-own.result.now { used = blocks })
+    call.arrives here after c.append_both.new.self (with_record c.args.srcb c.slot_at-slot.result) (record c.index_mut-own.result.now { used = blocks })
     (set c.self.inside.slots (1024 * c.args.customer + c.args.id)
-    (record c.slot_at-slot.result { count = c.slot_at-slot.result.count + 1 })) c.from.result
+    (with_record c.args.srcb c.slot_at-slot.result)) c.from.result
     (with_appended c.args.id r) store refl c.from.ensures
     (subst (λ (x : FileSlot). MovesTo here after (set c.self.inside.slots (1024 * c.args.customer + c.args.id)
-    (record x { count = x.count + 1 })) (set c.self.inside.customers.items c.args.customer
+    (with_record c.args.srcb x)) (set c.self.inside.customers.items c.args.customer
     (record c.index_mut-own.result.now { used = blocks })) (with_appended c.args.id r))
     (sym same)
     (subst (λ (o : CustomerFiles). MovesTo here after (set c.self.inside.slots (1024 * c.args.customer + c.args.id)
-    (record (slot_at here) { count = (slot_at here).count + 1 }))
+    (with_record c.args.srcb (slot_at here)))
     (set c.self.inside.customers.items c.args.customer (record o { used = blocks }))
     (with_appended c.args.id r)) (sym (own_same first))
-    (call.appends here r keys blocks there c.requires.short front (now_used at)
+    (call.appends here r keys blocks there c.requires.short code front (now_used at)
     (omega (arith, quota, c.if-used-own.false)) small)))
 
 pub invariant_of-self-2 : goal.invariant_of-self-2
-invariant_of-self-2 c = rw c.set.ensures (moved (goal.at.invariant_of-self-2 c).After-append_both).kept
+invariant_of-self-2 c = rw (c.set.ensures, c.add_record.ensures) (moved (goal.at.invariant_of-self-2 c).After-slot-2-1).kept
 
 pub returns-clause-fault : goal.returns-clause-fault
 returns-clause-fault c =
@@ -240,7 +240,7 @@ returns-clause-fault c =
 
 pub returns-clause-ok : goal.returns-clause-ok
 returns-clause-ok c =
-    rw c.set.ensures ((moved (goal.at.returns-clause-ok c).After-append_both).spools
+    rw (c.set.ensures, c.add_record.ensures) ((moved (goal.at.returns-clause-ok c).After-slot-2-1).spools
     ∙ ap (λ (old : List CustomerSpool). set old c.args.customer
     (with_appended c.args.id (record { srcb = c.args.srcb; bytes = c.args.bytes.now }) (spool_at c.args.customer old)))
     c.self.view_is)
