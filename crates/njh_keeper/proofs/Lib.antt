@@ -31,6 +31,7 @@ pub mod KeptLaws
 pub mod GatheringLaws
 pub mod ReachLaws
 pub mod NextNodeLaws
+pub mod HeadersEndLaws
 pub mod FollowingLaws
 pub mod PartlyLaws
 pub mod StillLaws

@@ -38,7 +38,7 @@ abbrev pub IsRead : Option Stored → ℕ → List ℕ → Type 0
 IsRead next srcb bytes = (code : ℕ) → (code ≡ 0xc0) ⊎ (code ≡ 0xe0) → Some srcb ≡ Some code
     → next ≡ Some (record { srcb = code; bytes = bytes })
 
-names_none : (before : ℕ) (r : Stored) → (r.srcb == 0xe0) ≡ false → named_node (Some before) r ≡ None
+pub names_none : (before : ℕ) (r : Stored) → (r.srcb == 0xe0) ≡ false → named_node (Some before) r ≡ None
 names_none before r other =
     ap (λ is. cond (is && not (before == 0xe0)) (option_map (λ h. h.destination.node)
     (result_ok (data_set_header r.bytes))) None) other
@@ -106,10 +106,11 @@ pub ends : (all : List (List ℕ)) (first : List ℕ) (left : List (List ℕ)) �
 ends all first left known e = known.0 (subst (AllAre first) (sym e) tt)
 
 pub nothing : (all : List (List ℕ)) (found : Option (List ℕ)) (before : ℕ) (records : List Stored)
-    → all ≡ with_first found (named_nodes (Some before) records) → found ≡ None → records ≡ [] → all ≡ []
+    → all ≡ with_first found (named_nodes (Some before) records) → found ≡ None
+    → named_nodes (Some before) records ≡ [] → all ≡ []
 nothing all found before records e none end =
     e ∙ ap (λ (n : Option (List ℕ)). with_first n (named_nodes (Some before) records)) none
-    ∙ ap (named_nodes (Some before)) end
+    ∙ end
 
 pub none_named : (records : List Stored) → named_nodes (Some 0) records ≡ [] → AreOne (named_nodes None records)
 none_named records e = subst AreOne (sym (from_zero records ∙ e)) tt

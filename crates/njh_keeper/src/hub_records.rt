@@ -52,7 +52,7 @@ pub(crate) fn write_records<S: Alter + Drop>(
 }
 
 /// Writes the headers anew among the first so many records of a file, which stand there. The others
-/// aren't read.
+/// aren't read, and those behind the last header aren't gone through.
 fn rewrite_headers<S: Alter + Drop>(
     writer: &mut SpoolWriter<S>,
     hub: &Hub,
@@ -76,8 +76,12 @@ fn rewrite_headers<S: Alter + Drop>(
     if written > PLACES {
         return Err(astray());
     }
+    records.records_are_storable();
     let mut record = Record::new();
     for place in 0..written {
+        if !records.has_headers() {
+            return Ok(());
+        }
         let Some(srcb) = records.next_header(&mut record) else {
             return Err(astray());
         };
@@ -177,17 +181,20 @@ fn are_mixed(mut records: RecordReader<'_>, count: u32) -> bool
 
 /// The node that the next data set header names, of those records that are left, so many at most.
 /// One directly after another goes on with that, and names none. The SRCB of the record before is
-/// given, and that of the header is left in its place.
+/// given, and that of the header is left in its place. Behind the last header it looks at none.
 fn next_node(records: &mut RecordReader<'_>, before: &mut u8, count: u32) -> Option<Name>
     requires { length records.old ≤ count }
     ensures nodes { named_nodes (Some before.old) records.old
         ≡ with_first result (named_nodes (Some before.new) records.new) }
-    ensures none { result ≡ None → records.new ≡ [] }
+    ensures none { result ≡ None → named_nodes (Some before.new) records.new ≡ [] }
     ensures fewer { length records.new ≤ length records.old }
     ensures fewer_where { IsSome result → length records.new < length records.old }
 {
     let mut record = Record::new();
     for _ in 0..count {
+        if !records.has_headers() {
+            return None;
+        }
         let srcb = records.next_header(&mut record)?;
         let node = node_of(*before, srcb, &record);
         *before = srcb;

@@ -1,16 +1,24 @@
 use Rattle.njh_keeper.proofs.Words
 use Words.{◌≡◌, ℕ, ◌+◌, ◌-◌, ◌^◌, ◌<◌, true, false, List, drop, slice_get, refl, sym, ap, subst, ◌∙◌, min, arith}
-use Words.{take, AllByRecursion, FitsHub, Stored, Record, shown, records_numbered, records_in, part, Changes, AreBegun, Leads, SpoolWriter}
+use Words.{take, AllByRecursion, FitsHub, Stored, Record, shown, records_numbered, records_in, part, Changes, AreBegun, Leads, SpoolWriter, Some, CustomerSpool}
 use Rattle.njh_keeper.proofs.LeadingLaws.{clean_before, survives_both, survives_here}
+use Rattle.njh_keeper.proofs.HeadersEndLaws.{front_fits, rewrite_ends}
 use Rattle.njh_keeper.proofs.NextNodeLaws.{next_of}
 use Rattle.njh_keeper.proofs.ReachLaws.{Reaches, begun_front, begun_is_same, bytes_read, file_is_read, next_stands}
-use Rattle.njh_keeper.proofs.ReachLaws.{one_fewer_left, one_more_fits, only_waits, reach_begins, reach_passes}
+use Rattle.njh_keeper.proofs.ReachLaws.{one_fewer_left, only_waits, reach_begins, reach_passes}
 use Rattle.njh_keeper.proofs.ReachLaws.{reach_rewrites, rewrite_done, which_header}
 use Rattle.njh_keeper.specs.code.{Alike.is_header, Writing.with_replaced}
 use Rattle.njh_keeper.proofs.hub_records.rewrite_headers.Goals as goal
 
 abbrev waiting_of : (S : Type 0) → SpoolWriter S → ℕ
 waiting_of S w = w.waiting
+
+-- all records of a file fit, and so do the first of them
+all_fit : (number written : ℕ) (spool : CustomerSpool) (rs : List Stored) → records_numbered number spool ≡ Some rs
+    → AllByRecursion FitsHub rs → AllByRecursion FitsHub (take written (records_in number spool))
+all_fit number written spool rs is fit =
+    subst (λ (xs : List Stored). AllByRecursion FitsHub (take written xs)) (file_is_read number spool rs is)
+    (front_fits written rs fit)
 
 pub loop-place-init : goal.loop-place-init
 loop-place-init g c =
@@ -22,7 +30,6 @@ loop-place-init g c =
       led = λ clean. reach_begins c.args.key (AreBegun true c.args.written all) all (begun_front true c.args.written all);
       left = file_is_read c.args.file.now.number spool c.in-Some.records
           (sym {b = records_numbered c.args.file.now.number spool} c.read_file.ensures ∙ c.in-Some.is);
-      fit = tt;
       others = refl;
       counted = omega arith;
     }
@@ -41,9 +48,6 @@ loop-place-preserved g c =
     let stands = next_stands all at r (next.1 ∙ ap (λ (rs : List Stored). slice_get rs 0) so_far.left) in
     let left : c.next_header.new.self ≡ drop (at + 1) all =
     c.in-Some-next_header.ensures.rest ∙ ap (λ (rs : List Stored). drop 1 rs) so_far.left ∙ one_fewer_left all at in
-    let low : r.srcb < 256 = omega (arith, next.2) in
-    let fit = one_more_fits all at r stands.0 stands.1
-    (low, c.in-Some-next_header.ensures.short r (sym next.1)) so_far.fit in
     let waiting = min (c.loop-place.writer.waiting + 1) (2 ^ 32 - 1) in
     elim c.if-stands_alone.branch [
       | goal.then-stands_alone+in_ok-replace_record w ↦
@@ -70,7 +74,6 @@ loop-place-preserved g c =
                   bytes = bytes;
                 })) mid new) w.from-srcb.ensures (w.in_ok-replace_record.ensures.changed clean));
             left = left;
-            fit = fit;
             others = only_waits c.args.writer.now c.loop-place.writer w.replace_record.new.self waiting so_far.others
                 w.in_ok-replace_record.ensures.others;
             counted = (let one = ap (waiting_of g.row.S.Denot) w.in_ok-replace_record.ensures.others in
@@ -84,11 +87,38 @@ loop-place-preserved g c =
             led = λ clean. reach_passes c.args.key begun all front at (so_far.led clean)
                 (begun_is_same c.args.written all at r (omega (arith, c.loop-place-test.true)) stands.1 other);
             left = left;
-            fit = fit;
             others = so_far.others;
             counted = so_far.counted;
           })
     ]
+
+-- ---- no header is left
+
+pub returns-then-not-has_headers-clause-led : goal.returns-then-not-has_headers-clause-led
+returns-then-not-has_headers-clause-led g c =
+    let all = records_in c.args.file.now.number (part c.args.file.now.customer c.args.hub.now).customer.spool in
+    let so_far = c.loop-place.invariant in
+    λ clean. rewrite_ends c.args.key c.args.written c.loop-place.place all c.loop-place.records so_far.left
+    (omega (arith, c.loop-place-test.true)) (sym c.has_headers.ensures ∙ c.if-not-has_headers.true)
+    (so_far.led clean)
+
+pub returns-then-not-has_headers-clause-fit : goal.returns-then-not-has_headers-clause-fit
+returns-then-not-has_headers-clause-fit g c =
+    let spool = (part c.args.file.now.customer c.args.hub.now).customer.spool in
+    all_fit c.args.file.now.number c.args.written spool c.in-Some.records
+    (sym {b = records_numbered c.args.file.now.number spool} c.read_file.ensures ∙ c.in-Some.is)
+    c.records_are_storable.ensures
+
+pub returns-then-not-has_headers-clause-others : goal.returns-then-not-has_headers-clause-others
+returns-then-not-has_headers-clause-others g c = c.loop-place.invariant.others
+
+pub returns-then-not-has_headers-clause-counted : goal.returns-then-not-has_headers-clause-counted
+returns-then-not-has_headers-clause-counted g c = c.loop-place.invariant.counted
+
+pub returns-then-not-has_headers-clause-crash : goal.returns-then-not-has_headers-clause-crash
+returns-then-not-has_headers-clause-crash g c = c.loop-place.invariant.crash
+
+-- ---- so many were gone through
 
 pub returns-clause-led : goal.returns-clause-led
 returns-clause-led g c =
@@ -101,9 +131,10 @@ returns-clause-led g c =
 
 pub returns-clause-fit : goal.returns-clause-fit
 returns-clause-fit g c =
-    let all = records_in c.args.file.now.number (part c.args.file.now.customer c.args.hub.now).customer.spool in
-    let end : c.loop-place.place ≡ c.args.written = omega (arith, c.loop-place.auto.place-end, c.loop-place-test.false) in
-    subst (λ n. AllByRecursion FitsHub (take n all)) end c.loop-place.invariant.fit
+    let spool = (part c.args.file.now.customer c.args.hub.now).customer.spool in
+    all_fit c.args.file.now.number c.args.written spool c.in-Some.records
+    (sym {b = records_numbered c.args.file.now.number spool} c.read_file.ensures ∙ c.in-Some.is)
+    c.records_are_storable.ensures
 
 pub returns-clause-others : goal.returns-clause-others
 returns-clause-others g c = c.loop-place.invariant.others

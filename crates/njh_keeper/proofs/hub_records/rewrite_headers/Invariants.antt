@@ -1,5 +1,5 @@
 use Rattle.njh_keeper.proofs.Words
-use Words.{◌≡◌, true, drop, take, AllByRecursion, HasCleanDisk, Survives, shown, records_in, part, AreBegun, Leads, FitsHub}
+use Words.{◌≡◌, true, drop, HasCleanDisk, Survives, shown, records_in, part, AreBegun, Leads}
 use Rattle.njh_keeper.{proofs.ReachLaws.Reaches, specs.code.Counting.CountsMore}
 use Rattle.njh_keeper.proofs.hub_records.rewrite_headers.Given as goal
 
@@ -13,7 +13,6 @@ invariant-loop-place g l =
       crash : Survives old now (λ _. ⊥);
       led : HasCleanDisk now → Leads (Reaches l.key (AreBegun true l.written all) all l.place) old now;
       left : l.records ≡ drop l.place all;
-      fit : AllByRecursion FitsHub (take l.place all);
       others : l.writer ≡ record l.fn.writer { store = l.writer.store; waiting = l.writer.waiting };
       counted : CountsMore 0 l.fn.writer l.writer;
     }
