@@ -1,7 +1,7 @@
 -- Where no header is left among a file's records: those that stood there are those that it has, and none names a node.
 use Rattle.njh_keeper.proofs.Words
-use Words.{◌≡◌, ℕ, zero, suc, ◌+◌, ◌≤◌, ◌==◌, ◌||◌, Bool, true, false, List, [], ◌∷◌, ◌++◌, take, drop, slice_get}
-use Words.{Option, Some, None, refl, sym, ap, ◌∙◌, arith, take-take, take-append-drop, subst, State, Stored, AllByRecursion}
+use Words.{◌≡◌, ℕ, zero, suc, ◌≤◌, ◌==◌, ◌||◌, Bool, true, false, List, [], ◌∷◌, ◌++◌, take, drop, slice_get}
+use Words.{Option, Some, None, refl, sym, ap, ◌∙◌, take-take, take-append-drop, subst, State, Stored, AllByRecursion}
 use Words.{AreAlike, AreBegun, FitsHub, HasRecords, Leads, leads_weaker, named_nodes, records_midway, with_first}
 use Rattle.std.specs.List.{list_any}
 use Rattle.njh_spool.specs.Headers.{is_header}

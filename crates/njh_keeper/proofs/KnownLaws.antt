@@ -2,12 +2,13 @@
 use Rattle.njh_keeper.proofs.Words
 use Words.{◌≡◌, ◌≢◌, ◌⊎◌, inl, inr, ℕ, zero, suc, ◌<◌, true, List, [], ◌∷◌, length, get_or, set, map, Result, Ok, Err}
 use Words.{OnOk, refl, sym, ap, subst, ◌∙◌, arith, get_or-set_same, get_or_default, length-map, map-set, map-map}
+use Words.{set-get_or}
 use Words.{AllByRecursion, AllZip, Database, HasCleanDisk, State, Ghosts, CommitState, Stands, Holds, SpoolContents}
 use Words.{kept, shown, Stays, AreDistinct, NamedCustomer, TableFile, CustomerSpool, KeptFile, IsSound, HaveHeaders}
 use Words.{HasShortRests, Part, no_part, part, IsLed, kept_file, kept_of, AreNamedApart, HasOwn, HasSpool, IsSoundPart}
 use Words.{Knows, LeadsStep, StepGoes, own_memory_of, own_of, AllAreFound, AllAreRead, HasBegun, name_at, OwnFiles}
 use Words.{Keeping, KnowsHub, KnowsNow, MayLeave, MayLeaveOf, left_in, AllAreBack, hub_opened, is_name_of, own_files}
-use Words.{part_opened, IfOk}
+use Words.{part_opened, IfOk, AllUpToDate, KeepsOn, Leads, Survives, clean_before}
 use Rattle.std.{proofs.{Math.Seq.map-set_same, lemmas.Slice.Zip.AllZip-long}, specs.Prelude.string_bytes}
 use Rattle.{njh_table.specs.TableFile.entry_of, njh_turns.specs.Keeping.{LeadsHub, LeavesEither, LeavesOnly}}
 use Rattle.{njh_turns.specs.Keeping.kept_files, njh_keeper.proofs.BegunLaws.{all_by_place, begun_is_known}}
@@ -79,6 +80,19 @@ may_leave_same g old new left store names m = record {
   clean = subst (λ s. HasCleanDisk (shown g s)) store m.clean;
   trees = m.trees;
   may = subst (λ s. (shown g s).may_leave m.trees) store m.may;
+  spool = m.spool;
+  holds = m.holds;
+  is = m.is ∙ ap (λ ns. left_in ns m.spool) names;
+}
+
+-- nothing was committed between
+pub may_leave_before : {S : Type 0} (g : Ghosts S) (old new : Keeping S) (left : List (List KeptFile))
+    → Survives (shown g old.store) (shown g new.store) (λ _. ⊥) → new.names ≡ old.names → MayLeave g new left
+    → MayLeave g old left
+may_leave_before g old new left call names m = record {
+  clean = clean_before call m.clean;
+  trees = m.trees;
+  may = elim (call.crash m.clean m.trees m.may) [ inl may ↦ may | inr none ↦ absurd none ];
   spool = m.spool;
   holds = m.holds;
   is = m.is ∙ ap (λ ns. left_in ns m.spool) names;
@@ -192,11 +206,8 @@ module _ {S : Type 0} (g : Ghosts S) (old new : Keeping S) (before : List Part) 
   sound_before : IsSoundPart (part c before)
   sound_before = all_at IsSoundPart before c (part c before) k.sound in_hub part_is
 
-  module _ (now : Part) (led : IsLed (part c before) now) (sound : IsSoundPart now) (m m2 : OwnMemory)
-      (is : m ≡ get_or old.customers c m)
-      (customers : new.customers ≡ set old.customers c m2) (names : new.names ≡ old.names)
-      (leads : LeadsStep (memory_in old m) (memory_in new m2) old.is_changed new.is_changed now (shown g old.store)
-      (shown g new.store)) where
+  module _ (now : Part) (sound : IsSoundPart now) (m m2 : OwnMemory) (is : m ≡ get_or old.customers c m)
+      (customers : new.customers ≡ set old.customers c m2) (names : new.names ≡ old.names) where
     here : m.own ≡ get_or owns c m.own
     here = at_place (λ (x : OwnMemory). x.own) old.customers c m there is
 
@@ -252,9 +263,10 @@ module _ {S : Type 0} (g : Ghosts S) (old new : Keeping S) (before : List Part) 
         sound = all-set IsSoundPart before c now k.sound sound;
       }
 
-    known_set : KnowsNow g new (set before c now)
-    known_set = let one = (leads (part c before) led sound_before).leads k.standing k.stands in known_new one.0
-        (one.2 has) one.1
+    known_set : IsLed (part c before) now → LeadsStep (memory_in old m) (memory_in new m2) old.is_changed new.is_changed
+        now (shown g old.store) (shown g new.store) → KnowsNow g new (set before c now)
+    known_set led leads = let one = (leads (part c before) led sound_before).leads k.standing k.stands in known_new
+        one.0 (one.2 has) one.1
 
   -- by a step of customer c
   pub known_after : (hub : List Part) → LeadsHub c before hub → IsSound (part c hub).customer.spool
@@ -265,8 +277,32 @@ module _ {S : Type 0} (g : Ghosts S) (old new : Keeping S) (before : List Part) 
   known_after hub leads sound headers m m2 is customers names step =
       let now : part c hub ≡ leads.0 = ap (part c) leads.2 ∙ get_or-set_same before c leads.0 no_part in_hub in
       let by = subst (λ (p : Part). IsLed (part c before) p × (hub ≡ set before c p)) (sym now) (leads.1, leads.2) in
-      subst (KnowsNow g new) (sym by.1) (known_set (part c hub) by.0 (record {
+      subst (KnowsNow g new) (sym by.1) (known_set (part c hub) (record {
         sound = sound;
         headers = headers;
         rests = led_rests (part c before) (part c hub) by.0 sound_before.rests;
-      }) m m2 is customers names step)
+      }) m m2 is customers names by.0 step)
+
+  -- rows of files of customer c that have left are dropped
+  pub known_swept : (m m2 : OwnMemory) → m ≡ get_or old.customers c m → new.customers ≡ set old.customers c m2
+      → new.names ≡ old.names → m2 ≡ record m { own = record m.own { sweeps = m2.own.sweeps } }
+      → new.is_changed ≡ old.is_changed
+      → Leads (KeepsOn old.numbers m.own new.numbers m2.own (part c before).customer.spool) (shown g old.store)
+      (shown g new.store) → KnowsNow g new before
+  known_swept m m2 is customers names same unchanged leads =
+      let p = part c before in
+      let had = has p sound_before m m2 is customers names in
+      let one = leads.leads k.standing k.stands in
+      let goes = one.2 p.customer.spool.whole had.ordered had.apart had.has.mirrored had.has.go_on in
+      let still : set before c p ≡ before = ap (set before c) part_is ∙ set-get_or before c p in
+      subst (KnowsNow g new) still (known_new p sound_before m m2 is customers names one.0 (record {
+        moves = goes.moves;
+        named = subst (λ (x : OwnMemory). is_name_of x.text x.own.name ≡ true) (sym same) had.named;
+        has = record {
+          arrived = ap (λ (x : OwnMemory). x.own.arrived) same ∙ had.has.arrived;
+          mirrored = goes.mirrored;
+          up_to_date = subst (λ (x : OwnMemory). AllUpToDate p.customer.spool x.own) (sym same) had.has.up_to_date;
+          go_on = goes.go_on;
+        };
+        still = λ quiet. (sym unchanged ∙ quiet, refl);
+      }) one.1)

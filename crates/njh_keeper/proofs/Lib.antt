@@ -39,6 +39,7 @@ pub mod HandLaws
 pub mod NewFilesLaws
 pub mod CountingLaws
 pub mod PortionLaws
+pub mod SweptLaws
 pub mod KnowingLaws
 pub mod OpeningApart
 pub mod OpeningBegun

@@ -15,6 +15,7 @@ pub mod Following
 pub mod Counting
 pub mod Gathering
 pub mod Partly
+pub mod Swept
 pub mod Knowing
 pub mod Opening
 pub mod Apart

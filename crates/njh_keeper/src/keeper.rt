@@ -20,6 +20,7 @@ ghost use Rattle.njh_keeper.specs.Keeper.{IsAsKept, IsCommitted, IsKeptNow, IsOp
 ghost use Rattle.njh_keeper.specs.Keeper.{KnowsNow, MayLeave, MayOpenTo, left_in};
 ghost use Rattle.njh_keeper.specs.code.Opening.{AllAreFound, AllAreRead, MayBegin};
 ghost use Rattle.njh_keeper.specs.code.Refusing.{Notes};
+ghost use Rattle.njh_keeper.specs.code.Swept.{IsSwept};
 ghost use Rattle.njh_table.specs.Accepted.{AreDistinct};
 
 use crate::beginning::begin;
@@ -30,6 +31,7 @@ use crate::opening::open_from;
 use crate::own_files::OwnFiles;
 use crate::sound::see_sound;
 use crate::step::keep_step;
+use crate::sweeping::{next_to_sweep, sweep};
 use crate::writer::SpoolWriter;
 use njh_ebcdic::Name;
 use njh_hub::Hub;
@@ -55,6 +57,8 @@ pub struct SpoolKeeper<'a, R, S: Origin + Drop> {
     failures: u64,
     /// Why the first of them came, or why no hub was opened.
     cause: Option<Error>,
+    /// From which customer on the next one is looked for of whom rows are dropped in a round.
+    turn: usize,
     /// Whether no hub was opened yet.
     is_fresh: bool,
 }
@@ -101,6 +105,7 @@ impl<'a, R: Clock, S: Origin + Drop> SpoolKeeper<'a, R, S> {
             refused: None,
             failures: 0,
             cause: None,
+            turn: 0,
             is_fresh: true,
         }
     }
@@ -178,6 +183,28 @@ impl<'a, R: Clock, S: Origin + Drop> SpoolKeeper<'a, R, S> {
         self.writer.now = seconds_on(self.rt);
         let own = &mut self.customers[usize::from(customer)];
         keep_step(&mut self.writer, own, hub, customer)
+    }
+
+    /// Drops rows of files that have left of the customer whose turn it is, if one has any. So they go
+    /// too while nothing comes on its lines. Nothing of it is committed.
+    fn sweep_in_turn(&mut self) -> Result<(), Error>
+        ensures same { (self.new.failures ≡ self.old.failures) × (self.new.names ≡ self.old.names)
+            × (self.new.refused ≡ self.old.refused) }
+        ensures swept { OnOk result (IsSwept self.old.customers self.new.customers) }
+        ensures known { (parts : List Part) → KnowsHub S.Store S.found self.old parts
+            → OnOk result (KnowsHub S.Store S.found self.new parts) }
+        ensures crash { Survives (shown S.Store self.old.store) (shown S.Store self.new.store) (λ _. ⊥) }
+    {
+        if self.failures > 0 {
+            return Err(Error::SqliteFailure(ErrorCode::Closed));
+        }
+        let Some(place) = next_to_sweep(&self.customers, self.turn) else {
+            return Ok(());
+        };
+        self.is_fresh = false;
+        self.turn = place.saturating_add(1);
+        let own = &mut self.customers[place];
+        sweep(&mut self.writer, own, 0)
     }
 
     /// Commits what was written, if whole files changed or much waits.
@@ -350,6 +377,13 @@ impl<'a, R: Clock, S: Origin + Drop> Keeper for SpoolKeeper<'a, R, S> {
 
     fn settle(&mut self) -> Result<(), KeepFault> {
         a_crash_leaves_what_was_committed::<S>();
+        match self.sweep_in_turn() {
+            Ok(()) => {}
+            Err(error) => {
+                self.fail(error);
+                return Err(KeepFault);
+            }
+        }
         match self.settle_files() {
             Ok(()) => Ok(()),
             Err(error) => {

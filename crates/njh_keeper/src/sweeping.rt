@@ -1,12 +1,16 @@
-//! Records of files that have left are dropped step by step, each customer's in its own steps.
+//! Records of files that have left are dropped step by step: each customer's in its own steps, and one
+//! customer's in each round.
 
-ghost use Rattle.std.specs.Prelude.{◌≡◌, ◌≤◌, ◌+◌, ◌⊎◌, ◌++◌, [], ◌∷◌, max, min, IfOk, OnOk};
+ghost use Rattle.std.specs.Prelude.{◌≡◌, ◌<◌, ◌≤◌, ◌+◌, ◌⊎◌, ◌++◌, [], ◌∷◌, length, max, min, slice_get, None};
+ghost use Rattle.std.specs.Prelude.{IfOk, IfSome, IsSomeAnd, OnOk};
+ghost use Rattle.std.specs.List.{AllByRecursion};
 ghost use Rattle.sqlite.specs.State.{HasCleanDisk, Survives};
 ghost use Rattle.njh_spool.specs.CustomerSpool.{CustomerSpool};
 ghost use Rattle.njh_spoolfile.specs.Shelf.{shown};
 ghost use Rattle.njh_spoolfile.specs.Steps.{Changes};
 ghost use Rattle.njh_keeper.specs.code.Counting.{CountsMore};
 ghost use Rattle.njh_keeper.specs.code.Partly.{KeepsPartly};
+ghost use Rattle.njh_keeper.specs.code.Swept.{HasNoSweeps, HasSweeps};
 ghost use Rattle.njh_keeper.specs.code.Writing.{dead_in, dead_of, freed_by, left_of, sweep_of, without_swept};
 
 use crate::own_files::{OwnFiles, Sweep};
@@ -24,6 +28,34 @@ pub(crate) fn sweep_later(own: &mut OwnFiles, key: u32, end: u32) -> Result<(), 
     let end = end.min(PLACES);
     own.sweeps.push(Sweep { key, next: 0, end })?;
     Ok(())
+}
+
+/// Whose turn it is to have rows dropped between its own steps: the first customer from a place on,
+/// or else the first one, that has files that have left.
+pub(crate) fn next_to_sweep(customers: &[OwnFiles], from: usize) -> Option<usize>
+    ensures within { IfSome result (λ place. place < length customers.now) }
+    ensures has { IfSome result (λ place. IsSomeAnd (slice_get customers.now place) HasSweeps) }
+    ensures none { result ≡ None → AllByRecursion HasNoSweeps customers.now }
+{
+    let (before, behind) = customers.split_at(from.min(customers.len()));
+    match first_to_sweep(behind) {
+        Some(place) => Some(before.len() + place),
+        None => first_to_sweep(before),
+    }
+}
+
+/// The first customer that has files that have left.
+fn first_to_sweep(customers: &[OwnFiles]) -> Option<usize>
+    ensures within { IfSome result (λ place. place < length customers.now) }
+    ensures has { IfSome result (λ place. IsSomeAnd (slice_get customers.now place) HasSweeps) }
+    ensures none { result ≡ None → AllByRecursion HasNoSweeps customers.now }
+{
+    for place in 0..customers.len() {
+        if !customers[place].sweeps.is_empty() {
+            return Some(place);
+        }
+    }
+    None
 }
 
 /// Drops rows of a customer's files that have left: those at as many places as its step wrote

@@ -1,5 +1,5 @@
 use Rattle.njh_keeper.proofs.Words
-use Words.{◌≡◌, ℕ, ◌+◌, ◌-◌, ◌^◌, ◌<◌, true, false, List, drop, slice_get, refl, sym, ap, subst, ◌∙◌, min, arith}
+use Words.{◌≡◌, ℕ, ◌+◌, ◌-◌, ◌^◌, true, false, List, drop, slice_get, refl, sym, ap, subst, ◌∙◌, min, arith}
 use Words.{take, AllByRecursion, FitsHub, Stored, Record, shown, records_numbered, records_in, part, Changes, AreBegun, Leads, SpoolWriter, Some, CustomerSpool}
 use Rattle.njh_keeper.proofs.LeadingLaws.{clean_before, survives_both, survives_here}
 use Rattle.njh_keeper.proofs.HeadersEndLaws.{front_fits, rewrite_ends}
