@@ -5,3 +5,6 @@ mod OpenedLaws
 mod StillLaws
 mod LineLaws
 mod LoggingLaws
+mod WatchLaws
+mod RoundLaws
+mod GroupLaws

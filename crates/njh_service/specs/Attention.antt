@@ -1,6 +1,6 @@
 -- How long the attendant waits, and what it looks at then.
-use Rattle.std.specs.Prelude.{ℕ, ◌+◌, ◌-◌, ◌*◌, ◌/◌, ◌≤◌, ◌⊎◌, Bool, true, IsTrue, nat_le, min, if◌then◌else◌}
-use Rattle.std.specs.Prelude.{List, IsSomeAnd, slice_get}
+use Rattle.std.specs.Prelude.{◌≡◌, ℕ, ◌+◌, ◌-◌, ◌*◌, ◌/◌, ◌<◌, ◌≤◌, ◌⊎◌, Bool, true, false, IsTrue, nat_le, min}
+use Rattle.std.specs.Prelude.{if◌then◌else◌, List, length, get_or}
 use Rattle.njh_wire.specs.Standing.{Standing}
 use Rattle.njh_wire.specs.declared.network.Readiness.{Readiness}
 use Rattle.njh_service.specs.declared.attention.Watch.{Watch}
@@ -22,8 +22,19 @@ wait_of now next = if nat_le next now then 0 else on_grid (min next (now + 100))
 abbrev pub IsMarked : Readiness → Type 0
 IsMarked mark = IsTrue mark.listener ⊎ (IsTrue mark.reads ⊎ IsTrue mark.writes)
 
-abbrev pub IsMarkedAt : List Readiness → (place : ℕ) → Type 0
-IsMarkedAt ready place = IsSomeAnd (slice_get ready place) IsMarked
+abbrev pub nothing : Readiness
+nothing = record { listener = false; reads = false; writes = false }
+
+-- what is ready of the line at a place
+abbrev pub mark_at : List Readiness → (place : ℕ) → Readiness
+mark_at ready place = get_or ready place nothing
+
+-- something is ready of a line from the first of these places on, up to the other
+pub record IsAnyMarked (ready : List Readiness) (first end : ℕ) : Type 0 where
+  pub place : ℕ
+  pub from : first ≤ place
+  pub before : place < end
+  pub marked : IsMarked (mark_at ready place)
 
 -- something is ready, or the moment at which it wants to be looked at came
 abbrev pub IsWanted : (is_ready : Bool) → (moment now : ℕ) → Type 0
@@ -36,6 +47,22 @@ IsDue mark moment now = IsMarked mark ⊎ (moment ≤ now)
 -- a line that is new is looked at in the first round
 abbrev pub at_once : Watch
 at_once = record { moment = 0; is_due = true }
+
+-- when the line at a place is looked at
+abbrev pub watch_at : List Watch → (place : ℕ) → Watch
+watch_at watches place = get_or watches place at_once
+
+-- a group is sixteen lines in a row
+abbrev pub IsInGroup : (place group : ℕ) → Type 0
+IsInGroup place group = (16 * group ≤ place) × (place < 16 * group + 16)
+
+-- When the first of these lines wants to be looked at: none of them wants that before, and one wants it then, unless
+-- none wants it ever.
+pub record IsFirstMoment (watches : List Watch) (first end moment : ℕ) : Type 0 where
+  pub least : (place : ℕ) → first ≤ place → place < end → place < length watches
+      → moment ≤ (watch_at watches place).moment
+  pub wanted : (moment ≡ 18446744073709551615) ⊎ ((place : ℕ) × (first ≤ place) × (place < end)
+      × ((watch_at watches place).moment ≡ moment))
 
 -- ---- when it looks again
 

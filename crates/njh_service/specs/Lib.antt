@@ -14,4 +14,5 @@ pub mod Serving
 pub mod Sessions
 pub mod Telling
 pub mod Waking
+pub mod Watching
 pub mod code

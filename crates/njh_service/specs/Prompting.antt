@@ -6,7 +6,6 @@ use Rattle.njh_line.specs.declared.Phase.TheVariants.{Up}
 use Rattle.njh_hub.specs.declared.session_view.SessionView.{SessionView}
 use Rattle.njh_hub.specs.Resting.{HasNext}
 use Rattle.njh_hub.specs.WholeHub.{Part}
-use Rattle.njh_service.specs.declared.attention.Watch.{Watch}
 use Rattle.njh_service.specs.declared.traffic.Sight.{Sight}
 use Rattle.njh_service.specs.declared.traffic.Traffic.{Traffic}
 
@@ -65,14 +64,6 @@ is_recent (Some moment) now = nat_lt (now - moment) 2000
 -- and its wire is silent for 20 milliseconds
 abbrev pub is_soon : Traffic → ℕ → Bool
 is_soon t now = is_recent t.text now && nat_le 20 (now - t.seen.begun)
-
--- What is seen of the attendant: the lines that it serves, by their places, what it noted of each, when each is looked
--- at, and the time.
-pub record Watched : Type 0 where
-  pub lines : List LineId
-  pub noted : List Traffic
-  pub watches : List Watch
-  pub now : ℕ
 
 -- A line that rests is prompted: that is so, or the hub has a block to send on it (`HasNext`: by its own customer's
 -- part alone) and the line doesn't owe for too many. Else this looks at nothing but what was noted of the line itself,

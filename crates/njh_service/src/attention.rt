@@ -1,15 +1,21 @@
 //! How long the attendant waits, and what it looks at then.
 
-ghost use Rattle.std.specs.Prelude.{◌≡◌, ◌↔◌, ◌<◌, ◌≤◌, ℕ, false, IsTrue};
-ghost use Rattle.njh_service.specs.Attention.{IsMarked, IsMarkedAt, IsWanted, wait_of};
+ghost use Rattle.std.specs.Prelude.{◌≡◌, ◌↔◌, ◌<◌, ◌≤◌, ◌+◌, ◌*◌, ℕ, length, min, false, IsTrue, OnErr, OnOk};
+ghost use Rattle.njh_service.specs.Attention.{IsAnyMarked, IsInGroup, IsFirstMoment, IsMarked, IsWanted};
+ghost use Rattle.njh_service.specs.Attention.{wait_of, watch_at};
 
 use njh_wire::Readiness;
+use std::alloc::AllocError;
 
 /// How long all lines wait at most, in milliseconds.
 const LONGEST: u64 = 100;
 
 /// Moments fall on multiples of so many milliseconds, so that those of several lines fall together.
 const GRID: u64 = 5;
+
+/// So many lines in a row are watched together: a group in which nothing is ready or due costs a
+/// round one look.
+const GROUP: usize = 16;
 
 /// Nothing is ready.
 pub(crate) const NOTHING: Readiness = Readiness {
@@ -53,6 +59,13 @@ impl Watch {
         self.is_due = is_ready || self.moment <= now;
         self.is_due
     }
+
+    /// It wants to be looked at at this moment, if not before.
+    pub(crate) fn call(&mut self, moment: u64)
+        ensures { self.new ≡ record self.old { moment = min self.old.moment moment } }
+    {
+        self.moment = self.moment.min(moment);
+    }
 }
 
 /// Whether something of a line is ready.
@@ -64,7 +77,7 @@ pub(crate) fn is_marked(mark: Readiness) -> bool
 
 /// Whether something is ready of a line from the first of these places on, up to the other.
 pub(crate) fn is_any_marked(ready: &[Readiness], first: usize, end: usize) -> bool
-    ensures { ¬ IsTrue result → (place : ℕ) → first ≤ place → place < end → ¬ IsMarkedAt ready.now place }
+    ensures { IsTrue result ↔ IsAnyMarked ready.now first end }
 {
     for place in first..end.min(ready.len()) {
         if is_marked(ready[place]) {
@@ -72,6 +85,54 @@ pub(crate) fn is_any_marked(ready: &[Readiness], first: usize, end: usize) -> bo
         }
     }
     false
+}
+
+/// When the first wants to be looked at of the lines from one of these places on, up to the other;
+/// `u64::MAX` if there is none.
+pub(crate) fn first_moment(watches: &[Watch], first: usize, end: usize) -> u64
+    ensures { IsFirstMoment watches.now first end result }
+{
+    let mut next = u64::MAX;
+    for place in first..end.min(watches.len()) {
+        next = next.min(watches[place].moment);
+    }
+    next
+}
+
+/// The places of the lines of a group among those of so many: from the first on, up to the other.
+pub(crate) fn places_of(group: usize, many: usize) -> (usize, usize)
+    ensures first { result.0 ≡ min (16 * group) many }
+    ensures end { result.1 ≡ min (16 * group + 16) many }
+{
+    let first = group.saturating_mul(GROUP);
+    (first.min(many), first.saturating_add(GROUP).min(many))
+}
+
+/// Groups of lines get one more, at this place, that is looked at at once. Want of memory is the
+/// only refusal.
+pub(crate) fn add_to_groups(groups: &mut Vec<Watch>, place: usize) -> Result<(), AllocError>
+    ensures lowers { (group : ℕ) → (watch_at groups.new.items group).moment ≤ (watch_at groups.old.items group).moment }
+    ensures calls { OnOk result ((group : ℕ) → IsInGroup place group → (watch_at groups.new.items group).moment ≡ 0) }
+    ensures room { place ≤ 16 * length groups.old.items → OnOk result (place < 16 * length groups.new.items) }
+    ensures err { OnErr result (groups.new.items ≡ groups.old.items) }
+{
+    if place % GROUP == 0 {
+        groups.push(AT_ONCE)?;
+    }
+    call_group(groups, place, 0);
+    Ok(())
+}
+
+/// The group of the line at this place is looked at at this moment, if not before.
+pub(crate) fn call_group(groups: &mut Vec<Watch>, place: usize, moment: u64)
+    ensures many { length groups.new.items ≡ length groups.old.items }
+    ensures lowers { (group : ℕ) → (watch_at groups.new.items group).moment ≤ (watch_at groups.old.items group).moment }
+    ensures calls { (group : ℕ) → IsInGroup place group → (watch_at groups.new.items group).moment ≤ moment }
+{
+    let group = place / GROUP;
+    if group < groups.len() {
+        groups[group].call(moment);
+    }
 }
 
 /// For how many milliseconds to wait, now that a line wants to be looked at next at this moment.

@@ -58,6 +58,7 @@ impl<N: Network + Drop, L: Write + Drop> Desk<N, L> {
         ensures counts { wire.old.failures ≤ wire.new.failures }
         ensures place { wire.new.place ≡ wire.old.place }
         ensures clock { wire.new.clock ≡ wire.old.clock }
+        ensures now { self.new.now ≡ self.old.now }
         ensures kept { KeepsLine wire.old label.old self.old.now → (wire.new ≡ wire.old) × ((label.new ≡ label.old)
             × (result ≡ kept_until label.old.up label.old.no_session_since)) }
         ensures tried { ¬ KeepsLine wire.old label.old self.old.now →
@@ -144,6 +145,7 @@ impl<N: Network + Drop, L: Write + Drop> Desk<N, L> {
         ensures counts { wire.old.failures ≤ wire.new.failures }
         ensures place { wire.new.place ≡ wire.old.place }
         ensures clock { wire.new.clock ≡ wire.old.clock }
+        ensures now { self.new.now ≡ self.old.now }
         ensures begun { IsToCome dial.old.state self.old.now → (dial_moment dial.new.state ≡ given_up_at self.old.now)
             ⊎ (dial_moment dial.new.state ≡ next_dial dial.old.has_failed self.old.now) }
         ensures idle { ¬ IsToCome dial.old.state self.old.now → connection_in dial.old.state ≡ None →
@@ -178,7 +180,8 @@ impl<N: Network + Drop, L: Write + Drop> Desk<N, L> {
 
     /// A dial failed.
     fn give_up(&mut self, dial: &mut Dial<N::Connection>, label: &Label)
-        ensures { dial.new ≡ failed dial.old self.old.now }
+        ensures failed { dial.new ≡ failed dial.old self.old.now }
+        ensures now { self.new.now ≡ self.old.now }
     {
         dial.fail(self.now);
         self.tell(label, LogEvent::DialFailed(dial.address()));

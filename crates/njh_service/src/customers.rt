@@ -120,6 +120,13 @@ impl Customers {
         }
     }
 
+    /// Marks a customer if something came that may give one of its lines something to send.
+    pub(crate) fn mark_if(&mut self, customer: u16, has_come: bool) {
+        if has_come {
+            self.mark(customer);
+        }
+    }
+
     /// Something came that may give one of this customer's lines something to send.
     pub(crate) fn mark(&mut self, customer: u16) {
         if let Some(row) = self.rows.get_mut(usize::from(customer)) {

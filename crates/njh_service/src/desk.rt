@@ -70,6 +70,7 @@ impl<N: Network + Drop, L: Write + Drop> Desk<N, L> {
         ensures counts { wire.old.failures ≤ wire.new.failures }
         ensures place { wire.new.place ≡ wire.old.place }
         ensures line { post.new.line ≡ post.old.line }
+        ensures now { self.new.now ≡ self.old.now }
     {
         let mark = *ready;
         let is_ready = is_marked(mark);
@@ -95,6 +96,7 @@ impl<N: Network + Drop, L: Write + Drop> Desk<N, L> {
         ensures place { wire.new.place ≡ wire.old.place }
         ensures clock { wire.new.clock ≡ wire.old.clock }
         ensures line { post.new.line ≡ post.old.line }
+        ensures now { self.new.now ≡ self.old.now }
     {
         if mark.reads {
             wire.mark_readable();

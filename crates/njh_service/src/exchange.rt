@@ -1,19 +1,24 @@
 //! The attendant of a service.
 
-ghost use Rattle.std.specs.Prelude.{◌≡◌, ◌≤◌, ◌↔◌, ◌∷◌, ◌++◌, [], IsTrue, Some, slice_get, OnOk, OnErr};
+ghost use Rattle.std.specs.Prelude.{◌≡◌, ℕ, ◌+◌, ◌*◌, ◌<◌, ◌≤◌, ◌↔◌, ◌∷◌, ◌++◌, [], length, min, IsTrue, Some, slice_get};
+ghost use Rattle.std.specs.Prelude.{◌≢◌, false, OnOk, OnErr};
 ghost use Rattle.njh_turns.specs.Service.{AreStill};
 ghost use Rattle.njh_table.specs.declared.LineId.{LineId};
 ghost use Rattle.njh_hub.specs.Quiets.{quiet_on};
 ghost use Rattle.njh_hub.specs.Views.{HasGivenUp};
 ghost use Rattle.njh_hub.specs.WholeHub.{HasLine};
 ghost use Rattle.njh_service.specs.Prompting.{IsPrompted};
-ghost use Rattle.njh_service.specs.Attention.{at_once};
+ghost use Rattle.njh_service.specs.Attention.{at_once, mark_at, watch_at, IsAnyMarked, IsInGroup};
+ghost use Rattle.njh_service.specs.Watching.{HasBegun, HaveBegun, IsRoundBegun};
 ghost use Rattle.njh_service.specs.declared.attention.Watch.{Watch};
 ghost use Rattle.njh_service.specs.declared.traffic.Traffic.{Traffic};
 
 mod waking;
 
-use crate::attention::{AT_ONCE, NOTHING, Watch, is_any_marked, wait_of};
+use crate::attention::{
+    AT_ONCE, NOTHING, Watch, add_to_groups, call_group, first_moment, is_any_marked, places_of,
+    wait_of,
+};
 use crate::customers::Customers;
 use crate::desk::Desk;
 use crate::door::Door;
@@ -29,10 +34,6 @@ use std::alloc::{AllocError, Global};
 use std::io::Write;
 use std::marker::Model;
 use std::net::SocketAddr;
-
-/// So many lines in a row are watched together: a group in which nothing is ready or due costs a
-/// round one look.
-const GROUP: usize = 16;
 
 /// What is done between the turns of a service's lines: it waits for the network, accepts, dials,
 /// ends connections, lets out what waits, brings new routes, and writes the log.
@@ -51,17 +52,22 @@ pub struct Exchange<N: Network + Drop, L: Write + Drop, S: TableSource + Drop> {
 }
 
 impl<N: Network + Drop, L: Write + Drop, S: TableSource + Drop> Model for Exchange<N, L, S> {
-    ghost use Rattle.std.specs.Prelude.{map};
-    ghost use Rattle.njh_service.specs.Prompting.{Watched};
+    ghost use Rattle.std.specs.Prelude.{length, map};
+    ghost use Rattle.njh_service.specs.Watching.{AreGrouped, Watched};
 
     ghost Value = { Watched };
 
     ghost view = { λ exchange. record {
       lines = map (λ post. post.line) exchange.posts.items;
       noted = map (λ post. post.traffic) exchange.posts.items;
+      ready = exchange.ready.items;
       watches = exchange.watches.items;
+      next = exchange.next;
       now = exchange.desk.now;
     } };
+
+    ghost invariant = { λ exchange. AreGrouped (length exchange.posts.items) exchange.ready.items exchange.watches.items
+        exchange.groups.items exchange.next };
 }
 
 impl<N: Network + Drop, L: Write + Drop, S: TableSource + Drop> Exchange<N, L, S> {
@@ -117,13 +123,14 @@ impl<N: Network + Drop, L: Write + Drop, S: TableSource + Drop> Exchange<N, L, S
     {
         let label = Label::of(names);
         self.desk.customers.add(id.customer, self.posts.len());
-        if self.posts.len() % GROUP == 0 {
-            self.groups.push(AT_ONCE)?;
-        }
-        self.ready.push(NOTHING)?;
         self.posts.reserve(1)?;
-        self.watches.push(AT_ONCE)?;
+        self.ready.reserve(1)?;
+        self.watches.reserve(1)?;
+        add_to_groups(&mut self.groups, self.posts.len())?;
+        self.ready.push_reserved(NOTHING);
+        self.watches.push_reserved(AT_ONCE);
         self.posts.push_reserved(Post::new(id, label, site));
+        self.next = 0;
         Ok(())
     }
 
@@ -131,11 +138,32 @@ impl<N: Network + Drop, L: Write + Drop, S: TableSource + Drop> Exchange<N, L, S
     pub(crate) fn begin_round(&mut self, wires: &mut [LineWire<N::Connection>])
         ensures still { AreStill (λ a b acts. a.place ≡ b.place) (λ wire. wire.failures) wires.old wires.new }
         ensures lines { self.new.lines ≡ self.old.lines }
+        ensures begun { IsRoundBegun (min (length self.old.lines) (length wires.old)) self.old self.new }
+    {
+        self.wait();
+        self.begin_groups(wires);
+    }
+
+    /// Waits until something of a line is ready, or one wants to be looked at.
+    fn wait(&mut self)
+        ensures lines { self.new.lines ≡ self.old.lines }
+        ensures watches { self.new.watches ≡ self.old.watches }
     {
         self.desk.now = self.desk.network.now();
         let wait = wait_of(self.desk.now, self.next);
-        let _waited = self.desk.network.wait(wait, &mut self.ready).is_ok();
+        wait_on(&mut self.desk.network, wait, &mut self.ready);
         self.desk.now = self.desk.network.now();
+    }
+
+    /// Looks at each line of which something is ready, or whose moment came.
+    fn begin_groups(&mut self, wires: &mut [LineWire<N::Connection>])
+        ensures still { AreStill (λ a b acts. a.place ≡ b.place) (λ wire. wire.failures) wires.old wires.new }
+        ensures lines { self.new.lines ≡ self.old.lines }
+        ensures now { self.new.now ≡ self.old.now }
+        ensures begun { (place : ℕ) → place < min (length self.old.lines) (length wires.old) →
+            HasBegun self.old.now (mark_at self.old.ready place) (mark_at self.new.ready place)
+            (watch_at self.old.watches place) (watch_at self.new.watches place) }
+    {
         for group in 0..self.groups.len() {
             self.begin_group(group, wires);
         }
@@ -143,32 +171,40 @@ impl<N: Network + Drop, L: Write + Drop, S: TableSource + Drop> Exchange<N, L, S
 
     /// Whether something of a group's lines is ready, or the moment of one came.
     fn wakes(&mut self, group: usize) -> bool
-        ensures lines { self.new.lines ≡ self.old.lines }
+        ensures same { self.new ≡ self.old }
+        ensures idle { ¬ IsTrue result → (place : ℕ) → IsInGroup place group → HasBegun self.old.now
+            (mark_at self.old.ready place) (mark_at self.old.ready place) (watch_at self.old.watches place)
+            (watch_at self.old.watches place) }
     {
         let is_ready = self.is_ready(group);
-        let Some(watch) = self.groups.get_mut(group) else {
+        if self.groups.len() <= group {
             return true;
-        };
-        watch.begin(is_ready, self.desk.now)
+        }
+        self.groups[group].begin(is_ready, self.desk.now)
     }
 
     /// Whether something of a group's lines is ready.
-    fn is_ready(&self, group: usize) -> bool {
-        let first = group.saturating_mul(GROUP);
-        is_any_marked(&self.ready, first, first.saturating_add(GROUP))
+    fn is_ready(&self, group: usize) -> bool
+        ensures { IsTrue result ↔ IsAnyMarked self.now.ready (16 * group) (16 * group + 16) }
+    {
+        let (first, end) = places_of(group, self.ready.len());
+        is_any_marked(&self.ready, first, end)
     }
 
     /// Looks at the lines of a group, if something of one is ready or the moment of one came.
     fn begin_group(&mut self, group: usize, wires: &mut [LineWire<N::Connection>])
         ensures still { AreStill (λ a b acts. a.place ≡ b.place) (λ wire. wire.failures) wires.old wires.new }
         ensures lines { self.new.lines ≡ self.old.lines }
+        ensures now { self.new.now ≡ self.old.now }
+        ensures begun { HaveBegun self.old.now (min (16 * group) (length wires.old))
+            (min (16 * group + 16) (length wires.old)) self.old.ready self.new.ready self.old.watches
+            self.new.watches }
     {
         if !self.wakes(group) {
             return;
         }
-        let first = group.saturating_mul(GROUP);
-        let last = first.saturating_add(GROUP).min(wires.len());
-        for place in first..last {
+        let (first, end) = places_of(group, wires.len());
+        for place in first..end {
             self.begin(place, &mut wires[place]);
         }
     }
@@ -179,14 +215,16 @@ impl<N: Network + Drop, L: Write + Drop, S: TableSource + Drop> Exchange<N, L, S
         ensures counts { wire.old.failures ≤ wire.new.failures }
         ensures place { wire.new.place ≡ wire.old.place }
         ensures lines { self.new.lines ≡ self.old.lines }
+        ensures now { self.new.now ≡ self.old.now }
+        ensures begun { HaveBegun self.old.now place (place + 1) self.old.ready self.new.ready self.old.watches
+            self.new.watches }
     {
-        let (Some(post), Some(ready), Some(watch)) = (
-            self.posts.get_mut(place),
-            self.ready.get_mut(place),
-            self.watches.get_mut(place),
-        ) else {
+        if self.posts.len() <= place {
             return;
-        };
+        }
+        let post = &mut self.posts[place];
+        let ready = &mut self.ready[place];
+        let watch = &mut self.watches[place];
         self.desk.begin(place, post, ready, watch, wire);
     }
 
@@ -217,6 +255,8 @@ impl<N: Network + Drop, L: Write + Drop, S: TableSource + Drop> Exchange<N, L, S
     pub(crate) fn end_round(&mut self, hub: &Hub, wires: &mut [LineWire<N::Connection>])
         ensures still { AreStill (λ a b acts. a.place ≡ b.place) (λ wire. wire.failures) wires.old wires.new }
         ensures lines { self.new.lines ≡ self.old.lines }
+        ensures waits { (place : ℕ) → place < length self.new.lines →
+            self.new.next ≤ (watch_at self.new.watches place).moment }
     {
         let mut next = u64::MAX;
         for group in 0..self.groups.len() {
@@ -232,58 +272,79 @@ impl<N: Network + Drop, L: Write + Drop, S: TableSource + Drop> Exchange<N, L, S
     fn end_group(&mut self, group: usize, hub: &Hub, wires: &mut [LineWire<N::Connection>]) -> u64
         ensures still { AreStill (λ a b acts. a.place ≡ b.place) (λ wire. wire.failures) wires.old wires.new }
         ensures lines { self.new.lines ≡ self.old.lines }
+        ensures first { (place : ℕ) → IsInGroup place group → place < length self.new.lines →
+            result ≤ (watch_at self.new.watches place).moment }
+        ensures others { (place : ℕ) → ¬ IsInGroup place group →
+            watch_at self.new.watches place ≡ watch_at self.old.watches place }
     {
         let watch = self.watch_of(group);
         if !watch.is_due {
             return watch.moment;
         }
-        let first = group.saturating_mul(GROUP);
-        let last = first.saturating_add(GROUP).min(wires.len());
-        let mut next = u64::MAX;
-        for place in first..last {
-            let moment = self.end(place, hub, &mut wires[place]);
-            next = next.min(moment);
+        let (first, end) = places_of(group, wires.len());
+        for place in first..end {
+            self.end(place, hub, &mut wires[place]);
         }
-        self.watch(group, next);
-        next
+        self.rest_group(group)
     }
 
     /// When a group is looked at.
-    fn watch_of(&self, group: usize) -> Watch {
-        match self.groups.get(group) {
-            Some(watch) => *watch,
-            None => AT_ONCE,
+    fn watch_of(&self, group: usize) -> Watch
+        ensures first { (place : ℕ) → IsInGroup place group → place < length self.now.lines →
+            result.moment ≤ (watch_at self.now.watches place).moment }
+    {
+        if self.groups.len() <= group {
+            return AT_ONCE;
         }
+        self.groups[group]
     }
 
-    /// A group is looked at next at this moment.
-    fn watch(&mut self, group: usize, moment: u64)
-        ensures lines { self.new.lines ≡ self.old.lines }
+    /// A group is looked at next when the first of its lines wants to be. Answers when.
+    fn rest_group(&mut self, group: usize) -> u64
+        ensures same { self.new ≡ self.old }
+        ensures first { (place : ℕ) → IsInGroup place group → place < length self.new.lines →
+            result ≤ (watch_at self.new.watches place).moment }
     {
-        if let Some(watch) = self.groups.get_mut(group) {
-            *watch = Watch::until(moment);
+        let (first, end) = places_of(group, self.watches.len());
+        let moment = first_moment(&self.watches, first, end);
+        if group < self.groups.len() {
+            self.groups[group] = Watch::until(moment);
         }
+        moment
     }
 
     /// Lets out what waits on a line that was looked at, and does what its session asks for.
-    /// Answers when the line wants to be looked at.
-    fn end(&mut self, place: usize, hub: &Hub, wire: &mut LineWire<N::Connection>) -> u64
+    fn end(&mut self, place: usize, hub: &Hub, wire: &mut LineWire<N::Connection>)
         ensures counts { wire.old.failures ≤ wire.new.failures }
         ensures place { wire.new.place ≡ wire.old.place }
         ensures lines { self.new.lines ≡ self.old.lines }
+        ensures others { (other : ℕ) → other ≢ place →
+            watch_at self.new.watches other ≡ watch_at self.old.watches other }
     {
-        match self.watches.get(place) {
-            Some(watch) if !watch.is_due => return watch.moment,
-            _ => {}
+        if !self.is_due(place) {
+            return;
         }
         if wire.waits_to_send() {
             wire.flush();
         }
         let moment = self.apply_session(place, hub, wire);
-        if let Some(watch) = self.watches.get_mut(place) {
-            *watch = Watch::until(moment);
+        self.rest(place, moment);
+    }
+
+    /// A line that was looked at is looked at next at this moment, and its group then or before.
+    fn rest(&mut self, place: usize, moment: u64)
+        ensures lines { self.new.lines ≡ self.old.lines }
+        ensures rests { place < length self.old.lines →
+            watch_at self.new.watches place ≡ record { moment = moment; is_due = false } }
+        ensures others { (other : ℕ) → other ≢ place →
+            watch_at self.new.watches other ≡ watch_at self.old.watches other }
+    {
+        if self.watches.len() <= place {
+            return;
         }
-        moment
+        self.watches[place] = Watch::until(moment);
+        call_group(&mut self.groups, place, moment);
+        self.next = self.next.min(moment);
     }
 
     /// Does what a line's session asks for: its connection stays, unless its own session gave up,
@@ -293,6 +354,7 @@ impl<N: Network + Drop, L: Write + Drop, S: TableSource + Drop> Exchange<N, L, S
         ensures counts { wire.old.failures ≤ wire.new.failures }
         ensures place { wire.new.place ≡ wire.old.place }
         ensures lines { self.new.lines ≡ self.old.lines }
+        ensures watches { self.new.watches ≡ self.old.watches }
         ensures kept { (id : LineId) → slice_get self.old.lines place ≡ Some id → ¬ HasGivenUp hub.now id →
             wire.new.connection ≡ wire.old.connection }
         ensures quiet { (id : LineId) → slice_get self.old.lines place ≡ Some id → HasLine hub.now id →
@@ -303,4 +365,11 @@ impl<N: Network + Drop, L: Write + Drop, S: TableSource + Drop> Exchange<N, L, S
         };
         self.desk.apply_session(post, hub, wire)
     }
+}
+
+/// Waits so many milliseconds at most, and marks what is ready of each line.
+fn wait_on<N: Network>(network: &mut N, milliseconds: u64, ready: &mut Vec<Readiness>)
+    ensures { length ready.new.items ≡ length ready.old.items }
+{
+    let _waited = network.wait(milliseconds, ready).is_ok();
 }

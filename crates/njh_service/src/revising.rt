@@ -12,10 +12,7 @@ impl<N: Network + Drop, L: Write + Drop, S: TableSource + Drop> Exchange<N, L, S
     /// Looks at the tables, if a second is over, and tells what came of that. Answers the routes of
     /// the next customer that is to be given some.
     pub(crate) fn revise(&mut self) -> Option<NewRoutes> {
-        match self.revision.look(self.desk.now) {
-            Some(notice) => self.desk.write(&notice),
-            None => {}
-        }
+        self.look_at_tables();
         match self.revision.next_routes()? {
             Ok(new) => Some(new),
             Err(customer) => {
@@ -25,12 +22,18 @@ impl<N: Network + Drop, L: Write + Drop, S: TableSource + Drop> Exchange<N, L, S
         }
     }
 
+    /// Looks at the tables, if a second is over, and tells what came of that.
+    fn look_at_tables(&mut self) {
+        let Some(notice) = self.revision.look(self.desk.now) else {
+            return;
+        };
+        self.desk.write(&notice);
+    }
+
     /// Tells what came of a customer's new routes. By routes that it was given its lines may have
     /// something to send.
     pub(crate) fn tell_routes(&mut self, customer: u16, answer: Result<(), HubFault>) {
-        if answer.is_ok() {
-            self.desk.customers.mark(customer);
-        }
+        self.desk.customers.mark_if(customer, answer.is_ok());
         let Some(name) = self.revision.note_routes(customer, answer.is_ok()) else {
             return;
         };

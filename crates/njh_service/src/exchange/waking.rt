@@ -1,8 +1,10 @@
 //! Lines to which other lines of their customers gave something to send.
 
-ghost use Rattle.std.specs.Prelude.{◌≡◌};
+ghost use Rattle.std.specs.Prelude.{◌≡◌, ℕ, ◌<◌, ◌≤◌, length};
+ghost use Rattle.njh_service.specs.Attention.{watch_at};
 
-use super::{Exchange, GROUP};
+use super::Exchange;
+use crate::attention::call_group;
 use crate::customers::{CUSTOMERS, Row};
 use crate::table_source::TableSource;
 use njh_hub::Hub;
@@ -15,17 +17,28 @@ impl<N: Network + Drop, L: Write + Drop, S: TableSource + Drop> Exchange<N, L, S
     /// and files waits a while between two such looks, so that others don't wait for them.
     pub(super) fn wake(&mut self, hub: &Hub)
         ensures lines { self.new.lines ≡ self.old.lines }
+        ensures waits { (place : ℕ) → place < length self.new.lines →
+            self.new.next ≤ (watch_at self.new.watches place).moment }
     {
-        let now = self.desk.now;
         for customer in 0..CUSTOMERS {
-            if let Some(row) = self.desk.customers.wanted(customer, now) {
-                let files = hub.file_count(row.customer);
-                self.desk.customers.look(customer, now, files);
-                let held = self.wake_row(row, hub);
-                self.desk.customers.look_again(customer, held);
-            }
+            self.wake_customer(customer, hub);
         }
         self.next = self.next.min(self.desk.customers.moment());
+    }
+
+    /// Has those lines of this customer looked at in the next round that rest and have something to
+    /// send, if one of its lines may by now.
+    fn wake_customer(&mut self, customer: usize, hub: &Hub)
+        ensures lines { self.new.lines ≡ self.old.lines }
+    {
+        let now = self.desk.now;
+        let Some(row) = self.desk.customers.wanted(customer, now) else {
+            return;
+        };
+        let files = hub.file_count(row.customer);
+        self.desk.customers.look(customer, now, files);
+        let held = self.wake_row(row, hub);
+        self.desk.customers.look_again(customer, held);
     }
 
     /// Has those lines of a customer looked at in the next round that rest and have something to
@@ -67,12 +80,11 @@ impl<N: Network + Drop, L: Write + Drop, S: TableSource + Drop> Exchange<N, L, S
         ensures lines { self.new.lines ≡ self.old.lines }
     {
         let now = self.desk.now;
-        if let Some(watch) = self.watches.get_mut(place) {
-            watch.moment = now;
+        if self.watches.len() <= place {
+            return;
         }
-        if let Some(watch) = self.groups.get_mut(place / GROUP) {
-            watch.moment = now;
-        }
-        self.next = now;
+        self.watches[place].call(now);
+        call_group(&mut self.groups, place, now);
+        self.next = self.next.min(now);
     }
 }

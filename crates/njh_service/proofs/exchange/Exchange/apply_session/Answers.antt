@@ -1,11 +1,12 @@
 use Rattle.std.proofs.Common.{ℕ, ◌<◌, subst, refl, sym, ap, ◌∙◌}
+use Rattle.std.proofs.lemmas.Bool.{false≢true}
 use Rattle.njh_table.specs.declared.LineId.{LineId}
 use Rattle.njh_hub.specs.Quiets.{quiet_on}
 use Rattle.njh_hub.specs.Views.{HasGivenUp}
 use Rattle.njh_hub.specs.WholeHub.{HasLine}
-use Rattle.njh_service.specs.Prompting.{Watched}
+use Rattle.njh_service.specs.Watching.{Watched}
 use Rattle.njh_service.specs.declared.post.Post.{Post}
-use Rattle.njh_service.proofs.PostLaws.{lines_stay, line_there}
+use Rattle.njh_service.proofs.PostLaws.{lines_stay, line_there, post_there}
 use Rattle.njh_service.proofs.exchange.Exchange.apply_session.Goals as goal
 
 pub returns-clause-lines : goal.returns-clause-lines
@@ -35,3 +36,12 @@ returns-clause-quiet g c = λ line found there.
     (ap (λ (seen : Watched). seen.lines) c.self.view_is)
     (subst Within c.self.inside.posts.ok.0 (c.in-Some.ensures.variant.0 refl)) c.in-Some.ensures.value found in
     c.apply_session.ensures.quiet (subst IsThere own there) ∙ ap quiet (sym own)
+
+-- no line is where no post is
+pub returns-in_default-clause-quiet : goal.returns-in_default-clause-quiet
+returns-in_default-clause-quiet g c = λ line found there.
+    let Within : ℕ → Type 0 = λ many. c.args.place < many in
+    let within = post_there (λ (post : Post g.row.N-Listener.Denot g.row.N-Connection.Denot). post.line)
+    c.self.inside.posts.items c.args.self.now.lines c.args.place line
+    (ap (λ (seen : Watched). seen.lines) c.self.view_is) found in
+    absurd (false≢true (c.in_default.ensures.variant.1 (subst Within (sym c.self.inside.posts.ok.0) within)))

@@ -1,13 +1,42 @@
-use Rattle.std.proofs.Common.{ap}
-use Rattle.njh_service.specs.Prompting.{Watched}
+use Rattle.std.proofs.Common.{◌+◌, set, ap, arith, length, subst}
+use Rattle.std.proofs.lemmas.List.{length-set}
+use Rattle.njh_service.specs.Watching.{HaveBegun, Watched}
 use Rattle.njh_service.specs.declared.post.Post.{Post}
+use Rattle.njh_service.proofs.GroupLaws.{begun_more}
 use Rattle.njh_service.proofs.PostLaws.{lines_stay}
+use Rattle.njh_service.proofs.RoundLaws.{one_begun, past_line}
 use Rattle.njh_service.proofs.exchange.Exchange.begin.Goals as goal
+
+-- no line is there
+pub returns-then-len-place-clause-begun : goal.returns-then-len-place-clause-begun
+returns-then-len-place-clause-begun g c =
+    let P : Watched → Type 0 = λ seen.
+    HaveBegun seen.now c.args.place (c.args.place + 1) seen.ready seen.ready seen.watches seen.watches in
+    subst P c.self.view_is (past_line c.self.inside.desk.now c.args.place c.self.inside.ready.items
+    c.self.inside.watches.items (omega (arith, c.if-len-place.true, c.self.invariant.many_marks))
+    (omega (arith, c.if-len-place.true, c.self.invariant.many_watches)))
+
+pub invariant_of-self : goal.invariant_of-self
+invariant_of-self g c =
+    let posts = c.self.inside.posts.items in
+    begun_more (length posts) c.self.inside.ready.items c.self.inside.watches.items c.self.inside.groups.items
+    c.self.inside.next _ c.args.place c.begin.new.ready c.index_mut-watch.result.now c.begin.new.watch
+    (length-set posts c.args.place c.begin.new.post) (omega (arith, c.if-len-place.false))
+    c.index_mut-watch.ensures.value c.begin.ensures.moment c.self.invariant
+
+pub returns-clause-begun : goal.returns-clause-begun
+returns-clause-begun g c =
+    let P : Watched → Type 0 = λ seen. HaveBegun seen.now c.args.place (c.args.place + 1) seen.ready
+    (set c.self.inside.ready.items c.args.place c.begin.new.ready) seen.watches
+    (set c.self.inside.watches.items c.args.place c.begin.new.watch) in
+    subst P c.self.view_is (one_begun c.self.inside.desk.now c.args.place c.self.inside.ready.items
+    c.self.inside.watches.items c.index_mut-ready.result.now c.begin.new.ready c.index_mut-watch.result.now c.begin.new.watch
+    (omega (arith, c.if-len-place.false, c.self.invariant.many_marks))
+    (omega (arith, c.if-len-place.false, c.self.invariant.many_watches)) c.index_mut-ready.ensures.value
+    c.index_mut-watch.ensures.value c.begin.ensures.due c.begin.ensures.moment c.begin.ensures.unmarked)
 
 pub returns-clause-lines : goal.returns-clause-lines
 returns-clause-lines g c =
     lines_stay (λ (post : Post g.row.N-Listener.Denot g.row.N-Connection.Denot). post.line) c.self.inside.posts.items
-    c.args.self.now.lines c.args.place c.in-Some-Some-Some.post.now c.begin.new.post
-    (ap (λ (seen : Watched). seen.lines) c.self.view_is)
-    c.in-Some-Some-Some.ensures.value
-    c.begin.ensures.line
+    c.args.self.now.lines c.args.place c.index_mut-post.result.now c.begin.new.post
+    (ap (λ (seen : Watched). seen.lines) c.self.view_is) c.index_mut-post.ensures.value c.begin.ensures.line

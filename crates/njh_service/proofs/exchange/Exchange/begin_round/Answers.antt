@@ -1,12 +1,20 @@
-use Rattle.std.proofs.Common.{◌∙◌, sym}
-use Rattle.njh_wire.specs.declared.line_wire.LineWire.{LineWire}
-use Rattle.njh_service.proofs.StillLaws.{still_after}
+use Rattle.std.proofs.Common.{ℕ, List, length, ap, arith, subst, sym}
+use Rattle.njh_service.specs.Attention.{mark_at, watch_at}
+use Rattle.njh_service.specs.Watching.{HasBegun}
+use Rattle.njh_service.specs.declared.attention.Watch.{Watch}
 use Rattle.njh_service.proofs.exchange.Exchange.begin_round.Goals as goal
 
-pub loop-group-preserved : goal.loop-group-preserved
-loop-group-preserved g c = record {
-  still = still_after (λ (wire : LineWire g.row.N-Connection.Denot). wire.place)
-      (λ (wire : LineWire g.row.N-Connection.Denot). wire.failures) c.args.wires.now c.loop-group.wires
-      c.begin_group.new.wires (sym c.loop-group.auto.wires) c.loop-group.invariant.still c.begin_group.ensures.still;
-  lines = c.begin_group.ensures.lines ∙ c.loop-group.invariant.lines;
-}
+-- what was marked in the wait
+pub returns-clause-begun : goal.returns-clause-begun
+returns-clause-begun g c =
+    let marks = c.wait.new.self.ready in
+    let new = c.begin_groups.new.self in record {
+      marks = marks;
+      each = λ p before.
+          let At : ℕ → Type 0 = λ now. HasBegun now (mark_at marks p) (mark_at new.ready p)
+          (watch_at c.args.self.now.watches p) (watch_at new.watches p) in
+          let Of : List Watch → Type 0 = λ watches. HasBegun c.wait.new.self.now (mark_at marks p)
+          (mark_at new.ready p) (watch_at watches p) (watch_at new.watches p) in
+          subst At (sym c.begin_groups.ensures.now) (subst Of c.wait.ensures.watches
+          (c.begin_groups.ensures.begun p (omega (arith, before, ap length c.wait.ensures.lines))));
+    }

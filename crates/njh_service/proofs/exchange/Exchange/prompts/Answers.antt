@@ -1,7 +1,8 @@
 use Rattle.std.proofs.Common.{arith, ◌≡◌, ℕ, ◌<◌, ◌↔◌, List, length, map, subst, sym, ap}
 use Rattle.std.specs.Prelude.{IsTrue}
 use Rattle.njh_table.specs.declared.LineId.{LineId}
-use Rattle.njh_service.specs.Prompting.{IsPrompted, Watched}
+use Rattle.njh_service.specs.Prompting.{IsPrompted}
+use Rattle.njh_service.specs.Watching.{Watched}
 use Rattle.njh_service.specs.declared.post.Post.{Post}
 use Rattle.njh_service.specs.declared.traffic.Traffic.{Traffic}
 use Rattle.njh_service.proofs.PostLaws.{line_there, post_there}

@@ -1,0 +1,55 @@
+use Rattle.std.proofs.Common.{◌≡◌, ℕ, ◌+◌, ◌*◌, length, min, ◌∙◌, ap, sym, subst, arith, refl}
+use Rattle.std.proofs.lemmas.List.{length-map}
+use Rattle.njh_wire.specs.declared.line_wire.LineWire.{LineWire}
+use Rattle.njh_service.specs.Watching.{HaveBegun, Watched}
+use Rattle.njh_service.specs.declared.post.Post.{Post}
+use Rattle.njh_service.proofs.RoundLaws.{begun_after, none_begun}
+use Rattle.njh_service.proofs.StillLaws.{still_after, still_same}
+use Rattle.njh_service.proofs.exchange.Exchange.begin_groups.Goals as goal
+
+pub loop-group-init : goal.loop-group-init
+loop-group-init g c = record {
+  still = still_same (λ (wire : LineWire g.row.N-Connection.Denot). wire.place)
+      (λ (wire : LineWire g.row.N-Connection.Denot). wire.failures) c.args.wires.now;
+  lines = refl;
+  now = refl;
+  begun = let none : 0 ≡ min (16 * 0) (length c.args.wires.now) = omega arith in
+      let P : ℕ → Type 0 = λ end. HaveBegun c.args.self.now.now 0 end c.args.self.now.ready c.args.self.now.ready
+      c.args.self.now.watches c.args.self.now.watches in
+      subst P none (none_begun c.args.self.now.now 0 c.args.self.now.ready c.args.self.now.watches);
+}
+
+pub loop-group-preserved : goal.loop-group-preserved
+loop-group-preserved g c =
+    let now = c.loop-group.invariant.now in
+    let wires : length c.loop-group.wires ≡ length c.args.wires.now = c.loop-group.auto.wires in
+    let end : min (16 * c.loop-group.group + 16) (length c.loop-group.wires)
+    ≡ min (16 * (c.loop-group.group + 1)) (length c.args.wires.now) = omega (arith, wires) in
+    let from : min (16 * c.loop-group.group) (length c.loop-group.wires)
+    ≡ min (16 * c.loop-group.group) (length c.args.wires.now) = omega (arith, wires) in
+    let P : ℕ → ℕ → ℕ → Type 0 = λ moment a b. HaveBegun moment a b c.loop-group.self.ready
+    c.begin_group.new.self.ready c.loop-group.self.watches c.begin_group.new.self.watches in
+    let At : ℕ → Type 0 = λ moment. P moment (min (16 * c.loop-group.group) (length c.loop-group.wires))
+    (min (16 * c.loop-group.group + 16) (length c.loop-group.wires)) in
+    let From : ℕ → Type 0 = λ a. P c.args.self.now.now a
+    (min (16 * c.loop-group.group + 16) (length c.loop-group.wires)) in
+    let more = subst (P c.args.self.now.now (min (16 * c.loop-group.group) (length c.args.wires.now))) end
+    (subst From from (subst At now c.begin_group.ensures.begun)) in record {
+      still = still_after (λ (wire : LineWire g.row.N-Connection.Denot). wire.place)
+          (λ (wire : LineWire g.row.N-Connection.Denot). wire.failures) c.args.wires.now c.loop-group.wires
+          c.begin_group.new.wires (sym wires) c.loop-group.invariant.still c.begin_group.ensures.still;
+      lines = c.begin_group.ensures.lines ∙ c.loop-group.invariant.lines;
+      now = c.begin_group.ensures.now ∙ now;
+      begun = begun_after c.args.self.now.now 0 _ _ _ _ _ _ _ _ (omega arith) (omega arith)
+          c.loop-group.invariant.begun more;
+    }
+
+-- all lines are in groups
+pub returns-clause-begun : goal.returns-clause-begun
+returns-clause-begun g c =
+    let lines : length c.args.self.now.lines ≡ length c.self.inside.posts.items =
+    sym (ap (λ (seen : Watched). length seen.lines) c.self.view_is)
+    ∙ length-map c.self.inside.posts.items
+    (λ (post : Post g.row.N-Listener.Denot g.row.N-Connection.Denot). post.line) in
+    λ p before. c.loop-group.invariant.begun.each p (omega arith)
+    (omega (arith, before, lines, c.self.invariant.many_groups, c.loop-group-test.false))

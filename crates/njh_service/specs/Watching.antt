@@ -1,0 +1,54 @@
+-- What is seen of the attendant, and what a round of it looks at.
+use Rattle.std.specs.Prelude.{◌≡◌, ℕ, ◌*◌, ◌<◌, ◌≤◌, ◌⊎◌, IsTrue, List, length}
+use Rattle.njh_table.specs.declared.LineId.{LineId}
+use Rattle.njh_wire.specs.declared.network.Readiness.{Readiness}
+use Rattle.njh_service.specs.Attention.{IsDue, IsInGroup, IsMarked, mark_at, watch_at}
+use Rattle.njh_service.specs.declared.attention.Watch.{Watch}
+use Rattle.njh_service.specs.declared.traffic.Traffic.{Traffic}
+
+-- What is seen of the attendant: the lines that it serves, by their places, what it noted of each, what is ready of
+-- each, when each is looked at, until when it waits, and the time.
+pub record Watched : Type 0 where
+  pub lines : List LineId
+  pub noted : List Traffic
+  pub ready : List Readiness
+  pub watches : List Watch
+  pub next : ℕ
+  pub now : ℕ
+
+-- ---- what a round looks at
+
+-- A line is looked at if something of it is ready or its moment came, and not else, unless it was before. No mark of
+-- it stays, and its moment is what it was.
+pub record HasBegun (now : ℕ) (mark new_mark : Readiness) (watch new_watch : Watch) : Type 0 where
+  pub due : IsDue mark watch.moment now → IsTrue new_watch.is_due
+  pub only : IsTrue new_watch.is_due → IsDue mark watch.moment now ⊎ IsTrue watch.is_due
+  pub unmarked : ¬ IsMarked new_mark
+  pub moment : new_watch.moment ≡ watch.moment
+
+-- So it is with each line from the first of these places on, up to the other. Of the others nothing changed.
+pub record HaveBegun (now first end : ℕ) (ready new_ready : List Readiness) (watches new_watches : List Watch)
+    : Type 0 where
+  pub each : (place : ℕ) → first ≤ place → place < end → HasBegun now (mark_at ready place) (mark_at new_ready place)
+      (watch_at watches place) (watch_at new_watches place)
+  pub same_mark : (place : ℕ) → (place < first) ⊎ (end ≤ place) → mark_at new_ready place ≡ mark_at ready place
+  pub same_watch : (place : ℕ) → (place < first) ⊎ (end ≤ place) → watch_at new_watches place ≡ watch_at watches place
+
+-- A round passes over none of so many lines: these marks were there once the wait was over, and each line was looked at
+-- if one of them was its, or if its moment came.
+pub record IsRoundBegun (lines : ℕ) (old new : Watched) : Type 0 where
+  pub marks : List Readiness
+  pub each : (place : ℕ) → place < lines → HasBegun new.now (mark_at marks place) (mark_at new.ready place)
+      (watch_at old.watches place) (watch_at new.watches place)
+
+-- ---- until when it waits
+
+-- Each of so many lines has its mark and its watch, and is in a group. No group wants to be looked at later than one of
+-- its lines does, and the attendant doesn't wait for longer.
+pub record AreGrouped (lines : ℕ) (ready : List Readiness) (watches groups : List Watch) (next : ℕ) : Type 0 where
+  pub many_marks : length ready ≡ lines
+  pub many_watches : length watches ≡ lines
+  pub many_groups : lines ≤ 16 * length groups
+  pub covered : (group place : ℕ) → IsInGroup place group → place < lines
+      → (watch_at groups group).moment ≤ (watch_at watches place).moment
+  pub waits : (place : ℕ) → place < lines → next ≤ (watch_at watches place).moment
