@@ -269,6 +269,25 @@ def holds_the_line(hub, places):
     return "the one that waits isn't answered in 20 s"
 
 
+def guesses_passwords(hub, places):
+    """A peer signs on as another node again and again for five seconds, and then the right one does."""
+    begin, tries, wrong = time.monotonic(), 0, sign_on(0xC9, "NOBODY")
+    while time.monotonic() < begin + 5:
+        with contextlib.suppress(OSError), connected(places[0].port, timeout=2) as peer:
+            peer.sendall(CONTACT)
+            if peer.recv(2) == ACK0:
+                peer.sendall(wrong)
+                tries += 1
+                peer.recv(2)
+    told = sum("sign-on refused" in line for line in hub.log())
+    begin = time.monotonic()
+    with connected(places[0].port, timeout=5) as peer:
+        peer.sendall(CONTACT)
+        answer = "answered" if peer.recv(2) == ACK0 else "not answered"
+    waited = time.monotonic() - begin
+    return f"{tries} sign-ons in 5 s, {told} told; then the right one is {answer} after {waited:.1f} s"
+
+
 def sessions_in_a_loop(hub, places):
     """A peer signs on and ends its session again and again for five seconds: how often the log tells of it."""
     rounds, signed_on = 0, sign_on(0xC9, places[0].node)
@@ -391,6 +410,7 @@ PLAYS = (
     resets_in_mid_frame,
     connects_twice,
     holds_the_line,
+    guesses_passwords,
     sessions_in_a_loop,
     frozen,
     machine_gone,

@@ -1,5 +1,5 @@
 -- When a line is in a session, and how a session ended.
-use Rattle.std.specs.Prelude.{ℕ, zero, suc, ◌-◌, Bool, true, false, ◌&&◌, ◌==◌, nat_lt, if◌then◌else◌}
+use Rattle.std.specs.Prelude.{ℕ, zero, suc, ◌+◌, ◌-◌, ◌<◌, Bool, true, false, ◌&&◌, ◌==◌, nat_lt, min, if◌then◌else◌}
 use Rattle.std.specs.Prelude.{Option, Some, None, ◌≡◌, ◌⊎◌, List, [], IsSome, IsTrue}
 use Rattle.njh_line.specs.declared.Phase.{Phase}
 use Rattle.njh_line.specs.declared.Phase.TheVariants.{Down, Calling, Answered, SentI, Up}
@@ -58,6 +58,7 @@ after_session label session end now = record label {
   tries_since = tries_since label.tries_since session.tries now;
   no_session_since = no_session_since label.no_session_since label.up (is_up session.phase) now;
   up = is_up session.phase;
+  refusals = session.refusals;
   news = with_change (session_change label.up (is_up session.phase) label.node end) label.news;
 }
 
@@ -66,6 +67,20 @@ abbrev pub moment_seen : Label → SessionView → (now moment : ℕ) → ℕ
 moment_seen label session now moment =
     let since = no_session_since label.no_session_since label.up (is_up session.phase) now in
     moment_behind label.up (is_up session.phase) since moment
+
+-- ---- a sign-on that was refused
+
+-- one was refused since so many were
+abbrev pub HasRefusedMore : (seen : ℕ) → SessionView → Type 0
+HasRefusedMore seen session = seen < session.refusals
+
+-- one was refused since the line's session was seen last
+abbrev pub HasRefused : Label → SessionView → Type 0
+HasRefused label session = HasRefusedMore label.refusals session
+
+-- then the line takes no connection for a second
+abbrev pub barred_until : (now : ℕ) → ℕ
+barred_until now = min (now + 1000) 18446744073709551615
 
 -- ---- why it ended
 

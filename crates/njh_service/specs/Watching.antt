@@ -6,11 +6,13 @@ use Rattle.njh_service.specs.Attention.{IsDue, IsInGroup, IsMarked, mark_at, wat
 use Rattle.njh_service.specs.declared.attention.Watch.{Watch}
 use Rattle.njh_service.specs.declared.traffic.Traffic.{Traffic}
 
--- What is seen of the attendant: the lines that it serves, by their places, what it noted of each, what is ready of
--- each, when each is looked at, until when it waits, and the time.
+-- What is seen of the attendant: the lines that it serves, by their places, what it noted of each, how many sign-ons
+-- were refused on each as its session was seen last, what is ready of each, when each is looked at, until when it waits,
+-- and the time.
 pub record Watched : Type 0 where
   pub lines : List LineId
   pub noted : List Traffic
+  pub refusals : List ℕ
   pub ready : List Readiness
   pub watches : List Watch
   pub next : ℕ

@@ -1,9 +1,10 @@
 //! How a line gets a connection and loses it, and what is told of that.
 
-ghost use Rattle.std.specs.Prelude.{◌≡◌, ◌<◌, ◌≤◌, ◌⊎◌, None, false};
+ghost use Rattle.std.specs.Prelude.{◌≡◌, ◌<◌, ◌≤◌, ◌⊎◌, None, false, IsSome, IsTrue};
 ghost use Rattle.njh_wire.specs.Standing.{after_admission, after_displacement};
 ghost use Rattle.njh_service.specs.Connecting.{answer_of, end_event, keeps_line, kept_until, listens_again};
-ghost use Rattle.njh_service.specs.Connecting.{told_connected, KeepsLine};
+ghost use Rattle.njh_service.specs.Connecting.{told_connected, IsBarred, KeepsLine};
+ghost use Rattle.njh_service.specs.Logging.{IsLogged};
 ghost use Rattle.njh_service.specs.Dialling.{connection_in, dial_moment, failed, given_up_at, next_dial, IsToCome};
 
 use crate::desk::Desk;
@@ -48,7 +49,8 @@ pub(crate) enum DialAnswer {
 
 impl<N: Network + Drop, L: Write + Drop> Desk<N, L> {
     /// Takes a connection that waits, if the line has none or one that was without a session for
-    /// ten seconds. Answers when the listener is to be looked at again.
+    /// ten seconds, and no sign-on was refused on it in the second before. Answers when the listener
+    /// is to be looked at again.
     pub(crate) fn admit(
         &mut self,
         listener: &mut N::Listener,
@@ -59,12 +61,18 @@ impl<N: Network + Drop, L: Write + Drop> Desk<N, L> {
         ensures place { wire.new.place ≡ wire.old.place }
         ensures clock { wire.new.clock ≡ wire.old.clock }
         ensures now { self.new.now ≡ self.old.now }
-        ensures kept { KeepsLine wire.old label.old self.old.now → (wire.new ≡ wire.old) × ((label.new ≡ label.old)
+        ensures barred { IsBarred label.old self.old.now → (wire.new ≡ wire.old) × ((label.new ≡ label.old)
+            × (result ≡ label.old.barred_until)) }
+        ensures kept { ¬ IsBarred label.old self.old.now → KeepsLine wire.old label.old self.old.now →
+            (wire.new ≡ wire.old) × ((label.new ≡ label.old)
             × (result ≡ kept_until label.old.up label.old.no_session_since)) }
-        ensures tried { ¬ KeepsLine wire.old label.old self.old.now →
+        ensures tried { ¬ IsBarred label.old self.old.now → ¬ KeepsLine wire.old label.old self.old.now →
             (admission : Admission) × (result ≡ listens_again admission self.old.now) }
         ensures same { self.old.now < result → wire.new ≡ wire.old }
     {
+        if self.now < label.barred_until {
+            return label.barred_until;
+        }
         let since = label.no_session_since;
         if keeps_line(wire.is_connected(), label.up, since, self.now) {
             return kept_until(label.up, since);
@@ -182,6 +190,7 @@ impl<N: Network + Drop, L: Write + Drop> Desk<N, L> {
     fn give_up(&mut self, dial: &mut Dial<N::Connection>, label: &Label)
         ensures failed { dial.new ≡ failed dial.old self.old.now }
         ensures now { self.new.now ≡ self.old.now }
+        ensures logged { IsSome self.old.log.writer → IsLogged L.contents self.old.log self.new.log }
     {
         dial.fail(self.now);
         self.tell(label, LogEvent::DialFailed(dial.address()));
@@ -191,6 +200,9 @@ impl<N: Network + Drop, L: Write + Drop> Desk<N, L> {
     fn tell_connected(&mut self, label: &mut Label, event: LogEvent)
         ensures told { label.new ≡ told_connected label.old self.old.now }
         ensures now { self.new.now ≡ self.old.now }
+        ensures logged { label.old.again ≤ self.old.now → IsSome self.old.log.writer →
+            IsLogged L.contents self.old.log self.new.log }
+        ensures silent { self.old.now < label.old.again → self.new ≡ self.old }
     {
         label.connected = label.again <= self.now;
         if !label.connected {
@@ -204,6 +216,9 @@ impl<N: Network + Drop, L: Write + Drop> Desk<N, L> {
     pub(crate) fn tell_end(&mut self, label: &mut Label, end: ConnectionEnd)
         ensures told { label.new ≡ record label.old { connected = false } }
         ensures now { self.new.now ≡ self.old.now }
+        ensures logged { IsTrue label.old.connected → IsSome self.old.log.writer →
+            IsLogged L.contents self.old.log self.new.log }
+        ensures silent { ¬ IsTrue label.old.connected → self.new ≡ self.old }
     {
         if !label.connected {
             return;

@@ -2,13 +2,13 @@
 
 ghost use Rattle.std.specs.Prelude.{◌≡◌, ◌<◌, ◌≤◌, ◌↔◌, [], length, IsSome, IsTrue};
 ghost use Rattle.njh_hub.specs.Quiets.{quiet_on};
-ghost use Rattle.njh_hub.specs.Views.{HasGivenUp};
+ghost use Rattle.njh_hub.specs.Views.{HasGivenUp, hub_line, line_view};
 ghost use Rattle.njh_hub.specs.WholeHub.{HasLine};
 ghost use Rattle.njh_wire.specs.Standing.{due};
 ghost use Rattle.njh_service.specs.Attention.{again_at, first_of, stalled_at, IsDue, IsMarked};
 ghost use Rattle.njh_service.specs.Logging.{IsLogged};
 ghost use Rattle.njh_service.specs.News.{news_moment, IsTold};
-ghost use Rattle.njh_service.specs.Sessions.{IsReady};
+ghost use Rattle.njh_service.specs.Sessions.{HasRefused, IsReady};
 
 use crate::attention::{NOTHING, Watch, is_marked};
 use crate::customers::Customers;
@@ -119,7 +119,7 @@ impl<N: Network + Drop, L: Write + Drop> Desk<N, L> {
         post.linked = post.linked || wire.is_connected();
     }
 
-    /// Ends the connection of a line whose session gave up, and tells what changed, if something
+    /// Ends the connection of a line whose session gave up, or refused a sign-on, and tells what changed, if something
     /// came, or the line was quiet or prompted. Sets how long the line's next quiet lasts, and
     /// notes how the line is. Answers when it wants to be looked at.
     pub(crate) fn apply_session(
@@ -133,7 +133,9 @@ impl<N: Network + Drop, L: Write + Drop> Desk<N, L> {
         ensures line { post.new.line ≡ post.old.line }
         ensures told { IsTold post.new.label.news self.old.now }
         ensures tells { result ≤ news_moment post.new.label.news }
-        ensures kept { ¬ HasGivenUp hub.now post.old.line → wire.new.connection ≡ wire.old.connection }
+        ensures kept { HasLine hub.now post.old.line → ¬ HasGivenUp hub.now post.old.line →
+            ¬ HasRefused post.old.label (line_view (hub_line post.old.line hub.now).state) →
+            wire.new.connection ≡ wire.old.connection }
         ensures quiet { HasLine hub.now post.old.line → wire.new.quiet ≡ quiet_on post.old.line hub.now }
     {
         let now = self.now;
@@ -157,7 +159,9 @@ impl<N: Network + Drop, L: Write + Drop> Desk<N, L> {
         ensures place { wire.new.place ≡ wire.old.place }
         ensures line { post.new.line ≡ post.old.line }
         ensures told { IsTold post.new.label.news self.old.now }
-        ensures kept { ¬ HasGivenUp hub.now post.old.line → wire.new.connection ≡ wire.old.connection }
+        ensures kept { HasLine hub.now post.old.line → ¬ HasGivenUp hub.now post.old.line →
+            ¬ HasRefused post.old.label (line_view (hub_line post.old.line hub.now).state) →
+            wire.new.connection ≡ wire.old.connection }
     {
         let now = self.now;
         let begun = wire.begun();

@@ -4,6 +4,7 @@ ghost use Rattle.std.specs.Prelude.{◌≡◌, ◌≢◌, ◌≤◌, Err, None, 
 ghost use Rattle.std.specs.declared.net.socket_addr.SocketAddr.{SocketAddr};
 ghost use Rattle.njh_service.specs.Doors.{begin_event, cause_in, door_address, to_try};
 ghost use Rattle.njh_service.specs.Doors.{IsLookedAtAgain, IsTried};
+ghost use Rattle.njh_service.specs.Logging.{IsLogged};
 
 use crate::desk::Desk;
 use crate::entry::LogEvent;
@@ -183,6 +184,9 @@ impl<N: Network + Drop, L: Write + Drop> Desk<N, L> {
         ensures address { door_address N.address_of result ≡ address }
         ensures tried { IsTried self.old.now result }
         ensures now { self.new.now ≡ self.old.now }
+        ensures logged { cause_in result ≢ Some before → IsSome self.old.log.writer →
+            IsLogged L.contents self.old.log self.new.log }
+        ensures silent { cause_in result ≡ Some before → self.new.log ≡ self.old.log }
     {
         let door = listen(&mut self.network, address, place, self.now);
         match try_event(address, before, door.cause()) {

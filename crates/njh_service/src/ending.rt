@@ -1,8 +1,8 @@
 //! When a line is in a session, and what is told of a session's end.
 
 ghost use Rattle.std.specs.Prelude.{◌≡◌};
-ghost use Rattle.njh_service.specs.Sessions.{is_session, is_up, no_session_since, session_change, session_end, tries_end};
-ghost use Rattle.njh_service.specs.Sessions.{tries_since};
+ghost use Rattle.njh_service.specs.Sessions.{is_session, is_up, no_session_since, session_change, session_end};
+ghost use Rattle.njh_service.specs.Sessions.{tries_end, tries_since};
 
 use crate::entry::{SessionChange, SessionEnd};
 use crate::last_frame::LastFrame;

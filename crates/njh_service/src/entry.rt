@@ -51,6 +51,8 @@ pub enum LogEvent {
     DialFailed(SocketAddr),
     /// A connection that waits could not be taken.
     AcceptFailed,
+    /// A sign-on came that doesn't fit: of another node, with another password, or none.
+    SignOnRefused,
     /// The session went up or down.
     SessionChanged(SessionChange),
     /// It did both, so many times in all, and this was the last.
@@ -155,6 +157,7 @@ impl fmt::Display for LogEvent {
             LogEvent::Failed(failure) => write!(f, "failed: {failure}"),
             LogEvent::DialFailed(address) => write!(f, "no connection to {address}"),
             LogEvent::AcceptFailed => write!(f, "a connection could not be taken"),
+            LogEvent::SignOnRefused => write!(f, "sign-on refused"),
             LogEvent::SessionChanged(change) => write!(f, "{change}"),
             LogEvent::SessionsChanged(change, count) => {
                 write!(f, "{change}, the last of {count} changes")

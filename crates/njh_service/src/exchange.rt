@@ -5,10 +5,11 @@ ghost use Rattle.std.specs.Prelude.{◌≢◌, false, OnOk, OnErr};
 ghost use Rattle.njh_turns.specs.Service.{AreStill};
 ghost use Rattle.njh_table.specs.declared.LineId.{LineId};
 ghost use Rattle.njh_hub.specs.Quiets.{quiet_on};
-ghost use Rattle.njh_hub.specs.Views.{HasGivenUp};
+ghost use Rattle.njh_hub.specs.Views.{HasGivenUp, hub_line, line_view};
 ghost use Rattle.njh_hub.specs.WholeHub.{HasLine};
 ghost use Rattle.njh_service.specs.Prompting.{IsPrompted};
 ghost use Rattle.njh_service.specs.Attention.{at_once, mark_at, watch_at, IsAnyMarked, IsInGroup};
+ghost use Rattle.njh_service.specs.Sessions.{HasRefusedMore};
 ghost use Rattle.njh_service.specs.Watching.{HasBegun, HaveBegun, IsRoundBegun};
 ghost use Rattle.njh_service.specs.declared.attention.Watch.{Watch};
 ghost use Rattle.njh_service.specs.declared.traffic.Traffic.{Traffic};
@@ -60,6 +61,7 @@ impl<N: Network + Drop, L: Write + Drop, S: TableSource + Drop> Model for Exchan
     ghost view = { λ exchange. record {
       lines = map (λ post. post.line) exchange.posts.items;
       noted = map (λ post. post.traffic) exchange.posts.items;
+      refusals = map (λ post. post.label.refusals) exchange.posts.items;
       ready = exchange.ready.items;
       watches = exchange.watches.items;
       next = exchange.next;
@@ -347,15 +349,17 @@ impl<N: Network + Drop, L: Write + Drop, S: TableSource + Drop> Exchange<N, L, S
         self.next = self.next.min(moment);
     }
 
-    /// Does what a line's session asks for: its connection stays, unless its own session gave up,
-    /// and its next quiet lasts as long as its own session says. Answers when it wants to be looked
-    /// at.
+    /// Does what a line's session asks for: its connection stays, unless its own session gave up or
+    /// refused a sign-on, and its next quiet lasts as long as its own session says. Answers when it
+    /// wants to be looked at.
     fn apply_session(&mut self, place: usize, hub: &Hub, wire: &mut LineWire<N::Connection>) -> u64
         ensures counts { wire.old.failures ≤ wire.new.failures }
         ensures place { wire.new.place ≡ wire.old.place }
         ensures lines { self.new.lines ≡ self.old.lines }
         ensures watches { self.new.watches ≡ self.old.watches }
-        ensures kept { (id : LineId) → slice_get self.old.lines place ≡ Some id → ¬ HasGivenUp hub.now id →
+        ensures kept { (id : LineId) → (seen : ℕ) → slice_get self.old.lines place ≡ Some id →
+            slice_get self.old.refusals place ≡ Some seen → HasLine hub.now id → ¬ HasGivenUp hub.now id →
+            ¬ HasRefusedMore seen (line_view (hub_line id hub.now).state) →
             wire.new.connection ≡ wire.old.connection }
         ensures quiet { (id : LineId) → slice_get self.old.lines place ≡ Some id → HasLine hub.now id →
             wire.new.quiet ≡ quiet_on id hub.now }

@@ -1,8 +1,8 @@
 //! A line that is served, as the attendant sees it.
 
-ghost use Rattle.std.specs.Prelude.{◌≡◌};
+ghost use Rattle.std.specs.Prelude.{◌≡◌, ◌↔◌, IsTrue};
 ghost use Rattle.njh_service.specs.Dialling.{moment_of_loss};
-ghost use Rattle.njh_service.specs.Sessions.{after_session, moment_seen};
+ghost use Rattle.njh_service.specs.Sessions.{after_session, moment_seen, HasRefused};
 
 use crate::connecting::kept_until;
 use crate::dial::Dial;
@@ -58,6 +58,10 @@ pub(crate) struct Label {
     pub(crate) tries_since: Option<u64>,
     /// Whether its last connection's end was told.
     pub(crate) lost: bool,
+    /// How many sign-ons were refused on it, as its session was seen last.
+    pub(crate) refusals: u64,
+    /// Until when it takes no connection, on the service's clock.
+    pub(crate) barred_until: u64,
 }
 
 impl Label {
@@ -75,6 +79,8 @@ impl Label {
             in_session: false,
             tries_since: None,
             lost: false,
+            refusals: 0,
+            barred_until: 0,
             again: 0,
             connected: false,
         }
@@ -91,6 +97,14 @@ impl Label {
         self.tries_since = tries_since(self.tries_since, session.tries, now);
         self.no_session_since = no_session_since(self.no_session_since, self.up, is_up, now);
         self.up = is_up;
+        self.refusals = session.refusals;
+    }
+
+    /// Whether a sign-on was refused since its session was seen last.
+    pub(crate) fn has_refused(&self, session: &SessionView) -> bool
+        ensures { IsTrue result ↔ HasRefused self.now session.now }
+    {
+        self.refusals < session.refusals
     }
 }
 

@@ -10,11 +10,11 @@ ghost use Rattle.njh_service.specs.Dialling.{moment_of_loss};
 ghost use Rattle.njh_service.specs.Logging.{IsLogged};
 ghost use Rattle.njh_service.specs.News.{after_telling, told_now, IsTold};
 ghost use Rattle.njh_service.specs.Prompting.{HasSeen};
-ghost use Rattle.njh_service.specs.Sessions.{moment_seen, tries_end, IsInSession, IsReady};
+ghost use Rattle.njh_service.specs.Sessions.{barred_until, moment_seen, tries_end, HasRefused, IsInSession, IsReady};
 
 use crate::desk::Desk;
 use crate::ending::{session_end, tries_end};
-use crate::entry::SessionEnd;
+use crate::entry::{LogEvent, SessionEnd};
 use crate::post::{Label, Post};
 use crate::traffic::Sight;
 use njh_hub::{Hub, SessionView};
@@ -34,6 +34,9 @@ const NO_SESSION: SessionView = SessionView {
     refusals: 0,
 };
 
+/// For how long a line takes no connection on which a sign-on was refused, in milliseconds.
+const BARRED: u64 = 1_000;
+
 impl<N: Network + Drop, L: Write + Drop> Desk<N, L> {
     /// Looks at a line on which something came.
     pub(crate) fn look(
@@ -50,15 +53,21 @@ impl<N: Network + Drop, L: Write + Drop> Desk<N, L> {
             let moment = moment_seen post.old.label session self.old.now post.old.moment in
             (post.new.moment ≡ moment) ⊎ (post.new.moment ≡ moment_of_loss post.old.site moment self.old.now) }
         ensures told { IsTold post.new.label.news self.old.now }
-        ensures kept { ¬ HasGivenUp hub.now post.old.line → wire.new.connection ≡ wire.old.connection }
+        ensures kept { HasLine hub.now post.old.line → ¬ HasGivenUp hub.now post.old.line →
+            ¬ HasRefused post.old.label (line_view (hub_line post.old.line hub.now).state) →
+            wire.new.connection ≡ wire.old.connection }
+        ensures refused { HasLine hub.now post.old.line →
+            HasRefused post.old.label (line_view (hub_line post.old.line hub.now).state) → ¬ IsConnected wire.new }
         ensures ended { IsInSession post.old.label.in_session wire.old → HasGivenUp hub.now post.old.line →
             ¬ IsConnected wire.new }
     {
         let now = self.now;
+        let session = session_of(hub, post.line);
         let gave_up = self.end_tries(post.line, &post.label, hub, wire);
-        let end = heard_end(wire, gave_up.is_some());
-        let session_end = session_end(gave_up, end.is_some() || post.label.lost);
-        post.see(session_of(hub, post.line), session_end, now);
+        let is_refused = self.end_refused(&mut post.label, &session, wire);
+        let end = heard_end(wire, gave_up.is_some() || is_refused);
+        let is_lost = (end.is_some() && !is_refused) || post.label.lost;
+        post.see(session, session_end(gave_up, is_lost), now);
         self.tell_files(post.line, &post.label, &mut post.streams, hub);
         self.tell_sessions(&mut post.label, now);
         if let Some(end) = end {
@@ -94,6 +103,32 @@ impl<N: Network + Drop, L: Write + Drop> Desk<N, L> {
         }
     }
 
+    /// Ends the connection of a line on which a sign-on was refused since its session was seen last,
+    /// tells of it, and has the line take none for a second. Answers whether one was.
+    fn end_refused(
+        &mut self,
+        label: &mut Label,
+        session: &SessionView,
+        wire: &mut LineWire<N::Connection>,
+    ) -> bool
+        ensures refused { IsTrue result ↔ HasRefused label.old session.now }
+        ensures barred { IsTrue result → label.new ≡ record label.old { barred_until = barred_until self.old.now } }
+        ensures closed { IsTrue result → wire.new ≡ after_close wire.old }
+        ensures logged { IsTrue result → IsSome self.old.log.writer → IsLogged L.contents self.old.log self.new.log }
+        ensures kept { ¬ IsTrue result → (wire.new ≡ wire.old) × ((label.new ≡ label.old) × (self.new ≡ self.old)) }
+        ensures now { self.new.now ≡ self.old.now }
+        ensures counts { wire.old.failures ≤ wire.new.failures }
+        ensures place { wire.new.place ≡ wire.old.place }
+    {
+        if !label.has_refused(session) {
+            return false;
+        }
+        wire.close();
+        label.barred_until = self.now.saturating_add(BARRED);
+        self.tell(label, LogEvent::SignOnRefused);
+        true
+    }
+
     /// Tells of a line's sessions what is to be told now, if anything is.
     pub(crate) fn tell_sessions(&mut self, label: &mut Label, now: u64)
         ensures told { label.new ≡ record label.old { news = after_telling label.old.news now } }
@@ -110,7 +145,7 @@ impl<N: Network + Drop, L: Write + Drop> Desk<N, L> {
 }
 
 /// Why a connection ended, once the hub has heard of it. It need not hear of one that was ended as
-/// its session gave up.
+/// its session gave up, or as a sign-on was refused.
 fn heard_end<C: Connection + Drop>(wire: &mut LineWire<C>, gave_up: bool) -> Option<ConnectionEnd>
     ensures counts { wire.old.failures ≤ wire.new.failures }
     ensures place { wire.new.place ≡ wire.old.place }

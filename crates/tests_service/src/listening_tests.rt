@@ -34,6 +34,13 @@ pub const SIGN_ON: Act = Act::Sends(
     \x00\x10\x26",
 );
 
+/// LION signs on, whose line it isn't.
+const OTHER_SIGN_ON: Act = Act::Sends(
+    b"\x10\x02\xa0\x8f\xcf\xf0\xc9\x29\xd3\xc9\xd6\xd5\x40\x40\x40\x40\x01\x00\x00\x00\x00\x00\
+    \x00\x04\x00\x40\x40\x40\x40\x40\x40\x40\x40\x40\x40\x40\x40\x40\x40\x40\x40\x00\x00\x00\x00\x00\
+    \x00\x10\x26",
+);
+
 /// The hub's J block, as it goes out to peer 0.
 pub const RESPONSE: &str =
     " to 0: 1002a08fcff0d129c2e4d9c5c1e44040010000000000000400404040404040404040404040404040400000000\
@@ -118,6 +125,28 @@ fn add_tries(wanted: &mut Vec<u8>) -> Result<(), AllocError> {
         b"1970-01-01T00:00:07Z ACME a1: session down: five tries in a row, NAK came last\n\
         1970-01-01T00:00:07Z ACME a1: closed\n",
     )
+}
+
+/// A connection with a sign-on that doesn't fit is closed, and the line takes the next one a second
+/// later.
+#[test]
+fn refused_sign_on(rt: HostRuntime) -> Result<(), Fail> {
+    let acts = [
+        at(1000, 0, Act::Connects(1)),
+        at(1000, 0, CONTACT),
+        at(1050, 0, OTHER_SIGN_ON),
+        at(1100, 1, Act::Connects(1)),
+        at(1100, 1, CONTACT),
+    ];
+    let wanted = "\
+1970-01-01T00:00:01Z ACME a1: connected from 10.0.0.0:5000
+1000 to 0: 1070
+1970-01-01T00:00:01Z ACME a1: sign-on refused
+1970-01-01T00:00:01Z ACME a1: closed
+1970-01-01T00:00:02Z ACME a1: connected from 10.0.0.1:5000
+2050 to 1: 1070
+";
+    play(&rt, rt.alloc(), TABLES, &acts, 2500, wanted)
 }
 
 /// Who connects to a line on which nobody signs on waits until its peer has been there for ten

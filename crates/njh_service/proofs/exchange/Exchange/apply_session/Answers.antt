@@ -2,8 +2,10 @@ use Rattle.std.proofs.Common.{ℕ, ◌<◌, subst, refl, sym, ap, ◌∙◌}
 use Rattle.std.proofs.lemmas.Bool.{false≢true}
 use Rattle.njh_table.specs.declared.LineId.{LineId}
 use Rattle.njh_hub.specs.Quiets.{quiet_on}
-use Rattle.njh_hub.specs.Views.{HasGivenUp}
+use Rattle.njh_hub.specs.Views.{HasGivenUp, hub_line, line_view}
+use Rattle.njh_hub.specs.declared.session_view.SessionView.{SessionView}
 use Rattle.njh_hub.specs.WholeHub.{HasLine}
+use Rattle.njh_service.specs.Sessions.{HasRefusedMore}
 use Rattle.njh_service.specs.Watching.{Watched}
 use Rattle.njh_service.specs.declared.post.Post.{Post}
 use Rattle.njh_service.proofs.PostLaws.{lines_stay, line_there, post_there}
@@ -17,14 +19,22 @@ returns-clause-lines g c =
     c.apply_session.ensures.line
 
 pub returns-clause-kept : goal.returns-clause-kept
-returns-clause-kept g c = λ line found alive.
+returns-clause-kept g c = λ line seen found noted there alive fits.
     let Within : ℕ → Type 0 = λ many. c.args.place < many in
+    let IsThere : LineId → Type 0 = λ own. HasLine c.args.hub.now own in
     let IsAlive : LineId → Type 0 = λ own. ¬ HasGivenUp c.args.hub.now own in
-    let own = line_there (λ (post : Post g.row.N-Listener.Denot g.row.N-Connection.Denot). post.line)
-    c.self.inside.posts.items c.args.self.now.lines c.args.place c.in-Some.post.now line
-    (ap (λ (seen : Watched). seen.lines) c.self.view_is)
-    (subst Within c.self.inside.posts.ok.0 (c.in-Some.ensures.variant.0 refl)) c.in-Some.ensures.value found in
-    c.apply_session.ensures.kept (subst IsAlive own alive)
+    let session : LineId → SessionView = λ own. line_view (hub_line own c.args.hub.now).state in
+    let post = c.in-Some.post.now in
+    let low = subst Within c.self.inside.posts.ok.0 (c.in-Some.ensures.variant.0 refl) in
+    let own = line_there (λ (x : Post g.row.N-Listener.Denot g.row.N-Connection.Denot). x.line)
+    c.self.inside.posts.items c.args.self.now.lines c.args.place post line
+    (ap (λ (w : Watched). w.lines) c.self.view_is) low c.in-Some.ensures.value found in
+    let had = line_there (λ (x : Post g.row.N-Listener.Denot g.row.N-Connection.Denot). x.label.refusals)
+    c.self.inside.posts.items c.args.self.now.refusals c.args.place post seen
+    (ap (λ (w : Watched). w.refusals) c.self.view_is) low c.in-Some.ensures.value noted in
+    c.apply_session.ensures.kept (subst IsThere own there) (subst IsAlive own alive)
+    (subst (λ (id : LineId). ¬ HasRefusedMore post.label.refusals (session id)) own
+    (subst (λ (n : ℕ). ¬ HasRefusedMore n (session line)) had fits))
 
 pub returns-clause-quiet : goal.returns-clause-quiet
 returns-clause-quiet g c = λ line found there.
