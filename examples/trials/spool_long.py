@@ -14,6 +14,7 @@ new hub:
 - `many`: the same of 1,024 files of one name.
 - `smallest`: it fills its quota with records of a blank, until one is refused, and begins anew.
 - `whole`: it sends files of 406,000 such records, and cancels each when it is whole.
+- `headers`: the same of 20,300 records that go on with a data set header, of a byte each.
 
 There too a probe writes 4,096 bytes some twenty times a second to a file beside the spool file, and syncs it.
 
@@ -59,9 +60,12 @@ CARDS = ALL_CARDS[:3]
 # How many seconds more the other customer's lines last, in which a play is made ready.
 MORE = {"many": 15}
 
-PLAYS = ("quiet", "large", "flood", "many", "smallest", "whole")
+PLAYS = ("quiet", "large", "flood", "many", "smallest", "whole", "headers")
 
 WIDTHS = (9, 7, 8, 7, 8, 8, 7, 8, 8, 8, 7, 8, 8)
+
+# The SRCB of a data set header, and of a record that goes on with one.
+DATA_SET_HEADER = 0xE0
 
 # How many bytes the records of a frame may take, so that it has 4,096 at most, also if some are doubled.
 ROOM = 4060
@@ -198,8 +202,8 @@ def smallest(asker, seconds):
     return f"{frames} frames of {len(block) // 4} records in {seconds} s; {fills} times the quota was full"
 
 
-def whole(asker, seconds):
-    piece = bytes([SYSOUT, CARD, 0x81, 0x00])
+def whole(asker, seconds, srcb=CARD, blocks=400):
+    piece = bytes([SYSOUT, srcb, 0x81, 0x00])
     block, (first, last) = piece * (ROOM // len(piece)), (file_of(1, "N0", "ANNA", "N1", "PAUL", []), [])
     first, last = first[:2], first[2:]
     spell = lambda records: b"".join(bytes([SYSOUT, srcb]) + spelled(record) for srcb, record in records)
@@ -208,12 +212,16 @@ def whole(asker, seconds):
     files, end = 0, asker.begun + seconds
     while time.monotonic() < end:
         asker.expect(PERMISSION, bytes([REQUEST, SYSOUT, 0]) + spell(first))
-        for _ in range(400):
+        for _ in range(blocks):
             asker.exchange(block)
         asker.expect(COMPLETE, spell(last) + bytes([SYSOUT, CARD, 0x00]))
         asker.exchange(cancel)
         files += 1
-    return f"{files} files of {400 * len(block) // 4} records in {time.monotonic() - asker.begun:.0f} s"
+    return f"{files} files of {blocks * len(block) // 4} records in {time.monotonic() - asker.begun:.0f} s"
+
+
+def headers(asker, seconds):
+    return whole(asker, seconds, DATA_SET_HEADER, 20)
 
 
 def beyond(times, syncs):
@@ -238,7 +246,7 @@ def cells_of(times, *more):
 def trial(options, library, load, name):
     places, (core, others, own) = places_of([2, 2]), options.cores
     os.sched_setaffinity(0, {own})
-    table = table_for(places, FILLED if name in ("smallest", "whole") else QUOTA, 1024)
+    table = table_for(places, FILLED if name in ("smallest", "whole", "headers") else QUOTA, 1024)
     table = table.replace(f"block = {BLOCK}", f"block = {LARGE}")
     with PinnedHub(options.program, table, core, library) as hub:
         hub.wait_for(places[-1].port)
