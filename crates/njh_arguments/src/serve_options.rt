@@ -102,7 +102,7 @@ fn addressed_command<'a>(alloc: Global) -> Result<Command<'a>, AllocError>
     let strict = flag(
         alloc,
         "strict",
-        "Doesn't start if a port can't be listened on, which else is tried again each ten seconds",
+        "Doesn't start if a port can't be listened on or a file put back; else each is tried again",
     );
     with_option(listening, strict)
 }

@@ -10,7 +10,7 @@ use Words.{with_whole}
 use Rattle.std.proofs.{Common.{⊎_elim, eqb}, lemmas.Bool.{false_from_ne_true, Decides.eqb_tells}}
 use Rattle.std.proofs.lemmas.{Iterator.Adapters.position_from-zero, List.{ext_get_or, Quantifiers.position-Some}}
 use Rattle.std.{proofs.lemmas.List.Sums.{fails_before_first, fold-append}, specs.List.position_or_len}
-use Rattle.{njh_table.specs.TableFile.entry_of, njh_keeper.specs.Opened.{IsRefused, own}}
+use Rattle.{njh_table.specs.TableFile.entry_of, njh_keeper.specs.Opened.own}
 
 -- ---- a text is one name at most
 
@@ -91,7 +91,7 @@ module _ (names : List (List ℕ)) (distinct : Apart names) (c : ℕ) (there : c
   abbrev name : List ℕ
   name = get_or names c []
 
-  one : (parts : List Part) (w : Whole) → length parts ≡ length names
+  pub one : (parts : List Part) (w : Whole) → length parts ≡ length names
       → part c (hub_with names parts w) ≡ cond (is_own name w.file) (with_whole (part c parts) w) (part c parts)
   one parts w count = split (number_of names w.file.customer) refl
     where
@@ -170,22 +170,22 @@ module _ (table : TableFile) (distinct : AreDistinct (map (λ c. c.name) table.c
   abbrev start : List Part
   start = map part_at_open (map entry_of table.customers)
 
-  count : length start ≡ length names
+  pub count : length start ≡ length names
   count =
       length-map (map entry_of table.customers) part_at_open ∙ length-map table.customers entry_of
       ∙ sym (length-map table.customers (λ (c : NamedCustomer). c.name))
 
   module _ (c : ℕ) (there : c < length table.customers) where
-    name_is : get_or names c [] ≡ (customer_at table c).name
+    pub name_is : get_or names c [] ≡ (customer_at table c).name
     name_is = get_or-map (λ (x : NamedCustomer). x.name) table.customers c no_customer [] there
 
-    start_is : part c start ≡ part_at_open (entry_of (customer_at table c))
+    pub start_is : part c start ≡ part_at_open (entry_of (customer_at table c))
     start_is =
         get_or-map part_at_open (map entry_of table.customers) c (entry_of no_customer) no_part
         (omega (arith, there, length-map table.customers entry_of))
         ∙ ap part_at_open (get_or-map entry_of table.customers c no_customer (entry_of no_customer) there)
 
-    low : c < length names
+    pub low : c < length names
     low = omega (arith, there, length-map table.customers (λ (x : NamedCustomer). x.name))
 
     pub part_all : (ws : List Whole) → part c (hub_with_all names start ws) ≡ part_opened
@@ -214,31 +214,6 @@ module _ (table : TableFile) (distinct : AreDistinct (map (λ c. c.name) table.c
 
   pub all_back : (ws : List Whole) → NoneFails names start ws → AllAreBack table ws
   all_back ws none c there = back_all c there ws none
-
-  -- the first that isn't put back
-  pub refused : (spool : SpoolContents) (before after : List Whole) (w : Whole) (fault : FileFault)
-      → kept spool ≡ before ++ w ∷ after → NoneFails names start before
-      → hub_fault names (hub_with_all names start before) w ≡ Some fault → IsRefused table spool w fault
-  refused spool before after w fault is none why = split (number_of names w.file.customer) refl why
-    where
-      split : (o : Option ℕ) → number_of names w.file.customer ≡ o → (elim o as (λ _. Option FileFault)
-          [ None ↦ None | Some c ↦ whole_fault (part c (hub_with_all names start before)) w ]) ≡ Some fault
-          → IsRefused table spool w fault
-      split None e told = absurd (cc told)
-      split (Some c) e told =
-          let h = found names w.file.customer c e in
-          let there : c < length table.customers =
-          omega (arith, h.0, length-map table.customers (λ (x : NamedCustomer). x.name)) in
-          record {
-            before = before;
-            after = after;
-            customer = c;
-            split = is;
-            back = all_back before none;
-            there = there;
-            owned = subst (λ (n : List ℕ). is_name_of w.file.customer n ≡ true) (name_is c there) h.1;
-            why = ap (λ (p : Part). whole_fault p w) (sym (part_all c there before)) ∙ told;
-          }
 
 -- ---- a customer's part
 

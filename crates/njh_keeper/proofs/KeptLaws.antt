@@ -2,13 +2,18 @@
 use Rattle.njh_keeper.proofs.Words
 use Words.{◌≡◌, ◌≢◌, ◌⊎◌, inl, inr, ℕ, zero, suc, ◌<◌, true, false, List, [], ◌∷◌, length, bytes_eq, filter_map}
 use Words.{map, refl, sym, subst, ◌∙◌, arith, cases_Bool, bytes_eq-Decides, AllZip, Survives}
-use Words.{SpoolContents, Whole, kept, TableFile, KeptFile, Part, name_at}
+use Words.{contents_in, File, filter, map-map, Option, records_of, SpoolContents, Whole, kept, TableFile, KeptFile}
+use Words.{Part}
 use Words.{AllAreBack, AllAreFound, AreRemembered, clean_before, entries, file_in, HasCleanDisk, Holds, hub_opened}
-use Words.{Leads, own_files, OwnFiles, State, Stays, StoredFile, survives_both, without_keys}
+use Words.{is_own, Leads, left_in, name_at, own_files, own_rows, OwnFiles, State, Stays, StoredFile, survives_both}
+use Words.{whole_in, ap, without_keys}
 use Rattle.sqlite.proofs.StateLemmas.{survives_then}
 use Rattle.njh_keeper.proofs.{KnownLaws.stood_still, OpeningBegun.is_written}
-use Rattle.njh_keeper.proofs.{OpeningFound.all_still, RowLaws.is_ordered}
-use Rattle.njh_keeper.specs.{code.Opening.{IsWritten, MayBegin, RememberingAll}, Keeper.{IsStillKept, KeepsAll}}
+use Rattle.njh_keeper.proofs.KeptAside.{alike_equal, AreKeptAlike, kept_rows, read_ever, taken_up_same}
+use Rattle.njh_keeper.proofs.{OpeningFound.all_alike, RowLaws.{is_ordered, own_files_are}}
+use Rattle.njh_keeper.specs.Keeper.{AreStillKept, IsStillKept, KeepsAll}
+use Rattle.njh_keeper.specs.{code.Opening.{IsWritten, MayBegin, RememberingAll}, SetAside.{all_taken_up, file_taken_up}}
+use Rattle.njh_keeper.specs.SetAside.{fresh_hub, names_in, spool_tried}
 use Rattle.njh_keeper.specs.code.Writing.{LackUnused}
 
 -- ---- on the way
@@ -58,25 +63,42 @@ place_of name (other ∷ names) = elim (cases_Bool (bytes_eq other name)) [
   ]
 ]
 
-all_same : (fs : List KeptFile) → AllZip IsStillKept fs fs
-all_same [] = tt
-all_same (f ∷ fs) = (record { kind = refl; records = refl; held = λ was. was }, all_same fs)
+module _ (table : TableFile) (began t : SpoolContents) (names : List (List ℕ)) (hub : List Part)
+    (are : names ≡ map (λ c. c.name) table.customers) (hub_is : hub ≡ hub_opened table (spool_tried table began))
+    (back : AllAreBack table (kept (spool_tried table began)))
+    (written : IsWritten names hub (spool_tried table began) t) where
+  abbrev s : SpoolContents
+  s = spool_tried table began
 
-module _ (table : TableFile) (s t : SpoolContents) (names : List (List ℕ)) (hub : List Part)
-    (are : names ≡ map (λ c. c.name) table.customers) (hub_is : hub ≡ hub_opened table s)
-    (back : AllAreBack table (kept s)) (written : IsWritten names hub s t) where
-  abbrev read : List ℕ → SpoolContents → List KeptFile
-  read name spool = filter_map (λ (w : Whole). file_in w.file w.records) (own_files name spool)
+  abbrev read : Whole → Option KeptFile
+  read w = file_in w.file w.records
 
-  one : (name : List ℕ) → AllZip IsStillKept (read name s) (read name t)
-  one name = elim (place_of name names) [
-    | inl found ↦ subst (λ n. AllZip IsStillKept (read n s) (read n t)) found.2
-        (all_still table s back names are found.0 found.1 t (subst (λ ps. IsWritten names ps s t) hub_is written))
-    | inr none ↦ subst (λ ws. AllZip IsStillKept (read name s)
-        (filter_map (λ (w : Whole). file_in w.file w.records) ws))
-        (sym (written.others name none)) (all_same (read name s))
+  abbrev row : SpoolContents → ℕ × File → Option KeptFile
+  row spool e = file_in e.1 (contents_in (records_of e.1.key spool))
+
+  alike : (name : List ℕ) → AllZip (λ e f. AreKeptAlike (row s e) (row t f)) (own_rows name s) (own_rows name t)
+  alike name = elim (place_of name names) [
+    | inl found ↦ subst (λ n. AllZip (λ e f. AreKeptAlike (row s e) (row t f)) (own_rows n s) (own_rows n t)) found.2
+        (all_alike table s back names are found.0 found.1 t (subst (λ ps. IsWritten names ps s t) hub_is written))
+    | inr none ↦ alike_equal (row s) (row t) (own_rows name s) (own_rows name t)
+        (sym (map-map read (whole_in t) (own_rows name t))
+        ∙ ap (map read) (sym (own_files_are name t) ∙ written.others name none ∙ own_files_are name s)
+        ∙ map-map read (whole_in s) (own_rows name s))
   ]
 
-  pub keeps_all : KeepsAll s t
-  keeps_all [] = tt
-  keeps_all (name ∷ more) = (one name, keeps_all more)
+  one : (name : List ℕ)
+      → AllZip IsStillKept (filter_map read (own_files name (all_taken_up s)))
+      (filter_map read (own_files name (all_taken_up t)))
+  one name =
+      subst (λ fs. AllZip IsStillKept fs (filter_map read (own_files name (all_taken_up t)))) (sym (read_ever s name))
+      (subst (λ fs. AllZip IsStillKept (filter_map (row s) (filter (λ e. is_own name (file_taken_up e.1)) s.files)) fs)
+      (sym (read_ever t name))
+      (kept_rows s t name s.files t.files written.still written.records (alike name)))
+
+  all_of_them : KeepsAll s t
+  all_of_them [] = tt
+  all_of_them (name ∷ more) = (one name, all_of_them more)
+
+  pub keeps_all : KeepsAll began t
+  keeps_all who = subst (λ u. AreStillKept (left_in who u) (left_in who (all_taken_up t)))
+      (taken_up_same (names_in table) (fresh_hub table) began) (all_of_them who)

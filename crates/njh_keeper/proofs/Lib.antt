@@ -1,5 +1,6 @@
 pub mod Words
 pub mod HubLaws
+pub mod AsideLaws
 pub mod FileLaws
 pub mod OpenedLaws
 pub mod RestingFiles
@@ -7,6 +8,7 @@ pub mod IdleLines
 pub mod LinesLostLaws
 pub mod StartedLaws
 pub mod StepLaws
+pub mod TryingLaws
 pub mod WriterLaws
 pub mod OpeningNumbers
 pub mod NumberedLaws
@@ -45,6 +47,9 @@ pub mod OpeningApart
 pub mod OpeningBegun
 pub mod OpeningFound
 pub mod OpeningLists
+pub mod StillRows
+pub mod KeptAside
+pub mod TriedAlone
 pub mod GrowthLaws
 pub mod BegunLaws
 pub mod OneStepLaws

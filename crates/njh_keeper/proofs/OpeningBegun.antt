@@ -1,6 +1,7 @@
 -- The memory of the keeper as it begins: what is dropped then is no file's.
 use Rattle.njh_keeper.proofs.Words
 use Words.{◌≡◌, ℕ, ◌+◌, ◌-◌, ◌<◌, ◌≤◌, ◌^◌, ◌==◌, min, nat_le, nat_lt, Bool, true, false, cond, List, [], ◌∷◌, length}
+use Words.{AllZip}
 use Words.{get_or, inl, inr, refl, sym, ap, subst, ◌∙◌, arith, cases_Bool, eqb-false, nat_tests, AllByRecursion}
 use Words.{StoredFile, File, SpoolContents, entry_of, records_of, without_records, AreDistinct, Part, AreFilesApart}
 use Words.{contents_in, file_in, have_low_ids, kept_file, map, own_files, Some, suc, Whole, whole_in, zero}
@@ -10,7 +11,8 @@ use Rattle.njh_keeper.proofs.{FrameLaws.drops_records, ListLaws.{all_both, all-m
 use Rattle.njh_keeper.proofs.{LeftLaws.mirrored_is_read_back, NumberedLaws.all_weaker, RowLaws.own_files_are}
 use Rattle.njh_keeper.proofs.OpeningApart.{all_are_apart, few_unused, own_and_others}
 use Rattle.njh_keeper.proofs.{OpeningApart.{rows_count, used_is}, OpeningNumbers.after_all, UsesLaws.each_counts}
-use Rattle.{std.proofs.lemmas.Bool.true_from_ne_false, njh_keeper.specs.code.{Opening.IsWritten, Writing.AreUnused}}
+use Rattle.{std.proofs.lemmas.Bool.true_from_ne_false, njh_keeper.specs.code.Writing.AreUnused}
+use Rattle.njh_keeper.specs.code.Opening.{IsRowStill, IsWritten}
 
 -- ---- records under other numbers stay
 
@@ -113,6 +115,12 @@ module _ (files : List StoredFile) (names : List (List ℕ)) (hub : List Part) (
         ≡ map Some (map kept_file (files_at c hub))) one.owned.name_is
         (mirrored_is_read_back u found.0 (files_at c hub) one.mirrored);
     others = λ name out. foreign name (all.others name (λ c low. out c (omega (arith, low, long))));
+    still = subst (λ es. AllZip IsRowStill s.files es) (sym empty.files) all.still;
+    records = all_weaker (λ (e : ℕ × File). 1 ≤ count e.1.key) (λ e. records_of e.1.key u ≡ records_of e.1.key s)
+        (λ e least. stays e.1.key least
+        ∙ (λ i. records_of e.1.key (record { files = t.files; records = all.records i }))) s.files
+        (each_counts (λ (e : ℕ × File). e.1.key) count s.files
+        (λ n. omega (arith, ap (keyed_rows n) rows, rows_count n files)));
   }
 
 -- ---- all of it

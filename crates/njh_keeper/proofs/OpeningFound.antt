@@ -6,8 +6,8 @@ use Words.{length-map, AllZip, File, SpoolContents, Whole, contents_in, kept, re
 use Words.{entry_unmarked, NamedCustomer, TableFile, customer_at, no_customer, next_number-fresh, WholeFile}
 use Words.{with_arrived, KeptFile, records_in, Part, no_part, part, part_at_open, own_rows, AreFound, IsReadFor}
 use Words.{files_at, name_at, AllAreBack, AreBack, file_in, hub_opened, own_files, part_opened, OpenedFile, as_opened}
-use Words.{cond, destination_of, destination_unrouted, filter_map, Held, is_held, kept_file, opened_of, Ready, ◌||◌}
-use Rattle.njh_keeper.{proofs.LeftLaws.found_all, specs.{code.Opening.IsWritten, Keeper.IsStillKept}}
+use Words.{cond, destination_of, destination_unrouted, map-map, Held, is_held, kept_file, opened_of, Ready, ◌||◌}
+use Rattle.njh_keeper.{proofs.KeptAside.{AreKeptAlike, alike_some}, specs.{code.Opening.IsWritten, Keeper.IsStillKept}}
 use Rattle.{njh_table.specs.TableFile.entry_of as entry_in, njh_customer.proofs.FileLimits.{apart_arrived, apart_fresh}}
 use Rattle.njh_customer.{proofs.FileLimits.{apart_routes, whole_distinct}, specs.InOrder.AreApart}
 use Rattle.njh_keeper.proofs.{BegunLaws.all_by_place, NewFilesLaws.records_at, OpenedLaws.{fits_in, put_back, stays_so}}
@@ -114,21 +114,23 @@ module _ (table : TableFile) (spool : SpoolContents) (back : AllAreBack table (k
       (read_from spool (entry_unmarked its_entry) (own_rows its_name spool) its_part.customer.spool.whole opened.files
       rows opened.whole))
 
-  abbrev pub read_of : List ℕ → SpoolContents → List KeptFile
-  read_of name s = filter_map (λ (w : Whole). file_in w.file w.records) (own_files name s)
-
-  pub all_still : (t : SpoolContents) → IsWritten names (hub_opened table spool) spool t
-      → AllZip IsStillKept (read_of (name_at names c) spool) (read_of (name_at names c) t)
-  all_still t written =
+  pub all_alike : (t : SpoolContents) → IsWritten names (hub_opened table spool) spool t
+      → AllZip (λ e f. AreKeptAlike (file_in e.1 (contents_in (records_of e.1.key spool)))
+      (file_in f.1 (contents_in (records_of f.1.key t))))
+      (own_rows (name_at names c) spool) (own_rows (name_at names c) t)
+  all_alike t written =
+      let name = name_at names c in
+      let read = λ (w : Whole). file_in w.file w.records in
       let files = files_at c (hub_opened table spool) in
       let opened = opened_files its_entry (own_files its_name spool) (back c there) in
-      let before : read_of (name_at names c) spool ≡ opened.files =
-      ap (λ name. read_of name spool) named ∙ found_all (λ (w : Whole). file_in w.file w.records)
-      (own_files its_name spool) opened.files opened.all in
-      let now : read_of (name_at names c) t ≡ map kept_file files =
-      found_all (λ (w : Whole). file_in w.file w.records) (own_files (name_at names c) t) (map kept_file files)
-      (written.each c low) in
-      subst (λ fs. AllZip IsStillKept fs (read_of (name_at names c) t)) (sym before)
-      (subst (AllZip IsStillKept opened.files) (sym now)
+      let row = λ (s : SpoolContents) (e : ℕ × File). file_in e.1 (contents_in (records_of e.1.key s)) in
+      let before : map (row spool) (own_rows name spool) ≡ map Some opened.files =
+      sym (map-map read (whole_in spool) (own_rows name spool)) ∙ ap (map read) (sym (own_files_are name spool))
+      ∙ ap (λ n. map read (own_files n spool)) named ∙ opened.all in
+      let now : map (row t) (own_rows name t) ≡ map Some (map kept_file files) =
+      sym (map-map read (whole_in t) (own_rows name t)) ∙ ap (map read) (sym (own_files_are name t))
+      ∙ written.each c low in
+      alike_some (row spool) (row t) (own_rows name spool) (own_rows name t) opened.files (map kept_file files) before
+      now
       (part_is (λ (p : Part). AllZip IsStillKept opened.files (map kept_file p.customer.spool.whole))
-      (still_kept (entry_unmarked its_entry) its_part.customer.spool.whole opened.files opened.whole)))
+      (still_kept (entry_unmarked its_entry) its_part.customer.spool.whole opened.files opened.whole))

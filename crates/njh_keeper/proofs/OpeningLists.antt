@@ -9,6 +9,7 @@ use Words.{part, AllAreRead, AreRemembered, IsOwnOf, files_at, name_at, Mirrored
 use Rattle.njh_keeper.proofs.{FrameLaws.changes_row, HubLaws.apart, ListLaws.{beside_lengths, beside_push}}
 use Rattle.njh_keeper.proofs.{ListLaws.{beside_weaker, all_zip_weaker}, MirrorLaws.{all_of, kept_still, mirrored_still}}
 use Rattle.njh_keeper.proofs.{ReadBackLaws.{IsReadAs, is_kept_as_read, is_read_as}, RowLaws.below_with_changed}
+use Rattle.njh_keeper.proofs.StillRows.{still_changed, still_same, still_then}
 use Rattle.njh_keeper.{proofs.{RowLaws.{row_below, row_changes}, UsesLaws.keyed-append}, specs.code.Opening.IsCustomer}
 use Rattle.{njh_keeper.specs.code.Opening.IsRemembered, std.proofs.lemmas.List.{get_or_at, set_at, get_or_append_left}}
 use Rattle.std.proofs.lemmas.List.{get_or_push, length_push}
@@ -109,6 +110,7 @@ module _ (name : List ℕ) (whole : List KeptWhole) (e : ℕ × File) (left : Li
           (is_kept_as_read s k e as_read g read_as refl refl held id key remembers);
       reads = it.others;
       writes = is.writes;
+      still = is.still;
       below = is.below;
       keys = keys_now;
     }
@@ -147,6 +149,8 @@ module _ (name : List ℕ) (whole : List KeptWhole) (e : ℕ × File) (left : Li
             (all_kept_same s (with_changed e.0 row s) refl whole is.rows is.before is.beside) kept_new;
         reads = all_read_same s (with_changed e.0 row s) refl left it.rest it.others;
         writes = writes_then name from s (with_changed e.0 row s) is.writes writes_row;
+        still = still_then from.files s.files (with_changed e.0 row s).files is.still
+            (still_changed name s is.writes.ordered (length is.rows) e there_row at_row row owned);
         below = λ end all.
             let low = is.below end all in
             below_with_changed end e.0 row s
@@ -167,6 +171,7 @@ nothing_read name files s ordered all = record {
   beside = none_beside;
   reads = all;
   writes = record { records = refl; ordered = ordered; others = λ other apart. refl };
+  still = still_same s.files;
   below = λ end low. low;
   keys = λ n. omega arith;
 }
@@ -197,6 +202,7 @@ remembered own name rows files s t named step ordered are all =
       mirrored = subst (λ who. AllBeside (IsKept t) own.whole (own_rows who t) files) (sym named)
           (all_read name own.whole files s t is);
       writes = subst (λ who. WritesRowsOf who s t) (sym named) is.writes;
+      still = is.still;
       below = is.below;
       keys = λ n. omega (arith, is.keys n, ap (λ who. keyed_rows n (own_rows who s)) named);
     }
@@ -208,6 +214,7 @@ none_remembered names hub s ordered = record {
   records = refl;
   ordered = ordered;
   others = λ name foreign. refl;
+  still = still_same s.files;
   below = λ end low. low;
 }
 
@@ -279,5 +286,6 @@ module _ (names : List (List ℕ)) (hub : List Part) (rows : List (ℕ × File))
           let long = length_push owns own in
           done.writes.others name (λ same. foreign (length owns) (omega (arith, long)) (sym named ∙ sym same))
           ∙ so_far.others name (λ j low. foreign j (omega (arith, long, low)));
+      still = still_then s.files t.files u.files so_far.still done.still;
       below = λ end low. done.below end (so_far.below end low);
     }

@@ -63,8 +63,9 @@ pub use Rattle.njh_keeper.specs.code.{Partly.{KeepsOn, KeepsPartly}, Remembered.
 pub use Rattle.njh_keeper.specs.code.Remembered.{AreBelow, Claim, claim, IsKept, IsPartlyKept, IsRowOf, KeptPartial}
 pub use Rattle.njh_keeper.specs.code.Remembered.{KeptWhole, keyed, may_be_given, Mirrored, Moves, NameOneNode}
 pub use Rattle.njh_keeper.specs.code.Remembered.{none_beside, Numbers, one_beside, one_if, OwnFiles, Remembers, Sweep}
-pub use Rattle.njh_keeper.specs.code.{Remembered.{uses, uses_of_all, uses_of_files, with_key}, Restoring.hub_fault}
-pub use Rattle.njh_keeper.specs.code.Restoring.{hub_with, hub_with_all, NoneFails, number_from, number_of, wholes}
+pub use Rattle.njh_keeper.specs.code.Remembered.{uses, uses_of_all, uses_of_files, with_key}
+pub use Rattle.njh_keeper.specs.{code.Restoring.{hub_with_all, NoneFails, wholes}, Opened.{hub_fault, hub_with}}
+pub use Rattle.njh_keeper.specs.Opened.{number_from, number_of}
 pub use Rattle.njh_keeper.specs.code.{Walking.{AreNumbered, IsWalkedTo}, Writing.{emptied_at, free_at, id_behind}}
 pub use Rattle.njh_keeper.specs.code.Writing.{is_marked, is_used, IsTaken, key_behind, marked_by, numbers_but}
 pub use Rattle.njh_keeper.specs.code.Writing.{ShowsNow, sweep_of, unmarked, without_keys}

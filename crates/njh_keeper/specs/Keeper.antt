@@ -1,7 +1,7 @@
 -- What keeps whole files in a spool file, and the hub that it opens.
-use Rattle.std.specs.Prelude.{◌≡◌, ℕ, Bool, true, false, List, map, Option, Some, None, Result, IfErr, refl}
+use Rattle.std.specs.Prelude.{◌≡◌, ℕ, Bool, true, false, List, [], map, Option, Some, None, Result, IfErr, refl}
 use Rattle.std.specs.List.{AllByRecursion, AllZip, filter_map}
-use Rattle.std.specs.Coded.{Coded, code_by, coded×, coded_bool, coded_list, coded_option, coded_ℕ}
+use Rattle.std.specs.Coded.{Coded, code_by, coded×, coded_bool, coded_list, coded_ℕ}
 use Rattle.sqlite.specs.State.{HasCleanDisk, State, Survives}
 use Rattle.sqlite.specs.Store.{Ghosts}
 use Rattle.sqlite.specs.Tree.{Trees}
@@ -18,6 +18,7 @@ use Rattle.njh_table.specs.TableFile.{TableFile}
 use Rattle.njh_table.specs.Accepted.{AreDistinct}
 use Rattle.njh_keeper.specs.Refusal.{Refusal}
 use Rattle.njh_keeper.specs.Opened.{AllAreBack, file_in, hub_opened, is_name_of, own_files}
+use Rattle.njh_keeper.specs.SetAside.{all_refused, all_taken_up, spool_tried}
 use Rattle.njh_keeper.specs.code.Codes.{numbers_code, own_memory_code, refusal_code}
 use Rattle.njh_keeper.specs.code.Following.{Memory}
 use Rattle.njh_keeper.specs.code.Knowing.{IsSoundPart, Knows}
@@ -25,8 +26,8 @@ use Rattle.njh_keeper.specs.code.Remembered.{Numbers, OwnFiles, OwnMemory}
 
 -- The spool file, how often keeping failed, and the names of the customers in the order of the tables. Since the last
 -- commit whole files changed, or didn't, and so many records were written or dropped. What is remembered of each
--- customer's files, and which numbers are next. No hub was opened yet, or one was. The whole file that couldn't be put
--- back then, if there is one.
+-- customer's files, and which numbers are next. No hub was opened yet, or one was. The whole files that couldn't be put
+-- back then, and whether one such file ends the opening.
 pub record Keeping (S : Type 0) : Type 0 where
   pub store : Shelf S
   pub failures : ℕ
@@ -36,14 +37,15 @@ pub record Keeping (S : Type 0) : Type 0 where
   pub numbers : Numbers
   pub customers : List OwnMemory
   pub is_fresh : Bool
-  pub refused : Option Refusal
+  pub refused : List Refusal
+  pub is_strict : Bool
 
 abbrev pub keeping_code : {S : Type 0} → Coded S → Coded (Keeping S)
 keeping_code {S} store = code_by
-    (Shelf S × (ℕ × (List (List ℕ) × (Bool × (ℕ × (Numbers × (List OwnMemory × (Bool × Option Refusal))))))))
+    (Shelf S × (ℕ × (List (List ℕ) × (Bool × (ℕ × (Numbers × (List OwnMemory × (Bool × (List Refusal × Bool)))))))))
     (coded× (shelf_code store) (coded× coded_ℕ (coded× (coded_list (coded_list coded_ℕ)) (coded× coded_bool
     (coded× coded_ℕ (coded× numbers_code (coded× (coded_list own_memory_code) (coded× coded_bool
-    (coded_option refusal_code)))))))))
+    (coded× (coded_list refusal_code) coded_bool)))))))))
     (λ k. (
       k.store,
       (
@@ -58,7 +60,7 @@ keeping_code {S} store = code_by
                 k.numbers,
                 (
                   k.customers,
-                  (k.is_fresh, k.refused),
+                  (k.is_fresh, (k.refused, k.is_strict)),
                 ),
               ),
             ),
@@ -75,7 +77,8 @@ keeping_code {S} store = code_by
       numbers = p.1.1.1.1.1.0;
       customers = p.1.1.1.1.1.1.0;
       is_fresh = p.1.1.1.1.1.1.1.0;
-      refused = p.1.1.1.1.1.1.1.1;
+      refused = p.1.1.1.1.1.1.1.1.0;
+      is_strict = p.1.1.1.1.1.1.1.1.1;
     })
     (λ _. refl)
 
@@ -87,15 +90,20 @@ first_cause (Some first) error = Some first
 -- ---- the opening
 
 -- Each customer of the tables has the lines of its entry and, as far as the disk told the truth up to the end of the
--- opening, its own whole files of the spool file as it was before. All of them could be put back.
+-- opening, its own whole files of the spool file as it was before, mark or no mark, that could be put back. The others
+-- are set aside, and known in their order; if one ends the opening there is none.
 pub record IsOpenedFrom {S : Type 0} (g : Ghosts S) (before behind : Keeping S) (table : TableFile)
     (parts : List Part) : Type 0 where
   pub lines : SameLines (map part_at_open (entries_of table)) parts
   pub hub : HasCleanDisk (shown g behind.store) → (spool : SpoolContents) → Holds spool (shown g before.store).now.trees
-      → parts ≡ hub_opened table spool
+      → parts ≡ hub_opened table (spool_tried table spool)
   pub back : HasCleanDisk (shown g behind.store) → (spool : SpoolContents)
       → Holds spool (shown g before.store).now.trees
-      → AllAreBack table (kept spool)
+      → AllAreBack table (kept (spool_tried table spool))
+  pub refused : HasCleanDisk (shown g behind.store) → (spool : SpoolContents)
+      → Holds spool (shown g before.store).now.trees
+      → behind.refused ≡ all_refused table spool
+  pub strict : before.is_strict ≡ true → behind.refused ≡ []
 
 -- ---- what a crash may leave
 
@@ -148,9 +156,10 @@ pub record IsStillKept (before left : KeptFile) : Type 0 where
 abbrev pub AreStillKept : (before left : List (List KeptFile)) → Type 0
 AreStillKept before left = AllZip (AllZip IsStillKept) before left
 
--- So it is of customers of whatever names.
+-- So it is of customers of whatever names, of files with the mark and without it.
 abbrev pub KeepsAll : SpoolContents → SpoolContents → Type 0
-KeepsAll before now = (names : List (List ℕ)) → AreStillKept (left_in names before) (left_in names now)
+KeepsAll before now =
+    (names : List (List ℕ)) → AreStillKept (left_in names (all_taken_up before)) (left_in names (all_taken_up now))
 
 -- If the files held a spool when they were opened, these trees hold one that keeps all.
 abbrev pub MayOpenTo : (SpoolContents → Type 0) → State → Trees → Type 0
@@ -158,12 +167,13 @@ MayOpenTo found old trees =
     (began : SpoolContents) → found began
     → (now : SpoolContents) × Stands (record { now = began; kept = began }) old × Holds now trees × KeepsAll began now
 
--- An opening that ended so, or was broken off, keeps all whole files; one that a file refuses changes nothing.
+-- An opening that ended so, or was broken off, keeps all whole files; one that a file refuses changes nothing, and
+-- comes only where one such file ends it.
 pub record AreSpared {S : Type 0} (g : Ghosts S) (found : SpoolContents → Type 0) (before behind : Keeping S)
     (result : Result (List Part) DepotFault) : Type 0 where
   pub crash : Survives (shown g before.store) (shown g behind.store) (MayOpenTo found (shown g before.store))
   pub refused : IfErr result (λ fault. fault ≡ Refused
-      → Survives (shown g before.store) (shown g behind.store) (λ _. ⊥))
+      → (before.is_strict ≡ true) × Survives (shown g before.store) (shown g behind.store) (λ _. ⊥))
 
 -- ---- what is known of a hub
 

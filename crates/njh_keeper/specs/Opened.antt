@@ -1,7 +1,9 @@
 -- What a hub has that is opened from a spool file: each customer its own whole files, put back in their order.
 use Rattle.std.specs.Prelude.{◌≡◌, ℕ, ◌+◌, ◌<◌, ◌==◌, Bool, true, false, ◌&&◌, nat_lt, nat_le, if◌then◌else◌, bytes_eq}
-use Rattle.std.specs.Prelude.{List, [], ◌∷◌, ◌++◌, length, map, filter, fold, codes, Option, Some, None, option_map, Ok}
-use Rattle.std.specs.Prelude.{Err, ⊤}
+use Rattle.std.specs.Prelude.{List, [], ◌∷◌, length, map, filter, fold, codes, slice_set, Option, Some, None}
+use Rattle.std.specs.Prelude.{option_map}
+use Rattle.std.specs.Prelude.{Ok, Err, ⊤}
+use Rattle.std.specs.List.{position_from}
 use Rattle.njh_ebcdic.specs.Reading.{name_of_text}
 use Rattle.njh_record.specs.Stored.{Stored}
 use Rattle.njh_record.specs.declared.Kind.{Kind}
@@ -10,7 +12,7 @@ use Rattle.njh_spool.specs.Restoring.{KeptFile, restore_fault}
 use Rattle.njh_table.specs.Entries.{CustomerEntry}
 use Rattle.njh_table.specs.TableFile.{TableFile, customer_at, entry_of}
 use Rattle.njh_hub.specs.Restored.{part_with_file}
-use Rattle.njh_hub.specs.WholeHub.{Part, part_at_open}
+use Rattle.njh_hub.specs.WholeHub.{Part, part, part_at_open}
 use Rattle.njh_spoolfile.specs.Kept.{File, SpoolContents, Whole, kept}
 use Rattle.njh_spoolfile.specs.Lists.{kept_where}
 use Rattle.njh_keeper.specs.declared.fault.FileFault.{FileFault}
@@ -107,14 +109,20 @@ abbrev pub AllAreBack : TableFile → List Whole → Type 0
 AllAreBack table ws = (c : ℕ) → c < length table.customers
     → AreBack (part_at_open (entry_of (customer_at table c))) (own (customer_at table c).name ws)
 
--- The first whole file of a spool that isn't put back, and why: those before it were, and it is of this customer.
-pub record IsRefused (table : TableFile) (spool : SpoolContents) (w : Whole) (fault : FileFault) : Type 0 where
-  pub before : List Whole
-  pub after : List Whole
-  pub customer : ℕ
-  pub split : kept spool ≡ before ++ w ∷ after
-  pub back : AllAreBack table before
-  pub there : customer < length table.customers
-  pub owned : is_own (customer_at table customer).name w.file ≡ true
-  pub why : whole_fault (part_opened (entry_of (customer_at table customer))
-      (own (customer_at table customer).name before)) w ≡ Some fault
+-- ---- one whole file of any customer
+
+-- the first of these names, numbered from this one on, that a text is
+abbrev pub number_from : ℕ → List (List ℕ) → List ℕ → Option ℕ
+number_from n names text = position_from (λ name. is_name_of text name) n names
+
+abbrev pub number_of : List (List ℕ) → List ℕ → Option ℕ
+number_of names text = number_from 0 names text
+
+-- a hub with one whole file more, if its customer is one of these
+abbrev pub hub_with : List (List ℕ) → List Part → Whole → List Part
+hub_with names parts w = elim (number_of names w.file.customer)
+    [ None ↦ parts | Some c ↦ slice_set parts c (with_whole (part c parts) w) ]
+
+-- why it isn't put back, if its customer is one of these
+abbrev pub hub_fault : List (List ℕ) → List Part → Whole → Option FileFault
+hub_fault names parts w = elim (number_of names w.file.customer) [ None ↦ None | Some c ↦ whole_fault (part c parts) w ]

@@ -9,6 +9,7 @@ use njh_spoolfile::StoredFile;
 use njh_turns::DepotFault;
 use sqlite::ErrorCode;
 use std::alloc::AllocError;
+use std::fmt;
 use thiserror::Error;
 
 /// Why a whole file isn't put back.
@@ -27,13 +28,25 @@ pub enum FileFault {
 /// A whole file of a spool file that isn't put back, and why.
 #[derive(Debug, Drop)]
 pub struct RefusedFile {
-    /// The file.
+    /// The file, without the mark of one that is set aside.
     pub file: StoredFile,
     /// Why it isn't put back.
     pub fault: FileFault,
 }
 
-/// Why no hub is opened from a spool file. Nothing in that has changed.
+/// A line of the log without its end: whose it is, its name, and why it is set aside.
+impl fmt::Display for RefusedFile {
+    fn fmt<W: fmt::Write>(&self, f: &mut fmt::Formatter<W>) -> fmt::Result {
+        let row = &self.file.file;
+        write!(
+            f,
+            "{}: {}.{} is set aside: {}",
+            row.customer, row.owner_node, row.number, self.fault
+        )
+    }
+}
+
+/// Why no hub is opened from a spool file. Nothing was committed there.
 #[derive(Debug, Drop)]
 pub enum OpeningFault {
     /// There was no memory for the hub, or for the list of files.

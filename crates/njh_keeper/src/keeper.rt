@@ -1,6 +1,6 @@
 //! The whole files of a hub's customers are kept in a spool file.
 
-ghost use Rattle.std.specs.Prelude.{◌≡◌, ◌≢◌, ◌⊎◌, ◌<◌, ◌≤◌, List, false, true, length, option_map, None, IfOk, IfErr};
+ghost use Rattle.std.specs.Prelude.{◌≡◌, ◌≢◌, ◌⊎◌, ◌<◌, ◌≤◌, List, [], ◌∷◌, false, true, length, map, IfOk, IfErr};
 ghost use Rattle.std.specs.Prelude.{IsSome, OnOk};
 ghost use Rattle.std.specs.List.{AllByRecursion};
 ghost use Rattle.sqlite.specs.State.{HasCleanDisk, Survives};
@@ -15,7 +15,8 @@ ghost use Rattle.njh_spoolfile.specs.Origin.{StandsAsFound};
 ghost use Rattle.njh_spoolfile.specs.Shelf.{shown};
 ghost use Rattle.njh_spoolfile.specs.CommitState.{CommitState, Stands};
 ghost use Rattle.njh_spoolfile.specs.Steps.{Stays};
-ghost use Rattle.njh_keeper.specs.Refusal.{IsFirstRefused, refusal_of};
+ghost use Rattle.njh_keeper.specs.Refusal.{refusal_of};
+ghost use Rattle.njh_keeper.specs.SetAside.{IsFirstRefused};
 ghost use Rattle.njh_keeper.specs.Keeper.{IsAsKept, IsCommitted, IsKeptNow, IsOpenedFrom, IsSettledFrom, KnowsHub};
 ghost use Rattle.njh_keeper.specs.Keeper.{KnowsNow, MayLeave, MayOpenTo, left_in};
 ghost use Rattle.njh_keeper.specs.code.Opening.{AllAreFound, AllAreRead, MayBegin};
@@ -23,11 +24,12 @@ ghost use Rattle.njh_keeper.specs.code.Refusing.{Notes};
 ghost use Rattle.njh_keeper.specs.code.Swept.{IsSwept};
 ghost use Rattle.njh_table.specs.Accepted.{AreDistinct};
 
+use crate::aside::taken_up;
 use crate::beginning::begin;
 use crate::fault::{OpeningFault, RefusedFile, depot_fault, first_cause};
 use crate::laws::a_crash_leaves_what_was_committed;
 use crate::names::{names_of, number_among};
-use crate::opening::open_from;
+use crate::opening::{OpenedHub, open_from};
 use crate::own_files::OwnFiles;
 use crate::sound::see_sound;
 use crate::step::keep_step;
@@ -39,7 +41,8 @@ use njh_spoolfile::{Origin, Store, StoredFile};
 use njh_table::Tables;
 use njh_turns::{Depot, DepotFault, KeepFault, Keeper};
 use sqlite::{Alter, Error, ErrorCode};
-use std::alloc::Global;
+use std::alloc::{AllocError, Global};
+use std::fmt;
 use std::marker::Model;
 use std::rt::Clock;
 use std::time::{SystemTime, UNIX_EPOCH};
@@ -53,7 +56,10 @@ pub struct SpoolKeeper<'a, R, S: Origin + Drop> {
     /// In the order of the tables.
     names: Vec<Name>,
     customers: Vec<OwnFiles>,
-    refused: Option<RefusedFile>,
+    /// Those that couldn't be put back when a hub was opened.
+    refused: Vec<RefusedFile>,
+    /// Whether one such file ends the opening.
+    is_strict: bool,
     failures: u64,
     /// Why the first of them came, or why no hub was opened.
     cause: Option<Error>,
@@ -64,7 +70,7 @@ pub struct SpoolKeeper<'a, R, S: Origin + Drop> {
 }
 
 impl<'a, R, S: Origin + Drop> Model for SpoolKeeper<'a, R, S> {
-    ghost use Rattle.std.specs.Prelude.{◌≡◌, ◌<◌, IsSome, map, option_map, true};
+    ghost use Rattle.std.specs.Prelude.{◌≡◌, ◌<◌, IsSome, map, true};
     ghost use Rattle.njh_spoolfile.specs.Origin.{StandsAsFound};
     ghost use Rattle.njh_keeper.specs.Refusal.{refusal_of};
     ghost use Rattle.njh_keeper.specs.Keeper.{Keeping, keeping_code};
@@ -83,7 +89,8 @@ impl<'a, R, S: Origin + Drop> Model for SpoolKeeper<'a, R, S> {
       numbers = numbers_of keeper.writer;
       customers = map own_memory_of keeper.customers.items;
       is_fresh = keeper.is_fresh;
-      refused = option_map refusal_of keeper.refused;
+      refused = map refusal_of keeper.refused.items;
+      is_strict = keeper.is_strict;
     } };
 
     ghost invariant = { λ keeper. (keeper.is_fresh ≡ true → StandsAsFound S.Store S.found keeper.writer.store)
@@ -91,18 +98,21 @@ impl<'a, R, S: Origin + Drop> Model for SpoolKeeper<'a, R, S> {
 }
 
 impl<'a, R: Clock, S: Origin + Drop> SpoolKeeper<'a, R, S> {
-    /// Keeps files in a spool file that was just opened. Each row has the time by this clock.
-    pub fn new(rt: &'a R, alloc: Global, store: Store<S>) -> SpoolKeeper<'a, R, S>
+    /// Keeps files in a spool file that was just opened. Each row has the time by this clock. If it
+    /// `is_strict`, a whole file that can't be put back ends the opening of a hub; else it is set
+    /// aside, and its customer begins without it.
+    pub fn new(rt: &'a R, alloc: Global, store: Store<S>, is_strict: bool) -> SpoolKeeper<'a, R, S>
         requires { StandsAsFound S.Store S.found store }
         ensures { (result.store ≡ store) × (result.failures ≡ 0) × (result.is_fresh ≡ true)
-            × (result.refused ≡ None) }
+            × (result.refused ≡ []) × (result.is_strict ≡ is_strict) }
     {
         SpoolKeeper {
             rt,
             writer: SpoolWriter::new(alloc, store),
             names: Vec::new(alloc),
             customers: Vec::new(alloc),
-            refused: None,
+            refused: Vec::new(alloc),
+            is_strict,
             failures: 0,
             cause: None,
             turn: 0,
@@ -112,12 +122,12 @@ impl<'a, R: Clock, S: Origin + Drop> SpoolKeeper<'a, R, S> {
 }
 
 impl<'a, R: Clock, S: Origin + Drop> SpoolKeeper<'a, R, S> {
-    /// The whole file that couldn't be put back when a hub was opened, and why; none if there is
-    /// no such file.
-    pub fn refused(&self) -> Option<&RefusedFile>
-        ensures { option_map (λ refused. refusal_of refused.now) result ≡ self.now.refused }
+    /// The whole files that couldn't be put back when a hub was opened, in the order of arrival,
+    /// each with why. They are set aside, or the first of them ended the opening.
+    pub fn refused(&self) -> &[RefusedFile]
+        ensures { map refusal_of result.now ≡ self.now.refused }
     {
-        self.refused.as_ref()
+        self.refused.as_slice()
     }
 
     /// Why keeping failed first, or why no hub was opened if the spool file failed then; none if
@@ -128,8 +138,8 @@ impl<'a, R: Clock, S: Origin + Drop> SpoolKeeper<'a, R, S> {
         self.cause
     }
 
-    /// How many whole files of the spool file are of customers that these tables don't have. They
-    /// stay there.
+    /// How many whole files of the spool file are of customers that these tables don't have, those
+    /// among them that were set aside. They stay there.
     pub fn strangers(&mut self, alloc: Global, tables: &Tables) -> Result<u32, Error>
         ensures same { self.new.failures ≡ self.old.failures }
         ensures stays { HasCleanDisk (shown S.Store self.new.store) → OnOk result (Stays (shown S.Store self.old.store)
@@ -159,17 +169,20 @@ impl<'a, R: Clock, S: Origin + Drop> SpoolKeeper<'a, R, S> {
             writer,
             names,
             customers,
+            refused,
             ..
         } = self;
         drop(names);
         drop(customers);
+        drop(refused);
         writer.into_store()
     }
 
     /// Writes what a step made of a customer's files. Nothing of it is committed.
     fn follow_files(&mut self, hub: &Hub, customer: u16) -> Result<(), Error>
         ensures same { (self.new.failures ≡ self.old.failures) × (self.new.names ≡ self.old.names)
-            × (self.new.is_fresh ≡ false) × (self.new.refused ≡ self.old.refused) }
+            × (self.new.is_fresh ≡ false) × (self.new.refused ≡ self.old.refused)
+            × (self.new.is_strict ≡ self.old.is_strict) }
         ensures known { (before : List Part) → LeadsHub customer before hub.now
             → KnowsHub S.Store S.found self.old before
             → OnOk result (KnowsHub S.Store S.found self.new hub.now) }
@@ -211,7 +224,7 @@ impl<'a, R: Clock, S: Origin + Drop> SpoolKeeper<'a, R, S> {
     fn settle_files(&mut self) -> Result<(), Error>
         ensures same { (self.new.failures ≡ self.old.failures) × (self.new.names ≡ self.old.names)
             × (self.new.customers ≡ self.old.customers) × (self.new.is_fresh ≡ false)
-            × (self.new.refused ≡ self.old.refused) }
+            × (self.new.refused ≡ self.old.refused) × (self.new.is_strict ≡ self.old.is_strict) }
         ensures numbers { OnOk result (self.new.numbers ≡ self.old.numbers) }
         ensures settled { HasCleanDisk (shown S.Store self.new.store) → OnOk result ((s : CommitState)
             → Stands s (shown S.Store self.old.store) → IsAsKept self.old s → IsKeptNow S.Store self.new s.now) }
@@ -249,15 +262,20 @@ impl<'a, R: Clock, S: Origin + Drop> SpoolKeeper<'a, R, S> {
 
     /// Notes why no hub could be opened.
     fn refuse(&mut self, fault: OpeningFault) -> DepotFault
-        ensures noted { Notes fault result self.old.refused self.new.refused }
+        ensures noted { Notes fault result self.new.refused }
         ensures others { self.new ≡ record self.old { refused = self.new.refused } }
     {
         match fault {
             OpeningFault::Memory => DepotFault::Memory,
             OpeningFault::Store(error) => self.fail_opening(error),
             OpeningFault::File(file) => {
-                self.refused = Some(file);
-                DepotFault::Refused
+                match alone(self.writer.alloc, file) {
+                    Ok(refused) => {
+                        self.refused = refused;
+                        DepotFault::Refused
+                    }
+                    Err(_) => DepotFault::Memory,
+                }
             }
         }
     }
@@ -266,7 +284,7 @@ impl<'a, R: Clock, S: Origin + Drop> SpoolKeeper<'a, R, S> {
     /// customers of its names. From then on the spool file has them as the hub has.
     fn remember(&mut self, hub: &Hub) -> Result<(), Error>
         ensures same { (self.new.failures ≡ self.old.failures) × (self.new.names ≡ self.old.names)
-            × (self.new.is_fresh ≡ false) }
+            × (self.new.is_fresh ≡ false) × (self.new.refused ≡ self.old.refused) }
         ensures settled { OnOk result ((self.new.is_changed ≡ false) × (self.new.waiting ≡ 0)) }
         ensures kept { HasCleanDisk (shown S.Store self.new.store) → OnOk result ((s : CommitState)
             → Stands s (shown S.Store self.old.store) → AreDistinct self.old.names
@@ -287,8 +305,8 @@ impl<'a, R: Clock, S: Origin + Drop> SpoolKeeper<'a, R, S> {
         Ok(())
     }
 
-    /// Opens a hub of these tables from the spool file, and remembers what it has. Once it did so,
-    /// or failed, it opens no other.
+    /// Opens a hub of these tables from the spool file, and remembers what it has, and what is set
+    /// aside. Once it did so, or failed, it opens no other.
     fn open_hub(&mut self, alloc: Global, tables: Tables) -> Result<Hub, DepotFault>
         ensures opened { IfOk result (λ hub. IsOpenedFrom S.Store self.old self.new tables hub) }
         ensures settled { IfOk result (λ hub. IsSettledFrom S.Store self.old self.new tables hub) }
@@ -299,8 +317,8 @@ impl<'a, R: Clock, S: Origin + Drop> SpoolKeeper<'a, R, S> {
         ensures refused { HasCleanDisk (shown S.Store self.new.store) → IfErr result (λ fault. fault ≡ Refused
             → (spool : SpoolContents) → Holds spool (shown S.Store self.old.store).now.trees
             → IsFirstRefused tables spool self.new.refused) }
-        ensures spared { IfErr result (λ fault. fault ≡ Refused
-            → Survives (shown S.Store self.old.store) (shown S.Store self.new.store) (λ _. ⊥)) }
+        ensures spared { IfErr result (λ fault. fault ≡ Refused → (self.old.is_strict ≡ true)
+            × Survives (shown S.Store self.old.store) (shown S.Store self.new.store) (λ _. ⊥)) }
         ensures crash { Survives (shown S.Store self.old.store) (shown S.Store self.new.store)
             (MayOpenTo S.found (shown S.Store self.old.store)) }
     {
@@ -316,8 +334,12 @@ impl<'a, R: Clock, S: Origin + Drop> SpoolKeeper<'a, R, S> {
                 return Err(DepotFault::Memory);
             }
         };
-        let hub = match open_from(alloc, tables, &mut self.writer.store) {
-            Ok(hub) => hub,
+        let hub = match open_from(alloc, tables, &mut self.writer.store, self.is_strict) {
+            Ok(opened) => {
+                let OpenedHub { hub, refused } = opened;
+                self.refused = refused;
+                hub
+            }
             Err(fault) => {
                 drop(names);
                 return Err(self.refuse(fault));
@@ -330,6 +352,7 @@ impl<'a, R: Clock, S: Origin + Drop> SpoolKeeper<'a, R, S> {
     fn remember_hub(&mut self, hub: Hub, names: Vec<Name>) -> Result<Hub, DepotFault>
         ensures hub { IfOk result (λ remembered. remembered ≡ hub) }
         ensures names { OnOk result (self.new.names ≡ names.items) }
+        ensures refused { self.new.refused ≡ self.old.refused }
         ensures told { IfErr result (λ fault. fault ≢ Refused) }
         ensures kept { HasCleanDisk (shown S.Store self.new.store) → OnOk result ((s : CommitState)
             → Stands s (shown S.Store self.old.store) → AreDistinct names.items → AllAreFound names.items hub
@@ -406,13 +429,27 @@ impl<'a, R: Clock, S: Origin + Drop> Depot for SpoolKeeper<'a, R, S> {
         a_crash_leaves_what_was_committed::<S>();
         self.open_hub(alloc, tables)
     }
+
+    fn tell<W: fmt::Write>(&self, number: usize, to: &mut W) -> Option<fmt::Result> {
+        let refused = self.refused.get(number)?;
+        Some(write!(to, "{refused}"))
+    }
+}
+
+/// A list of one.
+fn alone(alloc: Global, file: RefusedFile) -> Result<Vec<RefusedFile>, AllocError>
+    ensures { IfOk result (λ files. files.items ≡ file ∷ []) }
+{
+    let mut files = Vec::new(alloc);
+    files.push(file)?;
+    Ok(files)
 }
 
 /// How many of these whole files are of customers without such a name.
 fn count_strangers(names: &[Name], files: &[StoredFile]) -> u32 {
     let mut count = 0u32;
     for stored in files {
-        if number_among(names, stored.file.customer.as_str()).is_none() {
+        if number_among(names, taken_up(stored.file.customer.as_str())).is_none() {
             count = count.saturating_add(1);
         }
     }

@@ -1,18 +1,20 @@
 //! Laws of a spool file, and of a hub that is opened from it. Each function does nothing: its
 //! contract is the law.
 
-ghost use Rattle.std.specs.Prelude.{◌≡◌, ℕ, ◌<◌, false, List, length};
+ghost use Rattle.std.specs.Prelude.{◌≡◌, ℕ, ◌<◌, false, List, [], length};
 ghost use Rattle.std.specs.List.{AllByRecursion};
 ghost use Rattle.njh_hub.specs.WholeHub.{Part, part, part_at_open};
 ghost use Rattle.njh_keeper.specs.Opened.{AreBack, hub_opened, is_own, own_files, part_opened};
 ghost use Rattle.njh_keeper.specs.LinesLost.{LeftAsLinesLost, OpenedAsLinesLost, StartedAgain};
 ghost use Rattle.njh_keeper.specs.OpenedFiles.{HasOpened};
+ghost use Rattle.njh_keeper.specs.SetAside.{all_refused, all_taken_up, is_aside, names_in, put_back, spool_tried};
 ghost use Rattle.njh_keeper.specs.Keeper.{IsSettledFrom, Keeping, MayLeave, left_in};
 ghost use Rattle.njh_turns.specs.Keeping.{LeavesOnly};
 ghost use Rattle.njh_spool.specs.Restoring.{KeptFile};
 ghost use Rattle.njh_spoolfile.specs.Kept.{File, SpoolContents, Whole, with_file};
 ghost use Rattle.njh_spoolfile.specs.Shelf.{shown};
 ghost use Rattle.njh_spoolfile.specs.CommitState.{CommitState, Stands};
+ghost use Rattle.njh_table.specs.Accepted.{AreDistinct};
 ghost use Rattle.njh_table.specs.Entries.{CustomerEntry};
 ghost use Rattle.njh_table.specs.TableFile.{TableFile, customer_at, entry_of};
 
@@ -44,6 +46,24 @@ pub fn opened_again_as_after_the_loss_of_all_lines()
 /// for what `opened_again_as_after_the_loss_of_all_lines` leaves out.
 pub fn started_again_each_is_alone()
     ensures { StartedAgain }
+{}
+
+/// The whole files that a customer has after the opening are those of its own, with or without the
+/// mark of one that is set aside, that can be put back one after the other, whatever files others
+/// have: all of them if each can be put back.
+pub fn each_has_what_can_be_put_back()
+    ensures own { (table : TableFile) (spool : SpoolContents) → AreDistinct (names_in table) → (c : ℕ)
+        → c < length table.customers → own_files (customer_at table c).name (spool_tried table spool)
+        ≡ put_back (part_at_open (entry_of (customer_at table c)))
+        (own_files (customer_at table c).name (all_taken_up spool)) }
+    ensures all { (p : Part) (ws : List Whole) → AreBack p ws → put_back p ws ≡ ws }
+{}
+
+/// Where no file is set aside, before the opening or in it, the spool file stays as it is.
+pub fn nothing_is_set_aside()
+    ensures { (table : TableFile) (spool : SpoolContents)
+        → AllByRecursion (λ e. is_aside e.1.customer ≡ false) spool.files → all_refused table spool ≡ []
+        → spool_tried table spool ≡ spool }
 {}
 
 /// What a customer has after the opening is decided by its own entry and its own files: on two

@@ -1,7 +1,7 @@
 //! The customers of the tables by their names.
 
 ghost use Rattle.std.specs.Prelude.{◌≡◌, ◌≤◌, ◌^◌, length, map, IfOk};
-ghost use Rattle.njh_keeper.specs.code.Restoring.{number_of};
+ghost use Rattle.njh_keeper.specs.Opened.{number_of};
 ghost use Rattle.njh_table.specs.Accepted.{IsAccepted};
 
 use njh_ebcdic::Name;

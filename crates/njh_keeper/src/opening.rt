@@ -1,27 +1,39 @@
 //! A hub is opened from a spool file.
 
-ghost use Rattle.std.specs.Prelude.{◌≡◌, ◌<◌, ◌≤◌, ◌^◌, length, map, IfOk, IfErr, OnOk};
+ghost use Rattle.std.specs.Prelude.{◌≡◌, ◌≤◌, ◌^◌, [], true, false, length, map, IfOk, IfErr, OnOk};
 ghost use Rattle.sqlite.specs.State.{HasCleanDisk, Survives};
 ghost use Rattle.njh_hub.specs.Parts.{entries_of};
 ghost use Rattle.njh_hub.specs.WholeHub.{SameLines, part_at_open};
-ghost use Rattle.njh_keeper.specs.Faults.{IsNoFile, IsSpared, Tells};
+ghost use Rattle.njh_keeper.specs.Faults.{IsNoFile, Tells};
 ghost use Rattle.njh_keeper.specs.Opened.{AllAreBack, hub_opened};
-ghost use Rattle.njh_keeper.specs.code.Restoring.{NoneFails, hub_with_all, wholes};
-ghost use Rattle.njh_keeper.specs.code.Refusing.{IsRefusalOf, StopsIn};
+ghost use Rattle.njh_keeper.specs.Refusal.{refusal_of};
+ghost use Rattle.njh_keeper.specs.SetAside.{all_refused, spool_tried};
+ghost use Rattle.njh_keeper.specs.code.Opening.{entries};
+ghost use Rattle.njh_keeper.specs.code.Restoring.{AreTried, KeepsCommit, StopsOn, wholes};
 ghost use Rattle.njh_spoolfile.specs.Kept.{SpoolContents, Holds, entry_of, kept};
+ghost use Rattle.njh_spoolfile.specs.CommitState.{CommitState, Stands};
 ghost use Rattle.njh_spoolfile.specs.Shelf.{shown};
 ghost use Rattle.njh_spoolfile.specs.Steps.{Stays};
 ghost use Rattle.njh_table.specs.Accepted.{AreDistinct};
 
 use crate::fault::{OpeningFault, RefusedFile};
 use crate::names::names_of;
-use crate::restoring::{Stop, StopCause, restore_all};
+use crate::restoring::restore_all;
 use njh_ebcdic::Name;
 use njh_hub::Hub;
 use njh_spoolfile::{Store, StoredFile};
 use njh_table::Tables;
 use sqlite::Alter;
 use std::alloc::Global;
+
+/// A hub that was opened from a spool file.
+#[derive(Drop)]
+pub struct OpenedHub {
+    /// The hub.
+    pub hub: Hub,
+    /// The whole files that couldn't be put back and are set aside, in the order of arrival.
+    pub refused: Vec<RefusedFile>,
+}
 
 /// The whole files of a spool file without their records, beside the names of the tables'
 /// customers.
@@ -45,27 +57,11 @@ fn find<S: Alter>(
     ensures told { IfErr result (λ fault. IsNoFile fault) }
     ensures same { HasCleanDisk (shown S.Store store.new) → OnOk result (Stays (shown S.Store store.old)
         (shown S.Store store.new)) }
-    ensures spared { HasCleanDisk (shown S.Store store.new) → IfErr result (λ fault. IsSpared fault
-        → Stays (shown S.Store store.old) (shown S.Store store.new)) }
     ensures crash { Survives (shown S.Store store.old) (shown S.Store store.new) (λ _. ⊥) }
 {
     let names = names_of(alloc, tables)?;
     let files = store.files(alloc)?;
     Ok(Found { names, files })
-}
-
-/// What is told of the file at which it stopped.
-fn refusal_of(stop: Stop, mut files: Vec<StoredFile>) -> OpeningFault
-    requires { stop.at < length files.items }
-    ensures { IsRefusalOf stop.cause stop.at files.items result }
-{
-    match stop.cause {
-        StopCause::Store(error) => OpeningFault::Store(error),
-        StopCause::File(fault) => {
-            let file = files.swap_remove(stop.at);
-            OpeningFault::File(RefusedFile { file, fault })
-        }
-    }
 }
 
 /// Puts what was found back into a hub that was just opened.
@@ -74,31 +70,33 @@ fn fill<S: Alter>(
     store: &mut Store<S>,
     mut hub: Hub,
     found: Found,
-) -> Result<Hub, OpeningFault>
+    is_strict: bool,
+) -> Result<OpenedHub, OpeningFault>
     requires same { length hub ≡ length found.names.items }
     requires few { length found.names.items ≤ 2 ^ 16 }
-    ensures hub { HasCleanDisk (shown S.Store store.new) → IfOk result (λ opened. (spool : SpoolContents)
-        → Holds spool (shown S.Store store.old).now.trees
-        → opened ≡ hub_with_all found.names.items hub (wholes spool found.files.items)) }
-    ensures back { HasCleanDisk (shown S.Store store.new) → OnOk result ((spool : SpoolContents)
-        → Holds spool (shown S.Store store.old).now.trees
-        → NoneFails found.names.items hub (wholes spool found.files.items)) }
-    ensures refused { HasCleanDisk (shown S.Store store.new) → IfErr result (λ fault. (spool : SpoolContents)
-        → Holds spool (shown S.Store store.old).now.trees
-        → StopsIn found.names.items hub spool found.files.items fault) }
-    ensures lines { IfOk result (λ opened. SameLines hub opened) }
-    ensures same { HasCleanDisk (shown S.Store store.new) → OnOk result (Stays (shown S.Store store.old)
+    ensures ok { HasCleanDisk (shown S.Store store.new) → IfOk result (λ opened. (spool : SpoolContents)
+        → Holds spool (shown S.Store store.old).now.trees → entries found.files.items ≡ spool.files
+        → AreTried found.names.items hub opened.hub found.files.items [] (map refusal_of opened.refused.items) spool
         (shown S.Store store.new)) }
-    ensures spared { HasCleanDisk (shown S.Store store.new) → IfErr result (λ fault. IsSpared fault
-        → Stays (shown S.Store store.old) (shown S.Store store.new)) }
+    ensures keeps { HasCleanDisk (shown S.Store store.new) → OnOk result (KeepsCommit (shown S.Store store.old)
+        (shown S.Store store.new)) }
+    ensures fault { HasCleanDisk (shown S.Store store.new) → IfErr result (λ fault. (spool : SpoolContents)
+        → Holds spool (shown S.Store store.old).now.trees → entries found.files.items ≡ spool.files
+        → StopsOn found.names.items hub (wholes spool found.files.items) fault) }
+    ensures strict { is_strict ≡ true → IfOk result (λ opened. opened.refused.items ≡ []) }
+    ensures lenient { is_strict ≡ false → IfErr result IsNoFile }
+    ensures lines { IfOk result (λ opened. SameLines hub opened.hub) }
     ensures crash { Survives (shown S.Store store.old) (shown S.Store store.new) (λ _. ⊥) }
 {
     let Found { names, files } = found;
-    match restore_all(alloc, store, &mut hub, names.as_slice(), files.as_slice()) {
-        Ok(()) => Ok(hub),
-        Err(stop) => {
+    let tried = restore_all(alloc, store, &mut hub, &names, &files, is_strict);
+    drop(files);
+    drop(names);
+    match tried {
+        Ok(refused) => Ok(OpenedHub { hub, refused }),
+        Err(fault) => {
             drop(hub);
-            Err(refusal_of(stop, files))
+            Err(fault)
         }
     }
 }
@@ -106,27 +104,35 @@ fn fill<S: Alter>(
 /// Opens a hub of these tables from a spool file: each customer has its own whole files there, in
 /// their order of arrival and with all their records. One that was Held is Held; any other is
 /// Ready, or Held if its node has no route. All lines are down. Files of customers that the
-/// tables don't have stay in the spool file alone. One file's records are read at a time. Nothing
-/// in the spool file changes.
+/// tables don't have stay in the spool file alone, and so do those that can't be put back: they are
+/// marked there, and told. What was set aside by an earlier opening is tried again. One file's
+/// records are read at a time. Nothing is committed in the spool file.
 ///
-/// `File` comes at the first file, in the order of arrival, that can't be put back; `Memory` if
-/// there was none for the hub or for the list of files.
+/// If that is `is_strict`, `File` comes at the first file, in the order of arrival, that can't be
+/// put back. `Memory` comes if there was none for the hub, for the list of files, or for what is
+/// told.
 pub fn open_from<S: Alter>(
     alloc: Global,
     tables: Tables,
     store: &mut Store<S>,
-) -> Result<Hub, OpeningFault>
+    is_strict: bool,
+) -> Result<OpenedHub, OpeningFault>
     ensures hub { HasCleanDisk (shown S.Store store.new) → IfOk result (λ opened. (spool : SpoolContents)
-        → Holds spool (shown S.Store store.old).now.trees → opened ≡ hub_opened tables spool) }
+        → Holds spool (shown S.Store store.old).now.trees
+        → opened.hub ≡ hub_opened tables (spool_tried tables spool)) }
     ensures back { HasCleanDisk (shown S.Store store.new) → OnOk result ((spool : SpoolContents)
-        → Holds spool (shown S.Store store.old).now.trees → AllAreBack tables (kept spool)) }
+        → Holds spool (shown S.Store store.old).now.trees → AllAreBack tables (kept (spool_tried tables spool))) }
+    ensures aside { HasCleanDisk (shown S.Store store.new) → IfOk result (λ opened. (spool : SpoolContents)
+        → Holds spool (shown S.Store store.old).now.trees
+        → map refusal_of opened.refused.items ≡ all_refused tables spool) }
+    ensures now { HasCleanDisk (shown S.Store store.new) → OnOk result ((s : CommitState)
+        → Stands s (shown S.Store store.old)
+        → Stands (record s { now = spool_tried tables s.now }) (shown S.Store store.new)) }
     ensures refused { HasCleanDisk (shown S.Store store.new) → IfErr result (λ fault. (spool : SpoolContents)
         → Holds spool (shown S.Store store.old).now.trees → Tells tables spool fault) }
-    ensures lines { IfOk result (λ opened. SameLines (map part_at_open (entries_of tables)) opened) }
-    ensures same { HasCleanDisk (shown S.Store store.new) → OnOk result (Stays (shown S.Store store.old)
-        (shown S.Store store.new)) }
-    ensures spared { HasCleanDisk (shown S.Store store.new) → IfErr result (λ fault. IsSpared fault
-        → Stays (shown S.Store store.old) (shown S.Store store.new)) }
+    ensures strict { is_strict ≡ true → IfOk result (λ opened. opened.refused.items ≡ []) }
+    ensures lenient { is_strict ≡ false → IfErr result IsNoFile }
+    ensures lines { IfOk result (λ opened. SameLines (map part_at_open (entries_of tables)) opened.hub) }
     ensures crash { Survives (shown S.Store store.old) (shown S.Store store.new) (λ _. ⊥) }
 {
     let found = match find(alloc, &tables, store) {
@@ -143,5 +149,5 @@ pub fn open_from<S: Alter>(
             return Err(OpeningFault::Memory);
         }
     };
-    fill(alloc, store, hub, found)
+    fill(alloc, store, hub, found, is_strict)
 }

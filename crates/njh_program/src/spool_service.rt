@@ -117,7 +117,7 @@ fn serve_kept<F: Files + Net + Clock + AllocGlobal, L: Write + Drop, S: Origin +
     ensures kept { OnOk result (AreServedOver S.Store S.found store path.now options.turns) }
     ensures refused { IfErr result (λ failure. AreRefused (Some path.now) failure ⊎ IsFilesEnd failure) }
 {
-    let mut keeper = SpoolKeeper::new(rt, rt.alloc(), store);
+    let mut keeper = SpoolKeeper::new(rt, rt.alloc(), store, options.listening.strict);
     match log_strangers(rt, path, spool, &mut keeper, &mut log) {
         Ok(()) => {}
         Err(failure) => {
@@ -130,7 +130,7 @@ fn serve_kept<F: Files + Net + Clock + AllocGlobal, L: Write + Drop, S: Origin +
     let (served, keeper, mut log) = serve_over(rt, path, options, log, keeper);
     log_cause(rt, spool, &mut log, keeper.cause());
     drop(log);
-    let refusal = refusal_of(rt.alloc(), &keeper);
+    let refusal = refusal_of(rt.alloc(), &keeper, options.listening.strict);
     drop(keeper);
     match served {
         Ok(()) => {
@@ -185,20 +185,20 @@ fn first_failure<F: Files + AllocGlobal>(rt: &F, path: &str, fault: FilesFault) 
     }
 }
 
-/// What is told of a whole file that couldn't be put back; none if there is no such file, or no
-/// memory.
+/// What is told of the whole file that refused the start, which it does only if the keeper
+/// `is_strict`; none if there is no such file, or no memory.
 fn refusal_of<R: Clock, S: Origin + Drop>(
     alloc: Global,
     keeper: &SpoolKeeper<'_, R, S>,
+    is_strict: bool,
 ) -> Option<String> {
-    match keeper.refused() {
-        Some(refused) => {
-            let fault = refused.fault;
-            let customer = refused.file.file.customer.as_str();
-            format!(in alloc; "{fault}: customer {customer}").ok()
-        }
-        None => None,
+    if !is_strict {
+        return None;
     }
+    let refused = keeper.refused().first()?;
+    let fault = refused.fault;
+    let customer = refused.file.file.customer.as_str();
+    format!(in alloc; "{fault}: customer {customer}").ok()
 }
 
 /// Why lines weren't served: a whole file that couldn't be put back, if there is one.

@@ -24,6 +24,7 @@ mod moment;
 mod news;
 mod notice_line;
 mod open_lines;
+mod opened;
 mod opening;
 mod post;
 mod refusal;

@@ -86,3 +86,9 @@ impl fmt::Write for LineText {
         Ok(())
     }
 }
+
+impl fmt::Display for LineText {
+    fn fmt<W: fmt::Write>(&self, f: &mut fmt::Formatter<W>) -> fmt::Result {
+        f.write_str(self.text.as_str())
+    }
+}

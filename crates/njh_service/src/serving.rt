@@ -26,7 +26,8 @@ use std::io::Write;
 /// Serves the lines of tables that have a port or a peer, by an attendant that serves no line yet,
 /// for so many turns; if no number is given, until the program is ended. Lines with a port listen
 /// as they are to. Each customer has the whole files that the depot kept of it, and what becomes
-/// of them is kept there before it shows on a line. The depot and the log are given back.
+/// of them is kept there before it shows on a line. What the depot tells of what it opened stands
+/// in the log. The depot and the log are given back.
 ///
 /// `Device` if a port that has to be listened on can't be, if two lines have one port, if what is
 /// kept can't be read, or if no line has a port or a peer and no number of turns is given: of ports
@@ -96,13 +97,13 @@ pub fn service_on<N: Network + Drop, L: Write + Drop, S: TableSource + Drop, D: 
     }
 }
 
-/// A service of lines of tables, by an attendant that serves these.
+/// A service of lines of tables, by an attendant that serves these and tells what the depot opened.
 fn service_of<N: Network + Drop, L: Write + Drop, S: TableSource + Drop, D: Depot + Drop>(
     alloc: Global,
     mut depot: D,
     tables: Tables,
     endpoints: &[Endpoint],
-    exchange: Exchange<N, L, S>,
+    mut exchange: Exchange<N, L, S>,
 ) -> Result<
     Service<LineWire<N::Connection>, Exchange<N, L, S>, D>,
     (ServeFault, D, Exchange<N, L, S>),
@@ -113,7 +114,10 @@ fn service_of<N: Network + Drop, L: Write + Drop, S: TableSource + Drop, D: Depo
     ensures settled { IfOk result (λ service. IsSettled D.says service.depot service.hub) }
 {
     match depot.open(alloc, tables) {
-        Ok(hub) => service_over(alloc, hub, depot, endpoints, exchange),
+        Ok(hub) => {
+            exchange.tell_opened(&depot);
+            service_over(alloc, hub, depot, endpoints, exchange)
+        }
         Err(fault) => Err((ServeFault::from(fault), depot, exchange)),
     }
 }

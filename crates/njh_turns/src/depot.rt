@@ -9,6 +9,7 @@ use crate::keeper::{Keeper, KeepsNothing};
 use njh_hub::Hub;
 use njh_table::Tables;
 use std::alloc::Global;
+use std::fmt;
 use thiserror::Error;
 
 /// Why no hub is opened.
@@ -46,6 +47,10 @@ pub trait Depot: Keeper {
         ensures lines { IfOk result (λ hub. SameLines (map part_at_open (entries_of tables)) hub) }
         ensures settled { IfOk result (λ hub. IsSettled Self.says self.new hub) }
         ensures spared { spares self.old self.new result };
+
+    /// Writes the thing of this number, counted from 0, that an operator is to know of what was
+    /// opened: a few words without an end of line. None if there are no more.
+    fn tell<W: fmt::Write>(&self, number: usize, to: &mut W) -> Option<fmt::Result>;
 }
 
 impl Depot for KeepsNothing {
@@ -62,5 +67,9 @@ impl Depot for KeepsNothing {
             Ok(hub) => Ok(hub),
             Err(_) => Err(DepotFault::Memory),
         }
+    }
+
+    fn tell<W: fmt::Write>(&self, _number: usize, _to: &mut W) -> Option<fmt::Result> {
+        None
     }
 }

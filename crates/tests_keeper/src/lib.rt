@@ -5,6 +5,8 @@
 #[cfg(test)]
 mod arrival_tests;
 #[cfg(test)]
+mod aside_tests;
+#[cfg(test)]
 mod change_tests;
 #[cfg(test)]
 mod networks;

@@ -49,6 +49,19 @@ pub(crate) fn tables(alloc: Global, has_nice: bool) -> Result<String, AllocError
     Ok(text)
 }
 
+/// The line of the tables for ACME's room.
+const ROOM: &str = "quota = 2000\n";
+
+/// The tables, in which ACME has room for one block.
+pub(crate) fn with_little_room(alloc: Global) -> Result<String, AllocError> {
+    let (before, behind) = TABLES.split_once(ROOM).unwrap_or((TABLES, ""));
+    let mut text = String::new(alloc);
+    text.push_str(before)?;
+    text.push_str("quota = 1\n")?;
+    text.push_str(behind)?;
+    Ok(text)
+}
+
 /// The customers' numbers.
 pub const CUSTOMERS: [u16; 2] = [0, 1];
 

@@ -27,13 +27,17 @@ const KILL: &str = "# kill\n";
 /// With this line a run begins in which no route leads to NICE.
 const WITHOUT_NICE: &str = "# NICE has no route\n";
 
+/// With this line a run begins in which ACME has room for one block.
+const ONE_BLOCK: &str = "# one block for ACME\n";
+
 /// Plays lines of words. Beside those of `encode` these are known:
 ///
 /// `# kill`: the program is killed and begins again, with all lines down. `# NICE has no route`,
-/// directly after that: in this run no route leads to NICE. `# cut 20`: of the file that follows
-/// 20 blocks come, up to `# uncut`. `# ACME has LYON.42 TO METZ PAUL OUT 4 RECORDS READY, ..`:
-/// these whole files of the customer are kept. Then and before the program is killed all that is
-/// kept is what the hub has.
+/// directly after that: in this run no route leads to NICE. `# one block for ACME`, there too: in
+/// this run its files have room for one block. `# cut 20`: of the file that follows 20 blocks
+/// come, up to `# uncut`. `# ACME has LYON.42 TO METZ PAUL OUT 4 RECORDS READY, ..`: these whole
+/// files of the customer are kept. Then and before the program is killed all that is kept is what
+/// the hub has.
 pub(crate) fn play(rt: &HostRuntime, name: &str, words: &str) -> Result<(), Fail> {
     drop(SpoolFiles::of(rt, name)?);
     play_on(rt, name, words)
@@ -46,7 +50,11 @@ pub(crate) fn play_on(rt: &HostRuntime, name: &str, words: &str) -> Result<(), F
     let mut script = Vec::new(alloc);
     encode_script(alloc, &mut words.as_bytes(), &NumberedLines, &mut script)?;
     for run in str::from_utf8(&script)?.split(KILL) {
-        files.give_routes(!run.starts_with(WITHOUT_NICE))?;
+        if run.starts_with(ONE_BLOCK) {
+            files.take_room()?;
+        } else {
+            files.give_routes(!run.starts_with(WITHOUT_NICE))?;
+        }
         play_run(&files, run, Unknown)?;
     }
     Ok(())

@@ -8,9 +8,9 @@ ghost use Rattle.njh_spoolfile.specs.Kept.{SpoolContents};
 ghost use Rattle.njh_spoolfile.specs.Origin.{IsFoundIn, StandsAsFound};
 ghost use Rattle.njh_spoolfile.specs.CommitState.{Stands};
 
-use crate::networks::tables;
+use crate::networks::{tables, with_little_room};
 use njh_hub::Hub;
-use njh_keeper::{SpoolKeeper, open_from};
+use njh_keeper::{OpenedHub, SpoolKeeper, open_from};
 use njh_spoolfile::{OpenFault, Origin, Store};
 use njh_table::Tables;
 use njh_turns::{Depot, DepotFault};
@@ -32,6 +32,7 @@ pub struct SpoolFiles<'a> {
     left: String,
     left_log: String,
     tables: String,
+    is_strict: bool,
 }
 
 impl<'a> SpoolFiles<'a> {
@@ -53,6 +54,7 @@ impl<'a> SpoolFiles<'a> {
             left: format!(in alloc; "{name}_left.db")?,
             left_log: format!(in alloc; "{name}_left.db-wal")?,
             tables: tables(alloc, true)?,
+            is_strict: false,
         })
     }
 
@@ -60,6 +62,17 @@ impl<'a> SpoolFiles<'a> {
     pub(crate) fn give_routes(&mut self, has_nice: bool) -> Result<(), Fail> {
         self.tables = tables(self.rt.alloc(), has_nice)?;
         Ok(())
+    }
+
+    /// From the next hub on ACME has room for one block.
+    pub(crate) fn take_room(&mut self) -> Result<(), Fail> {
+        self.tables = with_little_room(self.rt.alloc())?;
+        Ok(())
+    }
+
+    /// From the next hub on a whole file that can't be put back ends the opening.
+    pub(crate) fn be_strict(&mut self) {
+        self.is_strict = true;
     }
 
     /// Where memory comes from.
@@ -94,7 +107,7 @@ impl<'a> SpoolFiles<'a> {
     ) -> SpoolKeeper<'a, HostRuntime, S>
         requires { StandsAsFound S.Store S.found store }
     {
-        SpoolKeeper::new(self.rt, self.rt.alloc(), store)
+        SpoolKeeper::new(self.rt, self.rt.alloc(), store, self.is_strict)
     }
 
     /// A hub of the tables that a depot opens.
@@ -135,7 +148,9 @@ fn hub_in(
     store: &mut Store<FileStore<FileFrom<Unknown>>>,
 ) -> Result<Hub, Fail> {
     let tables = Tables::read(alloc, tables)?;
-    Ok(open_from(alloc, tables, store)?)
+    let OpenedHub { hub, refused } = open_from(alloc, tables, store, false)?;
+    drop(refused);
+    Ok(hub)
 }
 
 /// Lets go of a spool file as a program does that is killed.

@@ -1,5 +1,6 @@
 -- What the keeper does with the rows of a spool file from which a hub was opened.
-use Rattle.std.specs.Prelude.{◌≡◌, ◌≢◌, ℕ, ◌+◌, ◌<◌, List, [], ◌++◌, length, map, filter, slice_index_or, Some}
+use Rattle.std.specs.Prelude.{◌≡◌, ◌≢◌, ◌⊎◌, ℕ, ◌+◌, ◌<◌, true, List, [], ◌++◌, length, map, filter}
+use Rattle.std.specs.Prelude.{slice_index_or, Some}
 use Rattle.std.specs.List.{AllByRecursion, AllZip}
 use Rattle.njh_spool.specs.CustomerSpool.{CustomerSpool, WholeFile}
 use Rattle.njh_stream.specs.SpoolFiles.{records_in}
@@ -8,7 +9,7 @@ use Rattle.njh_table.specs.Accepted.{AreDistinct}
 use Rattle.njh_turns.specs.Keeping.{kept_file}
 use Rattle.sqlite.specs.State.{State}
 use Rattle.sqlite.specs.Tree.{Trees}
-use Rattle.njh_spoolfile.specs.Kept.{File, Holds, SpoolContents, entry_of}
+use Rattle.njh_spoolfile.specs.Kept.{File, Holds, SpoolContents, entry_of, records_of}
 use Rattle.njh_spoolfile.specs.CommitState.{CommitState, Stands}
 use Rattle.njh_spoolfile.specs.declared.kept.StoredFile.{StoredFile}
 use Rattle.njh_keeper.specs.Opened.{file_in, is_own, own_files}
@@ -31,6 +32,14 @@ keyed_rows n rows = keyed (λ e. e.1.key) n rows
 abbrev pub IsReadFor : SpoolContents → ℕ × File → WholeFile → Type 0
 IsReadFor spool e g = ReadsAs spool e (record { kind = g.kind; held = e.1.held; records = g.records })
 
+-- a row is as it was, or was a customer's and is its still
+abbrev pub IsRowStill : ℕ × File → ℕ × File → Type 0
+IsRowStill e f = (f ≡ e) ⊎ ((name : List ℕ) × (is_own name e.1 ≡ true) × (is_own name f.1 ≡ true))
+
+-- row by row
+abbrev pub AreRowsStill : SpoolContents → SpoolContents → Type 0
+AreRowsStill s t = AllZip IsRowStill s.files t.files
+
 -- The customer's first files are kept as the hub has them, and each other one was read from one of the rows that are
 -- left. Since the spool was that one only rows of the customer changed.
 pub record IsRead (name : List ℕ) (whole : List KeptWhole) (left : List (ℕ × File)) (files : List WholeFile)
@@ -43,6 +52,7 @@ pub record IsRead (name : List ℕ) (whole : List KeptWhole) (left : List (ℕ �
   pub beside : AllBeside (IsKept now) whole rows before
   pub reads : AllZip (IsReadFor now) left behind
   pub writes : WritesRowsOf name from now
+  pub still : AreRowsStill from now
   pub below : (end : ℕ) → AreBelow end from → AreBelow end now
   pub keys : (n : ℕ) → keyed (λ k. k.key) n whole + keyed_rows n left ≡ keyed_rows n (own_rows name from)
 
@@ -60,6 +70,7 @@ Reads name spool was is left still s t =
 pub record IsRemembered (own : OwnFiles) (files : List WholeFile) (s t : SpoolContents) : Type 0 where
   pub mirrored : Mirrored t own files
   pub writes : WritesRowsOf own.name s t
+  pub still : AreRowsStill s t
   pub below : (end : ℕ) → AreBelow end s → AreBelow end t
   pub keys : (n : ℕ) → keyed (λ k. k.key) n own.whole ≡ keyed_rows n (own_rows own.name s)
 
@@ -107,6 +118,7 @@ pub record AreRemembered (names : List (List ℕ)) (hub : List Part) (owns : Lis
   pub ordered : IsOrdered t
   pub others : (name : List ℕ) → ((c : ℕ) → c < length owns → name_at names c ≢ name)
       → own_rows name t ≡ own_rows name s
+  pub still : AreRowsStill s t
   pub below : (end : ℕ) → AreBelow end s → AreBelow end t
 
 -- the hub's files of each customer were read from its rows
@@ -142,12 +154,15 @@ Begins names hub owns w old new =
     (s : CommitState) → Stands s old → AreDistinct names → AllAreFound names hub → AllAreRead names hub s.now
     → (t : SpoolContents) × HasBegun names hub owns w t × Stands (record { now = t; kept = t }) new
 
--- The hub's files of each of these customers stand there, and all other files as they stood.
+-- The hub's files of each of these customers stand there, and all other files as they stood, row by row, each with what
+-- stood under its key.
 pub record IsWritten (names : List (List ℕ)) (hub : List Part) (s t : SpoolContents) : Type 0 where
   pub each : (c : ℕ) → c < length names
       → map (λ w. file_in w.file w.records) (own_files (name_at names c) t) ≡ map Some (map kept_file (files_at c hub))
   pub others : (name : List ℕ) → ((c : ℕ) → c < length names → name_at names c ≢ name)
       → own_files name t ≡ own_files name s
+  pub still : AreRowsStill s t
+  pub records : AllByRecursion (λ e. records_of e.1.key t ≡ records_of e.1.key s) s.files
 
 -- From such a spool these trees may be committed on the way.
 abbrev pub MayBegin : (names : List (List ℕ)) (hub : List Part) → State → Trees → Type 0

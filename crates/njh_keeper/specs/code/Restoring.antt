@@ -1,37 +1,27 @@
 -- The whole files of a spool one after the other, each put back to its customer.
-use Rattle.std.specs.Prelude.{◌≡◌, ℕ, ◌<◌, ◌≤◌, List, [], ◌∷◌, length, map, fold, slice_set}
-use Rattle.std.specs.Prelude.{Option, Some, None, ⊤, All, slice_index_or, take}
-use Rattle.std.specs.List.{position_from}
-use Rattle.njh_hub.specs.WholeHub.{Part, part}
-use Rattle.njh_spoolfile.specs.Kept.{SpoolContents, Whole, whole_in, entry_of}
+use Rattle.std.specs.Prelude.{◌≡◌, ◌⊎◌, ℕ, ◌<◌, ◌≤◌, ◌++◌, Bool, true, false, List, [], ◌∷◌, length, map, fold, take}
+use Rattle.std.specs.Prelude.{drop}
+use Rattle.std.specs.Prelude.{Option, Some, None, option_map, slice_get, IsTrue, ⊤, All}
+use Rattle.sqlite.specs.State.{State}
+use Rattle.njh_hub.specs.WholeHub.{Part}
+use Rattle.njh_spoolfile.specs.Kept.{File, Holds, SpoolContents, Whole, entry_of, file_of, whole_in, with_changed}
 use Rattle.njh_spoolfile.specs.declared.kept.StoredFile.{StoredFile}
 use Rattle.njh_spoolfile.specs.declared.kept.StoredRecord.{StoredRecord}
-use Rattle.njh_keeper.specs.Opened.{is_name_of, with_whole, whole_fault}
-use Rattle.njh_keeper.specs.declared.fault.FileFault.{FileFault}
-use Rattle.njh_keeper.specs.declared.restoring.Stop.{Stop}
-use Rattle.njh_keeper.specs.declared.restoring.StopCause.{StopCause}
-use Rattle.njh_keeper.specs.declared.restoring.StopCause.TheVariants as cause
+use Rattle.njh_keeper.specs.Opened.{hub_fault, hub_with, number_of}
+use Rattle.njh_keeper.specs.Refusal.{Refusal, refusal_of}
+use Rattle.njh_keeper.specs.SetAside.{all_tried, file_taken_up, refusal, refusals, row_of, taken_up, tried}
+use Rattle.njh_keeper.specs.SetAside.{whole_taken_up}
+use Rattle.njh_keeper.specs.declared.fault.OpeningFault.{OpeningFault}
+use Rattle.njh_keeper.specs.declared.fault.OpeningFault.TheVariants.{Memory, Store, File as Refused}
+use Rattle.njh_keeper.specs.declared.fault.RefusedFile.{RefusedFile}
+use Rattle.njh_keeper.specs.declared.restoring.Outcome.{Outcome}
+use Rattle.njh_keeper.specs.declared.restoring.Outcome.TheVariants as outcome
 
 -- each record fits into one of a hub
 abbrev pub HaveRoom : List StoredRecord → Type 0
 HaveRoom records = All (λ r. (r.srcb < 256) × (length r.bytes.items ≤ 256)) records
 
--- the first of these names, numbered from this one on, that a text is
-abbrev pub number_from : ℕ → List (List ℕ) → List ℕ → Option ℕ
-number_from n names text = position_from (λ name. is_name_of text name) n names
-
-abbrev pub number_of : List (List ℕ) → List ℕ → Option ℕ
-number_of names text = number_from 0 names text
-
--- a hub with one whole file more, if its customer is one of these
-abbrev pub hub_with : List (List ℕ) → List Part → Whole → List Part
-hub_with names parts w = elim (number_of names w.file.customer)
-    [ None ↦ parts | Some c ↦ slice_set parts c (with_whole (part c parts) w) ]
-
-abbrev pub hub_fault : List (List ℕ) → List Part → Whole → Option FileFault
-hub_fault names parts w = elim (number_of names w.file.customer) [ None ↦ None | Some c ↦ whole_fault (part c parts) w ]
-
--- with all of these
+-- a hub with all of these whole files
 abbrev pub hub_with_all : List (List ℕ) → List Part → List Whole → List Part
 hub_with_all names parts ws = fold (hub_with names) parts ws
 
@@ -44,23 +34,61 @@ NoneFails names parts (w ∷ ws) = (hub_fault names parts w ≡ None) × NoneFai
 abbrev pub wholes : SpoolContents → List StoredFile → List Whole
 wholes spool files = map (λ f. whole_in spool (entry_of f)) files
 
--- ---- where it stopped
+-- ---- what becomes of one that is tried
 
--- the file is why, and not the reading of it
-abbrev pub IsOfFile : StopCause → Type 0
-IsOfFile (cause.Store error) = ⊥
-IsOfFile (cause.File fault) = ⊤
+-- it is no customer's of these names, or is put back, or fails so
+abbrev pub ComesTo : List (List ℕ) → List Part → Whole → Outcome → Type 0
+ComesTo names parts w outcome.Foreign = number_of names (taken_up w.file.customer) ≡ None
+ComesTo names parts w outcome.Back =
+    (c : ℕ) × (number_of names (taken_up w.file.customer) ≡ Some c)
+    × (hub_fault names parts (whole_taken_up w) ≡ None)
+ComesTo names parts w (outcome.Fails fault) =
+    (c : ℕ) × (number_of names (taken_up w.file.customer) ≡ Some c)
+    × (hub_fault names parts (whole_taken_up w) ≡ Some fault)
 
--- it stopped because of the file's fault, or of the reading
-abbrev pub StopsOn : StopCause → Option FileFault → Type 0
-StopsOn (cause.Store error) fault = ⊤
-StopsOn (cause.File told) fault = fault ≡ Some told
+-- its row is this one now, which is written if it is another
+abbrev pub IsWrittenAs : ℕ → (before now : File) → (s t : SpoolContents) → Type 0
+IsWrittenAs id before now s t = (t ≡ with_changed id now s) ⊎ ((t ≡ s) × (now ≡ before))
 
--- none of the files before it failed, and it did
-pub record StopsAt (names : List (List ℕ)) (parts : List Part) (spool : SpoolContents) (files : List StoredFile)
-    (stop : Stop)
-    : Type 0 where
-  pub before : NoneFails names parts (wholes spool (take stop.at files))
-  pub why : (d : StoredFile) → StopsOn stop.cause (hub_fault names
-      (hub_with_all names parts (wholes spool (take stop.at files)))
-      (whole_in spool (entry_of (slice_index_or files stop.at d))))
+-- so the row is left in what a connection shows
+pub record LeavesRow (id : ℕ) (before now : File) (spool : SpoolContents) (at : State) : Type 0 where
+  pub left : SpoolContents
+  pub holds : Holds left at.now.trees
+  pub written : IsWrittenAs id before now spool left
+
+-- The file was tried: the hub has it or hasn't, what is told of it if it hasn't, and its row.
+pub record IsTried (names : List (List ℕ)) (before after : List Part) (file : StoredFile) (told : Option RefusedFile)
+    (spool : SpoolContents) (at : State) : Type 0 where
+  pub hub : after ≡ hub_with names before (tried names before (whole_in spool (entry_of file)))
+  pub told_is : option_map refusal_of told ≡ refusal names before (whole_in spool (entry_of file))
+  pub row : LeavesRow file.id (file_of file.file) (tried names before (whole_in spool (entry_of file))).file spool at
+
+-- the first rows as they were tried, and the others
+abbrev pub spool_midway : List (List ℕ) → List Part → SpoolContents → (done left : List StoredFile) → SpoolContents
+spool_midway names parts spool done left = record spool {
+  files = map row_of (all_tried names parts (wholes spool done)) ++ map entry_of left;
+}
+
+-- so many of these files were tried
+pub record AreTried (names : List (List ℕ)) (before after : List Part) (done left : List StoredFile)
+    (told : List Refusal) (spool : SpoolContents) (at : State) : Type 0 where
+  pub hub : after ≡ hub_with_all names before (all_tried names before (wholes spool done))
+  pub told_are : told ≡ refusals names before (wholes spool done)
+  pub holds : Holds (spool_midway names before spool done left) at.now.trees
+
+-- what was committed stays
+pub record KeepsCommit (old new : State) : Type 0 where
+  pub is_open : IsTrue old.is_open → IsTrue new.is_open
+  pub committed : new.committed ≡ old.committed
+
+-- ---- where it stops
+
+-- no whole file is told but the one that was tried
+abbrev pub StopsAt : Option Refusal → OpeningFault → Type 0
+StopsAt fails Memory = ⊤
+StopsAt fails (Store error) = ⊤
+StopsAt fails (Refused told) = fails ≡ Some (refusal_of told)
+
+-- none but the first that fails
+abbrev pub StopsOn : List (List ℕ) → List Part → List Whole → OpeningFault → Type 0
+StopsOn names parts ws fault = StopsAt (slice_get (refusals names parts ws) 0) fault

@@ -1,4 +1,4 @@
-use Rattle.{std.proofs.Common.{◌≡◌, drop}, njh_keeper.specs.code.Restoring.number_from}
+use Rattle.{std.proofs.Common.{◌≡◌, drop}, njh_keeper.specs.Opened.number_from}
 use Rattle.njh_keeper.proofs.names.number_of.Given as goal
 
 -- none of so many names is the one

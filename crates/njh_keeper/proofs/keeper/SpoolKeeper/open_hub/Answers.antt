@@ -1,9 +1,10 @@
 use Rattle.njh_keeper.proofs.Words
 use Words.{List, map, sym, ap, subst, ◌∙◌, arith, IfOk-weaker, HasCleanDisk, State, CommitState, Stands, Holds}
 use Words.{StandsAsFound, shown, AreDistinct, Part, SameLines, part_at_open, KnowsNow, clean_before, on_ok, Survives}
-use Words.{survives_as}
+use Words.{cases_Bool, inl, inr, survives_as}
 use Rattle.{std.proofs.lemmas.Result.IfErr-weaker, njh_hub.specs.Parts.entries_of}
-use Rattle.njh_keeper.proofs.{KnownLaws.{opened_so, stood_still, if_ok_given}, StepLaws.noted_so}
+use Rattle.njh_keeper.proofs.{KnownLaws.{opened_so, if_ok_given}, StepLaws.{noted_so, refused_none}}
+use Rattle.njh_keeper.specs.{Refusal.refusal_of, SetAside.spool_tried}
 use Rattle.sqlite.proofs.StateLemmas.{survives_then}
 use Rattle.njh_keeper.{proofs.KeptLaws.keeps_all, specs.{code.Opening.MayBegin, Keeper.{IsCommitted, MayOpenTo}}}
 use Rattle.njh_keeper.proofs.keeper.SpoolKeeper.open_hub.Goals as goal
@@ -19,6 +20,11 @@ returns-clause-opened g c =
           spool (subst (λ (at : State). Holds spool at.now.trees) before held);
       back = λ clean spool held. c.in-Ok-open_from.ensures.back (clean_before c.remember_hub.ensures.crash clean) spool
           (subst (λ (at : State). Holds spool at.now.trees) before held);
+      refused = λ clean spool held. c.remember_hub.ensures.refused
+          ∙ c.in-Ok-open_from.ensures.aside (clean_before c.remember_hub.ensures.crash clean) spool
+          (subst (λ (at : State). Holds spool at.now.trees) before held);
+      strict = λ strict. c.remember_hub.ensures.refused
+          ∙ ap (map refusal_of) (c.in-Ok-open_from.ensures.strict (ap (λ k. k.is_strict) c.self.view_is ∙ strict));
     }) c.remember_hub.ensures.hub
 
 pub returns-clause-settled : goal.returns-clause-settled
@@ -30,10 +36,12 @@ returns-clause-settled g c =
           let stands = subst (λ (at : State). Stands s at) (ap (λ k. shown g.S.Store k.store) (sym c.self.view_is))
           given in
           let early = clean_before c.remember_hub.ensures.crash clean in
-          let so = opened_so c.args.tables s.now c.in-Ok.names.items c.in-Ok-open_from.hub c.in-Ok.ensures.each
+          let so = opened_so c.args.tables (spool_tried c.args.tables s.now) c.in-Ok.names.items
+          c.in-Ok-open_from.opened.hub c.in-Ok.ensures.each
           (c.in-Ok-open_from.ensures.hub early s.now stands.now) (c.in-Ok-open_from.ensures.back early s.now stands.now)
           in subst (λ (ps : List Part). IsCommitted g.S.Store c.remember_hub.new.self ps) (sym same)
-          (kept clean s (stood_still s _ _ (c.in-Ok-open_from.ensures.same early) stands)
+          (kept clean (record s { now = spool_tried c.args.tables s.now })
+          (c.in-Ok-open_from.ensures.now early s stands)
           (subst AreDistinct (sym c.in-Ok.ensures.each) c.names_of.ensures.accepted.names) so.0 so.1 so.2);
     })
 
@@ -46,10 +54,11 @@ returns-clause-known g c =
     let first : HasCleanDisk (shown g.S.Store c.self.inside.writer.store) =
     omega (arith, early, c.open_from.ensures.crash.clean) in
     let stands = c.self.invariant.0 c.if-not-self.false first began found in
-    let so = opened_so c.args.tables began c.in-Ok.names.items c.in-Ok-open_from.hub c.in-Ok.ensures.each
+    let so = opened_so c.args.tables (spool_tried c.args.tables began) c.in-Ok.names.items
+    c.in-Ok-open_from.opened.hub c.in-Ok.ensures.each
     (c.in-Ok-open_from.ensures.hub early began stands.now) (c.in-Ok-open_from.ensures.back early began stands.now) in
     subst (λ (ps : List Part). KnowsNow g.S.Store c.remember_hub.new.self ps) (sym same)
-    (known clean s (stood_still s _ _ (c.in-Ok-open_from.ensures.same early) stands)
+    (known clean (record s { now = spool_tried c.args.tables began }) (c.in-Ok-open_from.ensures.now early s stands)
     (subst AreDistinct (sym c.in-Ok.ensures.each) c.names_of.ensures.accepted.names) so.0 so.1 so.2 so.3))
 
 pub returns-clause-stood : goal.returns-clause-stood
@@ -61,7 +70,7 @@ pub returns-in-Err-open_from-clause-refused : goal.returns-in-Err-open_from-clau
 returns-in-Err-open_from-clause-refused g c clean is spool held =
     let before = ap (λ k. shown g.S.Store k.store) (sym c.self.view_is) in
     let store = ap (λ k. k.store) c.refuse.ensures.others in
-    noted_so c.args.tables spool c.in-Err-open_from.fault c.refuse.result _ c.refuse.new.self.refused
+    noted_so c.args.tables spool c.in-Err-open_from.fault c.refuse.result c.refuse.new.self.refused
     c.refuse.ensures.noted is
     (c.in-Err-open_from.ensures.refused (subst (λ s. HasCleanDisk (shown g.S.Store s)) store clean) spool
     (subst (λ (at : State). Holds spool at.now.trees) before held))
@@ -71,10 +80,16 @@ returns-clause-refused g c clean =
     IfErr-weaker c.remember_hub.result _ _ (λ fault other is spool held. absurd (other is)) c.remember_hub.ensures.told
 
 pub returns-in-Err-open_from-clause-spared : goal.returns-in-Err-open_from-clause-spared
-returns-in-Err-open_from-clause-spared g c is =
-    subst (λ k. Survives (shown g.S.Store k.store) (shown g.S.Store c.refuse.new.self.store) (λ _. ⊥)) c.self.view_is
-    (subst (λ k. Survives (shown g.S.Store c.self.inside.writer.store) (shown g.S.Store k.store) (λ _. ⊥))
-    (sym c.refuse.ensures.others) c.open_from.ensures.crash)
+returns-in-Err-open_from-clause-spared g c is = (
+  elim (cases_Bool c.self.inside.is_strict) [
+    | inl strict ↦ ap (λ k. k.is_strict) (sym c.self.view_is) ∙ strict
+    | inr lax ↦ absurd (refused_none c.in-Err-open_from.fault c.refuse.result c.refuse.new.self.refused
+        c.refuse.ensures.noted is (c.in-Err-open_from.ensures.lenient lax))
+  ],
+  subst (λ k. Survives (shown g.S.Store k.store) (shown g.S.Store c.refuse.new.self.store) (λ _. ⊥)) c.self.view_is
+      (subst (λ k. Survives (shown g.S.Store c.self.inside.writer.store) (shown g.S.Store k.store) (λ _. ⊥))
+      (sym c.refuse.ensures.others) c.open_from.ensures.crash),
+)
 
 pub returns-clause-spared : goal.returns-clause-spared
 returns-clause-spared g c =
@@ -94,7 +109,7 @@ returns-clause-crash g c =
     let last = shown g.S.Store c.remember_hub.new.self.store in
     subst (λ k. Survives (shown g.S.Store k.store) last (MayOpenTo g.S.Origin.found (shown g.S.Store k.store)))
     c.self.view_is
-    (survives_then first mid last (λ _. ⊥) (MayBegin c.in-Ok.names.items c.in-Ok-open_from.hub mid)
+    (survives_then first mid last (λ _. ⊥) (MayBegin c.in-Ok.names.items c.in-Ok-open_from.opened.hub mid)
     (MayOpenTo g.S.Origin.found first) (λ clean db none. absurd none)
     (λ clean db made began found.
     let s : CommitState = record { now = began; kept = began } in
@@ -102,13 +117,14 @@ returns-clause-crash g c =
     let stands = c.self.invariant.0 c.if-not-self.false (clean_before c.open_from.ensures.crash early) began found in
     let hub_is = c.in-Ok-open_from.ensures.hub early began stands.now in
     let back = c.in-Ok-open_from.ensures.back early began stands.now in
-    let so = opened_so c.args.tables began c.in-Ok.names.items c.in-Ok-open_from.hub c.in-Ok.ensures.each hub_is back in
-    let there = made s (stood_still s first mid (c.in-Ok-open_from.ensures.same early) stands)
+    let so = opened_so c.args.tables (spool_tried c.args.tables began) c.in-Ok.names.items
+    c.in-Ok-open_from.opened.hub c.in-Ok.ensures.each hub_is back in
+    let there = made (record s { now = spool_tried c.args.tables began }) (c.in-Ok-open_from.ensures.now early s stands)
     (subst AreDistinct (sym c.in-Ok.ensures.each) c.names_of.ensures.accepted.names) so.0 so.1 in (
       there.0,
       stands,
       there.1,
-      keeps_all c.args.tables began there.0 c.in-Ok.names.items c.in-Ok-open_from.hub c.in-Ok.ensures.each hub_is back
-          there.2,
+      keeps_all c.args.tables began there.0 c.in-Ok.names.items c.in-Ok-open_from.opened.hub c.in-Ok.ensures.each
+          hub_is back there.2,
     ))
     c.open_from.ensures.crash c.remember_hub.ensures.crash)

@@ -1,0 +1,35 @@
+//! What the log tells of what a depot opened.
+
+ghost use Rattle.std.specs.Prelude.{◌≡◌};
+
+use crate::exchange::Exchange;
+use crate::line_text::LineText;
+use crate::table_source::TableSource;
+use njh_turns::Depot;
+use njh_wire::Network;
+use std::io::Write;
+
+impl<N: Network + Drop, L: Write + Drop, S: TableSource + Drop> Exchange<N, L, S> {
+    /// Tells all that an operator is to know of what a depot opened, a line for each thing.
+    pub(crate) fn tell_opened<D: Depot>(&mut self, depot: &D)
+        ensures { self.new ≡ self.old }
+    {
+        for number in 0..usize::MAX {
+            if !self.tell_thing(depot, number) {
+                return;
+            }
+        }
+    }
+
+    /// Tells the thing of this number, if there is one. Says whether there is.
+    fn tell_thing<D: Depot>(&mut self, depot: &D, number: usize) -> bool
+        ensures { self.new ≡ self.old }
+    {
+        let mut text = LineText::new();
+        if depot.tell(number, &mut text).is_none() {
+            return false;
+        }
+        self.desk.write(&text);
+        true
+    }
+}
