@@ -8,3 +8,5 @@ mod LoggingLaws
 mod WatchLaws
 mod RoundLaws
 mod GroupLaws
+mod ServedLaws
+mod ServiceLaws

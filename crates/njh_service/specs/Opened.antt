@@ -5,6 +5,7 @@ use Rattle.std.specs.declared.net.ip_addr.IpAddr.{IpAddr}
 use Rattle.std.specs.declared.net.socket_addr.SocketAddr.{SocketAddr}
 use Rattle.std.specs.Net.Socket.{socket_ip, socket_port}
 use Rattle.njh_service.specs.Doors.{door_address}
+use Rattle.njh_service.specs.declared.dial.Dial.{Dial}
 use Rattle.njh_service.specs.declared.door.Door.{Door}
 use Rattle.njh_service.specs.declared.endpoints.Endpoint.{Endpoint}
 use Rattle.njh_service.specs.declared.site.Site.{Site}
@@ -20,6 +21,12 @@ abbrev pub site_opened : {L : Type 0} → (L → SocketAddr) → Site (Door L) S
 site_opened address_of (Listens door) =
     Listens (socket_ip (door_address address_of door), socket_port (door_address address_of door))
 site_opened address_of (Dials peer) = Dials peer
+
+-- what one that is served has
+abbrev pub site_kept : {L C : Type 0} → (L → SocketAddr) → Site (Door L) (Dial C) → Site (IpAddr × ℕ) SocketAddr
+site_kept address_of (Listens door) =
+    Listens (socket_ip (door_address address_of door), socket_port (door_address address_of door))
+site_kept address_of (Dials dial) = Dials dial.address
 
 -- two lines have the same port
 abbrev pub is_same_site : Site ℕ SocketAddr → Site ℕ SocketAddr → Bool

@@ -1,5 +1,5 @@
 -- A service, and what it leaves.
-use Rattle.std.specs.Prelude.{◌≡◌, ℕ, List, length, map, All, Option, Some, None}
+use Rattle.std.specs.Prelude.{◌≡◌, ℕ, ◌<◌, List, length, map, slice_index_or, All, Option, Some, None}
 use Rattle.njh_table.specs.declared.LineId.{LineId}
 use Rattle.njh_table.specs.TableFile.{TableFile}
 use Rattle.njh_hub.specs.Parts.{entries_of}
@@ -9,17 +9,19 @@ use Rattle.njh_turns.specs.Keeping.{KeeperSays, KeptFile, IsSettled}
 use Rattle.njh_turns.specs.Service.{Happening, ArePossible, IsAttended, service_events, service_rounds}
 use Rattle.njh_turns.specs.Turns.{hub_wires, moment, no_quiets}
 use Rattle.njh_turns.specs.Wires.{WireSays}
+use Rattle.njh_wire.specs.Standing.{Standing}
 use Rattle.njh_service.specs.declared.endpoints.Endpoint.{Endpoint}
 use Rattle.njh_service.specs.Endpoints.{endpoints_of, lines_of}
 use Rattle.njh_service.specs.Opened.{IsApart}
 
--- A hub with its depot, the lines of it that are served, the quiets in a row on each, and their wires.
-pub record Served (W D : Type 0) : Type 0 where
+-- A hub with its depot, the lines of it that are served, the quiets in a row on each, their wires, and their attendant.
+pub record Served (W A D : Type 0) : Type 0 where
   pub hub : List Part
   pub depot : D
   pub lines : List LineId
   pub quiets : List ℕ
   pub wires : List W
+  pub attendant : A
 
 -- if the number isn't given, as many as can be counted
 abbrev pub turn_count : Option ℕ → ℕ
@@ -28,30 +30,35 @@ turn_count (Some turns) = turns
 
 -- So many turns of the lines were taken, each line on its own wire, and the hub was told of these, of new routes and of
 -- nothing else.
-pub record HasServed {W D : Type 0} (says : WireSays W) (brings : Type 0) (turns : ℕ)
-    (old new : Served W D) : Type 0 where
+pub record HasServed {W A D : Type 0} (says : WireSays W) (brings : Type 0) (turns : ℕ)
+    (old new : Served W A D) : Type 0 where
   pub attended : IsAttended says brings old.lines turns (moment old.hub old.quiets old.wires)
       (moment new.hub new.quiets new.wires)
   pub lines : new.lines ≡ old.lines
 
 -- Such a service that the keeper's fault broke off.
-pub record IsBrokenOff {W D : Type 0} (says : WireSays W) (may_leave : List (List KeptFile) → Type 0)
-    (brings : Type 0) (turns : ℕ) (old new : Served W D) : Type 0 where
+pub record IsBrokenOff {W A D : Type 0} (says : WireSays W) (may_leave : List (List KeptFile) → Type 0)
+    (brings : Type 0) (turns : ℕ) (old new : Served W A D) : Type 0 where
   pub breaks : ServiceBreaks says may_leave brings old.lines turns (moment old.hub old.quiets old.wires)
       (hub_wires new.hub new.wires)
   pub lines : new.lines ≡ old.lines
 
 -- A service that was just opened: a hub that was opened so, and these lines of it, no two on one port.
-pub record IsOpenedOn {W D : Type 0} (opened : List Part → Type 0) (endpoints : List Endpoint)
-    (service : Served W D) : Type 0 where
+pub record IsOpenedOn {W A D : Type 0} (opened : List Part → Type 0) (endpoints : List Endpoint)
+    (service : Served W A D) : Type 0 where
   pub apart : IsApart endpoints
   pub hub : opened service.hub
   pub lines : service.lines ≡ lines_of endpoints
   pub calm : service.quiets ≡ no_quiets (lines_of endpoints)
 
 -- One that was just opened on tables: its lines are those that have a port or a peer.
-abbrev pub IsOpened : {W D : Type 0} → (List Part → Type 0) → TableFile → Served W D → Type 0
+abbrev pub IsOpened : {W A D : Type 0} → (List Part → Type 0) → TableFile → Served W A D → Type 0
 IsOpened opened tables service = IsOpenedOn opened (endpoints_of tables) service
+
+-- each wire has the place of its line
+abbrev pub ArePlaced : {C : Type 0} → List (Standing C) → Type 0
+ArePlaced {C} wires =
+    (place : ℕ) (d : Standing C) → place < length wires → (slice_index_or wires place d).place ≡ place
 
 -- a hub of these tables that has no files
 abbrev pub IsOpenedEmpty : TableFile → List Part → Type 0

@@ -1,22 +1,42 @@
 -- What is seen of the attendant, and what a round of it looks at.
-use Rattle.std.specs.Prelude.{◌≡◌, ℕ, ◌*◌, ◌<◌, ◌≤◌, ◌⊎◌, IsTrue, List, length}
+use Rattle.std.specs.Prelude.{◌≡◌, ℕ, ◌*◌, ◌<◌, ◌≤◌, ◌⊎◌, IsTrue, List, Option, length}
+use Rattle.std.specs.declared.net.ip_addr.IpAddr.{IpAddr}
+use Rattle.std.specs.declared.net.socket_addr.SocketAddr.{SocketAddr}
 use Rattle.njh_table.specs.declared.LineId.{LineId}
+use Rattle.njh_table.specs.TableFile.{TableFile}
 use Rattle.njh_wire.specs.declared.network.Readiness.{Readiness}
 use Rattle.njh_service.specs.Attention.{IsDue, IsInGroup, IsMarked, mark_at, watch_at}
+use Rattle.njh_service.specs.Opened.{site_kept, site_on}
 use Rattle.njh_service.specs.declared.attention.Watch.{Watch}
+use Rattle.njh_service.specs.declared.endpoints.Endpoint.{Endpoint}
+use Rattle.njh_service.specs.declared.post.Post.{Post}
+use Rattle.njh_service.specs.declared.site.Site.{Site}
 use Rattle.njh_service.specs.declared.traffic.Traffic.{Traffic}
 
+-- A line that is served: which it is, and the address and the port on which it listens, or the peer that it dials.
+pub record ServedLine : Type 0 where
+  pub id : LineId
+  pub site : Site (IpAddr × ℕ) SocketAddr
+
+abbrev pub served_line : {L C : Type 0} → (L → SocketAddr) → Post L C → ServedLine
+served_line address_of post = record { id = post.line; site = site_kept address_of post.site }
+
+-- the line of an endpoint, if lines with a port listen on this address
+abbrev pub served_on : IpAddr → Endpoint → ServedLine
+served_on address endpoint = record { id = endpoint.line; site = site_on address endpoint.site }
+
 -- What is seen of the attendant: the lines that it serves, by their places, what it noted of each, how many sign-ons
--- were refused on each as its session was seen last, what is ready of each, when each is looked at, until when it waits,
--- and the time.
+-- were refused on each as its session was seen last, what is ready of each, when each is looked at, until when it
+-- waits, the time, and the tables that it took last.
 pub record Watched : Type 0 where
-  pub lines : List LineId
+  pub lines : List ServedLine
   pub noted : List Traffic
   pub refusals : List ℕ
   pub ready : List Readiness
   pub watches : List Watch
   pub next : ℕ
   pub now : ℕ
+  pub tables : Option TableFile
 
 -- ---- what a round looks at
 

@@ -61,6 +61,7 @@ impl<N: Network + Drop, L: Write + Drop> Desk<N, L> {
         ensures place { wire.new.place ≡ wire.old.place }
         ensures clock { wire.new.clock ≡ wire.old.clock }
         ensures now { self.new.now ≡ self.old.now }
+        ensures address { N.address_of listener.new ≡ N.address_of listener.old }
         ensures barred { IsBarred label.old self.old.now → (wire.new ≡ wire.old) × ((label.new ≡ label.old)
             × (result ≡ label.old.barred_until)) }
         ensures kept { ¬ IsBarred label.old self.old.now → KeepsLine wire.old label.old self.old.now →
@@ -92,6 +93,7 @@ impl<N: Network + Drop, L: Write + Drop> Desk<N, L> {
         ensures place { wire.new.place ≡ wire.old.place }
         ensures clock { wire.new.clock ≡ wire.old.clock }
         ensures now { self.new.now ≡ self.old.now }
+        ensures address { N.address_of listener.new ≡ N.address_of listener.old }
         ensures same { (result ≡ Admission.Taken) ⊎ (wire.new ≡ wire.old) }
     {
         match self.network.accept(listener) {
@@ -154,6 +156,7 @@ impl<N: Network + Drop, L: Write + Drop> Desk<N, L> {
         ensures place { wire.new.place ≡ wire.old.place }
         ensures clock { wire.new.clock ≡ wire.old.clock }
         ensures now { self.new.now ≡ self.old.now }
+        ensures address { dial.new.address ≡ dial.old.address }
         ensures begun { IsToCome dial.old.state self.old.now → (dial_moment dial.new.state ≡ given_up_at self.old.now)
             ⊎ (dial_moment dial.new.state ≡ next_dial dial.old.has_failed self.old.now) }
         ensures idle { ¬ IsToCome dial.old.state self.old.now → connection_in dial.old.state ≡ None →
@@ -167,10 +170,10 @@ impl<N: Network + Drop, L: Write + Drop> Desk<N, L> {
             return;
         }
         let until = dial.moment();
-        let Some(connection) = dial.connection() else {
+        let Some(made) = dial.ask(&mut self.network) else {
             return;
         };
-        match answer_of(self.network.is_connected(connection), until, self.now) {
+        match answer_of(made, until, self.now) {
             DialAnswer::Made => {
                 if let Some(connection) = dial.take() {
                     self.connect(

@@ -8,6 +8,7 @@ ghost use Rattle.njh_wire.specs.Standing.{due};
 ghost use Rattle.njh_service.specs.Attention.{again_at, first_of, stalled_at, IsDue, IsMarked};
 ghost use Rattle.njh_service.specs.Logging.{IsLogged};
 ghost use Rattle.njh_service.specs.News.{news_moment, IsTold};
+ghost use Rattle.njh_service.specs.Opened.{site_kept};
 ghost use Rattle.njh_service.specs.Sessions.{HasRefused, IsReady};
 
 use crate::attention::{NOTHING, Watch, is_marked};
@@ -70,6 +71,7 @@ impl<N: Network + Drop, L: Write + Drop> Desk<N, L> {
         ensures counts { wire.old.failures ≤ wire.new.failures }
         ensures place { wire.new.place ≡ wire.old.place }
         ensures line { post.new.line ≡ post.old.line }
+        ensures site { site_kept N.address_of post.new.site ≡ site_kept N.address_of post.old.site }
         ensures now { self.new.now ≡ self.old.now }
     {
         let mark = *ready;
@@ -96,6 +98,7 @@ impl<N: Network + Drop, L: Write + Drop> Desk<N, L> {
         ensures place { wire.new.place ≡ wire.old.place }
         ensures clock { wire.new.clock ≡ wire.old.clock }
         ensures line { post.new.line ≡ post.old.line }
+        ensures site { site_kept N.address_of post.new.site ≡ site_kept N.address_of post.old.site }
         ensures now { self.new.now ≡ self.old.now }
     {
         if mark.reads {
@@ -131,6 +134,7 @@ impl<N: Network + Drop, L: Write + Drop> Desk<N, L> {
         ensures counts { wire.old.failures ≤ wire.new.failures }
         ensures place { wire.new.place ≡ wire.old.place }
         ensures line { post.new.line ≡ post.old.line }
+        ensures site { site_kept N.address_of post.new.site ≡ site_kept N.address_of post.old.site }
         ensures told { IsTold post.new.label.news self.old.now }
         ensures tells { result ≤ news_moment post.new.label.news }
         ensures kept { HasLine hub.now post.old.line → ¬ HasGivenUp hub.now post.old.line →
@@ -158,6 +162,7 @@ impl<N: Network + Drop, L: Write + Drop> Desk<N, L> {
         ensures counts { wire.old.failures ≤ wire.new.failures }
         ensures place { wire.new.place ≡ wire.old.place }
         ensures line { post.new.line ≡ post.old.line }
+        ensures site { site_kept N.address_of post.new.site ≡ site_kept N.address_of post.old.site }
         ensures told { IsTold post.new.label.news self.old.now }
         ensures kept { HasLine hub.now post.old.line → ¬ HasGivenUp hub.now post.old.line →
             ¬ HasRefused post.old.label (line_view (hub_line post.old.line hub.now).state) →

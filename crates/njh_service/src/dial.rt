@@ -5,6 +5,8 @@ ghost use Rattle.njh_service.specs.Dialling.{connection_in, dial_moment, failed,
 ghost use Rattle.njh_service.specs.Dialling.{IsToCome};
 ghost use Rattle.njh_service.specs.declared.dial.State.TheVariants.{Connected, Dialling, Resting};
 
+use njh_wire::Network;
+use std::io;
 use std::net::SocketAddr;
 
 /// How long after a connection that was made, or after a first failure, the next dial comes, in
@@ -79,13 +81,17 @@ impl<C: Drop> Dial<C> {
         }
     }
 
-    /// The connection that isn't made yet, if there is one.
-    pub(crate) fn connection(&mut self) -> Option<&mut C>
-        ensures { IsSome result ↔ IsSome (connection_in self.old.state) }
+    /// What the network says of the connection that isn't made yet, if there is one.
+    pub(crate) fn ask<N: Network<Connection = C>>(
+        &mut self,
+        network: &mut N,
+    ) -> Option<io::Result<bool>>
+        ensures asked { IsSome result ↔ IsSome (connection_in self.old.state) }
+        ensures address { self.new.address ≡ self.old.address }
     {
         match &mut self.state {
             State::Resting(_) => None,
-            State::Dialling(connection, _) => Some(connection),
+            State::Dialling(connection, _) => Some(network.is_connected(connection)),
             State::Connected => None,
         }
     }

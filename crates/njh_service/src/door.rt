@@ -147,6 +147,7 @@ impl<N: Network + Drop, L: Write + Drop> Desk<N, L> {
         ensures place { wire.new.place ≡ wire.old.place }
         ensures clock { wire.new.clock ≡ wire.old.clock }
         ensures now { self.new.now ≡ self.old.now }
+        ensures address { door_address N.address_of door.new ≡ door_address N.address_of door.old }
         ensures tried { IsSome (to_try door.old self.old.now) → IsTried self.old.now door.new }
         ensures shut { IsLookedAtAgain door.new result }
         ensures waits { to_try door.old self.old.now ≡ None → IsSome (cause_in door.old) →

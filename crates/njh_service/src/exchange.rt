@@ -3,14 +3,14 @@
 ghost use Rattle.std.specs.Prelude.{◌≡◌, ℕ, ◌+◌, ◌*◌, ◌<◌, ◌≤◌, ◌↔◌, ◌∷◌, ◌++◌, [], length, min, IsTrue, Some, slice_get};
 ghost use Rattle.std.specs.Prelude.{◌≢◌, false, OnOk, OnErr};
 ghost use Rattle.njh_turns.specs.Service.{AreStill};
-ghost use Rattle.njh_table.specs.declared.LineId.{LineId};
 ghost use Rattle.njh_hub.specs.Quiets.{quiet_on};
 ghost use Rattle.njh_hub.specs.Views.{HasGivenUp, hub_line, line_view};
 ghost use Rattle.njh_hub.specs.WholeHub.{HasLine};
+ghost use Rattle.njh_service.specs.Opened.{site_opened};
 ghost use Rattle.njh_service.specs.Prompting.{IsPrompted};
 ghost use Rattle.njh_service.specs.Attention.{at_once, mark_at, watch_at, IsAnyMarked, IsInGroup};
 ghost use Rattle.njh_service.specs.Sessions.{HasRefusedMore};
-ghost use Rattle.njh_service.specs.Watching.{HasBegun, HaveBegun, IsRoundBegun};
+ghost use Rattle.njh_service.specs.Watching.{HasBegun, HaveBegun, IsRoundBegun, ServedLine};
 ghost use Rattle.njh_service.specs.declared.attention.Watch.{Watch};
 ghost use Rattle.njh_service.specs.declared.traffic.Traffic.{Traffic};
 
@@ -54,18 +54,19 @@ pub struct Exchange<N: Network + Drop, L: Write + Drop, S: TableSource + Drop> {
 
 impl<N: Network + Drop, L: Write + Drop, S: TableSource + Drop> Model for Exchange<N, L, S> {
     ghost use Rattle.std.specs.Prelude.{length, map};
-    ghost use Rattle.njh_service.specs.Watching.{AreGrouped, Watched};
+    ghost use Rattle.njh_service.specs.Watching.{served_line, AreGrouped, Watched};
 
     ghost Value = { Watched };
 
     ghost view = { λ exchange. record {
-      lines = map (λ post. post.line) exchange.posts.items;
+      lines = map (served_line N.address_of) exchange.posts.items;
       noted = map (λ post. post.traffic) exchange.posts.items;
       refusals = map (λ post. post.label.refusals) exchange.posts.items;
       ready = exchange.ready.items;
       watches = exchange.watches.items;
       next = exchange.next;
       now = exchange.desk.now;
+      tables = exchange.revision;
     } };
 
     ghost invariant = { λ exchange. AreGrouped (length exchange.posts.items) exchange.ready.items exchange.watches.items
@@ -119,7 +120,8 @@ impl<N: Network + Drop, L: Write + Drop, S: TableSource + Drop> Exchange<N, L, S
         names: &LineNames<'_>,
         site: Site<Door<N::Listener>, SocketAddr>,
     ) -> Result<(), AllocError>
-        ensures added { OnOk result (self.new.lines ≡ self.old.lines ++ id ∷ []) }
+        ensures added { OnOk result (self.new.lines
+            ≡ self.old.lines ++ record { id = id; site = site_opened N.address_of site } ∷ []) }
         ensures watched { OnOk result (self.new.watches ≡ self.old.watches ++ at_once ∷ []) }
         ensures err { OnErr result (self.new ≡ self.old) }
     {
@@ -242,8 +244,9 @@ impl<N: Network + Drop, L: Write + Drop, S: TableSource + Drop> Exchange<N, L, S
 
     /// Whether the line at this place, if it rests, is prompted in this round.
     pub(crate) fn prompts(&self, place: usize, hub: &Hub) -> bool
-        ensures prompted { (id : LineId) → (noted : Traffic) → slice_get self.now.lines place ≡ Some id
-            → slice_get self.now.noted place ≡ Some noted → IsTrue result ↔ IsPrompted noted hub.now id self.now.now }
+        ensures prompted { (line : ServedLine) → (noted : Traffic) → slice_get self.now.lines place ≡ Some line
+            → slice_get self.now.noted place ≡ Some noted
+            → IsTrue result ↔ IsPrompted noted hub.now line.id self.now.now }
     {
         let Some(post) = self.posts.get(place) else {
             return true;
@@ -357,12 +360,12 @@ impl<N: Network + Drop, L: Write + Drop, S: TableSource + Drop> Exchange<N, L, S
         ensures place { wire.new.place ≡ wire.old.place }
         ensures lines { self.new.lines ≡ self.old.lines }
         ensures watches { self.new.watches ≡ self.old.watches }
-        ensures kept { (id : LineId) → (seen : ℕ) → slice_get self.old.lines place ≡ Some id →
-            slice_get self.old.refusals place ≡ Some seen → HasLine hub.now id → ¬ HasGivenUp hub.now id →
-            ¬ HasRefusedMore seen (line_view (hub_line id hub.now).state) →
+        ensures kept { (line : ServedLine) → (seen : ℕ) → slice_get self.old.lines place ≡ Some line →
+            slice_get self.old.refusals place ≡ Some seen → HasLine hub.now line.id → ¬ HasGivenUp hub.now line.id →
+            ¬ HasRefusedMore seen (line_view (hub_line line.id hub.now).state) →
             wire.new.connection ≡ wire.old.connection }
-        ensures quiet { (id : LineId) → slice_get self.old.lines place ≡ Some id → HasLine hub.now id →
-            wire.new.quiet ≡ quiet_on id hub.now }
+        ensures quiet { (line : ServedLine) → slice_get self.old.lines place ≡ Some line → HasLine hub.now line.id →
+            wire.new.quiet ≡ quiet_on line.id hub.now }
     {
         let Some(post) = self.posts.get_mut(place) else {
             return u64::MAX;

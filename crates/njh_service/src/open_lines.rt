@@ -1,9 +1,11 @@
 //! The attendant opens the sockets of its lines.
 
-ghost use Rattle.std.specs.Prelude.{◌≡◌, All, IfOk, OnOk};
+ghost use Rattle.std.specs.Prelude.{◌≡◌, ◌++◌, map, All, IfOk, OnOk};
+ghost use Rattle.std.specs.declared.net.ip_addr.IpAddr.{IpAddr};
 ghost use Rattle.njh_table.specs.TableFile.{HasLine};
 ghost use Rattle.njh_service.specs.Endpoints.{endpoints_of};
-ghost use Rattle.njh_service.specs.Opened.{IsApart};
+ghost use Rattle.njh_service.specs.Opened.{IsApart, site_on, site_opened};
+ghost use Rattle.njh_service.specs.Watching.{served_on};
 
 use crate::door::{Door, begin_event};
 use crate::endpoints::{Endpoint, endpoints_of};
@@ -34,6 +36,8 @@ impl<N: Network + Drop, L: Write + Drop, S: TableSource + Drop> Exchange<N, L, S
         ensures all { IfOk result (λ endpoints. endpoints.items ≡ endpoints_of tables.now) }
         ensures known { IfOk result (λ endpoints. All (λ endpoint. HasLine tables.now endpoint.line) endpoints.items) }
         ensures apart { IfOk result (λ endpoints. IsApart endpoints.items) }
+        ensures served { IfOk result (λ endpoints.
+            self.new.lines ≡ self.old.lines ++ map (served_on listening.address) endpoints.items) }
     {
         let endpoints = endpoints_of(alloc, tables)?;
         if needed && endpoints.is_empty() {
@@ -54,7 +58,10 @@ impl<N: Network + Drop, L: Write + Drop, S: TableSource + Drop> Exchange<N, L, S
         listening: Listening,
         endpoints: &[Endpoint],
     ) -> Result<Vec<Site<Door<N::Listener>, SocketAddr>>, ServeFault>
-        ensures { OnOk result (IsApart endpoints.now) }
+        ensures apart { OnOk result (IsApart endpoints.now) }
+        ensures opened { IfOk result (λ sites. map (site_opened N.address_of) sites.items
+            ≡ map (λ endpoint. site_on listening.address endpoint.site) endpoints.now) }
+        ensures lines { self.new.lines ≡ self.old.lines }
     {
         let now = self.desk.network.now();
         match open(alloc, &mut self.desk.network, listening, now, endpoints) {
@@ -75,21 +82,30 @@ impl<N: Network + Drop, L: Write + Drop, S: TableSource + Drop> Exchange<N, L, S
         sites: Vec<Site<Door<N::Listener>, SocketAddr>>,
     ) -> Result<(), AllocError>
         requires { All (λ endpoint. HasLine tables.now endpoint.line) endpoints.now }
+        ensures { (address : IpAddr) → map (site_opened N.address_of) sites.items
+            ≡ map (λ endpoint. site_on address endpoint.site) endpoints.now
+            → OnOk result (self.new.lines ≡ self.old.lines ++ map (served_on address) endpoints.now) }
     {
-        let mut sites = sites.into_iter();
-        for place in 0..endpoints.len() {
-            let id = endpoints[place].line;
-            let Some(site) = sites.next() else {
+        let mut left = sites.into_iter();
+        for endpoint in endpoints {
+            let Some(site) = left.next() else {
                 return Ok(());
             };
-            let names = names_of(tables, id);
-            match begin_event(&site) {
-                Some(event) => self.desk.tell(&Label::of(&names), event),
-                None => {}
-            }
-            self.add(id, &names, site)?;
+            let names = names_of(tables, endpoint.line);
+            self.tell_site(&names, &site);
+            self.add(endpoint.line, &names, site)?;
         }
         Ok(())
+    }
+
+    /// Tells of a line's port if it can't be listened on.
+    fn tell_site(&mut self, names: &LineNames<'_>, site: &Site<Door<N::Listener>, SocketAddr>)
+        ensures lines { self.new.lines ≡ self.old.lines }
+    {
+        match begin_event(site) {
+            Some(event) => self.desk.tell(&Label::of(names), event),
+            None => {}
+        }
     }
 }
 

@@ -1,7 +1,9 @@
 //! A line that is served, as the attendant sees it.
 
 ghost use Rattle.std.specs.Prelude.{◌≡◌, ◌↔◌, IsTrue};
+ghost use Rattle.std.specs.declared.net.socket_addr.SocketAddr.{SocketAddr};
 ghost use Rattle.njh_service.specs.Dialling.{moment_of_loss};
+ghost use Rattle.njh_service.specs.Opened.{site_kept, site_opened};
 ghost use Rattle.njh_service.specs.Sessions.{after_session, moment_seen, HasRefused};
 
 use crate::connecting::kept_until;
@@ -128,7 +130,9 @@ pub(crate) struct Post<Li: Drop, C: Drop> {
 impl<Li: Drop, C: Drop> Post<Li, C> {
     /// A line on which nothing happened yet.
     pub(crate) fn new(id: LineId, label: Label, site: Site<Door<Li>, SocketAddr>) -> Post<Li, C>
-        ensures { result.line ≡ id }
+        ensures line { result.line ≡ id }
+        ensures site { (address_of : Li → SocketAddr)
+            → site_kept address_of result.site ≡ site_opened address_of site }
     {
         Post {
             moment: 0,
@@ -163,6 +167,8 @@ impl<Li: Drop, C: Drop> Post<Li, C> {
     /// The line has no connection any more.
     pub(crate) fn lose(&mut self, now: u64)
         ensures line { self.new.line ≡ self.old.line }
+        ensures site { (address_of : Li → SocketAddr)
+            → site_kept address_of self.new.site ≡ site_kept address_of self.old.site }
         ensures moment { self.new.moment ≡ moment_of_loss self.old.site self.old.moment now }
         ensures label { self.new.label ≡ self.old.label }
     {

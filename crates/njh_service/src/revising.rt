@@ -1,5 +1,9 @@
 //! New routes, and what the log tells of them.
 
+ghost use Rattle.std.specs.Prelude.{◌≡◌, IfSome};
+ghost use Rattle.njh_table.specs.TableFile.{customer_at};
+ghost use Rattle.njh_service.specs.Revisions.{AreKept, given_routes};
+
 use crate::entry::{LogEntry, LogEvent, Place};
 use crate::exchange::Exchange;
 use crate::table_source::TableSource;
@@ -11,7 +15,12 @@ use std::io::Write;
 impl<N: Network + Drop, L: Write + Drop, S: TableSource + Drop> Exchange<N, L, S> {
     /// Looks at the tables, if a second is over, and tells what came of that. Answers the routes of
     /// the next customer that is to be given some.
-    pub(crate) fn revise(&mut self) -> Option<NewRoutes> {
+    pub(crate) fn revise(&mut self) -> Option<NewRoutes>
+        ensures lines { self.new.lines ≡ self.old.lines }
+        ensures kept { AreKept self.old.tables self.new.tables }
+        ensures routes { IfSome result (λ new. IfSome self.new.tables (λ tables.
+            new.routes ≡ given_routes new.customer (customer_at tables new.customer).routes)) }
+    {
         self.look_at_tables();
         match self.revision.next_routes()? {
             Ok(new) => Some(new),
@@ -23,7 +32,10 @@ impl<N: Network + Drop, L: Write + Drop, S: TableSource + Drop> Exchange<N, L, S
     }
 
     /// Looks at the tables, if a second is over, and tells what came of that.
-    fn look_at_tables(&mut self) {
+    fn look_at_tables(&mut self)
+        ensures lines { self.new.lines ≡ self.old.lines }
+        ensures kept { AreKept self.old.tables self.new.tables }
+    {
         let Some(notice) = self.revision.look(self.desk.now) else {
             return;
         };
@@ -32,7 +44,10 @@ impl<N: Network + Drop, L: Write + Drop, S: TableSource + Drop> Exchange<N, L, S
 
     /// Tells what came of a customer's new routes. By routes that it was given its lines may have
     /// something to send.
-    pub(crate) fn tell_routes(&mut self, customer: u16, answer: Result<(), HubFault>) {
+    pub(crate) fn tell_routes(&mut self, customer: u16, answer: Result<(), HubFault>)
+        ensures lines { self.new.lines ≡ self.old.lines }
+        ensures tables { self.new.tables ≡ self.old.tables }
+    {
         self.desk.customers.mark_if(customer, answer.is_ok());
         let Some(name) = self.revision.note_routes(customer, answer.is_ok()) else {
             return;

@@ -30,7 +30,7 @@ impl<W: Drop, A: Drop, D: Drop> Model for Service<W, A, D> {
     ghost use Rattle.njh_hub.specs.WholeHub.{HasLine as HubHasLine};
     ghost use Rattle.njh_service.specs.Serving.{Served};
 
-    ghost Value = { Served W D };
+    ghost Value = { Served W A D };
 
     ghost view = { λ s. record {
       hub = s.hub;
@@ -38,6 +38,7 @@ impl<W: Drop, A: Drop, D: Drop> Model for Service<W, A, D> {
       lines = s.rounds.lines;
       quiets = s.rounds.quiets;
       wires = s.wires.items;
+      attendant = s.attendant;
     } };
 
     ghost invariant = { λ s. (length s.wires.items ≡ length s.rounds.lines) × All (HubHasLine s.hub) s.rounds.lines };
@@ -95,6 +96,7 @@ impl<W: Drop, A: Drop, D: Drop> Service<W, A, D> {
         ensures lines { IfOk result (λ service. service.lines ≡ lines_of endpoints.now) }
         ensures calm { IfOk result (λ service. service.quiets ≡ no_quiets (lines_of endpoints.now)) }
         ensures wires { IfOk result (λ service. service.wires ≡ wires.items) }
+        ensures attendant { IfOk result (λ service. service.attendant ≡ attendant) }
         ensures memory { IfErr result (λ refused. (refused.0 ≡ HubFault.Memory) × (refused.1 ≡ depot)
             × (refused.2 ≡ attendant)) }
     {

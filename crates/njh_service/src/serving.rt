@@ -1,13 +1,14 @@
 //! Serves the lines of tables.
 
-ghost use Rattle.std.specs.Prelude.{◌≡◌, length, All, IfOk, OnOk};
+ghost use Rattle.std.specs.Prelude.{◌≡◌, ◌++◌, length, map, All, IfOk, OnOk};
 ghost use Rattle.njh_hub.specs.WholeHub.{HasLine as HubHasLine};
 ghost use Rattle.njh_turns.specs.Keeping.{IsSettled};
 ghost use Rattle.njh_turns.specs.Turns.{no_quiets};
 ghost use Rattle.njh_table.specs.TableFile.{HasLine};
-ghost use Rattle.njh_service.specs.Endpoints.{lines_of};
+ghost use Rattle.njh_service.specs.Endpoints.{endpoints_of, lines_of};
 ghost use Rattle.njh_service.specs.Opened.{IsApart};
-ghost use Rattle.njh_service.specs.Serving.{AreServedFrom, IsOpened, IsOpenedOn};
+ghost use Rattle.njh_service.specs.Serving.{AreServedFrom, ArePlaced, IsOpened, IsOpenedOn};
+ghost use Rattle.njh_service.specs.Watching.{served_on};
 
 use crate::endpoints::Endpoint;
 use crate::exchange::Exchange;
@@ -86,6 +87,9 @@ pub fn service_on<N: Network + Drop, L: Write + Drop, S: TableSource + Drop, D: 
     (ServeFault, D, Exchange<N, L, S>),
 >
     ensures opened { IfOk result (λ service. IsOpened (D.opens depot service.depot tables) tables service) }
+    ensures attended { IfOk result (λ service. service.attendant.lines
+        ≡ exchange.lines ++ map (served_on listening.address) (endpoints_of tables)) }
+    ensures places { IfOk result (λ service. ArePlaced service.wires) }
     ensures settled { IfOk result (λ service. IsSettled D.says service.depot service.hub) }
 {
     match exchange.open_lines(alloc, &tables, listening, needed) {
@@ -111,6 +115,8 @@ fn service_of<N: Network + Drop, L: Write + Drop, S: TableSource + Drop, D: Depo
     requires known { All (λ endpoint. HasLine tables endpoint.line) endpoints.now }
     requires apart { IsApart endpoints.now }
     ensures opened { IfOk result (λ service. IsOpenedOn (D.opens depot service.depot tables) endpoints.now service) }
+    ensures attended { IfOk result (λ service. service.attendant ≡ exchange) }
+    ensures places { IfOk result (λ service. ArePlaced service.wires) }
     ensures settled { IfOk result (λ service. IsSettled D.says service.depot service.hub) }
 {
     match depot.open(alloc, tables) {
@@ -138,6 +144,8 @@ fn service_over<N: Network + Drop, L: Write + Drop, S: TableSource + Drop, D: Dr
     ensures depot { IfOk result (λ service. service.depot ≡ depot) }
     ensures lines { IfOk result (λ service. service.lines ≡ lines_of endpoints.now) }
     ensures calm { IfOk result (λ service. service.quiets ≡ no_quiets (lines_of endpoints.now)) }
+    ensures attended { IfOk result (λ service. service.attendant ≡ exchange) }
+    ensures places { IfOk result (λ service. ArePlaced service.wires) }
 {
     let wires = match wires_for(alloc, endpoints) {
         Ok(wires) => wires,
@@ -157,7 +165,8 @@ fn wires_for<C: Connection + Drop>(
     alloc: Global,
     endpoints: &[Endpoint],
 ) -> Result<Vec<LineWire<C>>, AllocError>
-    ensures { IfOk result (λ wires. length wires.items ≡ length endpoints.now) }
+    ensures many { IfOk result (λ wires. length wires.items ≡ length endpoints.now) }
+    ensures places { IfOk result (λ wires. ArePlaced wires.items) }
 {
     let mut wires = Vec::new(alloc);
     for place in 0..endpoints.len() {

@@ -9,6 +9,7 @@ ghost use Rattle.njh_service.specs.Connecting.{silence_of, IsConnected};
 ghost use Rattle.njh_service.specs.Dialling.{moment_of_loss};
 ghost use Rattle.njh_service.specs.Logging.{IsLogged};
 ghost use Rattle.njh_service.specs.News.{after_telling, told_now, IsTold};
+ghost use Rattle.njh_service.specs.Opened.{site_kept};
 ghost use Rattle.njh_service.specs.Prompting.{HasSeen};
 ghost use Rattle.njh_service.specs.Sessions.{barred_until, moment_seen, tries_end, HasRefused, IsInSession, IsReady};
 
@@ -48,6 +49,7 @@ impl<N: Network + Drop, L: Write + Drop> Desk<N, L> {
         ensures counts { wire.old.failures ≤ wire.new.failures }
         ensures place { wire.new.place ≡ wire.old.place }
         ensures line { post.new.line ≡ post.old.line }
+        ensures site { site_kept N.address_of post.new.site ≡ site_kept N.address_of post.old.site }
         ensures moment { HasLine hub.now post.old.line →
             let session = line_view (hub_line post.old.line hub.now).state in
             let moment = moment_seen post.old.label session self.old.now post.old.moment in

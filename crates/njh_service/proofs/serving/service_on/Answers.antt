@@ -1,7 +1,9 @@
-use Rattle.std.proofs.Common.{◌∙◌, subst, List}
+use Rattle.std.proofs.Common.{◌≡◌, ◌++◌, ◌∙◌, ap, map, subst, List}
 use Rattle.std.specs.Prelude.{IfOk}
+use Rattle.std.proofs.lemmas.Result.{IfOk-weaker}
 use Rattle.njh_service.specs.declared.endpoints.Endpoint.{Endpoint}
 use Rattle.njh_service.specs.Serving.{IsOpenedOn}
+use Rattle.njh_service.specs.Watching.{served_on, ServedLine, Watched}
 use Rattle.njh_service.proofs.serving.service_on.Goals as goal
 
 -- the endpoints that were opened are those of the tables
@@ -10,3 +12,12 @@ returns-in-Ok-clause-opened g c =
     subst (λ (endpoints : List Endpoint). IfOk c.service_of.result
     (λ service. IsOpenedOn (g.D.Depot.opens c.args.depot service.depot c.args.tables) endpoints service))
     (c.deref.ensures.value ∙ c.in-Ok.ensures.all) c.service_of.ensures.opened
+
+-- and the attendant's are these
+pub returns-in-Ok-clause-attended : goal.returns-in-Ok-clause-attended
+returns-in-Ok-clause-attended g c =
+    let Of : List Endpoint → List ServedLine = λ endpoints.
+    c.args.exchange.lines ++ map (served_on c.args.listening.address) endpoints in
+    let lines = c.in-Ok.ensures.served ∙ ap Of c.in-Ok.ensures.all in
+    IfOk-weaker c.service_of.result _ _ (λ service same. ap (λ (seen : Watched). seen.lines) same ∙ lines)
+    c.service_of.ensures.attended

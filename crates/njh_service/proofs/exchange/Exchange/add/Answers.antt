@@ -3,8 +3,10 @@ use Rattle.std.proofs.lemmas.List.{length-append}
 use Rattle.njh_wire.specs.declared.network.Readiness.{Readiness}
 use Rattle.njh_service.specs.declared.attention.Watch.{Watch}
 use Rattle.njh_service.specs.Attention.{at_once, nothing, IsInGroup}
-use Rattle.njh_service.specs.Watching.{AreGrouped}
+use Rattle.njh_service.specs.Watching.{AreGrouped, Watched}
+use Rattle.njh_service.specs.declared.post.Post.{Post}
 use Rattle.njh_service.proofs.GroupLaws.{one_line_more}
+use Rattle.njh_service.proofs.ServedLaws.{post_added}
 use Rattle.njh_service.proofs.exchange.Exchange.add.Goals as goal
 
 -- its group is looked at at once
@@ -29,3 +31,13 @@ invariant_of-self-2 g c =
     c.add_to_groups.ensures.lowers
     (λ group within. c.in_ok-add_to_groups.ensures.calls group (subst (In group) (sym here) within))
     c.self.invariant)
+
+-- the line at its site
+pub returns-clause-added : goal.returns-clause-added
+returns-clause-added g c =
+    let P : Type 0 = Post g.row.N-Listener.Denot g.row.N-Connection.Denot in
+    post_added g.N.Network.address_of c.self.inside.posts.items c.push_reserved-3.new.self.items c.new.result
+    c.args.self.now.lines c.args.id c.args.site
+    (c.push_reserved-3.ensures.items ∙ ap (λ (posts : List P). posts ++ c.new.result ∷ []) c.reserve.ensures.items)
+    (ap (λ (seen : Watched). seen.lines) c.self.view_is) c.new.ensures.line
+    (c.new.ensures.site g.N.Network.address_of)

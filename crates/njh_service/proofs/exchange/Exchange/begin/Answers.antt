@@ -1,9 +1,9 @@
 use Rattle.std.proofs.Common.{◌+◌, set, ap, arith, length, subst}
 use Rattle.std.proofs.lemmas.List.{length-set}
-use Rattle.njh_service.specs.Watching.{HaveBegun, Watched}
+use Rattle.njh_service.specs.Watching.{served_line, HaveBegun, Watched}
 use Rattle.njh_service.specs.declared.post.Post.{Post}
 use Rattle.njh_service.proofs.GroupLaws.{begun_more}
-use Rattle.njh_service.proofs.PostLaws.{lines_stay}
+use Rattle.njh_service.proofs.PostLaws.{lines_stay, served_stays}
 use Rattle.njh_service.proofs.RoundLaws.{one_begun, past_line}
 use Rattle.njh_service.proofs.exchange.Exchange.begin.Goals as goal
 
@@ -37,6 +37,9 @@ returns-clause-begun g c =
 
 pub returns-clause-lines : goal.returns-clause-lines
 returns-clause-lines g c =
-    lines_stay (λ (post : Post g.row.N-Listener.Denot g.row.N-Connection.Denot). post.line) c.self.inside.posts.items
+    lines_stay (λ (post : Post g.row.N-Listener.Denot g.row.N-Connection.Denot). served_line g.N.Network.address_of post)
+    c.self.inside.posts.items
     c.args.self.now.lines c.args.place c.index_mut-post.result.now c.begin.new.post
-    (ap (λ (seen : Watched). seen.lines) c.self.view_is) c.index_mut-post.ensures.value c.begin.ensures.line
+    (ap (λ (seen : Watched). seen.lines) c.self.view_is) c.index_mut-post.ensures.value
+    (served_stays g.N.Network.address_of c.index_mut-post.result.now c.begin.new.post c.begin.ensures.line
+    c.begin.ensures.site)

@@ -1,7 +1,7 @@
 use Rattle.std.proofs.Common.{◌≡◌, ℕ, ◌+◌, ◌*◌, length, min, ◌∙◌, ap, sym, subst, arith, refl}
 use Rattle.std.proofs.lemmas.List.{length-map}
 use Rattle.njh_wire.specs.declared.line_wire.LineWire.{LineWire}
-use Rattle.njh_service.specs.Watching.{HaveBegun, Watched}
+use Rattle.njh_service.specs.Watching.{served_line, HaveBegun, Watched}
 use Rattle.njh_service.specs.declared.post.Post.{Post}
 use Rattle.njh_service.proofs.RoundLaws.{begun_after, none_begun}
 use Rattle.njh_service.proofs.StillLaws.{still_after, still_same}
@@ -50,6 +50,6 @@ returns-clause-begun g c =
     let lines : length c.args.self.now.lines ≡ length c.self.inside.posts.items =
     sym (ap (λ (seen : Watched). length seen.lines) c.self.view_is)
     ∙ length-map c.self.inside.posts.items
-    (λ (post : Post g.row.N-Listener.Denot g.row.N-Connection.Denot). post.line) in
+    (λ (post : Post g.row.N-Listener.Denot g.row.N-Connection.Denot). served_line g.N.Network.address_of post) in
     λ p before. c.loop-group.invariant.begun.each p (omega arith)
     (omega (arith, before, lines, c.self.invariant.many_groups, c.loop-group-test.false))

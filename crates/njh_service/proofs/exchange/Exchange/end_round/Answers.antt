@@ -3,7 +3,7 @@ use Rattle.std.proofs.lemmas.Bool.{cases_lt}
 use Rattle.std.proofs.lemmas.List.{length-map}
 use Rattle.njh_wire.specs.declared.line_wire.LineWire.{LineWire}
 use Rattle.njh_service.specs.Attention.{watch_at}
-use Rattle.njh_service.specs.Watching.{Watched}
+use Rattle.njh_service.specs.Watching.{served_line, Watched}
 use Rattle.njh_service.specs.declared.attention.Watch.{Watch}
 use Rattle.njh_service.specs.declared.post.Post.{Post}
 use Rattle.njh_service.proofs.GroupLaws.{waits_until}
@@ -33,7 +33,8 @@ loop-group-preserved g c = record {
 -- the next moment isn't behind that of a line
 pub invariant_of-self : goal.invariant_of-self
 invariant_of-self g c =
-    let line = λ (post : Post g.row.N-Listener.Denot g.row.N-Connection.Denot). post.line in
+    let line = λ (post : Post g.row.N-Listener.Denot g.row.N-Connection.Denot).
+    served_line g.N.Network.address_of post in
     let Waits : Watched → Type 0 = λ seen. (p : ℕ) → p < 16 * c.loop-group.group → p < length seen.lines
     → c.loop-group.next ≤ (watch_at seen.watches p).moment in
     let waits = subst Waits (sym c.self-2.view_is) c.loop-group.invariant.waits in

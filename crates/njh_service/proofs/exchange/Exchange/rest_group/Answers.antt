@@ -1,6 +1,7 @@
 use Rattle.std.proofs.Common.{◌≡◌, length, ap, arith}
 use Rattle.std.proofs.lemmas.List.{length-map}
 use Rattle.njh_service.specs.declared.attention.Watch.{Watch}
+use Rattle.njh_service.specs.Watching.{served_line}
 use Rattle.njh_service.specs.declared.post.Post.{Post}
 use Rattle.njh_service.proofs.GroupLaws.{first_of_group, group_rests}
 use Rattle.njh_service.proofs.exchange.Exchange.rest_group.Goals as goal
@@ -22,7 +23,7 @@ invariant_of-self g c =
 pub returns-then-group-len-clause-first : goal.returns-then-group-len-clause-first
 returns-then-group-len-clause-first g c = λ place within before.
     let many = length-map c.self.inside.posts.items
-    (λ (post : Post g.row.N-Listener.Denot g.row.N-Connection.Denot). post.line) in
+    (λ (post : Post g.row.N-Listener.Denot g.row.N-Connection.Denot). served_line g.N.Network.address_of post) in
     first_of_group (length c.self.inside.posts.items) c.self.inside.watches.items c.deref.result.now c.args.group _ _ _
     c.first_moment-moment.result c.deref.ensures.value c.places_of-first.ensures.first c.places_of-first.ensures.end
     (omega (arith, c.self.invariant.many_watches)) c.self.invariant.many_watches c.first_moment-moment.ensures place

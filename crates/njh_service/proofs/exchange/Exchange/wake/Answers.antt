@@ -1,5 +1,6 @@
 use Rattle.std.proofs.Common.{arith, ◌∙◌}
 use Rattle.std.proofs.lemmas.List.{length-map}
+use Rattle.njh_service.specs.Watching.{served_line}
 use Rattle.njh_service.specs.declared.post.Post.{Post}
 use Rattle.njh_service.proofs.GroupLaws.{waits_less}
 use Rattle.njh_service.proofs.exchange.Exchange.wake.Goals as goal
@@ -16,6 +17,6 @@ invariant_of-self g c =
 pub returns-clause-waits : goal.returns-clause-waits
 returns-clause-waits g c = λ place before.
     let many = length-map c.self.inside.posts.items
-    (λ (post : Post g.row.N-Listener.Denot g.row.N-Connection.Denot). post.line) in
+    (λ (post : Post g.row.N-Listener.Denot g.row.N-Connection.Denot). served_line g.N.Network.address_of post) in
     let early = c.self.invariant.waits place (omega (arith, before, many)) in
     omega (arith, early, c.min-self-inside.ensures)
