@@ -23,7 +23,8 @@ abbrev pub keeper_opens : {S : Type 0} → Ghosts S → (before behind : Keeping
 keeper_opens g before behind table parts =
     IsOpenedFrom g before behind table parts × IsSettledFrom g before behind table parts
 
--- The lines of the tables that the bytes of a file gave were served over a keeper that has the spool of this spool file.
+-- The lines of the tables that the bytes of a file gave were served over a keeper that has the spool of this spool
+-- file.
 pub record AreServedOver {S : Type 0} (g : Ghosts S) (found : SpoolContents → Type 0) (store : Shelf S) (file : Text)
     (turns : Option ℕ) : Type 0 where
   pub tables : TableFile

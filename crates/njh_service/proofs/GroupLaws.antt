@@ -7,7 +7,8 @@ use Rattle.std.proofs.lemmas.List.{get_or-set_same, get_or-set_other, get_or_rea
 use Rattle.std.proofs.lemmas.List.{length-append, get_or_append_left}
 use Rattle.njh_wire.specs.declared.network.Readiness.{Readiness}
 use Rattle.njh_service.specs.declared.attention.Watch.{Watch}
-use Rattle.njh_service.specs.Attention.{at_once, mark_at, nothing, watch_at, IsAnyMarked, IsFirstMoment, IsInGroup, IsWanted}
+use Rattle.njh_service.specs.Attention.{at_once, mark_at, nothing, watch_at, IsAnyMarked, IsFirstMoment, IsInGroup}
+use Rattle.njh_service.specs.Attention.{IsWanted}
 use Rattle.njh_service.specs.Watching.{AreGrouped, HasBegun}
 use Rattle.njh_service.proofs.RoundLaws.{idle_begun, past_begun}
 

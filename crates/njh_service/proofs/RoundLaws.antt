@@ -99,8 +99,8 @@ past_begun now place r w past_r past_w =
 pub idle_begun : (now : ℕ) (mark : Readiness) (watch : Watch) → ¬ IsMarked mark → now < watch.moment
     → HasBegun now mark mark watch watch
 idle_begun now mark watch unmarked later = record {
-  due = λ due. absurd (⊎_elim unmarked (λ (came : watch.moment ≤ now). let none : ⊥ = omega (arith, later, came) in none)
-      due);
+  due = λ due. absurd (⊎_elim unmarked (λ (came : watch.moment ≤ now).
+      let none : ⊥ = omega (arith, later, came) in none) due);
   only = λ looked. inr looked;
   unmarked = unmarked;
   moment = refl;

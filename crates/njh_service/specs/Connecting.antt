@@ -35,7 +35,8 @@ keeps_line is_connected is_up since now = is_connected && (is_up || nat_lt (now 
 abbrev pub IsBarred : Label → (now : ℕ) → Type 0
 IsBarred label now = now < label.barred_until
 
--- A line that keeps its connection has its listener looked at once those ten seconds are over; while the session is up, not at all
+-- A line that keeps its connection has its listener looked at once those ten seconds are over; while the session is
+-- up, not at all.
 abbrev pub kept_until : (is_up : Bool) → (since : ℕ) → ℕ
 kept_until true since = 18446744073709551615
 kept_until false since = min (since + 10000) 18446744073709551615

@@ -2,6 +2,7 @@
 
 ghost use Rattle.std.specs.Prelude.{◌≡◌, ◌<◌, ◌≤◌, ◌⊎◌, None, false, IsSome, IsTrue};
 ghost use Rattle.njh_wire.specs.Standing.{after_admission, after_displacement};
+ghost use Rattle.njh_wire.specs.Tally.{tally};
 ghost use Rattle.njh_service.specs.Connecting.{answer_of, end_event, keeps_line, kept_until, listens_again};
 ghost use Rattle.njh_service.specs.Connecting.{told_connected, IsBarred, KeepsLine};
 ghost use Rattle.njh_service.specs.Logging.{IsLogged};
@@ -58,7 +59,7 @@ impl<N: Network + Drop, L: Write + Drop> Desk<N, L> {
         wire: &mut LineWire<N::Connection>,
     ) -> u64
         ensures counts { wire.old.failures ≤ wire.new.failures }
-        ensures place { wire.new.place ≡ wire.old.place }
+        ensures tally { tally wire.new ≡ tally wire.old }
         ensures clock { wire.new.clock ≡ wire.old.clock }
         ensures now { self.new.now ≡ self.old.now }
         ensures address { N.address_of listener.new ≡ N.address_of listener.old }
@@ -90,7 +91,7 @@ impl<N: Network + Drop, L: Write + Drop> Desk<N, L> {
         wire: &mut LineWire<N::Connection>,
     ) -> Admission
         ensures counts { wire.old.failures ≤ wire.new.failures }
-        ensures place { wire.new.place ≡ wire.old.place }
+        ensures tally { tally wire.new ≡ tally wire.old }
         ensures clock { wire.new.clock ≡ wire.old.clock }
         ensures now { self.new.now ≡ self.old.now }
         ensures address { N.address_of listener.new ≡ N.address_of listener.old }
@@ -122,7 +123,7 @@ impl<N: Network + Drop, L: Write + Drop> Desk<N, L> {
         event: LogEvent,
     )
         ensures counts { wire.old.failures ≤ wire.new.failures }
-        ensures place { wire.new.place ≡ wire.old.place }
+        ensures tally { tally wire.new ≡ tally wire.old }
         ensures clock { wire.new.clock ≡ wire.old.clock }
         ensures now { self.new.now ≡ self.old.now }
         ensures taken { N.Connection.place_of connection ≡ wire.old.place →
@@ -153,7 +154,7 @@ impl<N: Network + Drop, L: Write + Drop> Desk<N, L> {
         wire: &mut LineWire<N::Connection>,
     )
         ensures counts { wire.old.failures ≤ wire.new.failures }
-        ensures place { wire.new.place ≡ wire.old.place }
+        ensures tally { tally wire.new ≡ tally wire.old }
         ensures clock { wire.new.clock ≡ wire.old.clock }
         ensures now { self.new.now ≡ self.old.now }
         ensures address { dial.new.address ≡ dial.old.address }

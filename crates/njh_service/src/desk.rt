@@ -5,6 +5,7 @@ ghost use Rattle.njh_hub.specs.Quiets.{quiet_on};
 ghost use Rattle.njh_hub.specs.Views.{HasGivenUp, hub_line, line_view};
 ghost use Rattle.njh_hub.specs.WholeHub.{HasLine};
 ghost use Rattle.njh_wire.specs.Standing.{due};
+ghost use Rattle.njh_wire.specs.Tally.{tally};
 ghost use Rattle.njh_service.specs.Attention.{again_at, first_of, stalled_at, IsDue, IsMarked};
 ghost use Rattle.njh_service.specs.Logging.{IsLogged};
 ghost use Rattle.njh_service.specs.News.{news_moment, IsTold};
@@ -69,7 +70,7 @@ impl<N: Network + Drop, L: Write + Drop> Desk<N, L> {
         ensures clock { IsTrue watch.new.is_due → wire.new.clock ≡ self.old.now }
         ensures still { ¬ IsTrue watch.new.is_due → wire.new ≡ wire.old }
         ensures counts { wire.old.failures ≤ wire.new.failures }
-        ensures place { wire.new.place ≡ wire.old.place }
+        ensures tally { tally wire.new ≡ tally wire.old }
         ensures line { post.new.line ≡ post.old.line }
         ensures site { site_kept N.address_of post.new.site ≡ site_kept N.address_of post.old.site }
         ensures now { self.new.now ≡ self.old.now }
@@ -95,7 +96,7 @@ impl<N: Network + Drop, L: Write + Drop> Desk<N, L> {
         mark: Readiness,
     )
         ensures counts { wire.old.failures ≤ wire.new.failures }
-        ensures place { wire.new.place ≡ wire.old.place }
+        ensures tally { tally wire.new ≡ tally wire.old }
         ensures clock { wire.new.clock ≡ wire.old.clock }
         ensures line { post.new.line ≡ post.old.line }
         ensures site { site_kept N.address_of post.new.site ≡ site_kept N.address_of post.old.site }
@@ -122,9 +123,9 @@ impl<N: Network + Drop, L: Write + Drop> Desk<N, L> {
         post.linked = post.linked || wire.is_connected();
     }
 
-    /// Ends the connection of a line whose session gave up, or refused a sign-on, and tells what changed, if something
-    /// came, or the line was quiet or prompted. Sets how long the line's next quiet lasts, and
-    /// notes how the line is. Answers when it wants to be looked at.
+    /// Ends the connection of a line whose session gave up, or refused a sign-on, and tells what
+    /// changed, if something came, or the line was quiet or prompted. Sets how long the line's next
+    /// quiet lasts, and notes how the line is. Answers when it wants to be looked at.
     pub(crate) fn apply_session(
         &mut self,
         post: &mut Post<N::Listener, N::Connection>,
@@ -132,7 +133,7 @@ impl<N: Network + Drop, L: Write + Drop> Desk<N, L> {
         wire: &mut LineWire<N::Connection>,
     ) -> u64
         ensures counts { wire.old.failures ≤ wire.new.failures }
-        ensures place { wire.new.place ≡ wire.old.place }
+        ensures tally { tally wire.new ≡ tally wire.old }
         ensures line { post.new.line ≡ post.old.line }
         ensures site { site_kept N.address_of post.new.site ≡ site_kept N.address_of post.old.site }
         ensures told { IsTold post.new.label.news self.old.now }
@@ -160,7 +161,7 @@ impl<N: Network + Drop, L: Write + Drop> Desk<N, L> {
         wire: &mut LineWire<N::Connection>,
     )
         ensures counts { wire.old.failures ≤ wire.new.failures }
-        ensures place { wire.new.place ≡ wire.old.place }
+        ensures tally { tally wire.new ≡ tally wire.old }
         ensures line { post.new.line ≡ post.old.line }
         ensures site { site_kept N.address_of post.new.site ≡ site_kept N.address_of post.old.site }
         ensures told { IsTold post.new.label.news self.old.now }
@@ -212,7 +213,7 @@ impl<N: Network + Drop, L: Write + Drop> Desk<N, L> {
 fn set_quiet<C: Connection + Drop>(id: LineId, hub: &Hub, wire: &mut LineWire<C>)
     ensures quiet { HasLine hub.now id → wire.new.quiet ≡ quiet_on id hub.now }
     ensures counts { wire.old.failures ≤ wire.new.failures }
-    ensures place { wire.new.place ≡ wire.old.place }
+    ensures tally { tally wire.new ≡ tally wire.old }
     ensures kept { wire.new.connection ≡ wire.old.connection }
 {
     if let Ok(session) = hub.session(id) {

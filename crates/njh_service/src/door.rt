@@ -2,6 +2,7 @@
 
 ghost use Rattle.std.specs.Prelude.{◌≡◌, ◌≢◌, ◌≤◌, Err, None, Some, IfErr, IfOk, IfSome, IsOk, IsSome, IsTrue, false};
 ghost use Rattle.std.specs.declared.net.socket_addr.SocketAddr.{SocketAddr};
+ghost use Rattle.njh_wire.specs.Tally.{tally};
 ghost use Rattle.njh_service.specs.Doors.{begin_event, cause_in, door_address, to_try};
 ghost use Rattle.njh_service.specs.Doors.{IsLookedAtAgain, IsTried};
 ghost use Rattle.njh_service.specs.Logging.{IsLogged};
@@ -144,7 +145,7 @@ impl<N: Network + Drop, L: Write + Drop> Desk<N, L> {
         wire: &mut LineWire<N::Connection>,
     ) -> u64
         ensures counts { wire.old.failures ≤ wire.new.failures }
-        ensures place { wire.new.place ≡ wire.old.place }
+        ensures tally { tally wire.new ≡ tally wire.old }
         ensures clock { wire.new.clock ≡ wire.old.clock }
         ensures now { self.new.now ≡ self.old.now }
         ensures address { door_address N.address_of door.new ≡ door_address N.address_of door.old }

@@ -1,11 +1,12 @@
 //! The attendant of a service.
 
-ghost use Rattle.std.specs.Prelude.{◌≡◌, ℕ, ◌+◌, ◌*◌, ◌<◌, ◌≤◌, ◌↔◌, ◌∷◌, ◌++◌, [], length, min, IsTrue, Some, slice_get};
-ghost use Rattle.std.specs.Prelude.{◌≢◌, false, OnOk, OnErr};
+ghost use Rattle.std.specs.Prelude.{◌≡◌, ℕ, ◌+◌, ◌*◌, ◌<◌, ◌≤◌, ◌↔◌, ◌∷◌, ◌++◌, [], length, min, IsTrue, Some};
+ghost use Rattle.std.specs.Prelude.{◌≢◌, false, slice_get, OnOk, OnErr};
 ghost use Rattle.njh_turns.specs.Service.{AreStill};
 ghost use Rattle.njh_hub.specs.Quiets.{quiet_on};
 ghost use Rattle.njh_hub.specs.Views.{HasGivenUp, hub_line, line_view};
 ghost use Rattle.njh_hub.specs.WholeHub.{HasLine};
+ghost use Rattle.njh_wire.specs.Tally.{tally, IsTallied};
 ghost use Rattle.njh_service.specs.Opened.{site_opened};
 ghost use Rattle.njh_service.specs.Prompting.{IsPrompted};
 ghost use Rattle.njh_service.specs.Attention.{at_once, mark_at, watch_at, IsAnyMarked, IsInGroup};
@@ -140,7 +141,7 @@ impl<N: Network + Drop, L: Write + Drop, S: TableSource + Drop> Exchange<N, L, S
 
     /// Waits until a line is ready or due, and looks at each that is.
     pub(crate) fn begin_round(&mut self, wires: &mut [LineWire<N::Connection>])
-        ensures still { AreStill (λ a b acts. a.place ≡ b.place) (λ wire. wire.failures) wires.old wires.new }
+        ensures still { AreStill IsTallied (λ wire. wire.failures) wires.old wires.new }
         ensures lines { self.new.lines ≡ self.old.lines }
         ensures begun { IsRoundBegun (min (length self.old.lines) (length wires.old)) self.old self.new }
     {
@@ -161,7 +162,7 @@ impl<N: Network + Drop, L: Write + Drop, S: TableSource + Drop> Exchange<N, L, S
 
     /// Looks at each line of which something is ready, or whose moment came.
     fn begin_groups(&mut self, wires: &mut [LineWire<N::Connection>])
-        ensures still { AreStill (λ a b acts. a.place ≡ b.place) (λ wire. wire.failures) wires.old wires.new }
+        ensures still { AreStill IsTallied (λ wire. wire.failures) wires.old wires.new }
         ensures lines { self.new.lines ≡ self.old.lines }
         ensures now { self.new.now ≡ self.old.now }
         ensures begun { (place : ℕ) → place < min (length self.old.lines) (length wires.old) →
@@ -197,7 +198,7 @@ impl<N: Network + Drop, L: Write + Drop, S: TableSource + Drop> Exchange<N, L, S
 
     /// Looks at the lines of a group, if something of one is ready or the moment of one came.
     fn begin_group(&mut self, group: usize, wires: &mut [LineWire<N::Connection>])
-        ensures still { AreStill (λ a b acts. a.place ≡ b.place) (λ wire. wire.failures) wires.old wires.new }
+        ensures still { AreStill IsTallied (λ wire. wire.failures) wires.old wires.new }
         ensures lines { self.new.lines ≡ self.old.lines }
         ensures now { self.new.now ≡ self.old.now }
         ensures begun { HaveBegun self.old.now (min (16 * group) (length wires.old))
@@ -217,7 +218,7 @@ impl<N: Network + Drop, L: Write + Drop, S: TableSource + Drop> Exchange<N, L, S
     /// then.
     fn begin(&mut self, place: usize, wire: &mut LineWire<N::Connection>)
         ensures counts { wire.old.failures ≤ wire.new.failures }
-        ensures place { wire.new.place ≡ wire.old.place }
+        ensures tally { tally wire.new ≡ tally wire.old }
         ensures lines { self.new.lines ≡ self.old.lines }
         ensures now { self.new.now ≡ self.old.now }
         ensures begun { HaveBegun self.old.now place (place + 1) self.old.ready self.new.ready self.old.watches
@@ -258,7 +259,7 @@ impl<N: Network + Drop, L: Write + Drop, S: TableSource + Drop> Exchange<N, L, S
     /// connection whose session gave up, and tells what changed. Then has those lines looked at in
     /// the next round to which others of their customers gave something to send.
     pub(crate) fn end_round(&mut self, hub: &Hub, wires: &mut [LineWire<N::Connection>])
-        ensures still { AreStill (λ a b acts. a.place ≡ b.place) (λ wire. wire.failures) wires.old wires.new }
+        ensures still { AreStill IsTallied (λ wire. wire.failures) wires.old wires.new }
         ensures lines { self.new.lines ≡ self.old.lines }
         ensures waits { (place : ℕ) → place < length self.new.lines →
             self.new.next ≤ (watch_at self.new.watches place).moment }
@@ -275,7 +276,7 @@ impl<N: Network + Drop, L: Write + Drop, S: TableSource + Drop> Exchange<N, L, S
     /// Ends the round of a group's lines, if one was looked at. Answers when one wants to be
     /// looked at next.
     fn end_group(&mut self, group: usize, hub: &Hub, wires: &mut [LineWire<N::Connection>]) -> u64
-        ensures still { AreStill (λ a b acts. a.place ≡ b.place) (λ wire. wire.failures) wires.old wires.new }
+        ensures still { AreStill IsTallied (λ wire. wire.failures) wires.old wires.new }
         ensures lines { self.new.lines ≡ self.old.lines }
         ensures first { (place : ℕ) → IsInGroup place group → place < length self.new.lines →
             result ≤ (watch_at self.new.watches place).moment }
@@ -321,7 +322,7 @@ impl<N: Network + Drop, L: Write + Drop, S: TableSource + Drop> Exchange<N, L, S
     /// Lets out what waits on a line that was looked at, and does what its session asks for.
     fn end(&mut self, place: usize, hub: &Hub, wire: &mut LineWire<N::Connection>)
         ensures counts { wire.old.failures ≤ wire.new.failures }
-        ensures place { wire.new.place ≡ wire.old.place }
+        ensures tally { tally wire.new ≡ tally wire.old }
         ensures lines { self.new.lines ≡ self.old.lines }
         ensures others { (other : ℕ) → other ≢ place →
             watch_at self.new.watches other ≡ watch_at self.old.watches other }
@@ -357,7 +358,7 @@ impl<N: Network + Drop, L: Write + Drop, S: TableSource + Drop> Exchange<N, L, S
     /// wants to be looked at.
     fn apply_session(&mut self, place: usize, hub: &Hub, wire: &mut LineWire<N::Connection>) -> u64
         ensures counts { wire.old.failures ≤ wire.new.failures }
-        ensures place { wire.new.place ≡ wire.old.place }
+        ensures tally { tally wire.new ≡ tally wire.old }
         ensures lines { self.new.lines ≡ self.old.lines }
         ensures watches { self.new.watches ≡ self.old.watches }
         ensures kept { (line : ServedLine) → (seen : ℕ) → slice_get self.old.lines place ≡ Some line →

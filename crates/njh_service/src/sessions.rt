@@ -5,6 +5,7 @@ ghost use Rattle.njh_hub.specs.Resting.{IsResting};
 ghost use Rattle.njh_hub.specs.Views.{HasGivenUp, hub_line, line_view};
 ghost use Rattle.njh_hub.specs.WholeHub.{HasLine};
 ghost use Rattle.njh_wire.specs.Standing.{after_close};
+ghost use Rattle.njh_wire.specs.Tally.{tally};
 ghost use Rattle.njh_service.specs.Connecting.{silence_of, IsConnected};
 ghost use Rattle.njh_service.specs.Dialling.{moment_of_loss};
 ghost use Rattle.njh_service.specs.Logging.{IsLogged};
@@ -47,7 +48,7 @@ impl<N: Network + Drop, L: Write + Drop> Desk<N, L> {
         wire: &mut LineWire<N::Connection>,
     )
         ensures counts { wire.old.failures ≤ wire.new.failures }
-        ensures place { wire.new.place ≡ wire.old.place }
+        ensures tally { tally wire.new ≡ tally wire.old }
         ensures line { post.new.line ≡ post.old.line }
         ensures site { site_kept N.address_of post.new.site ≡ site_kept N.address_of post.old.site }
         ensures moment { HasLine hub.now post.old.line →
@@ -92,7 +93,7 @@ impl<N: Network + Drop, L: Write + Drop> Desk<N, L> {
         ensures why { IfSome result (λ end.
             end ≡ tries_end label.now.tries_since (silence_of wire.old) self.entry.now.now wire.old.last_bytes) }
         ensures counts { wire.old.failures ≤ wire.new.failures }
-        ensures place { wire.new.place ≡ wire.old.place }
+        ensures tally { tally wire.new ≡ tally wire.old }
         ensures closed { IsSome result → wire.new ≡ after_close wire.old }
         ensures kept { result ≡ None → wire.new ≡ wire.old }
     {
@@ -120,7 +121,7 @@ impl<N: Network + Drop, L: Write + Drop> Desk<N, L> {
         ensures kept { ¬ IsTrue result → (wire.new ≡ wire.old) × ((label.new ≡ label.old) × (self.new ≡ self.old)) }
         ensures now { self.new.now ≡ self.old.now }
         ensures counts { wire.old.failures ≤ wire.new.failures }
-        ensures place { wire.new.place ≡ wire.old.place }
+        ensures tally { tally wire.new ≡ tally wire.old }
     {
         if !label.has_refused(session) {
             return false;
@@ -150,7 +151,7 @@ impl<N: Network + Drop, L: Write + Drop> Desk<N, L> {
 /// its session gave up, or as a sign-on was refused.
 fn heard_end<C: Connection + Drop>(wire: &mut LineWire<C>, gave_up: bool) -> Option<ConnectionEnd>
     ensures counts { wire.old.failures ≤ wire.new.failures }
-    ensures place { wire.new.place ≡ wire.old.place }
+    ensures tally { tally wire.new ≡ tally wire.old }
     ensures kept { wire.new.connection ≡ wire.old.connection }
     ensures connected { IsConnected wire.old → (result ≡ None) × (wire.new ≡ wire.old) }
     ensures waits { ¬ IsTrue gave_up → IsReady wire.old → (result ≡ None) × (wire.new ≡ wire.old) }

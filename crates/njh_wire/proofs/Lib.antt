@@ -1,3 +1,4 @@
 pub mod MovedLaws
 pub mod WithheldLaws
 pub mod PromptLaws
+pub mod TallyLaws

@@ -85,10 +85,10 @@ received_withholds moved stops s bytes new received =
     (stop_withholds moved received.stop _))
 
 -- something may be there to read, or not
-abbrev Opens : {C : Type 0} → Option C → Bool → Option Parting → Type 0
+abbrev pub Opens : {C : Type 0} → Option C → Bool → Option Parting → Type 0
 Opens connection readable parting = IsSome connection × IsTrue readable × (parting ≡ None)
 
-open_or_shut : {C : Type 0} (connection : Option C) (readable : Bool) (parting : Option Parting) →
+pub open_or_shut : {C : Type 0} (connection : Option C) (readable : Bool) (parting : Option Parting) →
     Opens connection readable parting ⊎ ¬ Opens connection readable parting
 open_or_shut (Some c) true None = inl (refl, refl, refl)
 open_or_shut None readable parting = inr (λ opens. absurd (cc opens.0))

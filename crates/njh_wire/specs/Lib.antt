@@ -1,6 +1,7 @@
 pub mod Moved
 pub mod Standing
 pub mod Places
+pub mod Tally
 pub mod Readings
 pub mod Withheld
 pub mod code

@@ -35,6 +35,9 @@ pub record Standing (C : Type 0) : Type 0 where
   -- why the last connection ended
   pub end : Option ConnectionEnd
   pub failures : ℕ
+  -- how many bytes its reads answered, and how many of frames it took to send
+  pub came : ℕ
+  pub went : ℕ
 
 -- when a quiet is due if nothing comes
 abbrev pub due : {C : Type 0} → Standing C → ℕ
@@ -57,6 +60,8 @@ first_standing place = record {
   last_bytes = record { before = 0; last = 0 };
   end = None;
   failures = 0;
+  came = 0;
+  went = 0;
 }
 
 -- A connection, or none, is there anew: nothing waits, and its silence begins now.
@@ -112,13 +117,23 @@ last_bytes_after bytes earlier = record {
   last = slice_index_or bytes (length bytes - 1) 0;
 }
 
+-- a count, and these bytes more; it stays at the greatest value that it has
+abbrev pub plus_bytes : ℕ → List ℕ → ℕ
+plus_bytes count bytes = min (count + length bytes) 18446744073709551615
+
 -- these bytes came now
 abbrev pub hearing : {C : Type 0} → List ℕ → Standing C → Standing C
-hearing bytes s = record s { begun = s.clock; heard = s.clock; last_bytes = last_bytes_after bytes s.last_bytes }
+hearing bytes s = record s {
+  begun = s.clock;
+  heard = s.clock;
+  last_bytes = last_bytes_after bytes s.last_bytes;
+  came = plus_bytes s.came bytes;
+}
 
 -- a frame waits behind what waited, since now where nothing did
 abbrev pub keeping : {C : Type 0} → List ℕ → Standing C → Standing C
 keeping frame s = record s {
   waiting = s.waiting ++ frame;
   since = if length s.waiting == 0 then s.clock else s.since;
+  went = plus_bytes s.went frame;
 }

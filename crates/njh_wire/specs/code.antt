@@ -1,3 +1,3 @@
 -- What only bodies and proofs speak of.
-pub mod PlaceLaws
+pub mod TallyLaws
 pub mod WithheldLaws

@@ -3,6 +3,7 @@
 
 mod calls;
 mod connection;
+mod counts;
 mod end;
 mod last_bytes;
 mod line_wire;

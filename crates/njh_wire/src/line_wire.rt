@@ -1,9 +1,9 @@
 //! The wire of a line, over connections that never wait.
 
-ghost use Rattle.std.specs.Prelude.{◌≡◌, ◌+◌, ◌-◌, ◌<◌, ◌≤◌, [], length, min, IsTrue, ◌↔◌, ◌⊎◌, ⊤, true, None, IsSome};
-ghost use Rattle.std.specs.Prelude.{IsOk, OnOk, OnErr, IfOk, Ok};
+ghost use Rattle.std.specs.Prelude.{◌≡◌, ◌+◌, ◌-◌, ◌<◌, ◌≤◌, [], ◌∷◌, length, min, IsTrue, ◌↔◌, ◌⊎◌, ⊤, true, None};
+ghost use Rattle.std.specs.Prelude.{IsOk, IsSome, OnOk, OnErr, IfOk, Ok};
 ghost use Rattle.njh_hub.specs.Sent.{IsCounted};
-ghost use Rattle.njh_turns.specs.Wires.{IsReading};
+ghost use Rattle.njh_turns.specs.Wires.{Sent, Unsent, answer_acts, heard_of, IsReading};
 ghost use Rattle.njh_wire.specs.declared.end.ConnectionEnd.TheVariants.{Failed};
 ghost use Rattle.njh_wire.specs.Standing.{first_standing, with_connection, without_connection, with_failure, given_up};
 ghost use Rattle.njh_wire.specs.Standing.{due};
@@ -18,6 +18,7 @@ mod writing;
 
 use crate::calls::send_on;
 use crate::connection::Connection;
+use crate::counts::Counts;
 use crate::end::{ConnectionEnd, Parting};
 use crate::last_bytes::LastBytes;
 use crate::outbox::{Outbox, ROOM};
@@ -46,7 +47,7 @@ pub struct LineWire<C: Connection + Drop> {
     clock: u64,
     silence: Silence,
     end: Option<ConnectionEnd>,
-    failures: u64,
+    counts: Counts,
 }
 
 impl<C: Connection + Drop> Model for LineWire<C> {
@@ -70,7 +71,9 @@ impl<C: Connection + Drop> Model for LineWire<C> {
       heard = wire.silence.heard;
       last_bytes = wire.silence.last_bytes;
       end = wire.end;
-      failures = wire.failures;
+      failures = wire.counts.failures;
+      came = wire.counts.came;
+      went = wire.counts.went;
     } };
 
     ghost invariant = { λ wire. IsAt wire.place (option_map C.place_of wire.connection)
@@ -99,7 +102,11 @@ impl<C: Connection + Drop> LineWire<C> {
                 last_bytes: LastBytes { before: 0, last: 0 },
             },
             end: None,
-            failures: 0,
+            counts: Counts {
+                failures: 0,
+                came: 0,
+                went: 0,
+            },
         })
     }
 
@@ -281,7 +288,7 @@ impl<C: Connection + Drop> LineWire<C> {
         ensures counts { self.old.failures ≤ self.new.failures }
         ensures counted { IsCounted self.old.failures self.new.failures }
     {
-        self.failures = self.failures.saturating_add(1);
+        self.counts.failures = self.counts.failures.saturating_add(1);
     }
 
     /// Whether something may be there to read and no end is to be told.
@@ -305,33 +312,33 @@ impl<C: Connection + Drop> LineWire<C> {
 
 impl<C: Connection + Drop> Wire for LineWire<C> {
     ghost use Rattle.std.specs.Prelude.{refl};
-    ghost use Rattle.njh_wire.specs.code.PlaceLaws.{same_then};
+    ghost use Rattle.njh_wire.specs.Tally.{IsTallied};
+    ghost use Rattle.njh_wire.specs.code.TallyLaws.{tallied_then};
     ghost use Rattle.njh_wire.specs.code.WithheldLaws.{withheld_then};
     ghost use Rattle.njh_wire.specs.Withheld.{IsWithheld, nothing};
 
-    // What passes is in the clauses of `read` and `write`; here, that it stays the wire of its
-    // line.
+    // Of what passed it says how many bytes; which they are is in the clauses of `read` and `write`.
     ghost says = { record {
-      passed = λ before after acts. before.place ≡ after.place;
+      passed = λ before after acts. IsTallied before after acts;
       withheld = λ before after. IsWithheld C.moved before after;
       count = λ wire. wire.failures;
     } };
 
     ghost none = { λ s. refl };
 
-    ghost more = { λ a b c xs ys first then. same_then first then };
+    ghost more = { λ a b c xs ys first then. tallied_then a b c xs ys first then };
 
     ghost withheld_none = { λ s. nothing s };
 
     ghost withheld_more = { λ a b c first then. withheld_then C.moved first then };
 
     fn failures(&self) -> u64 {
-        self.failures
+        self.counts.failures
     }
 
     fn read(&mut self, into: &mut [u8], is_prompted: bool) -> Result<Reading, WireFault>
         requires { 0 < length into.old }
-        ensures answered { self.old.place ≡ self.new.place }
+        ensures answered { IsTallied self.old self.new (answer_acts (heard_of result into.new)) }
         ensures prompted { result ≡ Ok Reading.Prompted → IsTrue is_prompted }
         ensures withheld { IsWithheld C.moved self.old self.new }
         ensures waits { 0 < length self.old.waiting → IsWait self.old result self.new }
@@ -348,8 +355,8 @@ impl<C: Connection + Drop> Wire for LineWire<C> {
     }
 
     fn write(&mut self, frame: &[u8]) -> Result<(), WireFault>
-        ensures ok { OnOk result (self.old.place ≡ self.new.place) }
-        ensures err { OnErr result (self.old.place ≡ self.new.place) }
+        ensures ok { OnOk result (IsTallied self.old self.new (Sent frame.now ∷ [])) }
+        ensures err { OnErr result (IsTallied self.old self.new (Unsent frame.now ∷ [])) }
         ensures withheld { IsWithheld C.moved self.old self.new }
         ensures written { OnOk result (IsWritten self.old frame.now self.new) }
         ensures failed { OnErr result (self.new ≡ given_up Failed self.old) }

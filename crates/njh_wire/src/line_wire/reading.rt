@@ -17,7 +17,6 @@ impl<C: Connection + Drop> LineWire<C> {
     /// What it answers while bytes wait to go out.
     pub(super) fn wait_to_send(&mut self) -> Result<Reading, WireFault>
         ensures answer { IsWait self.old result self.new }
-        ensures place { self.new.place ≡ self.old.place }
         ensures counts { self.old.failures ≤ self.new.failures }
         ensures counted { OnErr result (IsCounted self.old.failures self.new.failures) }
     {
@@ -37,7 +36,6 @@ impl<C: Connection + Drop> LineWire<C> {
         requires { 0 < length into.old }
         ensures read { IsRead C.moved C.stops self.old is_prompted result into.new self.new }
         ensures within { IfOk result (IsReading (length into.new)) }
-        ensures place { self.new.place ≡ self.old.place }
         ensures counts { self.old.failures ≤ self.new.failures }
         ensures counted { OnErr result (IsCounted self.old.failures self.new.failures) }
     {
@@ -54,7 +52,6 @@ impl<C: Connection + Drop> LineWire<C> {
     /// What it answers where nothing came of reading.
     fn answer(&mut self, is_prompted: bool) -> Result<Reading, WireFault>
         ensures answer { IsAnswer self.old is_prompted result self.new }
-        ensures place { self.new.place ≡ self.old.place }
         ensures counts { self.old.failures ≤ self.new.failures }
         ensures counted { OnErr result (IsCounted self.old.failures self.new.failures) }
     {
@@ -75,7 +72,6 @@ impl<C: Connection + Drop> LineWire<C> {
     /// What it answers where nothing came.
     fn silence(&mut self, is_prompted: bool) -> Reading
         ensures answer { IsSilence self.old is_prompted result self.new }
-        ensures place { self.new.place ≡ self.old.place }
     {
         if self.connection.is_none() {
             return Reading::Absent;
@@ -97,7 +93,6 @@ impl<C: Connection + Drop> LineWire<C> {
         requires room { 0 < length into.old }
         ensures received { Receives C.moved C.stops self.old (take result into.new) self.new }
         ensures within { result ≤ length into.new }
-        ensures place { self.new.place ≡ self.old.place }
     {
         let (count, stop) = receive_on(&mut self.connection, into);
         self.stop(stop);
@@ -107,7 +102,6 @@ impl<C: Connection + Drop> LineWire<C> {
     /// Keeps why no more bytes came.
     fn stop(&mut self, stop: Stop)
         ensures stands { self.new ≡ after_stop stop self.old }
-        ensures place { self.new.place ≡ self.old.place }
     {
         match stop {
             Stop::Full => {}
@@ -123,7 +117,7 @@ impl<C: Connection + Drop> LineWire<C> {
         }
     }
 
-    /// These bytes came now.
+    /// These bytes came now, and count.
     fn hear(&mut self, bytes: &[u8])
         requires { 0 < length bytes.now }
         ensures { self.new ≡ hearing bytes.now self.old }
@@ -131,6 +125,7 @@ impl<C: Connection + Drop> LineWire<C> {
         self.silence.begun = self.clock;
         self.silence.heard = self.clock;
         self.silence.last_bytes = last_bytes_after(bytes, self.silence.last_bytes);
+        self.counts.came = self.counts.came.saturating_add(bytes.len() as u64);
     }
 }
 

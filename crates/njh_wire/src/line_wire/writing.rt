@@ -19,7 +19,7 @@ impl<C: Connection + Drop> LineWire<C> {
         self.connection.is_some() && self.keep(frame)
     }
 
-    /// Has a frame wait, if there is room for it, and answers whether there was.
+    /// Has a frame wait and counts its bytes, if there is room for it. Answers whether there was.
     fn keep(&mut self, frame: &[u8]) -> bool
         ensures fits { IsTrue result ↔ (length self.old.waiting + length frame.now ≤ ROOM) }
         ensures kept { IsTrue result → self.new ≡ keeping frame.now self.old }
@@ -34,6 +34,7 @@ impl<C: Connection + Drop> LineWire<C> {
             return false;
         }
         self.since = since;
+        self.counts.went = self.counts.went.saturating_add(frame.len() as u64);
         true
     }
 }

@@ -12,7 +12,8 @@ use Rattle.njh_service.proofs.exchange.Exchange.apply_session.Goals as goal
 
 pub returns-clause-lines : goal.returns-clause-lines
 returns-clause-lines g c =
-    lines_stay (λ (post : Post g.row.N-Listener.Denot g.row.N-Connection.Denot). served_line g.N.Network.address_of post)
+    lines_stay
+    (λ (post : Post g.row.N-Listener.Denot g.row.N-Connection.Denot). served_line g.N.Network.address_of post)
     c.self.inside.posts.items
     c.args.self.now.lines c.args.place c.in-Some.post.now c.apply_session.new.post
     (ap (λ (seen : Watched). seen.lines) c.self.view_is) c.in-Some.ensures.value

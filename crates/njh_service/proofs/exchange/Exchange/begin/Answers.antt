@@ -30,14 +30,16 @@ returns-clause-begun g c =
     (set c.self.inside.ready.items c.args.place c.begin.new.ready) seen.watches
     (set c.self.inside.watches.items c.args.place c.begin.new.watch) in
     subst P c.self.view_is (one_begun c.self.inside.desk.now c.args.place c.self.inside.ready.items
-    c.self.inside.watches.items c.index_mut-ready.result.now c.begin.new.ready c.index_mut-watch.result.now c.begin.new.watch
+    c.self.inside.watches.items c.index_mut-ready.result.now c.begin.new.ready c.index_mut-watch.result.now
+    c.begin.new.watch
     (omega (arith, c.if-len-place.false, c.self.invariant.many_marks))
     (omega (arith, c.if-len-place.false, c.self.invariant.many_watches)) c.index_mut-ready.ensures.value
     c.index_mut-watch.ensures.value c.begin.ensures.due c.begin.ensures.moment c.begin.ensures.unmarked)
 
 pub returns-clause-lines : goal.returns-clause-lines
 returns-clause-lines g c =
-    lines_stay (λ (post : Post g.row.N-Listener.Denot g.row.N-Connection.Denot). served_line g.N.Network.address_of post)
+    lines_stay
+    (λ (post : Post g.row.N-Listener.Denot g.row.N-Connection.Denot). served_line g.N.Network.address_of post)
     c.self.inside.posts.items
     c.args.self.now.lines c.args.place c.index_mut-post.result.now c.begin.new.post
     (ap (λ (seen : Watched). seen.lines) c.self.view_is) c.index_mut-post.ensures.value

@@ -1,7 +1,6 @@
 use Rattle.std.proofs.Common.{◌≡◌, ℕ, ◌+◌, ◌*◌, get_or, length, min, ap, ◌∙◌, sym, subst, arith, refl}
 use Rattle.std.specs.Prelude.{IsTrue}
 use Rattle.std.proofs.lemmas.Bool.{false≢true}
-use Rattle.njh_wire.specs.declared.line_wire.LineWire.{LineWire}
 use Rattle.njh_service.specs.Watching.{HaveBegun, Watched}
 use Rattle.njh_service.proofs.RoundLaws.{begun_after, none_begun}
 use Rattle.njh_service.proofs.StillLaws.{still_same, still_more}
@@ -9,8 +8,7 @@ use Rattle.njh_service.proofs.exchange.Exchange.begin_group.Goals as goal
 
 pub returns-then-not-wakes-clause-still : goal.returns-then-not-wakes-clause-still
 returns-then-not-wakes-clause-still g c =
-    still_same (λ (wire : LineWire g.row.N-Connection.Denot). wire.place)
-    (λ (wire : LineWire g.row.N-Connection.Denot). wire.failures) c.args.wires.now
+    still_same c.args.wires.now
 
 -- nothing was to be done
 pub returns-then-not-wakes-clause-begun : goal.returns-then-not-wakes-clause-begun
@@ -20,7 +18,9 @@ returns-then-not-wakes-clause-begun g c =
     HaveBegun c.args.self.now.now (min (16 * c.args.group) many) (min (16 * c.args.group + 16) many)
     c.args.self.now.ready seen.ready c.args.self.now.watches seen.watches in
     subst P (sym c.wakes.ensures.same) record {
-      each = λ p from before. c.wakes.ensures.idle (λ (wakes : IsTrue c.wakes.result). false≢true (sym c.if-not-wakes.true ∙ wakes)) p (omega (arith, from, before), omega (arith, from, before));
+      each = λ p from before. c.wakes.ensures.idle
+          (λ (wakes : IsTrue c.wakes.result). false≢true (sym c.if-not-wakes.true ∙ wakes)) p
+          (omega (arith, from, before), omega (arith, from, before));
       same_mark = λ p other. refl;
       same_watch = λ p other. refl;
     }
@@ -32,8 +32,7 @@ loop-place-init g c =
     let end = c.places_of-first.ensures.end in
     let P : Watched → Type 0 = λ seen. HaveBegun c.args.self.now.now c.places_of-first.result.0
     c.places_of-first.result.0 c.args.self.now.ready seen.ready c.args.self.now.watches seen.watches in record {
-      still = still_same (λ (wire : LineWire g.row.N-Connection.Denot). wire.place)
-          (λ (wire : LineWire g.row.N-Connection.Denot). wire.failures) c.args.wires.now;
+      still = still_same c.args.wires.now;
       lines = ap (λ (seen : Watched). seen.lines) same;
       now = ap (λ (seen : Watched). seen.now) same;
       begun = subst P (sym same) (none_begun c.args.self.now.now c.places_of-first.result.0 c.args.self.now.ready
@@ -46,13 +45,12 @@ loop-place-preserved g c =
     let now = c.loop-place.invariant.now in
     let P : ℕ → Type 0 = λ moment. HaveBegun moment c.loop-place.place (c.loop-place.place + 1) c.loop-place.self.ready
     c.begin.new.self.ready c.loop-place.self.watches c.begin.new.self.watches in record {
-      still = still_more (λ (wire : LineWire g.row.N-Connection.Denot). wire.place)
-          (λ (wire : LineWire g.row.N-Connection.Denot). wire.failures) c.args.wires.now c.loop-place.wires
+      still = still_more c.args.wires.now c.loop-place.wires
           c.loop-place.place (get_or c.loop-place.wires c.loop-place.place c.index-wires-place.result)
           c.begin.new.wire
           (omega (arith, c.loop-place-test.true, c.loop-place.auto.wires))
           (ap (get_or c.loop-place.wires c.loop-place.place) c.index-wires-place.is)
-          (sym c.begin.ensures.place) c.begin.ensures.counts c.loop-place.invariant.still;
+          (sym c.begin.ensures.tally) c.begin.ensures.counts c.loop-place.invariant.still;
       lines = c.begin.ensures.lines ∙ c.loop-place.invariant.lines;
       now = c.begin.ensures.now ∙ now;
       begun = begun_after c.args.self.now.now _ c.loop-place.place _ _ _ _ _ _ _

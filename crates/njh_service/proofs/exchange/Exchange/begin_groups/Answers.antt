@@ -1,6 +1,5 @@
 use Rattle.std.proofs.Common.{◌≡◌, ℕ, ◌+◌, ◌*◌, length, min, ◌∙◌, ap, sym, subst, arith, refl}
 use Rattle.std.proofs.lemmas.List.{length-map}
-use Rattle.njh_wire.specs.declared.line_wire.LineWire.{LineWire}
 use Rattle.njh_service.specs.Watching.{served_line, HaveBegun, Watched}
 use Rattle.njh_service.specs.declared.post.Post.{Post}
 use Rattle.njh_service.proofs.RoundLaws.{begun_after, none_begun}
@@ -9,8 +8,7 @@ use Rattle.njh_service.proofs.exchange.Exchange.begin_groups.Goals as goal
 
 pub loop-group-init : goal.loop-group-init
 loop-group-init g c = record {
-  still = still_same (λ (wire : LineWire g.row.N-Connection.Denot). wire.place)
-      (λ (wire : LineWire g.row.N-Connection.Denot). wire.failures) c.args.wires.now;
+  still = still_same c.args.wires.now;
   lines = refl;
   now = refl;
   begun = let none : 0 ≡ min (16 * 0) (length c.args.wires.now) = omega arith in
@@ -35,8 +33,7 @@ loop-group-preserved g c =
     (min (16 * c.loop-group.group + 16) (length c.loop-group.wires)) in
     let more = subst (P c.args.self.now.now (min (16 * c.loop-group.group) (length c.args.wires.now))) end
     (subst From from (subst At now c.begin_group.ensures.begun)) in record {
-      still = still_after (λ (wire : LineWire g.row.N-Connection.Denot). wire.place)
-          (λ (wire : LineWire g.row.N-Connection.Denot). wire.failures) c.args.wires.now c.loop-group.wires
+      still = still_after c.args.wires.now c.loop-group.wires
           c.begin_group.new.wires (sym wires) c.loop-group.invariant.still c.begin_group.ensures.still;
       lines = c.begin_group.ensures.lines ∙ c.loop-group.invariant.lines;
       now = c.begin_group.ensures.now ∙ now;

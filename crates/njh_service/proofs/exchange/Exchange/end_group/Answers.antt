@@ -1,5 +1,4 @@
 use Rattle.std.proofs.Common.{◌≢◌, get_or, ap, ◌∙◌, sym, arith}
-use Rattle.njh_wire.specs.declared.line_wire.LineWire.{LineWire}
 use Rattle.njh_service.specs.Attention.{watch_at}
 use Rattle.njh_service.specs.Watching.{Watched}
 use Rattle.njh_service.proofs.StillLaws.{still_more}
@@ -7,12 +6,11 @@ use Rattle.njh_service.proofs.exchange.Exchange.end_group.Goals as goal
 
 pub loop-place-preserved : goal.loop-place-preserved
 loop-place-preserved g c = record {
-  still = still_more (λ (wire : LineWire g.row.N-Connection.Denot). wire.place)
-      (λ (wire : LineWire g.row.N-Connection.Denot). wire.failures) c.args.wires.now c.loop-place.wires
+  still = still_more c.args.wires.now c.loop-place.wires
       c.loop-place.place (get_or c.loop-place.wires c.loop-place.place c.index-wires-place.result) c.end.new.wire
       (omega (arith, c.loop-place-test.true, c.loop-place.auto.wires))
       (ap (get_or c.loop-place.wires c.loop-place.place) c.index-wires-place.is)
-      (sym c.end.ensures.place) c.end.ensures.counts c.loop-place.invariant.still;
+      (sym c.end.ensures.tally) c.end.ensures.counts c.loop-place.invariant.still;
   lines = c.end.ensures.lines ∙ c.loop-place.invariant.lines;
   others = λ p other.
       let elsewhere : p ≢ c.loop-place.place = λ here. other (

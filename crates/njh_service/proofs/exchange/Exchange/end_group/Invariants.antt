@@ -1,12 +1,13 @@
 use Rattle.std.specs.Prelude.{◌≡◌, ℕ}
 use Rattle.njh_turns.specs.Service.{AreStill}
+use Rattle.njh_wire.specs.Tally.{IsTallied}
 use Rattle.njh_service.specs.Attention.{watch_at, IsInGroup}
 use Rattle.njh_service.proofs.exchange.Exchange.end_group.Given as goal
 
--- each wire is still that of its line, none failed less often, the lines are the same, and so are the others' watches
+-- nothing passed on a wire, none failed less often, the lines are the same, and so are the others' watches
 abbrev pub invariant-loop-place : goal.invariant-loop-place
 invariant-loop-place g l = record {
-  still : AreStill (λ a b acts. a.place ≡ b.place) (λ wire. wire.failures) l.fn.wires l.wires;
+  still : AreStill IsTallied (λ wire. wire.failures) l.fn.wires l.wires;
   lines : l.self.lines ≡ l.fn.self.lines;
   others : (p : ℕ) → ¬ IsInGroup p l.fn.group → watch_at l.self.watches p ≡ watch_at l.fn.self.watches p;
 }

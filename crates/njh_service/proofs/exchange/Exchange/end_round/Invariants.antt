@@ -1,13 +1,14 @@
 use Rattle.std.specs.Prelude.{◌≡◌, ℕ, ◌*◌, ◌<◌, ◌≤◌, length}
 use Rattle.njh_turns.specs.Service.{AreStill}
+use Rattle.njh_wire.specs.Tally.{IsTallied}
 use Rattle.njh_service.specs.Attention.{watch_at}
 use Rattle.njh_service.proofs.exchange.Exchange.end_round.Given as goal
 
--- each wire is still that of its line, none failed less often, the lines are the same, and none so far wants to be
+-- nothing passed on a wire, none failed less often, the lines are the same, and none so far wants to be
 -- looked at before the next moment
 abbrev pub invariant-loop-group : goal.invariant-loop-group
 invariant-loop-group g l = record {
-  still : AreStill (λ a b acts. a.place ≡ b.place) (λ wire. wire.failures) l.fn.wires l.wires;
+  still : AreStill IsTallied (λ wire. wire.failures) l.fn.wires l.wires;
   lines : l.self.lines ≡ l.fn.self.lines;
   waits : (p : ℕ) → p < 16 * l.group → p < length l.self.lines → l.next ≤ (watch_at l.self.watches p).moment;
 }
