@@ -40,4 +40,6 @@ mod serving;
 #[cfg(test)]
 mod session_tests;
 #[cfg(test)]
+mod socket_tests;
+#[cfg(test)]
 mod world;

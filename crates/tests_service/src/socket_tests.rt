@@ -1,0 +1,72 @@
+//! What a connection over a socket of this machine says that it took.
+
+use mio::net::TcpStream;
+use njh_sockets::{MioConnection, MioNetwork};
+use njh_wire::{Connection, Network};
+use std::io;
+use std::io::{ErrorKind, Read};
+use std::net::{Ipv4Addr, Net, SocketAddr};
+use std::process::Abort;
+use std::test::Fail;
+
+/// How many bytes a connection is given at once.
+const PIECE: usize = 65_536;
+
+/// More calls than fill the buffers of a connection, and empty them again.
+const MANY: u32 = 1_000_000;
+
+/// A connection whose peer reads nothing takes a part of what it is given in the end, and says how
+/// much: once it is gone its peer reads as many bytes as it said, and no more.
+#[test]
+fn tells_how_much_it_took(rt: HostRuntime) -> Result<(), Fail> {
+    let mut network = MioNetwork::new(&rt)?;
+    let address = SocketAddr::new(Ipv4Addr::LOCALHOST.into(), 27523);
+    let mut listener = network.listen(address, 0)?;
+    let mut peer = TcpStream::connect(&rt, address)?;
+    let mut taken = None;
+    for _ in 0..MANY {
+        if let Some((mut connection, _)) = network.accept(&mut listener)? {
+            taken = fill(&mut connection);
+            drop(connection);
+            break;
+        }
+    }
+    let Some(taken) = taken else {
+        assert!(rt; false, "nothing was taken in part");
+        return Ok(());
+    };
+    assert_eq!(rt; read_all(&mut peer)?, taken);
+    Ok(())
+}
+
+/// Gives a connection bytes until it takes fewer than it is given. Answers how many it took in all;
+/// `None` if it always took all, or failed.
+fn fill(connection: &mut MioConnection) -> Option<usize> {
+    let bytes = [0; PIECE];
+    let mut taken: usize = 0;
+    for _ in 0..MANY {
+        let Ok(count) = connection.send(&bytes) else {
+            return None;
+        };
+        taken = taken.saturating_add(count);
+        if 0 < count && count < PIECE {
+            return Some(taken);
+        }
+    }
+    None
+}
+
+/// Reads until the other end is gone. Answers how many bytes came.
+fn read_all(peer: &mut TcpStream) -> io::Result<usize> {
+    let mut bytes = [0; PIECE];
+    let mut came: usize = 0;
+    for _ in 0..MANY {
+        match peer.read(&mut bytes) {
+            Ok(0) => return Ok(came),
+            Ok(count) => came = came.saturating_add(count),
+            Err(error) if error.kind() == ErrorKind::WouldBlock => {}
+            Err(error) => return Err(error),
+        }
+    }
+    Ok(came)
+}
