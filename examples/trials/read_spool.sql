@@ -8,6 +8,8 @@
 --
 -- A file's rows have the numbers 8388608 * key + place. One with an SRCB below 256 is one record, at `place`. One with
 -- 256 is several, from `place` on, one after the other: SRCB (1 byte), length (2 bytes, the high one first), bytes.
+-- They stand as they came. If the column `to_node` of the table `files` begins with ">", the file was sent to the node
+-- behind it: then the headers that name its destination name that node, whatever node stands in them.
 with recursive octet(value, hex) as (
     select 0, '00'
     union all

@@ -6,6 +6,7 @@ import shutil
 import sqlite3
 import subprocess
 
+from frames import DATA_SET_HEADER, field
 from hub import customer_of, free_ports, line_of
 from spool_model import Wrong
 
@@ -92,9 +93,25 @@ def raw_of(records):
     return b"".join(record for _, record in records)
 
 
-FILES_QUERY = "select customer, key, number, owner_node from files"
+FILES_QUERY = "select customer, key, number, owner_node, kind, to_node from files"
 
 RECORDS_QUERY = pathlib.Path(__file__).with_name("read_spool.sql").read_text()
+
+
+def records_now(kind, to_node, records):
+    """A file's records by its row: if its node has the mark, the headers that name its destination name that node."""
+    if not to_node.startswith(">"):
+        return records
+    now, before = [], None
+    for srcb, record in records:
+        if kind == "SYSIN" and before is None:
+            now.append((srcb, record[:84] + field(to_node[1:]) + record[92:]))
+        elif kind == "SYSOUT" and srcb == DATA_SET_HEADER and before != DATA_SET_HEADER:
+            now.append((srcb, record[:8] + field(to_node[1:]) + record[16:]))
+        else:
+            now.append((srcb, record))
+        before = srcb
+    return now
 
 
 def check_tables(copy, bytes_of):
@@ -104,12 +121,13 @@ def check_tables(copy, bytes_of):
     if found != [("ok",)]:
         raise Wrong(f"integrity_check: {found[:3]}")
     has_files = connection.execute("select 1 from sqlite_master where name = 'files'").fetchall()
-    for customer, key, number, node in connection.execute(FILES_QUERY) if has_files else ():
+    for customer, key, number, node, kind, to_node in connection.execute(FILES_QUERY) if has_files else ():
         records = connection.execute(RECORDS_QUERY, {"key": key}).fetchall()
         places = [place for place, _, _ in records]
         if places != list(range(len(records))):
             raise Wrong(f"{customer}: {node}.{number} has records at places {places}")
-        bytes_of[customer, f"{node}.{number}"] = [(srcb, bytes.fromhex(data)) for _, srcb, data in records]
+        stood = [(srcb, bytes.fromhex(data)) for _, srcb, data in records]
+        bytes_of[customer, f"{node}.{number}"] = records_now(kind, to_node, stood)
     connection.close()
 
 

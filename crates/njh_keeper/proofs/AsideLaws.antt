@@ -4,13 +4,13 @@ use Words.{◌≡◌, ℕ, ◌==◌, Bool, true, false, cond, List, [], ◌∷�
 use Words.{Some, None}
 use Words.{Result, Ok, Err, refl, sym, ap, ◌∙◌, bytes_eq, cases_Bool, nat_lt, NameFault, name_of_text, File, inl, inr}
 use Words.{SpoolContents, Whole, contents_in, kept, records_of, whole_in, Part, part, NoneFails, hub_fault, hub_with}
-use Words.{hub_with_all, number_of, FileFault, is_name_of, whole_fault, with_whole, slice_set, fold, append_assoc}
+use Words.{hub_with_all, number_of, FileFault, is_name_of, whole_fault, with_whole, slice_set}
 use Rattle.std.proofs.{Common.{◌≢◌, Bor, MatchOption}, lemmas.Bool.false_from_ne_true}
 use Rattle.std.specs.{List.cons_option, Str.chars}
 use Rattle.njh_ebcdic.specs.Characters.{byte_of_character, byte_or_blank, bytes_or_blanks}
 use Rattle.njh_ebcdic.specs.{Reading.name_of_word, declared.name.NameFault.TheVariants.{BadCharacter, TooLong}}
 use Rattle.njh_keeper.proofs.{HubLaws.no_number, NumberedLaws.equal_to}
-use Rattle.njh_keeper.specs.{Refusal.Refusal, SetAside.{all_taken_up, all_tried, file_aside, file_taken_up, is_aside}}
+use Rattle.njh_keeper.specs.{Refusal.Refusal, SetAside.{all_tried, file_aside, file_taken_up, is_aside}}
 use Rattle.njh_keeper.specs.SetAside.{refusal, refusals, row_of, row_tried, set_aside, spool_with, taken_up, tried}
 use Rattle.njh_keeper.specs.SetAside.{whole_taken_up}
 

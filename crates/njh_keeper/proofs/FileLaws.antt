@@ -2,14 +2,14 @@
 use Rattle.njh_keeper.proofs.Words
 use Words.{◌≡◌, ℕ, zero, suc, get_or, ◌+◌, ◌<◌, ◌≤◌, ◌==◌, nat_lt, nat_le, true, cond, ◌&&◌, List, [], ◌∷◌, length, map}
 use Words.{Option, Some, None, option_map, Result, Ok, Err, IsOk, refl, sym, ap, subst, ◌∙◌, arith, and_parts}
-use Words.{nat_tests, All-from_recursion, AllByRecursion, Kind, StoredRecord, File, contents_of, RestoreFault, KeptFile}
+use Words.{nat_tests, AllByRecursion, Kind, Stored, StoredRecord, File, contents_of, RestoreFault, KeptFile}
 use Words.{restore_fault, Part, BadFile, Refused, Contents, as_stored, are_records_from, are_records_of, file_in}
-use Words.{file_fault, is_record_at, kind_of_word}
-use Rattle.{std.{proofs.Common.MatchOption, specs.Prelude.slice_get}, njh_keeper.specs.code.Restoring.HaveRoom}
+use Words.{file_fault, is_record_at, kind_of_word, records_now, whole_records}
+use Rattle.std.{proofs.Common.MatchOption, specs.Prelude.slice_get}
 
 -- ---- its records fit
 
-abbrev Fits-record : StoredRecord → Type 0
+abbrev pub Fits-record : StoredRecord → Type 0
 Fits-record r = (r.srcb < 256) × (length r.bytes.items ≤ 256)
 
 fits_one : (place : ℕ) (r : StoredRecord) → is_record_at place (contents_of r) ≡ true → Fits-record r
@@ -18,26 +18,32 @@ fits_one place r is =
     let each = and_parts (nat_lt r.srcb 256) (nat_le (length r.bytes.items) 256) rest in
     (grind (arith, nat_tests, each.0), grind (arith, nat_tests, each.1))
 
-fits_each : (place : ℕ) (rs : List StoredRecord) → are_records_from place (map contents_of rs) ≡ true
+pub fits_each : (place : ℕ) (rs : List StoredRecord) → are_records_from place (map contents_of rs) ≡ true
     → AllByRecursion Fits-record rs
 fits_each place [] is = tt
 fits_each place (r ∷ rs) is =
     let each = and_parts (is_record_at place (contents_of r)) (are_records_from (place + 1) (map contents_of rs)) is in
     (fits_one place r each.0, fits_each (place + 1) rs each.1)
 
-pub have_room : (rs : List StoredRecord) → are_records_from 0 (map contents_of rs) ≡ true → HaveRoom rs
-have_room rs is = All-from_recursion Fits-record rs (fits_each 0 rs is)
-
 -- ---- as a hub has it
 
-abbrev pub as_kept : File → List Contents → Kind → KeptFile
-as_kept file records kind = record { kind = kind; held = file.held; records = map as_stored records }
+abbrev pub as_kept : File → Kind → List Stored → KeptFile
+as_kept file kind now = record { kind = kind; held = file.held; records = now }
 
-pub is_file : (file : File) (records : List Contents) (kind : Kind) → are_records_of file records ≡ true
-    → kind_of_word file.kind ≡ Some kind → file_in file records ≡ Some (as_kept file records kind)
-is_file file records kind all word =
-    ap (λ b. cond b (option_map (as_kept file records) (kind_of_word file.kind)) None) all
-    ∙ ap (option_map (as_kept file records)) word
+pub is_whole : (file : File) (records : List Contents) (kind : Kind) → are_records_of file records ≡ true
+    → whole_records kind file records ≡ records_now kind file.to_node (map as_stored records)
+is_whole file records kind all = ap (λ b. cond b (records_now kind file.to_node (map as_stored records)) None) all
+
+-- by its kind
+abbrev pub by_kind : File → List Contents → Option Kind → Option KeptFile
+by_kind file records None = None
+by_kind file records (Some kind) = option_map (as_kept file kind) (whole_records kind file records)
+
+pub is_file : (file : File) (records : List Contents) (kind : Kind) (now : List Stored)
+    → kind_of_word file.kind ≡ Some kind → whole_records kind file records ≡ Some now
+    → file_in file records ≡ Some (as_kept file kind now)
+is_file file records kind now word are =
+    ap (by_kind file records) word ∙ ap (option_map (as_kept file kind)) are
 
 -- ---- why it isn't put back
 

@@ -1,15 +1,15 @@
 -- Records of a file are gathered for a row, and rows are written.
 use Rattle.njh_keeper.proofs.Words
-use Words.{◌≡◌, ℕ, ◌+◌, ◌^◌, ◌<◌, true, false, List, [], ◌∷◌, ◌++◌, length, take, drop, map, refl}
+use Words.{◌≡◌, ℕ, ◌+◌, ◌-◌, ◌≤◌, ◌^◌, ◌<◌, List, [], ◌∷◌, ◌++◌, length, take, drop, map, refl}
 use Words.{sym, ap, subst, ◌∙◌, arith, length-drop, length-map, length-take-le, map-append, take-append-drop, take-take}
-use Words.{take_more, AllByRecursion, State, Stored, Record, SpoolContents, with_record, Changes, Leads, HasRecords}
+use Words.{take_more, State, Stored, Record, SpoolContents, with_record, Changes, Leads, HasRecords}
 use Words.{WritesUnder, SpoolWriter}
-use Rattle.{std.proofs.lemmas.List.{drop-take, get_or-drop}, njh_spoolfile.proofs.PackedLaws.{MayShare, packed_more}}
+use Rattle.{std.proofs.lemmas.List.{drop-drop, drop-take, get_or-drop}, njh_spoolfile.proofs.PackedLaws.packed_more}
 use Rattle.njh_spoolfile.proofs.PackedLaws.{unpacked_packed}
-use Rattle.njh_spoolfile.specs.Packed.{packed, packed_one, stands_alone, unpacked_row}
-use Rattle.njh_keeper.proofs.{FrameLaws.{writes_nothing, writes_record, writes_then}, NumberedLaws.all-push}
+use Rattle.njh_spoolfile.specs.Packed.{packed, packed_one, unpacked_row}
+use Rattle.njh_keeper.proofs.FrameLaws.{writes_nothing, writes_record, writes_then}
 use Rattle.njh_keeper.proofs.LeadingLaws.{leads_by, leads_nothing, leads_then, leads_weaker}
-use Rattle.njh_keeper.proofs.{ReachLaws.only_waits, RecordLaws.records_come_last, RowRecords.a_header_has_a_row}
+use Rattle.njh_keeper.proofs.{ReachLaws.only_waits, RecordLaws.records_come_last}
 use Rattle.njh_keeper.specs.code.Gathering.{Continues, Gathers, GoesForward, IsRecordAt, gathered}
 use Rattle.njh_keeper.specs.{code.Mirrored.as_packed, declared.next_row.NextRow.NextRow}
 
@@ -17,10 +17,9 @@ take_both : (p n : ℕ) (xs : List Stored) → take (p + n) xs ≡ take p xs ++ 
 take_both p n xs =
     sym (take-append-drop p (take (p + n) xs)) ∙ (λ i. take-take p (p + n) xs (omega arith) i ++ drop-take p n xs i)
 
-some_unpacked : (rs : List (ℕ × List ℕ)) → 0 < length rs → AllByRecursion MayShare rs
-    → unpacked_row 256 (packed rs) ≡ rs
-some_unpacked [] some plain = absurd (omega (arith, some))
-some_unpacked (r ∷ rs) some plain = unpacked_packed r rs plain
+some_unpacked : (rs : List (ℕ × List ℕ)) → 0 < length rs → unpacked_row 256 (packed rs) ≡ rs
+some_unpacked [] some = absurd (omega (arith, some))
+some_unpacked (r ∷ rs) some = unpacked_packed r rs
 
 -- ---- what a row has
 
@@ -31,14 +30,13 @@ none_gathered all row none empty =
     record {
       there = omega (arith, none);
       bytes = empty ∙ ap (λ n. packed (map as_packed (take n rest))) (sym none);
-      plain = subst (λ n. AllByRecursion MayShare (map as_packed (take n rest))) (sym none) tt;
     }
 
 module _ (all : List Stored) (row : NextRow) (g : Gathers all row) where
   -- one more
-  pub one_more_gathered : (r : Stored) → IsRecordAt all (row.place + row.count) r → stands_alone r.srcb ≡ false
+  pub one_more_gathered : (r : Stored) → IsRecordAt all (row.place + row.count) r
       → Gathers all (record row { count = row.count + 1; pack = row.pack ++ packed_one (as_packed r) })
-  one_more_gathered r at other =
+  one_more_gathered r at =
       let rest = drop row.place all in
       let so_far = map as_packed (take row.count rest) in
       let there : row.count < length rest = omega (arith, at.0, length-drop row.place all) in
@@ -50,7 +48,6 @@ module _ (all : List Stored) (row : NextRow) (g : Gathers all row) where
         there = omega (arith, at.0);
         bytes = ap (λ bs. bs ++ packed_one (as_packed r)) g.bytes ∙ sym (packed_more so_far (as_packed r))
             ∙ ap packed (sym more);
-        plain = subst (AllByRecursion MayShare) (sym more) (all-push MayShare so_far (as_packed r) g.plain other);
       }
 
   abbrev as_row : Record
@@ -59,62 +56,55 @@ module _ (all : List Stored) (row : NextRow) (g : Gathers all row) where
   -- it is written behind those that stand there
   row_is_written : row.place < 2 ^ 23 → 0 < row.count → (s : SpoolContents)
       → Continues row.key all row.place (row.place + row.count) s (with_record as_row s)
-  row_is_written low some s h has =
+  row_is_written low some s file behind h has =
       let rs = gathered all row in
-      let here : row.place ≡ length (take row.place all) =
-      sym (length-take-le row.place all (omega (arith, g.there, some))) in
+      let left = ap (λ (xs : List Stored). length xs) behind in
+      let here : row.place ≡ length (take row.place file) =
+      sym (length-take-le row.place file (omega (
+        arith,
+        g.there,
+        some,
+        left,
+        length-drop row.place file,
+        length-drop row.place all,
+      ))) in
       let long : length rs ≡ row.count =
       length-take-le row.count (drop row.place all) (omega (arith, g.there, length-drop row.place all)) in
       let are : unpacked_row 256 row.pack ≡ map as_packed rs =
       ap (unpacked_row 256) g.bytes
-      ∙ some_unpacked (map as_packed rs) (omega (arith, some, long, length-map rs as_packed)) g.plain in (
+      ∙ some_unpacked (map as_packed rs) (omega (arith, some, long, length-map rs as_packed)) in (
         writes_record row.key as_row s h low refl,
-        subst (λ xs. HasRecords row.key xs (with_record as_row s)) (sym (take_both row.place row.count all))
-            (records_come_last row.key (take row.place all) as_row s h has refl rs here are),
+        subst (λ xs. HasRecords row.key xs (with_record as_row s))
+            (sym (take_both row.place row.count file
+            ∙ ap (λ xs. take row.place file ++ take row.count xs) behind))
+            (records_come_last row.key (take row.place file) as_row s h has refl rs here are),
       )
 
   pub row_leads : row.place < 2 ^ 23 → 0 < row.count → {old new : State} → Changes (with_record as_row) old new
       → Leads (Continues row.key all row.place (row.place + row.count)) old new
   row_leads low some made =
-      leads_weaker (leads_by made) (λ s t is h has.
-      subst (λ v. WritesUnder row.key s v × HasRecords row.key (take (row.place + row.count) all) v) (sym is)
-      (row_is_written low some s h has))
+      leads_weaker (leads_by made) (λ s t is file behind h has.
+      subst (λ v. WritesUnder row.key s v × HasRecords row.key (take (row.place + row.count) file) v) (sym is)
+      (row_is_written low some s file behind h has))
 
 -- ---- rows one after the other
 
 module _ (key : ℕ) (all : List Stored) where
-  module _ (place : ℕ) (r : Stored) (low : place < 2 ^ 23) (at : IsRecordAt all place r)
-      (header : stands_alone r.srcb ≡ true) where
-    abbrev own_row : Record
-    own_row = record { key = key; place = place; srcb = r.srcb; bytes = r.bytes }
-
-    header_is_written : (s : SpoolContents) → Continues key all place (place + 1) s (with_record own_row s)
-    header_is_written s h has =
-        let here : place ≡ length (take place all) = sym (length-take-le place all (omega (arith, at.0))) in (
-          writes_record key own_row s h low refl,
-          subst (λ xs. HasRecords key xs (with_record own_row s))
-              (sym (take_more all place r at.0 ∙ ap (λ x. take place all ++ x ∷ []) (sym at.1)))
-              (records_come_last key (take place all) own_row s h has refl (r ∷ []) here
-              (a_header_has_a_row r.srcb r.bytes header)),
-        )
-
-    pub header_leads : {old new : State} → Changes (with_record own_row) old new
-        → Leads (Continues key all place (place + 1)) old new
-    header_leads made =
-        leads_weaker (leads_by made) (λ s t is h has.
-        subst (λ v. WritesUnder key s v × HasRecords key (take (place + 1) all) v) (sym is)
-        (header_is_written s h has))
-
   pub no_row_leads : (first next : ℕ) → first ≡ next → {at : State} → Leads (Continues key all first next) at at
   no_row_leads first next same =
-      leads_nothing (λ s h has. (writes_nothing key s h, subst (λ n. HasRecords key (take n all) s) same has))
+      leads_nothing (λ s file behind h has.
+      (writes_nothing key s h, subst (λ n. HasRecords key (take n file) s) same has))
 
-  pub rows_lead : (first mid next : ℕ) {a b c : State} → Leads (Continues key all first mid) a b
+  pub rows_lead : (first mid next : ℕ) {a b c : State} → first ≤ mid → Leads (Continues key all first mid) a b
       → Leads (Continues key all mid next) b c → Leads (Continues key all first next) a c
-  rows_lead first mid next one more =
-      leads_then one more (λ s t u before after h has.
-      let two = before h has in
-      let three = after two.0.ordered two.1 in
+  rows_lead first mid next further one more =
+      leads_then one more (λ s t u before after file behind h has.
+      let two = before file behind h has in
+      let left : first + (mid - first) ≡ mid = omega (arith, further) in
+      let still : drop mid file ≡ drop mid all =
+      ap (λ n. drop n file) (sym left) ∙ sym (drop-drop (mid - first) first file)
+      ∙ ap (drop (mid - first)) behind ∙ drop-drop (mid - first) first all ∙ ap (λ n. drop n all) left in
+      let three = after file still two.0.ordered two.1 in
       (writes_then key s t u two.0 three.0, three.1))
 
 -- ---- what the writer counts

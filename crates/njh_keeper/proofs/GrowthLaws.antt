@@ -3,8 +3,8 @@ use Rattle.njh_keeper.proofs.Words
 use Words.{◌≡◌, ℕ, ◌<◌, ◌≤◌, ◌==◌, List, [], ◌++◌, length, Option, Some, None, refl, sym, ap, subst, ◌∙◌, append-nil}
 use Words.{arith, Kind, Stored, RouteEntry, CustomerSpool, PartialFile, max_arrived, partial_numbered, partial_records}
 use Words.{IsSound, FilesGrow, HasShortRests, entry_with, part_after_routes, outgoing, OwnSignal, IsLed, GoOnIn}
-use Words.{AreNumbered, ◌+◌, get_or, count_by, take, Contains, length-append, recursion_from_All, AllByRecursion}
-use Words.{HasHeaders, SpoolContents, WholeFile, HaveHeaders, AreAlike, AreFronts, AllGoOn, AllUpToDate, GoesOn}
+use Words.{AreNumbered, get_or, count_by, Contains, recursion_from_All, AllByRecursion}
+use Words.{SpoolContents, WholeFile, AreFronts, AllGoOn, AllUpToDate, GoesOn, IsRerouted}
 use Words.{IsUpToDate, KeptPartial, OwnFiles, IsFrontWhere}
 use Rattle.njh_stream.{proofs.ReceivingLaws.find_counts, specs.Holding.unrouted_held}
 use Rattle.njh_customer.proofs.{FileListLaws.found_one, GrowingLaws.{many_go_on, quiet, partials_numbered}}
@@ -13,10 +13,10 @@ use Rattle.njh_customer.proofs.{StepsGrow.{signals_grow, takes_grow}, SurvivingL
 use Rattle.njh_customer.{proofs.SurvivingLaws.takes_keep_files, specs.{Growing.{HasCome, HasBecomeWhole}, Part.Part}}
 use Rattle.njh_customer.specs.{Part.{part_after_bytes, part_after_signal}, Surviving.FilesGoOn}
 use Rattle.{njh_customer.specs.declared.signal.Signal.Signal, njh_turns.specs.Keeping.{by_bytes, by_routes, by_signal}}
-use Rattle.njh_keeper.proofs.{AlikeLaws.alike_where_it_reads, FinishLaws.front_alike, KnowingLaws.front_of_whole}
-use Rattle.njh_keeper.proofs.{KnowingLaws.still_goes_on, ListLaws.all_both, NumberedLaws.equal_to, UsesLaws.keyed_at}
+use Rattle.njh_keeper.proofs.{KnowingLaws.{front_of_whole, still_goes_on}, ListLaws.all_both, NumberedLaws.equal_to}
+use Rattle.njh_keeper.proofs.{UsesLaws.keyed_at}
 use Rattle.{njh_keeper.proofs.WalkLaws.{are_numbered, no_more_numbered, as_counted}, std.proofs.Common.⊎_elim}
-use Rattle.std.proofs.{Math.Seq.take-append_seam, lemmas.List.Elements.{Contains-append_cases, Contains-get_or}}
+use Rattle.std.proofs.{lemmas.List.Elements.{Contains-append_cases, Contains-get_or}}
 
 -- ---- a step
 
@@ -149,35 +149,23 @@ module _ (k : ℕ) (x y : CustomerSpool) (few : k < 1366) (grow : FilesGrow k x 
       (λ (new : Contains grow.new f). new) (Contains-append_cases grow.still grow.new f
       (subst (λ (files : List WholeFile). Contains files f) grow.files at))
 
-  -- Its records are a front of those of the file that it became, but for headers: that file may have been sent
-  -- elsewhere since, whose headers read.
-  became_alike : (f : WholeFile) → HasBecomeWhole k x.partial f → HasHeaders f.kind f.records → 1366 ≤ length f.records
-      → let was = partial_records f.number x in
-      (length was ≤ length f.records) × AreAlike was (take (length was) f.records)
-  became_alike f whole headers many =
-      let was = partial_records f.number x in
+  -- its records are the first that came of the file that it became, which may have been sent elsewhere since
+  became : (f : WholeFile) → HasBecomeWhole k x.partial f → 1366 ≤ length f.records
+      → (rest : List Stored) × IsRerouted f.kind (partial_records f.number x ++ rest) f.records
+  became f whole many =
       let counts : length f.records ≡ length whole.came = rerouted_count f.kind whole.came f.records whole.records in
       let from = many_go_on_from_partial k x f.number f.kind whole.came sound (omega (arith, few, many, counts))
       whole.has_come in
-      let long : length whole.came ≡ length was + length from.0 =
-      ap (λ (rs : List Stored). length rs) from.1 ∙ length-append was from.0 in
-      let all : AreAlike whole.came f.records =
-      alike_where_it_reads f.kind whole.came f.records headers.destination whole.records headers.goes in
-      let front : take (length was) whole.came ≡ was = ap (take (length was)) from.1 ∙ take-append_seam was from.0 in (
-        omega (arith, counts, long),
-        subst (λ rs. AreAlike rs (take (length was) f.records)) front
-            (front_alike (length was) whole.came f.records all),
-      )
+      (from.0, subst (λ rs. IsRerouted f.kind rs f.records) from.1 whole.records)
 
   front_of : (s : SpoolContents) (p : KeptPartial) → IsUpToDate x p → GoesOn x s p → (f : WholeFile)
-      → Contains y.whole f → HasHeaders f.kind f.records → IsFrontWhere s p f
-  front_of s p up go_on f at headers number seen =
+      → Contains y.whole f → IsFrontWhere s p f
+  front_of s p up go_on f at number seen =
       let some : 0 < length (partial_records f.number x) =
       subst (λ n. 0 < length (partial_records n x)) (sym number) (omega (arith, up.seen, up.many)) in
       let whole = grow.became_whole f (is_new f some at) in
-      front_of_whole x s p f.records (λ many. subst (λ n. let was = partial_records n x in
-      (length was ≤ length f.records) × AreAlike was (take (length was) f.records)) number
-      (became_alike f whole headers many)) up go_on seen
+      front_of_whole x s p f.kind f.records (λ many. subst (λ n. (rest : List Stored)
+      × IsRerouted f.kind (partial_records n x ++ rest) f.records) number (became f whole many)) up go_on seen
 
   module _ (s : SpoolContents) (own : OwnFiles) (up : AllUpToDate x own) (go_on : AllGoOn x s own) where
     -- what is kept of files that aren't whole yet is a front of them still,
@@ -187,10 +175,10 @@ module _ (k : ℕ) (x y : CustomerSpool) (few : k < 1366) (grow : FilesGrow k x 
         (λ p up go_on. still_goes_on x y s p (partial_goes_on k x y few grow sound p.number) up go_on) own.partial up
         go_on
 
-    -- and of those that became whole a front of these, but for headers
-    pub fronts_of_step : HaveHeaders y.whole → AreFronts s own.partial y.whole
-    fronts_of_step headers =
+    -- and of those that became whole a front of these, as they were before they were sent elsewhere
+    pub fronts_of_step : AreFronts s own.partial y.whole
+    fronts_of_step =
         all_both (IsUpToDate x) (GoesOn x s)
         (λ p. AllByRecursion (IsFrontWhere s p) y.whole)
         (λ p up go_on. recursion_from_All (IsFrontWhere s p) y.whole (λ i f there. front_of s p up go_on
-        (get_or y.whole i f) (Contains-get_or y.whole i f there) (headers i f there))) own.partial up go_on
+        (get_or y.whole i f) (Contains-get_or y.whole i f there))) own.partial up go_on

@@ -1,11 +1,11 @@
 -- What an opening leaves of the customers' whole files, of those too that are set aside.
 use Rattle.njh_keeper.proofs.Words
 use Words.{◌≡◌, ◌⊎◌, inl, inr, ℕ, Bool, true, false, cond, List, [], ◌∷◌, length, get_or, drop, filter, filter_map, map}
-use Words.{⊤, Option, Some, None, refl, sym, ap, subst, ◌∙◌, arith, cases_Bool, AllByRecursion, AllZip, File}
+use Words.{⊤, Option, Some, None, refl, sym, ap, subst, ◌∙◌, arith, AllByRecursion, AllZip, File}
 use Words.{SpoolContents}
 use Words.{Whole, contents_in, kept, records_of, whole_in, KeptFile, Part, hub_fault, hub_with, number_of, FileFault}
-use Words.{file_in, is_name_of, is_own, own_files, own_rows}
-use Rattle.njh_keeper.proofs.AsideLaws.{key_tried, owned_is, tried_aside, tried_back, tried_foreign}
+use Words.{file_in, is_name_of, is_own, own_files}
+use Rattle.njh_keeper.proofs.AsideLaws.{owned_is, tried_aside, tried_back, tried_foreign}
 use Rattle.njh_keeper.proofs.{HubLaws.{found, one_name}}
 use Rattle.std.specs.List.{cons_option}
 use Rattle.njh_keeper.specs.{Keeper.IsStillKept, code.Opening.IsRowStill}

@@ -1,7 +1,7 @@
 -- What the opening of a hub leaves of the customers' whole files, whether it comes to an end or not.
 use Rattle.njh_keeper.proofs.Words
 use Words.{◌≡◌, ◌≢◌, ◌⊎◌, inl, inr, ℕ, zero, suc, ◌<◌, true, false, List, [], ◌∷◌, length, bytes_eq, filter_map}
-use Words.{map, refl, sym, subst, ◌∙◌, arith, cases_Bool, bytes_eq-Decides, AllZip, Survives}
+use Words.{map, sym, subst, ◌∙◌, arith, cases_Bool, bytes_eq-Decides, AllZip, Survives}
 use Words.{contents_in, File, filter, map-map, Option, records_of, SpoolContents, Whole, kept, TableFile, KeptFile}
 use Words.{Part}
 use Words.{AllAreBack, AllAreFound, AreRemembered, clean_before, entries, file_in, HasCleanDisk, Holds, hub_opened}

@@ -1,11 +1,12 @@
 -- What the keeper of a spool file knows of a hub's files: it goes on to know them step by step, and leaves them.
 use Rattle.njh_keeper.proofs.Words
-use Words.{◌≡◌, ℕ, ◌<◌, ◌≤◌, List, ◌++◌, length, get_or, set, map, take, sym, subst, arith, length-take-le, take-take}
-use Words.{⊤, Stored, SpoolContents, records_of, CustomerSpool, partial_records, kept_file, AreAlike, AreNamedApart}
+use Words.{◌≡◌, ℕ, ◌<◌, ◌≤◌, List, ◌++◌, length, get_or, set, map, sym, subst, arith}
+use Words.{⊤, Stored, SpoolContents, records_of, CustomerSpool, partial_records, kept_file, AreNamedApart, IsRerouted}
+use Words.{Kind}
 use Words.{HasSpool, Knows, HasRecords, GoesOn, IsUpToDate, IsPartlyKept, KeptPartial, Mirrored, Moves, Numbers}
 use Words.{OwnFiles, claim, keyed, left_in, length-append, take-append-le, IsFrontOf, AllAreApart, uses, uses_of_all}
 use Words.{uses_of_files, ◌≢◌, zero, suc, ◌+◌, [], ◌∷◌, remove, ap, AllByRecursion}
-use Rattle.njh_keeper.proofs.{FinishLaws.front_alike, LeftLaws.left_of_parts, ListLaws.all_zip_weaker}
+use Rattle.njh_keeper.proofs.{SentLaws.rerouted_long, LeftLaws.left_of_parts, ListLaws.all_zip_weaker}
 use Rattle.njh_keeper.proofs.{ListLaws.{all_zip_changes, all_both}, MirrorLaws.{all_of, mirrored_of_another}}
 use Rattle.njh_keeper.proofs.{NumberedLaws.all_weaker, PartlyLaws.still_all, UsesLaws.each_counts}
 
@@ -119,20 +120,22 @@ still_goes_on before now s p grows up go_on enough =
       stored = subst (λ xs. HasRecords p.key xs s) (sym (take-append-le p.written was more.0 one.written)) one.stored;
     })
 
--- Where one became whole, that is so but for headers: the file may have been sent elsewhere since.
-pub front_of_whole : (before : CustomerSpool) (s : SpoolContents) (p : KeptPartial) (rs : List Stored)
-    → (1366 ≤ length rs → (length (partial_records p.number before) ≤ length rs)
-    × AreAlike (partial_records p.number before) (take (length (partial_records p.number before)) rs))
-    → IsUpToDate before p → GoesOn before s p → p.seen ≤ length rs → IsFrontOf s p.key p.written rs
-front_of_whole before s p rs grows up go_on enough =
+-- Where one became whole, that is so of what came, and the file may have been sent elsewhere since.
+pub front_of_whole : (before : CustomerSpool) (s : SpoolContents) (p : KeptPartial) (kind : Kind) (rs : List Stored)
+    → (1366 ≤ length rs → (rest : List Stored) × IsRerouted kind (partial_records p.number before ++ rest) rs)
+    → IsUpToDate before p → GoesOn before s p → p.seen ≤ length rs → IsFrontOf s p.key p.written kind rs
+front_of_whole before s p kind rs grows up go_on enough =
     let was = partial_records p.number before in
     let more = grows (omega (arith, up.many, enough)) in
     let here = go_on (omega (arith, up.seen)) in
     record {
-      before = take p.written was;
-      long = length-take-le p.written was here.written;
-      within = omega (arith, here.written, more.0);
-      stored = here.stored;
-      alike = subst (AreAlike (take p.written was)) (take-take p.written (length was) rs here.written)
-          (front_alike p.written was (take (length was) rs) more.1);
+      before = was ++ more.0;
+      within = omega (
+        arith,
+        here.written,
+        length-append was more.0,
+        rerouted_long kind (was ++ more.0) rs more.1,
+      );
+      rerouted = more.1;
+      stored = subst (λ xs. HasRecords p.key xs s) (sym (take-append-le p.written was more.0 here.written)) here.stored;
     }

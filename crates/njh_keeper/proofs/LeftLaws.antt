@@ -1,10 +1,10 @@
 -- What a spool file that has a hub's whole files leaves of them.
 use Rattle.njh_keeper.proofs.Words
 use Words.{◌≡◌, ℕ, List, [], ◌∷◌, length, get_or, drop, map, Option, Some, refl, sym, ap, subst, ◌∙◌, arith}
-use Words.{All-from_recursion, AllZip, filter_map, Kind, In, Out, File, SpoolContents, Whole, contents_in, records_of}
-use Words.{WholeFile, kept_file, FitsHub, ReadsAs, own_rows, AllBeside, none_beside, one_beside, IsKept, KeptWhole}
+use Words.{AllZip, filter_map, Kind, In, Out, File, SpoolContents, Whole, contents_in, records_of}
+use Words.{WholeFile, kept_file, ReadsAs, own_rows, AllBeside, none_beside, one_beside, IsKept, KeptWhole}
 use Words.{Mirrored, OwnFiles, left_in, file_in, kind_of_word, kind_word, own_files, whole_in}
-use Rattle.njh_keeper.proofs.{RecordLaws.file_reads_back, RowLaws.own_files_are}
+use Rattle.njh_keeper.proofs.{RecordLaws.file_reads_back, RowLaws.own_files_are, SentLaws.{are_rerouted, rerouted_long}}
 
 word_back : (kind : Kind) → kind_of_word (kind_word kind) ≡ Some kind
 word_back In = refl
@@ -14,9 +14,13 @@ word_back Out = refl
 reads_as : (s : SpoolContents) (k : KeptWhole) (e : ℕ × File) (f : WholeFile) → IsKept s k e f
     → ReadsAs s e (kept_file f)
 reads_as s k e f one =
+    let stored = one.stored in
+    let long : length stored.before ≡ e.1.records =
+    sym (rerouted_long f.kind stored.before f.records
+    (are_rerouted f.kind e.1.to_node stored.before f.records stored.are)) ∙ sym one.row.count in
     subst (λ n. file_in e.1 (contents_in (records_of n s)) ≡ Some (kept_file f)) (sym one.row.key)
-    (file_reads_back k.key f.records s one.stored e.1 (sym one.row.count)
-    (All-from_recursion FitsHub f.records one.fits) f.kind (ap kind_of_word one.row.kind ∙ word_back f.kind)
+    (file_reads_back k.key stored.before s stored.stored e.1 long stored.fits f.kind
+    (ap kind_of_word one.row.kind ∙ word_back f.kind) f.records stored.are
     ∙ (λ i. Some (record { kind = f.kind; held = one.row.held i; records = f.records })))
 
 read_back : (s : SpoolContents) (ks : List KeptWhole) (es : List (ℕ × File)) (fs : List WholeFile)

@@ -18,15 +18,13 @@ pub mod PackedRows
 pub mod RecordLaws
 pub mod OneSpool
 pub mod ListLaws
-pub mod WritingLaws
 pub mod FrameLaws
 pub mod MirrorLaws
 pub mod UsesLaws
 pub mod LeftLaws
 pub mod WalkLaws
-pub mod AlikeLaws
+pub mod SentLaws
 pub mod NodeLaws
-pub mod FinishLaws
 pub mod ReadBackLaws
 pub mod LeadingLaws
 pub mod KeptLaws

@@ -2,7 +2,8 @@
 use Rattle.njh_keeper.proofs.Words
 use Words.{◌≡◌, ◌≢◌, ℕ, ◌+◌, ◌<◌, ◌≤◌, true, List, [], ◌∷◌, ◌++◌, length, get_or, set, remove, refl, sym, ap}
 use Words.{subst, ◌∙◌, arith, get_or_default, set-get_or, AllByRecursion, File, SpoolContents, contents_in, records_of}
-use Words.{with_changed, with_file, without_file, WholeFile, is_held, FitsHub, HasRecords, IsOrdered, WritesRowsOf}
+use Words.{with_changed, with_file, without_file, WholeFile, is_held, IsOrdered, IsStored, WritesRowsOf, is_sent, Kind}
+use Words.{Stored}
 use Words.{WritesUnder, own_rows, AllBeside, AreBelow, Claim, IsKept, IsRowOf, KeptWhole, Mirrored, Moves, OwnFiles}
 use Words.{Remembers, keyed, is_own, kind_word, AreApart}
 use Rattle.njh_keeper.proofs.{FrameLaws.{adds_row, changes_row, drops_row, rows_stay}, ListLaws.{BesideAt, beside_at}}
@@ -74,14 +75,23 @@ moves_nothing a s h = moves_memory a a s refl (λ n. omega arith) h (omega arith
 
 -- ---- the files stay
 
+pub stored_still : (s t : SpoolContents) (key : ℕ) (kind : Kind) (text : List ℕ) (rs : List Stored)
+    → records_of key t ≡ records_of key s → IsStored s key kind text rs → IsStored t key kind text rs
+stored_still s t key kind text rs same one = record {
+  before = one.before;
+  stored = ap contents_in same ∙ one.stored;
+  fits = one.fits;
+  are = one.are;
+}
+
 pub kept_still : (s t : SpoolContents) (k : KeptWhole) (e : ℕ × File) (f : WholeFile)
     → records_of k.key t ≡ records_of k.key s → IsKept s k e f → IsKept t k e f
 kept_still s t k e f same one = record {
   id = one.id;
   row = one.row;
+  sent = one.sent;
   remembers = one.remembers;
-  stored = ap contents_in same ∙ one.stored;
-  fits = one.fits;
+  stored = stored_still s t k.key f.kind e.1.to_node f.records same one.stored;
 }
 
 module _ (s t : SpoolContents) (own : OwnFiles) (files : List WholeFile) (all : Mirrored s own files) where
@@ -151,9 +161,10 @@ module _ (s : SpoolContents) (own : OwnFiles) (files : List WholeFile) (h : IsOr
   -- only its state changes, and nothing is written
 
   pub state_changes : (f g : WholeFile) (now : KeptWhole) → f ≡ get_or files i f → g.kind ≡ f.kind
-      → is_held g.state ≡ is_held f.state → g.records ≡ f.records → now.id ≡ k.id → now.key ≡ k.key → Remembers now g
+      → is_held g.state ≡ is_held f.state → g.records ≡ f.records → now.id ≡ k.id → now.key ≡ k.key
+      → now.is_sent ≡ k.is_sent → Remembers now g
       → Mirrored s (record own { whole = set own.whole i now }) (set files i g)
-  state_changes f g now found kind held records id key remembers =
+  state_changes f g now found kind held records id key sent remembers =
       let here : one.third ≡ f = one.third_is ∙ get_or_default files i one.third f one.third_there ∙ sym found in
       let kept : IsKept s k one.second f = subst (IsKept s k one.second) here one.holds in
       let row : set rows i one.second ≡ rows = ap (set rows i) one.second_is ∙ set-get_or rows i one.second in
@@ -169,10 +180,11 @@ module _ (s : SpoolContents) (own : OwnFiles) (files : List WholeFile) (h : IsOr
           held = kept.row.held ∙ sym held;
           count = kept.row.count ∙ ap length (sym records);
         };
+        sent = kept.sent ∙ sym sent;
         remembers = remembers;
-        stored = subst (λ n. HasRecords n g.records s) (sym key)
-            (subst (λ rs. HasRecords k.key rs s) (sym records) kept.stored);
-        fits = subst (AllByRecursion FitsHub) (sym records) kept.fits;
+        stored = subst (λ n. IsStored s n g.kind one.second.1.to_node g.records) (sym key)
+            (subst (λ x. IsStored s k.key x one.second.1.to_node g.records) (sym kind)
+            (subst (λ rs. IsStored s k.key f.kind one.second.1.to_node rs) (sym records) kept.stored));
       }))
 
   -- its row changes, and the records under its key
@@ -194,9 +206,10 @@ module _ (s : SpoolContents) (own : OwnFiles) (files : List WholeFile) (h : IsOr
 
     pub file_changes : (g : WholeFile) (now : KeptWhole) → keyed (λ (x : KeptWhole). x.key) k.key own.whole ≤ 1
         → now.id ≡ k.id → now.key ≡ k.key
-        → IsRowOf k.key g file → Remembers now g → HasRecords k.key g.records t → AllByRecursion FitsHub g.records
+        → IsRowOf k.key g file → is_sent file.to_node ≡ now.is_sent → Remembers now g
+        → IsStored t k.key g.kind file.to_node g.records
         → Mirrored (with_changed k.id file t) (record own { whole = set own.whole i now }) (set files i g)
-    file_changes g now once id key row remembers stored fits =
+    file_changes g now once id key row sent remembers stored =
         let u = with_changed k.id file t in
         let changed : own_rows own.name u ≡ set rows i (one.second.0, file) =
         subst (λ n. own_rows own.name (with_changed n file t) ≡ set (own_rows own.name t) i (one.second.0, file))
@@ -209,9 +222,10 @@ module _ (s : SpoolContents) (own : OwnFiles) (files : List WholeFile) (h : IsOr
         (record {
           id = one.holds.id ∙ sym id;
           row = subst (λ n. IsRowOf n g file) (sym key) row;
+          sent = sent;
           remembers = remembers;
-          stored = subst (λ n. HasRecords n g.records u) (sym key) stored;
-          fits = fits;
+          stored = subst (λ n. IsStored u n g.kind file.to_node g.records) (sym key)
+              (stored_still t u k.key g.kind file.to_node g.records refl stored);
         }))
 
     pub changing_moves : (a b : Claim) → a.name ≡ own.name → b.name ≡ a.name → b.next_id ≡ a.next_id
@@ -235,9 +249,9 @@ module _ (s t : SpoolContents) (own : OwnFiles) (files : List WholeFile) (all : 
   low_still = subst (λ es. AllByRecursion (λ (e : ℕ × File). e.0 < k.id) es) (sym under.files) low
 
   pub file_comes : (g : WholeFile) → keyed (λ (x : KeptWhole). x.key) k.key own.whole ≡ 0 → IsRowOf k.key g file
-      → Remembers k g → HasRecords k.key g.records t → AllByRecursion FitsHub g.records
+      → is_sent file.to_node ≡ k.is_sent → Remembers k g → IsStored t k.key g.kind file.to_node g.records
       → Mirrored (with_file k.id file t) (record own { whole = own.whole ++ k ∷ [] }) (files ++ g ∷ [])
-  file_comes g foreign row remembers stored fits =
+  file_comes g foreign row sent remembers stored =
       let u = with_file k.id file t in
       let rows = own_rows own.name s in
       let added : own_rows own.name u ≡ rows ++ (k.id, file) ∷ [] =
@@ -248,7 +262,13 @@ module _ (s t : SpoolContents) (own : OwnFiles) (files : List WholeFile) (all : 
       (beside_weaker (λ x. x.key ≢ k.key) (IsKept s) (IsKept u)
       (λ x e f apart kept. kept_still s u x e f (under.others x.key apart) kept) own.whole rows files
       (keyed_none (λ (x : KeptWhole). x.key) k.key own.whole foreign) all)
-      (record { id = refl; row = row; remembers = remembers; stored = stored; fits = fits }))
+      (record {
+        id = refl;
+        row = row;
+        sent = sent;
+        remembers = remembers;
+        stored = stored_still t u k.key g.kind file.to_node g.records refl stored;
+      }))
 
   pub coming_moves : (a b : Claim) → a.name ≡ own.name → b.name ≡ a.name → a.next_id ≡ k.id → b.next_id ≡ k.id + 1
       → 1 ≤ a.uses k.key → ((n : ℕ) → b.uses n ≤ a.uses n) → Moves a b s (with_file k.id file t)

@@ -59,10 +59,9 @@ fronts_stay s t files before now remain same fronts =
     (λ p. AllByRecursion (IsFrontWhere t p) files) (λ p all still. all_weaker (IsFrontWhere s p) (IsFrontWhere t p)
     (λ f front number seen. let x = front number seen in record {
       before = x.before;
-      long = x.long;
       within = x.within;
       stored = (λ i. contents_in (still i)) ∙ x.stored;
-      alike = x.alike;
+      rerouted = x.rerouted;
     }) files all) now (all_remain (λ p. AllByRecursion (IsFrontWhere s p) files) before now remain fronts) same
 
 pub front_at : (s : SpoolContents) (partial : List KeptPartial) (files : List WholeFile) (i : ℕ) (g : WholeFile)

@@ -1,6 +1,7 @@
 -- The data set headers of a file are gone through, and the nodes that they name compared.
 use Rattle.std.proofs.Common.{◌≡◌, ℕ, ◌+◌, ◌≤◌, ◌==◌, ◌&&◌, ◌⊎◌, inl, inr, not, cond, false, List, [], ◌∷◌, length}
-use Rattle.std.proofs.Common.{drop, slice_get, Option, Some, None, option_map, is_some, refl, sym, ap, subst, ◌∙◌, arith}
+use Rattle.std.proofs.Common.{drop, slice_get, Option, Some, None, option_map, is_some, refl, sym, ap, subst, ◌∙◌}
+use Rattle.std.proofs.Common.{arith}
 use Rattle.{std.proofs.lemmas.Bool.{cases_Bool, eqb-true}, std.specs.Result.result_ok, njh_record.specs.Stored.Stored}
 use Rattle.njh_header.specs.Headers.{data_set_header}
 use Rattle.njh_keeper.{proofs.NodeLaws.AllAre, specs.code.Nodes.{named_node, AreOne, named_nodes, with_first}}

@@ -5,7 +5,7 @@ use Words.{User, Kind, In, Stored, stays, destination_of, destination_node, reco
 use Words.{with_first, NameOneNode, ◌⊎◌, inl, inr, true, is_name, IsRerouted}
 use Rattle.{std.{proofs.Common.⊎_elim, specs.Prelude.unwrap_or}, njh_header.proofs.DestinationRecords.named_eight}
 use Rattle.njh_header.proofs.{DestinationRecords.stays_so, Destinations.{FirstNode, destination_is_first, first_names}}
-use Rattle.njh_header.proofs.Destinations.{none_before, goes_to_node, records_twice}
+use Rattle.njh_header.proofs.{ChangedFields.name_eight, Destinations.{none_before, goes_to_node, records_twice}}
 use Rattle.{njh_keeper.specs.code.Nodes.nodes_in, njh_customer.specs.Surviving.{as_before, to_node}}
 
 abbrev pub AllAre : List ℕ → List (List ℕ) → Type 0
@@ -103,6 +103,24 @@ pub record AreSentTo (kind : Kind) (before now : List Stored) : Type 0 where
   pub node : List ℕ
   pub named : is_name node ≡ true
   pub are : now ≡ records_to_node kind node None before
+
+module _ (kind : Kind) (before now : List Stored) (d : User) (reads : destination_of kind now ≡ Some d)
+    (sent : AreSentTo kind before now) where
+  stays_there : records_to_node kind sent.node None now ≡ now
+  stays_there =
+      ap (records_to_node kind sent.node None) sent.are
+      ∙ records_twice kind sent.node sent.node sent.named sent.named None before ∙ sym sent.are
+
+  -- that node is their destination
+  pub goes_there : d.node ≡ sent.node
+  goes_there =
+      let first = begins kind now d reads in
+      (subst (AllAre sent.node) first.1
+      (records_name kind sent.node (name_eight sent.node sent.named) None now stays_there)).0
+
+  -- and they name no other
+  pub sent_names_one : NameOneNode kind now
+  sent_names_one = ap (λ node. records_to_node kind node None now) (said_is kind now d reads ∙ goes_there) ∙ stays_there
 
 -- the last command alone decides
 pub last_decides : (kind : Kind) (before now : List Stored) → IsRerouted kind before now

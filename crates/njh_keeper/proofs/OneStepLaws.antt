@@ -2,7 +2,7 @@
 -- it.
 use Rattle.njh_keeper.proofs.Words
 use Words.{◌≡◌, Bool, false, List, map, true, sym, subst, ◌∙◌, recursion_from_All, State, HasHeaders, Holds}
-use Words.{SpoolContents, Whole, WholeFile, HaveHeaders, Part, IsLed, kept_file, AreFronts, GoOnIn, GoesTo, HasFiles}
+use Words.{SpoolContents, Whole, WholeFile, Part, IsLed, kept_file, AreFronts, GoOnIn, GoesTo, HasFiles}
 use Words.{LeadsFiles, Memory, HasOwn, IsSoundPart, StepGoes, Leads, AllClosed, AllUpToDate, IsUpToDate, KeepsOn}
 use Words.{KeptPartial, Mirrored, file_in, is_name_of, own_files, claim_of, GoesOn}
 use Rattle.njh_keeper.proofs.{FollowingLaws.all_remain, GrowthLaws.{led_grows, goes_on_in, fronts_of_step}}
@@ -19,7 +19,7 @@ kept_still m m1 s t files now here name before behind =
 
 module _ (m m1 m2 : Memory)
     (changed changed2 : Bool) (before now : Part) (led : IsLed before now) (sound : IsSoundPart before)
-    (headers_now : HaveHeaders now.customer.spool.whole) (old mid new : State)
+    (old mid new : State)
     (followed : LeadsFiles (λ s files. GoOnIn m.own.arrived files now.customer
     × AreFronts s m.own.partial now.customer.spool.whole) (λ files fs. fs ≡ now.customer.spool.whole)
     (record { memory = m; shows = old }) (record { memory = m1; shows = mid }))
@@ -53,7 +53,7 @@ module _ (m m1 m2 : Memory)
               let to = first.2 files given (
                 subst (λ n. GoOnIn n files now.customer) (sym h.arrived) (goes_on_in before now sound.sound led),
                 fronts_of_step grown.0 before.customer.spool now.customer.spool grown.1 grown.2 sound.sound s.now m.own
-                    h.up_to_date h.go_on headers_now,
+                    h.up_to_date h.go_on,
               ) in
               let goes : GoesTo m m1 s.now t now.customer.spool.whole = subst (GoesTo m m1 s.now t) to.1 to.2 in
               let x = now.customer.spool in

@@ -2,13 +2,16 @@
 use Rattle.njh_keeper.proofs.Words
 use Words.{◌≡◌, ℕ, ◌+◌, ◌<◌, ◌==◌, true, List, [], ◌∷◌, ◌++◌, length, get_or, set, refl, sym, ap, subst}
 use Words.{append_assoc, append-nil, ◌∙◌, arith, AllZip, File, SpoolContents, contents_in, records_of, with_changed}
-use Words.{CustomerSpool, WholeFile, KeptFile, is_held, HasRecords, IsOrdered, WritesRowsOf, own_rows, IsRead}
+use Words.{CustomerSpool, WholeFile, KeptFile, HasHeaders, is_held, IsStored, said_destination, is_sent, with_mark}
+use Words.{field_text, IsOrdered, WritesRowsOf, own_rows, IsRead}
 use Words.{IsReadFor, Remembering, keyed_rows, owned_of, AllBeside, none_beside, IsKept, IsRowOf, KeptWhole, OwnFiles}
 use Words.{Remembers, keyed, one_if, file_in, is_own, length-append, ⊤, ◌≢◌, ◌⊎◌, inl, inr, cases_lt, AreDistinct, Part}
 use Words.{part, AllAreRead, AreRemembered, IsOwnOf, files_at, name_at, Mirrored}
 use Rattle.njh_keeper.proofs.{FrameLaws.changes_row, HubLaws.apart, ListLaws.{beside_lengths, beside_push}}
-use Rattle.njh_keeper.proofs.{ListLaws.{beside_weaker, all_zip_weaker}, MirrorLaws.{all_of, kept_still, mirrored_still}}
+use Rattle.njh_keeper.proofs.{ListLaws.{beside_weaker, all_zip_weaker}}
+use Rattle.njh_keeper.proofs.{MirrorLaws.{all_of, kept_still, mirrored_still, stored_still}}
 use Rattle.njh_keeper.proofs.{ReadBackLaws.{IsReadAs, is_kept_as_read, is_read_as}, RowLaws.below_with_changed}
+use Rattle.njh_keeper.proofs.SentLaws.{is_sent_back, still_stored}
 use Rattle.njh_keeper.proofs.StillRows.{still_changed, still_same, still_then}
 use Rattle.njh_keeper.{proofs.{RowLaws.{row_below, row_changes}, UsesLaws.keyed-append}, specs.code.Opening.IsCustomer}
 use Rattle.{njh_keeper.specs.code.Opening.IsRemembered, std.proofs.lemmas.List.{get_or_at, set_at, get_or_append_left}}
@@ -79,7 +82,7 @@ module _ (name : List ℕ) (whole : List KeptWhole) (e : ℕ × File) (left : Li
   next_read = next is.behind refl is.reads
 
   module _ (k : KeptWhole) (g : WholeFile) (it : IsNextRead g) (id : k.id ≡ e.0) (key : k.key ≡ e.1.key)
-      (remembers : Remembers k g) where
+      (sent : is_sent e.1.to_node ≡ k.is_sent) (remembers : Remembers k g) where
     abbrev as_read : KeptFile
     as_read = record { kind = g.kind; held = e.1.held; records = g.records }
 
@@ -107,7 +110,7 @@ module _ (name : List ℕ) (whole : List KeptWhole) (e : ℕ × File) (left : Li
       rows_are = is.rows_are ∙ one_more is.rows e left;
       files_are = files_now;
       beside = beside_push (IsKept s) whole is.rows is.before k e g is.beside
-          (is_kept_as_read s k e as_read g read_as refl refl held id key remembers);
+          (is_kept_as_read s k e as_read g read_as refl refl held id key sent remembers);
       reads = it.others;
       writes = is.writes;
       still = is.still;
@@ -116,7 +119,9 @@ module _ (name : List ℕ) (whole : List KeptWhole) (e : ℕ × File) (left : Li
     }
 
     -- it is written anew
-    module _ (row : File) (owned : is_own name row ≡ true) (is_row : IsRowOf k.key g row) where
+    module _ (row : File) (owned : is_own name row ≡ true) (is_row : IsRowOf k.key g row)
+        (headers : HasHeaders g.kind g.records)
+        (node : row.to_node ≡ with_mark k.is_sent (field_text (said_destination g.kind g.records).node)) where
       at_row : e ≡ get_or (own_rows name s) (length is.rows) e
       at_row = sym (get_or_at is.rows e left e (length is.rows) refl)
           ∙ ap (λ es. get_or es (length is.rows) e) (sym is.rows_are)
@@ -128,13 +133,19 @@ module _ (name : List ℕ) (whole : List KeptWhole) (e : ℕ × File) (left : Li
       writes_row = changes_row name s is.writes.ordered (length is.rows) e there_row at_row row owned
 
       kept_new : IsKept (with_changed e.0 row s) k (e.0, row) g
-      kept_new = record {
-        id = sym id;
-        row = is_row;
-        remembers = remembers;
-        stored = subst (λ n. HasRecords n g.records s) (sym key) read_as.stored;
-        fits = read_as.fits;
-      }
+      kept_new =
+          let still = still_stored s e.1.key g.kind e.1.to_node g.records read_as.stored headers.destination
+          headers.goes k.is_sent sent in
+          record {
+            id = sym id;
+            row = is_row;
+            sent = ap is_sent node ∙ is_sent_back k.is_sent (said_destination g.kind g.records).node;
+            remembers = remembers;
+            stored = stored_still s (with_changed e.0 row s) k.key g.kind row.to_node g.records refl
+                (subst (λ text. IsStored s k.key g.kind text g.records) (sym node)
+                (subst (λ n. IsStored s n g.kind (with_mark k.is_sent
+                (field_text (said_destination g.kind g.records).node)) g.records) (sym key) still));
+          }
 
       pub goes_on_anew : IsRead name (whole ++ k ∷ []) left spool.whole from (with_changed e.0 row s)
       goes_on_anew = record {

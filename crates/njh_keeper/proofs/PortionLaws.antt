@@ -10,7 +10,7 @@ use Words.{KeepsOn, KeepsPartly, IsPartlyKept, KeptPartial, Numbers, OwnFiles, I
 use Rattle.std.proofs.{Common.{if◌then◌else◌, IsSomeAnd}, lemmas.{Bool.false≢true, Option.slice_get-get_or}}
 use Rattle.njh_keeper.proofs.CountingLaws.{rows_as_partial_changes, rows_as_partial_is_swept}
 use Rattle.njh_keeper.proofs.CountingLaws.{rows_as_partial_comes, sum-push}
-use Rattle.njh_keeper.proofs.{AlikeLaws.begun_same, LeadingLaws.{leads_by, leads_nothing, leads_then, leads_weaker}}
+use Rattle.njh_keeper.proofs.LeadingLaws.{leads_by, leads_nothing, leads_then, leads_weaker}
 use Rattle.njh_keeper.proofs.ListLaws.{all_remove, all_set, at_place, map-remove, within_seen}
 use Rattle.njh_keeper.proofs.NumberedLaws.{all-push, all_weaker}
 use Rattle.njh_keeper.proofs.PartlyLaws.{Halves, halves_at, halves_remove, halves_set, keeps_begun, keeps_closed}
@@ -407,10 +407,10 @@ module _ (p q : kept_partial.KeptPartial) (rs : List Stored) (key : q.key ≡ p.
   )
 
   -- all that is left is written
-  pub rest_is_written : (t : SpoolContents) → q.written ≡ length rs → Writes false p.key p.written rs s t → IsOrdered s
+  pub rest_is_written : (t : SpoolContents) → q.written ≡ length rs → Writes p.key p.written rs s t → IsOrdered s
       → IsPartlyKept s (partial_of p) rs → WritesUnder p.key s t × IsPartlyKept t (partial_of q) rs
   rest_is_written t whole wrote h one =
-      let done = wrote (take p.written rs) h one.stored (begun_same p.written rs one.written) in (
+      let done = wrote rs refl h one.stored in (
         done.0,
         record {
           written = omega (arith, whole);

@@ -3,16 +3,16 @@ use Rattle.njh_keeper.proofs.Words
 use Words.{◌≡◌, ℕ, ◌+◌, ◌==◌, nat_lt, nat_le, ◌&&◌, Bool, true, false, cond, List, [], ◌∷◌, length, map, Option, Some}
 use Words.{None, option_map, bytes_eq, refl, sym, ap, subst, ◌∙◌, arith, and_parts, nat_tests, length-map}
 use Words.{bytes_decides, AllByRecursion, Kind, In, Out, File, SpoolContents, contents_in, records_of, WholeFile}
-use Words.{is_held, FitsHub, HasRecords, contents_from, IsKept, KeptWhole, Remembers, Contents, are_records_from}
-use Words.{KeptFile, are_records_of, as_stored, file_in, is_record_at, kind_of_word, kind_word}
+use Words.{is_held, FitsHub, contents_from, IsKept, IsStored, KeptWhole, Remembers, Contents, are_records_from, Stored}
+use Words.{KeptFile, are_records_of, as_stored, file_in, is_record_at, is_sent, kind_of_word, kind_word, records_now}
+use Rattle.njh_keeper.proofs.{FileLaws.by_kind, SentLaws.{are_rerouted, rerouted_long}}
 use Rattle.{std.proofs.Common.codes, njh_keeper.proofs.NumberedLaws.equal_to}
 
 pub record IsReadAs (spool : SpoolContents) (file : File) (f : KeptFile) : Type 0 where
   pub kind : file.kind ≡ kind_word f.kind
   pub held : file.held ≡ f.held
   pub count : file.records ≡ length f.records
-  pub stored : HasRecords file.key f.records spool
-  pub fits : AllByRecursion FitsHub f.records
+  pub stored : IsStored spool file.key f.kind file.to_node f.records
 
 -- ---- its records
 
@@ -52,42 +52,51 @@ module _ (spool : SpoolContents) (file : File) where
   abbrev cs : List Contents
   cs = contents_in (records_of file.key spool)
 
-  abbrev as_file : Kind → KeptFile
-  as_file kind = record { kind = kind; held = file.held; records = map as_stored cs }
+  abbrev as_file : Kind → List Stored → KeptFile
+  as_file kind now = record { kind = kind; held = file.held; records = now }
 
-  read_so : (kind : Kind) → kind_of_word file.kind ≡ Some kind → are_records_of file cs ≡ true
-      → IsReadAs spool file (as_file kind)
-  read_so kind word all =
+  read_so : (kind : Kind) (now : List Stored) → kind_of_word file.kind ≡ Some kind → are_records_of file cs ≡ true
+      → records_now kind file.to_node (map as_stored cs) ≡ Some now → IsReadAs spool file (as_file kind now)
+  read_so kind now word all are =
       let each = and_parts (length cs == file.records) (are_records_from 0 cs) all in
       let stored = are_stored 0 cs each.1 in
       record {
         kind = word_of_kind file.kind kind word;
         held = refl;
-        count = sym (equal_to (length cs) file.records each.0) ∙ sym (length-map cs as_stored);
-        stored = stored.are;
-        fits = stored.fits;
+        count = sym (equal_to (length cs) file.records each.0) ∙ sym (length-map cs as_stored)
+            ∙ sym (rerouted_long kind (map as_stored cs) now
+            (are_rerouted kind file.to_node (map as_stored cs) now are));
+        stored = record { before = map as_stored cs; stored = stored.are; fits = stored.fits; are = are };
       }
 
-  at_kind : (o : Option Kind) (f : KeptFile) → kind_of_word file.kind ≡ o → are_records_of file cs ≡ true
-      → option_map as_file o ≡ Some f → IsReadAs spool file f
-  at_kind None f word all is = absurd (cc is)
-  at_kind (Some kind) f word all is = let same : as_file kind ≡ f =
-      cc is in subst (IsReadAs spool file) same (read_so kind word all)
+  at_now : (kind : Kind) (o : Option (List Stored)) (f : KeptFile) → kind_of_word file.kind ≡ Some kind
+      → are_records_of file cs ≡ true → records_now kind file.to_node (map as_stored cs) ≡ o
+      → option_map (as_file kind) o ≡ Some f → IsReadAs spool file f
+  at_now kind None f word all are is = absurd (cc is)
+  at_now kind (Some now) f word all are is =
+      let same : as_file kind now ≡ f = cc is in subst (IsReadAs spool file) same (read_so kind now word all are)
 
-  at_records : (b : Bool) (f : KeptFile) → are_records_of file cs ≡ b
-      → cond b (option_map as_file (kind_of_word file.kind)) None ≡ Some f → IsReadAs spool file f
-  at_records true f all is = at_kind (kind_of_word file.kind) f refl all is
-  at_records false f all is = absurd (cc is)
+  at_records : (kind : Kind) (b : Bool) (f : KeptFile) → kind_of_word file.kind ≡ Some kind
+      → are_records_of file cs ≡ b
+      → option_map (as_file kind) (cond b (records_now kind file.to_node (map as_stored cs)) None) ≡ Some f
+      → IsReadAs spool file f
+  at_records kind true f word all is = at_now kind (records_now kind file.to_node (map as_stored cs)) f word all refl is
+  at_records kind false f word all is = absurd (cc is)
+
+  at_kind : (o : Option Kind) (f : KeptFile) → kind_of_word file.kind ≡ o → by_kind file cs o ≡ Some f
+      → IsReadAs spool file f
+  at_kind None f word is = absurd (cc is)
+  at_kind (Some kind) f word is = at_records kind (are_records_of file cs) f word refl is
 
   pub is_read_as : (f : KeptFile) → file_in file (contents_in (records_of file.key spool)) ≡ Some f
       → IsReadAs spool file f
-  is_read_as f is = at_records (are_records_of file cs) f refl is
+  is_read_as f is = at_kind (kind_of_word file.kind) f refl is
 
 -- where the hub has it so, and it is remembered so, it is kept
 pub is_kept_as_read : (spool : SpoolContents) (k : KeptWhole) (e : ℕ × File) (f : KeptFile) (g : WholeFile)
     → IsReadAs spool e.1 f → g.kind ≡ f.kind → g.records ≡ f.records → is_held g.state ≡ f.held
-    → k.id ≡ e.0 → k.key ≡ e.1.key → Remembers k g → IsKept spool k e g
-is_kept_as_read spool k e f g read kind records held id key remembers = record {
+    → k.id ≡ e.0 → k.key ≡ e.1.key → is_sent e.1.to_node ≡ k.is_sent → Remembers k g → IsKept spool k e g
+is_kept_as_read spool k e f g read kind records held id key sent remembers = record {
   id = sym id;
   row = record {
     key = sym key;
@@ -95,8 +104,9 @@ is_kept_as_read spool k e f g read kind records held id key remembers = record {
     held = read.held ∙ sym held;
     count = read.count ∙ ap length (sym records);
   };
+  sent = sent;
   remembers = remembers;
-  stored = subst (λ n. HasRecords n g.records spool) (sym key)
-      (subst (λ rs. HasRecords e.1.key rs spool) (sym records) read.stored);
-  fits = subst (AllByRecursion FitsHub) (sym records) read.fits;
+  stored = subst (λ n. IsStored spool n g.kind e.1.to_node g.records) (sym key)
+      (subst (λ x. IsStored spool e.1.key x e.1.to_node g.records) (sym kind)
+      (subst (λ rs. IsStored spool e.1.key f.kind e.1.to_node rs) (sym records) read.stored));
 }

@@ -1,17 +1,17 @@
 -- What becomes of the records under each key.
 use Rattle.njh_keeper.proofs.Words
 use Words.{◌≡◌, ◌≢◌, ℕ, suc, ◌+◌, ◌^◌, ◌<◌, ◌≤◌, ◌==◌, nat_le, nat_lt, ◌&&◌, true, false, not, List, [], ◌∷◌}
-use Words.{◌++◌, length, get_or, set, map, Some, refl, sym, ap, ◌∙◌, arith, nat_tests, length-map, map-append}
-use Words.{map-set, get_or-map, All-filter, All-from_recursion, filter_passes, recursion_from_All, AllByRecursion, Kind}
-use Words.{Stored, all_put, put_rises, without_rises, File, Record, SpoolContents, contents_in, put, without}
-use Words.{records_of, with_record, without_records, FitsHub, HasRecords, IsOrdered, contents_from, stored_of}
-use Words.{as_stored, are_records_from, are_records_of, file_in, kind_of_word}
-use Rattle.std.proofs.Common.{All}
-use Rattle.njh_spoolfile.specs.{Kept.{IsNumbered, record_number}, Packed.{placed_from, stands_alone, unpacked_row}}
-use Rattle.njh_keeper.proofs.{FileLaws.is_file, NumberedLaws.{all_filter, all_weaker, equal, equal_to, filter_none}}
+use Words.{◌++◌, length, map, Some, refl, sym, ap, ◌∙◌, arith, nat_tests, length-map, map-append}
+use Words.{All-filter, All-from_recursion, filter_passes, recursion_from_All, AllByRecursion, Kind}
+use Words.{Stored, all_put, put_rises, without_rises, File, Record, SpoolContents, contents_in, put}
+use Words.{records_of, with_record, without_records, FitsHub, HasRecords, IsOrdered, contents_from}
+use Words.{as_stored, are_records_from, are_records_of, file_in, kind_of_word, records_now}
+use Rattle.njh_spoolfile.specs.{Kept.{IsNumbered, record_number}, Packed.{placed_from, unpacked_row}}
+use Rattle.njh_keeper.proofs.{FileLaws.{is_file, is_whole}}
+use Rattle.njh_keeper.proofs.{NumberedLaws.{all_filter, all_weaker, equal, equal_to, filter_none}}
 use Rattle.njh_keeper.proofs.NumberedLaws.{filter-put, filter-put_other, filter-without, filter-without_other}
-use Rattle.njh_keeper.proofs.{NumberedLaws.{rises_filter, unequal}, PackedRows.{IsUnder, row_changes, row_comes}}
-use Rattle.njh_keeper.{proofs.RowRecords.a_header_has_a_row, specs.code.Mirrored.as_packed}
+use Rattle.njh_keeper.proofs.{NumberedLaws.{unequal}, PackedRows.{IsUnder, row_comes}}
+use Rattle.njh_keeper.specs.code.Mirrored.{as_packed}
 
 -- ---- the order stays
 
@@ -83,10 +83,6 @@ all_leave key spool h =
     (all_weaker (IsUnder key) (λ e. not (between e.0) ≡ false) (within_key key) (records_of key spool)
     (are_under key spool h)))
 
-between_one : (key i n : ℕ) → (nat_le (record_number key i) n && nat_lt n (record_number key (i + 1)))
-    ≡ (n == record_number key i)
-between_one key i n = grind (arith, nat_tests)
-
 module _ (key : ℕ) (rs : List Stored) (r : Record) (spool : SpoolContents) (h : IsOrdered spool)
     (has : HasRecords key rs spool) (mine : r.key ≡ key) where
   abbrev new : ℕ × Record
@@ -108,26 +104,6 @@ module _ (key : ℕ) (rs : List Stored) (r : Record) (spool : SpoolContents) (h 
       ∙ row_comes key (records_of key spool) (map as_packed rs) (map as_packed xs) r (are_under key spool h) has place
       are
       ∙ ap (placed_from 0) (sym (map-append as_packed rs xs))
-
-  -- a header in the place of one
-  pub header_changes : (i : ℕ) → i < length rs → r.place ≡ i → stands_alone (get_or rs i (stored_of r)).srcb ≡ true
-      → stands_alone r.srcb ≡ true
-      → HasRecords key (set rs i (stored_of r)) (with_record r (without_records key i (i + 1) spool))
-  header_changes i there at was is =
-      let between = λ (n : ℕ). nat_le (record_number key i) n && nat_lt n (record_number key (i + 1)) in
-      let all = map as_packed rs in
-      let within : i < length all = omega (arith, there, length-map rs as_packed) in
-      let header : stands_alone (get_or all i (as_packed (stored_of r))).0 ≡ true =
-      ap (λ (x : ℕ × List ℕ). stands_alone x.0)
-      (get_or-map as_packed rs i (stored_of r) (as_packed (stored_of r)) there) ∙ was in
-      ap contents_in (filter-put (λ e. e.1.key == key) new (without_records key i (i + 1) spool).records
-      (without_rises between spool.records h.records_rise) is_mine
-      ∙ ap (put new) (filter-without (λ e. e.1.key == key) between spool.records)
-      ∙ (λ j. put (new_is i at j) (without (λ n. between_one key i n j) (records_of key spool))))
-      ∙ row_changes key (records_of key spool) all i r
-      (rises_filter (λ e. e.1.key == key) spool.records h.records_rise) (are_under key spool h) has within header at
-      (a_header_has_a_row r.srcb r.bytes is)
-      ∙ ap (placed_from 0) (sym (map-set as_packed rs i (stored_of r)))
 
 -- ---- they are read back
 
@@ -152,16 +128,18 @@ module _ (key : ℕ) (rs : List Stored) (spool : SpoolContents) (has : HasRecord
   pub records_read_back : map as_stored (contents_in (records_of key spool)) ≡ rs
   records_read_back = ap (map as_stored) has ∙ as_stored-contents_from 0 rs
 
-  module _ (file : File) (count : length rs ≡ file.records) (fit : All FitsHub rs) where
+  module _ (file : File) (count : length rs ≡ file.records) (fit : AllByRecursion FitsHub rs) where
     pub are_all_there : are_records_of file (contents_in (records_of key spool)) ≡ true
     are_all_there =
         ap (are_records_of file) has
         ∙ rw (ap (λ n. n == file.records) (length-contents_from 0 rs ∙ count) ∙ equal file.records)
-        (fit_all 0 rs (recursion_from_All FitsHub rs fit))
+        (fit_all 0 rs fit)
 
-    pub file_reads_back : (kind : Kind) → kind_of_word file.kind ≡ Some kind
+    pub file_reads_back : (kind : Kind) → kind_of_word file.kind ≡ Some kind → (now : List Stored)
+        → records_now kind file.to_node rs ≡ Some now
         → file_in file (contents_in (records_of key spool))
-        ≡ Some (record { kind = kind; held = file.held; records = rs })
-    file_reads_back kind word =
-        is_file file (contents_in (records_of key spool)) kind are_all_there word
-        ∙ (λ i. Some (record { kind = kind; held = file.held; records = records_read_back i }))
+        ≡ Some (record { kind = kind; held = file.held; records = now })
+    file_reads_back kind word now are =
+        is_file file (contents_in (records_of key spool)) kind now word
+        (is_whole file (contents_in (records_of key spool)) kind are_all_there
+        ∙ ap (records_now kind file.to_node) records_read_back ∙ are)

@@ -4,7 +4,7 @@ use Words.{◌≡◌, ℕ, ◌<◌, ◌+◌, List, [], ◌∷◌, ◌++◌, leng
 use Words.{subst, ◌∙◌, map-append, take_more, map-map, State, StoredFile, StoredRecord, SpoolContents, Whole, Holds}
 use Words.{contents_in, contents_of, kept, records_of, whole_in, entry_of, Stays, Part, part, NoneFails, hub_fault}
 use Words.{hub_with, hub_with_all, number_of, wholes, FileFault, Contents, file_fault, whole_fault, with_whole}
-use Words.{Database, AllAreBack, hub_opened, drop, append_assoc, take-append-drop, AreDistinct, NamedCustomer}
+use Words.{Database, AllAreBack, hub_opened, drop, append_assoc, take-append-drop, AreDistinct}
 use Words.{◌==◌, append-nil, CommitState, Err, File, file_of, get_or, IfOk, inl, inr, length-append, Ok, OnOk}
 use Words.{option_map, put, refl, Result, Rise, Stands, arith}
 use Words.{drop_more, slice_get, TableFile, part_at_open, DepotFault, without}

@@ -1,17 +1,18 @@
 -- A file that is still there: what is written anew, and what is remembered of it then.
 use Rattle.njh_keeper.proofs.Words
-use Words.{◌≡◌, ◌≢◌, ℕ, ◌<◌, ◌⊎◌, inl, inr, Bool, true, false, List, length, get_or, set, Some, None, refl, sym, ap}
+use Words.{◌≡◌, ℕ, ◌<◌, ◌⊎◌, inl, inr, Bool, true, false, List, length, get_or, set, Some, None, refl, sym, ap}
 use Words.{subst, ◌∙◌, arith, get_or_default, AllByRecursion, User, Kind, In, Out, Stored, destination_of, HasHeaders}
 use Words.{File, SpoolContents, records_of, with_changed, WholeFile, IsStill, FileSummaryView, said_destination}
-use Words.{file_summary, is_held, AreAlike, Writes, GoesTo, HasFiles, IsRowFor, IsStillAt, Memory, claim_of, FitsHub}
-use Words.{HasRecords, WritesUnder, own_rows, AreOne, named_nodes, IsKept, IsRowOf, KeptPartial, KeptWhole, NameOneNode}
-use Words.{Remembers, is_own}
-use Rattle.njh_keeper.proofs.{AlikeLaws.{alike_fit, alike_long, begun_all, rerouted_alike}, FollowingLaws.goes}
+use Words.{file_summary, is_held, GoesTo, HasFiles, IsRowFor, IsStillAt, Memory, claim_of, IsRerouted, is_name}
+use Words.{IsStored, is_sent, with_mark, field_text, WritesUnder, own_rows, AreOne, named_nodes, IsKept}
+use Words.{KeptPartial, KeptWhole, NameOneNode}
+use Words.{Remembers}
+use Rattle.njh_keeper.proofs.{SentLaws.{is_sent_back, rerouted_long, sent_stored, still_stored}, FollowingLaws.goes}
 use Rattle.njh_keeper.proofs.{FollowingLaws.remain_same, ListLaws.{BesideAt, all-set}, MirrorLaws.all_of}
 use Rattle.njh_keeper.proofs.MirrorLaws.{state_changes, changing_moves, file_changes, moves_memory}
 use Rattle.njh_keeper.proofs.NodeLaws.{job_names_one, names_one_node, one_node_is_named, same_by_destination}
-use Rattle.njh_keeper.proofs.{NodeLaws.same_or_one_node, NumberedLaws.{all_weaker, all_at}, UsesLaws.keyed_at}
-use Rattle.{njh_keeper.proofs.{UsesLaws.{keyed_none, uses_as_one_changes}, WalkLaws.kept_at}, std.proofs.Common.⊎_elim}
+use Rattle.njh_keeper.proofs.{NodeLaws.same_or_one_node, NumberedLaws.{all_at}}
+use Rattle.{njh_keeper.proofs.{UsesLaws.{uses_as_one_changes}, WalkLaws.kept_at}, std.proofs.Common.⊎_elim}
 
 -- ---- which nodes are named
 
@@ -25,11 +26,14 @@ pub job_is_named : (kind : Kind) (rs : List Stored) (d : User) → destination_o
 job_is_named kind rs d reads job = subst (λ x. NameOneNode x rs) (sym job)
     (job_names_one rs d (subst (λ x. destination_of x rs ≡ Some d) job reads))
 
+pub out_is_named : (kind : Kind) (rs : List Stored) (d : User) → destination_of kind rs ≡ Some d → kind ≡ Out
+    → NameOneNode kind rs → AreOne (named_nodes None rs)
+out_is_named kind rs d reads out one =
+    one_node_is_named Out rs d (subst (λ x. destination_of x rs ≡ Some d) out reads)
+    (subst (λ x. NameOneNode x rs) out one)
+
 module _ (k : KeptWhole) (f g : WholeFile) (remembers : Remembers k f) (still : IsStill f g)
     (was : HasHeaders f.kind f.records) (is : HasHeaders g.kind g.records) where
-  pub alike_still : AreAlike f.records g.records
-  alike_still = rerouted_alike f.kind f.records g.records was.destination still.records was.goes
-
   -- its headers named one node, or they name several still
   one_or_several : (k.is_mixed ≡ true → AreOne (named_nodes None g.records) → ⊥)
       → NameOneNode f.kind f.records ⊎ (NameOneNode f.kind g.records → ⊥)
@@ -95,30 +99,34 @@ module _ (m : Memory) (i : ℕ) (k : KeptWhole) (there : i < length m.own.whole)
       all_headers = all-set (λ h. HasHeaders h.kind h.records) files i g has.headers headers
 
       -- nothing is written
-      state_goes : is_held g.state ≡ is_held before.before.state → g.records ≡ before.before.records
-          → GoesTo m (memory_changed now) s s (set files i g)
-      state_goes held same =
+      state_goes : now.is_sent ≡ k.is_sent → is_held g.state ≡ is_held before.before.state
+          → g.records ≡ before.before.records → GoesTo m (memory_changed now) s s (set files i g)
+      state_goes sent held same =
           goes m (memory_changed now) s s files (set files i g) has
           (moves_memory (claim_of m) (claim_of (memory_changed now)) s refl
           (λ n. let as_was = same_uses n in omega (arith, as_was)) has.ordered (omega arith))
           (state_changes s m.own files has.ordered has.mirrored i k there is before.before g now before.is
-          before.still.kind held same id key remembers) refl all_headers (remain_same m.own.partial)
+          before.still.kind held same id key sent remembers) refl all_headers (remain_same m.own.partial)
           (all_of (λ (p : KeptPartial). records_of p.key s ≡ records_of p.key s) (λ p. refl) m.own.partial)
 
-      -- its row is written anew, and the records under its key
-      row_goes : (t : SpoolContents) (row : File) → WritesUnder k.key s t → is_own m.own.name row ≡ true
-          → IsRowOf k.key g row → HasRecords k.key g.records t → AllByRecursion FitsHub g.records
-          → GoesTo m (memory_changed now) s (with_changed k.id row t) (set files i g)
-      row_goes t row under owned is_row stored fits =
-          goes m (memory_changed now) s (with_changed k.id row t) files (set files i g) has
-          (changing_moves s m.own files has.ordered has.mirrored i k there is t under row owned (claim_of m)
+      -- its row is written anew
+      row_goes : (row : File) → IsRowFor m.text k.key now.is_sent (file_summary g) row
+          → IsStored s k.key g.kind
+          (with_mark now.is_sent (field_text (said_destination g.kind g.records).node)) g.records
+          → GoesTo m (memory_changed now) s (with_changed k.id row s) (set files i g)
+      row_goes row is_row stored =
+          let under : WritesUnder k.key s s =
+          record { files = refl; ordered = has.ordered; others = λ other apart. refl } in
+          let owned = is_row.owned m.own.name has.named in
+          goes m (memory_changed now) s (with_changed k.id row s) files (set files i g) has
+          (changing_moves s m.own files has.ordered has.mirrored i k there is s under row owned (claim_of m)
           (claim_of (memory_changed now)) refl refl refl (λ n. let as_was = same_uses n in omega (arith, as_was))
-          (λ n. omega arith)) (file_changes s m.own files has.ordered has.mirrored i k there is t under row owned g now
-          (let once = has.apart k.key in omega (arith, once)) id key is_row remembers stored fits) refl
-          all_headers (remain_same m.own.partial) (all_weaker (λ (p : KeptPartial). p.key ≢ k.key)
-          (λ p. records_of p.key (with_changed k.id row t) ≡ records_of p.key s) (λ p other. under.others p.key other)
-          m.own.partial (keyed_none (λ (p : KeptPartial). p.key) k.key m.own.partial (let once = has.apart k.key in
-          let one = keyed_at (λ (x : KeptWhole). x.key) m.own.whole i k there is in omega (arith, once, one))))
+          (λ n. omega arith)) (file_changes s m.own files has.ordered has.mirrored i k there is s under row owned g now
+          (let once = has.apart k.key in omega (arith, once)) id key (is_row.of_file g refl)
+          (ap is_sent is_row.node ∙ is_sent_back now.is_sent (said_destination g.kind g.records).node) remembers
+          (subst (λ text. IsStored s k.key g.kind text g.records) (sym is_row.node) stored)) refl
+          all_headers (remain_same m.own.partial)
+          (all_of (λ (p : KeptPartial). records_of p.key s ≡ records_of p.key s) (λ p. refl) m.own.partial)
 
   -- ---- as the hub has the file now
 
@@ -131,7 +139,12 @@ module _ (m : Memory) (i : ℕ) (k : KeptWhole) (there : i < length m.own.whole)
     destination_is = ap (λ (x : FileSummaryView). x.destination) summary_is
 
     abbrev pub now_rewritten : KeptWhole
-    now_rewritten = record k { state = summary.state; destination = summary.destination; is_mixed = false }
+    now_rewritten = record k {
+      state = summary.state;
+      destination = summary.destination;
+      is_mixed = false;
+      is_sent = is_name summary.destination.node;
+    }
 
     abbrev pub now_kept : KeptWhole
     now_kept = record k { state = summary.state }
@@ -144,27 +157,39 @@ module _ (m : Memory) (i : ℕ) (k : KeptWhole) (there : i < length m.own.whole)
       was : HasHeaders before.before.kind before.before.records
       was = headers_here s files has before.before before.is
 
-      alike : AreAlike before.before.records g.records
-      alike = alike_still k before.before g kept.remembers before.still was headers
+      -- its text for the node, and what it was
+      abbrev text : List ℕ
+      text = (at s files has before.before before.is).second.1.to_node
 
-      -- its headers were written anew, and its row
+      its_kind : IsStored s k.key before.before.kind text before.before.records
+          → IsStored s k.key g.kind text before.before.records
+      its_kind = subst (λ x. IsStored s k.key x text before.before.records) (sym before.still.kind)
+
+      its_row : (b : Bool) (row : File) → IsRowFor m.text k.key b summary row
+          → IsRowFor m.text k.key b (file_summary g) row
+      its_row b row = subst (λ x. IsRowFor m.text k.key b x row) summary_is
+
+      -- its row says that it was sent elsewhere
       pub rewritten_goes : (k.destination ≡ summary.destination → AreOne (named_nodes None g.records))
-          → (t : SpoolContents) (row : File) → Writes true k.key (length g.records) g.records s t
-          → IsRowFor m.text k.key summary row
-          → GoesTo m (memory_changed now_rewritten) s (with_changed k.id row t) (set files i g)
-      rewritten_goes one t row writes is_row =
-          let written = writes before.before.records has.ordered kept.stored
-          (begun_all before.before.records g.records alike) in
+          → (row : File) → IsRowFor m.text k.key now_rewritten.is_sent summary row
+          → GoesTo m (memory_changed now_rewritten) s (with_changed k.id row s) (set files i g)
+      rewritten_goes one row is_row =
+          let names_one = names_one_still k before.before g kept.remembers before.still was headers
+          (λ said. one (said ∙ sym destination_is)) in
+          let rerouted = subst (λ kind. IsRerouted kind before.before.records g.records) (sym before.still.kind)
+          before.still.records in
           row_goes now_rewritten refl refl s files has g before headers
           (record {
             number = kept.remembers.number ∙ sym before.still.number;
-            records = kept.remembers.records ∙ sym (alike_long before.before.records g.records alike);
+            records = kept.remembers.records ∙ sym (rerouted_long g.kind before.before.records g.records rerouted);
             state = state_is;
             destination = destination_is;
-            mixed = λ _. names_one_still k before.before g kept.remembers before.still was headers
-                (λ said. one (said ∙ sym destination_is));
-          }) t row written.0 (is_row.owned m.own.name has.named) (is_row.of_file g summary_is) written.1
-          (alike_fit before.before.records g.records alike kept.fits)
+            mixed = λ _. names_one;
+          }) row (its_row now_rewritten.is_sent row is_row)
+          (subst (λ (u : User). IsStored s k.key g.kind (with_mark (is_name u.node)
+          (field_text (said_destination g.kind g.records).node)) g.records) (sym destination_is)
+          (sent_stored s k.key g.kind text before.before.records (its_kind kept.stored) g.records rerouted
+          headers.destination headers.goes names_one))
 
       module _ (same : k.destination ≡ summary.destination)
           (several : k.is_mixed ≡ true → AreOne (named_nodes None g.records) → ⊥) where
@@ -184,15 +209,14 @@ module _ (m : Memory) (i : ℕ) (k : KeptWhole) (there : i < length m.own.whole)
         -- nothing was written
         pub kept_goes : is_held summary.state ≡ is_held k.state → GoesTo m (memory_changed now_kept) s s (set files i g)
         kept_goes held =
-            state_goes now_kept refl refl s files has g before headers remembers_kept
+            state_goes now_kept refl refl s files has g before headers remembers_kept refl
             (ap is_held (sym state_is) ∙ held ∙ ap is_held kept.remembers.state) as_was
 
         -- its row was written anew
-        pub held_goes : (row : File) → IsRowFor m.text k.key summary row
+        pub held_goes : (row : File) → IsRowFor m.text k.key k.is_sent summary row
             → GoesTo m (memory_changed now_kept) s (with_changed k.id row s) (set files i g)
         held_goes row is_row =
-            row_goes now_kept refl refl s files has g before headers remembers_kept s row
-            (record { files = refl; ordered = has.ordered; others = λ other apart. refl })
-            (is_row.owned m.own.name has.named) (is_row.of_file g summary_is)
-            (subst (λ rs. HasRecords k.key rs s) (sym as_was) kept.stored)
-            (alike_fit before.before.records g.records alike kept.fits)
+            row_goes now_kept refl refl s files has g before headers remembers_kept row (its_row k.is_sent row is_row)
+            (still_stored s k.key g.kind text g.records
+            (subst (λ rs. IsStored s k.key g.kind text rs) (sym as_was) (its_kind kept.stored))
+            headers.destination headers.goes k.is_sent kept.sent)

@@ -1,7 +1,6 @@
 -- Rows that are as they were, or are their customer's still, one beside the other.
 use Rattle.njh_keeper.proofs.Words
-use Words.{◌≡◌, ◌<◌, ◌==◌, inl, inr, ℕ, zero, suc, true, List, [], ◌∷◌, length, get_or, set, refl, sym, subst, arith}
-use Words.{◌∙◌}
+use Words.{◌≡◌, ◌<◌, inl, inr, ℕ, zero, suc, true, List, [], ◌∷◌, length, get_or, set, refl, sym, subst, arith}
 use Words.{AllZip, File, SpoolContents, with_changed, IsOrdered, own_rows, is_own}
 use Rattle.njh_keeper.proofs.{HubLaws.one_name, NumberedLaws.{filter_there, put_at}, RowLaws.row_is_own}
 use Rattle.njh_keeper.specs.code.Opening.{AreRowsStill, IsRowStill}

@@ -2,16 +2,16 @@
 use Rattle.njh_keeper.proofs.Words
 use Words.{◌≡◌, ℕ, ◌<◌, Bool, true, false, cond, List, [], ◌∷◌, ◌⊎◌, length, filter, get_or, map, option_map, Option}
 use Words.{Some, None, inl, inr}
-use Words.{refl, sym, ap, subst, ◌∙◌, arith, cases_Bool, map-map, AllByRecursion, File, SpoolContents, Whole, kept}
+use Words.{refl, sym, ap, ◌∙◌, cases_Bool, map-map, AllByRecursion, File, SpoolContents, Whole, kept}
 use Words.{whole_in}
-use Words.{AreDistinct, NamedCustomer, TableFile, customer_at, Part, part, part_at_open, hub_fault, hub_with, number_of}
-use Words.{FileFault, AreBack, is_name_of, is_own, own_files, whole_fault, with_whole, length-map}
+use Words.{AreDistinct, TableFile, customer_at, Part, part, part_at_open, hub_fault, hub_with, number_of}
+use Words.{FileFault, AreBack, is_name_of, is_own, own_files, whole_fault, with_whole}
 use Rattle.std.{proofs.lemmas.Bool.false_from_ne_true, specs.List.cons_option}
-use Rattle.njh_keeper.proofs.AsideLaws.{aside_number, aside_owned, hub_aside, hub_back, hub_foreign, kept_tried}
+use Rattle.njh_keeper.proofs.AsideLaws.{aside_owned, hub_aside, hub_back, hub_foreign, kept_tried}
 use Rattle.njh_keeper.proofs.AsideLaws.{tried_aside, tried_back, tried_foreign, unmarked_is}
 use Rattle.njh_keeper.proofs.HubLaws.{Apart, apart, count, length-hub_with, low, name_is, one, own_number, start_is}
 use Rattle.njh_keeper.specs.{Opened.own, Refusal.Refusal, SetAside.{all_refused, all_taken_up, all_tried, fresh_hub}}
-use Rattle.njh_keeper.specs.SetAside.{file_aside, file_taken_up, is_aside, names_in, put_back, refusal, refusals}
+use Rattle.njh_keeper.specs.SetAside.{file_taken_up, is_aside, names_in, put_back, refusal, refusals}
 use Rattle.njh_keeper.specs.SetAside.{row_of, set_aside, spool_tried, taken_up, tried, whole_taken_up}
 use Rattle.njh_table.specs.TableFile.{entry_of as entry_in}
 

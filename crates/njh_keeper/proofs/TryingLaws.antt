@@ -1,6 +1,6 @@
 -- One whole file of a spool that is tried: what comes of it, of its row, and of what is told.
 use Rattle.njh_keeper.proofs.Words
-use Words.{◌≡◌, ℕ, true, false, List, inr, Option, Some, None, option_map, refl, sym, ap, subst, ◌∙◌, State, Changes}
+use Words.{◌≡◌, ℕ, true, false, List, inr, Option, Some, None, refl, sym, ap, subst, ◌∙◌, State, Changes}
 use Words.{inl}
 use Words.{StoredFile, File, file_of, SpoolContents, Whole, Holds, whole_in, entry_of, Stays, with_changed, Part}
 use Words.{hub_fault}

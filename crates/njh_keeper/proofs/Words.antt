@@ -45,16 +45,18 @@ pub use Rattle.njh_customer.specs.Surviving.{IsRerouted, IsStill, leaves, none, 
 pub use Rattle.njh_hub.specs.{declared.file_summary.FileSummaryView.FileSummaryView, Files.said_destination}
 pub use Rattle.njh_hub.specs.{Restored.part_with_file, Views.file_summary, WholeHub.{no_part, Part, part, part_at_open}}
 pub use Rattle.{njh_hub.specs.WholeHub.SameLines, njh_turns.specs.declared.depot.DepotFault.DepotFault}
-pub use Rattle.{njh_turns.specs.Keeping.{is_held, IsLed, kept_file, kept_of}, njh_keeper.specs.code.Alike.AreAlike}
-pub use Rattle.njh_keeper.specs.code.{Alike.{AreBegun, Writes}, Apart.{AreFilesApart, have_low_ids, rises}}
+pub use Rattle.njh_turns.specs.Keeping.{is_held, IsLed, kept_file, kept_of}
+pub use Rattle.njh_keeper.specs.code.{Gathering.Writes, Apart.{AreFilesApart, have_low_ids, rises}}
+pub use Rattle.njh_spoolfile.specs.Sent.{as_stored, is_sent, kind_of_word, kind_word, records_now, with_mark}
+pub use Rattle.njh_keeper.specs.code.{Remembered.IsStored, Shown.field_text}
 pub use Rattle.njh_keeper.specs.code.Following.{AddsRow, AreFronts, claim_of, GoesTo, GoOnIn, HasFiles, IsAt}
 pub use Rattle.njh_keeper.specs.code.Following.{IsFrontOf, IsFrontWhere, IsQuiet, IsReached, IsRowFor, IsStillAt}
 pub use Rattle.njh_keeper.specs.code.Following.{LeadsFiles, Memory, memory_of, Stage, stage_of}
 pub use Rattle.njh_keeper.specs.code.{Following.Remain, Knowing.{AreNamedApart, HasOwn, HasSpool, IsSoundPart, Knows}}
 pub use Rattle.njh_keeper.specs.code.{Knowing.{LeadsStep, StepGoes}, Leading.Leads, Memory.{numbers_of, own_memory_of}}
 pub use Rattle.njh_keeper.specs.code.{Memory.{own_of, partial_of, sweep_in, whole_of}, Mirrored.contents_from}
-pub use Rattle.njh_keeper.specs.code.Mirrored.{FitsHub, HasRecords, IsOrdered, own_rows, ReadsAs, records_midway}
-pub use Rattle.njh_keeper.specs.code.{Mirrored.{stored_of, WritesRowsOf, WritesUnder}, Nodes.{AreOne, named_nodes}}
+pub use Rattle.njh_keeper.specs.code.Mirrored.{FitsHub, front_then, HasRecords, IsOrdered, own_rows, ReadsAs}
+pub use Rattle.njh_keeper.specs.code.{Mirrored.{WritesRowsOf, WritesUnder}, Nodes.{AreOne, named_nodes}}
 pub use Rattle.njh_keeper.specs.code.{Nodes.with_first, Opening.{AllAreFound, AllAreRead, AreFound, AreRemembered}}
 pub use Rattle.njh_keeper.specs.code.Opening.{entries, files_at, HasBegun, IsOpened, IsOwnOf, IsRead, IsReadFor}
 pub use Rattle.njh_keeper.specs.code.{Opening.{keyed_rows, name_at, owned_of, Reads, Remembering}, Partly.AllClosed}
@@ -72,9 +74,9 @@ pub use Rattle.njh_keeper.specs.code.Writing.{ShowsNow, sweep_of, unmarked, with
 pub use Rattle.njh_keeper.specs.declared.fault.FileFault.{FileFault, TheVariants.{BadFile, Refused}}
 pub use Rattle.njh_keeper.specs.{declared.writer.SpoolWriter.SpoolWriter, Keeper.{IsSettledFrom, Keeping, KnowsHub}}
 pub use Rattle.njh_keeper.specs.{Keeper.{KnowsNow, left_in, MayLeave, MayLeaveOf}, LinesLost.{bare, file_at_rest}}
-pub use Rattle.njh_keeper.specs.Opened.{AllAreBack, are_records_from, are_records_of, AreBack, as_stored, Contents}
-pub use Rattle.njh_keeper.specs.Opened.{file_fault, file_in, hub_opened, is_name_of, is_own, is_record_at, kind_of_word}
-pub use Rattle.njh_keeper.specs.Opened.{kind_word, own_files, part_opened, whole_fault, with_whole}
+pub use Rattle.njh_keeper.specs.Opened.{AllAreBack, are_records_from, are_records_of, AreBack, Contents}
+pub use Rattle.njh_keeper.specs.Opened.{file_fault, file_in, hub_opened, is_name_of, is_own, is_record_at}
+pub use Rattle.njh_keeper.specs.Opened.{own_files, part_opened, whole_fault, whole_records, with_whole}
 pub use Rattle.njh_keeper.specs.OpenedFiles.{as_opened, HasOpened, opened_of, OpenedFile}
 pub use Rattle.njh_keeper.proofs.LeadingLaws.{clean_before, leads_by, leads_nothing, leads_then, leads_weaker}
 pub use Rattle.njh_keeper.proofs.LeadingLaws.{survives_as, survives_both, survives_here}

@@ -1,20 +1,20 @@
 -- What a hub has that is opened from a spool file: each customer its own whole files, put back in their order.
 use Rattle.std.specs.Prelude.{◌≡◌, ℕ, ◌+◌, ◌<◌, ◌==◌, Bool, true, false, ◌&&◌, nat_lt, nat_le, if◌then◌else◌, bytes_eq}
-use Rattle.std.specs.Prelude.{List, [], ◌∷◌, length, map, filter, fold, codes, slice_set, Option, Some, None}
+use Rattle.std.specs.Prelude.{List, [], ◌∷◌, length, map, filter, fold, slice_set, Option, Some, None}
 use Rattle.std.specs.Prelude.{option_map}
 use Rattle.std.specs.Prelude.{Ok, Err, ⊤}
 use Rattle.std.specs.List.{position_from}
 use Rattle.njh_ebcdic.specs.Reading.{name_of_text}
 use Rattle.njh_record.specs.Stored.{Stored}
 use Rattle.njh_record.specs.declared.Kind.{Kind}
-use Rattle.njh_record.specs.declared.Kind.TheVariants.{In, Out}
 use Rattle.njh_spool.specs.Restoring.{KeptFile, restore_fault}
 use Rattle.njh_table.specs.Entries.{CustomerEntry}
 use Rattle.njh_table.specs.TableFile.{TableFile, customer_at, entry_of}
 use Rattle.njh_hub.specs.Restored.{part_with_file}
 use Rattle.njh_hub.specs.WholeHub.{Part, part, part_at_open}
-use Rattle.njh_spoolfile.specs.Kept.{File, SpoolContents, Whole, kept}
+use Rattle.njh_spoolfile.specs.Kept.{File, SpoolContents, Whole}
 use Rattle.njh_spoolfile.specs.Lists.{kept_where}
+use Rattle.njh_spoolfile.specs.Sent.{as_stored, kind_of_word, records_now}
 use Rattle.njh_keeper.specs.declared.fault.FileFault.{FileFault}
 use Rattle.njh_keeper.specs.declared.fault.FileFault.TheVariants.{BadFile, Refused}
 
@@ -23,18 +23,6 @@ use Rattle.njh_keeper.specs.declared.fault.FileFault.TheVariants.{BadFile, Refus
 -- of a record its place, its SRCB and its bytes
 abbrev pub Contents : Type 0
 Contents = ℕ × ℕ × List ℕ
-
-abbrev pub as_stored : Contents → Stored
-as_stored r = record { srcb = r.1; bytes = r.2 }
-
--- the word for a kind of file
-abbrev pub kind_word : Kind → List ℕ
-kind_word In = codes "SYSIN"
-kind_word Out = codes "SYSOUT"
-
-abbrev pub kind_of_word : List ℕ → Option Kind
-kind_of_word word =
-    if bytes_eq word (codes "SYSIN") then Some In else if bytes_eq word (codes "SYSOUT") then Some Out else None
 
 -- at this place, with an SRCB that is a byte, and at most 256 bytes
 abbrev pub is_record_at : ℕ → Contents → Bool
@@ -49,13 +37,19 @@ are_records_from place (r ∷ rs) = is_record_at place r && are_records_from (pl
 abbrev pub are_records_of : File → List Contents → Bool
 are_records_of file records = (length records == file.records) && are_records_from 0 records
 
--- The file as a hub has it: its kind, whether it is Held, and its records. None if its records aren't all there, or
--- its kind is none.
+-- The records of a file of a kind as a hub has them. None if they aren't all there, or if the file's row says that it
+-- was sent to what is no name.
+abbrev pub whole_records : Kind → File → List Contents → Option (List Stored)
+whole_records kind file records =
+    if are_records_of file records then records_now kind file.to_node (map as_stored records) else None
+
+-- The file as a hub has it: its kind, whether it is Held, and its records. None if its kind is none either.
 abbrev pub file_in : File → List Contents → Option KeptFile
-file_in file records =
-    if are_records_of file records then option_map
-    (λ kind. record { kind = kind; held = file.held; records = map as_stored records })
-    (kind_of_word file.kind) else None
+file_in file records = elim (kind_of_word file.kind) [
+  | None ↦ None
+  | Some kind ↦ option_map (λ all. record { kind = kind; held = file.held; records = all })
+      (whole_records kind file records)
+]
 
 -- ---- it is put back, or isn't
 

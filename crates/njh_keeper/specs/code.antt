@@ -7,7 +7,6 @@ pub mod Remembered
 pub mod Shown
 pub mod Walking
 pub mod Nodes
-pub mod Alike
 pub mod Leading
 pub mod Memory
 pub mod Codes

@@ -1,13 +1,13 @@
 //! The records of a hub's file, as they are written into a spool file.
 
-ghost use Rattle.std.specs.Prelude.{◌≡◌, ◌≤◌, ◌<◌, ◌-◌, true, false, [], length, take, IsSome, OnOk, Some, None};
+ghost use Rattle.std.specs.Prelude.{◌≡◌, ◌≤◌, ◌<◌, ◌-◌, true, false, [], length, IsSome, OnOk, Some, None};
 ghost use Rattle.std.specs.List.{AllByRecursion};
 ghost use Rattle.sqlite.specs.State.{HasCleanDisk, Survives};
 ghost use Rattle.njh_stream.specs.SpoolFiles.{records_in};
 ghost use Rattle.njh_hub.specs.WholeHub.{part};
 ghost use Rattle.njh_spoolfile.specs.Shelf.{shown};
-ghost use Rattle.njh_keeper.specs.code.Alike.{Rewrites, Writes};
 ghost use Rattle.njh_keeper.specs.code.Counting.{CountsMore};
+ghost use Rattle.njh_keeper.specs.code.Gathering.{Writes};
 ghost use Rattle.njh_keeper.specs.code.Leading.{Leads};
 ghost use Rattle.njh_keeper.specs.code.Mirrored.{FitsHub};
 ghost use Rattle.njh_keeper.specs.code.Nodes.{AreOne, named_node, named_nodes, with_first};
@@ -20,84 +20,10 @@ use njh_header::{DataSetHeader, JobHeader, srcb};
 use njh_hub::Hub;
 use njh_record::Record;
 use njh_spool::RecordReader;
-use njh_spoolfile::{RecordRow, stands_alone};
 use sqlite::{Alter, Error};
 
 /// Blanks, if a field has nothing.
 const BLANKS: [u8; 8] = [0x40; 8];
-
-/// Writes the records of a whole file of which so many stand there. Since it may have been sent
-/// elsewhere since those were written, the headers among them are written anew.
-pub(crate) fn write_records<S: Alter + Drop>(
-    writer: &mut SpoolWriter<S>,
-    hub: &Hub,
-    file: &HubFile,
-    key: u32,
-    written: u32,
-) -> Result<(), Error>
-    ensures led { HasCleanDisk (shown S.Store writer.new.store) → OnOk result (Leads (Writes true key written
-        (records_in file.now.number (part file.now.customer hub.now).customer.spool))
-        (shown S.Store writer.old.store) (shown S.Store writer.new.store)) }
-    ensures fit { OnOk result (AllByRecursion FitsHub
-        (records_in file.now.number (part file.now.customer hub.now).customer.spool)) }
-    ensures others { OnOk result (writer.new
-        ≡ record writer.old { store = writer.new.store; waiting = writer.new.waiting }) }
-    ensures counted { OnOk result (CountsMore
-        (length (records_in file.now.number (part file.now.customer hub.now).customer.spool) - written)
-        writer.old writer.new) }
-    ensures crash { Survives (shown S.Store writer.old.store) (shown S.Store writer.new.store) (λ _. ⊥) }
-{
-    rewrite_headers(writer, hub, file, key, written)?;
-    write_rest(writer, hub, file, key, written)
-}
-
-/// Writes the headers anew among the first so many records of a file, which stand there. The others
-/// aren't read, and those behind the last header aren't gone through.
-fn rewrite_headers<S: Alter + Drop>(
-    writer: &mut SpoolWriter<S>,
-    hub: &Hub,
-    file: &HubFile,
-    key: u32,
-    written: u32,
-) -> Result<(), Error>
-    ensures led { HasCleanDisk (shown S.Store writer.new.store) → OnOk result (Leads (Rewrites key written
-        (records_in file.now.number (part file.now.customer hub.now).customer.spool))
-        (shown S.Store writer.old.store) (shown S.Store writer.new.store)) }
-    ensures fit { OnOk result (AllByRecursion FitsHub
-        (take written (records_in file.now.number (part file.now.customer hub.now).customer.spool))) }
-    ensures others { OnOk result (writer.new
-        ≡ record writer.old { store = writer.new.store; waiting = writer.new.waiting }) }
-    ensures counted { OnOk result (CountsMore 0 writer.old writer.new) }
-    ensures crash { Survives (shown S.Store writer.old.store) (shown S.Store writer.new.store) (λ _. ⊥) }
-{
-    let Some(mut records) = hub.read_file(file.customer, file.number) else {
-        return Err(astray());
-    };
-    if written > PLACES {
-        return Err(astray());
-    }
-    records.records_are_storable();
-    let mut record = Record::new();
-    for place in 0..written {
-        if !records.has_headers() {
-            return Ok(());
-        }
-        let Some(srcb) = records.next_header(&mut record) else {
-            return Err(astray());
-        };
-        if stands_alone(srcb) {
-            let srcb = u16::from(srcb);
-            let bytes: &[u8] = &record;
-            writer.replace_record(&RecordRow {
-                key,
-                place,
-                srcb,
-                bytes,
-            })?;
-        }
-    }
-    Ok(())
-}
 
 /// Writes the records of a file of which the first so many stand there as they are.
 pub(crate) fn write_rest<S: Alter + Drop>(
@@ -107,12 +33,9 @@ pub(crate) fn write_rest<S: Alter + Drop>(
     key: u32,
     written: u32,
 ) -> Result<(), Error>
-    ensures led { HasCleanDisk (shown S.Store writer.new.store) → OnOk result (Leads (Writes false key written
+    ensures led { HasCleanDisk (shown S.Store writer.new.store) → OnOk result (Leads (Writes key written
         (records_in file.now.number (part file.now.customer hub.now).customer.spool))
         (shown S.Store writer.old.store) (shown S.Store writer.new.store)) }
-    ensures fit { OnOk result (AllByRecursion FitsHub
-        (take written (records_in file.now.number (part file.now.customer hub.now).customer.spool))
-        → AllByRecursion FitsHub (records_in file.now.number (part file.now.customer hub.now).customer.spool)) }
     ensures others { OnOk result (writer.new
         ≡ record writer.old { store = writer.new.store; waiting = writer.new.waiting }) }
     ensures counted { OnOk result (CountsMore
@@ -140,6 +63,16 @@ pub(crate) fn write_rest<S: Alter + Drop>(
         row.add(writer, srcb, bytes)?;
     }
     row.write(writer)
+}
+
+/// A spool file can give each record of a hub's file back.
+pub(crate) fn see_storable(hub: &Hub, file: &HubFile)
+    ensures { AllByRecursion FitsHub
+        (records_in file.now.number (part file.now.customer hub.now).customer.spool) }
+{
+    if let Some(records) = hub.read_file(file.customer, file.number) {
+        records.records_are_storable();
+    }
 }
 
 /// Whether a file's data set headers name more than one node.

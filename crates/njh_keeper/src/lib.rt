@@ -8,7 +8,6 @@ mod fault;
 mod following;
 mod hub_records;
 mod keeper;
-mod kinds;
 mod laws;
 mod names;
 mod next_row;

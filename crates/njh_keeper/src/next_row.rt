@@ -1,16 +1,15 @@
-//! The rows of a file's records: several records stand in one, and a header in its own.
+//! The rows of a file's records: several records stand in one.
 
 ghost use Rattle.std.specs.Prelude.{◌≡◌, ◌<◌, ◌≤◌, ◌+◌, ◌-◌, ◌^◌, [], List, length, true, OnOk};
 ghost use Rattle.sqlite.specs.State.{HasCleanDisk, Survives};
 ghost use Rattle.njh_record.specs.Stored.{Stored};
-ghost use Rattle.njh_spoolfile.specs.Packed.{stands_alone};
 ghost use Rattle.njh_spoolfile.specs.Shelf.{shown};
 ghost use Rattle.njh_keeper.specs.code.Counting.{CountsMore};
 ghost use Rattle.njh_keeper.specs.code.Gathering.{Continues, Gathers, GoesForward, IsRecordAt};
 ghost use Rattle.njh_keeper.specs.code.Leading.{Leads};
 
 use crate::writer::SpoolWriter;
-use njh_spoolfile::{Pack, RecordRow, SEVERAL, stands_alone};
+use njh_spoolfile::{Pack, RecordRow, SEVERAL};
 use sqlite::{Alter, Error};
 
 /// The records of a file that are gathered for its next row.
@@ -39,7 +38,7 @@ impl NextRow {
         }
     }
 
-    /// Adds the file's next record. A header is written at once, and any other with its row.
+    /// Adds the file's next record. It is written with its row.
     pub(crate) fn add<S: Alter + Drop>(
         &mut self,
         writer: &mut SpoolWriter<S>,
@@ -60,10 +59,6 @@ impl NextRow {
         ensures forward { OnOk result (GoesForward self.old self.new writer.old writer.new) }
         ensures crash { Survives (shown S.Store writer.old.store) (shown S.Store writer.new.store) (λ _. ⊥) }
     {
-        if stands_alone(srcb) {
-            self.begin_next(writer)?;
-            return self.write_header(writer, srcb, bytes);
-        }
         self.make_room(writer, bytes.len())?;
         self.pack.push(srcb, bytes);
         self.count += 1;
@@ -135,33 +130,5 @@ impl NextRow {
             return Ok(());
         }
         self.begin_next(writer)
-    }
-
-    /// Writes a header in a row of its own. None is gathered.
-    fn write_header<S: Alter + Drop>(
-        &mut self,
-        writer: &mut SpoolWriter<S>,
-        srcb: u8,
-        bytes: &[u8],
-    ) -> Result<(), Error>
-        requires place { self.old.place < 2 ^ 23 }
-        requires header { stands_alone srcb ≡ true }
-        ensures led { HasCleanDisk (shown S.Store writer.new.store) → OnOk result ((all : List Stored)
-            → IsRecordAt all self.old.place (record { srcb = srcb; bytes = bytes.now })
-            → Leads (Continues self.old.key all self.old.place self.new.place) (shown S.Store writer.old.store)
-            (shown S.Store writer.new.store)) }
-        ensures next { OnOk result (self.new ≡ record self.old { place = self.old.place + 1 }) }
-        ensures forward { OnOk result (GoesForward self.old self.new writer.old writer.new) }
-        ensures crash { Survives (shown S.Store writer.old.store) (shown S.Store writer.new.store) (λ _. ⊥) }
-    {
-        let kept = RecordRow {
-            key: self.key,
-            place: self.place,
-            srcb: u16::from(srcb),
-            bytes,
-        };
-        writer.add_records(&kept, 1)?;
-        self.place += 1;
-        Ok(())
     }
 }

@@ -25,6 +25,8 @@ pub(crate) struct KeptWhole {
     pub(crate) destination: Destination,
     /// Whether its data set headers name more than one node.
     pub(crate) is_mixed: bool,
+    /// Whether its row says that it was sent to its node.
+    pub(crate) is_sent: bool,
     /// When it became whole, in seconds since 1970.
     pub(crate) came: u32,
 }

@@ -1,12 +1,12 @@
 //! The records of a whole file that was read from a spool file.
 
-ghost use Rattle.std.specs.Prelude.{◌≡◌, map, MatchOption, false, true};
-ghost use Rattle.njh_keeper.specs.Opened.{are_records_from, are_records_of, as_stored, is_record_at};
+ghost use Rattle.std.specs.Prelude.{◌≡◌, map, MatchOption, None, Some};
+ghost use Rattle.njh_keeper.specs.Opened.{are_records_from, is_record_at, whole_records};
 ghost use Rattle.njh_spoolfile.specs.Kept.{contents_of, file_of};
 
 use njh_header::FileRecords;
-use njh_record::{Record, put_bytes};
-use njh_spoolfile::{FileRow, StoredRecord};
+use njh_record::{Kind, Record, put_bytes};
+use njh_spoolfile::{FileRow, StoredRecord, send_records};
 use std::marker::Model;
 
 /// All records of a file, as a hub has them.
@@ -19,7 +19,7 @@ impl Model for FileContents {
     ghost use Rattle.std.specs.Prelude.{◌<◌, ◌^◌, List, length, map};
     ghost use Rattle.njh_record.specs.Stored.{Stored};
     ghost use Rattle.njh_spoolfile.specs.Kept.{contents_of};
-    ghost use Rattle.njh_keeper.specs.Opened.{as_stored};
+    ghost use Rattle.njh_spoolfile.specs.Sent.{as_stored};
     ghost use Rattle.njh_keeper.specs.code.Restoring.{HaveRoom};
 
     ghost Value = { List Stored };
@@ -30,13 +30,17 @@ impl Model for FileContents {
 }
 
 impl FileContents {
-    /// The records that were read of a file; none if they aren't all of its own.
-    pub(crate) fn of(file: &FileRow, records: Vec<StoredRecord>) -> Option<FileContents>
-        ensures { MatchOption result (are_records_of (file_of file.now) (map contents_of records.items) ≡ false)
-            (λ contents. (are_records_of (file_of file.now) (map contents_of records.items) ≡ true)
-            × (contents ≡ map as_stored (map contents_of records.items))) }
+    /// The records that were read of a file of this kind, as they are now; none if they aren't all of
+    /// its own, or if it was sent to what is no name.
+    pub(crate) fn of(kind: Kind, file: &FileRow, records: Vec<StoredRecord>) -> Option<FileContents>
+        ensures { MatchOption result (whole_records kind (file_of file.now) (map contents_of records.items) ≡ None)
+            (λ contents. whole_records kind (file_of file.now) (map contents_of records.items) ≡ Some contents) }
     {
+        let mut records = records;
         if records.len() != file.records as usize || !are_records(records.as_slice()) {
+            return None;
+        }
+        if !send_records(kind, file.to_node.as_str(), &mut records) {
             return None;
         }
         Some(FileContents { records })

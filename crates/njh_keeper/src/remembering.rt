@@ -13,6 +13,7 @@ ghost use Rattle.njh_keeper.specs.code.Opening.{AllAreFound, AreFound, Reads, Re
 ghost use Rattle.njh_keeper.specs.code.Opening.{IsOwnOf, files_at, owned_of};
 ghost use Rattle.njh_spool.specs.CustomerSpool.{WholeFile};
 ghost use Rattle.njh_spoolfile.specs.Kept.{File, entry_of};
+ghost use Rattle.njh_spoolfile.specs.Sent.{is_sent};
 ghost use Rattle.njh_spoolfile.specs.Shelf.{shown};
 
 use crate::adding::names_several;
@@ -22,7 +23,7 @@ use crate::rows::{is_held, name_text, reads_as};
 use crate::writer::{SpoolWriter, astray};
 use njh_ebcdic::Name;
 use njh_hub::Hub;
-use njh_spoolfile::StoredFile;
+use njh_spoolfile::{StoredFile, is_sent};
 use sqlite::{Alter, Error};
 use std::alloc::{AllocError, Global};
 
@@ -186,6 +187,7 @@ fn remember_one<S: Alter + Drop>(
 fn kept_at(hub: &Hub, customer: u16, index: u32, stored: &StoredFile) -> KeptWhole
     requires { index < length (part customer hub.now).customer.spool.whole }
     ensures id { (result.id ≡ stored.now.id) × (result.key ≡ stored.now.file.key) }
+    ensures sent { is_sent (string_bytes stored.now.file.to_node) ≡ result.is_sent }
     ensures remembers { AreFound (part customer hub.now).customer.spool
         → (g : WholeFile) → g ≡ slice_index_or (part customer hub.now).customer.spool.whole index g
         → Remembers (whole_of result) g }
@@ -201,6 +203,7 @@ fn kept_at(hub: &Hub, customer: u16, index: u32, stored: &StoredFile) -> KeptWho
         state: summary.state,
         destination: summary.destination,
         is_mixed: names_several(hub, &file, &summary),
+        is_sent: is_sent(stored.file.to_node.as_str()),
         came: stored.file.came,
     }
 }

@@ -19,12 +19,11 @@ ghost use Rattle.njh_spoolfile.specs.Steps.{Stays};
 
 use crate::aside::{is_aside, row_aside, row_taken_up, taken_up};
 use crate::fault::{FileFault, OpeningFault, RefusedFile};
-use crate::kinds::kind_of_word;
 use crate::names::number_of;
 use crate::records::FileContents;
 use njh_ebcdic::Name;
 use njh_hub::Hub;
-use njh_spoolfile::{FileRow, Store, StoredFile, StoredRecord};
+use njh_spoolfile::{FileRow, Store, StoredFile, StoredRecord, kind_of_word};
 use sqlite::{Alter, Error};
 use std::alloc::{AllocError, Global};
 
@@ -58,7 +57,7 @@ fn put_back(
     let Some(kind) = kind_of_word(file.kind.as_str()) else {
         return Err(FileFault::BadFile);
     };
-    let Some(contents) = FileContents::of(file, records) else {
+    let Some(contents) = FileContents::of(kind, file, records) else {
         return Err(FileFault::BadFile);
     };
     match hub.restore(customer, kind, file.held, &contents) {

@@ -12,9 +12,9 @@ ghost use Rattle.njh_keeper.specs.code.Counting.{Grows};
 ghost use Rattle.njh_keeper.specs.code.Following.{ChangesRow, IsHubFile, IsQuiet, IsStillAt, LeadsFiles, stage_of};
 ghost use Rattle.njh_keeper.specs.code.Nodes.{AreOne, named_nodes};
 
-use crate::hub_records::{is_mixed, job_of, write_records};
+use crate::hub_records::{is_mixed, job_of};
 use crate::own_files::{HubFile, KeptWhole, OwnFiles};
-use crate::rows::{is_held, row_of};
+use crate::rows::{is_held, is_name, row_of};
 use crate::writer::SpoolWriter;
 use njh_hub::{FileSummaryView, Hub};
 use njh_spool::State;
@@ -46,7 +46,7 @@ pub(crate) fn follow_one<S: Alter + Drop>(
     change_state(writer, own, place, hub, file, summary)
 }
 
-/// Writes a file's headers and its row anew.
+/// Writes the row of a file anew that was sent elsewhere: it says so, and the records stay.
 fn rewrite_one<S: Alter + Drop>(
     writer: &mut SpoolWriter<S>,
     own: &mut OwnFiles,
@@ -68,11 +68,11 @@ fn rewrite_one<S: Alter + Drop>(
     ensures crash { Survives (shown S.Store writer.old.store) (shown S.Store writer.new.store) (λ _. ⊥) }
 {
     let kept = own.whole[place];
-    write_records(writer, hub, file, kept.key, summary.records)?;
     let now = KeptWhole {
         state: summary.state,
         destination: summary.destination,
         is_mixed: false,
+        is_sent: is_name(&summary.destination.node),
         ..kept
     };
     change_row(writer, own, hub, file, &now, summary)?;
@@ -130,7 +130,7 @@ pub(crate) fn change_row<S: Alter + Drop>(
     summary: &FileSummaryView,
 ) -> Result<(), Error>
     ensures changed { HasCleanDisk (shown S.Store writer.new.store) → OnOk result (ChangesRow
-        (string_bytes own.now.text) kept.now.id kept.now.key summary.now
+        (string_bytes own.now.text) kept.now.id kept.now.key kept.now.is_sent summary.now
         (shown S.Store writer.old.store) (shown S.Store writer.new.store)) }
     ensures others { writer.new
         ≡ record writer.old { store = writer.new.store; is_changed = writer.new.is_changed } }
@@ -149,7 +149,7 @@ pub(crate) fn change_row<S: Alter + Drop>(
     changed
 }
 
-/// Whether a file's headers were rewritten: its destination is another, or its data set headers
+/// Whether a file was sent elsewhere: its destination is another, or its data set headers
 /// named more than one node and don't any more.
 fn is_rewritten(kept: &KeptWhole, hub: &Hub, file: &HubFile, summary: &FileSummaryView) -> bool
     ensures same { result ≡ false → kept.now.destination ≡ summary.now.destination }

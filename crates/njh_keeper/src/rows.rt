@@ -1,20 +1,21 @@
 //! The row of a whole file.
 
 ghost use Rattle.std.specs.Prelude.{◌≡◌, ℕ, List, true, string_bytes, IfOk};
+ghost use Rattle.njh_ebcdic.specs.Names.{is_name};
 ghost use Rattle.njh_spool.specs.CustomerSpool.{WholeFile};
 ghost use Rattle.njh_hub.specs.Views.{file_summary};
 ghost use Rattle.njh_turns.specs.Keeping.{is_held};
 ghost use Rattle.njh_spoolfile.specs.Kept.{file_of};
+ghost use Rattle.njh_spoolfile.specs.Sent.{with_mark};
 ghost use Rattle.njh_keeper.specs.Opened.{is_name_of, is_own};
 ghost use Rattle.njh_keeper.specs.code.Remembered.{IsRowOf};
 ghost use Rattle.njh_keeper.specs.code.Shown.{IsShown, field_text};
 
-use crate::kinds::kind_word;
 use crate::own_files::KeptWhole;
 use njh_ebcdic::{Name, text_of, trim_blanks};
 use njh_hub::FileSummaryView;
 use njh_spool::State;
-use njh_spoolfile::FileRow;
+use njh_spoolfile::{FileRow, kind_word, with_mark};
 use std::alloc::{AllocError, Global};
 
 /// Whether a file is Held.
@@ -38,6 +39,21 @@ fn field_text(alloc: Global, field: &[u8]) -> Result<String, AllocError>
         text.push(text_of(*byte))?;
     }
     Ok(text)
+}
+
+/// The characters of a node's field, with the mark if a file was sent there.
+fn node_text(alloc: Global, is_sent: bool, field: &[u8]) -> Result<String, AllocError>
+    ensures { IfOk result (λ text. string_bytes text ≡ with_mark is_sent (field_text field.now)) }
+{
+    let node = field_text(alloc, field)?;
+    with_mark(alloc, is_sent, node)
+}
+
+/// Whether a node's field is a name.
+pub(crate) fn is_name(field: &[u8; 8]) -> bool
+    ensures { result ≡ is_name field.now }
+{
+    Name::of_field(field).is_ok()
 }
 
 /// A customer's name as each row of its files has it: a text that reads as this very name.
@@ -69,7 +85,9 @@ pub(crate) fn row_of(
         → IfOk result (λ row. IsRowOf kept.now.key f (file_of row)) }
     ensures owned { (name : List ℕ) → is_name_of customer.now name ≡ true
         → IfOk result (λ row. is_own name (file_of row) ≡ true) }
-    ensures shown { IfOk result (λ row. IsShown job file.now kept.now.came (file_of row)) }
+    ensures node { IfOk result (λ row. (file_of row).to_node
+        ≡ with_mark kept.now.is_sent (field_text file.now.destination.node)) }
+    ensures shown { IfOk result (λ row. IsShown kept.now.is_sent job file.now kept.now.came (file_of row)) }
 {
     Ok(FileRow {
         customer: String::from_str(alloc, customer)?,
@@ -79,7 +97,7 @@ pub(crate) fn row_of(
         number: u32::from(file.name.number),
         owner_node: field_text(alloc, &file.owner.node.bytes())?,
         owner_user: field_text(alloc, &file.owner.user)?,
-        to_node: field_text(alloc, &file.destination.node)?,
+        to_node: node_text(alloc, kept.is_sent, &file.destination.node)?,
         to_user: field_text(alloc, &file.destination.user)?,
         held: is_held(file.state),
         records: file.records,

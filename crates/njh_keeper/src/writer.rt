@@ -7,7 +7,7 @@ ghost use Rattle.njh_spoolfile.specs.Kept.{file_of, record_of, with_file, with_c
 ghost use Rattle.njh_spoolfile.specs.Kept.{without_records};
 ghost use Rattle.njh_spoolfile.specs.Shelf.{shown};
 ghost use Rattle.njh_spoolfile.specs.Steps.{Changes, Commits};
-ghost use Rattle.njh_keeper.specs.code.Writing.{IsTaken, is_due, with_replaced};
+ghost use Rattle.njh_keeper.specs.code.Writing.{IsTaken, is_due};
 
 mod free_numbers;
 
@@ -123,23 +123,6 @@ impl<S: Alter + Drop> SpoolWriter<S> {
     {
         self.waiting = self.waiting.saturating_add(count);
         self.store.add_record(kept)
-    }
-
-    /// Puts a record that has a row of its own in the place of the one that was kept.
-    pub(crate) fn replace_record(&mut self, kept: &RecordRow<'_>) -> Result<(), Error>
-        requires { kept.now.place < 2 ^ 23 }
-        ensures changed { HasCleanDisk (shown S.Store self.new.store)
-            → OnOk result (Changes (with_replaced (record_of kept.now)) (shown S.Store self.old.store)
-            (shown S.Store self.new.store)) }
-        ensures crash { Survives (shown S.Store self.old.store) (shown S.Store self.new.store) (λ _. ⊥) }
-        ensures others { OnOk result (self.new ≡ record self.old {
-          store = self.new.store;
-          waiting = min (self.old.waiting + 1) (2 ^ 32 - 1);
-        }) }
-    {
-        self.store
-            .drop_records(kept.key, kept.place, kept.place + 1)?;
-        self.add_records(kept, 1)
     }
 
     /// Adds a whole file, whose records are kept.

@@ -5,9 +5,10 @@ use Rattle.std.specs.Prelude.{OnOk, OnErr, IfOk}
 use Rattle.std.specs.List.{flat_map}
 use Rattle.std.specs.Io.KnownBytes.{Keeps}
 use Rattle.njh_io.specs.Written.{AppendsBeginning}
+use Rattle.njh_record.specs.Stored.{Stored}
 use Rattle.njh_spoolfile.specs.Kept.{File}
 use Rattle.njh_listing.specs.Listed.{IsListed, IsListedInPart, listing_text}
-use Rattle.njh_listing.specs.Exported.{Contents, IsExportedInPart, export_text}
+use Rattle.njh_listing.specs.Exported.{IsExportedInPart, export_text}
 
 pub flat_map_mapped : {X Y Z : Type 0} (f : Y → List Z) (g : X → Y) (xs : List X)
     → flat_map (λ x. f (g x)) xs ≡ flat_map f (map g xs)
@@ -37,7 +38,7 @@ listed_in_part (Err e) customer text given old new same some begun =
     let P : List ℕ → Type 0 = λ t. AppendsBeginning old new t in inr (some.0, subst P (same ∙ some.1) begun)
 
 pub exported_in_part : {T E : Type 0} (r : Result T E) (raw : Bool) (text given : List ℕ) (old new : Option (List ℕ))
-    → given ≡ text → ((records : List Contents) × (text ≡ export_text raw records))
+    → given ≡ text → ((records : List Stored) × (text ≡ export_text raw records))
     → OnErr r (AppendsBeginning old new given)
     → OnErr r (Keeps old new ⊎ IsExportedInPart raw old new)
 exported_in_part (Ok x) raw text given old new same some begun = tt

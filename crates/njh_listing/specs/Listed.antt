@@ -6,6 +6,7 @@ use Rattle.std.specs.List.{list_any}
 use Rattle.std.specs.Io.KnownBytes.{Appends}
 use Rattle.njh_io.specs.Written.{AppendsBeginning}
 use Rattle.njh_spoolfile.specs.Kept.{File}
+use Rattle.njh_spoolfile.specs.Sent.{without_mark}
 
 -- one text after another, as the pieces of a line come
 infixr 20 ◌+++◌
@@ -29,7 +30,8 @@ state_words held = cond held (codes "HELD") (codes "READY")
 
 -- what NJH001 says of a file, after its number: LYON.42 TO METZ PAUL OUT 4 RECORDS READY
 unfoldable pub said_of : File → List ℕ
-said_of f = name_text f +++ codes " TO " +++ f.to_node +++ user_words f.to_user +++ codes " " +++ kind_words f.kind
+said_of f =
+    name_text f +++ codes " TO " +++ without_mark f.to_node +++ user_words f.to_user +++ codes " " +++ kind_words f.kind
     +++ codes " " +++ decimal f.records +++ codes " RECORDS " +++ state_words f.held
 
 -- a file: the name of its customer, a blank, what NJH001 says of it, and the end of the line

@@ -4,10 +4,12 @@ ghost use Rattle.std.specs.Prelude.{◌≡◌, ◌++◌, ◌⊎◌, List, map, t
 ghost use Rattle.std.specs.Prelude.{flat_map, option_map};
 ghost use Rattle.std.specs.Io.KnownBytes.{Appends, Keeps};
 ghost use Rattle.njh_listing.specs.Asked.{IsRefusedOf};
-ghost use Rattle.njh_listing.specs.Exported.{Contents, IsExported, IsExportedInPart, export_text, is_header};
-ghost use Rattle.njh_listing.specs.Exported.{IsExportedOf, IsTextOf, record_line};
+ghost use Rattle.njh_listing.specs.Exported.{IsExported, IsExportedInPart, export_text, is_header};
+ghost use Rattle.njh_listing.specs.Exported.{IsExportedOf, IsTextOf, record_line, records_by_row, records_by_rows};
 ghost use Rattle.njh_listing.specs.Faults.{IsOfSpool};
-ghost use Rattle.njh_spoolfile.specs.Kept.{Holds, SpoolContents, contents_of};
+ghost use Rattle.njh_record.specs.Stored.{Stored};
+ghost use Rattle.njh_spoolfile.specs.Kept.{Holds, SpoolContents, contents_of, entry_of, file_of};
+ghost use Rattle.njh_spoolfile.specs.Sent.{as_stored};
 ghost use Rattle.njh_spoolfile.specs.Shelf.{shown};
 ghost use Rattle.njh_spoolfile.specs.Steps.{Stays};
 ghost use Rattle.sqlite.specs.State.{HasCleanDisk, Survives};
@@ -17,7 +19,7 @@ use crate::finding::{Asked, key_of};
 use crate::writing::write_text;
 use njh_ebcdic::put_characters;
 use njh_header::srcb::{DATA_SET_HEADER, JOB_HEADER, JOB_TRAILER};
-use njh_spoolfile::{Store, StoredRecord};
+use njh_spoolfile::{FileRow, Store, StoredFile, StoredRecord, kind_of_word, send_records};
 use sqlite::Alter;
 use std::alloc::{AllocError, Global};
 use std::io::Write;
@@ -42,7 +44,7 @@ fn is_header(srcb: u32) -> bool
 /// Appends a record as a line of text, if it is data.
 #[tactic(auto, unfolding(crate::specs::Exported::record_line))]
 fn put_line(text: &mut Vec<u8>, stored: &StoredRecord) -> Result<(), AllocError>
-    ensures { OnOk result (text.new.items ≡ text.old.items ++ record_line (contents_of stored.now)) }
+    ensures { OnOk result (text.new.items ≡ text.old.items ++ record_line (as_stored (contents_of stored.now))) }
 {
     if is_header(stored.srcb) {
         return Ok(());
@@ -54,7 +56,7 @@ fn put_line(text: &mut Vec<u8>, stored: &StoredRecord) -> Result<(), AllocError>
 
 /// The records of data as lines of text.
 fn lines_of(alloc: Global, records: &[StoredRecord]) -> Result<Vec<u8>, AllocError>
-    ensures { IfOk result (λ text. text.items ≡ flat_map (λ s. record_line (contents_of s)) records.now) }
+    ensures { IfOk result (λ text. text.items ≡ flat_map (λ s. record_line (as_stored (contents_of s))) records.now) }
 {
     let mut text = Vec::new(alloc);
     for stored in records {
@@ -76,12 +78,36 @@ fn bytes_of(alloc: Global, records: &[StoredRecord]) -> Result<Vec<u8>, AllocErr
 
 /// What is written of records.
 fn export_text(alloc: Global, raw: bool, records: &[StoredRecord]) -> Result<Vec<u8>, AllocError>
-    ensures { IfOk result (λ text. text.items ≡ export_text raw (map contents_of records.now)) }
+    ensures { IfOk result (λ text. text.items ≡ export_text raw
+        (map as_stored (map contents_of records.now))) }
 {
     if raw {
         bytes_of(alloc, records)
     } else {
         lines_of(alloc, records)
+    }
+}
+
+/// Makes of the records of a file those that they are now, by its row.
+fn send_by_row(file: &FileRow, records: &mut Vec<StoredRecord>)
+    ensures { map as_stored (map contents_of records.new.items)
+        ≡ records_by_row (file_of file.now) (map as_stored (map contents_of records.old.items)) }
+{
+    if let Some(kind) = kind_of_word(file.kind.as_str()) {
+        let _is_sent = send_records(kind, file.to_node.as_str(), records);
+    }
+}
+
+/// The same by the first of these rows that has the records' key.
+fn send_by_rows(key: u32, files: &[StoredFile], records: &mut Vec<StoredRecord>)
+    ensures { map as_stored (map contents_of records.new.items)
+        ≡ records_by_rows key (map entry_of files.now) (map as_stored (map contents_of records.old.items)) }
+{
+    for stored in files {
+        if stored.file.key == key {
+            send_by_row(&stored.file, records);
+            return;
+        }
     }
 }
 
@@ -98,7 +124,7 @@ fn export<S: Alter>(
     ensures refused { HasCleanDisk (shown S.Store store.new) → IfErr result (λ fault. (spool : SpoolContents)
         → Holds spool (shown S.Store store.old).now.trees → IsRefusedOf (option_map (λ c. c.now) asked.now.customer)
         asked.now.number name.now spool.files fault) }
-    ensures some { IfOk result (λ text. (records : List Contents)
+    ensures some { IfOk result (λ text. (records : List Stored)
         × (text.items ≡ export_text asked.now.raw records)) }
     ensures same { HasCleanDisk (shown S.Store store.new) → OnOk result (Stays (shown S.Store store.old)
         (shown S.Store store.new)) }
@@ -106,7 +132,8 @@ fn export<S: Alter>(
 {
     let files = store.files(alloc)?;
     let key = key_of(alloc, files.as_slice(), asked, name)?;
-    let records = store.records(alloc, key, 0, PLACES)?;
+    let mut records = store.records(alloc, key, 0, PLACES)?;
+    send_by_rows(key, files.as_slice(), &mut records);
     Ok(export_text(alloc, asked.raw, records.as_slice())?)
 }
 

@@ -14,7 +14,7 @@ ghost use Rattle.njh_spoolfile.specs.Steps.{Stays};
 use crate::fault::FilesFault;
 use crate::order::listed_files;
 use crate::writing::write_text;
-use njh_spoolfile::{FileRow, Store, StoredFile};
+use njh_spoolfile::{FileRow, Store, StoredFile, without_mark};
 use sqlite::Alter;
 use std::alloc::{AllocError, Global};
 use std::io::Write;
@@ -69,7 +69,7 @@ pub(crate) fn said_of(alloc: Global, file: &FileRow) -> Result<String, AllocErro
 {
     let name = name_text(alloc, file)?;
     let user = user_words(alloc, file.to_user.as_str())?;
-    let node = file.to_node.as_str();
+    let node = without_mark(file.to_node.as_str());
     let kind = kind_words(file.kind.as_str());
     let records = file.records;
     let state = state_words(file.held);

@@ -14,3 +14,4 @@ pub mod Rows
 pub mod Runs
 pub mod ReopeningLaws
 pub mod VersionLaws
+pub mod SentLaws

@@ -214,9 +214,9 @@ unfolding understood everything
 delete_mark_plain = (refl, refl)
 
 abbrev pub insert_version : List ℕ
-insert_version = codes "INSERT INTO spool VALUES (2)"
+insert_version = codes "INSERT INTO spool VALUES (3)"
 
-pub insert_version_is : command_of (understood spool_schema insert_version) ≡ Insert 0 (Values (number_terms 2) 2)
+pub insert_version_is : command_of (understood spool_schema insert_version) ≡ Insert 0 (Values (number_terms 3) 2)
 unfolding understood everything
 insert_version_is = refl
 

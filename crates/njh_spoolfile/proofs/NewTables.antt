@@ -59,8 +59,9 @@ creates text before after table tree is next at uncounted old new count has wait
 cast_version : (number : ℕ) → cast_row spool_table (version_row number) ≡ version_row number
 cast_version number = rw (cast_int (pos number), cast_null) refl
 
-pub sets : (number : ℕ) (sql : List ℕ) → command_of (understood spool_schema sql) ≡ Insert 0 (Values (number_terms number)
-    2) → IsPlain (understood spool_schema sql) → (old new : State) (count : ℕ) → old.now.schema ≡ spool_schema
+pub sets : (number : ℕ) (sql : List ℕ)
+    → command_of (understood spool_schema sql) ≡ Insert 0 (Values (number_terms number) 2)
+    → IsPlain (understood spool_schema sql) → (old new : State) (count : ℕ) → old.now.schema ≡ spool_schema
     → old.in_transaction ≡ true → Executes sql [] old new (Ok count) → Sets number old new
 sets number sql is plain old new count has waits h =
     let db = old.now.trees in
@@ -100,7 +101,7 @@ pub starts : (found now : Trees) → SetsVersion found now → found 0 ≡ [] �
     → Holds no_files now
 starts found now it no_version none no_record = record {
   sound = it.sound;
-  version = subst (IsOf Current) (sym (it.versions ∙ ap (put_row (version_row 2)) no_version)) refl;
+  version = subst (IsOf Current) (sym (it.versions ∙ ap (put_row (version_row 3)) no_version)) refl;
   files = it.files ∙ none;
   files_rise = tt;
   records = it.records ∙ no_record;
@@ -108,7 +109,7 @@ starts found now it no_version none no_record = record {
   numbered = tt;
 }
 
--- a spool of the older version is the same of this one
+-- a spool of an older version is the same of this one
 pub takes_over : (spool : SpoolContents) (found now : Trees) → SetsVersion found now → HoldsAs Older spool found
     → Holds spool now
 takes_over spool found now it held = record {

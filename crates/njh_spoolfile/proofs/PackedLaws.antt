@@ -2,11 +2,10 @@
 use Rattle.std.proofs.Common.{◌≡◌, ℕ, zero, suc, ◌+◌, ◌*◌, ◌/◌, ◌%◌, ◌<◌, ◌≤◌, nat_le, Bool, true, false}
 use Rattle.std.proofs.Common.{cond, List, [], ◌∷◌, ◌++◌, length, take, drop, map, flat_map, Option, None, Some}
 use Rattle.std.proofs.Common.{refl, sym, ap, ◌∙◌, append_assoc, arith}
-use Rattle.std.specs.List.{AllByRecursion}
 use Rattle.std.proofs.lemmas.Bool.Decides.{nat_tests}
 use Rattle.std.proofs.lemmas.List.{drop_at, flat_map_more, length-append, nil_from_length, take_at}
 use Rattle.njh_spoolfile.specs.Kept.{Record, as_stands, contents, contents_in}
-use Rattle.njh_spoolfile.specs.Packed.{first_packed, packed, packed_one, placed_from, several, stands_alone, unpacked}
+use Rattle.njh_spoolfile.specs.Packed.{first_packed, packed, packed_one, placed_from, several, unpacked}
 use Rattle.njh_spoolfile.specs.Packed.{unpacked_row, unpacked_up_to}
 
 -- what is read of some bytes whose first record is this
@@ -16,10 +15,6 @@ by_first most bytes (Some first) = first.0 ∷ elim first.1 [ [] ↦ [] | b ∷ 
 
 -- ---- what is packed is read back
 
--- a record that may stand among several
-abbrev pub MayShare : ℕ × List ℕ → Type 0
-MayShare r = stands_alone r.0 ≡ false
-
 pub packed_more : (rs : List (ℕ × List ℕ)) (r : ℕ × List ℕ) → packed (rs ++ r ∷ []) ≡ packed rs ++ packed_one r
 packed_more rs r = sym (flat_map_more packed_one [] rs r)
 
@@ -27,34 +22,32 @@ length_reads : (n : ℕ) → n / 256 * 256 + n % 256 ≡ n
 length_reads n = omega arith
 
 -- at such a test, length and bytes, the first is this
-abbrev first_by : Bool → Bool → ℕ → ℕ → List ℕ → Option ((ℕ × List ℕ) × List ℕ)
-first_by alone fits srcb n bytes =
-    cond alone None (cond fits (Some ((srcb, take n bytes), drop n bytes)) None)
+abbrev first_by : Bool → ℕ → ℕ → List ℕ → Option ((ℕ × List ℕ) × List ℕ)
+first_by fits srcb n bytes = cond fits (Some ((srcb, take n bytes), drop n bytes)) None
 
-first_read : (r : ℕ × List ℕ) (rest : List ℕ) → MayShare r → first_packed (packed_one r ++ rest) ≡ Some (r, rest)
-first_read r rest may =
+first_read : (r : ℕ × List ℕ) (rest : List ℕ) → first_packed (packed_one r ++ rest) ≡ Some (r, rest)
+first_read r rest =
     let n = length r.1 in
     let fits : nat_le n (length (r.1 ++ rest)) ≡ true = grind (arith, nat_tests, length-append r.1 rest) in
-    (λ i. first_by (may i) (nat_le (length_reads n i) (length (r.1 ++ rest))) r.0 (length_reads n i) (r.1 ++ rest))
-    ∙ ap (λ b. first_by false b r.0 n (r.1 ++ rest)) fits
+    (λ i. first_by (nat_le (length_reads n i) (length (r.1 ++ rest))) r.0 (length_reads n i) (r.1 ++ rest))
+    ∙ ap (λ b. first_by b r.0 n (r.1 ++ rest)) fits
     ∙ (λ i. Some ((r.0, take_at r.1 rest n refl i), drop_at r.1 rest n refl i))
 
-some_read : (most : ℕ) (r : ℕ × List ℕ) (rs : List (ℕ × List ℕ)) → AllByRecursion MayShare (r ∷ rs)
-    → length rs < most → unpacked_up_to most (packed (r ∷ rs)) ≡ r ∷ rs
-some_read zero r rs may few = absurd (omega (arith, few))
-some_read (suc most) r [] may few = ap (by_first most (packed (r ∷ []))) (first_read r [] may.0)
-some_read (suc most) r (x ∷ xs) may few =
-    ap (by_first most (packed (r ∷ x ∷ xs))) (first_read r (packed (x ∷ xs)) may.0)
-    ∙ ap (λ (rs : List (ℕ × List ℕ)). r ∷ rs) (some_read most x xs may.1 (omega (arith, few)))
+some_read : (most : ℕ) (r : ℕ × List ℕ) (rs : List (ℕ × List ℕ)) → length rs < most
+    → unpacked_up_to most (packed (r ∷ rs)) ≡ r ∷ rs
+some_read zero r rs few = absurd (omega (arith, few))
+some_read (suc most) r [] few = ap (by_first most (packed (r ∷ []))) (first_read r [])
+some_read (suc most) r (x ∷ xs) few =
+    ap (by_first most (packed (r ∷ x ∷ xs))) (first_read r (packed (x ∷ xs)))
+    ∙ ap (λ (rs : List (ℕ × List ℕ)). r ∷ rs) (some_read most x xs (omega (arith, few)))
 
 packed_long : (rs : List (ℕ × List ℕ)) → length rs ≤ length (packed rs)
 packed_long [] = omega arith
 packed_long (r ∷ rs) = omega (arith, packed_long rs, length-append (packed_one r) (packed rs))
 
 -- a row of some packed records has these
-pub unpacked_packed : (r : ℕ × List ℕ) (rs : List (ℕ × List ℕ)) → AllByRecursion MayShare (r ∷ rs)
-    → unpacked_row several (packed (r ∷ rs)) ≡ r ∷ rs
-unpacked_packed r rs may = some_read (length (packed (r ∷ rs))) r rs may (omega (arith, packed_long (r ∷ rs)))
+pub unpacked_packed : (r : ℕ × List ℕ) (rs : List (ℕ × List ℕ)) → unpacked_row several (packed (r ∷ rs)) ≡ r ∷ rs
+unpacked_packed r rs = some_read (length (packed (r ∷ rs))) r rs (omega (arith, packed_long (r ∷ rs)))
 
 -- ---- a loop over the records of a row
 

@@ -1,5 +1,6 @@
 -- Which version rows are of, and whether they have the mark.
-use Rattle.std.proofs.Common.{◌≡◌, ℕ, zero, suc, pos, negsuc, Bool, true, false, not, ◌||◌, ◌==◌, cond, List, [], ◌∷◌, map}
+use Rattle.std.proofs.Common.{◌≡◌, ℕ, zero, suc, pos, negsuc, Bool, true, false, not, ◌||◌, ◌==◌, cond, List, [], ◌∷◌}
+use Rattle.std.proofs.Common.{map}
 use Rattle.std.proofs.Common.{Option, None, Some, IsPermutation, refl, sym, ap, ◌∙◌, arith}
 use Rattle.std.specs.List.{list_any}
 use Rattle.std.specs.declared.cmp.Ordering.{Ordering}
@@ -17,7 +18,7 @@ use Rattle.njh_spoolfile.specs.declared.versions.Version.{Version}
 use Rattle.njh_spoolfile.specs.declared.versions.Version.TheVariants.{Older, Current}
 use Rattle.njh_spoolfile.proofs.Rows.{put_shown, same}
 
--- by what is told of some rows: whether one is unknown, of this version, of the older one
+-- by what is told of some rows: whether one is unknown, of this version, of an older one
 abbrev by_tests : Bool → Bool → Bool → Option Version
 by_tests unknown current older = cond unknown None (cond current (Some Current) (cond older (Some Older) None))
 
@@ -40,8 +41,8 @@ same_number n = same_any (is_value n)
 
 pub same_version : (xs ys : List Row) → IsPermutation (map rowid xs) (map rowid ys) → version_in xs ≡ version_in ys
 same_version xs ys same =
-    λ i. by_tests (same_any (λ v. not (is_value 0 v || is_value 1 v || is_value 2 v)) xs ys same i)
-    (same_number 2 xs ys same i) (same_number 1 xs ys same i)
+    λ i. by_tests (same_any (λ v. not (is_value 0 v || is_value 1 v || is_value 2 v || is_value 3 v)) xs ys same i)
+    (same_number 3 xs ys same i) (same_number 1 xs ys same i || same_number 2 xs ys same i)
 
 pub not_both : (rows : List Row) → IsOf Older rows → ¬ IsOf Current rows
 not_both rows older current = absurd (let e = sym older ∙ current in cc)
@@ -117,27 +118,30 @@ all_known true b d version h = absurd (cc)
 all_known false b d version h = refl
 
 known_rows : (version : Version) (rows : List Row) → IsOf version rows → list_any is_unknown rows ≡ false
-known_rows version rows h = all_known _ (has_number 2 rows) (has_number 1 rows) version h
+known_rows version rows h = all_known _ (has_number 3 rows) (has_number 1 rows || has_number 2 rows) version h
 
 -- the row of a version, or the mark's, is added to rows that are known
 added : (n : ℕ) (rows : List Row) → list_any is_unknown rows ≡ false → is_unknown (version_row n) ≡ false
     → version_in (put_row (version_row n) rows)
-    ≡ by_tests false (is_value 2 (Int (pos n)) || has_number 2 rows) (is_value 1 (Int (pos n)) || has_number 1 rows)
+    ≡ by_tests false (is_value 3 (Int (pos n)) || has_number 3 rows)
+    ((is_value 1 (Int (pos n)) || has_number 1 rows) || (is_value 2 (Int (pos n)) || has_number 2 rows))
 added n rows known too =
     let unknown : list_any is_unknown (put_row (version_row n) rows) ≡ false =
-    any_row (λ v. not (is_value 0 v || is_value 1 v || is_value 2 v)) n rows known
+    any_row (λ v. not (is_value 0 v || is_value 1 v || is_value 2 v || is_value 3 v)) n rows known
     ∙ (λ i. too i || known i) in
-    λ i. by_tests (unknown i) (any_row (is_value 2) n rows known i) (any_row (is_value 1) n rows known i)
+    λ i. by_tests (unknown i) (any_row (is_value 3) n rows known i)
+    (any_row (is_value 1) n rows known i || any_row (is_value 2) n rows known i)
 
--- the row of this version beside that of the older one
-pub taken_over : (rows : List Row) → IsOf Older rows → IsOf Current (put_row (version_row 2) rows)
-taken_over rows h = added 2 rows (known_rows Older rows h) refl
+-- the row of this version beside that of an older one
+pub taken_over : (rows : List Row) → IsOf Older rows → IsOf Current (put_row (version_row 3) rows)
+taken_over rows h = added 3 rows (known_rows Older rows h) refl
 
 -- the mark beside them
 pub marked : (rows : List Row) → IsOf Current rows → IsOf Current (put_row (version_row 0) rows)
 marked rows h =
     let known = known_rows Current rows h in
-    added 0 rows known refl ∙ ap (λ a. by_tests a (has_number 2 rows) (has_number 1 rows)) (sym known) ∙ h
+    added 0 rows known refl
+    ∙ ap (λ a. by_tests a (has_number 3 rows) (has_number 1 rows || has_number 2 rows)) (sym known) ∙ h
 
 pub has_mark : (rows : List Row) → IsOf Current rows → has_number 0 (put_row (version_row 0) rows) ≡ true
 has_mark rows h = any_row (is_value 0) 0 rows (known_rows Current rows h)
@@ -186,8 +190,10 @@ module _ (rows left : List Row) (es : List (ℕ × List Value)) (are : rows ≡ 
       ∙ sym (any_number q es) ∙ ap (λ (rs : List Row). list_any q rs) (sym are)
 
   pub unmarked : IsOf Current rows → IsOf Current left
-  unmarked h = (λ i. by_tests (any_left (λ v. not (is_value 0 v || is_value 1 v || is_value 2 v)) known_mark i)
-      (any_left (is_value 2) (not_mark 1) i) (any_left (is_value 1) (not_mark 0) i)) ∙ h
+  unmarked h = (λ i. by_tests
+      (any_left (λ v. not (is_value 0 v || is_value 1 v || is_value 2 v || is_value 3 v)) known_mark i)
+      (any_left (is_value 3) (not_mark 2) i)
+      (any_left (is_value 1) (not_mark 0) i || any_left (is_value 2) (not_mark 1) i)) ∙ h
 
   pub has_no_mark : has_number 0 left ≡ false
   has_no_mark = ap (λ (rs : List Row). has_number 0 rs) now ∙ any_number (is_number 0) (without (λ n. n == 0) es)

@@ -148,15 +148,15 @@ is_number n row = is_value n (rowid row)
 abbrev pub has_number : ℕ → List Row → Bool
 has_number n = list_any (is_number n)
 
--- a row of one of the two versions, or the mark's
+-- a row of one of the three versions, or the mark's
 abbrev pub is_known : Row → Bool
-is_known row = is_number 0 row || is_number 1 row || is_number 2 row
+is_known row = is_number 0 row || is_number 1 row || is_number 2 row || is_number 3 row
 
 -- A spool file has a row for each version that wrote to it, and is of the last.
 abbrev pub version_in : List Row → Option Version
 version_in rows =
     if list_any (λ row. not (is_known row)) rows then None else
-    if has_number 2 rows then Some Current else if has_number 1 rows then Some Older else None
+    if has_number 3 rows then Some Current else if has_number 1 rows || has_number 2 rows then Some Older else None
 
 abbrev pub IsOf : Version → List Row → Type 0
 IsOf version rows = version_in rows ≡ Some version

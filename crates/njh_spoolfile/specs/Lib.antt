@@ -9,3 +9,4 @@ pub mod Copies
 pub mod Steps
 pub mod Tables
 pub mod code
+pub mod Sent

@@ -1,14 +1,10 @@
 -- Records of a file in one row of the table of records: one as it stands, or several one after the other.
-use Rattle.std.specs.Prelude.{ℕ, zero, suc, ◌+◌, ◌*◌, ◌/◌, ◌%◌, ◌==◌, ◌||◌, nat_le, Bool, if◌then◌else◌}
+use Rattle.std.specs.Prelude.{ℕ, zero, suc, ◌+◌, ◌*◌, ◌/◌, ◌%◌, ◌==◌, nat_le, if◌then◌else◌}
 use Rattle.std.specs.Prelude.{List, [], ◌∷◌, length, take, drop, flat_map, Option, None, Some}
 
 -- the SRCB of a row in which several stand
 abbrev pub several : ℕ
 several = 256
-
--- A job header or a data set header stands in a row of its own.
-abbrev pub stands_alone : ℕ → Bool
-stands_alone srcb = (srcb == 0xc0) || (srcb == 0xe0)
 
 -- a record among several: its SRCB, how many bytes it has, in two bytes, and those
 abbrev pub packed_one : ℕ × List ℕ → List ℕ
@@ -20,7 +16,7 @@ packed = flat_map packed_one
 -- the first of several, and the bytes behind it
 abbrev pub first_packed : List ℕ → Option ((ℕ × List ℕ) × List ℕ)
 first_packed (srcb ∷ high ∷ low ∷ bytes) =
-    if stands_alone srcb then None else if nat_le (high * 256 + low) (length bytes)
+    if nat_le (high * 256 + low) (length bytes)
     then Some ((srcb, take (high * 256 + low) bytes), drop (high * 256 + low) bytes) else None
 first_packed _ = None
 

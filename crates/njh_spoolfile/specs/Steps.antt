@@ -74,7 +74,7 @@ pub record SetsNumber (number : ℕ) (found now : Trees) : Type 0 where
 
 -- it is this version's
 abbrev pub SetsVersion : Trees → Trees → Type 0
-SetsVersion = SetsNumber 2
+SetsVersion = SetsNumber 3
 
 -- a spool of the older version is of this one now
 pub record TakesOver (found now : Trees) : Type 0 where

@@ -17,7 +17,7 @@ ghost use Rattle.njh_spoolfile.specs.Kept.{record_number, with_file, with_change
 ghost use Rattle.njh_spoolfile.specs.Kept.{no_files, without_records};
 ghost use Rattle.njh_spoolfile.specs.Lists.{IsFree, has_file, kept_where};
 ghost use Rattle.njh_spoolfile.specs.Origin.{IsFoundIn};
-ghost use Rattle.njh_spoolfile.specs.Packed.{packed, several, stands_alone, unpacked_row};
+ghost use Rattle.njh_spoolfile.specs.Packed.{packed, several, unpacked_row};
 ghost use Rattle.njh_spoolfile.specs.Reopened.{OpensFrom};
 ghost use Rattle.njh_spoolfile.specs.declared.versions.Version.{Version};
 
@@ -68,14 +68,13 @@ pub fn others_do_not_show()
         → kept_where passes (with_file id file spool) ≡ kept_where passes spool }
 {}
 
-/// Records that are packed in a row are read back from it, each as it was. Of a row that stands
-/// alone this is so by its definition.
+/// Records that are packed in a row are read back from it, each as it was. Of a row of one record
+/// this is so by its definition.
 pub fn what_is_packed_is_read_back()
-    ensures { (r : ℕ × List ℕ) (rs : List (ℕ × List ℕ)) → AllByRecursion (λ r. stands_alone r.0 ≡ false) (r ∷ rs)
-        → unpacked_row several (packed (r ∷ rs)) ≡ r ∷ rs }
+    ensures { (r : ℕ × List ℕ) (rs : List (ℕ × List ℕ)) → unpacked_row several (packed (r ∷ rs)) ≡ r ∷ rs }
 {}
 
-/// Whoever opens files that hold a spool of the older version finds that spool, of this version.
+/// Whoever opens files that hold a spool of an older version finds that spool, of this version.
 pub fn an_older_spool_is_taken_over()
     ensures { (image : Image) (db : Trees) (spool : SpoolContents) → HoldsDatabase image db
         → HoldsAs Version.Older spool db → IsFoundIn image spool }

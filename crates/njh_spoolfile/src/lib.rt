@@ -4,6 +4,7 @@
 mod copying;
 mod files;
 mod kept;
+mod kinds;
 mod laws;
 mod making;
 mod marking;
@@ -11,6 +12,7 @@ mod opening;
 mod origin;
 mod packing;
 mod reads;
+mod sent;
 mod statements;
 mod store;
 mod tables;
@@ -18,6 +20,7 @@ mod versions;
 
 pub use copying::{CopyFault, copy_files};
 pub use kept::{FileRow, GREATEST_ID, RecordRow, StoredFile, StoredRecord};
+pub use kinds::{kind_of_word, kind_word};
 pub use laws::{
     a_file_comes_last, a_file_keeps_its_place, a_file_leaves, a_record_comes_last,
     an_empty_file_has_no_files, an_older_spool_is_taken_over, others_do_not_show,
@@ -25,6 +28,7 @@ pub use laws::{
 };
 pub use opening::OpenFault;
 pub use origin::Origin;
-pub use packing::{Pack, SEVERAL, stands_alone};
+pub use packing::{Pack, SEVERAL};
+pub use sent::{is_sent, send_records, with_mark, without_mark};
 pub use statements::only_the_last_commit;
 pub use store::Store;

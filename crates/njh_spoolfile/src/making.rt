@@ -57,11 +57,11 @@ fn create_records<S: Alter>(conn: &mut Connection<S>) -> Result<(), Error>
 
 fn add_version<S: Alter>(conn: &mut Connection<S>) -> Result<(), Error>
     requires ready { IsWriting spool_schema (state S.Store conn.old) }
-    ensures added { HasCleanDisk (state S.Store conn.new) → OnOk result (Sets 2 (state S.Store conn.old)
+    ensures added { HasCleanDisk (state S.Store conn.new) → OnOk result (Sets 3 (state S.Store conn.old)
         (state S.Store conn.new)) }
     ensures crash { Survives (state S.Store conn.old) (state S.Store conn.new) (λ _. ⊥) }
 {
-    let _ = conn.execute("INSERT INTO spool VALUES (2)", &[])?;
+    let _ = conn.execute("INSERT INTO spool VALUES (3)", &[])?;
     Ok(())
 }
 
@@ -98,7 +98,7 @@ pub(crate) fn make<S: Alter>(conn: &mut Connection<S>) -> Result<(), Error>
     commit(conn)
 }
 
-/// Takes a spool of the older version over, in one commit.
+/// Takes a spool of an older version over, in one commit.
 pub(crate) fn take_over<S: Alter>(conn: &mut Connection<S>) -> Result<(), Error>
     requires ready { IsReady (state S.Store conn.old) }
     ensures taken { HasCleanDisk (state S.Store conn.new) → OnOk result (IsIdle (state S.Store conn.new)

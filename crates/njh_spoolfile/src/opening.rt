@@ -73,7 +73,7 @@ fn recognise<S: Alter>(alloc: Global, conn: &mut Connection<S>) -> Result<Versio
 }
 
 /// Makes the tables where the database has nothing yet, and else recognises a spool, and takes one
-/// of the older version over.
+/// of an older version over.
 pub(crate) fn prepare<S: Alter>(alloc: Global, conn: &mut Connection<S>) -> Result<(), OpenFault>
     requires fresh { HasCleanDisk (state S.Store conn.old) → Opens (state S.Store conn.old) }
     ensures ready { HasCleanDisk (state S.Store conn.new) → OnOk result (IsIdle (state S.Store conn.new)) }

@@ -3,7 +3,7 @@
 ghost use Rattle.std.specs.Prelude.{◌≡◌, ◌<◌, ◌≤◌, ◌+◌, ◌++◌, ◌⊎◌, ◌∷◌, [], ℕ, List, Option, Some, None, length, map};
 ghost use Rattle.std.specs.Prelude.{true, false, IsTrue, OnOk, option_map};
 ghost use Rattle.njh_spoolfile.specs.Kept.{as_stands, contents_of};
-ghost use Rattle.njh_spoolfile.specs.Packed.{first_packed, packed_one, placed_from, stands_alone, unpacked_row};
+ghost use Rattle.njh_spoolfile.specs.Packed.{first_packed, packed_one, placed_from, unpacked_row};
 
 use crate::kept::StoredRecord;
 use arrayvec::ArrayVec;
@@ -30,14 +30,6 @@ impl Model for Pack {
     ghost view = { λ p. p.bytes.items };
 
     ghost invariant = { λ p. length p.bytes.items ≤ 4000 };
-}
-
-/// Whether a record stands in a row of its own: a job header or a data set header, so that it can
-/// be written anew.
-pub fn stands_alone(srcb: u8) -> bool
-    ensures { result ≡ stands_alone srcb }
-{
-    srcb == 0xC0 || srcb == 0xE0
 }
 
 impl Pack {
@@ -94,7 +86,7 @@ fn first_packed(packed: &[u8]) -> Option<(u8, &[u8], &[u8])>
         return None;
     };
     let len = usize::from(*high) * 256 + usize::from(*low);
-    if stands_alone(*srcb) || len > bytes.len() {
+    if len > bytes.len() {
         return None;
     }
     Some((*srcb, &bytes[..len], &bytes[len..]))

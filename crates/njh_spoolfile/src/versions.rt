@@ -14,7 +14,7 @@ use sqlite::{Alter, Connection, Error, Row};
 /// A version whose spools are read here.
 #[derive(Clone, Copy, Debug, PartialEq, Eq)]
 pub enum Version {
-    /// The one before, whose rows read as they stand.
+    /// One before, whose rows read as they stand.
     Older,
     /// The one that is written here.
     Current,
@@ -23,11 +23,14 @@ pub enum Version {
 /// The number of the row that says that a log belongs to the spool file.
 const MARK: u8 = 0;
 
+/// The number of the first version.
+const OLDEST: u8 = 1;
+
 /// The number of the version before.
-const OLDER: u8 = 1;
+const OLDER: u8 = 2;
 
 /// The number of the version that is written here.
-const CURRENT: u8 = 2;
+const CURRENT: u8 = 3;
 
 fn rows_of_versions<S: Alter>(conn: &mut Connection<S>) -> Result<Vec<Row>, Error>
     requires ready { IsReady (state S.Store conn.old) }
@@ -58,7 +61,10 @@ fn has_number(rows: &[Row], number: u8) -> bool
 fn is_known(row: &Row) -> bool
     ensures { result ≡ is_known row.now }
 {
-    is_number(row, MARK) || is_number(row, OLDER) || is_number(row, CURRENT)
+    is_number(row, MARK)
+        || is_number(row, OLDEST)
+        || is_number(row, OLDER)
+        || is_number(row, CURRENT)
 }
 
 fn has_unknown(rows: &[Row]) -> bool
@@ -74,7 +80,7 @@ fn version_in(rows: &[Row]) -> Option<Version>
         None
     } else if has_number(rows, CURRENT) {
         Some(Version::Current)
-    } else if has_number(rows, OLDER) {
+    } else if has_number(rows, OLDEST) || has_number(rows, OLDER) {
         Some(Version::Older)
     } else {
         None

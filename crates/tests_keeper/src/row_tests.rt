@@ -29,10 +29,10 @@ fn add_row<S: Alter>(
     Ok(store.add_record(&kept)?)
 }
 
-/// Three records for one row: a short one, one without a byte, and the longest.
+/// Three records for one row: a short header, one without a byte, and the longest.
 fn three() -> Pack {
     let mut pack = Pack::new();
-    pack.push(0x80, b"one".as_slice());
+    pack.push(0xE0, b"one".as_slice());
     pack.push(0x90, b"".as_slice());
     pack.push(0xD0, &LONGEST);
     pack
@@ -67,7 +67,7 @@ fn are_rows(records: &[StoredRecord]) -> bool {
     match records {
         [head, one, empty, longest, last] => {
             is_record(head, 0, 0xC0, b"head".as_slice())
-                && is_record(one, 1, 0x80, b"one".as_slice())
+                && is_record(one, 1, 0xE0, b"one".as_slice())
                 && is_record(empty, 2, 0x90, b"".as_slice())
                 && is_record(longest, 3, 0xD0, &LONGEST)
                 && is_record(last, 4, 0x80, b"last".as_slice())
@@ -80,7 +80,7 @@ fn are_rows(records: &[StoredRecord]) -> bool {
 fn are_cut(records: &[StoredRecord]) -> bool {
     match records {
         [one, empty, rest] => {
-            is_record(one, 0, 0x80, b"one".as_slice())
+            is_record(one, 0, 0xE0, b"one".as_slice())
                 && is_record(empty, 1, 0x90, b"".as_slice())
                 && rest.place == 2
                 && rest.srcb == u32::from(SEVERAL)

@@ -40,10 +40,10 @@ user_code = code_by (List ℕ × List ℕ) (coded× text_code text_code) (λ u. 
     (λ p. record { node = p.0; user = p.1 }) (λ _. refl)
 
 abbrev whole_code : Coded KeptWhole
-whole_code = code_by (ℕ × (ℕ × (ℕ × (ℕ × (State × (User × Bool))))))
+whole_code = code_by (ℕ × (ℕ × (ℕ × (ℕ × (State × (User × (Bool × Bool)))))))
     (coded× coded_ℕ (coded× coded_ℕ (coded× coded_ℕ
-    (coded× coded_ℕ (coded× state_code (coded× user_code coded_bool))))))
-    (λ k. (k.id, (k.key, (k.number, (k.records, (k.state, (k.destination, k.is_mixed)))))))
+    (coded× coded_ℕ (coded× state_code (coded× user_code (coded× coded_bool coded_bool)))))))
+    (λ k. (k.id, (k.key, (k.number, (k.records, (k.state, (k.destination, (k.is_mixed, k.is_sent))))))))
     (λ p. record {
       id = p.0;
       key = p.1.0;
@@ -51,7 +51,8 @@ whole_code = code_by (ℕ × (ℕ × (ℕ × (ℕ × (State × (User × Bool))))
       records = p.1.1.1.0;
       state = p.1.1.1.1.0;
       destination = p.1.1.1.1.1.0;
-      is_mixed = p.1.1.1.1.1.1;
+      is_mixed = p.1.1.1.1.1.1.0;
+      is_sent = p.1.1.1.1.1.1.1;
     }) (λ _. refl)
 
 abbrev partial_code : Coded KeptPartial

@@ -1,14 +1,16 @@
 -- What calls of the keeper make of a customer's whole files on a spool file.
-use Rattle.std.specs.Prelude.{◌≡◌, ℕ, ◌+◌, ◌<◌, ◌≤◌, true, false, List, [], ◌∷◌, ◌++◌, length, get_or, take}
+use Rattle.std.specs.Prelude.{◌≡◌, ◌⊎◌, ℕ, ◌+◌, ◌<◌, ◌≤◌, Bool, true, false, List, [], ◌∷◌, ◌++◌, length, get_or, take}
 use Rattle.std.specs.Prelude.{string_bytes}
 use Rattle.std.specs.Prelude.{Option, Some, None}
 use Rattle.std.specs.List.{AllByRecursion}
 use Rattle.sqlite.specs.State.{State}
 use Rattle.sqlite.specs.Store.{Ghosts}
-use Rattle.njh_customer.specs.Surviving.{FilesGoOn, IsStill}
+use Rattle.njh_customer.specs.Surviving.{FilesGoOn, IsRerouted, IsStill}
 use Rattle.njh_customer.specs.Customer.{Customer}
+use Rattle.njh_ebcdic.specs.Names.{is_name}
 use Rattle.njh_customer.specs.OutgoingFiles.{outgoing}
 use Rattle.njh_stream.specs.SpoolFiles.{records_in}
+use Rattle.njh_hub.specs.Files.{said_destination}
 use Rattle.njh_hub.specs.Views.{file_summary}
 use Rattle.njh_hub.specs.WholeHub.{Part, part}
 use Rattle.njh_hub.specs.declared.file_summary.FileSummaryView.{FileSummaryView}
@@ -16,8 +18,10 @@ use Rattle.njh_spoolfile.specs.Shelf.{shown}
 use Rattle.njh_spoolfile.specs.Steps.{Changes}
 use Rattle.njh_header.specs.WholeFiles.{HasHeaders}
 use Rattle.njh_record.specs.Stored.{Stored}
+use Rattle.njh_record.specs.declared.Kind.{Kind}
 use Rattle.njh_spool.specs.CustomerSpool.{WholeFile, max_arrived}
 use Rattle.njh_spoolfile.specs.Kept.{File, SpoolContents, records_of, with_changed, with_file}
+use Rattle.njh_spoolfile.specs.Sent.{with_mark}
 use Rattle.njh_keeper.specs.Opened.{is_name_of, is_own}
 use Rattle.njh_keeper.specs.declared.own_files.HubFile.{HubFile}
 use Rattle.njh_keeper.specs.declared.own_files.OwnFiles as own_files
@@ -27,8 +31,8 @@ use Rattle.njh_keeper.specs.code.Memory.{numbers_of, own_of}
 use Rattle.njh_keeper.specs.code.Mirrored.{HasRecords, IsOrdered}
 use Rattle.njh_keeper.specs.code.Remembered.{AreApart, AreBelow, Claim, IsRowOf, KeptPartial, KeptWhole, Mirrored}
 use Rattle.njh_keeper.specs.code.Remembered.{Moves}
-use Rattle.njh_keeper.specs.code.Remembered.{Numbers, OwnFiles, Remembers, claim, with_key}
-use Rattle.njh_keeper.specs.code.Alike.{AreAlike}
+use Rattle.njh_keeper.specs.code.Remembered.{NameOneNode, Numbers, OwnFiles, Remembers, claim, with_key}
+use Rattle.njh_keeper.specs.code.Shown.{field_text}
 use Rattle.njh_keeper.specs.code.Walking.{AreNumbered}
 
 -- what is remembered of a customer and of the numbers, and the customer's name as each row has it
@@ -94,17 +98,17 @@ abbrev pub IsReached : Option ℕ → List WholeFile → ℕ → Type 0
 IsReached None files place = length files ≤ place
 IsReached (Some number) files place = IsFoundAt number files place
 
--- Of each file that isn't whole what is kept is a front of the records of the file that it became, but for headers:
--- so many records stand under its number.
-pub record IsFrontOf (s : SpoolContents) (key written : ℕ) (now : List Stored) : Type 0 where
+-- Of each file that isn't whole what is kept is a front of the records of the file that it became, as they were before
+-- that was sent elsewhere: so many records stand under its number.
+pub record IsFrontOf (s : SpoolContents) (key written : ℕ) (kind : Kind) (now : List Stored) : Type 0 where
   pub before : List Stored
-  pub long : length before ≡ written
   pub within : written ≤ length now
-  pub stored : HasRecords key before s
-  pub alike : AreAlike before (take written now)
+  pub rerouted : IsRerouted kind before now
+  pub stored : HasRecords key (take written before) s
 
 abbrev pub IsFrontWhere : SpoolContents → KeptPartial → WholeFile → Type 0
-IsFrontWhere s p f = f.number ≡ p.number → p.seen ≤ length f.records → IsFrontOf s p.key p.written f.records
+IsFrontWhere s p f =
+    f.number ≡ p.number → p.seen ≤ length f.records → IsFrontOf s p.key p.written f.kind f.records
 
 abbrev pub AreFronts : SpoolContents → List KeptPartial → List WholeFile → Type 0
 AreFronts s partial files = AllByRecursion (λ p. AllByRecursion (IsFrontWhere s p) files) partial
@@ -125,49 +129,67 @@ pub record IsStillAt (files : List WholeFile) (place : ℕ) (now : WholeFile) : 
 -- ---- rows
 
 -- the row of a customer's file of which this is said
-pub record IsRowFor (text : List ℕ) (key : ℕ) (summary : FileSummaryView) (row : File) : Type 0 where
+pub record IsRowFor (text : List ℕ) (key : ℕ) (sent : Bool) (summary : FileSummaryView) (row : File) : Type 0 where
   pub of_file : (f : WholeFile) → summary ≡ file_summary f → IsRowOf key f row
   pub owned : (name : List ℕ) → is_name_of text name ≡ true → is_own name row ≡ true
+  pub node : row.to_node ≡ with_mark sent (field_text summary.destination.node)
 
 -- such a row takes the place of one
-pub record ChangesRow (text : List ℕ) (id key : ℕ) (summary : FileSummaryView) (old new : State) : Type 0 where
+pub record ChangesRow (text : List ℕ) (id key : ℕ) (sent : Bool) (summary : FileSummaryView) (old new : State) : Type
+    0 where
   pub row : File
-  pub is_row : IsRowFor text key summary row
+  pub is_row : IsRowFor text key sent summary row
   pub changes : Changes (with_changed id row) old new
 
--- It is remembered as one more, under the number in hand, and so is its row added.
-pub record AddsRow (key : ℕ) (summary : FileSummaryView) (g : WholeFile) (before after : Stage) : Type 0 where
+-- A file's row may say that it was sent to its node: its headers name that node and no other, and it is a name.
+pub record MayBeMarked (g : WholeFile) : Type 0 where
+  pub one : NameOneNode g.kind g.records
+  pub name : is_name (said_destination g.kind g.records).node ≡ true
+
+-- It needn't: none of its records was written before it was whole, or its headers name several nodes, or what is none.
+abbrev pub MayBePlain : (written : ℕ) → WholeFile → Type 0
+MayBePlain written g =
+    (written ≡ 0) ⊎ ((¬ NameOneNode g.kind g.records) ⊎ (is_name (said_destination g.kind g.records).node ≡ false))
+
+pub record IsMarkedWell (sent : Bool) (written : ℕ) (g : WholeFile) : Type 0 where
+  pub marked : sent ≡ true → MayBeMarked g
+  pub plain : sent ≡ false → MayBePlain written g
+
+-- It is remembered as one more, under the number in hand, and so is its row added. So many of its records were written
+-- before it was whole.
+pub record AddsRow (key written : ℕ) (summary : FileSummaryView) (g : WholeFile) (before after : Stage) : Type 0 where
   pub kept : KeptWhole
   pub row : File
   pub id : kept.id ≡ before.memory.numbers.next_id
   pub key_is : kept.key ≡ key
   pub remembers : Remembers kept g
+  pub mark : IsMarkedWell kept.is_sent written g
   pub memory : let m = before.memory in after.memory ≡ record {
     numbers = record m.numbers { next_id = m.numbers.next_id + 1 };
     own = record m.own { whole = m.own.whole ++ kept ∷ [] };
     text = m.text;
   }
-  pub is_row : IsRowFor before.memory.text key summary row
+  pub is_row : IsRowFor before.memory.text key kept.is_sent summary row
   pub changes : Changes (with_file kept.id row) before.shows after.shows
 
 -- ---- a number in hand
 
--- This number is in hand, and so many records stand under it, a front of a file's but for headers. The files are what
--- they were.
-pub record IsInHand (key written : ℕ) (m m' : Memory) (s t : SpoolContents) (files : List WholeFile)
-    (now : List Stored) : Type 0 where
+-- This number is in hand, and so many records stand under it, a front of a file's as they were before that was sent
+-- elsewhere. The files are what they were.
+pub record IsInHand (key written : ℕ) (m m' : Memory) (s t : SpoolContents) (files : List WholeFile) (g : WholeFile)
+    : Type 0 where
   pub moves : Moves (claim_of m) (with_key key (claim_of m')) s t
   pub text : m'.text ≡ m.text
   pub mirrored : Mirrored t m'.own files
   pub remain : Remain m.own.partial m'.own.partial
   pub records : AllByRecursion (λ p. records_of p.key t ≡ records_of p.key s) m'.own.partial
-  pub front : IsFrontOf t key written now
+  pub front : IsFrontOf t key written g.kind g.records
 
 abbrev pub LeadsInHand : (key written : ℕ) → WholeFile → (before after : Stage) → Type 0
 LeadsInHand key written g before after =
     Leads (λ s t. (files : List WholeFile) → HasFiles before.memory s files
     → AreFronts s before.memory.own.partial (g ∷ [])
-    → IsInHand key written before.memory after.memory s t files g.records) before.shows after.shows
+    → IsInHand key written before.memory after.memory s t files g) before.shows after.shows
 
 -- ---- all of a hub's files
 

@@ -1,8 +1,7 @@
 -- Records of a file that are gathered for its next row, and rows that come behind those that stand there.
-use Rattle.std.specs.Prelude.{◌≡◌, ℕ, ◌-◌, ◌<◌, ◌≤◌, false, List, length, get_or, take, drop, map}
-use Rattle.std.specs.List.{AllByRecursion}
+use Rattle.std.specs.Prelude.{◌≡◌, ℕ, ◌-◌, ◌<◌, ◌≤◌, List, length, get_or, take, drop, map}
 use Rattle.njh_record.specs.Stored.{Stored}
-use Rattle.njh_spoolfile.specs.{Kept.SpoolContents, Packed.{packed, stands_alone}}
+use Rattle.njh_spoolfile.specs.{Kept.SpoolContents, Packed.packed}
 use Rattle.njh_keeper.specs.declared.next_row.NextRow.{NextRow}
 use Rattle.njh_keeper.specs.declared.writer.SpoolWriter.{SpoolWriter}
 use Rattle.njh_keeper.specs.code.Counting.{CountsMore}
@@ -16,16 +15,23 @@ IsRecordAt all place r = (place < length all) × (r ≡ get_or all place r)
 abbrev pub gathered : List Stored → NextRow → List Stored
 gathered all row = take row.count (drop row.place all)
 
--- A row has these, and none of them is a header.
+-- A row has these.
 pub record Gathers (all : List Stored) (row : NextRow) : Type 0 where
   pub there : row.count ≤ length all - row.place
   pub bytes : row.pack ≡ packed (map as_packed (gathered all row))
-  pub plain : AllByRecursion (λ r. stands_alone r.0 ≡ false) (map as_packed (gathered all row))
 
--- If the records of a file before one place stand under a key, those before another one stand there then.
+-- If the records before one place stand under a key of a file that has these from there on, those before another place
+-- stand there then.
 abbrev pub Continues : (key : ℕ) (all : List Stored) (first next : ℕ) → SpoolContents → SpoolContents → Type 0
-Continues key all first next s t = IsOrdered s → HasRecords key (take first all) s
-    → WritesUnder key s t × HasRecords key (take next all) t
+Continues key all first next s t =
+    (file : List Stored) → drop first file ≡ drop first all → IsOrdered s → HasRecords key (take first file) s
+    → WritesUnder key s t × HasRecords key (take next file) t
+
+-- then all of them do
+abbrev pub Writes : (key written : ℕ) (all : List Stored) → SpoolContents → SpoolContents → Type 0
+Writes key written all s t =
+    (file : List Stored) → drop written file ≡ drop written all → IsOrdered s → HasRecords key (take written file) s
+    → WritesUnder key s t × HasRecords key file t
 
 -- A row's place goes on, and the writer counts as many records. Nothing else of it changes.
 pub record GoesForward {S : Type 0} (old new : NextRow) (w w' : SpoolWriter S) : Type 0 where

@@ -17,6 +17,7 @@ whole_of k = record {
   state = k.state;
   destination = k.destination;
   is_mixed = k.is_mixed;
+  is_sent = k.is_sent;
 }
 
 -- one that isn't whole

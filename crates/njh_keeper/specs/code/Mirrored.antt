@@ -2,7 +2,7 @@
 use Rattle.std.specs.Prelude.{◌≡◌, ◌≢◌, ℕ, ◌<◌, ◌≤◌, List, ◌++◌, length, take, drop, map, filter, Some}
 use Rattle.std.specs.List.{AllByRecursion}
 use Rattle.njh_record.specs.Stored.{Stored}
-use Rattle.njh_spoolfile.specs.Kept.{File, Record, SpoolContents, Rise, IsNumbered, contents_in, records_of}
+use Rattle.njh_spoolfile.specs.Kept.{File, SpoolContents, Rise, IsNumbered, contents_in, records_of}
 use Rattle.njh_spoolfile.specs.Packed.{placed_from}
 use Rattle.njh_spool.specs.Restoring.{KeptFile}
 use Rattle.njh_keeper.specs.Opened.{Contents, file_in, is_own}
@@ -17,11 +17,7 @@ pub record IsOrdered (spool : SpoolContents) : Type 0 where
 abbrev pub own_rows : List ℕ → SpoolContents → List (ℕ × File)
 own_rows name spool = filter (λ e. is_own name e.1) spool.files
 
--- a record as a hub has it
-abbrev pub stored_of : Record → Stored
-stored_of r = record { srcb = r.srcb; bytes = r.bytes }
-
--- as a spool file has it
+-- a hub's record as a spool file has it
 abbrev pub as_packed : Stored → ℕ × List ℕ
 as_packed r = (r.srcb, r.bytes)
 
@@ -43,9 +39,9 @@ ReadsAs spool e f = file_in e.1 (contents_in (records_of e.1.key spool)) ≡ Som
 
 -- ---- while a file is written
 
--- the first records as they are now, and the others as they were
-abbrev pub records_midway : ℕ → List Stored → List Stored → List Stored
-records_midway at now before = take at now ++ drop at before
+-- so many records as they were, and the others as they are now
+abbrev pub front_then : ℕ → (before now : List Stored) → List Stored
+front_then written before now = take written before ++ drop written now
 
 -- nothing but records under this key comes or leaves
 pub record WritesUnder (key : ℕ) (s t : SpoolContents) : Type 0 where

@@ -1,6 +1,6 @@
 -- What the keeper of a spool file remembers of a customer's files, and what its calls make of a spool file.
 use Rattle.std.specs.Prelude.{◌≡◌, ◌≢◌, ℕ, ◌+◌, ◌<◌, ◌≤◌, ◌==◌, ◌-◌, ◌^◌, ◌&&◌, nat_le, nat_lt}
-use Rattle.std.specs.Prelude.{Bool, false, cond, None}
+use Rattle.std.specs.Prelude.{Bool, false, cond, Some, None}
 use Rattle.std.specs.Prelude.{List, [], ◌∷◌, length, take}
 use Rattle.std.specs.List.{AllByRecursion}
 use Rattle.njh_ebcdic.specs.Users.{User}
@@ -10,9 +10,9 @@ use Rattle.njh_record.specs.declared.Kind.{Kind}
 use Rattle.njh_spool.specs.CustomerSpool.{WholeFile}
 use Rattle.njh_spool.specs.declared.State.{State}
 use Rattle.njh_spoolfile.specs.Kept.{File, SpoolContents, records_of}
+use Rattle.njh_spoolfile.specs.Sent.{is_sent, kind_word, records_now}
 use Rattle.njh_hub.specs.Files.{said_destination}
 use Rattle.njh_turns.specs.Keeping.{is_held}
-use Rattle.njh_keeper.specs.Opened.{kind_word}
 use Rattle.njh_keeper.specs.code.Mirrored.{FitsHub, HasRecords, IsOrdered, own_rows}
 
 -- ---- what is remembered
@@ -26,6 +26,7 @@ pub record KeptWhole : Type 0 where
   pub state : State
   pub destination : User
   pub is_mixed : Bool
+  pub is_sent : Bool
 
 -- a file that isn't whole, some of whose records are kept
 pub record KeptPartial : Type 0 where
@@ -87,13 +88,20 @@ pub record Remembers (k : KeptWhole) (f : WholeFile) : Type 0 where
   pub destination : k.destination ≡ said_destination f.kind f.records
   pub mixed : k.is_mixed ≡ false → NameOneNode f.kind f.records
 
+-- Under a key stand records that a hub can get back, and by a row's text for the node they are these now.
+pub record IsStored (spool : SpoolContents) (key : ℕ) (kind : Kind) (text : List ℕ) (now : List Stored) : Type 0 where
+  pub before : List Stored
+  pub stored : HasRecords key before spool
+  pub fits : AllByRecursion FitsHub before
+  pub are : records_now kind text before ≡ Some now
+
 -- it is remembered, and its row and its records are there
 pub record IsKept (spool : SpoolContents) (k : KeptWhole) (e : ℕ × File) (f : WholeFile) : Type 0 where
   pub id : e.0 ≡ k.id
   pub row : IsRowOf k.key f e.1
+  pub sent : is_sent e.1.to_node ≡ k.is_sent
   pub remembers : Remembers k f
-  pub stored : HasRecords k.key f.records spool
-  pub fits : AllByRecursion FitsHub f.records
+  pub stored : IsStored spool k.key f.kind e.1.to_node f.records
 
 -- the rows of the customer are these files' and no others'
 abbrev pub Mirrored : SpoolContents → OwnFiles → List WholeFile → Type 0

@@ -1,6 +1,5 @@
 -- The whole files of a spool one after the other, each put back to its customer.
-use Rattle.std.specs.Prelude.{◌≡◌, ◌⊎◌, ℕ, ◌<◌, ◌≤◌, ◌++◌, Bool, true, false, List, [], ◌∷◌, length, map, fold, take}
-use Rattle.std.specs.Prelude.{drop}
+use Rattle.std.specs.Prelude.{◌≡◌, ◌⊎◌, ℕ, ◌<◌, ◌≤◌, ◌++◌, List, [], ◌∷◌, length, map, fold}
 use Rattle.std.specs.Prelude.{Option, Some, None, option_map, slice_get, IsTrue, ⊤, All}
 use Rattle.sqlite.specs.State.{State}
 use Rattle.njh_hub.specs.WholeHub.{Part}
@@ -9,7 +8,7 @@ use Rattle.njh_spoolfile.specs.declared.kept.StoredFile.{StoredFile}
 use Rattle.njh_spoolfile.specs.declared.kept.StoredRecord.{StoredRecord}
 use Rattle.njh_keeper.specs.Opened.{hub_fault, hub_with, number_of}
 use Rattle.njh_keeper.specs.Refusal.{Refusal, refusal_of}
-use Rattle.njh_keeper.specs.SetAside.{all_tried, file_taken_up, refusal, refusals, row_of, taken_up, tried}
+use Rattle.njh_keeper.specs.SetAside.{all_tried, refusal, refusals, row_of, taken_up, tried}
 use Rattle.njh_keeper.specs.SetAside.{whole_taken_up}
 use Rattle.njh_keeper.specs.declared.fault.OpeningFault.{OpeningFault}
 use Rattle.njh_keeper.specs.declared.fault.OpeningFault.TheVariants.{Memory, Store, File as Refused}

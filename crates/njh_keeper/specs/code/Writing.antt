@@ -5,15 +5,11 @@ use Rattle.std.specs.Prelude.{slice_set}
 use Rattle.std.specs.List.{AllByRecursion, list_any}
 use Rattle.sqlite.specs.State.{State}
 use Rattle.sqlite.specs.Tree.{Trees}
-use Rattle.njh_spoolfile.specs.Kept.{Holds, Record, SpoolContents, with_record, without_records}
+use Rattle.njh_spoolfile.specs.Kept.{Holds, SpoolContents, without_records}
 use Rattle.njh_spoolfile.specs.CommitState.{CommitState, Stands}
 use Rattle.njh_spoolfile.specs.declared.kept.StoredFile.{StoredFile}
 use Rattle.njh_keeper.specs.code.Remembered.{keyed}
 use Rattle.njh_keeper.specs.declared.own_files.Sweep.{Sweep}
-
--- a record in the place of the one that stood there
-abbrev pub with_replaced : Record → SpoolContents → SpoolContents
-with_replaced r spool = with_record r (without_records r.key r.place (r.place + 1) spool)
 
 -- A number is taken: the last of the free ones, or if none is free the first that was never taken.
 abbrev pub IsTaken : (free : List ℕ) (next key : ℕ) (left : List ℕ) (behind : ℕ) → Type 0

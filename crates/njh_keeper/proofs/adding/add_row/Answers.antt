@@ -1,7 +1,8 @@
 use Rattle.njh_keeper.proofs.Words
 use Words.{rules, ◌≡◌, [], ◌∷◌, map, refl, ap, subst, ◌∙◌, map-append, ok_then, file_of, with_file, shown, Changes}
 use Words.{FileSummaryView, IsRowFor, memory_of, numbers_of, whole_of, SpoolWriter, on_ok}
-use Rattle.njh_keeper.proofs.CountingLaws.{rows_as_one_comes}
+use Words.{nat_lt, not, ◌&&◌, is_name}
+use Rattle.njh_keeper.proofs.{CountingLaws.rows_as_one_comes, SentLaws.marked_well}
 use Rattle.njh_keeper.specs.declared.own_files.KeptWhole as declared
 use Rattle.njh_keeper.proofs.adding.add_row.Goals as goal
 
@@ -12,12 +13,13 @@ returns-clause-added g c f hub_file clean =
     let summary = c.args.summary.now in
     let now : declared.KeptWhole = record {
       id = c.in_ok-take_id.field-0;
-      key = c.args.key;
+      key = c.args.place.key;
       number = c.args.file.now.number;
       records = summary.records;
       state = summary.state;
       destination = summary.destination;
-      is_mixed = c.names_several.result;
+      is_mixed = c.names_several-is_mixed.result;
+      is_sent = c.may_be_sent.result;
       came = c.take_id.new.self.now;
     } in
     let row = file_of c.in_ok-row.row in
@@ -34,7 +36,7 @@ returns-clause-added g c f hub_file clean =
         records = ap (λ (x : FileSummaryView). x.records) hub_file.summary_is;
         state = ap (λ (x : FileSummaryView). x.state) hub_file.summary_is;
         destination = ap (λ (x : FileSummaryView). x.destination) hub_file.summary_is;
-        mixed = λ none. c.names_several.ensures f hub_file none;
+        mixed = λ none. c.names_several-is_mixed.ensures.one f hub_file none;
       };
       memory = λ j. record {
         numbers = (ap numbers_of c.add_file-added.ensures.others ∙ ap numbers_of c.in_ok-take_id.ensures.others) j;
@@ -44,7 +46,13 @@ returns-clause-added g c f hub_file clean =
         };
         text = m.text;
       };
-      is_row = (let is : IsRowFor m.text c.args.key summary row = search rules in is);
+      mark = marked_well f c.args.place.written c.names_several-is_mixed.result c.may_be_sent.result
+          (c.may_be_sent.ensures
+          ∙ ap (λ (x : FileSummaryView). nat_lt 0 c.args.place.written
+          && (not c.names_several-is_mixed.result && is_name x.destination.node)) hub_file.summary_is)
+          (λ none. c.names_several-is_mixed.ensures.one f hub_file none)
+          (λ some. c.names_several-is_mixed.ensures.several f hub_file some);
+      is_row = (let is : IsRowFor m.text c.args.place.key now.is_sent summary row = search rules in is);
       changes = subst (λ x. Changes (with_file now.id row) x new) before changed;
     }) (c.add_file-added.ensures.changed clean)
 

@@ -56,7 +56,8 @@ loop-preserved c =
       c.loop.invariant.0 ∙ read_one c.loop.before c.loop.records c.next_header.new.self c.in_ok-srcb.srcb
           c.next_header.new.into.items c.deref.result.now c.node_of-node.result c.in_ok-srcb.ensures.srcb
           c.in_ok-srcb.ensures.header c.in_ok-srcb.ensures.rest c.deref.ensures.0 c.node_of-node.ensures
-          ∙ ap (λ (n : Option (List ℕ)). with_first n (named_nodes (Some c.in_ok-srcb.srcb) c.next_header.new.self)) none,
+          ∙ ap (λ (n : Option (List ℕ)). with_first n (named_nodes (Some c.in_ok-srcb.srcb) c.next_header.new.self))
+          none,
       omega (arith, c.loop.invariant.1, ap (λ (rs : List Stored). length rs) c.in_ok-srcb.ensures.rest),
     )
 

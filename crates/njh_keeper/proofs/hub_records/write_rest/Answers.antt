@@ -1,11 +1,11 @@
 use Rattle.njh_keeper.proofs.Words
-use Words.{◌≡◌, ℕ, ◌+◌, ◌-◌, ◌<◌, ◌≤◌, true, List, length, drop, slice_get, refl, sym, ap, subst, ◌∙◌, arith}
-use Words.{on_ok_weaker, take_all, AllByRecursion, Stored, shown, records_numbered, records_in, part}
-use Words.{Result, Ok, Err, OnOk, FitsHub, Leads, option_map}
+use Words.{◌≡◌, ◌+◌, ◌≤◌, List, length, drop, slice_get, refl, sym, ap, subst, ◌∙◌, arith}
+use Words.{on_ok_weaker, Stored, shown, records_numbered, records_in, part}
+use Words.{Leads, option_map}
 use Rattle.njh_keeper.proofs.GatheringLaws.{no_row_leads, none_gathered, rows_lead}
 use Rattle.njh_keeper.proofs.LeadingLaws.{clean_before, survives_both, survives_here}
 use Rattle.njh_keeper.proofs.ReachLaws.{bytes_read, next_stands, nothing_left, rest_is_read}
-use Rattle.njh_keeper.proofs.ReachLaws.{one_fewer_left, one_more_fits, only_waits, rest_done}
+use Rattle.njh_keeper.proofs.ReachLaws.{one_fewer_left, only_waits, rest_done}
 use Rattle.njh_keeper.specs.code.Gathering.{Continues, IsRecordAt}
 use Rattle.njh_keeper.specs.declared.next_row.NextRow.{NextRow}
 use Rattle.njh_keeper.proofs.hub_records.write_rest.Goals as goal
@@ -13,13 +13,8 @@ use Rattle.njh_keeper.proofs.hub_records.write_rest.Goals as goal
 pub returns-then-written-count-clause-led : goal.returns-then-written-count-clause-led
 returns-then-written-count-clause-led g c =
     let all = records_in c.args.file.now.number (part c.args.file.now.customer c.args.hub.now).customer.spool in
-    λ clean. nothing_left c.args.key c.args.written all (omega (arith, c.record_count-count.ensures, c.if-written-count.true))
-
-pub returns-then-written-count-clause-fit : goal.returns-then-written-count-clause-fit
-returns-then-written-count-clause-fit g c =
-    let all = records_in c.args.file.now.number (part c.args.file.now.customer c.args.hub.now).customer.spool in
-    subst (AllByRecursion FitsHub)
-    (take_all c.args.written all (omega (arith, c.record_count-count.ensures, c.if-written-count.true)))
+    λ clean. nothing_left c.args.key c.args.written all
+    (omega (arith, c.record_count-count.ensures, c.if-written-count.true))
 
 pub loop-init : goal.loop-init
 loop-init g c =
@@ -35,7 +30,6 @@ loop-init g c =
       left = rest_is_read c.args.file.now.number c.args.written spool c.in-Some.records
           (sym {b = option_map (λ records. drop c.args.written records) (records_numbered c.args.file.now.number spool)}
           c.read_file_from.ensures ∙ c.in-Some.is);
-      fit = λ fits. fits;
       others = refl;
       counted = omega (arith, place);
       gathers = none_gathered all row count (ap (λ (r : NextRow). r.pack) c.new-row.ensures);
@@ -54,9 +48,6 @@ loop-preserved g c =
     let r : Stored = record { srcb = c.in-Some-next.srcb; bytes = c.next.new.into.items } in
     let stands = next_stands all at r (c.in-Some-next.ensures.first
     ∙ ap (λ (rs : List Stored). slice_get rs 0) so_far.left) in
-    let low : c.in-Some-next.srcb < 256 = omega arith in
-    let short : length c.next.new.into.items ≤ 256 =
-    omega (arith, ap (λ (xs : List ℕ). length xs) c.deref-bytes.ensures.0, c.deref-bytes.ensures.1) in
     let bytes = c.deref-bytes.result.now in
     let is = bytes_read all at c.in-Some-next.srcb c.next.new.into.items bytes c.deref-bytes.ensures.0 stands.1 in
     let now = c.add.new.self in
@@ -69,12 +60,11 @@ loop-preserved g c =
     let next = c.in_ok-add.ensures.next in
     record {
       crash = survives_both so_far.crash c.add.ensures.crash;
-      led = λ clean. rows_lead c.args.key all c.args.written row.place now.place
+      led = λ clean. rows_lead c.args.key all c.args.written row.place now.place so_far.behind
           (so_far.led (clean_before c.add.ensures.crash clean))
           (subst (λ k. Leads (Continues k all row.place now.place) mid new) so_far.key
           (c.in_ok-add.ensures.led clean all so_far.gathers next_is));
       left = c.in-Some-next.ensures.rest ∙ ap (λ (rs : List Stored). drop 1 rs) so_far.left ∙ one_fewer_left all at;
-      fit = λ fits. one_more_fits all at r stands.0 stands.1 (low, short) (so_far.fit fits);
       others = only_waits c.args.writer.now c.loop.writer c.add.new.writer c.add.new.writer.waiting
           so_far.others forward.others;
       counted = omega (arith, so_far.counted, forward.counted, forward.place, so_far.behind);
@@ -97,23 +87,12 @@ returns-clause-led g c =
     let past : length all ≤ c.loop.counter =
     omega (arith, c.loop.auto.counter-end, c.loop-test.false, c.record_count-count.ensures) in
     λ clean. on_ok_weaker c.write.result
-    (λ more. rest_done c.args.key c.args.written all end (omega (arith, so_far.next, past))
-    (rows_lead c.args.key all c.args.written row.place end
+    (λ more. rest_done c.args.key c.args.written all end
+    (omega (arith, c.record_count-count.ensures, c.if-written-count.false)) (omega (arith, so_far.next, past))
+    (rows_lead c.args.key all c.args.written row.place end so_far.behind
     (so_far.led (clean_before c.write.ensures.crash clean))
     (subst (λ k. Leads (Continues k all row.place end) mid new) so_far.key (more all so_far.gathers))))
     (c.write.ensures.led clean)
-
-on_any : {T E : Type 0} (r : Result T E) (P : Type 0) → P → OnOk r P
-on_any (Ok x) P p = p
-on_any (Err e) P p = tt
-
-pub returns-clause-fit : goal.returns-clause-fit
-returns-clause-fit g c =
-    let all = records_in c.args.file.now.number (part c.args.file.now.customer c.args.hub.now).customer.spool in
-    let past : length all ≤ c.loop.counter =
-    omega (arith, c.loop.auto.counter-end, c.loop-test.false, c.record_count-count.ensures) in
-    on_any c.write.result _ (λ fits. subst (AllByRecursion FitsHub) (take_all c.loop.counter all past)
-    (c.loop.invariant.fit fits))
 
 pub returns-clause-others : goal.returns-clause-others
 returns-clause-others g c =

@@ -1,6 +1,6 @@
 use Rattle.njh_keeper.proofs.Words
-use Words.{◌≡◌, ◌+◌, ◌-◌, ◌≤◌, drop, take, AllByRecursion, HasCleanDisk, Survives, shown, records_in, part}
-use Words.{Leads, FitsHub}
+use Words.{◌≡◌, ◌+◌, ◌-◌, ◌≤◌, drop, HasCleanDisk, Survives, shown, records_in, part}
+use Words.{Leads}
 use Rattle.njh_keeper.specs.code.{Counting.CountsMore, Gathering.{Continues, Gathers}}
 use Rattle.njh_keeper.proofs.hub_records.write_rest.Given as goal
 
@@ -14,7 +14,6 @@ invariant-loop g l =
       crash : Survives old now (λ _. ⊥);
       led : HasCleanDisk now → Leads (Continues l.key all l.written l.row.place) old now;
       left : l.records ≡ drop l.counter all;
-      fit : AllByRecursion FitsHub (take l.written all) → AllByRecursion FitsHub (take l.counter all);
       others : l.writer ≡ record l.fn.writer { store = l.writer.store; waiting = l.writer.waiting };
       counted : CountsMore (l.row.place - l.written) l.fn.writer l.writer;
       gathers : Gathers all l.row;

@@ -1,6 +1,5 @@
 use Rattle.std.proofs.Common.{refl}
-use Rattle.{std.proofs.lemmas.Result.{IfErr-weaker, IfOk-weaker, on_ok_weaker}, sqlite.specs.Effect.Database}
-use Rattle.njh_spoolfile.specs.Kept.{Holds}
+use Rattle.{std.proofs.lemmas.Result.{IfErr-weaker, IfOk-weaker, on_ok_weaker}}
 use Rattle.njh_keeper.proofs.LeadingLaws.{clean_before, survives_both}
 use Rattle.njh_keeper.proofs.StepLaws.{come_back, found_in, ok_both, opens, stands_so, tells, told_of}
 use Rattle.njh_keeper.proofs.opening.open_from.Goals as goal

@@ -1,7 +1,7 @@
 use Rattle.njh_keeper.proofs.Words
-use Words.{◌≡◌, [], false, length, refl, true, ap, subst, ◌∙◌, arith, ok_then, shown, partial_records, part, Writes}
+use Words.{◌≡◌, length, refl, true, ap, subst, ◌∙◌, arith, ok_then, shown, partial_records, part, Writes}
 use Words.{Leads, leads_weaker}
-use Rattle.njh_keeper.proofs.{AlikeLaws.begun_same, PortionLaws.keeps_first}
+use Rattle.njh_keeper.proofs.PortionLaws.{keeps_first}
 use Rattle.njh_keeper.specs.declared.own_files.KeptPartial.{KeptPartial}
 use Rattle.njh_keeper.proofs.portions.begin.Goals as goal
 
@@ -25,6 +25,6 @@ returns-clause-kept g c =
     c.in_ok-write_rest.ensures.others c.remember.ensures.others p last refl
     counted (omega (arith, c.record_count-count.ensures, c.requires.many)) counted
     (omega (arith, c.record_count-count.ensures, c.in_ok-write_rest.ensures.counted))
-    (λ clean. leads_weaker (subst (λ rs. Leads (Writes false c.args.key 0 rs) old new) c.requires.partial
-    (c.in_ok-write_rest.ensures.led clean)) (λ s t wrote h empty. wrote [] h empty
-    (begun_same 0 (partial_records c.args.file.now.number now) (omega arith))))) c.remember.ensures.last
+    (λ clean. leads_weaker (subst (λ rs. Leads (Writes c.args.key 0 rs) old new) c.requires.partial
+    (c.in_ok-write_rest.ensures.led clean)) (λ s t wrote h empty.
+    wrote (partial_records c.args.file.now.number now) refl h empty))) c.remember.ensures.last

@@ -1,5 +1,5 @@
 use Rattle.njh_keeper.proofs.Words
-use Words.{◌≡◌, ◌≤◌, length, refl, true, false, ap, subst, ◌∙◌, arith, shown, partial_records, records_in, part, Writes}
+use Words.{◌≡◌, ◌≤◌, length, refl, true, ap, subst, ◌∙◌, arith, shown, partial_records, records_in, part, Writes}
 use Words.{Leads, leads_nothing, leads_weaker}
 use Rattle.njh_keeper.proofs.PortionLaws.{found_at, keeps_more, rest_is_written, waits_still}
 use Rattle.njh_keeper.specs.declared.own_files.KeptPartial.{KeptPartial}
@@ -41,5 +41,5 @@ returns-clause-kept g c =
     c.index-partial.ensures refl found.0 refl refl grown counted
     (omega (arith, c.record_count-seen.ensures, c.requires.many))
     (omega (arith, c.record_count-seen.ensures, c.in_ok-write_rest.ensures.counted))
-    (λ clean. leads_weaker (subst (λ xs. Leads (Writes false p.key p.written xs) old new) c.requires.partial
+    (λ clean. leads_weaker (subst (λ xs. Leads (Writes p.key p.written xs) old new) c.requires.partial
     (c.in_ok-write_rest.ensures.led clean)) (λ s t wrote. rest_is_written p q rs refl s t counted wrote))

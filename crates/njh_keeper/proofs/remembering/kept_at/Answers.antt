@@ -24,6 +24,6 @@ returns-clause-remembers c found g is =
       records = ap (λ (v : FileSummaryView). v.records) summary;
       state = ap (λ (v : FileSummaryView). v.state) summary;
       destination = ap (λ (v : FileSummaryView). v.destination) summary;
-      mixed = c.names_several.ensures g (record
+      mixed = c.names_several.ensures.one g (record
           { summary_is = summary; number_is = number; records_are = records; headers = headers });
     }

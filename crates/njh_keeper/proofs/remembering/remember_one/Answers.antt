@@ -2,6 +2,8 @@ use Rattle.njh_keeper.proofs.Words
 use Words.{rules, ◌≡◌, ◌<◌, ◌++◌, List, [], ◌∷◌, length, get_or, map, sym, ap, subst, ◌∙◌, arith, get_or_default}
 use Words.{length-map, map-append, on_ok_weaker, SpoolContents, entry_of, with_changed, FileSummaryView, file_summary}
 use Words.{part, is_held, whole_of, IsRead, KeptWhole, Remembers, leads_by, leads_nothing, leads_weaker}
+use Words.{HasHeaders, said_destination, with_mark, field_text, recursion_from_All}
+use Rattle.njh_keeper.proofs.NumberedLaws.{all_at}
 use Rattle.njh_keeper.proofs.OpeningLists.{goes_on_anew, goes_on_same, next_read}
 use Rattle.njh_keeper.proofs.remembering.remember_one.Goals as goal
 
@@ -30,7 +32,7 @@ returns-then-is_held-stored-clause-led g c text found clean left =
     ∙ sym c.is_held.ensures ∙ noted in
     subst (λ (ks : List KeptWhole). IsRead name ks left spool.whole from s) (sym now)
     (goes_on_same name whole e left spool from s is k f nx.1 c.kept_at-kept.ensures.id.0 c.kept_at-kept.ensures.id.1
-    remembers held))
+    c.kept_at-kept.ensures.sent remembers held))
 
 pub returns-clause-led : goal.returns-clause-led
 returns-clause-led g c text found clean =
@@ -53,9 +55,16 @@ returns-clause-led g c text found clean =
     let there : c.len-index.result < length spool.whole = subst (λ n. n < length spool.whole) same nx.1.there in
     let summary : c.summary_at-summary.result ≡ file_summary f = c.summary_at-summary.ensures.summary ∙ ap file_summary
     (get_or_default spool.whole c.len-index.result _ f there ∙ sym at_index) in
+    let headers : HasHeaders f.kind f.records =
+    all_at (λ g. HasHeaders g.kind g.records) spool.whole c.len-index.result f
+    (recursion_from_All (λ g. HasHeaders g.kind g.records) spool.whole c.summary_at-summary.ensures.headers) there
+    at_index in
+    let node : changed.row.to_node ≡ with_mark k.is_sent (field_text (said_destination f.kind f.records).node) =
+    changed.is_row.node ∙ ap (λ (v : FileSummaryView). with_mark k.is_sent (field_text v.destination.node)) summary in
     subst (λ (ks : List KeptWhole). IsRead name ks left spool.whole from t) (sym now)
     (subst (λ (u : SpoolContents). IsRead name (whole ++ k ∷ []) left spool.whole from u)
     (sym (by ∙ ap (λ n. with_changed n changed.row s) c.kept_at-kept.ensures.id.0))
     (goes_on_anew name whole e left spool from s is k f nx.1 c.kept_at-kept.ensures.id.0 c.kept_at-kept.ensures.id.1
-    remembers changed.row (changed.is_row.owned name text) (changed.is_row.of_file f summary)))))
+    c.kept_at-kept.ensures.sent remembers changed.row (changed.is_row.owned name text)
+    (changed.is_row.of_file f summary) headers node))))
     (c.change_row.ensures.changed clean)

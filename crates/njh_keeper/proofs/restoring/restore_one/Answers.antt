@@ -1,4 +1,4 @@
-use Rattle.std.proofs.Common.{◌≡◌, ℕ, List, map, Some, None, ap, sym, refl, ◌∙◌, arith}
+use Rattle.std.proofs.Common.{◌≡◌, map, Some, ap, sym, refl, ◌∙◌, arith}
 use Rattle.njh_spoolfile.specs.Kept.{contents_of}
 use Rattle.{njh_spoolfile.specs.Kept.{entry_of, file_of, whole_in}, njh_hub.specs.WholeHub.part}
 use Rattle.njh_keeper.proofs.{FileLaws.{no_fault, this_fault}, HubLaws.found, StepLaws.{all_read, fault_is, with_it}}

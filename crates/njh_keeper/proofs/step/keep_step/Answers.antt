@@ -17,7 +17,7 @@ returns-clause-led g c sound headers clean =
     let own2 = c.keep_portions.new.own in
     let mid : HasCleanDisk (shown g.S.Store w1.store) = omega (arith, clean, c.keep_portions.ensures.crash.clean) in
     step_leads (memory_of w c.args.own.now) (memory_of w1 own1) (memory_of w2 own2) w.is_changed w2.is_changed
-    before now led known headers (shown g.S.Store w.store) (shown g.S.Store w1.store) (shown g.S.Store w2.store)
+    before now led known (shown g.S.Store w.store) (shown g.S.Store w1.store) (shown g.S.Store w2.store)
     (c.in_ok-follow.ensures.led (numbered_of_sound now.customer.spool sound) mid) c.in_ok-follow.ensures.arrived
     (kept.led clean) seen
     (ap (λ (o : OwnFiles). string_bytes o.text) kept.others) (ap (λ (o : OwnFiles). o.name) kept.others)

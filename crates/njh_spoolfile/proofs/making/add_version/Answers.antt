@@ -11,7 +11,7 @@ use Rattle.njh_spoolfile.proofs.making.add_version.Goals as goal
 pub returns-clause-added : goal.returns-clause-added
 returns-clause-added g c clean =
     let early : HasCleanDisk (state g.S.Store c.args.conn.now) = omega (arith, c.execute.ensures.survives.clean) in
-    sets 2 insert_version insert_version_is insert_version_plain (state g.S.Store c.args.conn.now)
+    sets 3 insert_version insert_version_is insert_version_plain (state g.S.Store c.args.conn.now)
     (state g.S.Store c.execute.new.self) _ (c.requires.ready early).0 (c.requires.ready early).1
     (c.in_ok-execute.ensures.runs clean)
 

@@ -12,7 +12,7 @@ returns-clause-made g c clean =
     omega (arith, c.add_version.ensures.crash.clean) in
     let made = c.in_ok-create_tables.ensures.made early in
     ok_then c.add_version.result
-    (Sets 2 (state g.S.Store c.create_tables.new.conn) (state g.S.Store c.add_version.new.conn))
+    (Sets 3 (state g.S.Store c.create_tables.new.conn) (state g.S.Store c.add_version.new.conn))
     (StartsEmpty (state g.S.Store c.args.conn.now) (state g.S.Store c.add_version.new.conn))
     (λ set. record {
       is_open = set.is_open;

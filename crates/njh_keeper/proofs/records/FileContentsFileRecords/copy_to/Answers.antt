@@ -1,6 +1,6 @@
 use Rattle.std.proofs.{Common.{◌≡◌, ◌<◌, ◌++◌, List, length, map, Some, ap, sym, ◌∙◌, arith}, lemmas.List.length-map}
 use Rattle.{std.specs.Prelude.slice_get, njh_record.specs.Stored.Stored, njh_spoolfile.specs.Kept.contents_of}
-use Rattle.njh_keeper.{proofs.FileLaws.got, specs.Opened.as_stored}
+use Rattle.{njh_spoolfile.specs.Sent.as_stored, njh_keeper.proofs.FileLaws.got}
 use Rattle.njh_keeper.proofs.records.FileContentsFileRecords.copy_to.Goals as goal
 
 pub returns : goal.returns

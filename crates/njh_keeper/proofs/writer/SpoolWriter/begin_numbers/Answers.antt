@@ -4,7 +4,7 @@ use Rattle.{std.proofs.Common.{nat_lt, ◌+◌}, sqlite.{proofs.StateLemmas.surv
 use Rattle.njh_spoolfile.specs.Kept.{Holds}
 use Rattle.njh_keeper.proofs.{LeadingLaws.clean_before, OpeningApart.few_unused, OpeningNumbers.are_below}
 use Rattle.njh_keeper.proofs.WriterLaws.{stands_kept}
-use Rattle.njh_keeper.specs.code.Writing.{emptied_at, is_used, key_behind, LackUnused, shows_kept, without_keys}
+use Rattle.njh_keeper.specs.code.Writing.{emptied_at, key_behind, LackUnused, shows_kept, without_keys}
 use Rattle.njh_keeper.specs.declared.writer.SpoolWriter.{SpoolWriter}
 use Rattle.njh_keeper.proofs.writer.SpoolWriter.begin_numbers.Goals as goal
 

@@ -1,12 +1,12 @@
 //! The words for kinds of files.
 
 ghost use Rattle.std.specs.Prelude.{◌≡◌};
-ghost use Rattle.njh_keeper.specs.Opened.{kind_of_word, kind_word};
+ghost use Rattle.njh_spoolfile.specs.Sent.{kind_of_word, kind_word};
 
 use njh_record::Kind;
 
 /// The word for a kind of file.
-pub(crate) fn kind_word(kind: Kind) -> &'static str
+pub fn kind_word(kind: Kind) -> &'static str
     ensures { result.now ≡ kind_word kind }
 {
     match kind {
@@ -16,7 +16,7 @@ pub(crate) fn kind_word(kind: Kind) -> &'static str
 }
 
 /// The kind of file that a word means.
-pub(crate) fn kind_of_word(word: &str) -> Option<Kind>
+pub fn kind_of_word(word: &str) -> Option<Kind>
     ensures { result ≡ kind_of_word word.now }
 {
     if word == "SYSIN" {
