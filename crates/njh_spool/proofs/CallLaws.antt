@@ -34,7 +34,8 @@ use Rattle.njh_spool.proofs.KeptLaws.{own_of, HasOwn, moves}
 use Rattle.njh_spool.proofs.FileLaws.{records_are, file_of, first_are, appended-records, appended-file, size_is}
 use Rattle.njh_spool.proofs.ReadLaws.{partial_stage as stage_of, whole_not_partial as not_partial_of}
 use Rattle.njh_spool.proofs.PackingLaws.{length-packed, length-unpacked}
-use Rattle.njh_spool.proofs.RewriteLaws.{packed-at_index, short-at_index, codes-at_index, length-at_index, place-rewritten}
+use Rattle.njh_spool.proofs.RewriteLaws.{packed-at_index, short-at_index, codes-at_index, length-at_index}
+use Rattle.njh_spool.proofs.RewriteLaws.{place-rewritten}
 use Rattle.njh_spool.proofs.OwnLaws.{whole_from}
 use Rattle.njh_spool.proofs.PartialLaws as partial
 use Rattle.njh_spool.proofs.WholeLaws as whole
@@ -95,8 +96,8 @@ module _ (here : Call) where
   empty_file : (slot' : FileSlot) (keys : List ℕ) → slot'.count ≡ 0 → slot'.headers_end ≡ 0
       → slot'.places ≡ first_places → IsFile slot' (record { keys = keys; bytes = [] })
   empty_file slot' keys none headerless first =
-      file_of [] slot' (record { keys = keys; bytes = [] }) (λ k d within. absurd (omega arith)) tt none refl (λ _. none)
-      (omega arith) (no_headers slot'.headers_end headerless) (first_are [] keys slot'.places first)
+      file_of [] slot' (record { keys = keys; bytes = [] }) (λ k d within. absurd (omega arith)) tt none refl
+      (λ _. none) (omega arith) (no_headers slot'.headers_end headerless) (first_are [] keys slot'.places first)
 
   pub abandons : (slot' : FileSlot) (own' : CustomerFiles) → is_partial slot.stage ≡ true → slot' ≡ free_slot →
       own' ≡ record own { used = own.used - blocks_of chain.bytes; partial = filter (λ m. not (eqb m n)) own.partial } →
@@ -225,8 +226,8 @@ module _ (here : Call) where
       (file.free free) in
       let none : slot'.count ≡ 0 = ap (λ (x : FileSlot). x.count) is in
       let blocks = ap (λ (o : CustomerFiles). o.used) owns in
-      let made : IsFile slot' chain = file_of [] slot' chain (λ k d within. absurd (omega arith)) tt none empty (λ _. none)
-      file.small (no_headers slot'.headers_end (ap (λ (x : FileSlot). x.headers_end) is))
+      let made : IsFile slot' chain = file_of [] slot' chain (λ k d within. absurd (omega arith)) tt none empty
+      (λ _. none) file.small (no_headers slot'.headers_end (ap (λ (x : FileSlot). x.headers_end) is))
       (first_are [] chain.keys slot'.places (ap (λ (x : FileSlot). x.places) is)) in
       let same : content slot' chain ≡ record { stage = Partial; kind = kind; records = [] } = ap
       (λ (x : FileSlot). content x chain) is in

@@ -87,8 +87,8 @@ sum_by-opened (q ∷ quotas) =
     )
 
 empty_file : IsFile free_slot empty_chain
-empty_file = file_of [] free_slot empty_chain (λ k d within. absurd (omega arith)) tt refl refl (λ _. refl) (omega arith)
-    (no_headers 0 refl) (first_are [] [] free_slot.places refl)
+empty_file = file_of [] free_slot empty_chain (λ k d within. absurd (omega arith)) tt refl refl (λ _. refl)
+    (omega arith) (no_headers 0 refl) (first_are [] [] free_slot.places refl)
 
 own_opened : (q : Quota) (files : ℕ → Content) → ((n : ℕ) → (files n).stage ≡ Free) → IsWithinLimits q
     → IsOwn (opened q) files

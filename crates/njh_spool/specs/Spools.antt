@@ -1,5 +1,6 @@
 -- The spool as the list of its customers' spools: what its calls answer, and what holds of each after every call.
-use Rattle.std.specs.Prelude.{◌≡◌, ℕ, ◌+◌, ◌<◌, ◌≤◌, Bool, true, false, List, length, count_by, slice_get, slice_index_or}
+use Rattle.std.specs.Prelude.{◌≡◌, ℕ, ◌+◌, ◌<◌, ◌≤◌, Bool, true, false, List, length, count_by, slice_get}
+use Rattle.std.specs.Prelude.{slice_index_or}
 use Rattle.std.specs.Prelude.{Option, Some, None, Result, ◌==◌, All}
 use Rattle.std.specs.Option.{option_map, option_or, option_and_then, ok_or, is_some}
 use Rattle.njh_record.specs.Stored.{Stored}

@@ -161,7 +161,7 @@ version_in rows =
 abbrev pub IsOf : Version → List Row → Type 0
 IsOf version rows = version_in rows ≡ Some version
 
--- It has row 0 while what it holds may stand in its log: from the first start on, until it is closed whole.
+-- It has a row with number 0 while what it holds may stand in its log: from the first start until it is closed whole.
 abbrev pub is_marked : Trees → Bool
 is_marked trees = has_number 0 (trees 0)
 

@@ -1,4 +1,5 @@
-use Rattle.std.proofs.Common.{◌≡◌, ℕ, ◌<◌, ◌≤◌, drop, List, [], length, Option, Some, None, Ok, Err, ap, subst, sym, ◌∙◌, refl, arith}
+use Rattle.std.proofs.Common.{◌≡◌, ℕ, ◌<◌, ◌≤◌, drop, List, [], length, Option, Some, None, Ok, Err, ap, subst, sym}
+use Rattle.std.proofs.Common.{◌∙◌, refl, arith}
 use Rattle.std.proofs.lemmas.List.{get_or_past}
 use Rattle.std.specs.Option.{option_map, ForSome}
 use Rattle.njh_record.specs.Stored.{Stored}
@@ -40,7 +41,8 @@ returns-in-Ok c =
     file_there _ c.in-Ok.reader (sym c.in-Ok.is ∙ c.read_from.ensures)
     ∙ ap (λ (p : Part). rest_of c.args.n (records_numbered c.args.file p.customer.spool))
     (sym (part-there s.shared.tables s.shared.spool s.lines.items c.args.customer there))
-    ∙ ap (λ (ps : List Part). rest_of c.args.n (records_numbered c.args.file (part c.args.customer ps).customer.spool)) c.self.view_is
+    ∙ ap (λ (ps : List Part). rest_of c.args.n
+    (records_numbered c.args.file (part c.args.customer ps).customer.spool)) c.self.view_is
 
 pub returns-in-Err : goal.returns-in-Err
 returns-in-Err c =
@@ -50,7 +52,8 @@ returns-in-Err c =
     no_file _ c.in-Err.field-0 (sym c.in-Err.is ∙ c.read_from.ensures)
     ∙ ap (λ (p : Part). rest_of c.args.n (records_numbered c.args.file p.customer.spool))
     (sym (part-there s.shared.tables s.shared.spool s.lines.items c.args.customer there))
-    ∙ ap (λ (ps : List Part). rest_of c.args.n (records_numbered c.args.file (part c.args.customer ps).customer.spool)) c.self.view_is
+    ∙ ap (λ (ps : List Part). rest_of c.args.n
+    (records_numbered c.args.file (part c.args.customer ps).customer.spool)) c.self.view_is
 
 numbered : (n : ℕ) (o : Option (List Stored)) → n < length (or_none o) → ForSome o (λ records. n < length records)
 numbered n None more = λ records is. absurd (cc is)
@@ -64,5 +67,6 @@ read_from-requires-clause-within c =
     let count =
     ap (λ (p : Part). length (records_in c.args.file p.customer.spool))
     (sym (part-there s.shared.tables s.shared.spool s.lines.items c.args.customer there))
-    ∙ ap (λ (ps : List Part). length (records_in c.args.file (part c.args.customer ps).customer.spool)) c.self.view_is in
+    ∙ ap (λ (ps : List Part). length (records_in c.args.file (part c.args.customer ps).customer.spool))
+    c.self.view_is in
     numbered c.args.n _ (omega (arith, c.requires, count))

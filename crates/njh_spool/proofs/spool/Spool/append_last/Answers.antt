@@ -207,7 +207,8 @@ moved c =
     ∙ ap (λ (x : Chain). with_chain c.place-at.result
     (record { keys = keys; bytes = x.bytes ++ packed_record r }) c.self.inside.store) chain
     ∙ ap (λ (i : ℕ). with_chain i longer c.self.inside.store) c.place-at.ensures in
-    call.arrives here after c.append_both.new.self (with_record c.args.srcb c.slot_at-slot.result) (record c.index_mut-own.result.now { used = blocks })
+    call.arrives here after c.append_both.new.self (with_record c.args.srcb c.slot_at-slot.result)
+    (record c.index_mut-own.result.now { used = blocks })
     (set c.self.inside.slots (1024 * c.args.customer + c.args.id)
     (with_record c.args.srcb c.slot_at-slot.result)) c.from.result
     (with_appended c.args.id r) store refl c.from.ensures
@@ -223,7 +224,8 @@ moved c =
     (omega (arith, quota, c.if-used-own.false)) small)))
 
 pub invariant_of-self-2 : goal.invariant_of-self-2
-invariant_of-self-2 c = rw (c.set.ensures, c.add_record.ensures) (moved (goal.at.invariant_of-self-2 c).After-slot-2-1).kept
+invariant_of-self-2 c =
+    rw (c.set.ensures, c.add_record.ensures) (moved (goal.at.invariant_of-self-2 c).After-slot-2-1).kept
 
 pub returns-clause-fault : goal.returns-clause-fault
 returns-clause-fault c =
