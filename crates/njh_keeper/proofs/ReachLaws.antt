@@ -24,20 +24,6 @@ none_is_left [] at is = omega arith
 none_is_left (x ∷ xs) zero is = absurd (cc is)
 none_is_left (x ∷ xs) (suc at) is = let past = none_is_left xs at is in omega (arith, past)
 
-next_fits : (all : List Stored) (at : ℕ) (r : Stored) → at < length all → r ≡ get_or all at r → FitsHub r
-    → AllByRecursion FitsHub (take at all) → AllByRecursion FitsHub (take (suc at) all)
-next_fits [] at r there is fits so_far = absurd (omega (arith, there))
-next_fits (x ∷ xs) zero r there is fits so_far = (subst FitsHub is fits, tt)
-next_fits (x ∷ xs) (suc at) r there is fits so_far =
-    (so_far.0, next_fits xs at r (omega (arith, there)) is fits so_far.1)
-
--- so many fit, and then one more
-pub one_more_fits : (all : List Stored) (at : ℕ) (r : Stored) → at < length all → r ≡ get_or all at r → FitsHub r
-    → AllByRecursion FitsHub (take at all) → AllByRecursion FitsHub (take (at + 1) all)
-one_more_fits all at r there is fits so_far =
-    let one : suc at ≡ at + 1 = omega arith in
-    subst (λ n. AllByRecursion FitsHub (take n all)) one (next_fits all at r there is fits so_far)
-
 pub one_fewer_left : (all : List Stored) (at : ℕ) → drop 1 (drop at all) ≡ drop (at + 1) all
 one_fewer_left all at = drop-drop 1 at all
 
@@ -48,11 +34,6 @@ pub bytes_read : (all : List Stored) (at srcb : ℕ) (bytes read : List ℕ) →
 bytes_read all at srcb bytes read same is =
     subst (λ (xs : List ℕ). ◌≡◌ {A = Stored} (record { srcb = srcb; bytes = xs })
     (get_or all at (record { srcb = srcb; bytes = xs }))) (sym same) is
-
-pub file_is_read : (number : ℕ) (spool : CustomerSpool) (rs : List Stored) → records_numbered number spool ≡ Some rs
-    → rs ≡ records_in number spool
-file_is_read number spool rs is = sym (ap (λ (o : Option (List Stored)). elim o [ Some records ↦ records | None ↦ [] ])
-    is)
 
 rest_of : (n : ℕ) (o : Option (List Stored)) (rs : List Stored) → option_map (λ records. drop n records) o ≡ Some rs
     → rs ≡ drop n (elim o [ Some records ↦ records | None ↦ [] ])

@@ -21,16 +21,6 @@ use Rattle.njh_keeper.specs.declared.fault.OpeningFault.{OpeningFault, TheVarian
 use Rattle.njh_table.specs.TableFile.{entry_of as entry_in}
 use Rattle.njh_turns.specs.declared.depot.DepotFault.TheVariants as depot
 
--- ---- nothing happened
-
-pub stays_then : (a b c : State) → Stays a b → Stays b c → Stays a c
-stays_then a b c p q = record {
-  is_open = λ h. q.is_open (p.is_open h);
-  now = q.now ∙ p.now;
-  committed = q.committed ∙ p.committed;
-  mode = q.mode ∙ p.mode;
-}
-
 pub ok_both : {T E : Type 0} (r : Result T E) {P : T → Type 0} {Q R : Type 0} → IfOk r P → OnOk r Q
     → ((x : T) → P x → Q → R) → OnOk r R
 ok_both (Ok x) one other both = both x one other

@@ -17,33 +17,17 @@ use Rattle.njh_keeper.specs.declared.restoring.Outcome.TheVariants.{Back, Fails,
 
 -- ---- what was committed stays
 
-pub keeps_here : {old new : State} → Stays old new → KeepsCommit old new
-keeps_here same = record { is_open = same.is_open; committed = same.committed }
-
 pub keeps_then : {old mid new : State} → KeepsCommit old mid → KeepsCommit mid new → KeepsCommit old new
 keeps_then one more = record {
   is_open = λ was. more.is_open (one.is_open was);
   committed = more.committed ∙ one.committed;
 }
 
-pub keeps_by : {change : SpoolContents → SpoolContents} {old new : State} → Changes change old new → KeepsCommit old new
-keeps_by by = record { is_open = λ was. by.is_open; committed = by.committed }
-
-pub holds_still : {old new : State} {spool : SpoolContents} → Stays old new → Holds spool old.now.trees
-    → Holds spool new.now.trees
-holds_still {old} {new} {spool} same held = subst (λ (d : Database). Holds spool d.trees) (sym same.now) held
-
 -- ---- the row
 
 pub row_stays : {id : ℕ} {file : File} {spool : SpoolContents} {at : State} (now : File) → now ≡ file
     → Holds spool at.now.trees → LeavesRow id file now spool at
 row_stays {id} {file} {spool} now same held = record { left = spool; holds = held; written = inr (refl, same) }
-
-pub plain_row : (file : File) → is_aside file.customer ≡ false → file_taken_up file ≡ file
-plain_row file plain = λ i. record file { customer = unmarked_is file.customer plain i }
-
-pub marked_row : (file : File) → is_aside file.customer ≡ true → file_aside file ≡ file
-marked_row file marked = λ i. record file { customer = marked_is file.customer marked i }
 
 pub row_changes : {id : ℕ} {now : File} {old new : State} (before : File) (spool : SpoolContents)
     → Changes (with_changed id now) old new → Holds spool old.now.trees → LeavesRow id before now spool new
