@@ -133,11 +133,11 @@ compact_rule = record (new_rule (codes "compact")) { long = Some (codes "compact
 abbrev pub files_app : App
 files_app = with_rule (with_rule printing_app into_rule) compact_rule
 
--- a program whose first word is a subcommand
+-- a program with a version, whose first word is a subcommand
 abbrev pub bare_app : App
 bare_app = let a = new_app (codes "njehub") in record a {
   top =
-      record a.top { subcommand_required = true; disable_help_subcommand = true };
+      record a.top { has_version = true; subcommand_required = true; disable_help_subcommand = true };
 }
 
 -- the program, as clap's definitions take it

@@ -16,6 +16,7 @@ use crate::encode_options::encode_command;
 use crate::files_options::{files_command, files_in};
 use crate::replay_options::{replay_command, replayed_in};
 use crate::serve_options::{Unasked, serve_command, served_in};
+use crate::shown::VERSION;
 use clap::error::ErrorKind;
 use clap::{ArgMatches, Command, Error};
 use std::alloc::{AllocError, Global};
@@ -100,7 +101,8 @@ pub enum Task<'a> {
 }
 
 /// What the arguments ask for, of which the first is the program's name. A refusal has the text for
-/// the user, and `--help` is one. Both are as `clap`'s definitions say of this program.
+/// the user; `--help` and `--version` are refusals too, of which `is_shown` says which are none to
+/// the user. Both are as `clap`'s definitions say of this program.
 pub fn request_of<'a, S: AsStr>(alloc: Global, arguments: &'a [S]) -> Result<Request<'a>, Error>
     ensures asked { IfOk result (Asks (map S.text arguments.entry.now)) }
     ensures taken { OnOk result (fault_of program_app (map S.text arguments.entry.now) ≡ []) }
@@ -302,6 +304,7 @@ fn bare_command<'a>(alloc: Global) -> Command<'a>
     ensures { app_of result ≡ bare_app }
 {
     Command::new(alloc, "njehub")
+        .version(VERSION)
         .about("A store-and-forward hub for NJE networks over bisync lines")
         .subcommand_required(true)
         .disable_help_subcommand(true)

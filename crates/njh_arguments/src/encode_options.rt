@@ -15,7 +15,7 @@ const ENCODE_EXAMPLE: &str =
 for each line. Three lines in words:
   a1: contact
   a1: sign on as LYON block 1024
-  a1: message to BUREAU from LYON ANNA: LIST
+  a1: command from LYON ANNA to BUREAU: LIST
 
 Example:
   njehub encode < words | njehub replay --tables tables.toml --decode";

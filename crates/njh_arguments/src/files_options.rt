@@ -24,9 +24,9 @@ it is. With --into it copies a customer's files, with --compact all or a custome
 prints a line for each of them there.
 
 Examples:
-  njehub files --spool hub.spool --customer BANK
-  njehub files --spool hub.spool --customer BANK --export LYON.42 > listing
-  njehub files --spool hub.spool --customer BANK --into other.spool
+  njehub files --spool hub.spool --customer ACME
+  njehub files --spool hub.spool --customer ACME --export LYON.42 > listing
+  njehub files --spool hub.spool --customer ACME --into other.spool
   njehub files --spool hub.spool --compact small.spool";
 
 /// What the help says of `--number`.

@@ -9,5 +9,7 @@ mod files_options;
 mod options;
 mod replay_options;
 mod serve_options;
+mod shown;
 
 pub use arguments::{Request, Task, not_utf8, request_of};
+pub use shown::is_shown;

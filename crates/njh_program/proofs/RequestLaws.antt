@@ -77,7 +77,7 @@ failed_by arguments left asked (Err why) asks ended = failed_so arguments left a
 
 pub done_by : {T E : Type 0} (arguments : List Text) (left old new : Option (List ℕ)) (asked : Request) (r : Result T E)
     → Asks arguments asked → OnOk r (IsDone asked left old new) → OnOk r (IsRunDone arguments left old new)
-done_by arguments left old new asked (Ok x) asks done = (asked, asks, done)
+done_by arguments left old new asked (Ok x) asks done = inl (asked, asks, done)
 done_by arguments left old new asked (Err e) asks done = tt
 
 pub begun_by : {T E : Type 0} (arguments : List Text) (left old new : Option (List ℕ)) (asked : Request)
@@ -86,7 +86,7 @@ pub begun_by : {T E : Type 0} (arguments : List Text) (left old new : Option (Li
     → OnErr r (Keeps old new ⊎ IsBegunFor arguments left old new)
 begun_by arguments left old new asked (Ok x) asks begun = tt
 begun_by arguments left old new asked (Err e) asks (inl kept) = inl kept
-begun_by arguments left old new asked (Err e) asks (inr begun) = inr (asked, asks, begun)
+begun_by arguments left old new asked (Err e) asks (inr begun) = inr (inl (asked, asks, begun))
 
 pub bad_by : (arguments : List Text) (fault : EncodeFault) (left old new : Option (List ℕ)) (asked : Request)
     → Asks arguments asked → HasBadWords asked fault left old new → IsEncodedBefore arguments fault left old new

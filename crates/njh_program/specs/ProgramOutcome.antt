@@ -2,7 +2,7 @@
 use Rattle.std.specs.Prelude.{◌≡◌, ◌⊎◌, ℕ, List, Option, Some, None, map, option_map, ⊤}
 use Rattle.std.specs.Io.KnownBytes.{Keeps}
 use Rattle.clap.specs.Words.{Text}
-use Rattle.njh_arguments.specs.Arguments.{AreRefusedBy, Asks}
+use Rattle.njh_arguments.specs.Arguments.{Asks}
 use Rattle.njh_arguments.specs.declared.arguments.Request.{Request}
 use Rattle.njh_arguments.specs.declared.arguments.Request.TheVariants.{Copy, Files, Serve}
 use Rattle.njh_arguments.specs.declared.arguments.Request.TheVariants as request
@@ -11,6 +11,7 @@ use Rattle.njh_arguments.specs.declared.arguments.Task.TheVariants.{Encode}
 use Rattle.njh_encode.specs.declared.fault.EncodeFault.{EncodeFault}
 use Rattle.njh_listing.specs.Listed.{IsListed, IsListedInPart}
 use Rattle.njh_listing.specs.Printed.{IsPrinted, IsPrintedInPart}
+use Rattle.njh_program.specs.ShownText.{AreRefusedWords, IsTextBegun, IsTextShown}
 use Rattle.njh_hub.specs.Parts.{entries_of}
 use Rattle.njh_hub.specs.WholeHub.{Part, SameLines, part_at_open}
 use Rattle.njh_hub.specs.declared.fault.HubFault.TheVariants.{Memory}
@@ -57,13 +58,16 @@ IsDoneInPart (Files spool customer file number raw) left old new =
 IsDoneInPart (Copy spool customer into is_new) left old new = IsListedInPart (option_map (λ s. s.now) customer) old new
 
 -- What the arguments ask for was done: the script that a reader had left was replayed, lines were served, the trace or
--- the lines in words that a reader had left were told or encoded, or a table file or a script was checked and is right.
+-- the lines in words that a reader had left were told or encoded, or a table file or a script was checked and is right;
+-- or the version or help was printed.
 abbrev pub IsRunDone : (arguments : List Text) (left old new : Option (List ℕ)) → Type 0
-IsRunDone arguments left old new = (request : Request) × Asks arguments request × IsDone request left old new
+IsRunDone arguments left old new =
+    ((request : Request) × Asks arguments request × IsDone request left old new) ⊎ IsTextShown arguments old new
 
 -- It was done in part.
 abbrev pub IsBegunFor : (arguments : List Text) (left old new : Option (List ℕ)) → Type 0
-IsBegunFor arguments left old new = (request : Request) × Asks arguments request × IsDoneInPart request left old new
+IsBegunFor arguments left old new =
+    ((request : Request) × Asks arguments request × IsDoneInPart request left old new) ⊎ IsTextBegun old new
 
 -- what a check found is that a table file has a fault or that a script isn't right, and what is said of that was
 -- written
@@ -114,7 +118,7 @@ AsksTask arguments holds = (task : Task) × Asks arguments (request.Task task) �
 -- Why it failed: by the arguments, which are asked first, by the tables, or by the script or the trace; or a device
 -- failed, or memory ran out. Of a line in words `IsEncodedBefore` says it, of what a check found `IsFound`.
 abbrev pub IsFailed : (arguments : List Text) (left : Option (List ℕ)) → Failure → Type 0
-IsFailed arguments left (Arguments error) = AreRefusedBy arguments error
+IsFailed arguments left (Arguments error) = AreRefusedWords arguments error
 IsFailed arguments left (Tables fault) = (request : Request) × Asks arguments request
     × RefusesTables request (Tables fault)
 IsFailed arguments left (Replay TooLong) = AsksTask arguments

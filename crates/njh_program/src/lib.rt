@@ -4,6 +4,7 @@
 
 mod handles;
 mod program;
+mod refusals;
 mod requests;
 mod service;
 mod spool_log;

@@ -8,6 +8,7 @@ ghost use Rattle.njh_encode.specs.declared.fault.EncodeFault.{EncodeFault};
 ghost use Rattle.njh_program.specs.ProgramOutcome.{IsBegunFor, IsEncodedBefore, IsFailed, IsFound, IsRunDone};
 ghost use Rattle.njh_subcommands.specs.Status.{status_after, ComesFirst};
 
+use crate::refusals::show_or_refuse;
 use crate::requests::carry_out_request;
 use crate::spooling::Spooling;
 use crate::standard_error::StandardError;
@@ -101,9 +102,9 @@ pub fn carry_out<
 {
     match request_of(rt.alloc(), arguments) {
         Ok(request) => carry_out_request(rt, request, script, out, log),
-        Err(error) => {
+        Err(refusal) => {
             drop(log);
-            Err(Failure::from(error))
+            show_or_refuse(rt.alloc(), arguments, refusal, out)
         }
     }
 }

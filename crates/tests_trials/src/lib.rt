@@ -2,7 +2,7 @@
 //!
 //! Each line of the table of `README.md` in `data` is a run: the words of the command line, what
 //! the program is given to read, what it must print, and its status. Then each option that the
-//! program's help tells of is looked for in the man page.
+//! program's help tells of is looked for in the man page, and each of its examples in the table.
 //!
 //! A run may have a peer, who plays a line that the program dials, and more may be asked of its spool
 //! file than what the program says of it.
@@ -11,6 +11,7 @@
 //! calls it, and has the stored runs.
 #![tactic(auto)]
 
+mod examples;
 mod likeness;
 mod man_page;
 mod mishaps;

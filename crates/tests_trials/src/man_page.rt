@@ -1,6 +1,9 @@
-//! The man page: it has each option that a subcommand's help tells of.
+//! The help of each subcommand: the man page has each option that it tells of, and its examples are
+//! runs.
 
+use crate::examples::say_examples;
 use crate::program::Program;
+use crate::registry;
 use crate::streams::{Calls, Run};
 use std::rt::Files;
 use std::{fs, io};
@@ -11,20 +14,23 @@ const PAGE: &str = "njehub.1";
 /// The subcommands.
 const NAMES: [&str; 6] = ["replay", "serve", "decode", "encode", "check", "files"];
 
-/// Says of each subcommand how many options the help has, and which of them the man page lacks.
+/// Says of each subcommand how many options the help has, and which of them the man page lacks; and
+/// how many commands its examples have, and which of them no run has.
 pub fn compare<R: Files + Print + AllocGlobal, P: Program>(rt: &R, program: &P) -> io::Result<()> {
     let page = fs::read_to_string(rt, PAGE)?;
-    compare_all(rt, program, page.as_str())
+    let table = fs::read_to_string(rt, registry::FILE)?;
+    compare_all(rt, program, page.as_str(), table.as_str())
 }
 
-/// Says so of each subcommand, by the text of the page.
+/// Says so of each subcommand, by the texts of the page and of the table.
 fn compare_all<R: Print + AllocGlobal, P: Program>(
     rt: &R,
     program: &P,
     page: &str,
+    table: &str,
 ) -> io::Result<()> {
     for name in NAMES {
-        compare_one(rt, program, page, name)?;
+        compare_one(rt, program, page, table, name)?;
     }
     Ok(())
 }
@@ -34,11 +40,22 @@ fn compare_one<R: Print + AllocGlobal, P: Program>(
     rt: &R,
     program: &P,
     page: &str,
+    table: &str,
     name: &str,
 ) -> io::Result<()> {
     let mut run = Run::new(rt.alloc(), &[], Calls::good(), Calls::good());
     program.run(&["njehub", name, "--help"], &mut run)?;
-    say_options(rt, page, name, run.refusal.as_str())
+    let help = help_in(&run);
+    say_options(rt, page, name, help)?;
+    say_examples(rt, table, name, help)
+}
+
+/// The help that a run gave: what it printed, or the text of its refusal.
+fn help_in<'r>(run: &'r Run<'_>) -> &'r str {
+    if run.drain.taken.is_empty() {
+        return run.refusal.as_str();
+    }
+    str::from_utf8(&run.drain.taken).unwrap_or("")
 }
 
 /// Says how many options the help of a subcommand has, and which of them the page lacks.
