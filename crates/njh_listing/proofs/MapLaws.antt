@@ -1,6 +1,6 @@
 -- What lists of stored files and records say, by the files and records that they are.
 use Rattle.std.proofs.Common.{◌≡◌, ◌⊎◌, ℕ, List, [], ◌∷◌, ◌++◌, map, Bool, refl, ap, ◌∙◌}
-use Rattle.std.proofs.Common.{subst, inr, Result, Ok, Err, Option, append-nil}
+use Rattle.std.proofs.Common.{subst, inl, inr, Result, Ok, Err, Option, append-nil}
 use Rattle.std.specs.Prelude.{OnOk, OnErr, IfOk}
 use Rattle.std.specs.List.{flat_map}
 use Rattle.std.specs.Io.KnownBytes.{Keeps}
@@ -35,6 +35,17 @@ pub listed_in_part : {T E : Type 0} (r : Result T E) (customer : Option (List �
     → OnErr r (Keeps old new ⊎ IsListedInPart customer old new)
 listed_in_part (Ok x) customer text given old new same some begun = tt
 listed_in_part (Err e) customer text given old new same some begun =
+    let P : List ℕ → Type 0 = λ t. AppendsBeginning old new t in inr (some.0, subst P (same ∙ some.1) begun)
+
+-- the same where nothing of it may have been written either
+pub kept_or_listed : {T E : Type 0} (r : Result T E) (customer : Option (List ℕ)) (text given : List ℕ)
+    (old new : Option (List ℕ))
+    → given ≡ text → ((files : List (ℕ × File)) × (text ≡ listing_text customer files))
+    → OnErr r (Keeps old new ⊎ AppendsBeginning old new given)
+    → OnErr r (Keeps old new ⊎ IsListedInPart customer old new)
+kept_or_listed (Ok x) customer text given old new same some begun = tt
+kept_or_listed (Err e) customer text given old new same some (inl kept) = inl kept
+kept_or_listed (Err e) customer text given old new same some (inr begun) =
     let P : List ℕ → Type 0 = λ t. AppendsBeginning old new t in inr (some.0, subst P (same ∙ some.1) begun)
 
 pub exported_in_part : {T E : Type 0} (r : Result T E) (raw : Bool) (text given : List ℕ) (old new : Option (List ℕ))

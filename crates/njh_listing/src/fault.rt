@@ -11,7 +11,7 @@ use std::fmt;
 /// Why nothing, or not all, is printed of a spool file or copied, or no hub is opened from it.
 #[derive(Debug, Drop)]
 pub enum FilesFault {
-    /// The customer has no such file; with what it was called.
+    /// The customer has no such file, or no file at all; with what follows the words "no file".
     NoFile(String),
     /// The customer has several such files, or none of them has the number; with which of the two,
     /// and a further line for each of them.

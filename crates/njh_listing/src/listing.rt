@@ -1,12 +1,14 @@
 //! Prints the whole files of a spool file.
 
-ghost use Rattle.std.specs.Prelude.{◌≡◌, ◌++◌, ◌⊎◌, ℕ, List, map, option_map, string_bytes, IfErr, IfOk};
-ghost use Rattle.std.specs.Prelude.{OnErr, OnOk, flat_map};
+ghost use Rattle.std.specs.Prelude.{◌≡◌, ◌<◌, ◌++◌, ◌⊎◌, ℕ, List, length, map, option_map, string_bytes, IfErr, IfOk};
+ghost use Rattle.std.specs.Prelude.{OnErr, OnOk, Some, flat_map};
 ghost use Rattle.std.specs.Io.KnownBytes.{Appends, Keeps};
 ghost use Rattle.sqlite.specs.State.{HasCleanDisk, Survives};
 ghost use Rattle.njh_listing.specs.Faults.{IsOfSpool};
 ghost use Rattle.njh_listing.specs.Listed.{IsListed, IsListedInPart, file_line, kind_words, listing_text, name_text};
 ghost use Rattle.njh_listing.specs.Listed.{said_of, state_words, user_words};
+ghost use Rattle.njh_listing.specs.Printed.{HasLine, IsUnlisted};
+ghost use Rattle.njh_io.specs.Written.{AppendsBeginning};
 ghost use Rattle.njh_spoolfile.specs.Kept.{File, Holds, SpoolContents, entry_of, file_of};
 ghost use Rattle.njh_spoolfile.specs.Shelf.{shown};
 ghost use Rattle.njh_spoolfile.specs.Steps.{Stays};
@@ -162,4 +164,73 @@ pub fn print_files<S: Alter, W: Write>(
 {
     let text = listing(alloc, store, customer)?;
     write_text(out, &text)
+}
+
+/// Prints them so, but refuses a customer that is named and has none.
+pub(crate) fn list_files<S: Alter, W: Write>(
+    alloc: Global,
+    store: &mut Store<S>,
+    customer: Option<&str>,
+    out: &mut W,
+) -> Result<(), FilesFault>
+    ensures kept { HasCleanDisk (shown S.Store store.new) → OnOk result ((spool : SpoolContents)
+        → Holds spool (shown S.Store store.old).now.trees
+        → HasLine (option_map (λ c. c.now) customer.entry) (listing_text (option_map (λ c. c.now) customer.entry)
+        spool.files)
+        × Appends (W.contents out.old) (W.contents out.new) (listing_text (option_map (λ c. c.now) customer.entry)
+        spool.files)) }
+    ensures refused { HasCleanDisk (shown S.Store store.new) → IfErr result (λ fault. (spool : SpoolContents)
+        → Holds spool (shown S.Store store.old).now.trees → IsUnlisted (option_map (λ c. c.now) customer.entry)
+        (listing_text (option_map (λ c. c.now) customer.entry) spool.files) fault) }
+    ensures done { OnOk result (IsListed (option_map (λ c. c.now) customer.entry) (W.contents out.old)
+        (W.contents out.new)) }
+    ensures begun { OnErr result (Keeps (W.contents out.old) (W.contents out.new)
+        ⊎ IsListedInPart (option_map (λ c. c.now) customer.entry) (W.contents out.old) (W.contents out.new)) }
+    ensures same { HasCleanDisk (shown S.Store store.new) → OnOk result (Stays (shown S.Store store.old)
+        (shown S.Store store.new)) }
+    ensures crash { Survives (shown S.Store store.old) (shown S.Store store.new) (λ _. ⊥) }
+    ensures silent { IfErr result (λ fault. Keeps (W.contents out.old) (W.contents out.new) ⊎ IsOfSpool fault) }
+{
+    let text = listing(alloc, store, customer)?;
+    write_listing(alloc, customer, &text, out)
+}
+
+/// Writes a listing, unless it is a customer's and empty. After another fault a beginning of it was
+/// written.
+fn write_listing<W: Write>(
+    alloc: Global,
+    customer: Option<&str>,
+    text: &[u8],
+    out: &mut W,
+) -> Result<(), FilesFault>
+    ensures ok { OnOk result (HasLine (option_map (λ c. c.now) customer.entry) text.now
+        × Appends (W.contents out.old) (W.contents out.new) text.now) }
+    ensures refused { IfErr result (IsUnlisted (option_map (λ c. c.now) customer.entry) text.now) }
+    ensures err { OnErr result (Keeps (W.contents out.old) (W.contents out.new)
+        ⊎ AppendsBeginning (W.contents out.old) (W.contents out.new) text.now) }
+    ensures silent { IfErr result (λ fault. Keeps (W.contents out.old) (W.contents out.new) ⊎ IsOfSpool fault) }
+{
+    match customer {
+        Some(name) => write_lines_of(alloc, name, text, out),
+        None => write_text(out, text),
+    }
+}
+
+/// Writes a customer's lines, of which there must be one.
+fn write_lines_of<W: Write>(
+    alloc: Global,
+    customer: &str,
+    text: &[u8],
+    out: &mut W,
+) -> Result<(), FilesFault>
+    ensures ok { OnOk result ((0 < length text.now) × Appends (W.contents out.old) (W.contents out.new) text.now) }
+    ensures refused { IfErr result (IsUnlisted (Some customer.now) text.now) }
+    ensures err { OnErr result (Keeps (W.contents out.old) (W.contents out.new)
+        ⊎ AppendsBeginning (W.contents out.old) (W.contents out.new) text.now) }
+    ensures silent { IfErr result (λ fault. Keeps (W.contents out.old) (W.contents out.new) ⊎ IsOfSpool fault) }
+{
+    if text.is_empty() {
+        return Err(FilesFault::NoFile(format!(in alloc; "of {customer}")?));
+    }
+    write_text(out, text)
 }

@@ -12,7 +12,7 @@ ghost use Rattle.sqlite.specs.State.{HasCleanDisk, Survives};
 use crate::exporting::export_file;
 use crate::fault::FilesFault;
 use crate::finding::Asked;
-use crate::listing::print_files;
+use crate::listing::list_files;
 use crate::opening::SpoolFiles;
 use njh_spoolfile::Store;
 use sqlite::{Alter, Start};
@@ -21,8 +21,8 @@ use std::io::Write;
 
 /// Prints what is asked for: the list of the files (`print_files`), or the records of a file: those
 /// of data as characters of code page 37, a line a record, or all as they are. If there is no
-/// such file, or several and no number is asked for, nothing was written; after another fault a
-/// beginning of it was.
+/// such file, or none of the customer that is named, or several and no number is asked for, nothing
+/// was written; after another fault a beginning of it was.
 pub fn print<S: Alter, W: Write>(
     alloc: Global,
     store: &mut Store<S>,
@@ -48,7 +48,7 @@ pub fn print<S: Alter, W: Write>(
     ensures silent { IfErr result (λ fault. Keeps (W.contents out.old) (W.contents out.new) ⊎ IsOfSpool fault) }
 {
     match asked.file {
-        None => print_files(alloc, store, asked.customer, out),
+        None => list_files(alloc, store, asked.customer, out),
         Some(name) => export_file(alloc, store, asked, name, out),
     }
 }
