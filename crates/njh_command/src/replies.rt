@@ -45,7 +45,7 @@ impl Replies {
     }
 
     /// None, in the place of those that there were.
-    pub(crate) fn clear(&mut self)
+    pub fn clear(&mut self)
         ensures { self.new ≡ [] }
     {
         self.count = 0;

@@ -9,7 +9,7 @@ use Words.{CommandOutcome, changed_file, file_in_state, is_of_name, message_outc
 use Words.{Command, after_stream_arrival, with_sender_outcome, without_sending, with_outcome, after_user_command}
 use Words.{after_record, acted_where, Customer, CustomerLine, line_at, receiver_at, Acts, Commands, busy_numbers}
 use Words.{LeadsByMoves, nowhere, onward, OneActs, outgoing, streams_from_hub, sender_on, with_answer_on, with_waiting}
-use Words.{with_message_to}
+use Words.{with_message_to, CommandMoves, CustomerEntry, Outgoing, User}
 use Rattle.{std.proofs.Common.{◌≡◌, ◌⊎◌, ◌∷◌, ◌++◌, ◌∙◌}, njh_block.specs.Blocks.{Data, Control}}
 use Rattle.{njh_command.proofs.CommandMoves.files_move, njh_customer.proofs.LineWalks.{acted_keeps, kepts}}
 use Rattle.njh_customer.proofs.LineWalks.{StaysWaiting, all_told_so, answered_so, arrived_so, told_so}
@@ -135,55 +135,66 @@ module _ (l k streams srcb : ℕ) (c : Customer) (names : stream_of streams srcb
 
 -- ---- messages
 
-module _ (l : ℕ) (i : Item) (c : Customer) (n : Nodal) where
-  -- the replies move no stream
-  told : (done : CommandOutcome) → streams_from_hub (with_outcome n done c).lines
-      ≡ streams_from_hub (fold without_sending c.lines done.cancelled)
-  told done =
-      let lines = fold without_sending c.lines done.cancelled in
-      all_told_so l (λ xs. streams_from_hub xs ≡ streams_from_hub lines) (senders_receiving l lines).waiting c.entry
-      (sender_of n) done.replies lines refl
+-- What a message of a user moves: nothing, or what the command that it is moves.
+pub data Commanded (entry : CustomerEntry) (who : User) (message : List ℕ) (x y : Outgoing) : Type 0 where
+  nothing_moves : y ≡ x → Commanded entry who message x y
+  command_moves : (command : Command) → command_of message ≡ Some command → CommandMoves entry who command x y
+      → Commanded entry who message x y
 
-  -- a command that cancels no file that is being sent
-  changes : (done : CommandOutcome) → done.cancelled ≡ []
-      → streams_from_hub (with_outcome n done c).lines ≡ streams_from_hub c.lines
-  changes done e = told done ∙ ap (λ numbers. streams_from_hub (fold without_sending c.lines numbers)) e
-
+-- by what becomes of the files, where the streams of those that were cancelled gave them up
+module _ (c : Customer) (who : User) (message : List ℕ) (done : CommandOutcome) (streams : List (List Sender))
+    (gave_up : streams ≡ streams_from_hub (fold without_sending c.lines done.cancelled)) where
   -- no stream moves, and the files are these
-  left_so : (done : CommandOutcome) (files : List WholeFile) → done.files ≡ files → done.cancelled ≡ []
-      → outgoing (with_outcome n done c) ≡ of_parts files c.spool.arrived (streams_from_hub c.lines)
-  left_so done files left quiet =
-      ap (λ fs. of_parts fs c.spool.arrived (streams_from_hub (with_outcome n done c).lines)) left
-      ∙ ap (of_parts files c.spool.arrived) (changes done quiet)
+  left_so : (files : List WholeFile) → done.files ≡ files → done.cancelled ≡ []
+      → of_parts done.files c.spool.arrived streams ≡ of_parts files c.spool.arrived (streams_from_hub c.lines)
+  left_so files left quiet = ap (λ fs. of_parts fs c.spool.arrived streams) left
+      ∙ ap (of_parts files c.spool.arrived)
+      (gave_up ∙ ap (λ numbers. streams_from_hub (fold without_sending c.lines numbers)) quiet)
 
-  -- by what becomes of the files
+  pub commanded : FilesMove c.entry who message c.spool.whole done
+      → Commanded c.entry who message (outgoing c) (of_parts done.files c.spool.arrived streams)
+  commanded (stay left quiet) = nothing_moves (left_so c.spool.whole left quiet)
+  commanded (held name says left quiet) =
+      let files = map (changed_file (is_of_name who name) (file_in_state Held)) c.spool.whole in
+      command_moves (commands.Hold name) says (moves.holds name refl (left_so files left quiet))
+  commanded (released name says left quiet) =
+      let files = map (changed_file (is_of_name who name) (file_in_state Ready)) c.spool.whole in
+      command_moves (commands.Release name) says (moves.releases name refl (left_so files left quiet))
+  commanded (rerouted name node line says route left quiet) =
+      let files = map (changed_file (is_of_name who name) (with_new_destination node)) c.spool.whole in
+      command_moves (commands.Reroute name node) says
+      (moves.reroutes name node line refl route (left_so files left quiet))
+  commanded (cancelled name says left numbers) =
+      let p = is_of_name who name in
+      let kept = filter (λ f. not (p f)) c.spool.whole in
+      command_moves (commands.Cancel name) says (moves.cancels name refl
+      (ap (λ fs. of_parts fs c.spool.arrived streams) left
+      ∙ ap (of_parts kept c.spool.arrived)
+      (gave_up ∙ ap (λ ns. streams_from_hub (fold without_sending c.lines ns)) numbers)
+      ∙ sym (all_given_up (busy_numbers p c.spool.whole) kept c.spool.arrived c.lines)))
+
+-- the replies to a command move no stream
+pub told : (n : Nodal) (done : CommandOutcome) (c : Customer) → streams_from_hub (with_outcome n done c).lines
+    ≡ streams_from_hub (fold without_sending c.lines done.cancelled)
+told n done c =
+    let lines = fold without_sending c.lines done.cancelled in
+    all_told_so 0 (λ xs. streams_from_hub xs ≡ streams_from_hub lines) (senders_receiving 0 lines).waiting c.entry
+    (sender_of n) done.replies lines refl
+
+module _ (l : ℕ) (i : Item) (c : Customer) (n : Nodal) where
   moved_acts : (done : CommandOutcome) → ((x : Command) → command_of n.message ≡ Some x
       → Commands c.entry (sender_of n) x i)
-      → FilesMove c.entry (sender_of n) n.message c.spool.whole done → Acted l i c (with_outcome n done c)
-  moved_acts done given (stay left quiet) = record { entry = refl; moves = inl (left_so done c.spool.whole left quiet) }
-  moved_acts done given (held name says left quiet) =
-      let files = map (changed_file (is_of_name (sender_of n) name) (file_in_state Held)) c.spool.whole in
-      did refl (moves.holds (sender_of n) name (given (commands.Hold name) says) (left_so done files left quiet))
-  moved_acts done given (released name says left quiet) =
-      let files = map (changed_file (is_of_name (sender_of n) name) (file_in_state Ready)) c.spool.whole in
-      did refl (moves.releases (sender_of n) name (given (commands.Release name) says) (left_so done files left quiet))
-  moved_acts done given (rerouted name node line says route left quiet) =
-      let files = map (changed_file (is_of_name (sender_of n) name) (with_new_destination node)) c.spool.whole in
-      did refl (moves.reroutes (sender_of n) name node line (given (commands.Reroute name node) says) route
-      (left_so done files left quiet))
-  moved_acts done given (cancelled name says left numbers) =
-      let p = is_of_name (sender_of n) name in
-      let kept = filter (λ f. not (p f)) c.spool.whole in
-      did refl (moves.cancels (sender_of n) name (given (commands.Cancel name) says)
-      (ap (λ fs. of_parts fs c.spool.arrived (streams_from_hub (with_outcome n done c).lines)) left
-      ∙ ap (of_parts kept c.spool.arrived) (told done)
-      ∙ ap (λ ns. of_parts kept c.spool.arrived (streams_from_hub (fold without_sending c.lines ns))) numbers
-      ∙ sym (all_given_up (busy_numbers p c.spool.whole) kept c.spool.arrived c.lines)))
+      → Commanded c.entry (sender_of n) n.message (outgoing c) (outgoing (with_outcome n done c))
+      → Acted l i c (with_outcome n done c)
+  moved_acts done given (nothing_moves same) = record { entry = refl; moves = inl same }
+  moved_acts done given (command_moves command says move) =
+      did refl (moves.commands (sender_of n) command (given command says) move)
 
   command_acts : (srcb : ℕ) (bytes : List ℕ) → i ≡ Data 0x9a srcb bytes → nodal_of bytes ≡ Ok n
       → route_of c.entry n.to ≡ Here → is_user_command n ≡ true → Acted l i c (after_user_command n c)
-  command_acts srcb bytes is reads here user = moved_acts (message_outcome c.entry (sender_of n) n.message c.spool)
-      (λ x says. record {
+  command_acts srcb bytes is reads here user =
+      let done = message_outcome c.entry (sender_of n) n.message c.spool in
+      moved_acts done (λ x says. record {
         srcb = srcb;
         bytes = bytes;
         is_message = is;
@@ -193,7 +204,8 @@ module _ (l : ℕ) (i : Item) (c : Customer) (n : Nodal) where
         is_command = user;
         sender = refl;
         says = says;
-      }) (files_move c.entry (sender_of n) n.message c.spool)
+      }) (commanded c (sender_of n) n.message done (streams_from_hub (with_outcome n done c).lines) (told n done c)
+      (files_move c.entry (sender_of n) n.message c.spool))
 
 -- ---- every record
 

@@ -10,7 +10,8 @@ use Words.{All-map, All-nil, HasHeaders, WholeFile, empty_spool, config_of, fres
 use Words.{fold, Option, nat_lt, ltb-true, stream_number, stream_of, Nodal, sender_of, node_unknown, SenderOutcome}
 use Words.{after_grant, after_refusal, after_completion, Sender, message_outcome, without_file, Input, after_input}
 use Words.{with_sender_outcome, without_sending, after_user_command, after_record, with_senders_by, accepted_on}
-use Words.{goes_up_by, with_raised_line, in_state, with_sender, with_waiting, with_message_to}
+use Words.{goes_up_by, with_raised_line, in_state, with_sender, with_waiting, with_message_to, OrdersKeepCoherent}
+use Words.{customer_after_order}
 use Rattle.{std.proofs.Common.{◌≡◌, ◌<◌, ◌∙◌, ◌≤◌, ◌+◌, ◌%◌, ◌==◌}, njh_block.specs.Blocks.Control}
 use Rattle.{njh_spool.proofs.NumberLaws.next_number-fresh, njh_stream.proofs.HeadersKept.received_headers}
 use Rattle.njh_stream.{proofs.TiedLaws.{arrival_tied, at_rest, untouched}, specs.Receiving.{Data, Long, Abort}}
@@ -25,6 +26,7 @@ use Rattle.njh_customer.specs.Customer.{sender_at}
 use Rattle.njh_block.specs.Blocks as block
 use Rattle.njh_stream.specs.declared.receiver.Receiver.TheVariants as receiver
 use Rattle.njh_customer.proofs.RecordsDo as does
+use Rattle.njh_customer.specs.declared.given_order.GivenOrder.TheVariants as orders
 
 -- the streams to the hub, and how many the peer may use
 abbrev pub shape : CustomerLine → ℕ × List Receiver
@@ -217,6 +219,19 @@ command_coherent n c =
           (λ x. refl) xs ∙ so) done.cancelled c.lines refl;
       files = record { partial = refl; limits = refl; headers = headers_kept c.entry (sender_of n) n.message c.spool };
     })
+
+pub order_coherent : OrdersKeepCoherent
+order_coherent (orders.Command owner text) c =
+    let done = message_outcome c.entry owner text c.spool in
+    coherent_still (customer_after_order (orders.Command owner text) c) c (record {
+      entry = refl;
+      lines = given_up_so (IsSeen shape c.lines) (λ m xs so. each_same shape (with_senders_by (without_file m))
+          (λ x. refl) xs ∙ so) done.cancelled c.lines refl;
+      files = record { partial = refl; limits = refl; headers = headers_kept c.entry owner text c.spool };
+    })
+order_coherent (orders.Message whom text) c =
+    lines_coherent (with_message_to c.entry whom text c.lines) c
+    (told_so 0 (IsSeen shape c.lines) (shape_waiting 0 c.lines) c.entry whom text c.lines refl)
 
 -- a stream of a line is one of eight
 one_of_eight : (streams rcb k : ℕ) → streams ≤ 4 → stream_of streams rcb ≡ Some k → k < 8

@@ -10,6 +10,7 @@ use Rattle.{std.proofs.Common.{◌≡◌, ◌+◌, ◌<◌, ◌==◌, ◌∙◌}
 use Rattle.{njh_line.specs.declared.verdict.Verdict.Verdict, njh_customer.specs.Alone.{after_frame, after_signal}}
 use Rattle.njh_bisync.specs.declared.frame.Control.TheVariants as control
 use Rattle.njh_line.specs.LineTable as input
+use Rattle.njh_line.specs.declared.ending.SessionEnd.TheVariants.{Tries}
 use Rattle.njh_line.specs.declared.verdict.LineReply.TheVariants as reply
 
 -- by what the line table says, where the line goes up or doesn't
@@ -52,13 +53,15 @@ module _ (l : ℕ) (c : Customer) where
   nothing = unraised l (none (session_on l c)).session (none (session_on l c)).verdict c refl
       ∙ ap (λ lines. silent (lines_as c lines)) (again (set c.lines l (line_at l c.lines)) ∙ again c.lines)
 
-  ends : by_parts l (end (session_on l c)).session (end (session_on l c)).verdict c ≡ silent (session_ended l c)
-  ends = ap (λ lines. silent (session_over l (lines_as c lines)))
-      (again (on_line l (in_state (with_session (end (session_on l c)).session)) c.lines))
+  over_so : by_parts l (end Tries (session_on l c)).session (end Tries (session_on l c)).verdict c
+      ≡ silent (session_ended Tries l c)
+  over_so = ap (λ lines. silent (session_over l (lines_as c lines)))
+      (again (on_line l (in_state (with_session (end Tries (session_on l c)).session)) c.lines))
 
-  try_is : (b : Bool) → ((session_on l c).tries == 5) ≡ b → try_nak (session_on l c) ≡ cond b (end (session_on l c))
-      (with_reply (reply.Control control.Nak) (record (session_on l c) { tries = (session_on l c).tries + 1 }))
-  try_is b e = ap (λ t. cond t (end (session_on l c)) (with_reply (reply.Control control.Nak)
+  try_is : (b : Bool) → ((session_on l c).tries == 5) ≡ b → try_nak (session_on l c)
+      ≡ cond b (end Tries (session_on l c)) (with_reply (reply.Control control.Nak)
+      (record (session_on l c) { tries = (session_on l c).tries + 1 }))
+  try_is b e = ap (λ t. cond t (end Tries (session_on l c)) (with_reply (reply.Control control.Nak)
       (record (session_on l c) { tries = (session_on l c).tries + 1 }))) e
 
   -- NAK goes out
@@ -90,7 +93,7 @@ module _ (l : ℕ) (c : Customer) where
   tried_or_over true e there up s is = record {
     down = λ down. absurd (cc (sym up ∙ down));
     goes_on = λ few. absurd (few (eqb-true (session_on l c).tries 5 e));
-    over = λ _ _ _. is ∙ ap (λ o. by_parts l o.session o.verdict c) (try_is true e) ∙ ends;
+    over = λ _ _ _. is ∙ ap (λ o. by_parts l o.session o.verdict c) (try_is true e) ∙ over_so;
   }
   tried_or_over false e there up s is =
       let tried : Session = record (session_on l c) { tries = (session_on l c).tries + 1 } in

@@ -9,7 +9,7 @@ use Words.{after_signal, Customer, CustomerLine, no_customer_line, line_at, on_l
 use Words.{over_now, GoesOut, no_block, new_block, records_of_frame, IsNoNewBlock, nothing_sent, control, again}
 use Words.{sign_on, count, without_records, LeadsByMoves, nowhere, OneActs, Outgoing, outgoing, streams_from_hub}
 use Words.{streams_of, sending_of_control, sending_of_no_block, next_block, own_block, sending_of_reply, with_outlet}
-use Words.{Signal}
+use Words.{Signal, Option, Some, None, SessionEnd}
 use Rattle.{std.proofs.Common.{◌≡◌, ◌<◌, ◌∙◌}, njh_bisync.specs.{Frames.Received, declared.frame.Control.Control}}
 use Rattle.{njh_block.specs.Blocks.Block, njh_line.specs.declared.verdict.Verdict.Verdict}
 use Rattle.njh_customer.proofs.{ActingMoves.{Acting, acting_where}, LineWalks.{kept, kepts, lines_of}}
@@ -169,25 +169,25 @@ input_does l items came c there =
     let judged = accepted_judged l items came c d (acting_where false l items d) in
     carried_does l items (verdict_on l came c) c d (goes_up_by l came c) judged (omega arith)
 
-ended_does : (l : ℕ) (items : List Item) (c d : Customer) (up : Bool) → Judged up l items c d
-    → Does l items c (silent (session_ended l d))
-ended_does l items c d up judged =
-    let e : Customer = record d { lines = on_line l (in_state after_end) d.lines } in
+ended_does : (end : SessionEnd) (l : ℕ) (items : List Item) (c d : Customer) (up : Bool) → Judged up l items c d
+    → Does l items c (silent (session_ended end l d))
+ended_does end l items c d up judged =
+    let e : Customer = record d { lines = on_line l (in_state (after_end end)) d.lines } in
     record {
       up = up;
       acted = outgoing d;
       records = judged.records;
       answered = outgoing e;
       answer = no_block (ap (of_parts d.spool.whole d.spool.arrived)
-          (on_line_senders l (in_state after_end) d.lines (λ x. refl))) (nothing_sent refl);
+          (on_line_senders l (in_state (after_end end)) d.lines (λ x. refl))) (nothing_sent refl);
       end = subst (λ entry. Ends entry l (outgoing e) (session_over l e)) judged.entry (over_now (over_so l e) refl);
-      lines = over_lines l true e ∙ length-set d.lines l (in_state after_end (line_at l d.lines)) ∙ judged.lines;
+      lines = over_lines l true e ∙ length-set d.lines l (in_state (after_end end) (line_at l d.lines)) ∙ judged.lines;
     }
 
-after_does : (l : ℕ) (items : List Item) (ended : Bool) (v : Verdict) (c d : Customer) (up : Bool)
-    → Judged up l items c d → l < length d.lines → Does l items c (after_records ended l v d)
-after_does l items true v c d up judged there = ended_does l items c d up judged
-after_does l items false v c d up judged there = carried_does l items v c d up judged there
+after_does : (l : ℕ) (items : List Item) (o : Option SessionEnd) (v : Verdict) (c d : Customer) (up : Bool)
+    → Judged up l items c d → l < length d.lines → Does l items c (after_records o l v d)
+after_does l items (Some end) v c d up judged there = ended_does end l items c d up judged
+after_does l items None v c d up judged there = carried_does l items v c d up judged there
 
 block_does : (l : ℕ) (b : Block) (c : Customer) → l < length c.lines → Does l b.items c (after_block l b c)
 block_does l b c there =
@@ -195,7 +195,7 @@ block_does l b c there =
     let a = acted_where v.acts l b.items (accepted_on l (block_input b) c) in
     let judged = accepted_judged l b.items (block_input b) c a.customer
     (acting_where v.acts l b.items (accepted_on l (block_input b) c)) in
-    after_does l b.items a.ended v c a.customer (goes_up_by l (block_input b) c) judged (omega arith)
+    after_does l b.items a.end v c a.customer (goes_up_by l (block_input b) c) judged (omega arith)
 
 silent_does : (l : ℕ) (items : List Item) (c : Customer) → Does l items c (silent c)
 silent_does l items c = record {

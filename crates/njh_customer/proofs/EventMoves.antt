@@ -7,9 +7,10 @@ use Words.{with_raised_line, after_signal, after_frame, Customer, with_marks, ac
 use Words.{no_block, new_block, records_of_frame, followed_by, EventsKeepEntries, EventsKeepFaults, EventsKeepLines}
 use Words.{TakesKeepEntries, LeadsByMoves, nowhere, onward, Moves, MovesBy, Records, by_record, by_sending, by_end}
 use Words.{OneActs, Sends, EventsMoveSo, TakesMoveSo, coming, entry_with, Outgoing, outgoing, part_after_bytes, rest_on}
-use Words.{OwnBytes, OwnSignal, OwnRoutes, Run, event_run}
+use Words.{OwnBytes, OwnSignal, OwnRoutes, OwnOrder, Run, event_run}
 use Rattle.{std.proofs.Common.{◌≡◌, ◌∷◌, ◌++◌, ◌∙◌}, njh_bisync.specs.Frames.Received}
 use Rattle.njh_customer.proofs.{DoingLaws.{frame_does, signal_does}, OutgoingLaws.{leads_as, leads_then}}
+use Rattle.njh_customer.proofs.{GivenOrders.{order_keeps_entry, order_moves, orders_do}}
 use Rattle.njh_customer.proofs.{PieceLaws.{no_bytes_do_nothing, steps_follow_bytes}, RoutesMoves.routes_move}
 use Rattle.njh_customer.proofs.{RoutesMoves.{routes_do, routes_keep_entry}, StepWalks.take_so}
 use Rattle.njh_customer.specs.FrameEffects.{Does}
@@ -155,6 +156,7 @@ events_move p (OwnSignal signal l) =
     does_moves_by l [] [] p.customer (after_signal l signal p.customer) (λ i there. there)
     (signal_does l signal p.customer)
 events_move p (OwnRoutes routes) = routes_move p routes
+events_move p (OwnOrder order) = order_moves order p.customer
 
 pub takes_move : TakesMoveSo
 takes_move p l piece there =
@@ -183,6 +185,7 @@ events_keep_entries p (OwnSignal signal l) =
     same_routes (event_run p (OwnSignal signal l)).after.customer.entry p.customer.entry
     (does_entry l [] p.customer (after_signal l signal p.customer) (signal_does l signal p.customer))
 events_keep_entries p (OwnRoutes routes) = routes_keep_entry p routes
+events_keep_entries p (OwnOrder order) = order_keeps_entry order p.customer
 
 pub events_keep_faults : EventsKeepFaults
 events_keep_faults p event routes = ap (λ (entry : CustomerEntry). routes_checked entry routes)
@@ -192,6 +195,7 @@ pub events_keep_lines : EventsKeepLines
 events_keep_lines p (OwnBytes l piece) = (bytes_move (rest_on l p) p.customer l piece).lines
 events_keep_lines p (OwnSignal signal l) = (signal_does l signal p.customer).lines
 events_keep_lines p (OwnRoutes routes) = ap length (routes_do p routes).lines
+events_keep_lines p (OwnOrder order) = (orders_do p order).lines
 
 -- ---- a step by bytes
 

@@ -7,11 +7,13 @@ use Words.{records_to_node, CustomerSpool, PartialFile, WholeFile, max_arrived, 
 use Words.{with_appended, without_partial, as_whole, with_arrived, partial_numbered, with_finished, HasCome, few}
 use Words.{goes_on, HasBecomeWhole, FilesGrow, FilesGrowFurther, ReroutesKeepCounts, ManyRecordsGoOn, IsRerouted}
 use Words.{as_before, to_node, IsStill, Survive, Bool, true, false, filter, map, Ok, Err, Item, entries_of_routes}
-use Words.{routes_checked, changed_file, with_new_destination, LineReply, after_record, ends_session, ended_or}
+use Words.{routes_checked, changed_file, with_new_destination, LineReply, after_record, record_end, ended_or}
 use Words.{all_acted, replied_to, session_over, session_over_where, Customer, RoutesGrowFiles, taken_where}
+use Words.{OrdersGrowFiles}
 use Rattle.{std.proofs.Common.{◌≡◌, ◌<◌, ◌≤◌, ◌+◌, ◌==◌, ◌⊎◌, ◌∷◌, ◌++◌, ◌∙◌}, njh_block.specs.Blocks.Data}
 use Rattle.njh_customer.proofs.FileListLaws.{from_filter, first_or_later, found_one, from_where, found_numbered}
-use Rattle.njh_customer.proofs.{Restated.IsRestated, SpoolWalks.{StaysInFiles, record_so, replied_so, routes_so}}
+use Rattle.njh_customer.proofs.{Restated.IsRestated, SpoolWalks.{StaysInFiles, order_so, record_so, replied_so}}
+use Rattle.njh_customer.proofs.SpoolWalks.{routes_so}
 use Rattle.njh_customer.proofs.{SpoolWalks.session_over_so, SurvivingLaws.{rerouted_then, same_files, survive_then}}
 use Rattle.njh_customer.proofs.SurvivingLaws.{no_more, SurviveBoth, survive_both, was_there, all_still, some_still}
 use Rattle.njh_customer.proofs.SurvivingLaws.{changed_still, rerouted_still, but_states}
@@ -267,15 +269,20 @@ record_grows l i c =
     record_so (FilesGrow 0 c.spool) (λ j. FilesGrow (data_in j) c.spool) (grow_files c.spool) l i c
     (unchanged c.spool)
 
+pub orders_grow : OrdersGrowFiles
+orders_grow p order =
+    let s = p.customer.spool in
+    order_so (FilesGrow 0 s) (λ i. FilesGrow (data_in i) s) (grow_files s) order p.customer (unchanged s)
+
 pub all_grow : (l : ℕ) (items : List Item) (c : Customer)
     → FilesGrow (data_count items) c.spool (all_acted l items c).customer.spool
 all_grow l [] c = unchanged c.spool
 all_grow l (i ∷ is) c =
     let later = all_acted l is (after_record l i c) in
     let grow = all_grow l is (after_record l i c) in
-    elim (ends_session i) as (λ b. FilesGrow (data_count (i ∷ is)) c.spool (ended_or b c later).customer.spool) [
-      | true ↦ grow_within 0 (data_count (i ∷ is)) c.spool c.spool (omega arith) (unchanged c.spool)
-      | false ↦ grow_then (data_in i) (data_count is) c.spool (after_record l i c).spool later.customer.spool
+    elim (record_end i) as (λ o. FilesGrow (data_count (i ∷ is)) c.spool (ended_or o c later).customer.spool) [
+      | Some end ↦ grow_within 0 (data_count (i ∷ is)) c.spool c.spool (omega arith) (unchanged c.spool)
+      | None ↦ grow_then (data_in i) (data_count is) c.spool (after_record l i c).spool later.customer.spool
           (record_grows l i c) grow
     ]
 

@@ -1,23 +1,26 @@
 -- A line that isn't up has no stream about a file and no answer that waits, and SYSOUT 4 counts as served last.
 use Rattle.njh_customer.proofs.Words
-use Words.{cases_eq, cases_Bool, cases_lt, inl, inr, is_next, ℕ, Bool, true, false, List, length, set, get_or, None}
-use Words.{refl, sym, ap, subst, arith, get_or-map, map-set_same, get_or-set_at, get_or-set_same, get_or-set_other}
-use Words.{length-map, length-set, get_or_past, All-map, Item, CustomerSpool, CustomerEntry, file_in, Receiver}
-use Words.{without_file, is_up, Input, after_end, after_input, with_answer, with_message, KeepsUp, Phase, Down, Config}
-use Words.{LineReply, without_sending, with_senders_by, all_acted, acted_where, with_idle_streams, replied_to}
-use Words.{session_over, session_over_where, session_ended, carried_out, verdict_on, accepted_on, after_line_input}
-use Words.{block_input, after_records, after_frame, after_signal, Customer, CustomerLine, no_customer_line, line_at}
-use Words.{on_line, in_state, with_notice, with_receiver, with_sender, config_of, fresh_customer, idle_line}
-use Words.{receiver_at, IsIdle, IdleUnlessUp, phase_of, sending_of_reply, with_waiting, Signal}
+use Words.{cases_eq, cases_Bool, cases_lt, inl, inr, is_next, ℕ, Bool, true, false, List, length, set, get_or, Some}
+use Words.{None, refl, sym, ap, subst, arith, get_or-map, map-set_same, get_or-set_at, get_or-set_same}
+use Words.{get_or-set_other, length-map, length-set, get_or_past, All-map, Item, CustomerSpool, CustomerEntry, file_in}
+use Words.{Receiver, without_file, is_up, Input, after_end, after_input, with_answer, with_message, KeepsUp, Phase}
+use Words.{Down, Config, LineReply, without_sending, with_senders_by, all_acted, acted_where, with_idle_streams}
+use Words.{replied_to, session_over, session_over_where, session_ended, carried_out, verdict_on, accepted_on}
+use Words.{after_line_input, block_input, after_records, after_frame, after_signal, Customer, CustomerLine}
+use Words.{no_customer_line, line_at, on_line, in_state, with_notice, with_receiver, with_sender, config_of}
+use Words.{fresh_customer, idle_line, receiver_at, IsIdle, IdleUnlessUp, phase_of, sending_of_reply, with_waiting}
+use Words.{SessionEnd, Signal, GivenOrder, customer_after_order, goes, Route, Here, Line, Unknown, route_of}
+use Words.{notice_record, message_outcome}
 use Rattle.{std.proofs.Common.{◌≡◌, ◌<◌, ◌∙◌}, njh_bisync.specs.Frames.Received, njh_line.proofs.UpLaws.inputs_keep_up}
 use Rattle.{njh_line.specs.{LineTable.none, declared.verdict.Verdict.Verdict}, njh_customer.proofs.FileListLaws.copies}
-use Rattle.njh_customer.proofs.{LineWalks.{StaysOnLines, record_on_lines}, RecordsDo.acted_where_so}
+use Rattle.njh_customer.proofs.{LineWalks.{StaysOnLines, given_up_so, record_on_lines}, RecordsDo.acted_where_so}
 use Rattle.njh_customer.proofs.{ReplyLaws.reply_lasting, StepWalks.{frame_holds, signal_holds}}
 use Rattle.njh_customer.specs.Customer.{sender_at}
 use Rattle.njh_bisync.specs.declared.frame.Control.TheVariants as control
 use Rattle.njh_stream.specs.declared.receiver.Receiver.TheVariants as receiver
 use Rattle.njh_stream.specs.declared.sender.Sender.TheVariants as sender
 use Rattle.njh_line.specs.declared.verdict.LineReply.TheVariants as reply
+use Rattle.njh_customer.specs.declared.given_order.GivenOrder.TheVariants as orders
 
 -- ---- one line among the others
 
@@ -130,9 +133,10 @@ over_rests : (l : ℕ) (c : Customer) → OthersRest l c.lines → IdleUnlessUp 
 over_rests l c rest = set_rests l (with_idle_streams (line_at l c.lines)) c.lines rest
     (λ _ _. idle_streams (line_at l c.lines))
 
-ended_rests : (l : ℕ) (c : Customer) → OthersRest l c.lines → IdleUnlessUp (session_ended l c).lines
-ended_rests l c rest = over_rests l (record c { lines = on_line l (in_state after_end) c.lines })
-    (set_others l (in_state after_end (line_at l c.lines)) c.lines rest)
+ended_rests : (end : SessionEnd) (l : ℕ) (c : Customer) → OthersRest l c.lines
+    → IdleUnlessUp (session_ended end l c).lines
+ended_rests end l c rest = over_rests l (record c { lines = on_line l (in_state (after_end end)) c.lines })
+    (set_others l (in_state (after_end end) (line_at l c.lines)) c.lines rest)
 
 -- ---- what a line sends
 
@@ -223,16 +227,16 @@ module _ (l : ℕ) (came : Input) (c : Customer) (there : l < length c.lines)
   -- records act on a line that is up, so it is up after them
   acting_rests : (acts : Bool) (items : List Item) → (verdict_on l came c).acts ≡ acts
       → (let a = acted_where acts l items accepted in IdleUnlessUp
-      (after_records a.ended l (verdict_on l came c) a.customer).after.lines)
+      (after_records a.end l (verdict_on l came c) a.customer).after.lines)
   acting_rests false items e = input_rests
   acting_rests true items e =
       let a = all_acted l items accepted in
       let acted = acted_where_so l (λ d. UpAndRest l d.lines) true items
       (λ i at. record_on_lines l (UpAndRest l) (acting l) i) accepted (accepted_up (keeps.acts e)) in
       let rest = others l a.customer.lines acted.rest in
-      elim (a.ended) as (λ ended. IdleUnlessUp (after_records ended l (verdict_on l came c) a.customer).after.lines) [
-        | true ↦ ended_rests l a.customer rest
-        | false ↦ carried_rests l (verdict_on l came c) a.customer rest (λ _. acted.rest) (λ _. acted.up)
+      elim (a.end) as (λ o. IdleUnlessUp (after_records o l (verdict_on l came c) a.customer).after.lines) [
+        | Some end ↦ ended_rests end l a.customer rest
+        | None ↦ carried_rests l (verdict_on l came c) a.customer rest (λ _. acted.rest) (λ _. acted.up)
       ]
 
 -- ---- a frame, and a signal
@@ -285,3 +289,28 @@ module _ (c : Customer) (idle : (l : ℕ) → l < length c.lines → IsIdle (lin
 
   pub senders_idle : (l k : ℕ) → file_in (sender_at k (line_at l c.lines)) ≡ None
   senders_idle l k = at_line (λ x. file_in (sender_at k x) ≡ None) (λ x is. ap file_in (is.senders k)) refl l
+
+-- ---- an order
+
+message_rests : (r : Route) (m : List ℕ) (lines : List CustomerLine) → IdleUnlessUp lines → IdleUnlessUp
+    (goes r m lines)
+message_rests Here m lines rest = rest
+message_rests (Line k) m lines rest =
+    let x = line_at k lines in
+    set_rests k (in_state (with_message m) x) lines (others k lines rest)
+    (λ there down. message_idle m x (rest k there down))
+message_rests Unknown m lines rest = rest
+
+given_up_rests : (n : ℕ) (lines : List CustomerLine) → IdleUnlessUp lines → IdleUnlessUp (without_sending lines n)
+given_up_rests n lines rest m there down =
+    let give : CustomerLine → CustomerLine = with_senders_by (without_file n) in
+    let it : line_at m (without_sending lines n) ≡ give (line_at m lines) = get_or-map give lines m no_customer_line in
+    subst IsIdle (sym it) (given_up_idle n (line_at m lines) (rest m (omega (arith, there, length-map lines give))
+    (ap (λ x. is_up (phase_of x)) (sym it) ∙ down)))
+
+pub idle_by_order : (order : GivenOrder) (c : Customer) → IdleUnlessUp c.lines
+    → IdleUnlessUp (customer_after_order order c).lines
+idle_by_order (orders.Command owner text) c rest =
+    given_up_so IdleUnlessUp given_up_rests (message_outcome c.entry owner text c.spool).cancelled c.lines rest
+idle_by_order (orders.Message whom text) c rest =
+    message_rests (route_of c.entry whom.node) (notice_record c.entry.hub whom text) c.lines rest

@@ -13,6 +13,7 @@ pub mod OpenLaws
 pub mod PieceLaws
 pub mod OutgoingLaws
 pub mod ActingMoves
+pub mod GivenOrders
 pub mod SendingMoves
 pub mod DoingLaws
 pub mod EventMoves

@@ -6,10 +6,11 @@ use Words.{answer_on, Arrival, Notice, received_arrival, after_completion, after
 use Words.{message_outcome, without_file, with_answer, with_message, Phase, Config, after_record, after_stream_arrival}
 use Words.{without_sending, with_senders_by, Customer, CustomerLine, no_customer_line, line_at, on_line, in_state}
 use Words.{with_notice, receiver_at, with_receiver, with_sender, all_said, goes, with_answer_on, with_message_to}
-use Words.{with_notice_to, with_waiting}
+use Words.{with_notice_to, with_waiting, GivenOrder, customer_after_order}
 use Rattle.{std.proofs.Common.{◌≡◌, ◌∷◌, ◌∙◌}, njh_customer.proofs.FileListLaws.{as_many, each_same}}
 use Rattle.njh_customer.{proofs.RecordsDo.{RecordDoes, record_does}, specs.Customer.sender_at}
 use Rattle.njh_customer.proofs.RecordsDo as does
+use Rattle.njh_customer.specs.declared.given_order.GivenOrder.TheVariants as orders
 
 -- ---- what waits
 
@@ -98,6 +99,15 @@ record_on_lines l I keep i c so = at i (after_record l i c) (record_does l c i)
     at _ _ (does.knows_no_node i n) = told_so l I waiting c.entry (sender_of n) (node_unknown n.to) c.lines so
     at _ _ (does.passes_on i k m) = waiting.waits k m c.lines so
 
+-- ---- an order
+
+pub order_on_lines : (l : ℕ) (I : List CustomerLine → Type 0) → StaysWaiting l I
+    → ((n : ℕ) (lines : List CustomerLine) → I lines → I (without_sending lines n)) → (order : GivenOrder)
+    → (c : Customer) → I c.lines → I (customer_after_order order c).lines
+order_on_lines l I waiting gives_up (orders.Command owner text) c so =
+    given_up_so I gives_up (message_outcome c.entry owner text c.spool).cancelled c.lines so
+order_on_lines l I waiting gives_up (orders.Message whom text) c so = told_so l I waiting c.entry whom text c.lines so
+
 -- ---- what is seen of each line
 
 module _ {X : Type 0} (g : CustomerLine → X) where
@@ -155,6 +165,16 @@ keeps l before = record {
 
 pub acted_keeps : (l : ℕ) (i : Item) (c : Customer) → kepts (after_record l i c).lines ≡ kepts c.lines
 acted_keeps l i c = record_on_lines l (IsSeen kept c.lines) (keeps l c.lines) i c refl
+
+-- an order leaves the entry
+pub order_entry : (order : GivenOrder) (c : Customer) → (customer_after_order order c).entry ≡ c.entry
+order_entry (orders.Command owner text) c = refl
+order_entry (orders.Message whom text) c = refl
+
+pub order_keeps : (order : GivenOrder) (c : Customer) → kepts (customer_after_order order c).lines ≡ kepts c.lines
+order_keeps order c =
+    let keep = keeps 0 c.lines in
+    order_on_lines 0 (IsSeen kept c.lines) keep.receiving.waiting keep.gives_up order c refl
 
 -- as many lines
 pub lines_of : (c d : Customer) → kepts d.lines ≡ kepts c.lines → length d.lines ≡ length c.lines

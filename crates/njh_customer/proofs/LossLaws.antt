@@ -17,6 +17,7 @@ use Rattle.njh_customer.proofs.{Restated.{ended_where, without_open_same}, Steps
 use Rattle.njh_customer.specs.Alone.{after_signal}
 use Rattle.njh_stream.specs.declared.sender.Sender.TheVariants as sender
 use Rattle.njh_line.specs.LineTable as input
+use Rattle.njh_line.specs.declared.ending.SessionEnd.TheVariants as ends
 use Rattle.njh_line.specs.declared.verdict.LineReply.TheVariants as reply
 use Rattle.njh_customer.proofs.CoherenceLaws as coherence
 
@@ -103,7 +104,7 @@ lost_hangs_up : (config : Config) (s : Session) → (let o = table_outcome confi
 unfolding table_outcome
 lost_hangs_up config s = at s.phase refl
   where
-    at : (p : Phase) → s.phase ≡ p → (let o = cell p (none s) (hang_up s) (hang_up s) (hang_up s) (end s) in
+    at : (p : Phase) → s.phase ≡ p → (let o = cell p (none s) (hang_up s) (hang_up s) (hang_up s) (end ends.Lost s) in
         HangsUp o.session o.verdict)
     at Down e = record { ended = false; verdict = refl; down = e }
     at Up e = record { ended = true; verdict = refl; down = refl }

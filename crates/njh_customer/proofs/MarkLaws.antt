@@ -5,10 +5,11 @@ use Words.{set-get_or, map-map, CustomerEntry, Receiver, is_up, Input, after_end
 use Words.{acted_where, with_idle_streams, with_raised_line, goes_up, replied_to, session_over_where, session_ended}
 use Words.{carried_out, verdict_on, accepted_on, after_line_input, block_input, after_records, after_block, Customer}
 use Words.{CustomerLine, IsMarked, no_customer_line, line_at, on_line, in_state, config_of, fresh_customer, idle_line}
-use Words.{MarksAreRight, rest_on, sending_of_reply}
+use Words.{MarksAreRight, Some, None, SessionEnd, rest_on, sending_of_reply, customer_after_order}
 use Rattle.{std.proofs.Common.{◌≡◌, ◌&&◌, ◌∙◌}, njh_block.specs.Blocks.Block, njh_line.proofs.UpLaws.inputs_keep_up}
 use Rattle.{njh_line.specs.declared.verdict.Verdict.Verdict, njh_customer.proofs.ActingMoves.acting_where}
-use Rattle.njh_customer.proofs.{LineWalks.{kept, kepts}, ReplyLaws.reply_lasting, StepWalks.{StaysInFrames, event_so}}
+use Rattle.njh_customer.proofs.{LineWalks.{kept, kepts, order_entry, order_keeps}, ReplyLaws.reply_lasting}
+use Rattle.njh_customer.proofs.StepWalks.{StaysInFrames, event_so}
 use Rattle.njh_customer.proofs.StepWalks.{frame_holds, signal_holds, take_so}
 
 -- ---- which lines are up
@@ -88,12 +89,12 @@ module _ (l : ℕ) (came : Input) (c : Customer) (marked : IsMarked c) where
       ]) ended
 
   -- a record ended the session
-  ended_marked : (d : Customer) → d.entry ≡ (accepted_on l came c).entry
-      → kepts d.lines ≡ kepts (accepted_on l came c).lines → IsMarked (session_ended l d)
-  ended_marked d entry kept_so =
-      let xs = on_line l (in_state after_end) d.lines in
+  ended_marked : (end : SessionEnd) (d : Customer) → d.entry ≡ (accepted_on l came c).entry
+      → kepts d.lines ≡ kepts (accepted_on l came c).lines → IsMarked (session_ended end l d)
+  ended_marked end d entry kept_so =
+      let xs = on_line l (in_state (after_end end)) d.lines in
       lowered d entry ∙ sym (map-set_same is_line_up xs l (with_idle_streams (line_at l xs)) no_customer_line refl
-      ∙ map-set is_line_up d.lines l (in_state after_end (line_at l d.lines))
+      ∙ map-set is_line_up d.lines l (in_state (after_end end) (line_at l d.lines))
       ∙ ap (λ us. set us l false) (ups_kept d.lines (accepted_on l came c).lines kept_so ∙ accepted_ups)
       ∙ set-set (ups c.lines) l (is_up after) false)
 
@@ -107,9 +108,9 @@ block_marked l b c marked =
     let v = verdict_on l (block_input b) c in
     let a = acted_where v.acts l b.items (accepted_on l (block_input b) c) in
     let acting = acting_where v.acts l b.items (accepted_on l (block_input b) c) in
-    elim (a.ended) as (λ ended. IsMarked (after_records ended l v a.customer).after) [
-      | true ↦ ended_marked l (block_input b) c marked a.customer acting.entry acting.kept
-      | false ↦ carried_marked l (block_input b) c marked v a.customer acting.entry acting.kept refl
+    elim (a.end) as (λ o. IsMarked (after_records o l v a.customer).after) [
+      | Some end ↦ ended_marked l (block_input b) c marked end a.customer acting.entry acting.kept
+      | None ↦ carried_marked l (block_input b) c marked v a.customer acting.entry acting.kept refl
     ]
 
 frames_marked : StaysInFrames IsMarked
@@ -122,6 +123,9 @@ frames_marked = record {
   by_signal = λ l x c marked. signal_holds l c (λ s. IsMarked s.after) marked
       (λ came there. input_marked l came c marked) x;
   by_routes = λ routes c marked. marked;
+  by_order = λ order c marked. let d = customer_after_order order c in
+      ap (λ (entry : CustomerEntry). entry.up) (order_entry order c) ∙ marked
+      ∙ sym (ups_kept d.lines c.lines (order_keeps order c));
 }
 
 fresh_marked : (entry : CustomerEntry) → IsMarked (fresh_customer entry)

@@ -5,17 +5,21 @@ use Words.{WholeFile, is_number, with_arrived, CustomerEntry, Receiver, LineStat
 use Words.{Config, after_record, with_idle_streams, with_raised_line, goes_up_by, replied_to, session_over, accepted_on}
 use Words.{after_frame, after_signal, Customer, CustomerLine, no_customer_line, line_at, on_line, in_state, config_of}
 use Words.{fresh_customer, idle_line, AreApart, AreBeingSent, AreSetUp, IdleUnlessUp, IsInOrder, IsWithinQuota}
+use Words.{customer_after_order}
 use Words.{StaysInOrder, customer_with_last_file, outgoing, with_arrival, sending_of_reply, IsCoherent, streams_to_hub}
 use Rattle.{std.proofs.Common.{◌≡◌, ◌∙◌}, njh_spool.specs.declared.State.TheVariants.Sending}
 use Rattle.{njh_stream.proofs.TiedLaws.untouched, njh_customer.proofs.ActingMoves.acts_so}
-use Rattle.njh_customer.proofs.{CoherenceLaws.fresh_coherent, FileLimits.{apart_arrived, apart_files, apart_fresh}}
+use Rattle.njh_customer.proofs.CoherenceLaws.{fresh_coherent, order_coherent}
+use Rattle.njh_customer.proofs.FileLimits.{apart_arrived, apart_files, apart_fresh}
 use Rattle.njh_customer.proofs.FileLimits.{apart_routes, whole_distinct, within_fresh, within_routes, within_files}
-use Rattle.njh_customer.proofs.{IdleLines.{idle_by_frame, idle_when_opened, idle_by_signal}, LineWalks.acted_keeps}
+use Rattle.njh_customer.proofs.{IdleLines.{idle_by_frame, idle_by_order, idle_when_opened, idle_by_signal}}
+use Rattle.njh_customer.proofs.LineWalks.{acted_keeps, order_entry, order_keeps}
 use Rattle.njh_customer.proofs.{LineWalks.{kept, kepts, on_line_seen}, OutgoingLaws.{of_parts, on_line_senders}}
 use Rattle.njh_customer.proofs.{ReplyLaws.reply_lasting, RoutesMoves.coherent_given, SentByLines.sent_fresh}
 use Rattle.njh_customer.proofs.{SentByLines.{sent_over, sent_replied, sent_routes}, SentByRecords.arrival_carries}
-use Rattle.njh_customer.proofs.{SentByRecords.{carried, sent_record}, SessionLaws.coherent_steps}
-use Rattle.njh_customer.proofs.{SpoolWalks.files_in_steps, StepWalks.{event_so, StaysInSteps, StaysInFrames, frame_so}}
+use Rattle.njh_customer.proofs.{SentByRecords.{carried, sent_order, sent_record}, SessionLaws.coherent_steps}
+use Rattle.njh_customer.proofs.SpoolWalks.{files_in_steps, order_so}
+use Rattle.njh_customer.proofs.StepWalks.{event_so, StaysInSteps, StaysInFrames, frame_so}
 use Rattle.njh_customer.proofs.StepWalks.{signal_so}
 
 -- ---- how the lines are set up
@@ -57,8 +61,8 @@ set_up_steps = record {
         set_still (replied_to l r c).after c (map-set_same set_up c.lines l sent no_customer_line
         (ap (λ (p : Config × Phase × ℕ × List Receiver). (p.0, p.2))
         (reply_lasting c.entry l r c.spool (line_at l c.lines)))) refl;
-    ended = λ l c there. let lines = on_line l (in_state after_end) c.lines in
-        set_still (record c { lines = lines }) c (on_line_seen set_up l (in_state after_end) c.lines (λ x. refl))
+    ended = λ end l c there. let lines = on_line l (in_state (after_end end)) c.lines in
+        set_still (record c { lines = lines }) c (on_line_seen set_up l (in_state (after_end end)) c.lines (λ x. refl))
         refl;
     over = λ l c there. set_still (session_over l c) c (on_line_seen set_up l with_idle_streams c.lines (λ x. refl))
         refl;
@@ -86,7 +90,7 @@ sent_steps =
       session = record {
         judged = λ l came c there so. (so.0, subst AreBeingSent (sym (session_outgoing l (after_input came) c)) so.1);
         answered = λ l r c there so. (apart.session.answered l r c there so.0, sent_replied l r c there so.1);
-        ended = λ l c there so. (so.0, subst AreBeingSent (sym (session_outgoing l after_end c)) so.1);
+        ended = λ end l c there so. (so.0, subst AreBeingSent (sym (session_outgoing l (after_end end) c)) so.1);
         over = λ l c there so. (apart.session.over l c there so.0, sent_over l c there so.1);
       };
       acted = λ l i c there so. let after = apart.acted l i c there so.0 in (
@@ -126,6 +130,15 @@ order_in_frames = record {
     sent = sent_routes routes c order.sent;
     idle = order.idle;
     set_up = order.set_up;
+  };
+  by_order = λ given c order. let d = customer_after_order given c in record {
+    coherent = order_coherent given c order.coherent;
+    apart = order_so AreApart (λ i. AreApart) apart_files given c order.apart;
+    within = order_so IsWithinQuota (λ i. IsWithinQuota) within_files given c order.within;
+    sent = sent_order given c (whole_distinct c.spool order.apart) order.sent;
+    idle = idle_by_order given c order.idle;
+    set_up = set_still d c (kept_set_ups d.lines c.lines (order_keeps given c)) (ap set_up_by (order_entry given c))
+        order.set_up;
   };
 }
 

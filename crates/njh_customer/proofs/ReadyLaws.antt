@@ -1,13 +1,14 @@
 -- A line is ready for what comes next.
 use Rattle.njh_customer.proofs.Words
-use Words.{ℕ, Bool, false, not, List, [], length, drop, slice_get, slice_set, Some, sym, ap, ap₂, subst, arith, set-set}
-use Words.{length-map, length-set, set-get_or, get_or-set_same, Item, CustomerSpool, spool_at, no_spool, CustomerEntry}
-use Words.{customer_marked, entry_marked, with_mark, NamedCustomer, TableFile, HasLine, customer_at, entry_of}
-use Words.{no_customer, LineId, is_up, Input, after_input, after_record, acted_where, all_acted, ended_or, ends_session}
-use Words.{CustomerStep, accepted_on, after_records, after_block, block_input, carried_out, goes_up_by}
+use Words.{ℕ, Bool, not, List, [], length, drop, slice_get, slice_set, Option, Some, None, sym, ap, ap₂, subst, arith}
+use Words.{length-map, length-set, set-get_or, set-set, get_or-set_same, Item, CustomerSpool, spool_at, no_spool}
+use Words.{CustomerEntry, customer_marked, entry_marked, with_mark, NamedCustomer, TableFile, HasLine, customer_at}
+use Words.{entry_of, no_customer, LineId, is_up, Input, after_input, after_record, acted_where, all_acted, ended_or}
+use Words.{record_end, CustomerStep, accepted_on, after_records, after_block, block_input, carried_out, goes_up_by}
 use Words.{after_line_input, with_raised_line, verdict_on, Customer, CustomerLine, customer_with, in_state, line_at}
 use Words.{no_customer_line, on_line, ChangesMarks, ChangesFiles, StepSends, LeavesReady, IsReady, IsThere}
 use Words.{KeepsOtherEntries, customer_of, with_customer, IsCoherent, Shared, replied_to, session_over_where, refl}
+use Words.{SessionEnd}
 use Rattle.{std.proofs.Common.{◌≡◌, ◌<◌, ◌&&◌, ◌∷◌, ◌∙◌}, njh_block.specs.Blocks.Block}
 use Rattle.{njh_line.specs.declared.verdict.Verdict.Verdict, njh_customer.proofs.SessionLaws.{Stays, input_stays}}
 use Rattle.njh_customer.proofs.SessionLaws.{block_stays, accepted_stays}
@@ -19,14 +20,14 @@ others_twice old now new c first then =
     then ∙ ap (λ spools. slice_set spools c (spool_at c new)) first ∙ set-set old c (spool_at c now) (spool_at c new)
 
 -- the first record acts, and then the others
-pub one_acted : (l : ℕ) (items rest : List Item) (item : Item) (ended : Bool) (c : Customer)
-    → Some item ≡ slice_get items 0 → rest ≡ drop 1 items → ended ≡ false → ended ≡ ends_session item
+pub one_acted : (l : ℕ) (items rest : List Item) (item : Item) (end : Option SessionEnd) (c : Customer)
+    → Some item ≡ slice_get items 0 → rest ≡ drop 1 items → None ≡ end → end ≡ record_end item
     → all_acted l rest (after_record l item c) ≡ all_acted l items c
-one_acted l [] rest item ended c first others goes_on is = absurd (cc first)
-one_acted l (i ∷ is) rest item ended c first others goes_on ends =
+one_acted l [] rest item end c first others goes_on is = absurd (cc first)
+one_acted l (i ∷ is) rest item end c first others goes_on ends =
     let same : item ≡ i = cc first in
     ap (λ xs. all_acted l xs (after_record l item c)) others ∙ ap (λ x. all_acted l is (after_record l x c)) same
-    ∙ ap (λ b. ended_or b c (all_acted l is (after_record l i c))) (sym goes_on ∙ ends ∙ ap ends_session same)
+    ∙ ap (λ o. ended_or o c (all_acted l is (after_record l i c))) (goes_on ∙ ends ∙ ap record_end same)
 
 -- a customer's files are led on twice
 pub moved_twice :
@@ -229,33 +230,33 @@ left_by_input id old accepted new lines lines_accepted lines_new frame came v re
 
 -- after a block's records, by what the customer was when these came
 abbrev block_then : ℕ → List Item → Verdict → Customer → CustomerStep
-block_then l items v d = let a = acted_where v.acts l items d in after_records a.ended l v a.customer
+block_then l items v d = let a = acted_where v.acts l items d in after_records a.end l v a.customer
 
--- A good block: its verdict, its records, and what is after them, if these ended the session or didn't.
-pub left_by_block : (ended : Bool) (id : LineId) (old accepted now new : Shared)
+-- A good block: its verdict, its records, and what is after them, by the end that they made of the session, or none.
+pub left_by_block : (end : Option SessionEnd) (id : LineId) (old accepted now new : Shared)
     (lines lines_accepted lines_now lines_new : List CustomerLine) (frame : List ℕ) (b : Block) (came : Input)
     (v : Verdict) → IsReady id old lines → came ≡ block_input b
     → v ≡ verdict_on id.number came (customer_of id.customer old lines)
     → ChangesMarks id.customer old accepted lines_accepted
     (accepted_on id.number came (customer_of id.customer old lines))
-    → ended ≡ (acted_where v.acts id.number b.items (customer_of id.customer accepted lines_accepted)).ended
+    → end ≡ (acted_where v.acts id.number b.items (customer_of id.customer accepted lines_accepted)).end
     → ChangesFiles id.customer accepted now lines_now (acted_where v.acts id.number b.items
     (customer_of id.customer accepted lines_accepted)).customer
-    → StepSends id.customer now new lines_new frame (after_records ended id.number v
+    → StepSends id.customer now new lines_new frame (after_records end id.number v
     (customer_of id.customer now lines_now))
     → LeavesReady id old lines new lines_new frame (after_block id.number b (customer_of id.customer old lines))
-left_by_block ended id old accepted now new lines lines_accepted lines_now lines_new frame b came v ready is verdict
-    first is_ended acted second =
+left_by_block end id old accepted now new lines lines_accepted lines_now lines_new frame b came v ready is verdict
+    first end_is acted second =
     let l = id.number in
     let n = id.customer in
     let before = customer_of n old lines in
     let d = accepted_on l (block_input b) before in
     let a = acted_where v.acts l b.items (customer_of n accepted lines_accepted) in
-    let later = sent_after n accepted now new lines_now lines_new frame a.customer (after_records ended l v)
+    let later = sent_after n accepted now new lines_now lines_new frame a.customer (after_records end l v)
     (also_marks n accepted now lines_now a.customer acted) second in
     let ends : StepSends n accepted new lines_new frame (block_then l b.items v
     (customer_of n accepted lines_accepted)) =
-    subst (λ e. StepSends n accepted new lines_new frame (after_records e l v a.customer)) is_ended later in
+    subst (λ e. StepSends n accepted new lines_new frame (after_records e l v a.customer)) end_is later in
     made_by id old lines new lines_new frame (after_block l b before) ready
     (subst (λ w. StepSends n old new lines_new frame (block_then l b.items w d))
     (verdict ∙ ap (λ i. verdict_on l i before) is)

@@ -6,7 +6,8 @@ use Words.{CustomerEntry, entry_marked, entries_of_routes, ready, is_whole, EofS
 use Words.{may_change, is_sending, with_new_destination, without_file, no_file, Acts, Commands, Records, Routes, Moves}
 use Words.{by_record, by_sending, by_end, Sends, LeadsByMoves, nowhere, onward, MovesBy, without_files, FileMoves}
 use Words.{RecordsChangeSo, Leaves, LeavesBy, FilesLeaveSo, FilesLeaveSoBetween, entry_with, Outgoing, with_files}
-use Words.{each_stream, has_file, State, with_arrival}
+use Words.{each_stream, has_file, State, with_arrival, Command, CommandMoves, GivenOrder, LeavesByOrder, Order}
+use Words.{OrderMoves, OrderMovesFile, OrdersCommand, Some, file_in_state, is_rerouted, keeps_records}
 use Rattle.{std.proofs.Common.{◌≡◌, ◌&&◌, ◌==◌, ◌⊎◌, ◌∷◌, ◌++◌, ◌∙◌, ◌||◌}, njh_block.specs.Blocks.Data}
 use Rattle.{njh_header.proofs.Redirected.redirected_is, njh_spool.specs.declared.State.TheVariants.Sending}
 use Rattle.{njh_command.proofs.RerouteNodes.nodes_are_names, njh_customer.proofs.FileListLaws.{from_filter, from_map}}
@@ -40,6 +41,32 @@ without_files_arrived : (ns : List ℕ) (x : Outgoing) → (without_files ns x).
 without_files_arrived [] x = refl
 without_files_arrived (n ∷ ns) x = without_files_arrived ns (each_stream (without_file n) x)
 
+-- What a command of a user does to them: it changes no more than their states, some go to another node, or those of its
+-- name leave.
+pub data CommandFiles (who : User) (command : Command) (x y : Outgoing) : Type 0 where
+  in_new_states : map ready y.files ≡ map ready x.files → y.arrived ≡ x.arrived → CommandFiles who command x y
+  to_another : (name : FileName) (node : List ℕ) → command ≡ commands.Reroute name node
+      → y ≡ moves.with_changed (is_of_name who name) (with_new_destination node) x → CommandFiles who command x y
+  files_gone : (name : FileName) → command ≡ commands.Cancel name
+      → y.files ≡ filter (λ f. not (is_of_name who name f)) x.files → y.arrived ≡ x.arrived
+      → CommandFiles who command x y
+
+module _ (entry : CustomerEntry) (who : User) (command : Command) (x y : Outgoing) where
+  new_states : (name : FileName) (state : State)
+      → y ≡ moves.with_changed (is_of_name who name) (file_in_state state) x → CommandFiles who command x y
+  new_states name state e = in_new_states (ap (λ w. map ready w.files) e ∙ changed_where ready
+      (may_change (is_of_name who name)) (file_in_state state) x.files (λ f. refl)) (ap (λ w. w.arrived) e)
+
+  pub command_files : CommandMoves entry who command x y → CommandFiles who command x y
+  command_files (moves.holds name is e) = new_states name Held e
+  command_files (moves.releases name is e) = new_states name Ready e
+  command_files (moves.reroutes name node line is route e) = to_another name node is e
+  command_files (moves.cancels name is e) =
+      let p = is_of_name who name in
+      let cut = with_files (filter (λ f. not (p f)) x.files) x in
+      files_gone name is (ap (λ z. z.files) e ∙ without_files_files (moves.busy_numbers p x.files) cut)
+      (ap (λ z. z.arrived) e ∙ without_files_arrived (moves.busy_numbers p x.files) cut)
+
 module _ (entry : CustomerEntry) (l : ℕ) (items : List Item) (x y : Outgoing) where
   -- by what it is after the move
   same_but_states : {z : Outgoing} → y ≡ z → map ready z.files ≡ map ready x.files → z.arrived ≡ x.arrived
@@ -54,6 +81,15 @@ module _ (entry : CustomerEntry) (l : ℕ) (items : List Item) (x y : Outgoing) 
   in_states p state e files = same_but_states e (ap (map ready) files
       ∙ changed_where ready p (λ f. record f { state = state }) x.files (λ f. refl))
 
+  by_command : (i : Item) (who : User) (command : Command) → Contains items i → Commands entry who command i
+      → CommandFiles who command x y → FilesDo entry l items x y
+  by_command i who command at given (in_new_states files arrived) = states files arrived
+  by_command i who command at given (to_another name node is e) =
+      rerouted i who name node at (subst (λ d. Commands entry who d i) is given) e
+  by_command i who command at given (files_gone name is files arrived) = leave (is_of_name who name) files arrived
+      (λ f there passes. laws.cancelled i who name f at (subst (λ d. Commands entry who d i) is given) there refl
+      passes)
+
   record_files : (i : Item) → Contains items i → Acts entry l i x y → FilesDo entry l items x y
   record_files i at (moves.comes rcb srcb f is waits whole e) = comes i rcb srcb f at is waits whole e
   record_files i at (moves.permitted streams k m told before e) = same_but_states e refl refl
@@ -62,15 +98,8 @@ module _ (entry : CustomerEntry) (l : ℕ) (items : List Item) (x y : Outgoing) 
   record_files i at (moves.completed streams k m told before e) =
       leave (λ f. f.number == m) (ap (λ z. z.files) e) (ap (λ z. z.arrived) e)
       (λ f there passes. laws.completed i streams k at told (before ∙ ap EofSent (sym (eqb-true f.number m passes))))
-  record_files i at (moves.holds who name given e) = in_states (may_change (is_of_name who name)) Held e refl refl
-  record_files i at (moves.releases who name given e) = in_states (may_change (is_of_name who name)) Ready e refl refl
-  record_files i at (moves.reroutes who name node line given route e) = rerouted i who name node at given e
-  record_files i at (moves.cancels who name given e) =
-      let p = is_of_name who name in
-      let cut = with_files (filter (λ f. not (p f)) x.files) x in
-      leave p (ap (λ z. z.files) e ∙ without_files_files (moves.busy_numbers p x.files) cut)
-      (ap (λ z. z.arrived) e ∙ without_files_arrived (moves.busy_numbers p x.files) cut)
-      (λ f there passes. laws.cancelled i who name f at given there refl passes)
+  record_files i at (moves.commands who command given move) =
+      by_command i who command at given (command_files entry who command x y move)
 
   sent_files : Sends entry l x y → FilesDo entry l items x y
   sent_files (moves.gives_up k before e) = same_but_states e refl refl
@@ -105,6 +134,30 @@ module _ (n : ℕ) (x y : Outgoing) where
       let left = one_gone p n x.files there (sym (ap (any_numbered n) e) ∙ gone) in
       subst (λ m. Leaves entry l items m x) left.2 (each left.0 left.1 left.3)
 
+module _ (entry : CustomerEntry) (order : GivenOrder) (x y : Outgoing) (move : OrderMoves entry order x y) where
+  -- the files by the command
+  abbrev pub OrderFiles : Type 0
+  OrderFiles = CommandFiles move.who move.command x y
+
+  pub order_files : OrderFiles
+  order_files = command_files entry move.who move.command x y move.moves
+
+  leaves_by_order : (n : ℕ) → OrderFiles → has_file n x ≡ true → has_file n y ≡ false → LeavesByOrder order n x
+  leaves_by_order n (in_new_states same arrived) there left = stayed n x y (but_states y.files x.files same) there left
+  leaves_by_order n (to_another name node is e) there left = stayed n x y (ap (λ z. numbers z.files) e
+      ∙ changed_numbers (is_of_name move.who name) (with_new_destination node) x.files (λ f. refl)) there left
+  leaves_by_order n (files_gone name is e arrived) there left =
+      let found = one_gone (is_of_name move.who name) n x.files there (sym (ap (any_numbered n) e) ∙ left) in
+      record {
+        who = move.who;
+        name = name;
+        file = found.0;
+        given = subst (λ d. OrdersCommand move.who d order) is move.given;
+        there = found.1;
+        number = found.2;
+        of_name = found.3;
+      }
+
 pub leaves_so : FilesLeaveSo
 leaves_so entry (Records l items) x y n (up, move) there gone =
     let marked = entry_marked l up entry in
@@ -112,6 +165,8 @@ leaves_so entry (Records l items) x y n (up, move) there gone =
 leaves_so entry (Routes routes) x y n given there gone =
     stayed n x y (ap (λ z. numbers z.files) given.holds ∙ held_numbers
     (entry_with (entries_of_routes routes) entry) x.files) there gone
+leaves_so entry (Order order) x y n move there gone =
+    leaves_by_order entry order x y move n (order_files entry order x y move) there gone
 
 pub leaves_so_between : FilesLeaveSoBetween
 leaves_so_between entry came _ _ n (nowhere x) there gone = absurd (cc (sym there ∙ gone))
@@ -187,9 +242,39 @@ module _ (entry : CustomerEntry) (l : ℕ) (items : List Item) (x y : Outgoing) 
       let stays : WholeFile → Bool = λ f. not (p f) in
       was_there (itself x.files g (from_filter stays x.files g (among (filter stays x.files) e there)))
 
+module _ (entry : CustomerEntry) (order : GivenOrder) (x y : Outgoing) (g : WholeFile)
+    (move : OrderMoves entry order x y) where
+  kept_records : IsOneOf x.files g → OrderMovesFile order x g
+  kept_records one = keeps_records one.0 one.1 one.2 one.3 one.4
+
+  -- by the files after it
+  in_these : (files : List WholeFile) → y.files ≡ files → Contains y.files g → Contains files g
+  in_these files e at = subst (λ fs. Contains fs g) e at
+
+  changed_by_order : CommandFiles move.who move.command x y → Contains y.files g → OrderMovesFile order x g
+  changed_by_order (in_new_states same arrived) there = kept_records (but_state x.files y.files g same there)
+  changed_by_order (to_another name node is e) there =
+      let change = with_new_destination node in
+      let p = is_of_name move.who name in
+      elim (from_where (may_change p) change x.files g
+      (in_these (map (changed_file p change) x.files) (ap (λ z. z.files) e) there)) [
+        | inl (f, found, passes, now) ↦
+            let idle = both_are (p f) (is_sending f.state) passes in
+            is_rerouted move.who name node f (subst (λ d. OrdersCommand move.who d order) is move.given) found
+            idle.0 idle.1 (ap (λ h. h.number) now) (ap (λ h. h.kind) now)
+            (nodes_are_names move.given.text name node (move.given.says ∙ ap Some is))
+            (ap (λ h. h.records) now ∙ sym (redirected_is f.kind node f.records))
+        | inr (found, fails) ↦ kept_records (itself x.files g found)
+      ]
+  changed_by_order (files_gone name is e arrived) there =
+      let stays : WholeFile → Bool = λ f. not (is_of_name move.who name f) in
+      kept_records (itself x.files g (from_filter stays x.files g (in_these (filter stays x.files) e there)))
+
 pub records_change : RecordsChangeSo
 records_change entry (Records l items) x y g (up, move) there =
     let marked = entry_marked l up entry in
     (up, changes marked l items x y g (files_do marked l items x y move) there)
 records_change entry (Routes routes) x y g given there =
     held_so (entry_with (entries_of_routes routes) entry) x g (subst (λ z. Contains z.files g) given.holds there)
+records_change entry (Order order) x y g move there =
+    changed_by_order entry order x y g move (order_files entry order x y move) there

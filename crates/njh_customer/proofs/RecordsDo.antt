@@ -5,7 +5,7 @@ use Words.{arith, eqb-true, Contains-append_right, Contains, Item, Aborted, Gene
 use Words.{Nodal, nodal_of, is_user_command, cut_after_message, NmrFault, route_of, Route, Here, Line, Unknown, Arrival}
 use Words.{after_completion, after_refusal, after_message, after_permission, after_record, after_stream_arrival}
 use Words.{after_stream_record, after_stream_request, after_unknown_node, after_user_command, acted_where, all_acted}
-use Words.{ended_or, ends_session, message_read, message_routed, peer_answered, refusal_of, with_sender_outcome}
+use Words.{ended_or, record_end, message_read, message_routed, peer_answered, refusal_of, with_sender_outcome}
 use Words.{Customer, line_at, with_answer_on, with_waiting}
 use Rattle.{std.proofs.Common.{◌≡◌, ◌==◌, ◌∷◌}, njh_block.specs.Blocks.{Data, Long, Control}}
 use Rattle.njh_customer.specs.Customer.{sender_at}
@@ -119,7 +119,7 @@ module _ (l : ℕ) (I : Customer → Type 0) where
       let later = all_acted l is (after_record l i c) in
       let acted_later = all_so is (λ j at. acted j (Contains-append_right (i ∷ []) is j at)) (after_record l i c)
       (acted i (0, omega arith, refl) c so) in
-      elim (ends_session i) as (λ b. I (ended_or b c later).customer) [ true ↦ so | false ↦ acted_later ]
+      elim (record_end i) as (λ o. I (ended_or o c later).customer) [ Some end ↦ so | None ↦ acted_later ]
 
   pub acted_where_so : (b : Bool) (items : List Item) → ((i : Item) → Contains items i → (c : Customer) → I c
       → I (after_record l i c)) → (c : Customer) → I c → I (acted_where b l items c).customer

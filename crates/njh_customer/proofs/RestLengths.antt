@@ -5,6 +5,7 @@ use Words.{arith, length-append, inl, inr, subst, sym, ltb-true, RestStep, on_to
 use Words.{text_or_spoiled, longest_text, Rest, Nothing, AfterSoh, AfterDle, InText, LineEntry, routes_checked}
 use Words.{Customer, byte_step, bytes_run, Taking, or_later, take_step, IsShortText, IsShortRest, OpenedHasShortRests}
 use Words.{EventsKeepShortRests, TakesKeepShortRests, taken_where, rest_at, rest_on, OwnBytes, OwnSignal, OwnRoutes}
+use Words.{OwnOrder}
 use Rattle.{std.proofs.Common.{◌≡◌, ◌==◌, if◌then◌else◌, ◌∷◌, ◌++◌}, njh_bisync.specs.ByteSteps.rest_step}
 use Rattle.{njh_bisync.specs.Frames.Received, njh_customer.proofs.FileListLaws.{set_one}}
 use Rattle.njh_bisync.specs.Frames as frame
@@ -116,3 +117,4 @@ events_short p (OwnSignal signal l) short m = set_short p.rests l m Nothing tt (
 events_short p (OwnRoutes routes) short m =
     elim (routes_checked p.customer.entry routes) as (λ w. IsShortRest (rest_at m (taken_where w routes p).rests))
     [ Ok faultless ↦ short m | Err fault ↦ short m ]
+events_short p (OwnOrder order) short m = short m

@@ -7,10 +7,11 @@ use Words.{State, CustomerEntry, counted_at, file_in, Sender, aborted_where, fil
 use Words.{is_of_name, is_sending, may_change, state_after_reroute, with_new_destination, without_file, after_record}
 use Words.{Customer, AreBeingSent, IsAbout, Acts, busy_numbers, with_changed, without_cancelled, without_files}
 use Words.{Outgoing, each_stream, has_file, outgoing, sender_on, streams_of, with_arrival, with_file_state, with_files}
-use Words.{with_sender_on, without_numbered}
+use Words.{with_sender_on, without_numbered, Command, CommandMoves, GivenOrder, User, customer_after_order}
 use Rattle.std.proofs.Common.{◌≡◌, ◌≤◌, ◌&&◌, ◌==◌, ◌∷◌, ◌++◌, ◌∙◌}
 use Rattle.njh_stream.specs.declared.sender.Sender.TheVariants.{Idle, Sending}
 use Rattle.njh_customer.proofs.{ActingMoves.acts_so, FileLimits.AreDistinct, FileListLaws.{any_numbered, from_filter}}
+use Rattle.njh_customer.proofs.GivenOrders.{order_moves_so}
 use Rattle.njh_customer.proofs.FileListLaws.{same_numbered, into_map, Has, WasOrIs, first_or_later, found_numbered}
 use Rattle.njh_customer.proofs.FileListLaws.{from_where, has_one, into_filter, passes_filter, any_there, changed_where}
 use Rattle.njh_customer.proofs.{RecordsChange.{without_files_files, both_are}, StreamMoveLaws.each_lines}
@@ -331,17 +332,32 @@ cancelled_carries p x apart are = record {
 
 -- ---- every move
 
+pub sent_by_command : (entry : CustomerEntry) (who : User) (command : Command) (x y : Outgoing)
+    → CommandMoves entry who command x y → AreDistinct x.files → AreBeingSent x → AreBeingSent y
+sent_by_command entry who command x y move before are = at_move move
+  where
+    by_change : (p : WholeFile → Bool) (change : WholeFile → WholeFile) → y ≡ with_changed p change x
+        → ((f : WholeFile) → (change f).number ≡ f.number)
+        → ((f : WholeFile) → is_sending f.state ≡ false → is_sending (change f).state ≡ false) → AreBeingSent y
+    by_change p change e numbers idle = carried x y
+        (subst (Carries x) (sym e) (command_carries p change x numbers idle are)) are
+
+    at_move : CommandMoves entry who command x y → AreBeingSent y
+    at_move (moves.holds name is e) =
+        by_change (is_of_name who name) (file_in_state state.Held) e (λ f. refl) (λ f idle. refl)
+    at_move (moves.releases name is e) =
+        by_change (is_of_name who name) (file_in_state state.Ready) e (λ f. refl) (λ f idle. refl)
+    at_move (moves.reroutes name node line is route e) =
+        by_change (is_of_name who name) (with_new_destination node) e (λ f. refl) (λ f. reroute_idle f.state)
+    at_move (moves.cancels name is e) =
+        carried x y (subst (Carries x) (sym e) (cancelled_carries (is_of_name who name) x before are)) are
+
 sent_by_acts : (entry : CustomerEntry) (l : ℕ) (i : Item) (x y : Outgoing) → Acts entry l i x y → AreDistinct x.files
     → AreDistinct y.files → AreBeingSent x → AreBeingSent y
 sent_by_acts entry l i x y acts before afterwards are = at_move acts
   where
     now : (z : Outgoing) → y ≡ z → Carries x z → AreBeingSent y
     now z e carries = carried x y (subst (Carries x) (sym e) carries) are
-
-    by_command : (p : WholeFile → Bool) (change : WholeFile → WholeFile) → y ≡ with_changed p change x
-        → ((f : WholeFile) → (change f).number ≡ f.number)
-        → ((f : WholeFile) → is_sending f.state ≡ false → is_sending (change f).state ≡ false) → AreBeingSent y
-    by_command p change e numbers idle = now (with_changed p change x) e (command_carries p change x numbers idle are)
 
     at_move : Acts entry l i x y → AreBeingSent y
     at_move (moves.comes rcb srcb f is ready whole e) =
@@ -352,13 +368,7 @@ sent_by_acts entry l i x y acts before afterwards are = at_move acts
     at_move (moves.refused streams k n after told about none e) = now _ e (refused_carries l k n after x about none are)
     at_move (moves.completed streams k n told ended e) =
         now _ e (completed_carries l k n Idle x (ap (λ s. file_in s) ended) refl are)
-    at_move (moves.holds who name given e) =
-        by_command (is_of_name who name) (file_in_state state.Held) e (λ f. refl) (λ f idle. refl)
-    at_move (moves.releases who name given e) =
-        by_command (is_of_name who name) (file_in_state state.Ready) e (λ f. refl) (λ f idle. refl)
-    at_move (moves.reroutes who name node line given route e) =
-        by_command (is_of_name who name) (with_new_destination node) e (λ f. refl) (λ f. reroute_idle f.state)
-    at_move (moves.cancels who name given e) = now _ e (cancelled_carries (is_of_name who name) x before are)
+    at_move (moves.commands who command given move) = sent_by_command entry who command x y move before are
 
 pub sent_record : (l : ℕ) (i : Item) (c : Customer) → AreDistinct c.spool.whole
     → AreDistinct (after_record l i c).spool.whole
@@ -366,4 +376,12 @@ pub sent_record : (l : ℕ) (i : Item) (c : Customer) → AreDistinct c.spool.wh
 sent_record l i c before afterwards are = elim ((acts_so l i c).moves) [
   | inl same ↦ subst AreBeingSent (sym same) are
   | inr acts ↦ sent_by_acts c.entry l i (outgoing c) (outgoing (after_record l i c)) acts before afterwards are
+]
+
+pub sent_order : (order : GivenOrder) (c : Customer) → AreDistinct c.spool.whole → AreBeingSent (outgoing c)
+    → AreBeingSent (outgoing (customer_after_order order c))
+sent_order order c before are = elim (order_moves_so order c) [
+  | inl same ↦ subst AreBeingSent (sym same) are
+  | inr move ↦ sent_by_command c.entry move.who move.command (outgoing c) (outgoing (customer_after_order order c))
+      move.moves before are
 ]

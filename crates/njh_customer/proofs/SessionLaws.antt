@@ -63,8 +63,8 @@ coherent_steps = record {
   session = record {
     judged = λ l came c there. accepted_coherent l came c;
     answered = λ l r c there. reply_coherent l r c;
-    ended = λ l c there. lines_coherent (on_line l (in_state after_end) c.lines) c
-        (on_line_seen shape l (in_state after_end) c.lines (λ x. refl));
+    ended = λ end l c there. lines_coherent (on_line l (in_state (after_end end)) c.lines) c
+        (on_line_seen shape l (in_state (after_end end)) c.lines (λ x. refl));
     over = over_coherent;
   };
   acted = acted_coherent;
@@ -80,7 +80,7 @@ as_many_steps n = record {
     judged = λ l came c there so. length-set c.lines l (in_state (after_input came) (line_at l c.lines)) ∙ so;
     answered = λ l r c there so.
         length-set c.lines l (sending_of_reply c.entry l r c.spool (line_at l c.lines)).line ∙ so;
-    ended = λ l c there so. length-set c.lines l (in_state after_end (line_at l c.lines)) ∙ so;
+    ended = λ end l c there so. length-set c.lines l (in_state (after_end end) (line_at l c.lines)) ∙ so;
     over = λ l c there so. length-set c.lines l (with_idle_streams (line_at l c.lines)) ∙ so;
   };
   acted = λ l i c there so. lines_of c (after_record l i c) (acted_keeps l i c) ∙ so;

@@ -8,7 +8,7 @@ use Words.{after_refusal, all_ended, goes_by, ready, tried_again, Taken, Cancell
 use Words.{verdict_of, with_room, Receiver, Sender, filling, own_fcs, FilesMove, stay, held, released, rerouted}
 use Words.{cancelled, CommandOutcome, changed_file, file_in_state, is_of_name, may_change, message_outcome, spool_after}
 use Words.{with_new_destination, LineReply, after_record, replied_to, session_over, Customer, line_at, receiver_at}
-use Words.{customer_with_routes, entry_with, outlet_of, own_block}
+use Words.{customer_with_routes, entry_with, outlet_of, own_block, GivenOrder, customer_after_order}
 use Rattle.{std.proofs.Common.{◌≡◌, ◌&&◌, ◌==◌, ◌∷◌, ◌++◌, ◌∙◌}, njh_block.specs.Blocks.{Control, Data}}
 use Rattle.{njh_stream.specs.Transmissions.RecordVerdict, njh_command.proofs.CommandMoves.files_move}
 use Rattle.{njh_command.proofs.RerouteNodes.nodes_are_names, njh_customer.proofs.FileListLaws.changed_where}
@@ -18,6 +18,7 @@ use Rattle.njh_customer.{proofs.{Restated.refused_restated, StepWalks.StaysInSte
 use Rattle.njh_stream.specs.declared.receiver.Receiver.TheVariants as receiver
 use Rattle.njh_line.specs.declared.verdict.LineReply.TheVariants as reply
 use Rattle.njh_customer.proofs.RecordsDo as does
+use Rattle.njh_customer.specs.declared.given_order.GivenOrder.TheVariants as orders
 
 -- ---- an arrival on a stream to the hub
 
@@ -116,6 +117,12 @@ module _ (I : CustomerSpool → Type 0) (J : Item → CustomerSpool → Type 0) 
       at_move (cancelled name says is gone) = files (filter (λ f. not (is_of_name who name f)) s.whole) is
           (keep.left (λ f. not (is_of_name who name f)) s so)
 
+  pub order_so : (order : GivenOrder) (c : Customer) → I c.spool → I (customer_after_order order c).spool
+  order_so (orders.Command owner text) c so =
+      let done = message_outcome c.entry owner text c.spool in
+      command_so c.entry owner text c.spool done (files_move c.entry owner text c.spool) so
+  order_so (orders.Message whom text) c so = so
+
   pub record_so : (l : ℕ) (i : Item) (c : Customer) → I c.spool → J i (after_record l i c).spool
   record_so l i c so = at i (after_record l i c) (record_does l c i)
     where
@@ -169,7 +176,7 @@ files_in_steps I keep = record {
   session = record {
     judged = λ l came c there so. so;
     answered = λ l r c there so. replied_so I keep.restated l r c so;
-    ended = λ l c there so. so;
+    ended = λ end l c there so. so;
     over = λ l c there so. session_over_so I keep.restated keep.arrivals.without l c so;
   };
   acted = λ l i c there so. record_so I (λ j. I) keep l i c so;

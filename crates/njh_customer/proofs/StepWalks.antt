@@ -1,13 +1,14 @@
 -- What is so of a customer stays so, whatever comes, where it does in each small step.
 use Rattle.njh_customer.proofs.Words
-use Words.{cond_both, Bool, Err, List, None, Ok, Option, Result, Some, [], arith, cond, length, nat_lt, ℕ, false, true}
+use Words.{cond_both, Err, List, None, Ok, Option, Result, Some, [], arith, cond, length, nat_lt, ℕ, false, true}
 use Words.{ltb-true, length-set, rest_step, Rest, Item, read_block, BlockFault, RouteEntry, NewRoute, entries_of_routes}
 use Words.{routes_checked, Input, after_end, after_input, LineReply, acted_where, after_record, CustomerStep}
 use Words.{accepted_on, after_block, after_line_input, after_received, after_records, block_input, carried_out}
 use Words.{replied_to, session_over, session_over_where, signal_input, silent, text_read, verdict_on, Customer}
 use Words.{in_state, line_at, on_line, or_later, Taking, acted_on, byte_step, bytes_run, take_step, block_records}
 use Words.{records_of_frame, customer_with_routes, routes_given, taken_where, Part, rest_on, OwnBytes, OwnEvent}
-use Words.{OwnRoutes, OwnSignal, event_run, sending_of_reply, Signal}
+use Words.{OwnOrder, OwnRoutes, OwnSignal, event_run, sending_of_reply, Signal, SessionEnd, GivenOrder}
+use Words.{customer_after_order}
 use Rattle.{std.proofs.Common.{◌<◌, ◌∷◌}, njh_bisync.specs.Frames.Received, njh_block.specs.Blocks.Block}
 use Rattle.{njh_line.specs.declared.verdict.Verdict.Verdict, njh_customer.proofs.LineWalks.{acted_keeps, lines_of}}
 use Rattle.njh_customer.{proofs.RecordsDo.acted_where_so, specs.Alone.{after_frame, after_signal}}
@@ -59,8 +60,8 @@ signal_holds l c P none by_input x =
 pub record StaysInSession (I : Customer → Type 0) : Type 0 where
   pub judged : (l : ℕ) (came : Input) (c : Customer) → l < length c.lines → I c → I (accepted_on l came c)
   pub answered : (l : ℕ) (r : LineReply) (c : Customer) → l < length c.lines → I c → I (replied_to l r c).after
-  pub ended : (l : ℕ) (c : Customer) → l < length c.lines → I c → I
-      (record c { lines = on_line l (in_state after_end) c.lines })
+  pub ended : (end : SessionEnd) (l : ℕ) (c : Customer) → l < length c.lines → I c → I
+      (record c { lines = on_line l (in_state (after_end end)) c.lines })
   pub over : (l : ℕ) (c : Customer) → l < length c.lines → I c → I (session_over l c)
 
 -- and by these.
@@ -92,19 +93,19 @@ module _ (I : Customer → Type 0) (keep : StaysInSteps I) where
   acted_so : (l : ℕ) (i : Item) (c : Customer) → So l c → So l (after_record l i c)
   acted_so l i c so = (omega (arith, lines_of c (after_record l i c) (acted_keeps l i c)), keep.acted l i c so.0 so.1)
 
-  after_so : (b : Bool) (l : ℕ) (v : Verdict) (c : Customer) → So l c → I (after_records b l v c).after
-  after_so true l v c so =
-      let d : Customer = record c { lines = on_line l (in_state after_end) c.lines } in
-      keep.session.over l d (omega (arith, length-set c.lines l (in_state after_end (line_at l c.lines))))
-      (keep.session.ended l c so.0 so.1)
-  after_so false l v c so = carried_so I keep.session l v c so.0 so.1
+  after_so : (o : Option SessionEnd) (l : ℕ) (v : Verdict) (c : Customer) → So l c → I (after_records o l v c).after
+  after_so (Some end) l v c so =
+      let d : Customer = record c { lines = on_line l (in_state (after_end end)) c.lines } in
+      keep.session.over l d (omega (arith, length-set c.lines l (in_state (after_end end) (line_at l c.lines))))
+      (keep.session.ended end l c so.0 so.1)
+  after_so None l v c so = carried_so I keep.session l v c so.0 so.1
 
   pub block_so : (l : ℕ) (b : Block) (c : Customer) → l < length c.lines → I c → I (after_block l b c).after
   block_so l b c there so =
       let v = verdict_on l (block_input b) c in
       let d = accepted_on l (block_input b) c in
       let a = acted_where v.acts l b.items d in
-      after_so a.ended l v a.customer (acted_where_so l (So l) v.acts b.items (λ i at. acted_so l i) d
+      after_so a.end l v a.customer (acted_where_so l (So l) v.acts b.items (λ i at. acted_so l i) d
       (accepted_there I keep.session l (block_input b) c there, keep.session.judged l (block_input b) c there so))
 
   pub frame_so : (l : ℕ) (x : Received) (c : Customer) → I c → I (after_frame l x c).after
@@ -146,11 +147,12 @@ module _ (I : Customer → Type 0) (by_frame : ByFrame I) where
       let first = frame_came_so l (rest_step rest byte).frame c so in
       by_sent x.rest x.after x.frame (take_step x.rest x.after l bytes) first (take_so x.rest x.after l bytes first)
 
--- What is so of a customer stays so by a frame, by a signal and by new routes.
+-- What is so of a customer stays so by a frame, by a signal, by new routes and by an order.
 pub record StaysInFrames (I : Customer → Type 0) : Type 0 where
   pub by_frame : ByFrame I
   pub by_signal : (l : ℕ) (x : Signal) (c : Customer) → I c → I (after_signal l x c).after
   pub by_routes : (routes : List RouteEntry) (c : Customer) → I c → I (customer_with_routes routes c)
+  pub by_order : (order : GivenOrder) (c : Customer) → I c → I (customer_after_order order c)
 
 module _ (I : Customer → Type 0) (keep : StaysInFrames I) where
   routes_so : (routes : List NewRoute) (p : Part) → I p.customer → I (routes_given routes p).customer
@@ -164,3 +166,4 @@ module _ (I : Customer → Type 0) (keep : StaysInFrames I) where
   event_so p (OwnBytes l piece) so = run_so I keep.by_frame (rest_on l p) p.customer l piece so
   event_so p (OwnSignal signal l) so = keep.by_signal l signal p.customer so
   event_so p (OwnRoutes routes) so = routes_so routes p so
+  event_so p (OwnOrder order) so = keep.by_order order p.customer so

@@ -8,7 +8,7 @@ use Words.{replied_to, session_over_where, session_ended, carried_out, verdict_o
 use Words.{block_input, after_records, after_block, after_frame, Customer, CustomerLine, line_at, on_line, in_state}
 use Words.{FilesGrow, SignalsGrowFiles, next_block, with_outlet, false, length, Option, Some, None, Result, Ok, Err}
 use Words.{arith, rest_step, IsShort, Rest, read_block, BlockFault, CustomerSpool, all_acted, acted_on, Taking}
-use Words.{or_later, take_step, block_records, records_of_frame, IsShortRest, TakesGrowFiles, rest_on}
+use Words.{SessionEnd, or_later, take_step, block_records, records_of_frame, IsShortRest, TakesGrowFiles, rest_on}
 use Rattle.{std.proofs.Common.{◌≡◌, ◌∷◌, ◌<◌, ◌≤◌, ◌*◌}, njh_bisync.specs.{Frames.Received, Written.text_bytes}}
 use Rattle.{njh_bisync.specs.declared.frame.Control.Control, njh_block.specs.Blocks.Block}
 use Rattle.njh_line.{proofs.AnsweringLaws.{acting_is_answered, down_stays_down}, specs.declared.verdict.Verdict.Verdict}
@@ -36,11 +36,11 @@ set_down [] l x down = refl
 set_down (y ∷ ys) zero x down = down
 set_down (y ∷ ys) (suc l) x down = set_down ys l x down
 
-pub ended_down : (l : ℕ) (c : Customer) → phase_on l (session_ended l c) ≡ Down
-ended_down l c =
-    let lines = on_line l (in_state after_end) c.lines in
+pub ended_down : (end : SessionEnd) (l : ℕ) (c : Customer) → phase_on l (session_ended end l c) ≡ Down
+ended_down end l c =
+    let lines = on_line l (in_state (after_end end)) c.lines in
     set_down lines l (with_idle_streams (line_at l lines))
-    (set_down c.lines l (in_state after_end (line_at l c.lines)) refl)
+    (set_down c.lines l (in_state (after_end end) (line_at l c.lines)) refl)
 
 -- ---- the next block
 
@@ -71,8 +71,8 @@ carried_grows l v c =
 pub input_grows : (l : ℕ) (came : Input) (c : Customer) → FilesGrow 0 c.spool (after_line_input l came c).after.spool
 input_grows l came c = carried_grows l (verdict_on l came c) (accepted_on l came c)
 
-pub ended_grows : (l : ℕ) (c : Customer) → FilesGrow 0 c.spool (session_ended l c).spool
-ended_grows l c = over_grows l (record c { lines = on_line l (in_state after_end) c.lines })
+pub ended_grows : (end : SessionEnd) (l : ℕ) (c : Customer) → FilesGrow 0 c.spool (session_ended end l c).spool
+ended_grows end l c = over_grows l (record c { lines = on_line l (in_state (after_end end)) c.lines })
 
 pub signals_grow : SignalsGrowFiles
 signals_grow p l signal =
@@ -110,7 +110,7 @@ block_stays_down l b c down =
     let x = (line_at l c.lines).state in
     let d = accepted_on l (block_input b) c in
     let by_verdict : Verdict → CustomerStep = λ v.
-    let a = acted_where v.acts l b.items d in after_records a.ended l v a.customer in
+    let a = acted_where v.acts l b.items d in after_records a.end l v a.customer in
     elim (down_stays_down x.config x.session (block_input b) down) [
       | does_nothing verdict phase ↦ subst (λ v. StaysDown l c (by_verdict v)) (sym verdict)
           (still_down (carried_grows l no_verdict d) (quiet_down l d (accepted_down l (block_input b) c phase)))
@@ -183,11 +183,11 @@ block_steps l b c short =
     let below : k < 1366 = omega arith in
     let grow : FilesGrow k c.spool a.customer.spool = all_grow l b.items d in
     (elim (v.acts) as (λ acts. v.acts ≡ acts
-    → (let w = acted_where acts l b.items d in Steps l c (after_records w.ended l v w.customer))) [
-      | true ↦ λ acts. elim (a.ended) as (λ ended. Steps l c (after_records ended l v a.customer)) [
-        | true ↦ goes_down k below (then_quietly k c.spool a.customer.spool (session_ended l a.customer).spool grow
-            (ended_grows l a.customer)) (ended_down l a.customer)
-        | false ↦ answers k below (then_quietly k c.spool a.customer.spool (carried_out l v a.customer).after.spool
+    → (let w = acted_where acts l b.items d in Steps l c (after_records w.end l v w.customer))) [
+      | true ↦ λ acts. elim (a.end) as (λ o. Steps l c (after_records o l v a.customer)) [
+        | Some end ↦ goes_down k below (then_quietly k c.spool a.customer.spool (session_ended end l a.customer).spool
+            grow (ended_grows end l a.customer)) (ended_down end l a.customer)
+        | None ↦ answers k below (then_quietly k c.spool a.customer.spool (carried_out l v a.customer).after.spool
             grow (carried_grows l v a.customer)) (subst (λ r. IsSent (replied_to l r a.customer).frame)
             (sym (acting_is_answered x.config x.session (block_input b) acts)) (next_sent l a.customer))
       ]

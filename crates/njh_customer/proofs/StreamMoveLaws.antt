@@ -5,6 +5,7 @@ use Words.{find, not, Option, Some, None, refl, sym, ap, subst, arith, eqb-true,
 use Words.{get_or-set_same, length-map, length-set, Contains-append_right, Contains, User, Item, kind_of, FileName}
 use Words.{WholeFile, CustomerEntry, entry_marked, after_abort, file_in, goes_by, Sender, Requested, EofSent, Aborting}
 use Words.{may_go, aborted_where, is_of_name, is_about, is_busy, is_sending, without_file, Cancel, IsAbout, Acts}
+use Words.{Command, CommandMoves, Order, OrdersCommand, cancels_file, remains}
 use Words.{Records, Routes, Moves, by_record, by_sending, by_end, Sends, Tells, Commands, Over, busy_numbers}
 use Words.{without_files, StreamMoves, StreamsMoveSo, IdleStreamsTakeFiles, IsMovedAlone, Outgoing, each_stream}
 use Words.{with_file_state, sender_on, streams_of, with_files, with_sender_on, without_numbered}
@@ -100,6 +101,39 @@ busy_one p files n at =
     let passes = passes_filter (is_busy p) files found.0 found.1 in
     (found.0, there, (and_parts (p found.0) (is_sending found.0.state) passes).0, found.2)
 
+-- CANCEL of the owner of its file by the file's name makes it give the file up
+pub record GivesFileUp (who : User) (command : Command) (j k : ℕ) (x y : Outgoing) : Type 0 where
+  pub name : FileName
+  pub is : command ≡ Cancel name
+  pub file : WholeFile
+  pub there : Contains x.files file
+  pub of_name : is_of_name who name file ≡ true
+  pub about : file_in (sender_on j k x) ≡ Some file.number
+  pub now : sender_on j k y ≡ after_abort (sender_on j k x)
+
+pub commanded_stream : (entry : CustomerEntry) (who : User) (command : Command) (j k : ℕ) (x y : Outgoing)
+    → CommandMoves entry who command x y
+    → (sender_on j k y ≡ sender_on j k x) ⊎ GivesFileUp who command j k x y
+commanded_stream entry who command j k x y (moves.holds name is e) = inl (ap (sender_on j k) e)
+commanded_stream entry who command j k x y (moves.releases name is e) = inl (ap (sender_on j k) e)
+commanded_stream entry who command j k x y (moves.reroutes name node line is route e) = inl (ap (sender_on j k) e)
+commanded_stream entry who command j k x y (moves.cancels name is e) =
+    let p = is_of_name who name in
+    let kept = filter (λ f. not (p f)) x.files in
+    let ns = busy_numbers p x.files in
+    elim (subst (StaysOrGivesUp j k ns x) (sym e) (all_give_up j k ns (with_files kept x))) [
+      | inl same ↦ inl same
+      | inr gives ↦ let f = busy_one p x.files gives.0 gives.1 in inr (record {
+        name = name;
+        is = is;
+        file = f.0;
+        there = f.1;
+        of_name = f.2;
+        about = gives.2 ∙ ap Some f.3;
+        now = gives.3;
+      })
+    ]
+
 -- ---- each move
 
 module _ (entry : CustomerEntry) (l : ℕ) (items : List Item) (j k : ℕ) (x y : Outgoing) where
@@ -117,12 +151,12 @@ module _ (entry : CustomerEntry) (l : ℕ) (items : List Item) (j k : ℕ) (x y 
             (λ n. (with_sender_on l n s x).streams) one.1),
       )
 
-  cancelling_moves : (i : Item) (who : User) (name : FileName) → Contains items i → Commands entry who (Cancel name) i
-      → StaysOrGivesUp j k (busy_numbers (is_of_name who name) x.files) x y → StreamMoves entry l items j k x y
-  cancelling_moves i who name at given (inl same) = laws.stays same
-  cancelling_moves i who name at given (inr gives) =
-      let f = busy_one (is_of_name who name) x.files gives.0 gives.1 in
-      laws.cancelled i who name f.0 at given f.1 f.2 (gives.2 ∙ ap Some f.3) gives.3
+  command_moves : (i : Item) (who : User) (command : Command) → Contains items i → Commands entry who command i
+      → (sender_on j k y ≡ sender_on j k x) ⊎ GivesFileUp who command j k x y → StreamMoves entry l items j k x y
+  command_moves i who command at given (inl same) = laws.stays same
+  command_moves i who command at given (inr gives) =
+      laws.cancelled i who gives.name gives.file at (subst (λ d. Commands entry who d i) gives.is given) gives.there
+      gives.of_name gives.about gives.now
 
   record_moves : (i : Item) → Contains items i → Acts entry l i x y → StreamMoves entry l items j k x y
   record_moves i at (moves.comes rcb srcb f is ready whole e) = laws.stays (ap (sender_on j k) e)
@@ -136,14 +170,8 @@ module _ (entry : CustomerEntry) (l : ℕ) (items : List Item) (j k : ℕ) (x y 
   record_moves i at (moves.completed streams m n told before e) = moved_so m Idle (without_numbered n x.files) e
       (λ line stream now. laws.completed i streams n line at (subst (λ t. Tells 0xc0 streams t i) (sym stream) told)
       (was j k l m (EofSent n) x before line stream) now)
-  record_moves i at (moves.holds who name given e) = laws.stays (ap (sender_on j k) e)
-  record_moves i at (moves.releases who name given e) = laws.stays (ap (sender_on j k) e)
-  record_moves i at (moves.reroutes who name node line given route e) = laws.stays (ap (sender_on j k) e)
-  record_moves i at (moves.cancels who name given e) =
-      let kept = filter (λ f. not (is_of_name who name f)) x.files in
-      let ns = busy_numbers (is_of_name who name) x.files in
-      cancelling_moves i who name at given (subst (StaysOrGivesUp j k ns x) (sym e)
-      (all_give_up j k ns (with_files kept x)))
+  record_moves i at (moves.commands who command given move) =
+      command_moves i who command at given (commanded_stream entry who command j k x y move)
 
   sending_moves : Sends entry l x y → StreamMoves entry l items j k x y
   sending_moves (moves.gives_up m before e) = moved_so m Idle x.files e
@@ -179,9 +207,25 @@ pub streams_move : StreamsMoveSo
 streams_move entry (Records l items) x y j k (up, move) =
     (up, moves_on_line (entry_marked l up entry) l items x y j k move)
 streams_move entry (Routes routes) x y j k given = ap (sender_on j k) given.holds
+streams_move entry (Order order) x y j k move =
+    elim (commanded_stream entry move.who move.command j k x y move.moves) [
+      | inl same ↦ remains same
+      | inr gives ↦ cancels_file move.who gives.name gives.file
+          (subst (λ d. OrdersCommand move.who d order) gives.is move.given) gives.there gives.of_name gives.about
+          gives.now
+    ]
 
 pub idle_take : IdleStreamsTakeFiles
 idle_take entry (Routes routes) x y j k n given has = inl (sym (ap (λ s. file_in (sender_on j k s)) given.holds) ∙ has)
+idle_take entry (Order order) x y j k n move has =
+    elim (commanded_stream entry move.who move.command j k x y move.moves) [
+      | inl same ↦ inl (sym (ap (λ s. file_in s) same) ∙ has)
+      | inr gives ↦ about_none (after_abort (sender_on j k x)) gives.now (aborted_none (sender_on j k x))
+    ]
+  where
+    -- about none
+    about_none : {A : Type 0} (s : Sender) → sender_on j k y ≡ s → file_in s ≡ None → A
+    about_none s now none = absurd (cc (sym has ∙ ap (λ t. file_in t) now ∙ none))
 idle_take entry (Records l items) x y j k n (up, move) has =
     elim (moves_on_line (entry_marked l up entry) l items x y j k move) [
       | laws.stays same ↦ inl (sym (ap (λ s. file_in s) same) ∙ has)

@@ -8,10 +8,11 @@ use Words.{is_of_name, may_change, with_new_destination, Coming, Records, Routes
 use Words.{with_changed, coming, entry_with, Outgoing, with_arrival, outgoing, part_after_bytes, OwnBytes, alone_run}
 use Words.{event_run, IsRerouted, as_before, to_node, IsStill, Survive, stays, leaves, FilesGoOn, FilesSurvive}
 use Words.{EventsKeepFiles, TakesKeepFiles, FirstFilesSurvive, FilesGoOnFurther, RunsKeepFiles, SurvivorsAreNumbered}
-use Words.{Item}
+use Words.{Command, Item, Order, Some, User, command_of}
 use Rattle.{std.proofs.Common.{◌≡◌, ◌<◌, ◌≤◌, ◌-◌, ◌∷◌, ◌++◌, ◌∙◌}, njh_header.proofs.Redirected.redirected_is}
 use Rattle.{njh_command.proofs.RerouteNodes.nodes_are_names, njh_customer.proofs.EventMoves.{events_move, takes_move}}
-use Rattle.njh_customer.proofs.{FileListLaws.{first_or_later, found_numbered}, RecordsChange.{FilesDo, files_do}}
+use Rattle.njh_customer.proofs.{FileListLaws.{first_or_later, found_numbered}, RecordsChange.{CommandFiles, FilesDo}}
+use Rattle.njh_customer.proofs.RecordsChange.{command_files, files_do}
 use Rattle.njh_customer.specs.Surviving.{none}
 use Rattle.njh_customer.proofs.RecordsChange as does
 
@@ -200,6 +201,21 @@ by_files entry l items x y (does.rerouted i who name node at given e) below =
 by_files entry l items x y (does.leave p e arrived each) below =
     none_came x y (filter (λ f. not (p f)) x.files) e (some_still (λ f. not (p f)) x.files) arrived
 
+by_command : (who : User) (command : Command) (text : List ℕ) (x y : Outgoing) → command_of text ≡ Some command
+    → CommandFiles who command x y → FilesGoOn x y
+by_command who command text x y says (does.in_new_states same arrived) =
+    none_came x y y.files refl (but_states x.files y.files same) arrived
+by_command who command text x y says (does.to_another name node is e) =
+    let p = is_of_name who name in
+    let named = nodes_are_names text name node (says ∙ ap Some is) in
+    let change = with_new_destination node in
+    none_came x y (with_changed p change x).files (ap (λ z. z.files) e)
+    (all_still (changed_file p change) (changed_still p change (rerouted_still node named)) x.files)
+    (ap (λ z. z.arrived) e)
+by_command who command text x y says (does.files_gone name is e arrived) =
+    let stays : WholeFile → Bool = λ f. not (is_of_name who name f) in
+    none_came x y (filter stays x.files) e (some_still stays x.files) arrived
+
 one_move : (entry : CustomerEntry) (came : Coming) (x y : Outgoing) → MovesBy entry came x y → y.arrived < max_arrived
     → FilesGoOn x y
 one_move entry (Records l items) x y (up, move) below =
@@ -208,6 +224,9 @@ one_move entry (Routes routes) x y given below =
     let new = entry_with (entries_of_routes routes) entry in
     none_came x y (map (λ f. cond (has_lost_route new f) (held_file f) f) x.files) (ap (λ z. z.files) given.holds)
     (held_still new x.files) (ap (λ z. z.arrived) given.holds)
+one_move entry (Order order) x y move below =
+    by_command move.who move.command move.given.text x y move.given.says
+    (command_files entry move.who move.command x y move.moves)
 
 pub files_survive : FilesSurvive
 files_survive entry came _ _ (nowhere x) below = none_came x x x.files refl (same_files x.files) refl

@@ -75,12 +75,13 @@ pub use Rattle.njh_command.specs.{Words.command_of, declared.command.Command.{Co
 pub use Rattle.njh_line.specs.{Answering.{control_verdict, does_nothing, is_answered, no_verdict}, Laws.is_disregarded}
 pub use Rattle.njh_line.specs.{Laws.is_up, LineTable.{Input, cell, end, hang_up, table_outcome, try_nak, with_reply}}
 pub use Rattle.njh_line.specs.Lines.{LineState, after_end, after_input, with_answer, with_message, with_session}
-pub use Rattle.njh_line.specs.{Lines.without_turn, Openings.opening, Sessions.in_session, Up.{KeepsUp, is_next}}
-pub use Rattle.njh_line.specs.declared.{Phase.{Phase, TheVariants.{Calling, Down, Up}}, config.Config.Config}
+pub use Rattle.njh_line.specs.{Lines.without_turn, Openings.opening, RecordEnds.record_end, Sessions.in_session}
+pub use Rattle.njh_line.specs.{Up.{KeepsUp, is_next}, declared.Phase.{Phase, TheVariants.{Calling, Down, Up}}}
+pub use Rattle.njh_line.specs.declared.{config.Config.Config, ending.SessionEnd.SessionEnd}
 pub use Rattle.njh_line.specs.declared.{session.Session.Session, verdict.LineReply.LineReply}
 pub use Rattle.njh_customer.specs.Acting.{acted_where, after_arrival, after_message, after_permission, after_record}
 pub use Rattle.njh_customer.specs.Acting.{after_stream_arrival, after_stream_record, after_stream_request}
-pub use Rattle.njh_customer.specs.Acting.{after_unknown_node, after_user_command, all_acted, ended_or, ends_session}
+pub use Rattle.njh_customer.specs.Acting.{after_unknown_node, after_user_command, all_acted, ended_or}
 pub use Rattle.njh_customer.specs.Acting.{message_read, message_routed, peer_answered, refusal_of, with_outcome}
 pub use Rattle.njh_customer.specs.{Acting.{with_sender_outcome, with_senders_by, without_sending}, Alone.CustomerStep}
 pub use Rattle.njh_customer.specs.Alone.{accepted_on, after_block, after_frame, after_line_input, after_received}
@@ -101,6 +102,7 @@ pub use Rattle.njh_customer.specs.FrameEffects.{over_now, records_of_frame, sign
 pub use Rattle.njh_customer.specs.Growing.{EventsKeepShortRests, FilesGrow, FilesGrowFurther, HasBecomeWhole, HasCome}
 pub use Rattle.njh_customer.specs.Growing.{IsShortRest, IsShortText, ManyRecordsGoOn, OpenedHasShortRests}
 pub use Rattle.njh_customer.specs.Growing.{ReroutesKeepCounts, RoutesGrowFiles, SignalsGrowFiles, TakesGrowFiles}
+pub use Rattle.njh_customer.specs.Growing.{OrdersGrowFiles}
 pub use Rattle.njh_customer.specs.{Growing.{TakesKeepShortRests, few, goes_on}, InOrder.{AreApart, AreBeingSent}}
 pub use Rattle.njh_customer.specs.InOrder.{AreSetUp, IdleUnlessUp, IsAbout, IsIdle, IsInOrder, IsOnStream}
 pub use Rattle.njh_customer.specs.InOrder.{IsWithinQuota, LossesLeaveFiles, StaysInOrder, after_losses, at_rest}
@@ -109,17 +111,22 @@ pub use Rattle.njh_customer.specs.Laws.{EventsKeepEntries, EventsKeepFaults, Eve
 pub use Rattle.njh_customer.specs.Laws.{MarksAreRight, NoBytesDoNothing, StepsFollowBytes, TakesKeepEntries}
 pub use Rattle.njh_customer.specs.{Laws.followed_by, Moves.{Acts, Coming, Commands, LeadsByMoves, Moves, MovesBy}}
 pub use Rattle.njh_customer.specs.Moves.{OneActs, Over, Records, Routes, RoutesMove, Sends, Tells, busy_numbers, by_end}
+pub use Rattle.njh_customer.specs.Moves.{CommandMoves, Order, OrderMoves, OrdersCommand}
 pub use Rattle.njh_customer.specs.Moves.{by_record, by_sending, nowhere, onward, with_changed, without_cancelled}
 pub use Rattle.njh_customer.specs.{Moves.without_files, MovingLaws.{EventsMoveSo, FileMoves, FilesLeaveSo}}
 pub use Rattle.njh_customer.specs.MovingLaws.{FilesLeaveSoBetween, IdleStreamsTakeFiles, IsMovedAlone, Leaves, LeavesBy}
 pub use Rattle.njh_customer.specs.MovingLaws.{RecordsChangeSo, RoutesDo, RoutesDoSo, RoutesMoveFile, StreamMoves}
 pub use Rattle.njh_customer.specs.MovingLaws.{StreamsMoveSo, TakesMoveSo, coming, is_as_before, is_held}
+pub use Rattle.njh_customer.specs.MovingLaws.{LeavesByOrder, OrderDoes, OrderMovesFile, OrderMovesStream, OrdersDoSo}
+pub use Rattle.njh_customer.specs.MovingLaws.{cancels_file, is_rerouted, keeps_records, remains}
 pub use Rattle.njh_customer.specs.NewRoutes.{UnroutedFilesStay, customer_with_routes, entry_with, routes_given}
+pub use Rattle.njh_customer.specs.Orders.{DoesAsCommand, OrdersDoAsCommands, customer_after_order, has_way}
+pub use Rattle.njh_customer.specs.Orders.{leads_to_line, part_after_order, with_command}
 pub use Rattle.njh_customer.specs.{NewRoutes.taken_where, OutgoingFiles.{Outgoing, each_stream, has_file, outgoing}}
 pub use Rattle.njh_customer.specs.OutgoingFiles.{record_numbered, sender_on, streams_from_hub, streams_of, with_arrival}
 pub use Rattle.njh_customer.specs.OutgoingFiles.{with_file_state, with_files, with_sender_on, without_numbered}
 pub use Rattle.njh_customer.specs.{Part.{Part, part_after_bytes, rest_at, rest_on}, Runs.{OwnBytes, OwnEvent}}
-pub use Rattle.njh_customer.specs.{Runs.{OwnRoutes, OwnSignal, Run, alone_run, event_run}, Sending.next_block}
+pub use Rattle.njh_customer.specs.{Runs.{OwnOrder, OwnRoutes, OwnSignal, Run, alone_run, event_run}, Sending.next_block}
 pub use Rattle.njh_customer.specs.Sending.{outlet_of, own_block, sending_of_block, sending_of_control, sending_of_empty}
 pub use Rattle.njh_customer.specs.Sending.{sending_of_no_block, sending_of_reply, sending_of_written, with_outlet}
 pub use Rattle.njh_customer.specs.Surviving.{EventsKeepFiles, FilesGoOn, FilesGoOnFurther, FilesSurvive}
@@ -127,5 +134,7 @@ pub use Rattle.njh_customer.specs.Surviving.{FirstFilesSurvive, IsRerouted, IsSt
 pub use Rattle.njh_customer.specs.Surviving.{SurvivorsAreNumbered, TakesKeepFiles, as_before, leaves, stays, to_node}
 pub use Rattle.njh_customer.specs.Waiting.{all_said, goes, with_answer_on, with_message_to, with_notice_to}
 pub use Rattle.njh_customer.specs.{Waiting.with_waiting, code.Coherence.{HasStreams, IsCoherent, RoutesKeepCoherent}}
-pub use Rattle.njh_customer.specs.{code.Coherence.{limits_of, streams_to_hub}, declared.shared.Shared.Shared}
+pub use Rattle.njh_customer.specs.code.Coherence.{OrdersKeepCoherent, limits_of, streams_to_hub}
+pub use Rattle.njh_customer.specs.declared.shared.Shared.{Shared}
+pub use Rattle.njh_customer.specs.declared.given_order.GivenOrder.{GivenOrder, TheVariants.Message}
 pub use Rattle.njh_customer.specs.declared.signal.Signal.{Signal, TheVariants.Lost}

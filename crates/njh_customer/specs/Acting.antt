@@ -1,11 +1,13 @@
 -- What the records of a block do to a customer, one after the other (IBM SC23-0070, multileaving).
 use Rattle.std.specs.Prelude.{ℕ, Bool, true, false, List, [], ◌∷◌, fold, map, Option, Some, None, Result, Ok, Err, ◌==◌}
-use Rattle.std.specs.Prelude.{◌||◌, cond}
+use Rattle.std.specs.Prelude.{cond}
 use Rattle.std.specs.Option.{option_map}
 use Rattle.njh_block.specs.Blocks.{Item, Data, Aborted, Long, Control, General, control_byte, stream_number, stream_of}
 use Rattle.njh_block.specs.Codes.{kind_of}
 use Rattle.njh_block.specs.declared.answer.Answer.{Answer}
-use Rattle.njh_block.specs.declared.rcb.ControlRcb.TheVariants.{Completion, Permission, Refusal, Request, SequenceError}
+use Rattle.njh_block.specs.declared.rcb.ControlRcb.TheVariants.{Completion, Permission, Refusal, Request}
+use Rattle.njh_line.specs.RecordEnds.{record_end}
+use Rattle.njh_line.specs.declared.ending.SessionEnd.{SessionEnd}
 use Rattle.njh_texts.specs.Texts.{node_unknown}
 use Rattle.njh_nmr.specs.declared.fault.NmrFault.{NmrFault}
 use Rattle.njh_nmr.specs.Nodal.{Nodal, nodal_of, is_user_command, cut_after_message, sender_of}
@@ -138,26 +140,20 @@ after_record l (Long rcb srcb) c = after_stream_record l (stream_of (line_at l c
 after_record l (Control rcb srcb) c = after_control_record l rcb srcb c
 after_record l (General srcb rest) c = c
 
--- a count that the peer didn't expect, and of the general records the sign-ons I, J and K and the sign-off B
-abbrev pub ends_session : Item → Bool
-ends_session (Control rcb srcb) = rcb == control_byte SequenceError
-ends_session (General srcb rest) = (srcb == 0xc9) || ((srcb == 0xd1) || ((srcb == 0xc2) || (srcb == 0xd2)))
-ends_session _ = false
-
--- The customer after records, and whether one ended the session.
+-- The customer after records, and the end that one made of the session, if one did.
 pub record Acted : Type 0 where
-  pub ended : Bool
+  pub end : Option SessionEnd
   pub customer : Customer
 
 -- the records act in their order, up to one that ends the session
-abbrev pub ended_or : Bool → Customer → Acted → Acted
-ended_or true c later = record { ended = true; customer = c }
-ended_or false c later = later
+abbrev pub ended_or : Option SessionEnd → Customer → Acted → Acted
+ended_or (Some end) c later = record { end = Some end; customer = c }
+ended_or None c later = later
 
 abbrev pub all_acted : ℕ → List Item → Customer → Acted
-all_acted l [] c = record { ended = false; customer = c }
-all_acted l (i ∷ is) c = ended_or (ends_session i) c (all_acted l is (after_record l i c))
+all_acted l [] c = record { end = None; customer = c }
+all_acted l (i ∷ is) c = ended_or (record_end i) c (all_acted l is (after_record l i c))
 
 abbrev pub acted_where : Bool → ℕ → List Item → Customer → Acted
 acted_where true l items c = all_acted l items c
-acted_where false l items c = record { ended = false; customer = c }
+acted_where false l items c = record { end = None; customer = c }

@@ -1,6 +1,6 @@
 -- A customer alone: what each frame and each signal on one of its lines does and sends.
-use Rattle.std.specs.Prelude.{ℕ, Bool, true, false, ◌&&◌, not, List, [], length, replicate, slice_set, Result, Ok, Err}
-use Rattle.std.specs.Prelude.{nat_lt, cond}
+use Rattle.std.specs.Prelude.{ℕ, Bool, true, false, ◌&&◌, not, List, [], length, replicate, slice_set, Option, Some}
+use Rattle.std.specs.Prelude.{None, Result, Ok, Err, nat_lt, cond}
 use Rattle.njh_bisync.specs.Frames as frame
 use Rattle.njh_bisync.specs.Frames.{Received}
 use Rattle.njh_block.specs.Blocks.{Block, read_block, general_first}
@@ -17,6 +17,7 @@ use Rattle.njh_line.specs.LineTable.{Input, table_outcome}
 use Rattle.njh_line.specs.Laws.{is_up}
 use Rattle.njh_line.specs.Lines.{after_input, after_end, without_answers}
 use Rattle.njh_line.specs.declared.Phase.{Phase}
+use Rattle.njh_line.specs.declared.ending.SessionEnd.{SessionEnd}
 use Rattle.njh_line.specs.declared.verdict.LineReply.{LineReply}
 use Rattle.njh_line.specs.declared.verdict.Verdict.{Verdict}
 use Rattle.njh_customer.specs.declared.signal.Signal.{Signal}
@@ -70,9 +71,9 @@ abbrev pub session_over_where : Bool → ℕ → Customer → Customer
 session_over_where true l c = session_over l c
 session_over_where false l c = c
 
--- a record ended the session
-abbrev pub session_ended : ℕ → Customer → Customer
-session_ended l c = session_over l (record c { lines = on_line l (in_state after_end) c.lines })
+-- a record ended the session so
+abbrev pub session_ended : SessionEnd → ℕ → Customer → Customer
+session_ended end l c = session_over l (record c { lines = on_line l (in_state (after_end end)) c.lines })
 
 -- ---- what comes on a line
 
@@ -112,17 +113,17 @@ after_line_input l came c = carried_out l (verdict_on l came c) (accepted_on l c
 abbrev pub block_input : Block → Input
 block_input b = input.Block b.bcb b.fcs (general_first b.items)
 
--- after the records of a block, one of which ended the session or didn't
-abbrev pub after_records : Bool → ℕ → Verdict → Customer → CustomerStep
-after_records true l v c = silent (session_ended l c)
-after_records false l v c = carried_out l v c
+-- after the records of a block, by the end that one of them made of the session, if one did
+abbrev pub after_records : Option SessionEnd → ℕ → Verdict → Customer → CustomerStep
+after_records (Some end) l v c = silent (session_ended end l c)
+after_records None l v c = carried_out l v c
 
 -- a good block: its records act if the line table says so, and then it is answered
 abbrev pub after_block : ℕ → Block → Customer → CustomerStep
 after_block l b c =
     let v = verdict_on l (block_input b) c in
     let a = acted_where v.acts l b.items (accepted_on l (block_input b) c) in
-    after_records a.ended l v a.customer
+    after_records a.end l v a.customer
 
 abbrev pub text_read : ℕ → Result Block BlockFault → Customer → CustomerStep
 text_read l (Ok b) c = after_block l b c

@@ -1,5 +1,6 @@
 -- What the code's steps lead a customer to.
-use Rattle.std.specs.Prelude.{◌≡◌, ℕ, ◌<◌, Bool, List, length, slice_set}
+use Rattle.std.specs.Prelude.{◌≡◌, ℕ, ◌<◌, List, Option, length, slice_set}
+use Rattle.njh_line.specs.declared.ending.SessionEnd.{SessionEnd}
 use Rattle.njh_table.specs.declared.LineId.{LineId}
 use Rattle.njh_spool.specs.Spools.{spool_at}
 use Rattle.njh_table.specs.TableFile.{TableFile, NamedCustomer, HasLine, customer_at, entry_of}
@@ -65,10 +66,11 @@ pub record LineSends (c : ℕ) (old new : Shared) (line : CustomerLine) (out : L
   pub frame : out ≡ sent.frame
   pub tables : new.tables ≡ old.tables
 
--- Records acted, one of which ended the session or didn't: they change files, and the line is ready for more.
-pub record RecordsAct (id : LineId) (old new : Shared) (lines : List CustomerLine) (ended : Bool)
+-- Records acted, of which one made this end of the session, if one did: they change files, and the line is ready for
+-- more.
+pub record RecordsAct (id : LineId) (old new : Shared) (lines : List CustomerLine) (end : Option SessionEnd)
     (acted : Acted) : Type 0 where
-  pub is_ended : ended ≡ acted.ended
+  pub end_is : end ≡ acted.end
   pub after : ChangesFiles id.customer old new lines acted.customer
   pub ready : IsReady id new lines
 
@@ -105,10 +107,10 @@ ChangesFilesBy id old before new lines step =
     ChangesFiles id.customer old new lines (step (customer_of id.customer old before))
 
 -- what records do
-abbrev pub RecordsActBy : LineId → Shared → List CustomerLine → Shared → List CustomerLine → Bool → (Customer → Acted)
-    → Type 0
-RecordsActBy id old before new lines ended step =
-    RecordsAct id old new lines ended (step (customer_of id.customer old before))
+abbrev pub RecordsActBy : LineId → Shared → List CustomerLine → Shared → List CustomerLine → Option SessionEnd
+    → (Customer → Acted) → Type 0
+RecordsActBy id old before new lines end step =
+    RecordsAct id old new lines end (step (customer_of id.customer old before))
 
 -- what may mark a line
 abbrev pub ChangesMarksBy : LineId → Shared → List CustomerLine → Shared → List CustomerLine → (Customer → Customer)

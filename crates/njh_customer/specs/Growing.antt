@@ -8,9 +8,10 @@ use Rattle.njh_record.specs.declared.Kind.{Kind}
 use Rattle.njh_spool.specs.CustomerSpool.{CustomerSpool, PartialFile, WholeFile, max_arrived}
 use Rattle.njh_table.specs.Entries.{CustomerEntry}
 use Rattle.njh_table.specs.NewRoutes.{NewRoute}
+use Rattle.njh_customer.specs.declared.given_order.GivenOrder.{GivenOrder}
 use Rattle.njh_customer.specs.declared.signal.Signal.{Signal}
 use Rattle.njh_customer.specs.Part.{Part, part_at_open, part_after_bytes, part_after_signal, rest_on}
-use Rattle.njh_customer.specs.Runs.{OwnEvent, OwnRoutes, event_run}
+use Rattle.njh_customer.specs.Runs.{OwnEvent, OwnRoutes, OwnOrder, event_run}
 use Rattle.njh_customer.specs.Surviving.{IsRerouted, Survive}
 
 -- These records have come of a file of this number and kind: they are few, at most k; or a partial file of that number
@@ -86,11 +87,17 @@ SignalsGrowFiles =
     (p : Part) (l : ℕ) (signal : Signal)
     → FilesGrow 0 p.customer.spool (part_after_signal p l signal).after.customer.spool
 
--- and by new routes none does.
+-- by new routes none does,
 abbrev pub RoutesGrowFiles : Type 0
 RoutesGrowFiles =
     (p : Part) (routes : List NewRoute)
     → FilesGrow 0 p.customer.spool (event_run p (OwnRoutes routes)).after.customer.spool
+
+-- and by an order none does.
+abbrev pub OrdersGrowFiles : Type 0
+OrdersGrowFiles =
+    (p : Part) (order : GivenOrder)
+    → FilesGrow 0 p.customer.spool (event_run p (OwnOrder order)).after.customer.spool
 
 -- ---- what is read from it
 

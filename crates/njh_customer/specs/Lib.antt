@@ -17,5 +17,6 @@ pub mod Surviving
 pub mod Growing
 pub mod Disregarding
 pub mod NewRoutes
+pub mod Orders
 pub mod InOrder
 pub mod code

@@ -1,5 +1,5 @@
 -- What may happen to a customer's whole files and to its streams from the hub, one small thing at a time. All that
--- comes on a line, and new routes, lead from what they were to what they are by such moves and no others.
+-- comes on a line, new routes and orders lead from what they were to what they are by such moves and no others.
 use Rattle.std.specs.Prelude.{◌≡◌, ℕ, ◌+◌, ◌<◌, Bool, true, List, [], length, map, filter, find, replicate, Some}
 use Rattle.std.specs.Prelude.{None, Ok, fold, cond, not}
 use Rattle.std.specs.List.{Contains}
@@ -27,6 +27,8 @@ use Rattle.njh_command.specs.Words.{command_of}
 use Rattle.njh_command.specs.Commands.{changed_file, is_of_name, is_busy, with_new_destination, file_in_state}
 use Rattle.njh_command.specs.Commands.{without_file}
 use Rattle.njh_customer.specs.NewRoutes.{entry_with}
+use Rattle.njh_customer.specs.declared.given_order.GivenOrder.{GivenOrder}
+use Rattle.njh_customer.specs.declared.given_order.GivenOrder.TheVariants as orders
 use Rattle.njh_customer.specs.OutgoingFiles.{Outgoing, each_stream, with_file_state, record_numbered, sender_on}
 use Rattle.njh_customer.specs.OutgoingFiles.{streams_of, with_arrival, with_files, with_sender_on, with_streams}
 use Rattle.njh_customer.specs.OutgoingFiles.{without_numbered}
@@ -67,6 +69,21 @@ without_cancelled p x = without_files (busy_numbers p x.files) (with_files (filt
 abbrev pub with_changed : (WholeFile → Bool) → (WholeFile → WholeFile) → Outgoing → Outgoing
 with_changed p change x = with_files (map (changed_file p change) x.files) x
 
+-- What a command of a user moves: the user's own files of its name.
+pub data CommandMoves (entry : CustomerEntry) (who : User) (command : Command) (x y : Outgoing) : Type 0 where
+  holds :
+      (name : FileName) → command ≡ Hold name
+      → y ≡ with_changed (is_of_name who name) (file_in_state state.Held) x → CommandMoves entry who command x y
+  releases :
+      (name : FileName) → command ≡ Release name
+      → y ≡ with_changed (is_of_name who name) (file_in_state state.Ready) x → CommandMoves entry who command x y
+  reroutes :
+      (name : FileName) (node : List ℕ) (line : ℕ) → command ≡ Reroute name node → route_of entry node ≡ Line line
+      → y ≡ with_changed (is_of_name who name) (with_new_destination node) x → CommandMoves entry who command x y
+  cancels :
+      (name : FileName) → command ≡ Cancel name → y ≡ without_cancelled (is_of_name who name) x
+      → CommandMoves entry who command x y
+
 pub data Acts (entry : CustomerEntry) (l : ℕ) (i : Item) (x y : Outgoing) : Type 0 where
   -- an end of file: a file has come whole, is the last one, and counts; no other move counts one
   comes :
@@ -86,20 +103,9 @@ pub data Acts (entry : CustomerEntry) (l : ℕ) (i : Item) (x y : Outgoing) : Ty
   completed :
       (streams k n : ℕ) → Tells 0xc0 streams k i → sender_on l k x ≡ EofSent n
       → y ≡ with_sender_on l k Idle (with_files (without_numbered n x.files) x) → Acts entry l i x y
-  -- commands of the files' owner
-  holds :
-      (who : User) (name : FileName) → Commands entry who (Hold name) i
-      → y ≡ with_changed (is_of_name who name) (file_in_state state.Held) x → Acts entry l i x y
-  releases :
-      (who : User) (name : FileName) → Commands entry who (Release name) i
-      → y ≡ with_changed (is_of_name who name) (file_in_state state.Ready) x → Acts entry l i x y
-  reroutes :
-      (who : User) (name : FileName) (node : List ℕ) (line : ℕ) → Commands entry who (Reroute name node) i
-      → route_of entry node ≡ Line line → y ≡ with_changed (is_of_name who name) (with_new_destination node) x
-      → Acts entry l i x y
-  cancels :
-      (who : User) (name : FileName) → Commands entry who (Cancel name) i
-      → y ≡ without_cancelled (is_of_name who name) x
+  -- a command of the files' owner
+  commands :
+      (who : User) (command : Command) → Commands entry who command i → CommandMoves entry who command x y
       → Acts entry l i x y
 
 -- ---- by a record that goes out in a new block
@@ -155,16 +161,34 @@ pub record RoutesMove (entry : CustomerEntry) (routes : List NewRoute) (x y : Ou
   pub faultless : routes_checked entry routes ≡ Ok tt
   pub holds : y ≡ routeless_held (entry_with (entries_of_routes routes) entry) x
 
--- What comes to a customer: records on a line, or new routes.
+-- ---- by an order
+
+-- An order is a command in the name of a user.
+pub record OrdersCommand (who : User) (command : Command) (order : GivenOrder) : Type 0 where
+  pub text : List ℕ
+  pub is_command : order ≡ orders.Command who text
+  pub says : command_of text ≡ Some command
+
+pub record OrderMoves (entry : CustomerEntry) (order : GivenOrder) (x y : Outgoing) : Type 0 where
+  pub who : User
+  pub command : Command
+  pub given : OrdersCommand who command order
+  pub moves : CommandMoves entry who command x y
+
+-- ---- what comes
+
+-- What comes to a customer: records on a line, new routes, or an order.
 pub data Coming : Type 0 where
   Records : (line : ℕ) (items : List Item) → Coming
   Routes : (routes : List NewRoute) → Coming
+  Order : (order : GivenOrder) → Coming
 
 -- A move by what comes. It is judged by the marks of its moment: the line on which records come counts as up or not,
 -- and every other line as in the entry.
 abbrev pub MovesBy : CustomerEntry → Coming → Outgoing → Outgoing → Type 0
 MovesBy entry (Records l items) x y = (up : Bool) × Moves (entry_marked l up entry) l items x y
 MovesBy entry (Routes routes) x y = RoutesMove entry routes x y
+MovesBy entry (Order order) x y = OrderMoves entry order x y
 
 -- Moves of a kind lead from one to the other.
 pub data LeadsByMoves (Move : Outgoing → Outgoing → Type 0) : Outgoing → Outgoing → Type 0 where

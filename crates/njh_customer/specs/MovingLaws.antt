@@ -30,10 +30,13 @@ use Rattle.njh_customer.specs.Customer.{Customer}
 use Rattle.njh_customer.specs.Alone.{after_frame, after_signal}
 use Rattle.njh_customer.specs.Part.{Part, part_after_bytes, rest_on}
 use Rattle.njh_customer.specs.NewRoutes.{entry_with}
-use Rattle.njh_customer.specs.Runs.{OwnEvent, OwnBytes, OwnSignal, OwnRoutes, Run, event_run}
+use Rattle.njh_customer.specs.Orders.{has_way}
+use Rattle.njh_customer.specs.declared.given_order.GivenOrder.{GivenOrder}
+use Rattle.njh_customer.specs.Runs.{OwnEvent, OwnBytes, OwnSignal, OwnRoutes, OwnOrder, Run, event_run}
 use Rattle.njh_customer.specs.OutgoingFiles.{Outgoing, outgoing, has_file, record_numbered, sender_on}
 use Rattle.njh_customer.specs.OutgoingFiles.{with_sender_on}
-use Rattle.njh_customer.specs.Moves.{Coming, Records, Routes, Commands, LeadsByMoves, MovesBy, Over, Sends, Tells}
+use Rattle.njh_customer.specs.Moves.{Coming, Records, Routes, Order, Commands, LeadsByMoves, MovesBy, OrdersCommand}
+use Rattle.njh_customer.specs.Moves.{Over, Sends, Tells}
 use Rattle.njh_customer.specs.FrameEffects.{Does, records_of_frame}
 
 -- ---- what comes
@@ -60,11 +63,25 @@ pub record RoutesDo (p : Part) (routes : List NewRoute) (r : Run) : Type 0 where
 abbrev pub RoutesDoSo : Type 0
 RoutesDoSo = (p : Part) (routes : List NewRoute) → RoutesDo p routes (event_run p (OwnRoutes routes))
 
--- what comes by an event: the records of the frames that its bytes make whole, or new routes
+-- What an order does. It sends nothing, and leaves the customer's entry, its partial files, as many lines, and of each
+-- what has come of its next frame. A message without a way changes nothing.
+pub record OrderDoes (p : Part) (order : GivenOrder) (r : Run) : Type 0 where
+  pub sent : r.sent ≡ []
+  pub rests : r.after.rests ≡ p.rests
+  pub entry : r.after.customer.entry ≡ p.customer.entry
+  pub lines : length r.after.customer.lines ≡ length p.customer.lines
+  pub partial : r.after.customer.spool.partial ≡ p.customer.spool.partial
+  pub without_way : has_way p.customer.entry order ≡ false → r.after ≡ p
+
+abbrev pub OrdersDoSo : Type 0
+OrdersDoSo = (p : Part) (order : GivenOrder) → OrderDoes p order (event_run p (OwnOrder order))
+
+-- what comes by an event: the records of the frames that its bytes make whole, new routes, or an order
 abbrev pub coming : Part → OwnEvent → Coming
 coming p (OwnBytes l piece) = Records l (flat_map records_of_frame (frames_after (rest_on l p) piece))
 coming p (OwnSignal signal l) = Records l []
 coming p (OwnRoutes routes) = Routes routes
+coming p (OwnOrder order) = Order order
 
 -- An event moves files and streams only so.
 abbrev pub EventsMoveSo : Type 0
@@ -93,10 +110,21 @@ pub data Leaves (entry : CustomerEntry) (l : ℕ) (items : List Item) (n : ℕ) 
       (i : Item) (streams k : ℕ) → Contains items i → Tells 0xc0 streams k i → sender_on l k x ≡ EofSent n
       → Leaves entry l items n x
 
+-- By an order one leaves by the command CANCEL in the name of its owner, by its name.
+pub record LeavesByOrder (order : GivenOrder) (n : ℕ) (x : Outgoing) : Type 0 where
+  pub who : User
+  pub name : FileName
+  pub file : WholeFile
+  pub given : OrdersCommand who (Cancel name) order
+  pub there : Contains x.files file
+  pub number : file.number ≡ n
+  pub of_name : is_of_name who name file ≡ true
+
 -- by new routes none leaves
 abbrev pub LeavesBy : CustomerEntry → Coming → ℕ → Outgoing → Type 0
 LeavesBy entry (Records l items) n x = (up : Bool) × Leaves (entry_marked l up entry) l items n x
 LeavesBy entry (Routes routes) n x = ⊥
+LeavesBy entry (Order order) n x = LeavesByOrder order n x
 
 abbrev pub FilesLeaveSo : Type 0
 FilesLeaveSo =
@@ -161,10 +189,20 @@ pub data StreamMoves (entry : CustomerEntry) (l : ℕ) (items : List Item) (j k 
   -- the session of its line ends
   over : j ≡ l → Over l x y → sender_on j k y ≡ Idle → StreamMoves entry l items j k x y
 
+-- What an order does to stream k of line j: it stays, or CANCEL in the name of the owner of its file, by the file's
+-- name, makes it give the file up.
+pub data OrderMovesStream (order : GivenOrder) (j k : ℕ) (x y : Outgoing) : Type 0 where
+  remains : sender_on j k y ≡ sender_on j k x → OrderMovesStream order j k x y
+  cancels_file :
+      (who : User) (name : FileName) (f : WholeFile) → OrdersCommand who (Cancel name) order
+      → Contains x.files f → is_of_name who name f ≡ true → file_in (sender_on j k x) ≡ Some f.number
+      → sender_on j k y ≡ after_abort (sender_on j k x) → OrderMovesStream order j k x y
+
 -- by new routes none moves
 abbrev pub StreamMovesBy : CustomerEntry → Coming → ℕ → ℕ → Outgoing → Outgoing → Type 0
 StreamMovesBy entry (Records l items) j k x y = (up : Bool) × StreamMoves (entry_marked l up entry) l items j k x y
 StreamMovesBy entry (Routes routes) j k x y = sender_on j k y ≡ sender_on j k x
+StreamMovesBy entry (Order order) j k x y = OrderMovesStream order j k x y
 
 abbrev pub StreamsMoveSo : Type 0
 StreamsMoveSo =
@@ -203,9 +241,22 @@ pub data RoutesMoveFile (entry : CustomerEntry) (x : Outgoing) (g : WholeFile) :
   is_held : (f : WholeFile) → Contains x.files f → has_lost_route entry f ≡ true → g ≡ held_file f
       → RoutesMoveFile entry x g
 
+-- By an order a file is one that was there, with its records; or it was there and wasn't being sent, and REROUTE in the
+-- name of its owner, by its name, gave it another destination.
+pub data OrderMovesFile (order : GivenOrder) (x : Outgoing) (g : WholeFile) : Type 0 where
+  keeps_records :
+      (f : WholeFile) → Contains x.files f → g.number ≡ f.number → g.kind ≡ f.kind → g.records ≡ f.records
+      → OrderMovesFile order x g
+  is_rerouted :
+      (who : User) (name : FileName) (node : List ℕ) (f : WholeFile) → OrdersCommand who (Reroute name node) order
+      → Contains x.files f → is_of_name who name f ≡ true → is_sending f.state ≡ false
+      → g.number ≡ f.number → g.kind ≡ f.kind → is_name node ≡ true
+      → g.records ≡ records_to_node f.kind node None f.records → OrderMovesFile order x g
+
 abbrev pub FileMovesBy : CustomerEntry → Coming → Outgoing → WholeFile → Type 0
 FileMovesBy entry (Records l items) x g = (up : Bool) × FileMoves (entry_marked l up entry) items x g
 FileMovesBy entry (Routes routes) x g = RoutesMoveFile (entry_with (entries_of_routes routes) entry) x g
+FileMovesBy entry (Order order) x g = OrderMovesFile order x g
 
 abbrev pub RecordsChangeSo : Type 0
 RecordsChangeSo =

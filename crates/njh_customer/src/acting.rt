@@ -15,6 +15,7 @@ use crate::shared::Shared;
 use njh_block::{Answer, Block, ControlRcb, Item, Rcb, Stream};
 use njh_command::{Originator, obey};
 use njh_header::User;
+use njh_line::SessionEnd;
 use njh_nmr::Nmr;
 use njh_record::Record;
 use njh_stream::Arrival;
@@ -24,14 +25,13 @@ use njh_texts::node_unknown;
 impl Shared {
     ghost use Rattle.njh_customer.specs.CustomerSteps.{ChangesFilesBy, IsReady, RecordsActBy};
 
-    /// The records of a block act in their order, up to one that ends the session. Says whether one
-    /// did.
+    /// The records of a block act in their order, up to one that ends the session. Tells that end.
     pub(crate) fn all_act(
         &mut self,
         id: LineId,
         block: Block<'_>,
         lines: &mut CustomerLines,
-    ) -> bool
+    ) -> Option<SessionEnd>
         requires ready { IsReady id self.old lines.old }
         ensures { RecordsActBy id self.old lines.old self.new lines.new result
             (acting.all_acted id.number block.entry.items) }
@@ -39,12 +39,12 @@ impl Shared {
         let mut block = block;
         let mut record = Record::new();
         while let Some(item) = block.next(&mut record) {
-            if ends_session(&item) {
-                return true;
+            if let Some(end) = SessionEnd::of_record(&item) {
+                return Some(end);
             }
             self.act(id, item, &record, lines);
         }
-        false
+        None
     }
 
     /// A record that ends no session acts.
@@ -267,16 +267,4 @@ fn tell_unknown(customer: &NamedCustomer, message: &Nmr, lines: &mut CustomerLin
 {
     let text = node_unknown(message.to());
     lines.say(customer, message.origin(), message.user(), &text);
-}
-
-/// Whether a record ends the session: a count that the peer didn't expect, a sign-on I, J or K, or
-/// the sign-off B (IBM SC23-0070, "Multileaving").
-fn ends_session(item: &Item<'_>) -> bool
-    ensures { (bytes : List ℕ) → result ≡ acting.ends_session (given_item bytes item.now) }
-{
-    match item {
-        Item::Control { rcb, .. } => *rcb == ControlRcb::SequenceError,
-        Item::General { srcb, .. } => matches!(*srcb, 0xc9 | 0xd1 | 0xc2 | 0xd2),
-        Item::Data { .. } | Item::Abort { .. } | Item::Long { .. } => false,
-    }
 }

@@ -16,7 +16,7 @@ use crate::shared::Shared;
 use crate::signal::Signal;
 use njh_bisync::Frame;
 use njh_block::Block;
-use njh_line::{Input, Verdict};
+use njh_line::{Input, SessionEnd, Verdict};
 use njh_table::{LineId, Tables};
 
 impl Shared {
@@ -107,11 +107,12 @@ impl Shared {
             first: read.first_general(),
         };
         let verdict = self.accept(id, &input, lines);
-        if self.act_where(verdict.acts, id, read, lines) {
-            self.end_session(id, lines);
-            out.clear();
-        } else {
-            self.carry_out(id, verdict, lines, out);
+        match self.act_where(verdict.acts, id, read, lines) {
+            Some(end) => {
+                self.end_session(id, end, lines);
+                out.clear();
+            }
+            None => self.carry_out(id, verdict, lines, out),
         }
     }
 
@@ -132,14 +133,14 @@ impl Shared {
         verdict
     }
 
-    /// The records of a block act if they may. Says whether one ended the session.
+    /// The records of a block act if they may. Tells the end that one made of the session.
     fn act_where(
         &mut self,
         acts: bool,
         id: LineId,
         read: Block<'_>,
         lines: &mut CustomerLines,
-    ) -> bool
+    ) -> Option<SessionEnd>
         requires ready { IsReady id self.old lines.old }
         ensures { RecordsActBy id self.old lines.old self.new lines.new result
             (acted_where acts id.number read.entry.items) }
@@ -147,7 +148,7 @@ impl Shared {
         if acts && !read.is_empty() {
             self.all_act(id, read, lines)
         } else {
-            false
+            None
         }
     }
 
@@ -169,13 +170,13 @@ impl Shared {
         }
     }
 
-    /// A record ended the session.
-    fn end_session(&mut self, id: LineId, lines: &mut CustomerLines)
+    /// A record ended the session so.
+    fn end_session(&mut self, id: LineId, end: SessionEnd, lines: &mut CustomerLines)
         requires ready { IsReady id self.old lines.old }
         ensures { ChangesMarksBy id self.old lines.old self.new lines.new
-            (alone.session_ended id.number) }
+            (alone.session_ended end id.number) }
     {
-        lines.end(id.number);
+        lines.end(id.number, end);
         self.close_session(id, lines);
     }
 

@@ -24,7 +24,7 @@ use crate::sending::{
 use crate::shared::Shared;
 use njh_block::{Answer, Fcs, Stream};
 use njh_command::give_up;
-use njh_line::{Config, Input, Line, LineReply, Phase, Session, Verdict};
+use njh_line::{Config, Input, Line, LineReply, Phase, Session, SessionEnd, Verdict};
 use njh_record::Record;
 use njh_sched::{Outgoing, fill, has_next, own_fcs};
 use njh_spool::{FileId, Spool};
@@ -199,11 +199,11 @@ impl CustomerLine {
         self.line.accept(input)
     }
 
-    /// A record of a block ends the session.
-    pub(crate) fn end(&mut self)
-        ensures { self.new ≡ in_state lines.after_end self.old }
+    /// A record of a block ends the session so.
+    pub(crate) fn end(&mut self, end: SessionEnd)
+        ensures { self.new ≡ in_state (lines.after_end end) self.old }
     {
-        self.line.end();
+        self.line.end(end);
     }
 
     /// Lets an answer wait.

@@ -25,7 +25,7 @@ use crate::shared::Shared;
 use njh_block::{Answer, Rcb, Stream};
 use njh_command::{Replies, Senders};
 use njh_ebcdic::{FIELD, Name};
-use njh_line::{Input, LineReply, Verdict};
+use njh_line::{Input, LineReply, SessionEnd, Verdict};
 use njh_nmr::{LONGEST_MESSAGE, Nmr};
 use njh_record::Record;
 use njh_spool::FileId;
@@ -124,12 +124,12 @@ impl CustomerLines {
         self.lines[usize::from(line)].accept(input)
     }
 
-    /// A record of a block ends the session of a line.
-    pub(crate) fn end(&mut self, line: u16)
+    /// A record of a block ends the session of a line so.
+    pub(crate) fn end(&mut self, line: u16, end: SessionEnd)
         requires { line < length self.old }
-        ensures { self.new ≡ on_line line (in_state after_end) self.old }
+        ensures { self.new ≡ on_line line (in_state (after_end end)) self.old }
     {
-        self.lines[usize::from(line)].end();
+        self.lines[usize::from(line)].end(end);
     }
 
     /// Sends what a verdict asks for.

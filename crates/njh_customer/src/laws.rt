@@ -6,13 +6,15 @@ ghost use Rattle.njh_customer.specs.Customer.{fresh_customer};
 ghost use Rattle.njh_customer.specs.code.Coherence.{IsCoherent};
 ghost use Rattle.njh_customer.specs.Disregarding.{BadBlocksAreDisregarded, GarbledIsDisregarded, SpoiledIsDisregarded};
 ghost use Rattle.njh_customer.specs.Growing.{EventsKeepShortRests, FilesGrowFurther, ManyRecordsGoOn};
-ghost use Rattle.njh_customer.specs.Growing.{OpenedHasShortRests, PartialsAreNumbered, ReroutesKeepCounts};
+ghost use Rattle.njh_customer.specs.Growing.{OpenedHasShortRests, OrdersGrowFiles, PartialsAreNumbered};
+ghost use Rattle.njh_customer.specs.Growing.{ReroutesKeepCounts};
 ghost use Rattle.njh_customer.specs.Growing.{RoutesGrowFiles, SignalsGrowFiles, TakesGrowFiles, TakesKeepShortRests};
 ghost use Rattle.njh_customer.specs.Laws.{CutsAreLike, FirstBytesSendFirst, NoBytesDoNothing, StepsFollowBytes};
 ghost use Rattle.njh_customer.specs.Laws.{EventsKeepEntries, EventsKeepFaults, EventsKeepLines, MarksAreRight};
 ghost use Rattle.njh_customer.specs.Laws.{TakesKeepEntries, TicksSendNext};
 ghost use Rattle.njh_customer.specs.MovingLaws.{EventsMoveSo, FilesLeaveSo, FilesLeaveSoBetween, FramesDoSo};
-ghost use Rattle.njh_customer.specs.MovingLaws.{IdleStreamsTakeFiles, RecordsChangeSo, RoutesDoSo, SignalsDoSo};
+ghost use Rattle.njh_customer.specs.MovingLaws.{IdleStreamsTakeFiles, OrdersDoSo, RecordsChangeSo, RoutesDoSo};
+ghost use Rattle.njh_customer.specs.MovingLaws.{SignalsDoSo};
 ghost use Rattle.njh_customer.specs.MovingLaws.{StreamsMoveSo, TakesMoveSo};
 ghost use Rattle.njh_customer.specs.InOrder.{LossesLeaveFiles, StaysInOrder};
 ghost use Rattle.njh_customer.specs.Surviving.{EventsKeepFiles, FilesGoOnFurther, FilesSurvive, FirstFilesSurvive};
@@ -88,23 +90,25 @@ pub fn lost_lines_leave_files()
 /// under each stream's RCB, the stream's file from its place before the block to its place after
 /// it, each record once and in order, and the end of file only after the last. Any other frame
 /// moves nothing, the last transmission that goes out again among them. New routes move no line and
-/// send nothing.
+/// send nothing; an order sends nothing either.
 pub fn frames_do_so()
     ensures frames { FramesDoSo }
     ensures signals { SignalsDoSo }
     ensures routes { RoutesDoSo }
+    ensures orders { OrdersDoSo }
 {}
 
 /// An event, and a step by bytes, move the customer's whole files and its streams from the hub by a
 /// few kinds of moves and no others. New routes move no stream, and of the files those alone that
-/// are Ready or Refused and whose node has no route by them: these are Held.
+/// are Ready or Refused and whose node has no route by them: these are Held. An order moves what
+/// the command moves that it is, and nothing if it is none.
 pub fn events_move_so()
     ensures events { EventsMoveSo }
     ensures takes { TakesMoveSo }
 {}
 
-/// A whole file leaves the spool only by the command CANCEL of its owner by its name, or by C0 to
-/// the stream that has sent its end of file; by new routes none does.
+/// A whole file leaves the spool only by the command CANCEL of its owner by its name, on a line or
+/// by an order, or by C0 to the stream that has sent its end of file; by new routes none does.
 pub fn files_leave_so()
     ensures one { FilesLeaveSo }
     ensures between { FilesLeaveSoBetween }
@@ -126,18 +130,19 @@ pub fn files_survive()
 {}
 
 /// What becomes of a customer's files whose end hasn't come, in a step by bytes of a line, by a
-/// signal and by new routes. A file that becomes whole, and a file that is partial afterwards, goes
-/// on from a partial file of its number and its kind: it has that one's records, and after them at
-/// most as many as the step brought; or it has no more than these. So a file with more has that
-/// partial file's records, but for what REROUTE wrote after it was whole. The records of one block
-/// at most act in a step, of which fewer than 1,366 have data; by a signal and by new routes none
-/// comes. What has come of a line's next frame must be of no more than the 4,096 bytes of a text,
-/// and it is, whatever came since the customer was opened. Which partial file it was says its
-/// number. A file that was given up just isn't there.
+/// signal, by new routes and by an order. A file that becomes whole, and a file that is partial
+/// afterwards, goes on from a partial file of its number and its kind: it has that one's records,
+/// and after them at most as many as the step brought; or it has no more than these. So a file with
+/// more has that partial file's records, but for what REROUTE wrote after it was whole. The records
+/// of one block at most act in a step, of which fewer than 1,366 have data; by a signal, by new
+/// routes and by an order none comes. What has come of a line's next frame must be of no more than
+/// the 4,096 bytes of a text, and it is, whatever came since the customer was opened. Which partial
+/// file it was says its number. A file that was given up just isn't there.
 pub fn files_grow()
     ensures takes { TakesGrowFiles }
     ensures signals { SignalsGrowFiles }
     ensures routes { RoutesGrowFiles }
+    ensures orders { OrdersGrowFiles }
     ensures further { FilesGrowFurther }
     ensures opened { OpenedHasShortRests }
     ensures events { EventsKeepShortRests }
@@ -150,15 +155,16 @@ pub fn files_grow()
 /// How a stream from the hub moves. It takes a file only if it is idle. A0 makes it send the
 /// file it asked for, from place 0 on. From then on its place moves only by the file's record at it
 /// going out in a new block, by one; and if there is no record at it the end of file goes out,
-/// and that alone makes it wait for C0. By new routes none moves.
+/// and that alone makes it wait for C0. By new routes none moves, and by an order those alone whose
+/// file CANCEL removes.
 pub fn streams_move_so()
     ensures each { StreamsMoveSo }
     ensures taken { IdleStreamsTakeFiles }
 {}
 
-/// A whole file's records change by the command REROUTE of its owner by its name alone, in the
-/// eight bytes of a destination's node, and not while it is being sent. New routes change of a file
-/// at most its state, from Ready or Refused to Held.
+/// A whole file's records change by the command REROUTE of its owner by its name alone, on a line
+/// or by an order, in the eight bytes of a destination's node, and not while it is being sent. New
+/// routes change of a file at most its state, from Ready or Refused to Held.
 pub fn records_change_so()
     ensures { RecordsChangeSo }
 {}

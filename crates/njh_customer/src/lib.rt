@@ -9,14 +9,17 @@ mod customer;
 mod customer_line;
 mod customer_lines;
 mod frame_buffer;
+mod given_order;
 mod laws;
 mod lines;
 mod new_routes;
+mod orders;
 mod sending;
 mod shared;
 mod signal;
 
 pub use frame_buffer::FrameBuffer;
+pub use given_order::{GivenOrder, OrderText};
 pub use laws::{
     bad_texts_change_nothing, customers_stay_in_order, cuts_are_like, events_keep_entries,
     events_move_so, files_grow, files_leave_so, files_survive, first_bytes_send_first,
@@ -25,5 +28,6 @@ pub use laws::{
 };
 pub use lines::Lines;
 pub use new_routes::{routes_keep_coherent, unrouted_files_stay};
+pub use orders::{orders_do_as_commands, orders_keep_coherent};
 pub use shared::Shared;
 pub use signal::Signal;

@@ -13,17 +13,21 @@ ghost use Rattle.njh_customer.specs.CustomerSteps.{IsReady, LeavesReadyBy, PartL
 ghost use Rattle.njh_customer.specs.CustomerSteps.{part_of};
 ghost use Rattle.njh_customer.specs.Part.{rest_at};
 ghost use Rattle.njh_customer.specs.Having.{has_next};
+ghost use Rattle.njh_customer.specs.Orders.{part_after_order, replies_to};
 
 use crate::customer_line::CustomerLine;
 use crate::customer_lines::CustomerLines;
 use crate::frame_buffer::FrameBuffer;
+use crate::given_order::GivenOrder;
 use crate::shared::Shared;
 use crate::signal::Signal;
 use njh_bisync::Deframer;
+use njh_command::Replies;
 use njh_ebcdic::Name;
 use njh_line::{Config, Session};
+use njh_spool::Spool;
 use njh_stream::{Notice, Receiver, Sender};
-use njh_table::{LineId, NamedCustomer, Role};
+use njh_table::{LineId, NamedCustomer, Role, Tables};
 use std::alloc::{AllocError, Global};
 use std::marker::Model;
 
@@ -208,6 +212,29 @@ impl Lines {
     {
         self.deframers[usize::from(id.number)].reset();
         shared.take_signal(id, signal, &mut self.lines, out);
+    }
+
+    /// Does what is ordered for the customer. In `replies` are then the replies to a command, in
+    /// the place of what it held; none after a message. No frame goes out, and no memory is taken.
+    pub fn order(
+        &mut self,
+        customer: u16,
+        order: &GivenOrder,
+        tables: &Tables,
+        spool: &mut Spool,
+        replies: &mut Replies,
+    )
+        requires known { customer < length tables.now.customers }
+        requires spooled { customer < length spool.old }
+        ensures part { part_with (entry_of (customer_at tables.now customer)) (spool_at customer spool.new) self.new
+            ≡ part_after_order order.now
+            (part_with (entry_of (customer_at tables.now customer)) (spool_at customer spool.old) self.old) }
+        ensures others { spool.new ≡ slice_set spool.old customer (spool_at customer spool.new) }
+        ensures replies { replies.new ≡ replies_to order.now
+            (part_with (entry_of (customer_at tables.now customer)) (spool_at customer spool.old)
+            self.old).customer }
+    {
+        self.lines.order(customer, order, tables, spool, replies);
     }
 }
 

@@ -11,4 +11,5 @@ pub mod NamedLaws
 pub mod CutLaws
 pub mod StopLaws
 pub mod SetRoutesLaws
+pub mod GivenOrderLaws
 pub mod ComingLaws

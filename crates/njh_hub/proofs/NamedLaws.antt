@@ -1,22 +1,24 @@
 -- What the events of a run name, and why one of them is refused.
 use Rattle.std.proofs.Common.{◌≡◌, ℕ, ◌+◌, ◌<◌, List, [], ◌∷◌, ◌++◌, length, take, set, get_or, Option, None, Some}
-use Rattle.std.proofs.Common.{refl, ap, sym, subst, ◌∙◌, ⊎_elim, arith, inl, inr, ◌⊎◌}
+use Rattle.std.proofs.Common.{refl, ap, sym, subst, ◌∙◌, ⊎_elim, arith, inl, inr, ◌⊎◌, true}
 use Rattle.std.proofs.lemmas.List.{length-set, take_more}
 use Rattle.std.proofs.lemmas.Option.{slice_get-get_or}
 use Rattle.std.proofs.lemmas.List.Elements.{All-push, All-same}
 use Rattle.std.specs.Prelude.{All, IsSome, IsSomeAnd, slice_get}
 use Rattle.njh_table.specs.NewRoutes.{NewRoute, new_routes_of, routes_checked}
 use Rattle.njh_hub.specs.declared.event.Event.{Event}
-use Rattle.njh_hub.specs.declared.event.Event.TheVariants.{Bytes, Tick, Garbled, Lost, Routes}
+use Rattle.njh_hub.specs.declared.event.Event.TheVariants.{Bytes, Tick, Garbled, Lost, Routes, Order}
 use Rattle.njh_customer.specs.Runs.{OwnEvent, alone_run, event_run}
 use Rattle.njh_customer.proofs.EventMoves.{events_keep_faults}
-use Rattle.njh_hub.specs.OwnEvents.{customer_of_event, line_of_event, routes_of, own, events_of}
+use Rattle.njh_hub.specs.OwnEvents.{customer_of_event, line_of_event, routes_of, order_of, given_to, own, events_of}
 use Rattle.njh_hub.specs.declared.fault.Cause.{Cause}
 use Rattle.njh_hub.specs.declared.fault.Cause.TheVariants.{Hub, Sink}
 use Rattle.njh_hub.specs.declared.fault.HubFault.{HubFault}
-use Rattle.njh_hub.specs.declared.fault.HubFault.TheVariants.{UnknownLine, UnknownCustomer, Memory, BadRoutes}
-use Rattle.njh_hub.specs.RunStops.{IfHub, IsRefused, IsRoutes}
-use Rattle.njh_hub.specs.WholeHub.{Part, part, IsNamed, SameLines, hub_run}
+use Rattle.njh_hub.specs.declared.fault.HubFault.TheVariants.{UnknownLine, UnknownCustomer, Memory, BadRoutes, NoRoute}
+use Rattle.njh_hub.specs.RunStops.{IfHub, IsGiven, IsRefused}
+use Rattle.njh_hub.specs.WholeHub.{Part, part, HaveWays, IfOrder, IsNamed, IsWay, SameLines}
+use Rattle.njh_hub.specs.WholeHub.{hub_event, hub_run}
+use Rattle.njh_customer.specs.declared.given_order.GivenOrder.{GivenOrder}
 use Rattle.njh_hub.proofs.RunLaws.{each_is_alone}
 
 -- a hub keeps its customers over a run
@@ -60,6 +62,7 @@ named-before start now on (Lost id) known = omega (arith, known, on.lines id.cus
 named-before start now on (Routes c routes) known =
     let there : c < length start = omega (arith, known.0, on.many)
     in (there, sym (on.checked c there (new_routes_of c routes)) ∙ known.1)
+named-before start now on (Order c order) known = omega (arith, known, on.many)
 
 IsSomeAnd-weaker : {X : Type 0} (P Q : X → Type 0) → ((x : X) → P x → Q x) → (o : Option X) → IsSomeAnd o P
     → IsSomeAnd o Q
@@ -72,19 +75,39 @@ pub refused-before : (start now : List Part) → LedOn start now → (event : Ev
 refused-before start now on event UnknownLine refused = IsSomeAnd-weaker _ _
     (λ line nowhere known. nowhere (omega (arith, known, on.lines line.customer))) (line_of_event event) refused
 refused-before start now on event UnknownCustomer refused = IsSomeAnd-weaker _ _
-    (λ given nowhere there. nowhere (omega (arith, there, on.many))) (routes_of event) refused
+    (λ c nowhere there. nowhere (omega (arith, there, on.many))) (given_to event) refused
 refused-before start now on event (BadRoutes cause) refused = IsSomeAnd-weaker _ _
     (λ given bad. let there : given.0 < length start = omega (arith, bad.0, on.many) in
     (there, sym (on.checked given.0 there (new_routes_of given.0 given.1)) ∙ bad.1)) (routes_of event) refused
+refused-before start now on event NoRoute refused = IsSomeAnd-weaker _ _
+    (λ given there. omega (arith, there, on.many)) (order_of event) refused
 refused-before start now on event Memory refused = named-before start now on event refused
 
--- an event comes on a line or gives routes
-pub either_event : (event : Event) → IsSome (line_of_event event) ⊎ IsRoutes event
+-- an event comes on a line, or gives routes or an order
+pub either_event : (event : Event) → IsSome (line_of_event event) ⊎ IsGiven event
 either_event (Bytes id piece) = inl refl
 either_event (Tick id) = inl refl
 either_event (Garbled id) = inl refl
 either_event (Lost id) = inl refl
 either_event (Routes c routes) = inr refl
+either_event (Order c order) = inr refl
+
+-- what is said of an order under a condition, where that is so
+pub if_order_given : {A : Type 0} (event : Event) (P : ℕ → GivenOrder → Type 0)
+    → IfOrder event (λ c order. A → P c order) → A → IfOrder event P
+if_order_given (Bytes id piece) P told so = tt
+if_order_given (Tick id) P told so = tt
+if_order_given (Garbled id) P told so = tt
+if_order_given (Lost id) P told so = tt
+if_order_given (Routes c routes) P told so = tt
+if_order_given (Order c order) P told so = told so
+
+-- one order more that has a way
+pub have_ways_more : (parts : List Part) (events : List Event) (event : Event) → HaveWays parts events
+    → IsWay (hub_run parts events).parts event true → HaveWays parts (events ++ event ∷ [])
+have_ways_more parts [] event have way = (way, tt)
+have_ways_more parts (e ∷ es) event have way =
+    (have.0, have_ways_more (hub_event parts e).parts es event have.1 way)
 
 -- of one event more
 pub All-more : (P : Event → Type 0) (events : List Event) (i : ℕ) (event : Event) → i < length events

@@ -5,7 +5,7 @@ use Rattle.njh_table.specs.declared.LineId.{LineId}
 use Rattle.njh_customer.specs.Runs.{OwnBytes, event_run}
 use Rattle.njh_customer.proofs.PieceLaws.{first_bytes_send_first}
 use Rattle.njh_hub.specs.declared.event.Event.{Event}
-use Rattle.njh_hub.specs.declared.event.Event.TheVariants.{Bytes, Tick, Garbled, Lost, Routes}
+use Rattle.njh_hub.specs.declared.event.Event.TheVariants.{Bytes, Tick, Garbled, Lost, Routes, Order}
 use Rattle.njh_hub.specs.Laws.{Begins, SentInOrder}
 use Rattle.njh_hub.specs.OwnEvents.{first_bytes, first_events}
 use Rattle.njh_hub.specs.WholeHub.{Part, part, sent_by, hub_event, hub_run}
@@ -35,6 +35,7 @@ event-begins parts (Tick id) (suc n) = ((hub_event parts (Tick id)).sent, refl)
 event-begins parts (Garbled id) (suc n) = ((hub_event parts (Garbled id)).sent, refl)
 event-begins parts (Lost id) (suc n) = ((hub_event parts (Lost id)).sent, refl)
 event-begins parts (Routes c routes) (suc n) = ((hub_event parts (Routes c routes)).sent, refl)
+event-begins parts (Order c order) (suc n) = ((hub_event parts (Order c order)).sent, refl)
 
 pub sent_in_order : SentInOrder
 sent_in_order parts [] zero zero = ([], refl)

@@ -1,7 +1,7 @@
 -- An event up to so many of its bytes, and where a frame is sent.
 use Rattle.std.specs.Prelude.{ℕ, ◌-◌, ◌<◌, ◌≤◌, List, [], ◌∷◌, length, take}
 use Rattle.njh_hub.specs.declared.event.Event.{Event}
-use Rattle.njh_hub.specs.declared.event.Event.TheVariants.{Bytes, Tick, Garbled, Lost, Routes}
+use Rattle.njh_hub.specs.declared.event.Event.TheVariants.{Bytes, Tick, Garbled, Lost, Routes, Order}
 use Rattle.njh_hub.specs.OwnEvents.{bytes_in_event}
 use Rattle.njh_hub.specs.WholeHub.{Part, HubRun, hub_run}
 
@@ -12,6 +12,7 @@ cut_to n (Tick id) = Tick id
 cut_to n (Garbled id) = Garbled id
 cut_to n (Lost id) = Lost id
 cut_to n (Routes c routes) = Routes c routes
+cut_to n (Order c order) = Order c order
 
 -- the hub after the first bytes of an event
 abbrev pub run_until : List Part → ℕ → Event → HubRun

@@ -41,13 +41,13 @@ CustomersNeverMeet =
 
 -- ---- one step
 
--- A step on another customer's line, or new routes of another customer, leave a customer's part as it is.
+-- A step on another customer's line, and new routes and orders of another customer, leave a customer's part as it is.
 abbrev pub OthersStay : Type 0
 OthersStay = (c : ℕ) (parts : List Part) (event : Event) → c ≢ customer_of_event event
     → part c (hub_event parts event).parts ≡ part c parts
 
--- A step on a customer's own line, or new routes of its own, do what they do on a hub of its own, whatever the others
--- hold.
+-- A step on a customer's own line, new routes of its own and an order of its own do what they do on a hub of its own,
+-- whatever the others hold.
 abbrev pub OwnStepIsOwn : Type 0
 OwnStepIsOwn =
     (parts : List Part) (event : Event) → customer_of_event event < length parts →

@@ -1,6 +1,7 @@
 -- What is seen of a hub while it runs: of a line, and of a whole file without its records.
 use Rattle.std.specs.Prelude.{◌≡◌, ℕ, List, [], length, Option, Some, unwrap_or, ⊤}
 use Rattle.njh_line.specs.declared.Phase.TheVariants.{Down}
+use Rattle.njh_line.specs.declared.ending.SessionEnd.TheVariants as ends
 use Rattle.njh_line.specs.Lines.{LineState}
 use Rattle.njh_line.specs.declared.session.Session.{Session}
 use Rattle.njh_table.specs.declared.Role.{Role}
@@ -31,17 +32,20 @@ session_view role s = record {
   next_count = s.next_count;
   last_bcb = s.last_bcb;
   refusals = s.refusals;
+  last_end = s.last_end;
+  last_refusal = s.last_refusal;
 }
 
 -- what is shown of a line
 abbrev pub line_view : LineState → SessionView
 line_view line = session_view line.config.role line.session
 
--- A line of the hub is down, and its last session had made its five tries.
+-- A line of the hub is down, and its last session ended by its five tries.
 pub record HasGivenUp (parts : List Part) (id : LineId) : Type 0 where
   pub there : HasLine parts id
   pub phase : (hub_line id parts).state.session.phase ≡ Down
   pub tries : (hub_line id parts).state.session.tries ≡ 5
+  pub end : (hub_line id parts).state.session.last_end ≡ Some ends.Tries
 
 -- A file that comes on a stream to the hub is partial: the records under its number are the partial file's.
 abbrev pub IsPartialOn : CustomerSpool → Receiver → Type 0

@@ -1,13 +1,15 @@
 -- The hub as the list of its customers' parts: an event of one moves that one as if it were alone, and no other.
-use Rattle.std.specs.Prelude.{◌≡◌, ℕ, ◌<◌, List, [], ◌∷◌, ◌++◌, length, slice_index_or, slice_set, Ok}
+use Rattle.std.specs.Prelude.{◌≡◌, ℕ, ◌<◌, Bool, true, List, [], ◌∷◌, ◌++◌, length, slice_index_or, slice_set, Ok, ⊤}
 use Rattle.njh_table.specs.declared.LineId.{LineId}
 use Rattle.njh_table.specs.Entries.{CustomerEntry}
 use Rattle.njh_table.specs.NewRoutes.{new_routes_of, routes_checked}
 pub use Rattle.njh_customer.specs.Part.{Part, part_at_open}
+use Rattle.njh_customer.specs.Orders.{has_way}
 use Rattle.njh_customer.specs.Runs.{OwnEvent, event_run}
+use Rattle.njh_customer.specs.declared.given_order.GivenOrder.{GivenOrder}
 use Rattle.njh_hub.specs.OwnEvents.{customer_of_event, own}
 use Rattle.njh_hub.specs.declared.event.Event.{Event}
-use Rattle.njh_hub.specs.declared.event.Event.TheVariants.{Bytes, Tick, Garbled, Lost, Routes}
+use Rattle.njh_hub.specs.declared.event.Event.TheVariants.{Bytes, Tick, Garbled, Lost, Routes, Order}
 
 abbrev pub no_entry : CustomerEntry
 no_entry = record { hub = []; quota = 0; files = 0; lines = []; up = []; routes = [] }
@@ -24,7 +26,7 @@ part c parts = slice_index_or parts c no_part
 abbrev pub HasLine : List Part → LineId → Type 0
 HasLine parts id = id.number < length (part id.customer parts).customer.lines
 
--- An event names a line of the hub, or a customer of it with routes that aren't refused.
+-- An event names a line of the hub, or a customer of it, with an order or with routes that aren't refused.
 abbrev pub IsNamed : List Part → Event → Type 0
 IsNamed parts (Bytes id piece) = HasLine parts id
 IsNamed parts (Tick id) = HasLine parts id
@@ -32,6 +34,7 @@ IsNamed parts (Garbled id) = HasLine parts id
 IsNamed parts (Lost id) = HasLine parts id
 IsNamed parts (Routes c routes) =
     (c < length parts) × (routes_checked (part c parts).customer.entry (new_routes_of c routes) ≡ Ok tt)
+IsNamed parts (Order c order) = c < length parts
 
 -- each customer has as many lines in both
 abbrev pub SameLines : List Part → List Part → Type 0
@@ -61,3 +64,23 @@ hub_run parts (event ∷ events) =
     let x = hub_event parts event in
     let later = hub_run x.parts events in
     record { parts = later.parts; sent = x.sent ++ later.sent }
+
+-- ---- the way of an order
+
+-- what is said of an order, where the event is one
+abbrev pub IfOrder : Event → (ℕ → GivenOrder → Type 0) → Type 0
+IfOrder (Bytes id piece) P = ⊤
+IfOrder (Tick id) P = ⊤
+IfOrder (Garbled id) P = ⊤
+IfOrder (Lost id) P = ⊤
+IfOrder (Routes c routes) P = ⊤
+IfOrder (Order c order) P = P c order
+
+-- an order has a way, or hasn't, by the routes that its customer has
+abbrev pub IsWay : List Part → Event → Bool → Type 0
+IsWay parts event way = IfOrder event (λ c order. has_way (part c parts).customer.entry order ≡ way)
+
+-- each has one when it comes
+abbrev pub HaveWays : List Part → List Event → Type 0
+HaveWays parts [] = ⊤
+HaveWays parts (event ∷ events) = IsWay parts event true × HaveWays (hub_event parts event).parts events

@@ -3,6 +3,7 @@
 ghost use Rattle.std.specs.Prelude.{◌≡◌, ◌≤◌, ◌<◌, take, IfOk};
 
 use crate::given_routes::GivenRoutes;
+use njh_customer::GivenOrder;
 use njh_table::LineId;
 use std::alloc::{AllocError, Global};
 use std::marker::Model;
@@ -95,4 +96,6 @@ pub enum Event {
     Lost(LineId),
     /// New routes for the customer of this number, in place of all that it has.
     Routes(u16, GivenRoutes),
+    /// An order for the customer of this number.
+    Order(u16, GivenOrder),
 }

@@ -18,6 +18,9 @@ pub enum HubFault {
     /// There was no memory.
     #[error("U3 Memory")]
     Memory,
+    /// No line leads to the node that a message is for.
+    #[error("U6 NoRoute")]
+    NoRoute,
     /// The customer can't have these routes.
     #[error("U5 BadRoutes: {cause}")]
     BadRoutes {
@@ -51,7 +54,7 @@ impl<T: Drop> From<AllocFailed<T>> for HubFault {
 /// Who stopped a run.
 #[derive(Clone, Copy, Debug, PartialEq, Eq, Error)]
 pub enum Cause {
-    /// The hub refused a step, or new routes.
+    /// The hub refused a step, new routes, or an order.
     #[error("{0}")]
     Hub(HubFault),
     /// The sink refused a frame.

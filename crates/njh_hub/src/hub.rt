@@ -15,6 +15,7 @@ ghost use Rattle.njh_hub.specs.WholeHub.{part, HasLine};
 
 mod looking;
 mod new_routes;
+mod orders;
 mod reading;
 mod restoring;
 

@@ -22,13 +22,14 @@ pub fn customers_never_meet()
     ensures { CustomersNeverMeet }
 {}
 
-/// A step on another customer's line leaves a customer's part as it is, whatever becomes of the
-/// blocks that they share.
+/// A step on another customer's line, and new routes and orders of another customer, leave a
+/// customer's part as it is, whatever becomes of the blocks that they share.
 pub fn others_stay()
     ensures { OthersStay }
 {}
 
-/// A step on a customer's own line does what it does on a hub of its own, whatever the others hold.
+/// A step on a customer's own line, its new routes and an order for it do what they do on a hub of
+/// its own, whatever the others hold.
 pub fn own_step_is_own()
     ensures { OwnStepIsOwn }
 {}

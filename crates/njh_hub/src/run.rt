@@ -1,13 +1,14 @@
 //! Runs over lists of events.
 
 ghost use Rattle.std.specs.Prelude.{◌≡◌, ℕ, ◌+◌, ◌<◌, ◌≤◌, List, [], ◌∷◌, ◌⊎◌, length, slice_get, take, OnOk, OnErr};
-ghost use Rattle.std.specs.Prelude.{IfErr, IsSomeAnd, All};
+ghost use Rattle.std.specs.Prelude.{IfErr, IsSomeAnd, All, false};
 ghost use Rattle.njh_customer.specs.Feeding.{sent_on};
 ghost use Rattle.njh_customer.specs.Runs.{alone_run};
 ghost use Rattle.njh_hub.specs.OwnEvents.{events_of, event_by, sent_to, bytes_in_event};
 ghost use Rattle.njh_hub.specs.Sent.{IsCounted, sink_says};
-ghost use Rattle.njh_hub.specs.RunStops.{done, moment, Handed, IfHub, IsBehindFrame, IsEventRun, IsRefused, IsRoutes};
-ghost use Rattle.njh_hub.specs.WholeHub.{part, IsNamed, SameLines, sent_by, hub_run};
+ghost use Rattle.njh_hub.specs.RunStops.{done, moment, Handed, IfHub, IsBehindFrame, IsEventRun, IsGiven, IsRefused};
+ghost use Rattle.njh_hub.specs.RunStops.{IsRoutes, TellsWay};
+ghost use Rattle.njh_hub.specs.WholeHub.{part, HaveWays, IsNamed, IsWay, SameLines, sent_by, hub_run};
 ghost use Rattle.njh_hub.specs.declared.event.Event.TheVariants.{Bytes};
 
 use crate::event::Event;
@@ -45,7 +46,7 @@ impl Hub {
         ensures lines { SameLines self.old self.new }
 
         // When it stops, and where: every event before the stop names a line of the hub, or a
-        // customer of it with routes that aren't refused.
+        // customer of it, with an order or with routes that aren't refused.
         ensures known { OnOk result (All (IsNamed self.old) events.now) }
         ensures before { IfErr result (λ fault. All (IsNamed self.old) (take fault.events events.now)) }
         ensures few { IfErr result (λ fault. fault.events ≤ length events.now) }
@@ -54,7 +55,13 @@ impl Hub {
         ensures causes { IfErr result (λ fault. IfHub fault.cause (λ why.
             IsSomeAnd (slice_get events.now fault.events) (λ event. IsRefused self.old event why))) }
         ensures memory { IfErr result (λ fault. fault.cause ≡ Cause.Hub HubFault.Memory → (fault.bytes ≡ 0) ×
-            (IsSomeAnd (slice_get events.now fault.events) IsRoutes ⊎ All IsRoutes (take fault.events events.now))) }
+            (IsSomeAnd (slice_get events.now fault.events) IsRoutes ⊎ All IsGiven (take fault.events events.now))) }
+        // Each order that was done had a way when it came, and one that was refused for want of a
+        // way had none.
+        ensures ways { OnOk result (HaveWays self.old events.now) }
+        ensures no_way { IfErr result (λ fault. fault.cause ≡ Cause.Hub HubFault.NoRoute →
+            IsSomeAnd (slice_get events.now fault.events) (λ event.
+            IsWay (hub_run self.old (take fault.events events.now)).parts event false)) }
         // Where the hub refused an event, none of its bytes are done; where the sink refused a
         // frame, the stop is right behind the byte, or the signal, that sent it.
         ensures begun { IfErr result (λ fault. IfHub fault.cause (λ why. fault.bytes ≡ 0)) }
@@ -81,8 +88,9 @@ impl Hub {
         out: &mut Vec<u8>,
         sink: &mut S,
     ) -> Result<(), RunFault>
-        ensures { IsEventRun (sink_says S.took S.refused S.count) (moment self.old out.old sink.old) event.now result
-            (moment self.new out.new sink.new) }
+        ensures run { IsEventRun (sink_says S.took S.refused S.count) (moment self.old out.old sink.old) event.now
+            result (moment self.new out.new sink.new) }
+        ensures way { TellsWay self.old event.now result }
     {
         match event {
             Event::Bytes(line, piece) => self.run_bytes(*line, piece.bytes(), out, sink),
@@ -90,6 +98,14 @@ impl Hub {
             Event::Garbled(line) => self.run_signal(*line, Signal::Garbled, out, sink),
             Event::Lost(line) => self.run_signal(*line, Signal::Lost, out, sink),
             Event::Routes(customer, routes) => match self.set_routes(*customer, routes.routes()) {
+                Ok(()) => Ok(()),
+                Err(fault) => Err(RunFault {
+                    events: 0,
+                    bytes: 0,
+                    cause: Cause::Hub(fault),
+                }),
+            },
+            Event::Order(customer, order) => match self.order_only(*customer, order) {
                 Ok(()) => Ok(()),
                 Err(fault) => Err(RunFault {
                     events: 0,

@@ -4,7 +4,7 @@ ghost use Rattle.std.specs.Prelude.{◌≡◌};
 ghost use Rattle.njh_hub.specs.Quiets.{patience, quiet_time};
 ghost use Rattle.njh_hub.specs.Views.{session_view};
 
-use njh_line::{Phase, Session};
+use njh_line::{Phase, Refusal, Session, SessionEnd};
 use njh_table::Role;
 
 /// How many milliseconds without a byte are a quiet where the hub is to ask or to send, and where
@@ -37,6 +37,10 @@ pub struct SessionView {
     /// How many blocks were acted on where a sign-on was due and none came that fits, over all
     /// sessions of the line; the count stays at the greatest `u64`.
     pub refusals: u64,
+    /// Why the line's last session ended, if one did.
+    pub last_end: Option<SessionEnd>,
+    /// Why the last sign-on was refused, if one was. What came as a password isn't shown.
+    pub last_refusal: Option<Refusal>,
 }
 
 impl SessionView {
@@ -52,6 +56,8 @@ impl SessionView {
             next_count: session.next_count,
             last_bcb: session.last_bcb.map(|bcb| bcb.byte()),
             refusals: session.refusals,
+            last_end: session.last_end,
+            last_refusal: session.last_refusal,
         }
     }
 

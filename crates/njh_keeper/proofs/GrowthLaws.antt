@@ -1,18 +1,22 @@
--- What a step of a customer, or new routes of it, make of its files: the whole ones go on, and all of them grow.
+-- What a step of a customer, new routes of it, or an order for it, make of its files: the whole ones go on, and all of
+-- them grow.
 use Rattle.njh_keeper.proofs.Words
 use Words.{◌≡◌, ℕ, ◌<◌, ◌≤◌, ◌==◌, List, [], ◌++◌, length, Option, Some, None, refl, sym, ap, subst, ◌∙◌, append-nil}
 use Words.{arith, Kind, Stored, RouteEntry, CustomerSpool, PartialFile, max_arrived, partial_numbered, partial_records}
-use Words.{IsSound, FilesGrow, HasShortRests, entry_with, part_after_routes, outgoing, OwnSignal, IsLed, GoOnIn}
+use Words.{IsSound, FilesGrow, HasShortRests, entry_with, part_after_routes, part_after_order, outgoing, OwnSignal}
+use Words.{OwnOrder, IsLed, GoOnIn}
 use Words.{AreNumbered, get_or, count_by, Contains, recursion_from_All, AllByRecursion}
 use Words.{SpoolContents, WholeFile, AreFronts, AllGoOn, AllUpToDate, GoesOn, IsRerouted}
 use Words.{IsUpToDate, KeptPartial, OwnFiles, IsFrontWhere}
 use Rattle.njh_stream.{proofs.ReceivingLaws.find_counts, specs.Holding.unrouted_held}
-use Rattle.njh_customer.proofs.{FileListLaws.found_one, GrowingLaws.{many_go_on, quiet, partials_numbered}}
+use Rattle.njh_customer.proofs.{FileListLaws.found_one, GrowingLaws.{many_go_on, orders_grow, quiet}}
+use Rattle.njh_customer.proofs.{GrowingLaws.partials_numbered}
 use Rattle.njh_customer.proofs.{GrowingLaws.rerouted_count, RestLengths.{events_short, takes_short}}
 use Rattle.njh_customer.proofs.{StepsGrow.{signals_grow, takes_grow}, SurvivingLaws.{events_keep_files, held_still}}
 use Rattle.njh_customer.{proofs.SurvivingLaws.takes_keep_files, specs.{Growing.{HasCome, HasBecomeWhole}, Part.Part}}
 use Rattle.njh_customer.specs.{Part.{part_after_bytes, part_after_signal}, Surviving.FilesGoOn}
-use Rattle.{njh_customer.specs.declared.signal.Signal.Signal, njh_turns.specs.Keeping.{by_bytes, by_routes, by_signal}}
+use Rattle.njh_customer.specs.declared.{given_order.GivenOrder.GivenOrder, signal.Signal.Signal}
+use Rattle.njh_turns.specs.Keeping.{by_bytes, by_order, by_routes, by_signal}
 use Rattle.njh_keeper.proofs.{KnowingLaws.{front_of_whole, still_goes_on}, ListLaws.all_both, NumberedLaws.equal_to}
 use Rattle.njh_keeper.proofs.{UsesLaws.keyed_at}
 use Rattle.{njh_keeper.proofs.WalkLaws.{are_numbered, no_more_numbered, as_counted}, std.proofs.Common.⊎_elim}
@@ -20,15 +24,18 @@ use Rattle.std.proofs.{lemmas.List.Elements.{Contains-append_cases, Contains-get
 
 -- ---- a step
 
--- what holds after bytes of a line, after a signal and after new routes holds wherever the part is led
-led : (p : Part) (P : Part → Type 0) → ((l : ℕ) (piece : List ℕ) → l < length p.rests
-    → P (part_after_bytes p l piece).after) → ((l : ℕ) (signal : Signal) → P (part_after_signal p l signal).after)
-    → ((routes : List RouteEntry) → P (part_after_routes routes p)) → (after : Part) → IsLed p after → P after
-led p P behind_bytes behind_signal behind_routes after (by_bytes l piece there is) =
-    subst P (sym is) (behind_bytes l piece there)
-led p P behind_bytes behind_signal behind_routes after (by_signal l signal is) =
-    subst P (sym is) (behind_signal l signal)
-led p P behind_bytes behind_signal behind_routes after (by_routes routes is) = subst P (sym is) (behind_routes routes)
+-- What holds after bytes of a line, after a signal, after new routes and after an order holds wherever the part is led.
+record HoldsBehind (p : Part) (P : Part → Type 0) : Type 0 where
+  bytes : (l : ℕ) (piece : List ℕ) → l < length p.rests → P (part_after_bytes p l piece).after
+  signal : (l : ℕ) (signal : Signal) → P (part_after_signal p l signal).after
+  routes : (routes : List RouteEntry) → P (part_after_routes routes p)
+  order : (order : GivenOrder) → P (part_after_order order p)
+
+led : (p : Part) (P : Part → Type 0) → HoldsBehind p P → (after : Part) → IsLed p after → P after
+led p P behind after (by_bytes l piece there is) = subst P (sym is) (behind.bytes l piece there)
+led p P behind after (by_signal l signal is) = subst P (sym is) (behind.signal l signal)
+led p P behind after (by_routes routes is) = subst P (sym is) (behind.routes routes)
+led p P behind after (by_order order is) = subst P (sym is) (behind.order order)
 
 -- by new routes some files are held, and no other has come
 routes_go_on : (routes : List RouteEntry) (p : Part)
@@ -48,26 +55,36 @@ routes_go_on routes p =
 pub led_files_go_on : (p after : Part) → IsLed p after
     → after.customer.spool.arrived < max_arrived → FilesGoOn (outgoing p.customer) (outgoing after.customer)
 led_files_go_on p after =
-    led p (λ x. x.customer.spool.arrived < max_arrived → FilesGoOn (outgoing p.customer) (outgoing x.customer))
-    (takes_keep_files p) (λ l signal. events_keep_files p (OwnSignal signal l))
-    (λ routes below. routes_go_on routes p) after
+    led p (λ x. x.customer.spool.arrived < max_arrived → FilesGoOn (outgoing p.customer) (outgoing x.customer)) (record {
+      bytes = takes_keep_files p;
+      signal = λ l signal. events_keep_files p (OwnSignal signal l);
+      routes = λ routes below. routes_go_on routes p;
+      order = λ order. events_keep_files p (OwnOrder order);
+    }) after
 
 -- fewer than 1,366 records have come
 pub led_grows : (p after : Part) → IsLed p after → HasShortRests p
     → (k : ℕ) × (k < 1366) × FilesGrow k p.customer.spool after.customer.spool
 led_grows p after is_led short =
-    led p (λ x. (k : ℕ) × (k < 1366) × FilesGrow k p.customer.spool x.customer.spool)
-    (λ l piece there. takes_grow p l piece (short l))
-    (λ l signal. (0, omega arith, signals_grow p l signal)) (λ routes.
-    let entry = entry_with routes p.customer.entry in
-    let s = p.customer.spool in
-    (0, omega arith, quiet s (unrouted_held entry s) (held_still entry s.whole) refl refl)) after is_led
+    led p (λ x. (k : ℕ) × (k < 1366) × FilesGrow k p.customer.spool x.customer.spool) (record {
+      bytes = λ l piece there. takes_grow p l piece (short l);
+      signal = λ l signal. (0, omega arith, signals_grow p l signal);
+      routes = λ routes.
+          let entry = entry_with routes p.customer.entry in
+          let s = p.customer.spool in
+          (0, omega arith, quiet s (unrouted_held entry s) (held_still entry s.whole) refl refl);
+      order = λ order. (0, omega arith, orders_grow p order);
+    }) after is_led
 
 -- and of no line's next frame has more come than a text may have
 pub led_rests : (p after : Part) → IsLed p after → HasShortRests p → HasShortRests after
 led_rests p after is_led short =
-    led p HasShortRests (λ l piece there. takes_short p l piece short)
-    (λ l signal. events_short p (OwnSignal signal l) short) (λ routes. short) after is_led
+    led p HasShortRests (record {
+      bytes = λ l piece there. takes_short p l piece short;
+      signal = λ l signal. events_short p (OwnSignal signal l) short;
+      routes = λ routes. short;
+      order = λ order. short;
+    }) after is_led
 
 -- ---- the numbers of files
 

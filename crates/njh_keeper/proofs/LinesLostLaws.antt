@@ -14,7 +14,8 @@ use Rattle.njh_customer.proofs.{MarkLaws.marks_right, OrderLaws.stays_in_order, 
 use Rattle.njh_customer.specs.{Customer.{IsMarked, with_marks}, Feeding.bytes_run, InOrder.{HasAfterLosses, IsInOrder}}
 use Rattle.njh_customer.specs.{InOrder.{IsWithinQuota, after_losses, losses}, NewRoutes.{routes_given, taken_where}}
 use Rattle.njh_customer.specs.{OutgoingFiles.sender_on, Part.{Part, part_at_open, rest_on}, Runs.{OwnEvent, OwnBytes}}
-use Rattle.{njh_customer.specs.Runs.{OwnRoutes, alone_run, event_run}, njh_hub.proofs.RestoredLaws.headers_by}
+use Rattle.{njh_customer.specs.Runs.{OwnOrder, OwnRoutes, alone_run, event_run}}
+use Rattle.{njh_hub.proofs.RestoredLaws.headers_by}
 use Rattle.{njh_turns.specs.Keeping.kept_files, njh_keeper.proofs.IdleLines.{bare_lines, marks_off, no_rests}}
 use Rattle.njh_keeper.proofs.IdleLines.{fresh_down, opened_line, rest_past, same_rests, senders_idle, set_up_by}
 use Rattle.njh_keeper.proofs.{IdleLines.set_up_of, LeftLaws.{found_all, some_of}, OpenedLaws.{fits_in, put_back}}
@@ -71,6 +72,7 @@ event_rests : (p : Part) (event : OwnEvent) → length (event_run p event).after
 event_rests p (OwnBytes l piece) = length-set p.rests l (bytes_run (rest_on l p) p.customer l piece).rest
 event_rests p (OwnSignal signal l) = length-set p.rests l Nothing
 event_rests p (OwnRoutes routes) = given_rests routes p
+event_rests p (OwnOrder order) = refl
 
 goes : (events : List OwnEvent) (p : Part) → IsInOrder p.customer → IsMarked p.customer
     → Goes p (alone_run p events).after

@@ -40,7 +40,8 @@ pub use Rattle.{njh_stream.specs.WholeFiles.HaveHeaders, njh_line.specs.{declare
 pub use Rattle.{njh_line.specs.Sessions.fresh, njh_customer.specs.Customer.{config_of, CustomerLine, idle_line}}
 pub use Rattle.njh_customer.specs.{Customer.{line_at, no_customer_line}, Growing.{FilesGrow, HasShortRests}}
 pub use Rattle.njh_customer.specs.{InOrder.{IsIdle, phase_of}, NewRoutes.{entry_with, part_after_routes}}
-pub use Rattle.njh_customer.specs.{OutgoingFiles.outgoing, Part.rest_at, Runs.OwnSignal}
+pub use Rattle.njh_customer.specs.{Orders.part_after_order, OutgoingFiles.outgoing, Part.rest_at}
+pub use Rattle.njh_customer.specs.Runs.{OwnOrder, OwnSignal}
 pub use Rattle.njh_customer.specs.Surviving.{IsRerouted, IsStill, leaves, none, Survive}
 pub use Rattle.njh_hub.specs.{declared.file_summary.FileSummaryView.FileSummaryView, Files.said_destination}
 pub use Rattle.njh_hub.specs.{Restored.part_with_file, Views.file_summary, WholeHub.{no_part, Part, part, part_at_open}}

@@ -1,5 +1,5 @@
 -- Which inputs are answered.
-use Rattle.std.proofs.Common.{◌≡◌, ℕ, ◌+◌, Bool, true, false, cond, ◌==◌, Option, Some, None, refl, sym, subst, ◌∙◌}
+use Rattle.std.proofs.Common.{◌≡◌, ℕ, ◌+◌, Bool, true, false, cond, ◌==◌, Result, Ok, Err, refl, sym, subst, ◌∙◌}
 use Rattle.njh_bisync.specs.declared.frame.Control.TheVariants as control
 use Rattle.njh_header.specs.SignOns.{SignOn}
 use Rattle.njh_line.specs.declared.Phase.{Phase}
@@ -10,6 +10,9 @@ use Rattle.njh_table.specs.declared.Role.TheVariants as role
 use Rattle.njh_line.specs.declared.counts.Counted.{Counted}
 use Rattle.njh_line.specs.declared.counts.Counted.TheVariants.{Acts, Repeats, OutOfSequence}
 use Rattle.njh_line.specs.declared.opening.Opening.TheVariants.{Initial, Response}
+use Rattle.njh_line.specs.declared.ending.SessionEnd.{SessionEnd}
+use Rattle.njh_line.specs.declared.ending.SessionEnd.TheVariants as why
+use Rattle.njh_line.specs.declared.refusal.Refusal.{Refusal}
 use Rattle.njh_line.specs.declared.session.Session.{Session}
 use Rattle.njh_line.specs.declared.table.SessionOutcome.{SessionOutcome}
 use Rattle.njh_line.specs.declared.verdict.LineReply.{LineReply}
@@ -35,8 +38,8 @@ still o quiet acts = absurd (cc (sym quiet ∙ acts))
 tries : (r : LineReply) (s : Session) → IsAnswered (try_with r s)
 tries r s = at_test (s.tries == 5)
   where
-    at_test : (b : Bool) → IsAnswered (cond b (end s) (with_reply r (record s { tries = s.tries + 1 })))
-    at_test true = still (end s) refl
+    at_test : (b : Bool) → IsAnswered (cond b (end why.Tries s) (with_reply r (record s { tries = s.tries + 1 })))
+    at_test true = still (end why.Tries s) refl
     at_test false = still (with_reply r (record s { tries = s.tries + 1 })) refl
 
 in_turn : (s : Session) → IsAnswered (next_in_turn s)
@@ -58,9 +61,9 @@ calls : (r : Role) (s : Session) → IsAnswered (call r s)
 calls role.Call s = still (call role.Call s) refl
 calls role.Answer s = still (none s) refl
 
-signs_on : (r : LineReply) (line : Config) (o : Option SignOn) (s : Session) → IsAnswered (signed_on r line o s)
-signs_on r line (Some x) s = still (signed_on r line (Some x) s) refl
-signs_on r line None s = still (refuse s) refl
+signs_on : (r : LineReply) (line : Config) (o : Result SignOn Refusal) (s : Session) → IsAnswered (signed_on r line o s)
+signs_on r line (Ok x) s = still (signed_on r line (Ok x) s) refl
+signs_on r line (Err refusal) s = still (refuse refusal s) refl
 
 by_counts : (bcb : ℕ) (fcs : ℕ × ℕ) (acted : Session → SessionOutcome) (s : Session)
     → IsAnswered (acted (after_acting bcb fcs s))
@@ -72,11 +75,11 @@ by_counts bcb fcs acted s answered = at_count (count_verdict s.last_bcb bcb)
         → IsAnswered (elim n [
           | Acts ↦ acted (after_acting bcb fcs s)
           | Repeats ↦ try_again s
-          | OutOfSequence ↦ end_with (reply.Sequence (0x80 + expected_count s.last_bcb)) s
+          | OutOfSequence ↦ end_with why.OutOfSequence (reply.Sequence (0x80 + expected_count s.last_bcb)) s
         ])
     at_count Acts = answered
     at_count Repeats = tries reply.Again s
-    at_count OutOfSequence = still (end_with (reply.Sequence (0x80 + expected_count s.last_bcb)) s) refl
+    at_count OutOfSequence = still (end_with why.OutOfSequence (reply.Sequence (0x80 + expected_count s.last_bcb)) s) refl
 
 in_row :
     (p : Phase) (down calling answered sent_i up : SessionOutcome) → IsAnswered down → IsAnswered calling
@@ -94,11 +97,12 @@ disregarded s =
     in_row s.phase (none s) (none s) (try_nak s) (try_nak s) (try_nak s) (still (none s) refl) (still (none s) refl) nak
     nak nak
 
-hung_up : (s : Session) → IsAnswered (cell s.phase (none s) (hang_up s) (hang_up s) (hang_up s) (end s))
-hung_up s =
-    in_row s.phase (none s) (hang_up s) (hang_up s) (hang_up s) (end s) (still (none s) refl) (still (hang_up s) refl)
+hung_up : (s : Session) (e : SessionEnd)
+    → IsAnswered (cell s.phase (none s) (hang_up s) (hang_up s) (hang_up s) (end e s))
+hung_up s e =
+    in_row s.phase (none s) (hang_up s) (hang_up s) (hang_up s) (end e s) (still (none s) refl) (still (hang_up s) refl)
     (still (hang_up s) refl)
-    (still (hang_up s) refl) (still (end s) refl)
+    (still (hang_up s) refl) (still (end e s) refl)
 
 pub acting_is_answered : ActingIsAnswered
 unfolding table_outcome
@@ -114,8 +118,8 @@ acting_is_answered line s input.Nak =
     let again = tries reply.Again s in
     in_row s.phase (none s) (none s) (try_again s) (try_again s) (try_again s) (still (none s) refl)
     (still (none s) refl) again again again
-acting_is_answered line s input.Eot = hung_up s
-acting_is_answered line s input.Lost = hung_up s
+acting_is_answered line s input.Eot = hung_up s why.Eot
+acting_is_answered line s input.Lost = hung_up s why.Lost
 acting_is_answered line s (input.Block bcb fcs first) =
     let t = after_acting bcb fcs s in
     in_row s.phase (none s) (none s) (by_count bcb fcs (i_sign_on line first) s)
@@ -156,9 +160,9 @@ down_stays_down line s input.Ack0 down = at_down s (none s) (i_block s) (none s)
     (does_nothing refl down)
 down_stays_down line s input.Nak down = at_down s (none s) (none s) (try_again s) (try_again s) (try_again s) down
     (does_nothing refl down)
-down_stays_down line s input.Eot down = at_down s (none s) (hang_up s) (hang_up s) (hang_up s) (end s) down
+down_stays_down line s input.Eot down = at_down s (none s) (hang_up s) (hang_up s) (hang_up s) (end why.Eot s) down
     (does_nothing refl down)
-down_stays_down line s input.Lost down = at_down s (none s) (hang_up s) (hang_up s) (hang_up s) (end s) down
+down_stays_down line s input.Lost down = at_down s (none s) (hang_up s) (hang_up s) (hang_up s) (end why.Lost s) down
     (does_nothing refl down)
 down_stays_down line s (input.Block bcb fcs first) down =
     at_down s (none s) (none s) (by_count bcb fcs (i_sign_on line first) s) (by_count bcb fcs (j_sign_on line first) s)

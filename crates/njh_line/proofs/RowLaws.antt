@@ -5,6 +5,7 @@ use Rattle.njh_line.specs.declared.Phase.TheVariants.{Down, Calling, Answered, S
 use Rattle.njh_line.specs.declared.config.Config.{Config}
 use Rattle.njh_line.specs.declared.counts.Counted.{Counted}
 use Rattle.njh_line.specs.declared.counts.Counted.TheVariants.{Acts, Repeats, OutOfSequence}
+use Rattle.njh_line.specs.declared.ending.SessionEnd.TheVariants as why
 use Rattle.njh_line.specs.declared.session.Session.{Session}
 use Rattle.njh_line.specs.declared.table.SessionOutcome.{SessionOutcome}
 use Rattle.njh_line.specs.declared.verdict.LineReply.TheVariants.{Sequence}
@@ -52,7 +53,7 @@ pub acts : (line : Config) (bcb : ℕ) (fcs : ℕ × ℕ) (first : First) (s : S
 unfolding table_outcome
 acts line bcb fcs first s e f =
     let k = count_verdict s.last_bcb bcb in
-    where_acts k _ (try_again s) (end_with (Sequence (0x80 + expected_count s.last_bcb)) s) f
+    where_acts k _ (try_again s) (end_with why.OutOfSequence (Sequence (0x80 + expected_count s.last_bcb)) s) f
     ∙ in_row s.phase k _ _ _ _ _ _ _ _ _ e
 
 pub repeats : (line : Config) (bcb : ℕ) (fcs : ℕ × ℕ) (first : First) (s : Session) → in_session s.phase ≡ true →
@@ -61,13 +62,13 @@ unfolding table_outcome
 repeats line bcb fcs first s e f =
     let k = count_verdict s.last_bcb bcb in
     where_repeats k (acting line first (after_acting bcb fcs s)) _
-    (end_with (Sequence (0x80 + expected_count s.last_bcb)) s) f
+    (end_with why.OutOfSequence (Sequence (0x80 + expected_count s.last_bcb)) s) f
     ∙ in_row s.phase k _ _ _ _ _ _ _ _ _ e
 
 pub is_out_of_sequence : (line : Config) (bcb : ℕ) (fcs : ℕ × ℕ) (first : First) (s : Session)
     → in_session s.phase ≡ true →
     count_verdict s.last_bcb bcb ≡ OutOfSequence
-    → end_with (Sequence (0x80 + expected_count s.last_bcb)) s ≡ table_outcome line (Block bcb fcs first) s
+    → end_with why.OutOfSequence (Sequence (0x80 + expected_count s.last_bcb)) s ≡ table_outcome line (Block bcb fcs first) s
 unfolding table_outcome
 is_out_of_sequence line bcb fcs first s e f =
     let k = count_verdict s.last_bcb bcb in

@@ -1,5 +1,5 @@
 -- Laws of the line table, row by row.
-use Rattle.std.proofs.Common.{◌≡◌, ◌≤◌, ◌<◌, ℕ, ◌+◌, Bool, true, false, Option, Some, None, cond, ◌==◌, refl, sym}
+use Rattle.std.proofs.Common.{◌≡◌, ◌≤◌, ◌<◌, ℕ, ◌+◌, Bool, true, false, None, Result, Ok, Err, cond, ◌==◌, refl, sym}
 use Rattle.std.proofs.Common.{subst, arith, eq-eqb}
 use Rattle.std.proofs.lemmas.Bool.{ne_eqb}
 use Rattle.njh_bisync.specs.declared.frame.Control.TheVariants as control
@@ -11,6 +11,8 @@ use Rattle.njh_table.specs.declared.Role.{Role}
 use Rattle.njh_table.specs.declared.Role.TheVariants.{Call, Answer}
 use Rattle.njh_line.specs.declared.counts.Counted.{Counted}
 use Rattle.njh_line.specs.declared.counts.Counted.TheVariants.{Acts, Repeats, OutOfSequence}
+use Rattle.njh_line.specs.declared.ending.SessionEnd.TheVariants as why
+use Rattle.njh_line.specs.declared.refusal.Refusal.{Refusal}
 use Rattle.njh_line.specs.declared.session.Session.{Session}
 use Rattle.njh_line.specs.declared.table.SessionOutcome.{SessionOutcome}
 use Rattle.njh_line.specs.declared.verdict.LineReply.{LineReply}
@@ -58,7 +60,7 @@ not_five : (n : ℕ) → n < 5 → (n == 5) ≡ false
 not_five n h = ne_eqb n 5 (λ e. omega arith)
 
 try_moves : (five : Bool) (reply : LineReply) (s : Session) → five ≡ false
-    → MovesTriesAlone s (cond five (end s) (with_reply reply (record s { tries = s.tries + 1 })))
+    → MovesTriesAlone s (cond five (end why.Tries s) (with_reply reply (record s { tries = s.tries + 1 })))
 try_moves true reply s e = clash true refl e
 try_moves false reply s e = record { session = refl; ended = refl; acts = refl }
 
@@ -84,19 +86,19 @@ stays line s Bad e h = disregarded s.phase _ s h
 stays line s (Block bcb fcs first) e h = clash false e refl
 
 fifth_try : (five : Bool) (reply : LineReply) (s : Session) → five ≡ true
-    → cond five (end s) (with_reply reply (record s { tries = s.tries + 1 })) ≡ end s
+    → cond five (end why.Tries s) (with_reply reply (record s { tries = s.tries + 1 })) ≡ end why.Tries s
 fifth_try true reply s e = refl
 fifth_try false reply s e = clash false e refl
 
 fifth : (p : Phase) (reply : LineReply) (s : Session) → in_session p ≡ true → s.tries ≡ 5
-    → cell p (none s) (none s) (try_with reply s) (try_with reply s) (try_with reply s) ≡ end s
+    → cell p (none s) (none s) (try_with reply s) (try_with reply s) (try_with reply s) ≡ end why.Tries s
 fifth p reply s i h =
     let try = fifth_try (s.tries == 5) reply s (eq-eqb s.tries 5 h) in
-    inside (λ q x. x ≡ end s) p _ _ _ _ _ i try try try
+    inside (λ q x. x ≡ end why.Tries s) p _ _ _ _ _ i try try try
 
 pub ends : (line : Config) (s : Session) (input : Input) → is_disregarded input ≡ true → in_session s.phase ≡ true
     → s.tries ≡ 5
-    → table_outcome line input s ≡ end s
+    → table_outcome line input s ≡ end why.Tries s
 unfolding table_outcome
 ends line s Enquiry e i h = clash false e refl
 ends line s Ack0 e i h = clash false e refl
@@ -126,7 +128,7 @@ abbrev KeepsTries : Session → SessionOutcome → Type 0
 KeepsTries s x = x.verdict.ended ≡ false → s.tries ≤ x.session.tries
 
 try_rises : (five : Bool) (reply : LineReply) (s : Session)
-    → s.tries ≤ (cond five (end s) (with_reply reply (record s { tries = s.tries + 1 }))).session.tries
+    → s.tries ≤ (cond five (end why.Tries s) (with_reply reply (record s { tries = s.tries + 1 }))).session.tries
 try_rises true reply s = omega arith
 try_rises false reply s = omega arith
 
@@ -137,7 +139,7 @@ wait_rises false s = try_rises (s.tries == 5) _ s
 
 count_rises : (k : Counted) (acted : SessionOutcome) (reply : LineReply) (s : Session) → is_acting k ≡ false
     → s.tries ≤ (elim k as (λ x. SessionOutcome)
-    [ Acts ↦ acted | Repeats ↦ try_again s | OutOfSequence ↦ end_with reply s ]).session.tries
+    [ Acts ↦ acted | Repeats ↦ try_again s | OutOfSequence ↦ end_with why.OutOfSequence reply s ]).session.tries
 count_rises Acts acted reply s e = clash true refl e
 count_rises Repeats acted reply s e = try_rises (s.tries == 5) Again s
 count_rises OutOfSequence acted reply s e = omega arith
@@ -184,7 +186,7 @@ abbrev KeepsLast : Session → SessionOutcome → Type 0
 KeepsLast s x = x.session.last_bcb ≡ s.last_bcb
 
 try_last : (five : Bool) (reply : LineReply) (s : Session)
-    → KeepsLast s (cond five (end s) (with_reply reply (record s { tries = s.tries + 1 })))
+    → KeepsLast s (cond five (end why.Tries s) (with_reply reply (record s { tries = s.tries + 1 })))
 try_last true reply s = refl
 try_last false reply s = refl
 
@@ -199,17 +201,17 @@ trying_last p reply s =
     let try = try_last (s.tries == 5) reply s in
     every (λ q x. KeepsLast s x) p _ _ _ _ _ refl refl try try try
 
-sign_on_last : (reply : LineReply) (line : Config) (x : Option SignOn) (next : Session)
+sign_on_last : (reply : LineReply) (line : Config) (x : Result SignOn Refusal) (next : Session)
     → KeepsLast next (signed_on reply line x next)
-sign_on_last reply line None next = refl
-sign_on_last reply line (Some x) next = refl
+sign_on_last reply line (Ok x) next = refl
+sign_on_last reply line (Err refusal) next = refl
 
 count_last : (k : Counted) (acted : SessionOutcome) (reply : LineReply) (bcb : ℕ) (fcs : ℕ × ℕ) (s : Session)
     → KeepsLast (after_acting bcb fcs s) acted
     → (elim k as (λ x. SessionOutcome) [
       | Acts ↦ acted
       | Repeats ↦ try_again s
-      | OutOfSequence ↦ end_with reply s
+      | OutOfSequence ↦ end_with why.OutOfSequence reply s
     ]).session.last_bcb
     ≡ last_bcb_by k bcb s.last_bcb
 count_last Acts acted reply bcb fcs s e = e

@@ -1,6 +1,6 @@
 -- A line that is up stays so until its session ends, and then it isn't. Records act, and the next block goes, only
 -- where it is up.
-use Rattle.std.proofs.Common.{◌≡◌, ℕ, ◌+◌, Bool, true, false, cond, ◌==◌, Option, Some, None, refl, sym, ap, ◌∙◌}
+use Rattle.std.proofs.Common.{◌≡◌, ℕ, ◌+◌, Bool, true, false, cond, ◌==◌, Result, Ok, Err, refl, sym, ap, ◌∙◌}
 use Rattle.njh_bisync.specs.declared.frame.Control.TheVariants as control
 use Rattle.njh_header.specs.SignOns.{SignOn}
 use Rattle.njh_line.specs.declared.Phase.{Phase}
@@ -11,6 +11,9 @@ use Rattle.njh_table.specs.declared.Role.TheVariants as role
 use Rattle.njh_line.specs.declared.counts.Counted.{Counted}
 use Rattle.njh_line.specs.declared.counts.Counted.TheVariants.{Acts, Repeats, OutOfSequence}
 use Rattle.njh_line.specs.declared.opening.Opening.TheVariants.{Initial, Response}
+use Rattle.njh_line.specs.declared.ending.SessionEnd.{SessionEnd}
+use Rattle.njh_line.specs.declared.ending.SessionEnd.TheVariants as why
+use Rattle.njh_line.specs.declared.refusal.Refusal.{Refusal}
 use Rattle.njh_line.specs.declared.session.Session.{Session}
 use Rattle.njh_line.specs.declared.table.SessionOutcome.{SessionOutcome}
 use Rattle.njh_line.specs.declared.verdict.LineReply.{LineReply}
@@ -73,8 +76,8 @@ module _ (s : Session) where
   tries : (r : LineReply) → is_next r ≡ false → Follows s.phase (try_with r s)
   tries r quiet = at (s.tries == 5)
     where
-      at : (b : Bool) → Follows s.phase (cond b (end s) (with_reply r (record s { tries = s.tries + 1 })))
-      at true = ends (end s) refl (refl, refl) refl
+      at : (b : Bool) → Follows s.phase (cond b (end why.Tries s) (with_reply r (record s { tries = s.tries + 1 })))
+      at true = ends (end why.Tries s) refl (refl, refl) refl
       at false = as_far (with_reply r (record s { tries = s.tries + 1 })) refl (refl, quiet) refl
 
   in_turn : is_up s.phase ≡ true → Follows s.phase (next_in_turn s)
@@ -96,10 +99,10 @@ module _ (s : Session) where
   over_by_role role.Call = ends (end_and_contact role.Call s) refl (refl, refl) refl
   over_by_role role.Answer = ends (end_and_contact role.Answer s) refl (refl, refl) refl
 
-  signed : (r : LineReply) (config : Config) (o : Option SignOn) (t : Session) → is_up s.phase ≡ false
+  signed : (r : LineReply) (config : Config) (o : Result SignOn Refusal) (t : Session) → is_up s.phase ≡ false
       → Follows s.phase (signed_on r config o t)
-  signed r config (Some x) t down = is_up_then (signed_on r config (Some x) t) refl refl
-  signed r config None t down = low (refuse t) refl (refl, refl) down
+  signed r config (Ok x) t down = is_up_then (signed_on r config (Ok x) t) refl refl
+  signed r config (Err refusal) t down = low (refuse refusal t) refl (refl, refl) down
 
   by_counts : (bcb : ℕ) (fcs : ℕ × ℕ) (acted : Session → SessionOutcome)
       → Follows s.phase (acted (after_acting bcb fcs s)) → Follows s.phase (by_count bcb fcs acted s)
@@ -110,11 +113,12 @@ module _ (s : Session) where
           → Follows s.phase (elim n [
             | Acts ↦ acted (after_acting bcb fcs s)
             | Repeats ↦ try_again s
-            | OutOfSequence ↦ end_with (reply.Sequence (0x80 + expected_count s.last_bcb)) s
+            | OutOfSequence ↦ end_with why.OutOfSequence (reply.Sequence (0x80 + expected_count s.last_bcb)) s
           ])
       at Acts = acts
       at Repeats = tries reply.Again refl
-      at OutOfSequence = ends (end_with (reply.Sequence (0x80 + expected_count s.last_bcb)) s) refl (refl, refl) refl
+      at OutOfSequence =
+          ends (end_with why.OutOfSequence (reply.Sequence (0x80 + expected_count s.last_bcb)) s) refl (refl, refl) refl
 
   in_row : (down calling answered sent_i up : SessionOutcome) → (is_up s.phase ≡ false → Follows s.phase down)
       → (is_up s.phase ≡ false → Follows s.phase calling) → (is_up s.phase ≡ false → Follows s.phase answered)
@@ -140,9 +144,9 @@ module _ (s : Session) where
       let nak = tries (reply.Control control.Nak) refl in
       in_row (none s) (none s) (try_nak s) (try_nak s) (try_nak s) nothing nothing (λ _. nak) (λ _. nak) (λ _. nak)
 
-  hung_up : Follows s.phase (cell s.phase (none s) (hang_up s) (hang_up s) (hang_up s) (end s))
-  hung_up = in_row (none s) (hang_up s) (hang_up s) (hang_up s) (end s) nothing gone gone gone
-      (λ _. ends (end s) refl (refl, refl) refl)
+  hung_up : (e : SessionEnd) → Follows s.phase (cell s.phase (none s) (hang_up s) (hang_up s) (hang_up s) (end e s))
+  hung_up e = in_row (none s) (hang_up s) (hang_up s) (hang_up s) (end e s) nothing gone gone gone
+      (λ _. ends (end e s) refl (refl, refl) refl)
 
 table_follows : (config : Config) (came : Input) (s : Session) → Follows s.phase (table_outcome config came s)
 unfolding table_outcome
@@ -158,8 +162,8 @@ table_follows config input.Nak s =
     let again = tries s reply.Again refl in
     in_row s (none s) (none s) (try_again s) (try_again s) (try_again s) (nothing s) (nothing s) (λ _. again)
     (λ _. again) (λ _. again)
-table_follows config input.Eot s = hung_up s
-table_follows config input.Lost s = hung_up s
+table_follows config input.Eot s = hung_up s why.Eot
+table_follows config input.Lost s = hung_up s why.Lost
 table_follows config (input.Block bcb fcs first) s =
     let t = after_acting bcb fcs s in
     in_row s (none s) (none s) (by_count bcb fcs (i_sign_on config first) s)

@@ -1,18 +1,15 @@
 -- What holds of the line table.
-use Rattle.std.specs.Prelude.{ℕ, ◌≡◌, ◌==◌, ◌&&◌, Bool, true, false, Option, Some, cond, is_none}
+use Rattle.std.specs.Prelude.{ℕ, ◌≡◌, ◌==◌, Bool, true, false, Option, Some, cond}
 use Rattle.njh_line.specs.declared.Phase.{Phase}
-use Rattle.njh_line.specs.declared.Phase.TheVariants.{Answered, SentI, Up}
+use Rattle.njh_line.specs.declared.Phase.TheVariants.{Up}
 use Rattle.njh_line.specs.declared.config.Config.{Config}
 use Rattle.njh_line.specs.declared.counts.Counted.{Counted}
 use Rattle.njh_line.specs.declared.counts.Counted.TheVariants.{Acts}
-use Rattle.njh_line.specs.declared.opening.Opening.TheVariants.{Initial, Response}
 use Rattle.njh_line.specs.declared.session.Session.{Session}
 use Rattle.njh_line.specs.declared.table.SessionOutcome.{SessionOutcome}
 use Rattle.njh_line.specs.Counts.{count_verdict, bcb_type}
 use Rattle.njh_line.specs.LineTable.{Input, Ack0, Garbled, Spoiled, Bad, Block}
 use Rattle.njh_line.specs.Lines.{LineState}
-use Rattle.njh_line.specs.Openings.{First, fitting}
-use Rattle.njh_line.specs.Sessions.{one_refusal_more}
 
 -- a text to be disregarded, a text that is no block, and a block whose check failed
 abbrev pub is_disregarded : Input → Bool
@@ -22,7 +19,7 @@ is_disregarded Garbled = true
 is_disregarded _ = false
 
 -- Nothing of the session moved but its tries: not its phase, turn, BCB, count, size, either FCS, nor the count of
--- refusals. It goes on, and no record acts.
+-- refusals, nor why the last session ended or was refused. It goes on, and no record acts.
 pub record MovesTriesAlone (s : Session) (x : SessionOutcome) : Type 0 where
   pub session : x.session ≡ record s { tries = x.session.tries }
   pub ended : x.verdict.ended ≡ false
@@ -57,19 +54,3 @@ last_bcb_by _ bcb last = last
 abbrev pub last_bcb_after : Input → Session → Option ℕ
 last_bcb_after (Block bcb fcs first) s = last_bcb_by (count_verdict s.last_bcb bcb) bcb s.last_bcb
 last_bcb_after _ s = s.last_bcb
-
--- whether a sign-on is due in a phase, and a block's first record is none that fits
-abbrev pub lacks_sign_on : Phase → Config → First → Bool
-lacks_sign_on Answered line first = is_none (fitting Initial line first)
-lacks_sign_on SentI line first = is_none (fitting Response line first)
-lacks_sign_on _ line first = false
-
--- whether an input is a block that is acted on, and lacks the sign-on that is due
-abbrev pub is_refused : Config → Input → Session → Bool
-is_refused line (Block bcb fcs first) s =
-    lacks_sign_on s.phase line first && is_acting (count_verdict s.last_bcb bcb)
-is_refused line _ s = false
-
--- how many were refused, once an input came
-abbrev pub refusals_after : Config → Input → Session → ℕ
-refusals_after line input s = cond (is_refused line input s) (one_refusal_more s.refusals) s.refusals

@@ -1,5 +1,5 @@
 -- The line table (IBM GA27-3004): what each input does in each phase, and which frame answers it.
-use Rattle.std.specs.Prelude.{ℕ, ◌+◌, true, false, min, Option, Some, None, ◌==◌, cond}
+use Rattle.std.specs.Prelude.{ℕ, ◌+◌, true, false, min, Result, Ok, Err, ◌==◌, cond}
 use Rattle.njh_bisync.specs.declared.frame.Control.TheVariants as control
 use Rattle.njh_header.specs.SignOns.{SignOn}
 use Rattle.njh_line.specs.declared.Phase.{Phase}
@@ -8,9 +8,12 @@ use Rattle.njh_line.specs.declared.config.Config.{Config}
 use Rattle.njh_table.specs.declared.Role.{Role}
 use Rattle.njh_table.specs.declared.Role.TheVariants.{Call, Answer}
 use Rattle.njh_line.specs.declared.counts.Counted.TheVariants.{Acts, Repeats, OutOfSequence}
+use Rattle.njh_line.specs.declared.ending.SessionEnd.{SessionEnd}
+use Rattle.njh_line.specs.declared.ending.SessionEnd.TheVariants as ends
 use Rattle.njh_line.specs.declared.input.Input as declared_input
 use Rattle.njh_line.specs.declared.input.Input.TheVariants as came
 use Rattle.njh_line.specs.declared.opening.Opening.TheVariants.{Initial, Response}
+use Rattle.njh_line.specs.declared.refusal.Refusal.{Refusal}
 use Rattle.njh_line.specs.declared.session.Session.{Session}
 use Rattle.njh_line.specs.declared.table.SessionOutcome.{SessionOutcome}
 use Rattle.njh_line.specs.declared.verdict.LineReply.{LineReply}
@@ -18,7 +21,7 @@ use Rattle.njh_line.specs.declared.verdict.LineReply.TheVariants.{Nothing, Contr
 use Rattle.njh_line.specs.declared.verdict.LineReply.TheVariants.{Next, Sequence}
 use Rattle.njh_line.specs.Counts.{count_verdict, expected_count, after_acting}
 use Rattle.njh_line.specs.Openings.{First, fitting, shown_first}
-use Rattle.njh_line.specs.Sessions.{entered_session, acknowledged_session, down_session, refused_session}
+use Rattle.njh_line.specs.Sessions.{entered_session, acknowledged_session, down_session, ended_session, refused_session}
 
 -- What comes to a line.
 pub data Input : Type 0 where
@@ -64,16 +67,17 @@ ack0 s = with_reply (Control control.Ack0) s
 abbrev pub hang_up : Session → SessionOutcome
 hang_up s = none (down_session s)
 
--- the session ends, and something or nothing is sent for it
-abbrev pub end_with : LineReply → Session → SessionOutcome
-end_with reply s = record { session = down_session s; verdict = record { ended = true; acts = false; reply = reply } }
+-- the session ends so, and something or nothing is sent for it
+abbrev pub end_with : SessionEnd → LineReply → Session → SessionOutcome
+end_with why reply s =
+    record { session = ended_session why s; verdict = record { ended = true; acts = false; reply = reply } }
 
-abbrev pub end : Session → SessionOutcome
-end s = end_with Nothing s
+abbrev pub end : SessionEnd → Session → SessionOutcome
+end why s = end_with why Nothing s
 
 -- a try: five at the most
 abbrev pub try_with : LineReply → Session → SessionOutcome
-try_with reply s = cond (s.tries == 5) (end s) (with_reply reply (record s { tries = s.tries + 1 }))
+try_with reply s = cond (s.tries == 5) (end ends.Tries s) (with_reply reply (record s { tries = s.tries + 1 }))
 
 abbrev pub try_again : Session → SessionOutcome
 try_again s = try_with Again s
@@ -89,7 +93,7 @@ contact Answer s = ack0 (entered_session Answered s)
 -- the session ends, and the peer calls
 abbrev pub end_and_contact : Role → Session → SessionOutcome
 end_and_contact role s =
-    let x = contact role (down_session s) in
+    let x = contact role (ended_session ends.Contact s) in
     record { session = x.session; verdict = record x.verdict { ended = true } }
 
 -- the end that calls does
@@ -115,17 +119,17 @@ by_count bcb fcs acted s =
     elim (count_verdict s.last_bcb bcb) [
       | Acts ↦ acted (after_acting bcb fcs s)
       | Repeats ↦ try_again s
-      | OutOfSequence ↦ end_with (Sequence (0x80 + expected_count s.last_bcb)) s
+      | OutOfSequence ↦ end_with ends.OutOfSequence (Sequence (0x80 + expected_count s.last_bcb)) s
     ]
 
 -- none came that fits where a sign-on was due
-abbrev pub refuse : Session → SessionOutcome
-refuse s = none (refused_session s)
+abbrev pub refuse : Refusal → Session → SessionOutcome
+refuse why s = none (refused_session why s)
 
--- a sign-on that fits, or none that does
-abbrev pub signed_on : LineReply → Config → Option SignOn → Session → SessionOutcome
-signed_on reply line (Some x) s = with_reply reply (record s { phase = Up; size = min line.block x.block })
-signed_on reply line None s = refuse s
+-- a sign-on that fits, or why none does
+abbrev pub signed_on : LineReply → Config → Result SignOn Refusal → Session → SessionOutcome
+signed_on reply line (Ok x) s = with_reply reply (record s { phase = Up; size = min line.block x.block })
+signed_on reply line (Err why) s = refuse why s
 
 -- an I that fits: the J block
 abbrev pub i_sign_on : Config → First → Session → SessionOutcome
@@ -161,8 +165,8 @@ unfoldable pub table_outcome : Config → Input → Session → SessionOutcome
 table_outcome line Enquiry s = row (contact line.role) none ack0 none (end_and_contact line.role) s
 table_outcome line Ack0 s = row none i_block none none next_or_turn s
 table_outcome line Nak s = row none none try_again try_again try_again s
-table_outcome line Eot s = row none hang_up hang_up hang_up end s
-table_outcome line Lost s = row none hang_up hang_up hang_up end s
+table_outcome line Eot s = row none hang_up hang_up hang_up (end ends.Eot) s
+table_outcome line Lost s = row none hang_up hang_up hang_up (end ends.Lost) s
 table_outcome line (Block bcb fcs first) s =
     row none none (by_count bcb fcs (i_sign_on line first)) (by_count bcb fcs (j_sign_on line first))
     (by_count bcb fcs act) s

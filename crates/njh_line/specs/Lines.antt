@@ -3,11 +3,12 @@ use Rattle.std.specs.Prelude.{ℕ, ◌+◌, ◌%◌, ◌≤◌, true, false, Lis
 use Rattle.njh_bisync.specs.Limits.{longest_frame}
 use Rattle.njh_line.specs.declared.config.Config.{Config}
 use Rattle.njh_block.specs.declared.answer.Answer.{Answer}
+use Rattle.njh_line.specs.declared.ending.SessionEnd.{SessionEnd}
 use Rattle.njh_line.specs.declared.sent.Sent as declared_sent
 use Rattle.njh_line.specs.declared.sent.Sent.TheVariants as went
 use Rattle.njh_line.specs.declared.session.Session.{Session}
 use Rattle.njh_line.specs.LineTable.{Input, table_outcome}
-use Rattle.njh_line.specs.Sessions.{fresh, down_session}
+use Rattle.njh_line.specs.Sessions.{fresh, ended_session}
 
 -- how many answers may wait: the product's own limit
 abbrev pub max_answers : ℕ
@@ -76,9 +77,9 @@ after_sending Again line = with_session (without_turn line.session) line
 after_sending (Block frame fcs) line = record line { session = with_block_count fcs line.session; last = frame }
 after_sending (Frame frame) line = record line { session = without_turn line.session; last = frame }
 
--- a record ended the session
-abbrev pub after_end : LineState → LineState
-after_end line = with_session (down_session line.session) line
+-- a record ended the session so
+abbrev pub after_end : SessionEnd → LineState → LineState
+after_end end line = with_session (ended_session end line.session) line
 
 -- an answer waits, where there is room for it
 abbrev pub with_answer : Answer → LineState → LineState

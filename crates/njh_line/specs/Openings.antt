@@ -1,5 +1,5 @@
 -- The sign-ons of a session (IBM SC23-0070): I of the end that calls, J of the one that answers.
-use Rattle.std.specs.Prelude.{ℕ, Bool, true, List, [], ◌∷◌, Option, Some, None, Ok, Err, ◌==◌, nat_le, cond, ◌&&◌}
+use Rattle.std.specs.Prelude.{ℕ, Bool, true, List, [], ◌∷◌, Option, Some, None, Result, Ok, Err, ◌==◌, nat_le, cond}
 use Rattle.std.specs.Prelude.{bytes_eq}
 use Rattle.std.specs.Borrow.{Bor}
 use Rattle.njh_block.specs.Blocks.{General, text_of}
@@ -7,6 +7,8 @@ use Rattle.njh_header.specs.SignOns.{SignOn, sign_on, sign_on_bytes}
 use Rattle.njh_line.specs.declared.config.Config.{Config}
 use Rattle.njh_line.specs.declared.opening.Opening.{Opening}
 use Rattle.njh_line.specs.declared.opening.Opening.TheVariants.{Initial, Response}
+use Rattle.njh_line.specs.declared.refusal.Refusal.{Refusal}
+use Rattle.njh_line.specs.declared.refusal.Refusal.TheVariants.{NoSignOn, Unreadable, Node, Size, Password}
 use Rattle.njh_line.specs.Sessions.{nothing_suspended}
 
 abbrev pub srcb_of : Opening → ℕ
@@ -18,8 +20,12 @@ abbrev pub is_password : Option (List ℕ) → List ℕ → Bool
 is_password None given = true
 is_password (Some password) given = bytes_eq given password
 
-abbrev pub fits : SignOn → Config → Bool
-fits s line = bytes_eq s.node line.node && (nat_le 300 s.block && is_password line.password s.password)
+-- a sign-on that fits a line, or of node, size and password the first that doesn't
+abbrev pub fitted : SignOn → Config → Result SignOn Refusal
+fitted s line =
+    cond (bytes_eq s.node line.node)
+    (cond (nat_le 300 s.block) (cond (is_password line.password s.password) (Ok s) (Err Password)) (Err (Size s.block)))
+    (Err (Node s.node))
 
 -- a block's first record where it is a general one: its SRCB and its bytes
 abbrev pub First : Type 0
@@ -30,11 +36,11 @@ abbrev pub shown_first : Option (ℕ × Bor (List ℕ)) → First
 shown_first None = None
 shown_first (Some x) = Some (x.0, x.1.now)
 
--- the sign-on of a kind, where it reads and fits
-abbrev pub fitting : Opening → Config → First → Option SignOn
-fitting kind line None = None
+-- the sign-on of a kind, where it reads and fits; or why it is refused
+abbrev pub fitting : Opening → Config → First → Result SignOn Refusal
+fitting kind line None = Err NoSignOn
 fitting kind line (Some x) =
-    cond (x.0 == srcb_of kind) (elim (sign_on x.1) [ Ok s ↦ cond (fits s line) (Some s) None | Err e ↦ None ]) None
+    cond (x.0 == srcb_of kind) (elim (sign_on x.1) [ Ok s ↦ fitted s line | Err e ↦ Err Unreadable ]) (Err NoSignOn)
 
 -- eight blanks where a line has no password
 abbrev pub password_field : Option (List ℕ) → List ℕ

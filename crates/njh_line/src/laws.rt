@@ -4,9 +4,11 @@ ghost use Rattle.std.specs.Prelude.{◌≡◌, ℕ, ◌+◌, ◌%◌, ◌<◌, �
 ghost use Rattle.njh_line.specs.Answering.{ActingIsAnswered, DownStaysDown};
 ghost use Rattle.njh_line.specs.declared.config.Config.{Config};
 ghost use Rattle.njh_line.specs.declared.counts.Counted.TheVariants.{Acts, Repeats, OutOfSequence};
+ghost use Rattle.njh_line.specs.declared.ending.SessionEnd.TheVariants.{Tries};
 ghost use Rattle.njh_line.specs.declared.session.Session.{Session};
 ghost use Rattle.njh_line.specs.Counts.{bcb_count, bcb_type, count_verdict, is_taken};
-ghost use Rattle.njh_line.specs.Laws.{KeepsRest, MovesTriesAlone, is_disregarded, last_bcb_after, refusals_after};
+ghost use Rattle.njh_line.specs.Ends.{EndsAreTold, RefusalsAreTold, refusals_after};
+ghost use Rattle.njh_line.specs.Laws.{KeepsRest, MovesTriesAlone, is_disregarded, last_bcb_after};
 ghost use Rattle.njh_line.specs.Laws.{sets_tries};
 ghost use Rattle.njh_line.specs.LineTable.{Block, Input, table_outcome, end, try_again};
 ghost use Rattle.njh_line.specs.Lines.{LineState, after_input};
@@ -23,7 +25,7 @@ pub fn disregarded_changes_nothing()
         → MovesTriesAlone s (table_outcome line input s) }
     ensures over { (line : Config) (s : Session) (input : Input) → is_disregarded input ≡ true
         → in_session s.phase ≡ true → s.tries ≡ 5
-        → table_outcome line input s ≡ end s }
+        → table_outcome line input s ≡ end Tries s }
 {}
 
 /// A repeat acts on nothing and is a try, with the last transmission again. Only a block with the
@@ -66,11 +68,19 @@ pub fn sessions_begin_afresh()
 {}
 
 /// A block that is acted on where a sign-on is due, and whose first record is none that fits, is
-/// one refusal more. Every other input leaves their count, in all phases, where a session ends or
-/// begins too.
+/// one refusal more, and why is kept. Every other input leaves their count and why the last one
+/// was, in all phases, where a session ends or begins too.
 pub fn refusals_are_counted()
-    ensures { (line : Config) (s : Session) (input : Input)
+    ensures count { (line : Config) (s : Session) (input : Input)
         → (table_outcome line input s).session.refusals ≡ refusals_after line input s }
+    ensures told { RefusalsAreTold }
+{}
+
+/// A session ends by an input exactly where the input makes an end of it: ENQ, EOT and a loss where
+/// it is up; a block out of sequence; where five tries were made, a NAK, a repeat, a text that acts
+/// on nothing, and a tick without the turn. Which it was is kept until the next session ends.
+pub fn ends_are_told()
+    ensures { EndsAreTold }
 {}
 
 /// A line that is up stays so until its session ends, and then it isn't. Records act, and the next

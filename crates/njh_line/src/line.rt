@@ -2,9 +2,9 @@
 
 ghost use Rattle.std.specs.Prelude.{◌≡◌, ◌≤◌, length, vec_capacity};
 
-use crate::Phase;
 use crate::config::Config;
 use crate::counts::COUNTS;
+use crate::ending::SessionEnd;
 use crate::input::Input;
 use crate::sent::Sent;
 use crate::session::Session;
@@ -90,11 +90,11 @@ impl Line {
         outcome.verdict
     }
 
-    /// A record of a block ends the session.
-    pub fn end(&mut self)
-        ensures { self.new ≡ after_end self.old }
+    /// A record of a block ends the session so.
+    pub fn end(&mut self, end: SessionEnd)
+        ensures { self.new ≡ after_end end self.old }
     {
-        self.session.phase = Phase::Down;
+        self.session = self.session.ended(end);
     }
 
     /// Keeps what was sent: the turn, the hub's own count and function control sequence, and a

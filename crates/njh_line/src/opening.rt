@@ -1,10 +1,11 @@
 //! The sign-ons of a session (IBM SC23-0070, "I and J control records").
 
-ghost use Rattle.std.specs.Prelude.{◌≡◌, ◌≤◌, ◌<◌, IfSome};
+ghost use Rattle.std.specs.Prelude.{◌≡◌, ◌≤◌, ◌<◌, IfOk};
 ghost use Rattle.njh_block.specs.Blocks.{text_of};
-ghost use Rattle.njh_line.specs.Openings.{fits, fitting, is_password, opening, own_sign_on, shown_first, srcb_of};
+ghost use Rattle.njh_line.specs.Openings.{fitted, fitting, is_password, opening, own_sign_on, shown_first, srcb_of};
 
 use crate::config::Config;
+use crate::refusal::Refusal;
 use crate::session::LEAST_SIZE;
 use arrayvec::ArrayVec;
 use njh_block::{Bcb, BlockText, BlockWriter, Fcs, Out};
@@ -46,13 +47,20 @@ impl Config {
         }
     }
 
-    /// Whether a peer may sign on with this.
-    fn fits(&self, sign_on: &SignOn) -> bool
-        ensures { result ≡ fits sign_on.now self.now }
+    /// A sign-on with which a peer may sign on, or why it may not.
+    fn fitted(&self, sign_on: SignOn) -> Result<SignOn, Refusal>
+        ensures judged { result ≡ fitted sign_on self.now }
+        ensures size { IfOk result (λ sign_on. 300 ≤ sign_on.block) }
     {
-        sign_on.node == self.node
-            && sign_on.block >= LEAST_SIZE
-            && self.takes_password(&sign_on.password)
+        if sign_on.node != self.node {
+            Err(Refusal::Node(sign_on.node))
+        } else if sign_on.block < LEAST_SIZE {
+            Err(Refusal::Size(sign_on.block))
+        } else if self.takes_password(&sign_on.password) {
+            Ok(sign_on)
+        } else {
+            Err(Refusal::Password)
+        }
     }
 
     /// The text of the I or the J block: a sign-on alone, under a BCB that sets the count to 0,
@@ -93,20 +101,25 @@ impl Config {
         }
     }
 
-    /// The sign-on of this kind that a block's first record is, where it reads and fits.
-    pub(crate) fn fitting(&self, kind: Opening, first: Option<(u8, &[u8])>) -> Option<SignOn>
+    /// The sign-on of this kind that a block's first record is, where it reads and fits; or why it
+    /// is refused.
+    pub(crate) fn fitting(
+        &self,
+        kind: Opening,
+        first: Option<(u8, &[u8])>,
+    ) -> Result<SignOn, Refusal>
         ensures read { result ≡ fitting kind self.now (shown_first first.entry) }
-        ensures size { IfSome result (λ sign_on. 300 ≤ sign_on.block) }
+        ensures size { IfOk result (λ sign_on. 300 ≤ sign_on.block) }
     {
-        let (srcb, bytes) = first?;
+        let Some((srcb, bytes)) = first else {
+            return Err(Refusal::NoSignOn);
+        };
         if srcb != kind.srcb() {
-            return None;
+            return Err(Refusal::NoSignOn);
         }
-        let sign_on = SignOn::read(bytes).ok()?;
-        if self.fits(&sign_on) {
-            Some(sign_on)
-        } else {
-            None
+        match SignOn::read(bytes) {
+            Ok(sign_on) => self.fitted(sign_on),
+            Err(_) => Err(Refusal::Unreadable),
         }
     }
 }

@@ -1,9 +1,12 @@
 //! A line's session.
 
 ghost use Rattle.std.specs.Prelude.{◌≡◌};
-ghost use Rattle.njh_line.specs.Sessions.{fresh, entered_session, down_session, refused_session, acknowledged_session};
+ghost use Rattle.njh_line.specs.Sessions.{fresh, entered_session, down_session, ended_session, refused_session};
+ghost use Rattle.njh_line.specs.Sessions.{acknowledged_session};
 
 use crate::Phase;
+use crate::ending::SessionEnd;
+use crate::refusal::Refusal;
 use njh_block::{Bcb, Fcs};
 
 /// The least size of a text that two ends may agree on.
@@ -31,6 +34,11 @@ pub struct Session {
     /// How many blocks were acted on where a sign-on was due and none came that fits, over all
     /// sessions of the line; the count stays at the greatest `u64`.
     pub refusals: u64,
+    /// Why the line's last session ended, if one did. Where the line only went down before it was
+    /// up, by EOT, a loss or a refusal, no session ended.
+    pub last_end: Option<SessionEnd>,
+    /// Why the last sign-on was refused, if one was.
+    pub last_refusal: Option<Refusal>,
 }
 
 impl Session {
@@ -48,6 +56,8 @@ impl Session {
             peer_fcs: Fcs::nothing_suspended(),
             own_fcs: Fcs::nothing_suspended(),
             refusals: 0,
+            last_end: None,
+            last_refusal: None,
         }
     }
 
@@ -66,7 +76,7 @@ impl Session {
         }
     }
 
-    /// The line goes down.
+    /// The line goes down, where it wasn't up.
     pub(crate) fn down(self) -> Session
         ensures { result ≡ down_session self }
     {
@@ -76,13 +86,25 @@ impl Session {
         }
     }
 
+    /// The session ends so: the line goes down.
+    pub(crate) fn ended(self, end: SessionEnd) -> Session
+        ensures { result ≡ ended_session end self }
+    {
+        Session {
+            phase: Phase::Down,
+            last_end: Some(end),
+            ..self
+        }
+    }
+
     /// The peer's sign-on is refused: the line goes down.
-    pub(crate) fn refused(self) -> Session
-        ensures { result ≡ refused_session self }
+    pub(crate) fn refused(self, refusal: Refusal) -> Session
+        ensures { result ≡ refused_session refusal self }
     {
         Session {
             phase: Phase::Down,
             refusals: self.refusals.saturating_add(1),
+            last_refusal: Some(refusal),
             ..self
         }
     }

@@ -1,6 +1,6 @@
 //! The line table (IBM GA27-3004).
 
-ghost use Rattle.std.specs.Prelude.{◌≡◌, ◌≤◌, true, IfSome};
+ghost use Rattle.std.specs.Prelude.{◌≡◌, ◌≤◌, true, IfOk};
 ghost use Rattle.njh_line.specs.Sessions.{IsSession, IsConfig, in_session};
 ghost use Rattle.njh_line.specs.LineTable.{Block as CameBlock, table_outcome, acting, call, contact, end_and_contact};
 ghost use Rattle.njh_line.specs.LineTable.{end_with, next_in_turn, none, input_value, signed_on, try_with, with_reply};
@@ -9,10 +9,12 @@ ghost use Rattle.njh_line.specs.Openings.{shown_first};
 use crate::Phase::{Answered, Calling, Down, SentI, Up};
 use crate::config::Config;
 use crate::counts::Counted;
+use crate::ending::SessionEnd;
 use crate::input::Input::{
     self, Ack0, Bad, Block, Enquiry, Eot, Garbled, Lost, Nak, Spoiled, Tick,
 };
 use crate::opening::Opening;
+use crate::refusal::Refusal;
 use crate::session::Session;
 use crate::verdict::{LineReply, Verdict};
 use njh_bisync::Control;
@@ -70,7 +72,8 @@ pub(crate) fn accepted(config: &Config, session: Session, input: &Input<'_>) -> 
 
         (Eot | Lost, Down) => none(session),
         (Eot | Lost, Calling | Answered | SentI) => none(session.down()),
-        (Eot | Lost, Up) => end_with(session, LineReply::Nothing),
+        (Eot, Up) => end_with(session, SessionEnd::Eot, LineReply::Nothing),
+        (Lost, Up) => end_with(session, SessionEnd::Lost, LineReply::Nothing),
 
         (Block { .. }, Down | Calling) => none(session),
         (Block { bcb, fcs, first }, Answered | SentI | Up) => {
@@ -106,12 +109,12 @@ fn none(session: Session) -> SessionOutcome
     with_reply(session, LineReply::Nothing)
 }
 
-/// The session ends.
-fn end_with(session: Session, reply: LineReply) -> SessionOutcome
-    ensures { result ≡ end_with reply session }
+/// The session ends so.
+fn end_with(session: Session, end: SessionEnd, reply: LineReply) -> SessionOutcome
+    ensures { result ≡ end_with end reply session }
 {
     SessionOutcome {
-        session: session.down(),
+        session: session.ended(end),
         verdict: Verdict {
             ended: true,
             acts: false,
@@ -127,7 +130,7 @@ fn try_with(session: Session, reply: LineReply) -> SessionOutcome
     ensures kept { IsSession result.session }
 {
     if session.tries == TRIES {
-        return end_with(session, LineReply::Nothing);
+        return end_with(session, SessionEnd::Tries, LineReply::Nothing);
     }
     with_reply(
         Session {
@@ -140,7 +143,8 @@ fn try_with(session: Session, reply: LineReply) -> SessionOutcome
 
 /// The peer calls: the end that answers enters a session.
 fn contact(role: Role, session: Session) -> SessionOutcome
-    ensures { result ≡ contact role session }
+    ensures outcome { result ≡ contact role session }
+    ensures kept { IsSession session → IsSession result.session }
 {
     match role {
         Role::Call => none(session),
@@ -150,9 +154,10 @@ fn contact(role: Role, session: Session) -> SessionOutcome
 
 /// The peer calls while the line is up: what ends the session may begin another.
 fn end_and_contact(role: Role, session: Session) -> SessionOutcome
-    ensures { result ≡ end_and_contact role session }
+    ensures outcome { result ≡ end_and_contact role session }
+    ensures kept { IsSession session → IsSession result.session }
 {
-    let next = contact(role, session.down());
+    let next = contact(role, session.ended(SessionEnd::Contact));
     SessionOutcome {
         session: next.session,
         verdict: Verdict {
@@ -209,6 +214,7 @@ fn block_came(
         Counted::Repeats => try_with(session, LineReply::Again),
         Counted::OutOfSequence => end_with(
             session,
+            SessionEnd::OutOfSequence,
             LineReply::Sequence {
                 expected: Bcb::normal(session.expected()),
             },
@@ -244,22 +250,22 @@ fn acting(config: &Config, session: Session, first: Option<(u8, &[u8])>) -> Sess
     }
 }
 
-/// A sign-on comes, or none that fits.
+/// A sign-on that fits comes, or is refused.
 fn signed_on(
     config: &Config,
     session: Session,
-    sign_on: Option<SignOn>,
+    sign_on: Result<SignOn, Refusal>,
     reply: LineReply,
 ) -> SessionOutcome
     requires config { IsConfig config.now }
     requires session { IsSession session }
-    requires fits { IfSome sign_on (λ x. 300 ≤ x.block) }
+    requires fits { IfOk sign_on (λ x. 300 ≤ x.block) }
     ensures outcome { result ≡ signed_on reply config.now sign_on session }
     ensures kept { IsSession result.session }
 {
     match sign_on {
-        None => none(session.refused()),
-        Some(sign_on) => with_reply(
+        Err(refusal) => none(session.refused(refusal)),
+        Ok(sign_on) => with_reply(
             Session {
                 phase: Up,
                 size: config.block.min(sign_on.block),

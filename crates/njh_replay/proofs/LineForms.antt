@@ -14,7 +14,7 @@ use Rattle.hex.proofs.HexLemmas.{decode_of-ok}
 use Rattle.njh_table.specs.declared.LineId.{LineId}
 use Rattle.njh_table.specs.TableFile.{TableFile, line_named, HasLine}
 use Rattle.njh_hub.specs.declared.event.Event.{Event}
-use Rattle.njh_hub.specs.declared.event.Event.TheVariants.{Bytes, Tick, Garbled, Lost, Routes}
+use Rattle.njh_hub.specs.declared.event.Event.TheVariants.{Bytes, Tick, Garbled, Lost, Routes, Order}
 use Rattle.njh_hub.specs.OwnEvents.{line_of_event}
 use Rattle.njh_replay.specs.Script.{words_of, event_of_words, event_on_line, bytes_on, piece_of, some_bytes, signal_of}
 use Rattle.njh_replay.specs.ScriptRoutes.{event_of_routes, IsNamedIn}
@@ -120,3 +120,4 @@ named_on tables (Tick at) id known on = subst (HasLine tables) (sym (cc on)) kno
 named_on tables (Garbled at) id known on = subst (HasLine tables) (sym (cc on)) known
 named_on tables (Lost at) id known on = subst (HasLine tables) (sym (cc on)) known
 named_on tables (Routes c routes) id known on = absurd (cc on)
+named_on tables (Order c order) id known on = absurd (cc on)

@@ -12,16 +12,16 @@ use Rattle.njh_table.specs.Marks.{entry_unmarked}
 use Rattle.njh_table.specs.NewRoutes.{new_routes_of, routes_checked}
 use Rattle.njh_table.specs.TableFile.{TableFile, NamedCustomer, NamedLine, no_customer, customer_at, entry_of, HasLine}
 use Rattle.njh_hub.specs.declared.event.Event.{Event}
-use Rattle.njh_hub.specs.declared.event.Event.TheVariants.{Bytes, Tick, Garbled, Lost, Routes}
+use Rattle.njh_hub.specs.declared.event.Event.TheVariants.{Bytes, Tick, Garbled, Lost, Routes, Order}
 use Rattle.njh_hub.specs.declared.fault.Cause.{Cause}
 use Rattle.njh_hub.specs.declared.fault.Cause.TheVariants as cause
 use Rattle.njh_hub.specs.declared.fault.HubFault.{HubFault}
-use Rattle.njh_hub.specs.declared.fault.HubFault.TheVariants.{UnknownLine, UnknownCustomer, Memory, BadRoutes}
-use Rattle.njh_hub.specs.OwnEvents.{first_events}
+use Rattle.njh_hub.specs.declared.fault.HubFault.TheVariants.{UnknownLine, UnknownCustomer, Memory, BadRoutes, NoRoute}
+use Rattle.njh_hub.specs.OwnEvents.{first_events, order_of}
 use Rattle.njh_hub.specs.Parts.{entries_of}
 use Rattle.njh_hub.specs.WholeHub.{Part, part_at_open}
 use Rattle.njh_hub.specs.Laws.{Begins}
-use Rattle.njh_hub.specs.RunStops.{HandedUntil, IfHub, IsRefused, IsRoutes}
+use Rattle.njh_hub.specs.RunStops.{HandedUntil, IfHub, IsGiven, IsRefused, IsRoutes}
 use Rattle.njh_hub.specs.WholeHub as hub
 use Rattle.njh_replay.specs.LineNames.{customers_of}
 use Rattle.njh_replay.specs.declared.fault.ReplayFault.TheVariants.{Hub}
@@ -29,7 +29,7 @@ use Rattle.njh_io.specs.Written.{AppendsBeginning}
 use Rattle.njh_replay.specs.Printed.{frames_text, IsPrinted}
 use Rattle.njh_replay.specs.code.PrintedLaws.{text_of-append}
 use Rattle.njh_replay.specs.Replayed.{fault_after, IsRefusal, IsSentUpTo, MayEnd, MayStop}
-use Rattle.njh_replay.specs.ScriptRoutes.{IsNamedIn}
+use Rattle.njh_replay.specs.ScriptRoutes.{IsNamedIn, IsScripted}
 
 get_or-map_default : {X Y : Type 0} (f : X → Y) (xs : List X) (k : ℕ) (d : X)
     → get_or (map f xs) k (f d) ≡ f (get_or xs k d)
@@ -69,13 +69,23 @@ opened_named t (Routes c routes) named =
     (entry_of (customer_at t c)) =
     ap (λ (p : Part). p.customer.entry) (opened_part t c) in
     (within, ap (λ (e : CustomerEntry). routes_checked e (new_routes_of c routes)) entry ∙ named.1)
+opened_named t (Order c order) named = absurd named
+
+no_order : (t : TableFile) (event : Event) → IsNamedIn t event → order_of event ≡ None
+no_order t (Bytes id piece) named = refl
+no_order t (Tick id) named = refl
+no_order t (Garbled id) named = refl
+no_order t (Lost id) named = refl
+no_order t (Routes c routes) named = refl
+no_order t (Order c order) named = absurd named
 
 -- so do all events of a script
 pub all_named : (t : TableFile) (parts : List Part) (events : List Event) → parts ≡ map part_at_open (entries_of t)
-    → All (IsNamedIn t) events → All (hub.IsNamed parts) events
+    → All (IsNamedIn t) events → All (IsScripted parts) events
 all_named t parts events fresh named = λ k event within.
-    let here = opened_named t (get_or events k event) (named k event within) in
-    subst (λ (ps : List Part). hub.IsNamed ps (get_or events k event)) (sym fresh) here
+    let at = get_or events k event in
+    let here = opened_named t at (named k event within) in
+    (subst (λ (ps : List Part). hub.IsNamed ps at) (sym fresh) here, no_order t at (named k event within))
 
 IsSomeAnd-never : {X : Type 0} (o : Option X) (P : X → Type 0) → ((x : X) → o ≡ Some x → P x → ⊥) → IsSomeAnd o P → ⊥
 IsSomeAnd-never None P never some = some
@@ -88,6 +98,7 @@ not_unknown parts (Tick id) named refused = refused named
 not_unknown parts (Garbled id) named refused = refused named
 not_unknown parts (Lost id) named refused = refused named
 not_unknown parts (Routes c routes) named refused = refused
+not_unknown parts (Order c order) named refused = refused
 
 not_foreign : (parts : List Part) (event : Event) → hub.IsNamed parts event → IsRefused parts event UnknownCustomer → ⊥
 not_foreign parts (Bytes id piece) named refused = refused
@@ -95,6 +106,7 @@ not_foreign parts (Tick id) named refused = refused
 not_foreign parts (Garbled id) named refused = refused
 not_foreign parts (Lost id) named refused = refused
 not_foreign parts (Routes c routes) named refused = refused named.0
+not_foreign parts (Order c order) named refused = refused named
 
 not_bad : (parts : List Part) (event : Event) (fault : TableFault) → hub.IsNamed parts event
     → IsRefused parts event (BadRoutes fault) → ⊥
@@ -103,18 +115,23 @@ not_bad parts (Tick id) fault named refused = refused
 not_bad parts (Garbled id) fault named refused = refused
 not_bad parts (Lost id) fault named refused = refused
 not_bad parts (Routes c routes) fault named refused = cc (sym named.1 ∙ refused.1)
+not_bad parts (Order c order) fault named refused = refused
+
+not_without_way : (parts : List Part) (event : Event) → order_of event ≡ None → IsRefused parts event NoRoute → ⊥
+not_without_way parts event none refused =
+    subst (λ o. IsSomeAnd o (λ given. given.0 < length parts)) none refused
 
 no_refusal : (why : Cause) → IsRefusal (fault_after why) → ⊥
 no_refusal (cause.Hub fault) refusal = refusal
 no_refusal cause.Sink refusal = refusal
 
-module _ (parts : List Part) (events : List Event) (k : ℕ) (named : All (hub.IsNamed parts) events) where
-  never : (why : HubFault) → ((event : Event) → hub.IsNamed parts event → IsRefused parts event why → ⊥)
+module _ (parts : List Part) (events : List Event) (k : ℕ) (named : All (IsScripted parts) events) where
+  never : (why : HubFault) → ((event : Event) → IsScripted parts event → IsRefused parts event why → ⊥)
       → IsSomeAnd (slice_get events k) (λ event. IsRefused parts event why) → ⊥
   never why not refused =
       IsSomeAnd-never (slice_get events k) (λ event. IsRefused parts event why) (λ event at is.
-      let there : hub.IsNamed parts event =
-      subst (hub.IsNamed parts) (get_or_from_slice_get events k event event at)
+      let there : IsScripted parts event =
+      subst (IsScripted parts) (get_or_from_slice_get events k event event at)
       (named k event (slice_get_within events k event at)) in
       not event there is) refused
 
@@ -122,11 +139,15 @@ module _ (parts : List Part) (events : List Event) (k : ℕ) (named : All (hub.I
   MayEnd-stopped : (why : Cause) → IfHub why
       (λ why. IsSomeAnd (slice_get events k) (λ event. IsRefused parts event why))
       → MayEnd (fault_after why)
-  MayEnd-stopped (cause.Hub UnknownLine) refused = absurd (never UnknownLine (not_unknown parts) refused)
-  MayEnd-stopped (cause.Hub UnknownCustomer) refused = absurd (never UnknownCustomer (not_foreign parts) refused)
+  MayEnd-stopped (cause.Hub UnknownLine) refused =
+      absurd (never UnknownLine (λ event names. not_unknown parts event names.0) refused)
+  MayEnd-stopped (cause.Hub UnknownCustomer) refused =
+      absurd (never UnknownCustomer (λ event names. not_foreign parts event names.0) refused)
   MayEnd-stopped (cause.Hub Memory) refused = refl
   MayEnd-stopped (cause.Hub (BadRoutes fault)) refused =
-      absurd (never (BadRoutes fault) (λ event. not_bad parts event fault) refused)
+      absurd (never (BadRoutes fault) (λ event names. not_bad parts event fault names.0) refused)
+  MayEnd-stopped (cause.Hub NoRoute) refused =
+      absurd (never NoRoute (λ event names. not_without_way parts event names.1) refused)
   MayEnd-stopped cause.Sink refused = tt
 
   pub MayStop-stopped : (why : Cause) → IfHub why
@@ -134,19 +155,20 @@ module _ (parts : List Part) (events : List Event) (k : ℕ) (named : All (hub.I
       → MayStop (fault_after why)
   MayStop-stopped why refused = (MayEnd-stopped why refused, no_refusal why)
 
--- new routes send nothing
-routes_silent : (parts : List Part) (event : Event) → IsRoutes event → (hub.hub_event parts event).sent ≡ []
-routes_silent parts (Bytes id piece) routes = absurd (cc routes)
-routes_silent parts (Tick id) routes = absurd (cc routes)
-routes_silent parts (Garbled id) routes = absurd (cc routes)
-routes_silent parts (Lost id) routes = absurd (cc routes)
-routes_silent parts (Routes c given) routes = refl
+-- what a customer is given sends nothing
+given_silent : (parts : List Part) (event : Event) → IsGiven event → (hub.hub_event parts event).sent ≡ []
+given_silent parts (Bytes id piece) given = absurd (cc given)
+given_silent parts (Tick id) given = absurd (cc given)
+given_silent parts (Garbled id) given = absurd (cc given)
+given_silent parts (Lost id) given = absurd (cc given)
+given_silent parts (Routes c routes) given = refl
+given_silent parts (Order c order) given = refl
 
-pub all_silent : (parts : List Part) (events : List Event) → All IsRoutes events → (hub.hub_run parts events).sent ≡ []
+pub all_silent : (parts : List Part) (events : List Event) → All IsGiven events → (hub.hub_run parts events).sent ≡ []
 all_silent parts [] all = refl
 all_silent parts (event ∷ events) all =
     let later = hub.hub_run (hub.hub_event parts event).parts events in
-    ap (λ sent. sent ++ later.sent) (routes_silent parts event (all 0 event (omega arith)))
+    ap (λ sent. sent ++ later.sent) (given_silent parts event (all 0 event (omega arith)))
     ∙ all_silent (hub.hub_event parts event).parts events (λ k d within. all (suc k) d (omega (arith, within)))
 
 -- A run that stopped printed a beginning of the text of all frames: the frames of what happened, or all but the last
@@ -192,10 +214,11 @@ Keeps-none None b written = tt
 Keeps-none (Some x) None written = absurd written
 Keeps-none (Some x) (Some y) written = written ∙ append-nil x
 
--- A run that ran out of memory did so at an event that gives routes, or after such events alone, which send nothing.
+-- A run that ran out of memory did so at an event that gives routes, or after events alone by which a customer is given
+-- something, which send nothing.
 pub stopped_at_routes : (names : List (List (List ℕ))) (parts : List Part) (events : List Event) (k n : ℕ)
     (a b : Option (List ℕ)) → n ≡ 0
-    → (IsSomeAnd (slice_get events k) IsRoutes ⊎ All IsRoutes (take k events))
+    → (IsSomeAnd (slice_get events k) IsRoutes ⊎ All IsGiven (take k events))
     → Appends a b (frames_text names (hub.hub_run parts (first_events events k n)).sent)
     → Keeps a b ⊎ IsSentUpTo names parts events a b
 stopped_at_routes names parts events k n a b none which printed =

@@ -7,10 +7,10 @@ ghost use Rattle.njh_replay.specs.Printed.{frames_text};
 ghost use Rattle.njh_replay.specs.Replayed.{fault_after, text_by, text_of_run, HasBadLine, HasScript, HasTooLong};
 ghost use Rattle.njh_replay.specs.Replayed.{IsBegun, IsRefusal, IsReplayed, IsReplayedToRoutes, IsRunShort, MayEnd};
 ghost use Rattle.njh_replay.specs.Replayed.{Prints, SameParts};
-ghost use Rattle.njh_replay.specs.ScriptRoutes.{IsNamedIn};
+ghost use Rattle.njh_replay.specs.ScriptRoutes.{IsNamedIn, IsScripted};
 ghost use Rattle.njh_hub.specs.Parts.{entries_of};
 ghost use Rattle.njh_hub.specs.Sent.{IsCounted};
-ghost use Rattle.njh_hub.specs.WholeHub.{hub_run, part_at_open, IsNamed};
+ghost use Rattle.njh_hub.specs.WholeHub.{hub_run, part_at_open};
 
 use crate::fault::ReplayFault;
 use crate::files::{customer_names, print_files};
@@ -85,7 +85,7 @@ fn print_all<W: Write>(
     customers: &[Name],
     out: &mut W,
 ) -> Result<(), ReplayFault>
-    requires named { All (IsNamed hub.old) events.now }
+    requires named { All (IsScripted hub.old) events.now }
     requires all { length customers.now ≡ length hub.old }
     requires few { length customers.now ≤ 64 }
     ensures { Prints result (W.contents out.old) (W.contents out.new)
@@ -112,7 +112,7 @@ fn print_run<W: Write>(
     events: &[Event],
     printer: &mut Printer<'_, W>,
 ) -> Result<(), ReplayFault>
-    requires { All (IsNamed hub.old) events.now }
+    requires { All (IsScripted hub.old) events.now }
     ensures printed { Prints result (W.contents printer.old.out.now) (W.contents printer.new.out.now)
         (frames_text printer.old.names.now (hub_run hub.old events.now).sent)
         (IsRunShort printer.old.names.now hub.old events.now) }

@@ -1,5 +1,5 @@
 -- A service, and what it leaves.
-use Rattle.std.specs.Prelude.{◌≡◌, ℕ, ◌<◌, List, length, map, slice_index_or, All, Option, Some, None}
+use Rattle.std.specs.Prelude.{◌≡◌, ℕ, ◌<◌, ◌≤◌, List, length, map, slice_index_or, All, Option, Some, None}
 use Rattle.njh_table.specs.declared.LineId.{LineId}
 use Rattle.njh_table.specs.TableFile.{TableFile}
 use Rattle.njh_hub.specs.Parts.{entries_of}
@@ -28,18 +28,18 @@ abbrev pub turn_count : Option ℕ → ℕ
 turn_count None = 18446744073709551615
 turn_count (Some turns) = turns
 
--- So many turns of the lines were taken, each line on its own wire, and the hub was told of these, of new routes and of
--- nothing else.
-pub record HasServed {W A D : Type 0} (says : WireSays W) (brings : Type 0) (turns : ℕ)
+-- So many turns of the lines were taken, or fewer where the attendant may end the service, each line on its own wire,
+-- and the hub was told of these, of new routes, of orders and of nothing else.
+pub record HasServed {W A D : Type 0} (says : WireSays W) (steers : Type 0) (turns : ℕ)
     (old new : Served W A D) : Type 0 where
-  pub attended : IsAttended says brings old.lines turns (moment old.hub old.quiets old.wires)
+  pub attended : IsAttended says steers old.lines turns (moment old.hub old.quiets old.wires)
       (moment new.hub new.quiets new.wires)
   pub lines : new.lines ≡ old.lines
 
 -- Such a service that the keeper's fault broke off.
 pub record IsBrokenOff {W A D : Type 0} (says : WireSays W) (may_leave : List (List KeptFile) → Type 0)
-    (brings : Type 0) (turns : ℕ) (old new : Served W A D) : Type 0 where
-  pub breaks : ServiceBreaks says may_leave brings old.lines turns (moment old.hub old.quiets old.wires)
+    (steers : Type 0) (turns : ℕ) (old new : Served W A D) : Type 0 where
+  pub breaks : ServiceBreaks says may_leave steers old.lines turns (moment old.hub old.quiets old.wires)
       (hub_wires new.hub new.wires)
   pub lines : new.lines ≡ old.lines
 
@@ -64,8 +64,8 @@ ArePlaced {C} wires =
 abbrev pub IsOpenedEmpty : TableFile → List Part → Type 0
 IsOpenedEmpty tables parts = parts ≡ map part_at_open (entries_of tables)
 
--- The lines of tables that have a port or a peer had so many turns each, and a hub that was opened so was told of
--- these, of new routes and of nothing else. Of what a socket gave and took nothing is known.
+-- The lines of tables that have a port or a peer had at most so many turns each, and a hub that was opened so was told
+-- of these, of new routes, of orders and of nothing else. Of what a socket gave and took nothing is known.
 pub record AreServed (opened : List Part → Type 0) (tables : TableFile) (turns : Option ℕ) : Type 0 where
   pub apart : IsApart (endpoints_of tables)
   pub hub : List Part
@@ -75,7 +75,7 @@ pub record AreServed (opened : List Part → Type 0) (tables : TableFile) (turns
   pub hub_of : opened hub
   pub lines_of_tables : lines ≡ lines_of (endpoints_of tables)
   pub calm : quiets ≡ no_quiets (lines_of (endpoints_of tables))
-  pub many : length (service_rounds story) ≡ turn_count turns
+  pub many : length (service_rounds story) ≤ turn_count turns
   pub each : All (λ round. length round ≡ length lines) (service_rounds story)
   pub possible : ArePossible hub lines quiets story
 

@@ -3,19 +3,26 @@ use Rattle.std.specs.Prelude.{ℕ, zero, suc, ◌+◌, ◌-◌, ◌<◌, Bool, t
 use Rattle.std.specs.Prelude.{Option, Some, None, ◌≡◌, ◌⊎◌, List, [], IsSome, IsTrue}
 use Rattle.njh_line.specs.declared.Phase.{Phase}
 use Rattle.njh_line.specs.declared.Phase.TheVariants.{Down, Calling, Answered, SentI, Up}
+use Rattle.njh_line.specs.declared.ending.SessionEnd as line
+use Rattle.njh_line.specs.declared.ending.SessionEnd.TheVariants as ends
+use Rattle.njh_line.specs.declared.refusal.Refusal.{Refusal}
+use Rattle.njh_line.specs.declared.refusal.Refusal.TheVariants as refusals
 use Rattle.njh_wire.specs.declared.last_bytes.LastBytes.{LastBytes}
 use Rattle.njh_wire.specs.Readings.{IsOpen}
 use Rattle.njh_wire.specs.Standing.{Standing}
 use Rattle.njh_hub.specs.declared.session_view.SessionView.{SessionView}
 use Rattle.njh_service.specs.Connecting.{IsConnected, moment_behind}
 use Rattle.njh_service.specs.declared.post.Label.{Label}
-use Rattle.njh_service.specs.News.{with_change}
+use Rattle.njh_service.specs.News.{after_telling, with_change}
+use Rattle.njh_service.specs.declared.entry.LogEvent.{LogEvent}
+use Rattle.njh_service.specs.declared.entry.LogEvent.TheVariants as events
 use Rattle.njh_service.specs.declared.entry.SessionChange.{SessionChange}
 use Rattle.njh_service.specs.declared.entry.SessionChange.TheVariants as changes
 use Rattle.njh_service.specs.declared.entry.SessionEnd.{SessionEnd}
 use Rattle.njh_service.specs.declared.entry.SessionEnd.TheVariants as why
 use Rattle.njh_service.specs.declared.last_frame.LastFrame.{LastFrame}
 use Rattle.njh_service.specs.declared.last_frame.LastFrame.TheVariants as frames
+use Rattle.njh_service.specs.declared.news.News.{News}
 
 -- a line is in a session once a call was answered
 abbrev pub is_session : Phase → Bool
@@ -70,6 +77,11 @@ moment_seen label session now moment =
 
 -- ---- a sign-on that was refused
 
+-- what is told of the last one
+abbrev pub refusal_event : Option Refusal → LogEvent
+refusal_event (Some refusal) = events.SignOnRefused refusal
+refusal_event None = events.SignOnRefused refusals.NoSignOn
+
 -- one was refused since so many were
 abbrev pub HasRefusedMore : (seen : ℕ) → SessionView → Type 0
 HasRefusedMore seen session = seen < session.refusals
@@ -107,8 +119,14 @@ tries_end None silent now bytes = if nat_lt 0 silent then why.NoAnswer else why.
 tries_end (Some since) silent now bytes =
     if nat_lt (now - since) silent then why.NoAnswer else why.Tries (last_frame bytes)
 
--- it gave up, or lost its line, or else its peer ended it
-abbrev pub session_end : (gave_up : Option SessionEnd) → (is_lost : Bool) → SessionEnd
-session_end (Some tries) is_lost = tries
-session_end None true = why.Lost
-session_end None false = why.ByPeer
+-- it gave up so, or its line says how the last one ended; on a line that the hub doesn't have it counts as lost
+abbrev pub session_end : (gave_up : Option SessionEnd) → (last_end : Option line.SessionEnd) → SessionEnd
+session_end (Some tries) last_end = tries
+session_end None (Some end) = why.Ended end
+session_end None None = why.Ended ends.Lost
+
+-- What isn't told yet of a line's sessions, once its session was seen so and what may be told was: a session that was
+-- up and isn't any more ended by its tries if it gave up so, and else as its line says.
+abbrev pub news_seen : Label → SessionView → (gave_up : Option SessionEnd) → (now : ℕ) → News
+news_seen label session gave_up now =
+    after_telling (after_session label session (session_end gave_up session.last_end) now).news now

@@ -138,7 +138,6 @@ impl<N: Network + Drop, L: Write + Drop> Desk<N, L> {
         if let Some(end) = wire.take_end() {
             self.tell_end(label, end);
         }
-        label.lost = false;
         // That the session before used up its tries ends its own connection, and not this one.
         label.in_session = false;
         label.no_session_since = self.now;

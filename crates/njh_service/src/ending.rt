@@ -2,12 +2,12 @@
 
 ghost use Rattle.std.specs.Prelude.{◌≡◌};
 ghost use Rattle.njh_service.specs.Sessions.{is_session, is_up, no_session_since, session_change, session_end};
-ghost use Rattle.njh_service.specs.Sessions.{tries_end, tries_since};
+ghost use Rattle.njh_service.specs.Sessions.{refusal_event, tries_end, tries_since};
 
-use crate::entry::{SessionChange, SessionEnd};
+use crate::entry::{LogEvent, SessionChange, SessionEnd};
 use crate::last_frame::LastFrame;
 use njh_ebcdic::Name;
-use njh_line::Phase;
+use njh_line::{Phase, Refusal};
 use njh_wire::LastBytes;
 
 /// Whether a line in this phase is in a session.
@@ -61,20 +61,24 @@ pub(crate) fn tries_end(since: Option<u64>, silent: u64, now: u64, last: LastByt
     }
 }
 
-/// Why a session ended that is down: it gave up so, or its line was lost, or its peer ended it.
-pub(crate) fn session_end(gave_up: Option<SessionEnd>, is_lost: bool) -> SessionEnd
-    ensures { result ≡ session_end gave_up is_lost }
+/// Why a session ended that is down: it gave up so, or its line says how the last one ended.
+pub(crate) fn session_end(
+    gave_up: Option<SessionEnd>,
+    last_end: Option<njh_line::SessionEnd>,
+) -> SessionEnd
+    ensures { result ≡ session_end gave_up last_end }
 {
     match gave_up {
         Some(end) => end,
-        None => {
-            if is_lost {
-                SessionEnd::Lost
-            } else {
-                SessionEnd::ByPeer
-            }
-        }
+        None => SessionEnd::Ended(last_end.unwrap_or(njh_line::SessionEnd::Lost)),
     }
+}
+
+/// What is told of the last sign-on that was refused on a line.
+pub(crate) fn refusal_event(last_refusal: Option<Refusal>) -> LogEvent
+    ensures { result ≡ refusal_event last_refusal }
+{
+    LogEvent::SignOnRefused(last_refusal.unwrap_or(Refusal::NoSignOn))
 }
 
 /// The change of a session with this node that was up or wasn't, and is now; if it is down, it ended

@@ -3,10 +3,12 @@
 use crate::last_frame::LastFrame;
 use crate::notice_line::NoticeLine;
 use crate::opening::ListenCause;
+use crate::reasons::{EndText, RefusalText};
 use njh_block::Stream;
 use njh_ebcdic::{Name, text_of};
 use njh_header::{Destination, FileName, User};
 use njh_hub::{FileSummaryView, HubFault};
+use njh_line::Refusal;
 use njh_record::Kind;
 use std::fmt;
 use std::net::SocketAddr;
@@ -51,8 +53,8 @@ pub enum LogEvent {
     DialFailed(SocketAddr),
     /// A connection that waits could not be taken.
     AcceptFailed,
-    /// A sign-on came that doesn't fit: of another node, with another password, or none.
-    SignOnRefused,
+    /// A sign-on was refused, for this reason: it doesn't fit, or none came where one was due.
+    SignOnRefused(Refusal),
     /// The session went up or down.
     SessionChanged(SessionChange),
     /// It did both, so many times in all, and this was the last.
@@ -107,10 +109,8 @@ pub enum SessionEnd {
     NoAnswer,
     /// Five tries in a row were made, and this came last.
     Tries(LastFrame),
-    /// The line was lost.
-    Lost,
-    /// The peer ended it.
-    ByPeer,
+    /// Its line says that it ended so.
+    Ended(njh_line::SessionEnd),
 }
 
 /// What is told of a file.
@@ -157,7 +157,9 @@ impl fmt::Display for LogEvent {
             LogEvent::Failed(failure) => write!(f, "failed: {failure}"),
             LogEvent::DialFailed(address) => write!(f, "no connection to {address}"),
             LogEvent::AcceptFailed => write!(f, "a connection could not be taken"),
-            LogEvent::SignOnRefused => write!(f, "sign-on refused"),
+            LogEvent::SignOnRefused(refusal) => {
+                write!(f, "sign-on refused: {}", RefusalText(*refusal))
+            }
             LogEvent::SessionChanged(change) => write!(f, "{change}"),
             LogEvent::SessionsChanged(change, count) => {
                 write!(f, "{change}, the last of {count} changes")
@@ -209,8 +211,7 @@ impl fmt::Display for SessionEnd {
         match self {
             SessionEnd::NoAnswer => f.write_str("no answer after five tries"),
             SessionEnd::Tries(last) => write!(f, "five tries in a row, {last} came last"),
-            SessionEnd::Lost => f.write_str("the line was lost"),
-            SessionEnd::ByPeer => f.write_str("the peer ended it"),
+            SessionEnd::Ended(end) => write!(f, "{}", EndText(*end)),
         }
     }
 }

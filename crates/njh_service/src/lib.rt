@@ -27,6 +27,7 @@ mod open_lines;
 mod opened;
 mod opening;
 mod post;
+mod reasons;
 mod refusal;
 mod revising;
 mod revision;

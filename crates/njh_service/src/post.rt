@@ -58,8 +58,6 @@ pub(crate) struct Label {
     /// When it was seen that the session tried again, the first time of the tries in a row that it
     /// has made, on the service's clock; none if it has made none.
     pub(crate) tries_since: Option<u64>,
-    /// Whether its last connection's end was told.
-    pub(crate) lost: bool,
     /// How many sign-ons were refused on it, as its session was seen last.
     pub(crate) refusals: u64,
     /// Until when it takes no connection, on the service's clock.
@@ -80,7 +78,6 @@ impl Label {
             no_session_since: 0,
             in_session: false,
             tries_since: None,
-            lost: false,
             refusals: 0,
             barred_until: 0,
             again: 0,

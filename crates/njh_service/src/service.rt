@@ -51,8 +51,8 @@ impl<W: Wire + Drop, A: Attendant<W> + Drop, D: Keeper + Drop> Service<W, A, D> 
     /// after that, and nothing can be run again, since what the hub has isn't settled then.
     pub fn run(&mut self, turns: Option<u32>) -> Result<(), KeepFault>
         requires settled { IsSettled D.says self.old.depot self.old.hub }
-        ensures served { OnOk result (HasServed W.says A.brings (turn_count turns) self.old self.new) }
-        ensures breaks { OnErr result (IsBrokenOff W.says (D.says.may_leave self.new.depot) A.brings (turn_count turns)
+        ensures served { OnOk result (HasServed W.says A.steers (turn_count turns) self.old self.new) }
+        ensures breaks { OnErr result (IsBrokenOff W.says (D.says.may_leave self.new.depot) A.steers (turn_count turns)
             self.old self.new) }
         ensures keeps { Keeps D.says self.old.depot result self.new.hub self.new.depot }
     {

@@ -12,11 +12,12 @@ ghost use Rattle.njh_service.specs.Logging.{IsLogged};
 ghost use Rattle.njh_service.specs.News.{after_telling, told_now, IsTold};
 ghost use Rattle.njh_service.specs.Opened.{site_kept};
 ghost use Rattle.njh_service.specs.Prompting.{HasSeen};
-ghost use Rattle.njh_service.specs.Sessions.{barred_until, moment_seen, tries_end, HasRefused, IsInSession, IsReady};
+ghost use Rattle.njh_service.specs.Sessions.{barred_until, moment_seen, news_seen, tries_end};
+ghost use Rattle.njh_service.specs.Sessions.{HasRefused, IsInSession, IsReady};
 
 use crate::desk::Desk;
-use crate::ending::{session_end, tries_end};
-use crate::entry::{LogEvent, SessionEnd};
+use crate::ending::{refusal_event, session_end, tries_end};
+use crate::entry::SessionEnd;
 use crate::post::{Label, Post};
 use crate::traffic::Sight;
 use njh_hub::{Hub, SessionView};
@@ -34,6 +35,8 @@ const NO_SESSION: SessionView = SessionView {
     next_count: 0,
     last_bcb: None,
     refusals: 0,
+    last_end: None,
+    last_refusal: None,
 };
 
 /// For how long a line takes no connection on which a sign-on was refused, in milliseconds.
@@ -56,6 +59,15 @@ impl<N: Network + Drop, L: Write + Drop> Desk<N, L> {
             let moment = moment_seen post.old.label session self.old.now post.old.moment in
             (post.new.moment ≡ moment) ⊎ (post.new.moment ≡ moment_of_loss post.old.site moment self.old.now) }
         ensures told { IsTold post.new.label.news self.old.now }
+        ensures ends { HasLine hub.now post.old.line →
+            ¬ (IsInSession post.old.label.in_session wire.old × HasGivenUp hub.now post.old.line) →
+            let session = line_view (hub_line post.old.line hub.now).state in
+            post.new.label.news ≡ news_seen post.old.label session None self.old.now }
+        ensures tries { HasLine hub.now post.old.line → IsInSession post.old.label.in_session wire.old →
+            HasGivenUp hub.now post.old.line →
+            let session = line_view (hub_line post.old.line hub.now).state in
+            let tries = tries_end post.old.label.tries_since (silence_of wire.old) self.old.now wire.old.last_bytes in
+            post.new.label.news ≡ news_seen post.old.label session (Some tries) self.old.now }
         ensures kept { HasLine hub.now post.old.line → ¬ HasGivenUp hub.now post.old.line →
             ¬ HasRefused post.old.label (line_view (hub_line post.old.line hub.now).state) →
             wire.new.connection ≡ wire.old.connection }
@@ -69,13 +81,11 @@ impl<N: Network + Drop, L: Write + Drop> Desk<N, L> {
         let gave_up = self.end_tries(post.line, &post.label, hub, wire);
         let is_refused = self.end_refused(&mut post.label, &session, wire);
         let end = heard_end(wire, gave_up.is_some() || is_refused);
-        let is_lost = (end.is_some() && !is_refused) || post.label.lost;
-        post.see(session, session_end(gave_up, is_lost), now);
+        post.see(session, session_end(gave_up, session.last_end), now);
         self.tell_files(post.line, &post.label, &mut post.streams, hub);
         self.tell_sessions(&mut post.label, now);
         if let Some(end) = end {
             self.tell_end(&mut post.label, end);
-            post.label.lost = true;
             post.lose(now);
         }
     }
@@ -128,7 +138,7 @@ impl<N: Network + Drop, L: Write + Drop> Desk<N, L> {
         }
         wire.close();
         label.barred_until = self.now.saturating_add(BARRED);
-        self.tell(label, LogEvent::SignOnRefused);
+        self.tell(label, refusal_event(session.last_refusal));
         true
     }
 

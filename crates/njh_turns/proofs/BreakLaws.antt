@@ -4,11 +4,7 @@ use Rattle.std.proofs.Common.{Result, Ok, ap, sym, subst, ◌∙◌, ⊎_elim, a
 use Rattle.std.specs.Prelude.{OnErr}
 use Rattle.std.proofs.lemmas.Bool.{cases_eq}
 use Rattle.std.proofs.lemmas.List.{length-append, get_or_read, get_or-set_same, get_or-set_other}
-use Rattle.njh_spool.specs.Restoring.{KeptFile}
 use Rattle.njh_table.specs.declared.LineId.{LineId}
-use Rattle.njh_table.specs.declared.new_routes.GivenRoute.{GivenRoute}
-use Rattle.njh_table.specs.NewRoutes.{new_routes_of, routes_checked, entries_of_routes}
-use Rattle.njh_customer.specs.NewRoutes.{part_after_routes}
 use Rattle.njh_customer.specs.Feeding.{sent_on}
 use Rattle.njh_customer.specs.Part.{part_after_signal}
 use Rattle.njh_customer.specs.declared.signal.Signal.{Signal}
@@ -21,15 +17,13 @@ use Rattle.njh_hub.specs.Sent.{IsCounted}
 use Rattle.njh_hub.specs.WholeHub.{Part, HubRun, part, hub_run, sent_by}
 use Rattle.njh_hub.specs.Cuts.{cut_to}
 use Rattle.njh_hub.proofs.PieceLaws.{after_bytes}
-use Rattle.njh_hub.proofs.RunningLaws.{GoesOn, counted_from, part_done, routes_done, signal_done, step_done, whole_done}
+use Rattle.njh_hub.proofs.RunningLaws.{GoesOn, counted_from, part_done, signal_done, step_done, whole_done}
 use Rattle.njh_hub.proofs.CutLaws.{cut_to-event_by, signal_stops, step_stops}
 use Rattle.njh_turns.specs.declared.wire_reading.Reading.{Reading}
 use Rattle.njh_turns.specs.declared.wire_reading.Reading.TheVariants as reading
 use Rattle.njh_turns.specs.declared.wire_reading.WireFault.{WireFault}
 use Rattle.njh_turns.specs.Breaks.{Break, AtStep, AtLoss, AreWithheld, BrokenTurn, EventBreaks, IsAtLoss, RoundStops}
-use Rattle.njh_turns.specs.Breaks.{RoutesBreak}
 use Rattle.njh_turns.specs.Breaks.{TurnBreaks, acts_before}
-use Rattle.njh_turns.specs.Keeping.{LeavesEither}
 use Rattle.njh_turns.specs.Turns.{Turn, IsRound, no_line_id, wire_event, HubMoment, hub_wires}
 use Rattle.njh_turns.specs.Wires.{Failed, IsDone, WireAct, Unsent, answer_acts, heard_of, sent_act, WireSays, hub_wire}
 use Rattle.njh_turns.proofs.TurnLaws.{counted_on, failed-err, prompted-ok}
@@ -254,19 +248,3 @@ withheld_on {S} says more wires now_wires i wire new_wire there wire_is so_far t
     at k d (inr other) =
         subst (says.withheld (get_or wires k d)) (sym (get_or-set_other now_wires i k new_wire d other))
         (so_far k d)
-
--- ---- new routes
-
--- new routes, and the keeper that failed behind them
-pub routes_break : (may_leave : List (List KeptFile) → Type 0) (parts new : List Part) (c : ℕ)
-    (routes : List GivenRoute) →
-    new ≡ set parts c (part_after_routes (entries_of_routes (new_routes_of c routes)) (part c parts))
-    → c < length parts →
-    routes_checked (part c parts).customer.entry (new_routes_of c routes) ≡ Ok tt
-    → LeavesEither may_leave parts new →
-    RoutesBreak may_leave parts (c, routes) new
-routes_break may_leave parts new c routes is known checked leaves = record {
-  named = (known, checked);
-  hub = is ∙ sym (ap (λ (h : HubRun). h.parts) (routes_done parts c routes checked));
-  left = leaves;
-}

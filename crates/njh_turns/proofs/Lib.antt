@@ -4,6 +4,6 @@ pub mod RoundLaws
 pub mod OwnWires
 pub mod ServiceLaws
 pub mod ServedLaws
-pub mod OwnRoutes
+pub mod OwnService
 pub mod KeepingLaws
 pub mod BreakLaws

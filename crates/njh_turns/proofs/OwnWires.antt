@@ -4,7 +4,7 @@ use Rattle.std.proofs.Common.{ap, sym, ◌∙◌}
 use Rattle.njh_table.specs.declared.LineId.{LineId}
 use Rattle.njh_customer.specs.Runs.{OwnEvent}
 use Rattle.njh_hub.specs.declared.event.Event.{Event}
-use Rattle.njh_hub.specs.declared.event.Event.TheVariants.{Bytes, Tick, Garbled, Lost, Routes}
+use Rattle.njh_hub.specs.declared.event.Event.TheVariants.{Bytes, Tick, Garbled, Lost, Routes, Order}
 use Rattle.njh_hub.specs.OwnEvents.{customer_of_event, line_of_event, own, events_of}
 use Rattle.njh_hub.specs.Cuts.{cut_to}
 use Rattle.njh_turns.specs.Wires.{Heard, Came, Quiet, Pending, Prompted, Closed, Absent, Failed, loss_of, heard_events}
@@ -49,6 +49,7 @@ customer_of-cut n (Tick id) = refl
 customer_of-cut n (Garbled id) = refl
 customer_of-cut n (Lost id) = refl
 customer_of-cut n (Routes c routes) = refl
+customer_of-cut n (Order c order) = refl
 
 same_customer : (l id : LineId) → Some l ≡ Some id → l.customer ≡ id.customer
 same_customer l id is = let same : l ≡ id = cc is in ap (λ (x : LineId). x.customer) same
@@ -60,6 +61,7 @@ customer_of-on (Tick l) id on = same_customer l id on
 customer_of-on (Garbled l) id on = same_customer l id on
 customer_of-on (Lost l) id on = same_customer l id on
 customer_of-on (Routes c routes) id on = cc on
+customer_of-on (Order c order) id on = cc on
 
 told-other : (c : ℕ) (id : LineId) (cut : Option ℕ) (event : Event) → line_of_event event ≡ Some id
     → eqb id.customer c ≡ false →

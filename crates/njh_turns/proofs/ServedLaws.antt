@@ -1,4 +1,4 @@
--- A service whose attendant brings no routes: its story is rounds alone.
+-- A service whose attendant brings nothing: its story is rounds alone.
 use Rattle.std.proofs.Common.{◌≡◌, ℕ, List, [], ◌∷◌, ◌++◌, get_or, refl, ap, subst, ◌∙◌, inl, inr}
 use Rattle.std.specs.Prelude.{All, ◌⊎◌}
 use Rattle.std.proofs.lemmas.List.Elements.{All-head, All-tail}
@@ -7,7 +7,7 @@ use Rattle.njh_table.specs.declared.LineId.{LineId}
 use Rattle.njh_hub.specs.declared.event.Event.{Event}
 use Rattle.njh_hub.specs.WholeHub.{Part, hub_run}
 use Rattle.njh_turns.specs.Breaks.{ServiceBreaks, TurnsBreak}
-use Rattle.njh_turns.specs.Service.{Happening, Round, NewRoutes, IsAttended, IsBrought, service_events, service_quiets}
+use Rattle.njh_turns.specs.Service.{Happening, Round, Given, IsAttended, IsBrought, service_events, service_quiets}
 use Rattle.njh_turns.specs.Service.{service_rounds, service_turns}
 use Rattle.njh_turns.specs.Turns.{Placed, HubMoment, HubWires, HadTurns, IsServed, all_events, all_quiets, hub_wires}
 use Rattle.njh_turns.specs.Turns.{moment}
@@ -20,16 +20,16 @@ rounds_events lines quiets [] none = refl
 rounds_events lines quiets (Round turns ∷ story) none =
     ap (λ (es : List Event). round_events lines quiets turns ++ es)
     (rounds_events lines (quiets_after quiets turns) story (All-tail (IsBrought ⊥) (Round turns) story none))
-rounds_events lines quiets (NewRoutes c routes ∷ story) none =
-    absurd (All-head (IsBrought ⊥) (NewRoutes c routes) story none)
+rounds_events lines quiets (Given event ∷ story) none =
+    absurd (All-head (IsBrought ⊥) (Given event) story none)
 
 rounds_quiets : (quiets : List ℕ) (story : List Happening) → All (IsBrought ⊥) story →
     service_quiets quiets story ≡ all_quiets quiets (service_rounds story)
 rounds_quiets quiets [] none = refl
 rounds_quiets quiets (Round turns ∷ story) none =
     rounds_quiets (quiets_after quiets turns) story (All-tail (IsBrought ⊥) (Round turns) story none)
-rounds_quiets quiets (NewRoutes c routes ∷ story) none =
-    absurd (All-head (IsBrought ⊥) (NewRoutes c routes) story none)
+rounds_quiets quiets (Given event ∷ story) none =
+    absurd (All-head (IsBrought ⊥) (Given event) story none)
 
 rounds_turns : (parts : List Part) (lines : List LineId) (quiets : List ℕ) (i : ℕ) (story : List Happening) →
     All (IsBrought ⊥) story →
@@ -39,8 +39,18 @@ rounds_turns parts lines quiets i (Round turns ∷ story) none =
     ap (λ (ps : List Placed). turn_at parts lines quiets i turns ∷ ps)
     (rounds_turns (hub_run parts (round_events lines quiets turns)).parts lines (quiets_after quiets turns) i story
     (All-tail (IsBrought ⊥) (Round turns) story none))
-rounds_turns parts lines quiets i (NewRoutes c routes ∷ story) none =
-    absurd (All-head (IsBrought ⊥) (NewRoutes c routes) story none)
+rounds_turns parts lines quiets i (Given event ∷ story) none =
+    absurd (All-head (IsBrought ⊥) (Given event) story none)
+
+-- The second can't be,
+first_of : {A B : Type 0} → A ⊎ B → (B → ⊥) → A
+first_of (inl a) never = a
+first_of (inr b) never = absurd (never b)
+
+-- or the first.
+second_of : {A B : Type 0} → A ⊎ B → (A → ⊥) → B
+second_of (inl a) never = absurd (never a)
+second_of (inr b) never = b
 
 -- So many rounds, the first of which found no quiets.
 pub served_by : {W : Type 0} {says : WireSays W} {lines : List LineId} {turns : ℕ} {before : HubWires W}
@@ -48,7 +58,7 @@ pub served_by : {W : Type 0} {says : WireSays W} {lines : List LineId} {turns : 
     IsServed says lines turns before (hub_wires after.parts after.wires)
 served_by {W} {says} {lines} {turns} {before} {after} a = record {
   rounds = service_rounds a.story;
-  many = a.many;
+  many = first_of a.many (λ fewer. fewer.0);
   each = a.each;
   hub = a.hub ∙ ap (λ (es : List Event). (hub_run before.parts es).parts)
       (rounds_events lines (no_quiets lines) a.story a.brought);
@@ -56,11 +66,6 @@ served_by {W} {says} {lines} {turns} {before} {after} a = record {
       let P : List Placed → Type 0 = λ ps. HadTurns says ps (get_or before.wires i d) (get_or after.wires i d) in
       subst P (rounds_turns before.parts lines (no_quiets lines) i a.story a.brought) (a.had i d within);
 }
-
--- The first can't be.
-second_of : {A B : Type 0} → A ⊎ B → (A → ⊥) → B
-second_of (inl a) never = absurd (never a)
-second_of (inr b) never = b
 
 -- One of them was broken off.
 pub turns_break : {W : Type 0} {says : WireSays W} {may_leave : List (List KeptFile) → Type 0} {lines : List LineId}

@@ -1,18 +1,23 @@
--- A service that goes on: wires at rest, new routes, one round more.
+-- A service that goes on: wires at rest, what a customer is given, one round more.
 use Rattle.std.proofs.Common.{◌≡◌, ℕ, ◌<◌, ◌≤◌, List, [], ◌∷◌, ◌++◌, length, set, get_or, refl, Option, Some, None}
-use Rattle.std.proofs.Common.{Result, Ok, Err, ap, sym, subst, ◌∙◌, arith, append_assoc, append-nil}
-use Rattle.std.specs.Prelude.{All, IsSome, OnOk, OnErr}
+use Rattle.std.proofs.Common.{true, Ok, ap, sym, subst, ◌∙◌, ◌⊎◌, ⊎_elim, inl, arith, append_assoc, append-nil}
+use Rattle.std.specs.Prelude.{All, IsSome}
 use Rattle.std.proofs.lemmas.Grind.{flat_map-append}
 use Rattle.std.proofs.lemmas.List.Elements.{All-push}
 use Rattle.njh_table.specs.declared.LineId.{LineId}
 use Rattle.njh_table.specs.declared.new_routes.GivenRoute.{GivenRoute}
 use Rattle.njh_table.specs.NewRoutes.{new_routes_of, routes_checked, entries_of_routes}
 use Rattle.njh_customer.specs.NewRoutes.{part_after_routes}
+use Rattle.njh_customer.specs.Orders.{has_way, part_after_order}
+use Rattle.njh_customer.specs.declared.given_order.GivenOrder.{GivenOrder}
+use Rattle.njh_spool.specs.Restoring.{KeptFile}
 use Rattle.njh_hub.specs.declared.event.Event.{Event}
-use Rattle.njh_hub.specs.declared.event.Event.TheVariants.{Routes}
-use Rattle.njh_turns.specs.Service.{Happening, Round, NewRoutes, happening_events, happening_quiets, happening_rounds}
+use Rattle.njh_hub.specs.declared.event.Event.TheVariants.{Routes, Order}
+use Rattle.njh_turns.specs.Breaks.{GivenBreak}
+use Rattle.njh_turns.specs.Keeping.{LeavesEither}
+use Rattle.njh_turns.specs.Service.{Happening, Round, Given, happening_events, happening_quiets, happening_rounds}
 use Rattle.njh_turns.specs.Service.{happening_turns, IsPossible, ArePossible, IsBrought, service_events, service_quiets}
-use Rattle.njh_turns.specs.Service.{service_rounds, service_turns, AreStill, IsAttended, IsGiven}
+use Rattle.njh_turns.specs.Service.{service_rounds, service_turns, AreStill, IsAttended, WasGiven}
 use Rattle.std.specs.List.{flat_map}
 use Rattle.njh_hub.specs.WholeHub.{Part, HubRun, part, hub_run}
 use Rattle.njh_hub.proofs.RunningLaws.{hub_run-append, routes_done}
@@ -100,22 +105,23 @@ service_rounds-more story more =
 -- ---- a service that came so far
 
 -- What `IsAttended` says, whatever the number of its rounds.
-pub record IsAt {W : Type 0} (says : WireSays W) (brings : Type 0) (lines : List LineId) (first : HubMoment W)
+pub record IsAt {W : Type 0} (says : WireSays W) (steers : Type 0) (lines : List LineId) (first : HubMoment W)
     (story : List Happening) (now : HubMoment W) : Type 0 where
   pub each : All (λ round. length round ≡ length lines) (service_rounds story)
   pub possible : ArePossible first.parts lines first.quiets story
-  pub brought : All (IsBrought brings) story
+  pub brought : All (IsBrought steers) story
   pub hub : now.parts ≡ (hub_run first.parts (service_events lines first.quiets story)).parts
   pub calm : now.quiets ≡ service_quiets first.quiets story
   pub had : (i : ℕ) (d : W) → i < length lines →
       HadTurns says (service_turns first.parts lines first.quiets i story) (get_or first.wires i d)
       (get_or now.wires i d)
 
--- what is said of it where so many of its happenings are rounds
-pub attended_at : {W : Type 0} {says : WireSays W} {brings : Type 0} {lines : List LineId} {first now : HubMoment W}
-    {story : List Happening} {turns : ℕ} → IsAt says brings lines first story now →
-    length (service_rounds story) ≡ turns → IsAttended says brings lines turns first now
-attended_at {W} {says} {brings} {lines} {first} {now} {story} h many = record {
+-- what is said of it where so many of its happenings are rounds, or fewer
+pub attended_in : {W : Type 0} {says : WireSays W} {steers : Type 0} {lines : List LineId} {first now : HubMoment W}
+    {story : List Happening} {turns : ℕ} → IsAt says steers lines first story now →
+    (length (service_rounds story) ≡ turns) ⊎ (steers × (length (service_rounds story) < turns)) →
+    IsAttended says steers lines turns first now
+attended_in {W} {says} {steers} {lines} {first} {now} {story} h many = record {
   story = story;
   many = many;
   each = h.each;
@@ -126,9 +132,22 @@ attended_at {W} {says} {brings} {lines} {first} {now} {story} h many = record {
   had = h.had;
 }
 
-pub at_first : {W : Type 0} (says : WireSays W) (brings : Type 0) (lines : List LineId) (first : HubMoment W) →
-    ((s : W) → says.passed s s []) → IsAt says brings lines first [] first
-at_first says brings lines first none = record {
+pub attended_at : {W : Type 0} {says : WireSays W} {steers : Type 0} {lines : List LineId} {first now : HubMoment W}
+    {story : List Happening} {turns : ℕ} → IsAt says steers lines first story now →
+    length (service_rounds story) ≡ turns → IsAttended says steers lines turns first now
+attended_at h many = attended_in h (inl many)
+
+-- there are at most so many
+pub rounds_within : {W : Type 0} {says : WireSays W} {steers : Type 0} {lines : List LineId} {turns : ℕ}
+    {first now : HubMoment W} (a : IsAttended says steers lines turns first now) →
+    length (service_rounds a.story) ≤ turns
+rounds_within {W} {says} {steers} {lines} {turns} a =
+    ⊎_elim (λ (w : length (service_rounds a.story) ≡ turns). omega (arith, w))
+    (λ (w : steers × (length (service_rounds a.story) < turns)). omega (arith, w.1)) a.many
+
+pub at_first : {W : Type 0} (says : WireSays W) (steers : Type 0) (lines : List LineId) (first : HubMoment W) →
+    ((s : W) → says.passed s s []) → IsAt says steers lines first [] first
+at_first says steers lines first none = record {
   each = λ k d never. absurd (omega (arith, never));
   possible = tt;
   brought = λ k d never. absurd (omega (arith, never));
@@ -158,12 +177,12 @@ had_still {W} says turns a b c more h still counts =
     }
 
 -- wires on which nothing passed
-pub at_still : {W : Type 0} {says : WireSays W} {brings : Type 0} {lines : List LineId} {first now : HubMoment W}
-    {story : List Happening} (new_wires : List W) → IsAt says brings lines first story now →
+pub at_still : {W : Type 0} {says : WireSays W} {steers : Type 0} {lines : List LineId} {first now : HubMoment W}
+    {story : List Happening} (new_wires : List W) → IsAt says steers lines first story now →
     ((a b c : W) (xs ys : List WireAct) → says.passed a b xs → says.passed b c ys → says.passed a c (xs ++ ys)) →
     length now.wires ≡ length lines → AreStill says.passed says.count now.wires new_wires →
-    IsAt says brings lines first story (moment now.parts now.quiets new_wires)
-at_still {W} {says} {brings} {lines} {first} {now} {story} new_wires h more same still = record {
+    IsAt says steers lines first story (moment now.parts now.quiets new_wires)
+at_still {W} {says} {steers} {lines} {first} {now} {story} new_wires h more same still = record {
   each = h.each;
   possible = h.possible;
   brought = h.brought;
@@ -174,21 +193,20 @@ at_still {W} {says} {brings} {lines} {first} {now} {story} new_wires h more same
       (still.passed_none i d (omega (arith, same, within))) (still.counts i d (omega (arith, same, within)));
 }
 
--- the happening, if any, of new routes
-abbrev pub with_given : List Happening → Option (ℕ × List GivenRoute) → List Happening
+-- the happening, if any, of what is given
+abbrev pub with_given : List Happening → Option Event → List Happening
 with_given story None = story
-with_given story (Some given) = story ++ NewRoutes given.0 given.1 ∷ []
+with_given story (Some event) = story ++ Given event ∷ []
 
-pub rounds-with_given : (story : List Happening) (given : Option (ℕ × List GivenRoute)) →
+pub rounds-with_given : (story : List Happening) (given : Option Event) →
     service_rounds (with_given story given) ≡ service_rounds story
 rounds-with_given story None = refl
-rounds-with_given story (Some given) = service_rounds-more story (NewRoutes given.0 given.1)
-    ∙ append-nil (service_rounds story)
+rounds-with_given story (Some event) = service_rounds-more story (Given event) ∙ append-nil (service_rounds story)
 
-pub at_given : {W : Type 0} {says : WireSays W} {brings : Type 0} {lines : List LineId} {first now : HubMoment W}
-    {story : List Happening} (given : Option (ℕ × List GivenRoute)) (new : List Part) →
-    IsAt says brings lines first story now → IsGiven now.parts given new → (IsSome given → brings) →
-    IsAt says brings lines first (with_given story given) (moment new now.quiets now.wires)
+pub at_given : {W : Type 0} {says : WireSays W} {steers : Type 0} {lines : List LineId} {first now : HubMoment W}
+    {story : List Happening} (given : Option Event) (new : List Part) →
+    IsAt says steers lines first story now → WasGiven now.parts given new → (IsSome given → steers) →
+    IsAt says steers lines first (with_given story given) (moment new now.quiets now.wires)
 at_given None new h done from = record {
   each = h.each;
   possible = h.possible;
@@ -197,15 +215,15 @@ at_given None new h done from = record {
   calm = h.calm;
   had = h.had;
 }
-at_given {W} {says} {brings} {lines} {first} {now} {story} (Some given) new h done from =
-    let more = NewRoutes given.0 given.1 in
+at_given {W} {says} {steers} {lines} {first} {now} {story} (Some event) new h done from =
+    let more = Given event in
     let P : List (List Turn) → Type 0 = λ rounds. All (λ round. length round ≡ length lines) rounds in
     record {
-      each = subst P (sym (rounds-with_given story (Some given))) h.each;
+      each = subst P (sym (rounds-with_given story (Some event))) h.each;
       possible = possible-more first.parts lines first.quiets story more h.possible
           (subst (λ (ps : List Part). IsPossible ps more) h.hub done.0);
-      brought = All-push (IsBrought brings) story more h.brought (from refl);
-      hub = done.1 ∙ ap (λ (ps : List Part). (hub_run ps (Routes given.0 given.1 ∷ [])).parts) h.hub
+      brought = All-push (IsBrought steers) story more h.brought (from refl);
+      hub = done.1 ∙ ap (λ (ps : List Part). (hub_run ps (event ∷ [])).parts) h.hub
           ∙ sym (parts_after-more first.parts lines first.quiets story more);
       calm = h.calm ∙ sym (service_quiets-more first.quiets story more);
       had = λ i d within.
@@ -215,12 +233,12 @@ at_given {W} {says} {brings} {lines} {first} {now} {story} (Some given) new h do
           (h.had i d within);
     }
 
-pub at_round : {W : Type 0} {says : WireSays W} {brings : Type 0} {lines : List LineId} {first now new : HubMoment W}
-    {story : List Happening} {round : List Turn} → IsAt says brings lines first story now →
+pub at_round : {W : Type 0} {says : WireSays W} {steers : Type 0} {lines : List LineId} {first now new : HubMoment W}
+    {story : List Happening} {round : List Turn} → IsAt says steers lines first story now →
     ((a b c : W) (xs ys : List WireAct) → says.passed a b xs → says.passed b c ys → says.passed a c (xs ++ ys)) →
     length round ≡ length lines → IsRound says lines now round new →
-    IsAt says brings lines first (story ++ Round round ∷ []) new
-at_round {W} {says} {brings} {lines} {first} {now} {new} {story} {round} h more whole r =
+    IsAt says steers lines first (story ++ Round round ∷ []) new
+at_round {W} {says} {steers} {lines} {first} {now} {new} {story} {round} h more whole r =
     let led = (hub_run first.parts (service_events lines first.quiets story)).parts in
     let quieter = service_quiets first.quiets story in
     let P : List (List Turn) → Type 0 = λ rounds. All (λ round. length round ≡ length lines) rounds in
@@ -228,7 +246,7 @@ at_round {W} {says} {brings} {lines} {first} {now} {new} {story} {round} h more 
       each = subst P (sym (service_rounds-more story (Round round)))
           (All-push (λ round. length round ≡ length lines) (service_rounds story) round h.each whole);
       possible = possible-more first.parts lines first.quiets story (Round round) h.possible tt;
-      brought = All-push (IsBrought brings) story (Round round) h.brought tt;
+      brought = All-push (IsBrought steers) story (Round round) h.brought tt;
       hub = r.hub ∙ ap (λ (ps : List Part). (hub_run ps (round_events lines now.quiets round)).parts) h.hub
           ∙ ap (λ (qs : List ℕ). (hub_run led (round_events lines qs round)).parts) h.calm
           ∙ sym (parts_after-more first.parts lines first.quiets story (Round round));
@@ -250,20 +268,31 @@ pub rounds-with_round : (story : List Happening) (round : List Turn) →
     service_rounds (story ++ Round round ∷ []) ≡ service_rounds story ++ round ∷ []
 rounds-with_round story round = service_rounds-more story (Round round)
 
--- ---- new routes
+-- ---- what is given
 
--- what came of routes that a customer was to have
-pub given_by : {A E : Type 0} (parts new : List Part) (c : ℕ) (routes : List GivenRoute) (answer : Result A E) →
-    OnOk answer (new ≡ set parts c (part_after_routes (entries_of_routes (new_routes_of c routes)) (part c parts))) →
-    OnOk answer (c < length parts) →
-    OnOk answer (routes_checked (part c parts).customer.entry (new_routes_of c routes) ≡ Ok tt) →
-    OnErr answer (new ≡ parts) → (given : Option (ℕ × List GivenRoute)) × IsGiven parts given new
-given_by parts new c routes (Ok x) hub known checked err = (
-  Some (c, routes),
-  (
-    (known, checked),
-    hub
-        ∙ sym (ap (λ (h : HubRun). h.parts) (routes_done parts c routes checked)),
-  ),
+-- new routes
+pub by_routes : (parts new : List Part) (c : ℕ) (routes : List GivenRoute) →
+    new ≡ set parts c (part_after_routes (entries_of_routes (new_routes_of c routes)) (part c parts)) →
+    c < length parts → routes_checked (part c parts).customer.entry (new_routes_of c routes) ≡ Ok tt →
+    WasGiven parts (Some (Routes c routes)) new
+by_routes parts new c routes hub known checked = (
+  record { given = refl; named = (known, checked); way = tt },
+  hub ∙ sym (ap (λ (h : HubRun). h.parts) (routes_done parts c routes checked)),
 )
-given_by parts new c routes (Err e) hub known checked err = (None, err)
+
+-- an order
+pub by_order : (parts new : List Part) (c : ℕ) (order : GivenOrder) →
+    new ≡ set parts c (part_after_order order (part c parts)) → c < length parts →
+    has_way (part c parts).customer.entry order ≡ true → WasGiven parts (Some (Order c order)) new
+by_order parts new c order hub known way = (record { given = refl; named = known; way = way }, hub)
+
+-- where it is kept, or isn't
+pub was_given : {parts new : List Part} {event : Event} → WasGiven parts (Some event) new
+    → (given : Option Event) × WasGiven parts given new
+was_given {parts} {new} {event} done = (Some event, done)
+
+pub given_break : {may_leave : List (List KeptFile) → Type 0} {parts new : List Part} {event : Event}
+    → WasGiven parts (Some event) new → LeavesEither may_leave parts new
+    → (event : Event) × GivenBreak may_leave parts event new
+given_break {may_leave} {parts} {new} {event} done left =
+    (event, record { can = done.0; hub = done.1; left = left })

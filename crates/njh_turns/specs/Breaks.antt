@@ -3,16 +3,14 @@
 use Rattle.std.specs.Prelude.{◌≡◌, ◌⊎◌, ℕ, ◌+◌, ◌<◌, ◌≤◌, List, [], ◌∷◌, ◌++◌, length, map, Some}
 use Rattle.std.specs.Prelude.{slice_index_or, slice_set, ⊤}
 use Rattle.njh_table.specs.declared.LineId.{LineId}
-use Rattle.njh_table.specs.declared.new_routes.GivenRoute.{GivenRoute}
 use Rattle.njh_hub.specs.declared.event.Event.{Event}
-use Rattle.njh_hub.specs.declared.event.Event.TheVariants.{Routes}
 use Rattle.njh_hub.specs.OwnEvents.{bytes_in_event, first_bytes}
 use Rattle.njh_hub.specs.Resting.{IsResting}
 use Rattle.njh_hub.specs.Sent.{IsCounted}
-use Rattle.njh_hub.specs.WholeHub.{Part, IsNamed, hub_run}
+use Rattle.njh_hub.specs.WholeHub.{Part, hub_run}
 use Rattle.njh_hub.specs.Cuts.{SendsAt, cut_to, run_until}
 use Rattle.njh_turns.specs.Keeping.{KeptFile, LeavesEither, LeavesOnly}
-use Rattle.njh_turns.specs.Service.{IsAttended}
+use Rattle.njh_turns.specs.Service.{CanBeGiven, IsAttended}
 use Rattle.njh_turns.specs.Turns.{Turn, HubMoment, HubWires, IsRound, IsServed, all_quiets, hub_wires, moment}
 use Rattle.njh_turns.specs.Turns.{no_line_id}
 use Rattle.njh_turns.specs.Turns.{no_quiets, wire_event}
@@ -127,20 +125,20 @@ pub record TurnsBreak {W : Type 0} (says : WireSays W) (may_leave : List (List K
 
 -- ---- a service
 
--- The keeper failed when a customer was given routes, which it may have.
-pub record RoutesBreak (may_leave : List (List KeptFile) → Type 0) (parts : List Part)
-    (given : ℕ × List GivenRoute) (new : List Part) : Type 0 where
-  pub named : IsNamed parts (Routes given.0 given.1)
-  pub hub : new ≡ (hub_run parts (Routes given.0 given.1 ∷ [])).parts
+-- The keeper failed when a customer was given new routes or an order, which it can be given.
+pub record GivenBreak (may_leave : List (List KeptFile) → Type 0) (parts : List Part) (event : Event)
+    (new : List Part) : Type 0 where
+  pub can : CanBeGiven parts event
+  pub hub : new ≡ (hub_run parts (event ∷ [])).parts
   pub left : LeavesEither may_leave parts new
 
--- A service of fewer rounds than there were to be. Then the keeper failed: where a customer was given routes that the
+-- A service of fewer rounds than there were to be. Then the keeper failed: where a customer was given what the
 -- attendant brought, and nothing passed on any wire after that; or in a round.
 pub record ServiceBreaks {W : Type 0} (says : WireSays W) (may_leave : List (List KeptFile) → Type 0)
-    (brings : Type 0) (lines : List LineId) (turns : ℕ) (before : HubMoment W) (after : HubWires W) : Type 0 where
+    (steers : Type 0) (lines : List LineId) (turns : ℕ) (before : HubMoment W) (after : HubWires W) : Type 0 where
   pub rounds : ℕ
   pub fewer : rounds < turns
   pub mid : HubMoment W
-  pub attended : IsAttended says brings lines rounds before mid
-  pub breaks : (brings × (given : ℕ × List GivenRoute) × RoutesBreak may_leave mid.parts given after.parts
+  pub attended : IsAttended says steers lines rounds before mid
+  pub breaks : (steers × (event : Event) × GivenBreak may_leave mid.parts event after.parts
       × (after.wires ≡ mid.wires)) ⊎ RoundBreaks says may_leave lines mid after

@@ -3,7 +3,9 @@ use Rattle.std.specs.Prelude.{◌≡◌, ◌⊎◌, ℕ, ◌<◌, ◌≤◌, Boo
 use Rattle.std.specs.Prelude.{slice_set, Result, OnOk, OnErr}
 use Rattle.njh_table.specs.Entries.{RouteEntry}
 use Rattle.njh_customer.specs.NewRoutes.{part_after_routes}
+use Rattle.njh_customer.specs.Orders.{part_after_order}
 use Rattle.njh_customer.specs.Part.{part_after_bytes, part_after_signal}
+use Rattle.njh_customer.specs.declared.given_order.GivenOrder.{GivenOrder}
 use Rattle.njh_customer.specs.declared.signal.Signal.{Signal}
 pub use Rattle.njh_spool.specs.Restoring.{KeptFile}
 use Rattle.njh_spool.specs.Restoring.{kept}
@@ -42,11 +44,12 @@ left_of c left = slice_index_or left c []
 
 -- ---- one step
 
--- A step of a customer, or new routes of it, lead its part there.
+-- A step of a customer, new routes of it or an order for it lead its part there.
 pub data IsLed (p after : Part) : Type 0 where
   by_bytes : (l : ℕ) (piece : List ℕ) → l < length p.rests → after ≡ (part_after_bytes p l piece).after → IsLed p after
   by_signal : (l : ℕ) (signal : Signal) → after ≡ (part_after_signal p l signal).after → IsLed p after
   by_routes : (routes : List RouteEntry) → after ≡ part_after_routes routes p → IsLed p after
+  by_order : (order : GivenOrder) → after ≡ part_after_order order p → IsLed p after
 
 -- One of customer c leads the hub there.
 abbrev pub LeadsHub : ℕ → (before now : List Part) → Type 0

@@ -1,52 +1,63 @@
--- A service: rounds of turns, and new routes between them.
-use Rattle.std.specs.Prelude.{◌≡◌, ℕ, ◌<◌, ◌≤◌, ◌==◌, cond, List, [], ◌∷◌, ◌++◌, length, Option, Some, None, ⊤}
-use Rattle.std.specs.Prelude.{slice_index_or, All}
+-- A service: rounds of turns, and between them what customers are given: new routes, or an order.
+use Rattle.std.specs.Prelude.{◌≡◌, ◌⊎◌, ℕ, ◌<◌, ◌≤◌, ◌==◌, true, cond, List, [], ◌∷◌, ◌++◌, length, Option, Some, None, ⊤}
+use Rattle.std.specs.Prelude.{Result, OnOk, OnErr, slice_index_or, All}
 use Rattle.std.specs.List.{flat_map}
 use Rattle.njh_table.specs.declared.LineId.{LineId}
-use Rattle.njh_table.specs.declared.new_routes.GivenRoute.{GivenRoute}
+use Rattle.njh_customer.specs.Orders.{replies_to}
+use Rattle.njh_customer.specs.declared.given_order.GivenOrder.{GivenOrder}
 use Rattle.njh_hub.specs.declared.event.Event.{Event}
-use Rattle.njh_hub.specs.declared.event.Event.TheVariants.{Routes}
-use Rattle.njh_hub.specs.OwnEvents.{events_of}
-use Rattle.njh_hub.specs.WholeHub.{Part, IsNamed, hub_run}
+use Rattle.njh_hub.specs.declared.event.Event.TheVariants.{Order}
+use Rattle.njh_hub.specs.declared.fault.HubFault.{HubFault}
+use Rattle.njh_hub.specs.OwnEvents.{customer_of_event, events_of}
+use Rattle.njh_hub.specs.RunStops.{IsGiven}
+use Rattle.njh_hub.specs.Steps.{IsOrdered}
+use Rattle.njh_hub.specs.WholeHub.{Part, part, IsNamed, IsWay, hub_run}
+use Rattle.njh_turns.specs.declared.attendant.NewOrder.{NewOrder}
 use Rattle.njh_turns.specs.Turns.{Turn, Placed, HubMoment, HadTurns, turn_at, quiets_after, round_events}
 use Rattle.njh_turns.specs.WireLaws.{own_wires}
 use Rattle.njh_turns.specs.Wires.{WireAct, WireSays}
 
 -- ---- what happens
 
--- What happens in a service: a round of turns, or new routes of a customer.
+-- What happens in a service: a round of turns, or something is given to a customer, new routes or an order.
 pub data Happening : Type 0 where
   Round : (turns : List Turn) → Happening
-  NewRoutes : (customer : ℕ) (routes : List GivenRoute) → Happening
+  Given : (event : Event) → Happening
 
 -- what the hub is told
 abbrev pub happening_events : List LineId → List ℕ → Happening → List Event
 happening_events lines quiets (Round turns) = round_events lines quiets turns
-happening_events lines quiets (NewRoutes c routes) = Routes c routes ∷ []
+happening_events lines quiets (Given event) = event ∷ []
 
--- the quiets in a row on each wire; new routes leave them as they are
+-- the quiets in a row on each wire; what is given leaves them as they are
 abbrev pub happening_quiets : List ℕ → Happening → List ℕ
 happening_quiets quiets (Round turns) = quiets_after quiets turns
-happening_quiets quiets (NewRoutes c routes) = quiets
+happening_quiets quiets (Given event) = quiets
 
 -- the turn of the i-th wire, in a round
 abbrev pub happening_turns : List Part → List LineId → List ℕ → ℕ → Happening → List Placed
 happening_turns parts lines quiets i (Round turns) = turn_at parts lines quiets i turns ∷ []
-happening_turns parts lines quiets i (NewRoutes c routes) = []
+happening_turns parts lines quiets i (Given event) = []
 
 abbrev pub happening_rounds : Happening → List (List Turn)
 happening_rounds (Round turns) = turns ∷ []
-happening_rounds (NewRoutes c routes) = []
+happening_rounds (Given event) = []
 
--- the hub has the customer that is given routes, which may have them
+-- An event of new routes or of an order, that can be given: the hub has the customer, which may have the routes, and
+-- the order has a way.
+pub record CanBeGiven (parts : List Part) (event : Event) : Type 0 where
+  pub given : IsGiven event
+  pub named : IsNamed parts event
+  pub way : IsWay parts event true
+
 abbrev pub IsPossible : List Part → Happening → Type 0
 IsPossible parts (Round turns) = ⊤
-IsPossible parts (NewRoutes c routes) = IsNamed parts (Routes c routes)
+IsPossible parts (Given event) = CanBeGiven parts event
 
--- new routes come only where somebody may bring some
+-- something is given only where somebody may bring it
 abbrev pub IsBrought : Type 0 → Happening → Type 0
-IsBrought brings (Round turns) = ⊤
-IsBrought brings (NewRoutes c routes) = brings
+IsBrought steers (Round turns) = ⊤
+IsBrought steers (Given event) = steers
 
 -- ---- a story: what happens, one after the other
 
@@ -70,22 +81,23 @@ service_turns parts lines quiets i (happening ∷ story) = happening_turns parts
     ++ service_turns (hub_run parts (happening_events lines quiets happening)).parts lines
     (happening_quiets quiets happening) i story
 
--- all new routes of a story could be given when they were
+-- all that is given in a story could be given when it was
 abbrev pub ArePossible : List Part → List LineId → List ℕ → List Happening → Type 0
 ArePossible parts lines quiets [] = ⊤
 ArePossible parts lines quiets (happening ∷ story) = IsPossible parts happening
     × ArePossible (hub_run parts (happening_events lines quiets happening)).parts lines
     (happening_quiets quiets happening) story
 
--- A service of so many rounds: each wire had one turn in each, in their order, and nothing else passed on it; the hub
--- was told of these turns, of new routes that it could give and that the attendant may bring, and of nothing else.
-pub record IsAttended {W : Type 0} (says : WireSays W) (brings : Type 0) (lines : List LineId) (turns : ℕ)
+-- A service of so many rounds, or of fewer where the attendant may end it: each wire had one turn in each, in their
+-- order, and nothing else passed on it; the hub was told of these turns, of new routes and orders that it could give and
+-- that the attendant may bring, and of nothing else.
+pub record IsAttended {W : Type 0} (says : WireSays W) (steers : Type 0) (lines : List LineId) (turns : ℕ)
     (before after : HubMoment W) : Type 0 where
   pub story : List Happening
-  pub many : length (service_rounds story) ≡ turns
+  pub many : (length (service_rounds story) ≡ turns) ⊎ (steers × (length (service_rounds story) < turns))
   pub each : All (λ round. length round ≡ length lines) (service_rounds story)
   pub possible : ArePossible before.parts lines before.quiets story
-  pub brought : All (IsBrought brings) story
+  pub brought : All (IsBrought steers) story
   pub hub : after.parts ≡ (hub_run before.parts (service_events lines before.quiets story)).parts
   pub calm : after.quiets ≡ service_quiets before.quiets story
   pub had : (i : ℕ) (d : W) → i < length lines →
@@ -102,24 +114,35 @@ pub record AreStill {S : Type 0} (passed : S → S → List WireAct → Type 0) 
   pub counts : (i : ℕ) (d : S) → i < length wires
       → count (slice_index_or wires i d) ≤ count (slice_index_or new_wires i d)
 
--- A customer was given these routes, if any, which it may have.
-abbrev pub IsGiven : List Part → Option (ℕ × List GivenRoute) → List Part → Type 0
-IsGiven parts None new = new ≡ parts
-IsGiven parts (Some given) new =
-    IsNamed parts (Routes given.0 given.1) × (new ≡ (hub_run parts (Routes given.0 given.1 ∷ [])).parts)
+-- A customer was given this, if anything was.
+abbrev pub WasGiven : List Part → Option Event → List Part → Type 0
+WasGiven parts None new = new ≡ parts
+WasGiven parts (Some event) new = CanBeGiven parts event × (new ≡ (hub_run parts (event ∷ [])).parts)
+
+-- an order with its customer, as an attendant brings it
+abbrev pub ordered : NewOrder → ℕ × GivenOrder
+ordered new = (new.customer, new.order)
+
+-- What came of an order, and what is said of it: the replies to it where it was done, none where it was refused.
+pub record IsAnswered {A : Type 0} (parts : List Part) (given : ℕ × GivenOrder) (answer : Result A HubFault)
+    (replies : List (List ℕ)) (new : List Part) : Type 0 where
+  pub done : IsOrdered parts given.0 given.1 answer new
+  pub replies_are : OnOk answer (replies ≡ replies_to given.1 (part given.0 parts).customer)
+  pub no_replies : OnErr answer (replies ≡ [])
 
 -- ---- a law
 
--- of a story, what is customer c's: the turns of its own wires, and its own new routes
+-- of a story, what is customer c's: the turns of its own wires, and its own new routes and orders
 abbrev pub own_story : ℕ → List LineId → List Happening → List Happening
 own_story c lines [] = []
 own_story c lines (Round turns ∷ story) = Round (own_wires c lines turns) ∷ own_story c lines story
-own_story c lines (NewRoutes customer routes ∷ story) =
-    cond (customer == c) (NewRoutes customer routes ∷ own_story c lines story) (own_story c lines story)
+own_story c lines (Given event ∷ story) =
+    cond (customer_of_event event == c) (Given event ∷ own_story c lines story) (own_story c lines story)
 
--- A customer's events are those of a service of as many rounds, of its own wires and with its own new routes alone.
-abbrev pub OwnWiresAndRoutesDecide : Type 0
-OwnWiresAndRoutesDecide =
+-- A customer's events are those of a service of as many rounds, of its own wires and with its own new routes and orders
+-- alone.
+abbrev pub OwnServiceDecides : Type 0
+OwnServiceDecides =
     (c : ℕ) (lines : List LineId) (quiets : List ℕ) (story : List Happening) →
     events_of c (service_events lines quiets story)
     ≡ events_of c (service_events (own_wires c lines lines) (own_wires c lines quiets) (own_story c lines story))

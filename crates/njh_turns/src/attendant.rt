@@ -1,10 +1,12 @@
 //! Who stands beside the rounds of a service.
 
-ghost use Rattle.std.specs.Prelude.{IsSome};
-ghost use Rattle.njh_turns.specs.Service.{AreStill};
+ghost use Rattle.std.specs.Prelude.{List, Some, None, IsSome, IsTrue, option_map};
+ghost use Rattle.njh_hub.specs.WholeHub.{Part};
+ghost use Rattle.njh_turns.specs.Service.{AreStill, IsAnswered, ordered};
 
 use crate::wire::Wire;
-use njh_hub::{GivenRoutes, Hub, HubFault};
+use njh_command::Replies;
+use njh_hub::{GivenOrder, GivenRoutes, Hub, HubFault};
 
 /// A customer, and the routes that it is to have from now on, in place of its own.
 #[derive(Drop)]
@@ -15,25 +17,63 @@ pub struct NewRoutes {
     pub routes: GivenRoutes,
 }
 
-/// Sees to the wires before and after each round of a service, says which of them are visited in
-/// it, and brings new routes. Nothing is read or written by it: it may let out what was written.
-/// The hub is told of the routes alone.
-pub trait Attendant<W: Wire> {
-    ghost use Rattle.std.specs.Prelude.{⊤};
+/// A customer, and what is ordered for it.
+#[derive(Drop)]
+pub struct NewOrder {
+    /// The customer's number.
+    pub customer: u16,
+    /// The order.
+    pub order: GivenOrder,
+}
 
-    /// It may bring new routes. One that says nothing of it may.
-    ghost brings: { Type 0 } = { ⊤ };
+/// Sees to the wires before and after each round of a service, says which of them are visited in
+/// it, brings new routes and orders, and says when the service is over. Nothing is read or written
+/// by it: it may let out what was written. The hub is told of the routes and the orders alone.
+pub trait Attendant<W: Wire> {
+    ghost use Rattle.std.specs.Prelude.{⊤, ℕ, Option};
+    ghost use Rattle.njh_customer.specs.declared.given_order.GivenOrder.{GivenOrder};
+
+    /// It may bring new routes and orders, and end the service. One that says nothing of it may.
+    ghost steers: { Type 0 } = { ⊤ };
+
+    /// Which order of which customer it waits for an answer to, if any. One that says nothing of it
+    /// may wait for any and for none.
+    ghost waits: { Self → Option (ℕ × GivenOrder) → Type 0 } = { λ attendant order. ⊤ };
+
+    /// Whether the service ends now. It is asked before each round, and first.
+    fn is_over(&self) -> bool
+        ensures { IsTrue result → steers };
 
     /// Comes before each round, as the wait for what the wires have.
     fn before(&mut self, wires: &mut [W])
-        ensures { AreStill W.says.passed W.says.count wires.old wires.new };
+        ensures still { AreStill W.says.passed W.says.count wires.old wires.new }
+        ensures asks_none { waits self.old None → waits self.new None };
 
     /// New routes, where a customer is to have some. It is asked once before each round.
     fn new_routes(&mut self) -> Option<NewRoutes>
-        ensures brought { IsSome result → brings };
+        ensures brought { IsSome result → steers }
+        ensures asks_none { waits self.old None → waits self.new None };
 
     /// What came of the routes that it brought: those of `Hub::set_routes`.
-    fn routes_given(&mut self, customer: u16, answer: Result<(), HubFault>);
+    fn routes_given(&mut self, customer: u16, answer: Result<(), HubFault>)
+        ensures asks_none { waits self.old None → waits self.new None };
+
+    /// An order, where there is one for a customer. It is asked once before each round.
+    fn new_order(&mut self) -> Option<NewOrder>
+        ensures brought { IsSome result → steers }
+        ensures asks { waits self.old None → waits self.new (option_map ordered result) };
+
+    /// What came of the order that it brought: the replies to it, or why `Hub::order` refused it.
+    /// What the order made of the customer's files is kept then.
+    fn order_done(
+        &mut self,
+        hub: &Hub,
+        new: &NewOrder,
+        answer: Result<(), HubFault>,
+        replies: &Replies,
+    )
+        requires answered { (before : List Part) × IsAnswered before (ordered new.now) answer replies.now hub.now }
+        ensures asks_none { waits self.old (Some (ordered new.now)) → waits self.new None };
 
     /// Whether the wire at this place is visited in this round. One that isn't has the turn of an
     /// answer `Pending`: no event, and its count of quiets stays.
@@ -45,5 +85,6 @@ pub trait Attendant<W: Wire> {
 
     /// Comes after each round.
     fn after(&mut self, hub: &Hub, wires: &mut [W])
-        ensures { AreStill W.says.passed W.says.count wires.old wires.new };
+        ensures still { AreStill W.says.passed W.says.count wires.old wires.new }
+        ensures asks_none { waits self.old None → waits self.new None };
 }

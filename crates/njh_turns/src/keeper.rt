@@ -29,8 +29,8 @@ pub trait Keeper {
     fn failures(&self) -> u64
         ensures { result ≡ says.count self.now };
 
-    /// Takes in what one step of a customer, or new routes of it, made of its files. Nothing more
-    /// is kept by that.
+    /// Takes in what one step of a customer, new routes of it or an order for it made of its files.
+    /// Nothing more is kept by that.
     fn follow(&mut self, hub: &Hub, customer: u16) -> Result<(), KeepFault>
         requires led { (before : List Part) × says.knows self.old before × LeadsHub customer before hub.now }
         ensures known { OnOk result (says.knows self.new hub.now) }

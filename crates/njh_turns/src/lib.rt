@@ -14,7 +14,7 @@ mod wire;
 mod wire_laws;
 mod wire_reading;
 
-pub use attendant::{Attendant, NewRoutes};
+pub use attendant::{Attendant, NewOrder, NewRoutes};
 pub use depot::{Depot, DepotFault};
 pub use fault::TurnsFault;
 pub use keeper::{KeepFault, Keeper, KeepsNothing, kept_is_own};
@@ -23,5 +23,5 @@ pub use serve::serve_turns;
 pub use service::attend;
 pub use turn::{TurnRoom, Visit, wire_turn};
 pub use wire::Wire;
-pub use wire_laws::{own_wires_and_routes_decide, own_wires_decide};
+pub use wire_laws::{own_service_decides, own_wires_decide};
 pub use wire_reading::{Reading, WireFault};

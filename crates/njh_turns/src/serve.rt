@@ -7,12 +7,13 @@ ghost use Rattle.njh_turns.specs.Breaks.{TurnsBreak};
 ghost use Rattle.njh_turns.specs.Keeping.{IsSettled};
 ghost use Rattle.njh_turns.specs.Turns.{IsServed, hub_wires};
 
-use crate::attendant::{Attendant, NewRoutes};
+use crate::attendant::{Attendant, NewOrder, NewRoutes};
 use crate::fault::TurnsFault;
 use crate::keeper::Keeper;
 use crate::rounds::Rounds;
 use crate::service::attend;
 use crate::wire::Wire;
+use njh_command::Replies;
 use njh_hub::{Hub, HubFault};
 use njh_table::LineId;
 use std::alloc::Global;
@@ -57,12 +58,17 @@ pub fn serve_turns<W: Wire, K: Keeper>(
     }
 }
 
-/// Calls every wire due, prompts none, brings no routes and does nothing else.
+/// Calls every wire due, prompts none, brings no routes and no orders, never ends the service, and
+/// does nothing else.
 #[derive(Drop)]
 struct EveryWire;
 
 impl<W: Wire> Attendant<W> for EveryWire {
-    ghost brings = { ⊥ };
+    ghost steers = { ⊥ };
+
+    fn is_over(&self) -> bool {
+        false
+    }
 
     fn before(&mut self, _wires: &mut [W]) {}
 
@@ -71,6 +77,18 @@ impl<W: Wire> Attendant<W> for EveryWire {
     }
 
     fn routes_given(&mut self, _customer: u16, _answer: Result<(), HubFault>) {}
+
+    fn new_order(&mut self) -> Option<NewOrder> {
+        None
+    }
+
+    fn order_done(
+        &mut self,
+        _hub: &Hub,
+        _new: &NewOrder,
+        _answer: Result<(), HubFault>,
+        _replies: &Replies,
+    ) {}
 
     fn is_due(&self, _place: usize) -> bool {
         true

@@ -1,26 +1,29 @@
 //! A service: rounds of turns, with an attendant between them.
 
-ghost use Rattle.std.specs.Prelude.{◌≡◌, ◌<◌, ℕ, List, length, Option, IsSome, OnOk, OnErr, All};
-ghost use Rattle.njh_table.specs.declared.new_routes.GivenRoute.{GivenRoute};
-ghost use Rattle.njh_hub.specs.WholeHub.{HasLine, SameLines};
-ghost use Rattle.njh_turns.specs.Breaks.{RoutesBreak, ServiceBreaks};
-ghost use Rattle.njh_turns.specs.Keeping.{IsSettled, Keeps};
-ghost use Rattle.njh_turns.specs.Service.{IsAttended, IsGiven};
+ghost use Rattle.std.specs.Prelude.{◌≡◌, ◌<◌, ℕ, [], List, length, Option, Some, None, IsSome, OnOk, OnErr, IfOk, All};
+ghost use Rattle.njh_customer.specs.declared.given_order.GivenOrder.{GivenOrder};
+ghost use Rattle.njh_hub.specs.declared.event.Event.{Event};
+ghost use Rattle.njh_hub.specs.WholeHub.{HasLine, Part, SameLines};
+ghost use Rattle.njh_turns.specs.Breaks.{GivenBreak, ServiceBreaks};
+ghost use Rattle.njh_turns.specs.Keeping.{IsSettled, Keeps, LeadsHub, LeavesEither};
+ghost use Rattle.njh_turns.specs.Service.{IsAnswered, IsAttended, WasGiven, ordered};
 ghost use Rattle.njh_turns.specs.Turns.{moment, hub_wires};
 
-use crate::attendant::{Attendant, NewRoutes};
+use crate::attendant::{Attendant, NewOrder, NewRoutes};
 use crate::keeper::{KeepFault, Keeper};
 use crate::rounds::Rounds;
 use crate::wire::Wire;
+use njh_command::Replies;
 use njh_hub::{Hub, HubFault};
 
 /// So many rounds of a hub's wires, in each of which those are visited that the attendant calls
-/// due. Before each the attendant comes, and a customer is given new routes where it brings some;
-/// after each it comes again.
+/// due. Before each the attendant comes, and customers are given what it brings, at most new routes
+/// of one and an order for one; after each it comes again. Before each it may end the service: then
+/// there were fewer rounds.
 ///
-/// Routes that `Hub::set_routes` refuses change nothing; the attendant is told. What fails on a
-/// wire loses its own line and no other. Where the keeper fails nothing is done after that, and the
-/// attendant isn't told.
+/// What `Hub::set_routes` or `Hub::order` refuses changes nothing. The attendant is told what came
+/// of all that it brought. What fails on a wire loses its own line and no other. Where the keeper
+/// fails nothing is done after that, and the attendant isn't told.
 pub fn attend<W: Wire, K: Keeper, A: Attendant<W>>(
     hub: &mut Hub,
     keeper: &mut K,
@@ -32,17 +35,25 @@ pub fn attend<W: Wire, K: Keeper, A: Attendant<W>>(
     requires same { length wires.old ≡ length rounds.old.lines }
     requires known { All (HasLine hub.old) rounds.old.lines }
     requires settled { IsSettled K.says keeper.old hub.old }
-    ensures attended { OnOk result (IsAttended W.says A.brings rounds.old.lines turns
+    ensures attended { OnOk result (IsAttended W.says A.steers rounds.old.lines turns
         (moment hub.old rounds.old.quiets wires.old) (moment hub.new rounds.new.quiets wires.new)) }
-    ensures breaks { OnErr result (ServiceBreaks W.says (K.says.may_leave keeper.new) A.brings rounds.old.lines turns
+    ensures breaks { OnErr result (ServiceBreaks W.says (K.says.may_leave keeper.new) A.steers rounds.old.lines turns
         (moment hub.old rounds.old.quiets wires.old) (hub_wires hub.new wires.new)) }
+    ensures told { OnOk result (A.waits attendant.old None → A.waits attendant.new None) }
     ensures keeps { Keeps K.says keeper.old result hub.new keeper.new }
     ensures same { rounds.new.lines ≡ rounds.old.lines }
     ensures lines { SameLines hub.old hub.new }
 {
     for turn in 0..turns {
+        if attendant.is_over() {
+            return Ok(());
+        }
         attendant.before(wires);
         match give_routes(hub, keeper, attendant) {
+            Ok(()) => {}
+            Err(fault) => return Err(fault),
+        }
+        match give_order(hub, keeper, attendant) {
             Ok(()) => {}
             Err(fault) => return Err(fault),
         }
@@ -63,10 +74,10 @@ fn give_routes<W: Wire, K: Keeper, A: Attendant<W>>(
     attendant: &mut A,
 ) -> Result<(), KeepFault>
     requires settled { IsSettled K.says keeper.old hub.old }
-    ensures given { OnOk result ((given : Option (ℕ × List GivenRoute)) × IsGiven hub.old given hub.new
-        × (IsSome given → A.brings)) }
-    ensures breaks { OnErr result (A.brings × (given : ℕ × List GivenRoute)
-        × RoutesBreak (K.says.may_leave keeper.new) hub.old given hub.new) }
+    ensures given { OnOk result ((given : Option Event) × WasGiven hub.old given hub.new × (IsSome given → A.steers)) }
+    ensures breaks { OnErr result (A.steers × (event : Event)
+        × GivenBreak (K.says.may_leave keeper.new) hub.old event hub.new) }
+    ensures told { OnOk result (A.waits attendant.old None → A.waits attendant.new None) }
     ensures keeps { Keeps K.says keeper.old result hub.new keeper.new }
     ensures lines { SameLines hub.old hub.new }
 {
@@ -85,9 +96,9 @@ fn give<W: Wire, K: Keeper, A: Attendant<W>>(
     new: &NewRoutes,
 ) -> Result<(), KeepFault>
     requires settled { IsSettled K.says keeper.old hub.old }
-    ensures given { OnOk result ((given : Option (ℕ × List GivenRoute)) × IsGiven hub.old given hub.new) }
-    ensures breaks { OnErr result ((given : ℕ × List GivenRoute)
-        × RoutesBreak (K.says.may_leave keeper.new) hub.old given hub.new) }
+    ensures given { OnOk result ((given : Option Event) × WasGiven hub.old given hub.new) }
+    ensures breaks { OnErr result ((event : Event) × GivenBreak (K.says.may_leave keeper.new) hub.old event hub.new) }
+    ensures told { OnOk result (A.waits attendant.old None → A.waits attendant.new None) }
     ensures keeps { Keeps K.says keeper.old result hub.new keeper.new }
     ensures lines { SameLines hub.old hub.new }
 {
@@ -106,9 +117,8 @@ fn set_kept<K: Keeper>(
     new: &NewRoutes,
 ) -> Result<Result<(), HubFault>, KeepFault>
     requires settled { IsSettled K.says keeper.old hub.old }
-    ensures given { OnOk result ((given : Option (ℕ × List GivenRoute)) × IsGiven hub.old given hub.new) }
-    ensures breaks { OnErr result ((given : ℕ × List GivenRoute)
-        × RoutesBreak (K.says.may_leave keeper.new) hub.old given hub.new) }
+    ensures given { OnOk result ((given : Option Event) × WasGiven hub.old given hub.new) }
+    ensures breaks { OnErr result ((event : Event) × GivenBreak (K.says.may_leave keeper.new) hub.old event hub.new) }
     ensures keeps { Keeps K.says keeper.old result hub.new keeper.new }
     ensures lines { SameLines hub.old hub.new }
 {
@@ -116,12 +126,96 @@ fn set_kept<K: Keeper>(
         Ok(()) => {}
         Err(fault) => return Ok(Err(fault)),
     }
-    match keeper.follow(hub, new.customer) {
-        Ok(()) => {}
-        Err(fault) => return Err(fault),
-    }
-    match keeper.settle() {
+    match keep(hub, keeper, new.customer) {
         Ok(()) => Ok(Ok(())),
         Err(fault) => Err(fault),
     }
+}
+
+/// Does what is ordered for a customer, where the attendant brings an order, and keeps what it
+/// makes of the customer's files.
+fn give_order<W: Wire, K: Keeper, A: Attendant<W>>(
+    hub: &mut Hub,
+    keeper: &mut K,
+    attendant: &mut A,
+) -> Result<(), KeepFault>
+    requires settled { IsSettled K.says keeper.old hub.old }
+    ensures given { OnOk result ((given : Option Event) × WasGiven hub.old given hub.new × (IsSome given → A.steers)) }
+    ensures breaks { OnErr result (A.steers × (event : Event)
+        × GivenBreak (K.says.may_leave keeper.new) hub.old event hub.new) }
+    ensures told { OnOk result (A.waits attendant.old None → A.waits attendant.new None) }
+    ensures untold { OnErr result (A.waits attendant.old None
+        → (given : ℕ × GivenOrder) × A.waits attendant.new (Some given)) }
+    ensures keeps { Keeps K.says keeper.old result hub.new keeper.new }
+    ensures lines { SameLines hub.old hub.new }
+{
+    match attendant.new_order() {
+        Some(new) => carry_out(hub, keeper, attendant, &new),
+        None => Ok(()),
+    }
+}
+
+/// Does what is ordered for a customer, keeps what that makes of its files, and tells the attendant
+/// what came of the order.
+fn carry_out<W: Wire, K: Keeper, A: Attendant<W>>(
+    hub: &mut Hub,
+    keeper: &mut K,
+    attendant: &mut A,
+    new: &NewOrder,
+) -> Result<(), KeepFault>
+    requires settled { IsSettled K.says keeper.old hub.old }
+    ensures given { OnOk result ((given : Option Event) × WasGiven hub.old given hub.new) }
+    ensures breaks { OnErr result ((event : Event) × GivenBreak (K.says.may_leave keeper.new) hub.old event hub.new) }
+    ensures told { OnOk result (A.waits attendant.old (Some (ordered new.now)) → A.waits attendant.new None) }
+    ensures untold { OnErr result (A.waits attendant.old (Some (ordered new.now))
+        → A.waits attendant.new (Some (ordered new.now))) }
+    ensures keeps { Keeps K.says keeper.old result hub.new keeper.new }
+    ensures lines { SameLines hub.old hub.new }
+{
+    let mut replies = Replies::new();
+    match order_kept(hub, keeper, new, &mut replies) {
+        Ok(answer) => attendant.order_done(hub, new, answer, &replies),
+        Err(fault) => return Err(fault),
+    }
+    Ok(())
+}
+
+/// Does what is ordered for a customer, and keeps what that makes of its files. Answers what came
+/// of the order, and in `replies`, of which there are none before, the replies to it.
+fn order_kept<K: Keeper>(
+    hub: &mut Hub,
+    keeper: &mut K,
+    new: &NewOrder,
+    replies: &mut Replies,
+) -> Result<Result<(), HubFault>, KeepFault>
+    requires settled { IsSettled K.says keeper.old hub.old }
+    requires none { replies.old ≡ [] }
+    ensures given { OnOk result ((given : Option Event) × WasGiven hub.old given hub.new) }
+    ensures breaks { OnErr result ((event : Event) × GivenBreak (K.says.may_leave keeper.new) hub.old event hub.new) }
+    ensures answered { IfOk result (λ answer. IsAnswered hub.old (ordered new.now) answer replies.new hub.new) }
+    ensures keeps { Keeps K.says keeper.old result hub.new keeper.new }
+    ensures lines { SameLines hub.old hub.new }
+{
+    match hub.order(new.customer, &new.order, replies) {
+        Ok(()) => {}
+        Err(fault) => return Ok(Err(fault)),
+    }
+    match keep(hub, keeper, new.customer) {
+        Ok(()) => Ok(Ok(())),
+        Err(fault) => Err(fault),
+    }
+}
+
+/// Keeps what new routes of a customer, or an order for it, made of its files.
+fn keep<K: Keeper>(hub: &Hub, keeper: &mut K, customer: u16) -> Result<(), KeepFault>
+    requires led { (before : List Part) × IsSettled K.says keeper.old before × LeadsHub customer before hub.now }
+    ensures left { (before : List Part) → IsSettled K.says keeper.old before → LeadsHub customer before hub.now →
+        OnErr result (LeavesEither (K.says.may_leave keeper.new) before hub.now) }
+    ensures keeps { Keeps K.says keeper.old result hub.now keeper.new }
+{
+    match keeper.follow(hub, customer) {
+        Ok(()) => {}
+        Err(fault) => return Err(fault),
+    }
+    keeper.settle()
 }

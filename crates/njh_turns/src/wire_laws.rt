@@ -1,6 +1,6 @@
 //! Laws of the turns of wires: what holds of all, whoever takes them.
 
-ghost use Rattle.njh_turns.specs.Service.{OwnWiresAndRoutesDecide};
+ghost use Rattle.njh_turns.specs.Service.{OwnServiceDecides};
 ghost use Rattle.njh_turns.specs.WireLaws.{OwnWiresDecide};
 
 /// Whatever all wires answer: the events of a customer are those of its own wires alone, in as many
@@ -9,8 +9,9 @@ pub fn own_wires_decide()
     ensures { OwnWiresDecide }
 {}
 
-/// Whatever all wires answer, and whichever routes are given: the events of a customer in a service
-/// are those of its own wires and its own new routes alone, in as many rounds.
-pub fn own_wires_and_routes_decide()
-    ensures { OwnWiresAndRoutesDecide }
+/// Whatever all wires answer, and whichever routes and orders are given: the events of a customer in
+/// a service are those of its own wires, its own new routes and its own orders alone, in as many
+/// rounds.
+pub fn own_service_decides()
+    ensures { OwnServiceDecides }
 {}

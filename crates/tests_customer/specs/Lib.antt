@@ -6,4 +6,5 @@ pub mod ReceivingRuns
 pub mod CommandRuns
 pub mod SendingRuns
 pub mod RouteRuns
+pub mod OrderRuns
 pub mod SecondLineRuns

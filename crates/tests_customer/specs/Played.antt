@@ -10,10 +10,11 @@ use Rattle.njh_texts.specs.Texts.{file_text}
 use Rattle.njh_line.specs.LineTable.{table_outcome}
 use Rattle.njh_table.specs.Entries.{CustomerEntry}
 use Rattle.njh_table.specs.NewRoutes.{NewRoute, route_checked}
+use Rattle.njh_customer.specs.declared.given_order.GivenOrder.{GivenOrder}
 use Rattle.njh_customer.specs.declared.signal.Signal.{Signal}
 use Rattle.njh_customer.specs.Alone.{after_frame, after_signal}
 use Rattle.njh_customer.specs.Part.{part_at_open}
-use Rattle.njh_customer.specs.Runs.{OwnEvent, OwnBytes, OwnSignal, OwnRoutes, alone_run}
+use Rattle.njh_customer.specs.Runs.{OwnEvent, OwnBytes, OwnSignal, OwnRoutes, OwnOrder, alone_run}
 
 -- An event, and the frame that it sends on its line.
 pub record PlayedEvent : Type 0 where
@@ -33,6 +34,9 @@ signal kind l frame = record { event = OwnSignal kind l; sent = sent_on l frame 
 
 abbrev pub routes : List NewRoute → PlayedEvent
 routes given = record { event = OwnRoutes given; sent = [] }
+
+abbrev pub order : GivenOrder → PlayedEvent
+order given = record { event = OwnOrder given; sent = [] }
 
 -- A customer of this entry that was just opened sends these frames over these events, and no others.
 unfoldable pub Plays : CustomerEntry → List PlayedEvent → Type 0

@@ -17,6 +17,10 @@ mod numbered_lines;
 #[cfg(test)]
 mod opening_tests;
 #[cfg(test)]
+mod order_tests;
+#[cfg(test)]
+mod orders;
+#[cfg(test)]
 mod playing;
 #[cfg(test)]
 mod portion_tests;

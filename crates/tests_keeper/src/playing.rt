@@ -8,8 +8,10 @@ ghost use Rattle.njh_spoolfile.specs.Origin.{StandsAsFound};
 
 use crate::networks::{CUSTOMERS, customer_of, line_of};
 use crate::numbered_lines::NumberedLines;
+use crate::orders::{Ordered, order_on};
 use crate::same::{check_same, listing};
 use crate::spool_files::{SpoolFiles, kill};
+use njh_command::Replies;
 use njh_encode::encode_script;
 use njh_hub::Hub;
 use njh_spoolfile::{Origin, Store};
@@ -35,9 +37,10 @@ const ONE_BLOCK: &str = "# one block for ACME\n";
 /// `# kill`: the program is killed and begins again, with all lines down. `# NICE has no route`,
 /// directly after that: in this run no route leads to NICE. `# one block for ACME`, there too: in
 /// this run its files have room for one block. `# cut 20`: of the file that follows 20 blocks
-/// come, up to `# uncut`. `# ACME has LYON.42 TO METZ PAUL OUT 4 RECORDS READY, ..`: these whole
-/// files of the customer are kept. Then and before the program is killed all that is kept is what
-/// the hub has.
+/// come, up to `# uncut`. `# order ACME LYON.ANNA HOLD LYON.42`: so the operator orders in the name
+/// of that user, and `# tell ACME METZ.PAUL GOOD MORNING` tells one something. `# ACME has LYON.42
+/// TO METZ PAUL OUT 4 RECORDS READY, ..`: these whole files of the customer are kept. Then and
+/// before the program is killed all that is kept is what the hub has.
 pub(crate) fn play(rt: &HostRuntime, name: &str, words: &str) -> Result<(), Fail> {
     drop(SpoolFiles::of(rt, name)?);
     play_on(rt, name, words)
@@ -87,7 +90,10 @@ fn play_kept<D: Depot>(files: &SpoolFiles<'_>, keeper: &mut D, run: &str) -> Res
     let mut left = u32::MAX;
     for line in run.lines() {
         if let Some(note) = line.strip_prefix("# ") {
-            left = take_note(files, &hub, note, left)?;
+            match order_on(files.allocator(), note)? {
+                Some(ordered) => play_order(keeper, &mut hub, &ordered)?,
+                None => left = take_note(files, &hub, note, left)?,
+            }
         } else if left > 0 && !line.is_empty() {
             left = left.saturating_sub(1);
             play_event(files, keeper, &mut hub, line)?;
@@ -130,6 +136,17 @@ fn play_event<K: Keeper>(
         "LOST" => play_loss(files.allocator(), keeper, hub, id),
         _ => Err("no such event".into()),
     }
+}
+
+/// Plays an order.
+fn play_order<K: Keeper>(keeper: &mut K, hub: &mut Hub, ordered: &Ordered) -> Result<(), Fail>
+    requires { K.says.knows keeper.old hub.old }
+    ensures { OnOk result (K.says.knows keeper.new hub.new) }
+{
+    let mut replies = Replies::new();
+    hub.order(ordered.customer, &ordered.order, &mut replies)?;
+    keep(keeper, hub, ordered.customer)?;
+    Ok(())
 }
 
 /// Plays a tick.

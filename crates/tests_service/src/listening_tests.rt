@@ -141,7 +141,7 @@ fn refused_sign_on(rt: HostRuntime) -> Result<(), Fail> {
     let wanted = "\
 1970-01-01T00:00:01Z ACME a1: connected from 10.0.0.0:5000
 1000 to 0: 1070
-1970-01-01T00:00:01Z ACME a1: sign-on refused
+1970-01-01T00:00:01Z ACME a1: sign-on refused: it is of node LION
 1970-01-01T00:00:01Z ACME a1: closed
 1970-01-01T00:00:02Z ACME a1: connected from 10.0.0.1:5000
 2050 to 1: 1070
@@ -257,7 +257,7 @@ fn ten_seconds_after_a_session(rt: HostRuntime) -> Result<(), Fail> {
 1050 to 0: 1002a08fcff0d129c2e4d9c5c1e4404001000000000000040040404040404040404040404040404040\
 0000000000001026
 1970-01-01T00:00:01Z ACME a1: session up with LYON
-1970-01-01T00:00:03Z ACME a1: session down: the peer ended it
+1970-01-01T00:00:03Z ACME a1: session down: the peer sent EOT
 1970-01-01T00:00:13Z ACME a1: failed: replaced by another connection
 1970-01-01T00:00:13Z ACME a1: connected from 10.0.0.1:5000
 13000 to 1: 1070

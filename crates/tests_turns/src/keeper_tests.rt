@@ -3,7 +3,7 @@
 use crate::memory_attendant::MemoryAttendant;
 use crate::memory_keeper::MemoryKeeper;
 use crate::memory_wire::MemoryWire;
-use crate::service_tests::metz_by;
+use crate::service_tests::{list_for, metz_by};
 use crate::serving::{LINES, TOLD, attend_twice, serve};
 use njh_turns::{KeepFault, TurnsFault};
 use std::alloc::Global;
@@ -93,26 +93,43 @@ fn nothing_is_let_out_unsettled(rt: HostRuntime) -> Result<(), Fail> {
     Ok(())
 }
 
-/// New routes, and a keeper that fails after them: how often it followed and settled. No wire is
+/// Something is given, and a keeper fails after that: how often it followed and settled. No wire is
 /// read, and the attendant isn't told.
-fn routes_fail<R: Abort>(
+fn keeping_fails<R: Abort>(
     rt: &R,
     alloc: Global,
+    mut attendant: MemoryAttendant,
     keeper: &mut MemoryKeeper,
     calls: [u32; 2],
 ) -> Result<(), Fail> {
     let mut wires = [MemoryWire::new(STEPS, 0), MemoryWire::new(STEPS, 0)];
-    let mut attendant = MemoryAttendant::new(Some(metz_by(alloc, LINES[0])?));
     let answered = attend_twice(rt, alloc, keeper, &mut wires, &mut attendant, [1, 0])?;
     assert_eq!(rt; answered, Err(KeepFault));
     assert_eq!(rt; [keeper.steps, keeper.settlings], calls);
     assert_eq!(rt; wires[0].reads(), 0);
-    assert_eq!(rt; attendant.given, 0);
+    assert_eq!(rt; [attendant.given, attendant.done], [0, 0]);
     Ok(())
 }
 
 #[test]
 fn routes_are_kept(rt: HostRuntime) -> Result<(), Fail> {
-    routes_fail(&rt, rt.alloc(), &mut MemoryKeeper::new(1, 0), [1, 0])?;
-    routes_fail(&rt, rt.alloc(), &mut MemoryKeeper::new(0, 1), [1, 1])
+    let alloc = rt.alloc();
+    for (step, settling, calls) in [(1, 0, [1, 0]), (0, 1, [1, 1])] {
+        let attendant = MemoryAttendant::new(Some(metz_by(alloc, LINES[0])?));
+        let mut keeper = MemoryKeeper::new(step, settling);
+        keeping_fails(&rt, alloc, attendant, &mut keeper, calls)?;
+    }
+    Ok(())
+}
+
+#[test]
+fn orders_are_kept(rt: HostRuntime) -> Result<(), Fail> {
+    let alloc = rt.alloc();
+    for (step, settling, calls) in [(1, 0, [1, 0]), (0, 1, [1, 1])] {
+        let attendant = MemoryAttendant::ordering(list_for(alloc, 1)?);
+        let mut keeper = MemoryKeeper::new(step, settling);
+        keeping_fails(&rt, alloc, attendant, &mut keeper, calls)?;
+        assert_eq!(rt; keeper.customer, 1);
+    }
+    Ok(())
 }

@@ -1,8 +1,12 @@
 //! An attendant in memory.
 
+ghost use Rattle.std.specs.Prelude.{is_some};
+
 use crate::memory_wire::MemoryWire;
+use arrayvec::ArrayVec;
+use njh_command::Replies;
 use njh_hub::{Hub, HubFault};
-use njh_turns::{Attendant, NewRoutes};
+use njh_turns::{Attendant, NewOrder, NewRoutes};
 
 /// Rounds in which a wire isn't due.
 #[derive(Clone, Copy)]
@@ -15,12 +19,15 @@ pub struct Pause {
     pub to: u32,
 }
 
-/// Brings routes once, and counts what it was called for.
+/// Brings routes once and an order once, and counts what it was called for.
 #[derive(Drop)]
 pub struct MemoryAttendant {
     brought: Option<NewRoutes>,
+    ordered: Option<NewOrder>,
+    waits: bool,
     pause: Option<Pause>,
     prompts: bool,
+    rounds: Option<u32>,
     /// How often it came before a round.
     pub before: u32,
     /// How often it came after one.
@@ -29,6 +36,12 @@ pub struct MemoryAttendant {
     pub given: u32,
     /// The last refusal of routes.
     pub refused: Option<HubFault>,
+    /// How often it was told that an order was done.
+    pub done: u32,
+    /// The last refusal of an order.
+    pub not_done: Option<HubFault>,
+    /// The replies to its orders, one after the other.
+    pub replies: ArrayVec<u8, 256>,
 }
 
 impl MemoryAttendant {
@@ -36,23 +49,43 @@ impl MemoryAttendant {
     pub fn new(brought: Option<NewRoutes>) -> MemoryAttendant {
         MemoryAttendant {
             brought,
+            ordered: None,
+            waits: false,
             pause: None,
             prompts: false,
+            rounds: None,
             before: 0,
             after: 0,
             given: 0,
             refused: None,
+            done: 0,
+            not_done: None,
+            replies: ArrayVec::new(),
         }
     }
 
-    /// One that brings no routes, and by which a wire has a pause.
+    /// One that has an order to bring and no routes.
+    pub fn ordering(order: NewOrder) -> MemoryAttendant {
+        let mut attendant = MemoryAttendant::new(None);
+        attendant.ordered = Some(order);
+        attendant
+    }
+
+    /// One that brings nothing, and by which a wire has a pause.
     pub fn with_pause(pause: Pause) -> MemoryAttendant {
         let mut attendant = MemoryAttendant::new(None);
         attendant.pause = Some(pause);
         attendant
     }
 
-    /// One that brings no routes, and prompts each line that rests.
+    /// One that brings nothing, and ends the service after so many rounds.
+    pub fn ending(rounds: u32) -> MemoryAttendant {
+        let mut attendant = MemoryAttendant::new(None);
+        attendant.rounds = Some(rounds);
+        attendant
+    }
+
+    /// One that brings nothing, and prompts each line that rests.
     pub fn prompting() -> MemoryAttendant {
         let mut attendant = MemoryAttendant::new(None);
         attendant.prompts = true;
@@ -61,6 +94,14 @@ impl MemoryAttendant {
 }
 
 impl Attendant<MemoryWire> for MemoryAttendant {
+    ghost use Rattle.std.specs.Prelude.{◌≡◌};
+
+    ghost waits = { λ attendant order. attendant.waits ≡ is_some order };
+
+    fn is_over(&self) -> bool {
+        self.rounds == Some(self.after)
+    }
+
     fn before(&mut self, _wires: &mut [MemoryWire]) {
         self.before = self.before.saturating_add(1);
     }
@@ -74,6 +115,29 @@ impl Attendant<MemoryWire> for MemoryAttendant {
             Ok(()) => self.given = self.given.saturating_add(1),
             Err(fault) => self.refused = Some(fault),
         }
+    }
+
+    fn new_order(&mut self) -> Option<NewOrder> {
+        let order = self.ordered.take();
+        self.waits = order.is_some();
+        order
+    }
+
+    fn order_done(
+        &mut self,
+        _hub: &Hub,
+        _new: &NewOrder,
+        answer: Result<(), HubFault>,
+        replies: &Replies,
+    ) {
+        match answer {
+            Ok(()) => self.done = self.done.saturating_add(1),
+            Err(fault) => self.not_done = Some(fault),
+        }
+        for text in replies.texts() {
+            let _ = self.replies.try_extend_from_slice(text);
+        }
+        self.waits = false;
     }
 
     fn is_due(&self, place: usize) -> bool {

@@ -3,11 +3,12 @@
 use crate::memory_attendant::{MemoryAttendant, Pause};
 use crate::memory_keeper::MemoryKeeper;
 use crate::memory_wire::MemoryWire;
-use crate::serving::{LINES, attend_twice};
+use crate::serving::{LINES, TOLD, attend_twice};
 use njh_ebcdic::Name;
-use njh_hub::{GivenRoutes, HubFault};
+use njh_header::User;
+use njh_hub::{GivenOrder, GivenRoutes, HubFault, OrderText};
 use njh_table::{GivenRoute, LineId, TableFault};
-use njh_turns::NewRoutes;
+use njh_turns::{NewOrder, NewRoutes};
 use std::alloc::Global;
 use std::process::Abort;
 use std::test::Fail;
@@ -30,6 +31,33 @@ pub fn metz_by(alloc: Global, id: LineId) -> Result<NewRoutes, Fail> {
         customer: 0,
         routes,
     })
+}
+
+/// LIST, and the reply to it where there are no files.
+const LIST: &[u8] = b"\xd3\xc9\xe2\xe3";
+
+const NO_FILES: &[u8] = b"\xd5\xd1\xc8\xf0\xf0\xf2\x40\xf0\x40\xc6\xc9\xd3\xc5\xe2";
+
+/// ANNA at a node.
+fn anna_at(node: &str) -> Result<User, Fail> {
+    let node = Name::of_text(node)?;
+    let user = *b"\xc1\xd5\xd5\xc1\x40\x40\x40\x40";
+    Ok(User { node, user })
+}
+
+/// LIST, in the name of ANNA in LYON.
+pub fn list_for(alloc: Global, customer: u16) -> Result<NewOrder, Fail> {
+    let text = OrderText::of(alloc, LIST)?;
+    let order = GivenOrder::Command(anna_at("LYON")?, text);
+    Ok(NewOrder { customer, order })
+}
+
+/// A message to ANNA at a node, for the first customer: what LIST is answered.
+fn message_to(alloc: Global, node: &str) -> Result<NewOrder, Fail> {
+    let customer = 0;
+    let text = OrderText::of(alloc, NO_FILES)?;
+    let order = GivenOrder::Message(anna_at(node)?, text);
+    Ok(NewOrder { customer, order })
 }
 
 /// Two wires on which contact is made, and then nothing comes.
@@ -115,6 +143,53 @@ fn routes_are_given_once(rt: HostRuntime) -> Result<(), Fail> {
     )
 }
 
+/// A service with an attendant that brings an order: how often it is told that it was done, the
+/// refusal that it is told, and the replies.
+fn order<R: Abort>(
+    rt: &R,
+    alloc: Global,
+    new: NewOrder,
+    done: u32,
+    not_done: Option<HubFault>,
+    replies: &[u8],
+) -> Result<(), Fail> {
+    let mut attendant = MemoryAttendant::ordering(new);
+    attend_quiet(rt, alloc, &mut attendant, [2, 1], [ACK0, ACK0], [3, 3])?;
+    assert_eq!(rt; attendant.done, done);
+    assert_eq!(rt; attendant.not_done, not_done);
+    assert_eq!(rt; attendant.replies.as_slice(), replies);
+    Ok(())
+}
+
+/// An order is done before the first round, and the attendant is told the replies. It is refused
+/// for a customer that there is none of, and a message where no line leads to its node.
+#[test]
+fn orders_are_done_once(rt: HostRuntime) -> Result<(), Fail> {
+    let alloc = rt.alloc();
+    order(&rt, alloc, list_for(alloc, 0)?, 1, None, NO_FILES)?;
+    order(&rt, alloc, list_for(alloc, 1)?, 1, None, NO_FILES)?;
+    let unknown = Some(HubFault::UnknownCustomer);
+    order(&rt, alloc, list_for(alloc, 2)?, 0, unknown, b"")?;
+    order(&rt, alloc, message_to(alloc, "LYON")?, 1, None, b"")?;
+    let no_route = Some(HubFault::NoRoute);
+    order(&rt, alloc, message_to(alloc, "METZ")?, 0, no_route, b"")
+}
+
+/// A message that is ordered goes out on its customer's line to LYON, as the reply to LIST does.
+/// The other customer's line to LYON is told nothing.
+#[test]
+fn orders_show_to_their_customer_alone(rt: HostRuntime) -> Result<(), Fail> {
+    let alloc = rt.alloc();
+    let steps = "contact sign-on ack0";
+    let mut wires = [MemoryWire::new(steps, 0), MemoryWire::new(steps, 0)];
+    let mut attendant = MemoryAttendant::ordering(message_to(alloc, "LYON")?);
+    let keeper = &mut MemoryKeeper::new(0, 0);
+    attend_twice(&rt, alloc, keeper, &mut wires, &mut attendant, [2, 1])??;
+    assert_eq!(rt; wires[0].sent(), TOLD.as_slice());
+    assert_eq!(rt; Some(wires[1].sent()), TOLD.get(..51));
+    Ok(())
+}
+
 /// A service in which the first wire has a pause.
 fn pause<R: Abort>(
     rt: &R,
@@ -152,4 +227,18 @@ fn quiets_outlive_a_pause(rt: HostRuntime) -> Result<(), Fail> {
 fn bytes_wait_while_a_wire_is_passed_over(rt: HostRuntime) -> Result<(), Fail> {
     pause(&rt, rt.alloc(), [1, 4], [2, 1], [b"", ACK0], [0, 3])?;
     pause(&rt, rt.alloc(), [1, 4], [2, 2], [ACK0, ACK0], [1, 4])
+}
+
+/// The attendant ends the service after five rounds, whatever call of it that falls in: of those
+/// that were asked for, the others aren't taken.
+#[test]
+fn service_ends_when_it_is_told_to(rt: HostRuntime) -> Result<(), Fail> {
+    let alloc = rt.alloc();
+    let both = [ACK0, ACK0];
+    for rounds in [[5, 0], [9, 9], [2, 9], [2, 3]] {
+        let mut attendant = MemoryAttendant::ending(5);
+        attend_quiet(&rt, alloc, &mut attendant, rounds, both, [5, 5])?;
+        assert_eq!(rt; [attendant.before, attendant.after], [5, 5]);
+    }
+    Ok(())
 }

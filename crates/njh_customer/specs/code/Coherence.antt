@@ -7,6 +7,8 @@ use Rattle.njh_spool.specs.CustomerSpool.{CustomerSpool}
 use Rattle.njh_table.specs.Entries.{RouteEntry}
 use Rattle.njh_customer.specs.Customer.{Customer, CustomerLine}
 use Rattle.njh_customer.specs.NewRoutes.{customer_with_routes}
+use Rattle.njh_customer.specs.Orders.{customer_after_order}
+use Rattle.njh_customer.specs.declared.given_order.GivenOrder.{GivenOrder}
 
 -- the streams to the hub, line by line
 abbrev pub streams_to_hub : List CustomerLine → List (List Receiver)
@@ -34,3 +36,8 @@ pub record IsCoherent (c : Customer) : Type 0 where
 abbrev pub RoutesKeepCoherent : Type 0
 RoutesKeepCoherent =
     (routes : List RouteEntry) (c : Customer) → IsCoherent c → IsCoherent (customer_with_routes routes c)
+
+-- So does an order.
+abbrev pub OrdersKeepCoherent : Type 0
+OrdersKeepCoherent =
+    (order : GivenOrder) (c : Customer) → IsCoherent c → IsCoherent (customer_after_order order c)

@@ -15,7 +15,7 @@ use crate::file_summary::{FileSummaryView, file_summary, summary_at};
 use crate::hub::Hub;
 use crate::session_view::SessionView;
 use njh_customer::Lines;
-use njh_line::Phase;
+use njh_line::{Phase, SessionEnd};
 use njh_spool::FileId;
 use njh_stream::{Notice, Receiver, Sender};
 use njh_table::LineId;
@@ -52,16 +52,19 @@ impl Hub {
         Ok(SessionView::of(lines.session(id.number), lines.role(id.number)))
     }
 
-    /// Whether a line is down and its last session had made all its five tries.
+    /// Whether a line is down and its last session ended by its five tries.
     ///
-    /// So it is from the moment at which a session ends after its tries, until another session
-    /// begins, and on a line that calls until its next tick. A session that ends otherwise while it
-    /// has made five tries looks the same: by the line's loss, say.
+    /// So it is from the moment at which a session ends by its tries, until another session
+    /// begins, and on a line that calls until its next tick.
     pub fn has_given_up(&self, id: LineId) -> bool
         ensures { IsTrue result ↔ HasGivenUp self.now id }
     {
         match self.session(id) {
-            Ok(session) => session.phase == Phase::Down && session.tries == TRIES,
+            Ok(session) => {
+                session.phase == Phase::Down
+                    && session.tries == TRIES
+                    && session.last_end == Some(SessionEnd::Tries)
+            }
             Err(_) => false,
         }
     }

@@ -5,7 +5,7 @@ ghost use Rattle.njh_customer.specs.NewRoutes.{part_after_routes};
 ghost use Rattle.njh_table.specs.NewRoutes.{new_routes_of, routes_checked, entries_of_routes, with_routes};
 ghost use Rattle.njh_table.specs.TableFile.{customer_at, entry_of};
 ghost use Rattle.njh_table.specs.declared.fault.TableFault.{TableFault};
-ghost use Rattle.njh_hub.specs.Steps.{RoutesLeave};
+ghost use Rattle.njh_hub.specs.Steps.{GivenLeaves};
 ghost use Rattle.njh_hub.specs.WholeHub.{part};
 
 use crate::fault::HubFault;
@@ -23,7 +23,7 @@ impl Hub {
         ensures hub { OnOk result (self.new
             ≡ slice_set self.old customer (part_after_routes (entries_of_routes (new_routes_of customer routes.now))
             (part customer self.old))) }
-        ensures stays { RoutesLeave self.old customer result self.new }
+        ensures stays { GivenLeaves self.old customer result self.new }
         ensures known { OnOk result (customer < length self.old) }
         ensures checked { OnOk result (routes_checked (part customer self.old).customer.entry
             (new_routes_of customer routes.now) ≡ Ok tt) }

@@ -1,4 +1,5 @@
-use Rattle.njh_customer.proofs.GrowingLaws.{grow_then, many_go_on, rerouted_count, partials_numbered, routes_grow}
+use Rattle.njh_customer.proofs.GrowingLaws.{grow_then, many_go_on, orders_grow, rerouted_count, partials_numbered}
+use Rattle.njh_customer.proofs.GrowingLaws.{routes_grow}
 use Rattle.njh_customer.proofs.{RestLengths.{events_short, opened_short, takes_short}, StepsGrow.signals_grow}
 use Rattle.njh_customer.proofs.StepsGrow.{takes_grow}
 use Rattle.njh_customer.proofs.laws.files_grow.Goals as goal
@@ -11,6 +12,9 @@ returns-clause-signals c = signals_grow
 
 pub returns-clause-routes : goal.returns-clause-routes
 returns-clause-routes c = routes_grow
+
+pub returns-clause-orders : goal.returns-clause-orders
+returns-clause-orders c = orders_grow
 
 pub returns-clause-further : goal.returns-clause-further
 returns-clause-further c = grow_then

@@ -1,4 +1,5 @@
 use Rattle.std.proofs.Common.{ℕ, ◌+◌, ◌∙◌, sym, ap}
+use Rattle.njh_line.specs.declared.ending.SessionEnd.TheVariants as why
 use Rattle.njh_line.specs.declared.session.Session.{Session}
 use Rattle.njh_line.specs.declared.verdict.LineReply.TheVariants.{Sequence}
 use Rattle.njh_line.specs.LineTable.{acting, end_with}
@@ -19,6 +20,6 @@ returns-in-Repeats-clause-outcome c =
 pub returns-in-OutOfSequence-clause-outcome : goal.returns-in-OutOfSequence-clause-outcome
 returns-in-OutOfSequence-clause-outcome c =
     c.end_with.ensures
-    ∙ ap (λ (n : ℕ). end_with (Sequence n) c.args.session)
+    ∙ ap (λ (n : ℕ). end_with why.OutOfSequence (Sequence n) c.args.session)
     (c.normal.ensures ∙ ap (λ (n : ℕ). 0x80 + n) c.expected.ensures.value)
     ∙ rows.is_out_of_sequence _ _ _ _ _ c.requires.inside (sym c.counted.ensures ∙ c.in-OutOfSequence.is)

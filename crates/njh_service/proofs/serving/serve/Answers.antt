@@ -1,3 +1,4 @@
+use Rattle.njh_turns.proofs.ServiceLaws.{rounds_within}
 use Rattle.njh_service.proofs.serving.serve.Goals as goal
 
 -- the story of the service that was opened, and what its depot keeps behind it
@@ -17,7 +18,7 @@ returns-in-Ok-run g c =
         hub_of = (opened.hub, c.in-Ok.ensures.settled);
         lines_of_tables = opened.lines;
         calm = opened.calm;
-        many = ran.many;
+        many = rounds_within ran;
         each = ran.each;
         possible = ran.possible;
       };

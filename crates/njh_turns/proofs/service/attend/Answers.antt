@@ -9,7 +9,7 @@ use Rattle.njh_turns.specs.Breaks.{RoundBreaks}
 use Rattle.njh_turns.specs.Service.{Round, service_rounds}
 use Rattle.njh_turns.specs.Turns.{Turn, IsRound, hub_wires, moment}
 use Rattle.njh_turns.proofs.ServiceLaws.{at_first, at_still, at_given, at_round, rounds-with_given, rounds-with_round}
-use Rattle.njh_turns.proofs.ServiceLaws.{with_given, attended_at}
+use Rattle.njh_turns.proofs.ServiceLaws.{with_given, attended_at, attended_in}
 use Rattle.njh_turns.proofs.KeepingLaws.{keeps_ill, keeps_well}
 use Rattle.njh_turns.proofs.service.attend.Goals as goal
 
@@ -20,11 +20,12 @@ loop-turn-init g c =
       story = (
         [],
         refl,
-        at_first g.W.Wire.says g.A.Attendant.brings rounds.lines
+        at_first g.W.Wire.says g.A.Attendant.steers rounds.lines
             (moment c.args.hub.now rounds.quiets c.args.wires.now) g.met.W.Wire.none,
       );
       lines = refl;
       same = λ d. refl;
+      told = λ waits. waits;
       settled = c.requires.settled;
       kept = refl;
     }
@@ -34,35 +35,43 @@ loop-turn-preserved g c =
     let more = g.met.W.Wire.more in
     let lines_is : c.loop-turn.rounds.lines ≡ c.args.rounds.now.lines = c.loop-turn.invariant.lines in
     let story = c.loop-turn.invariant.story.0 in
-    let given = c.in-Ok.ensures.given in
+    let routes = c.in-Ok.ensures.given in
+    let order = c.in-Ok-give_order.ensures.given in
     let round = c.in-Ok-take_due.ensures.round in
-    let told = with_given story given.0 in
+    let routed = with_given story routes.0 in
+    let told = with_given routed order.0 in
     let before = at_still c.before-in-loop-turn.new.wires c.loop-turn.invariant.story.2 more
-    (omega (arith, c.requires.same)) c.before-in-loop-turn.ensures in
-    let routed = at_given given.0 c.give_routes.new.hub before given.1 given.2 in
+    (omega (arith, c.requires.same)) c.before-in-loop-turn.ensures.still in
+    let with_routes = at_given routes.0 c.give_routes.new.hub before routes.1 routes.2 in
+    let with_order = at_given order.0 c.give_order.new.hub with_routes order.1 order.2 in
     let P : List LineId → Type 0 = λ ls. IsRound g.W.Wire.says ls
-    (moment c.give_routes.new.hub c.loop-turn.rounds.quiets c.before-in-loop-turn.new.wires) round.0
+    (moment c.give_order.new.hub c.loop-turn.rounds.quiets c.before-in-loop-turn.new.wires) round.0
     (moment c.take_due.new.hub c.take_due.new.self.quiets c.take_due.new.wires) in
-    let taken = at_round routed more (round.1 ∙ ap (λ (ls : List LineId). length ls) lines_is)
+    let taken = at_round with_order more (round.1 ∙ ap (λ (ls : List LineId). length ls) lines_is)
     (subst P lines_is round.2) in
     let next = told ++ Round round.0 ∷ [] in
     let one_more : length (service_rounds next) ≡ length (service_rounds story) + 1 =
     ap (λ (rs : List (List Turn)). length rs) (rounds-with_round told round.0)
     ∙ length-append (service_rounds told) (round.0 ∷ [])
-    ∙ ap (λ (rs : List (List Turn)). length rs + 1) (rounds-with_given story given.0) in
+    ∙ ap (λ (rs : List (List Turn)). length rs + 1)
+    (rounds-with_given routed order.0 ∙ rounds-with_given story routes.0) in
     record {
       story = (
         next,
         omega (arith, c.loop-turn.invariant.story.1, one_more),
-        at_still c.after.new.wires taken more (omega (arith, c.requires.same)) c.after.ensures,
+        at_still c.after.new.wires taken more (omega (arith, c.requires.same)) c.after.ensures.still,
       );
       lines = c.take_due.ensures.same ∙ lines_is;
-      same = λ d. c.take_due.ensures.lines d ∙ c.give_routes.ensures.lines d ∙ c.loop-turn.invariant.same d;
+      same = λ d. c.take_due.ensures.lines d ∙ c.give_order.ensures.lines d ∙ c.give_routes.ensures.lines d
+          ∙ c.loop-turn.invariant.same d;
+      told = λ waits. c.after.ensures.asks_none (c.in-Ok-give_order.ensures.told (c.in-Ok.ensures.told
+          (c.before-in-loop-turn.ensures.asks_none (c.loop-turn.invariant.told waits))));
       settled = c.in-Ok-take_due.ensures.keeps.settled;
-      kept = c.in-Ok-take_due.ensures.keeps.faultless ∙ c.in-Ok.ensures.keeps.faultless ∙ c.loop-turn.invariant.kept;
+      kept = c.in-Ok-take_due.ensures.keeps.faultless ∙ c.in-Ok-give_order.ensures.keeps.faultless
+          ∙ c.in-Ok.ensures.keeps.faultless ∙ c.loop-turn.invariant.kept;
     }
 
--- ---- the keeper failed where a customer was given routes
+-- ---- the keeper failed where a customer was given new routes
 
 pub returns-in-Err-clause-breaks : goal.returns-in-Err-clause-breaks
 returns-in-Err-clause-breaks g c =
@@ -73,7 +82,7 @@ returns-in-Err-clause-breaks g c =
       fewer = c.loop-turn-test.true;
       mid = moment c.loop-turn.hub c.loop-turn.rounds.quiets c.before-in-loop-turn.new.wires;
       attended = attended_at (at_still c.before-in-loop-turn.new.wires so_far.2 g.met.W.Wire.more
-          (omega (arith, c.requires.same)) c.before-in-loop-turn.ensures) so_far.1;
+          (omega (arith, c.requires.same)) c.before-in-loop-turn.ensures.still) so_far.1;
       breaks = inl (broke.0, broke.1, broke.2, refl);
     }
 
@@ -87,23 +96,56 @@ returns-in-Err-clause-keeps g c =
 pub returns-in-Err-clause-lines : goal.returns-in-Err-clause-lines
 returns-in-Err-clause-lines g c = λ d. c.in-Err.ensures.lines d ∙ c.loop-turn.invariant.same d
 
+-- ---- it failed where a customer was given an order
+
+pub returns-in-Err-give_order-clause-breaks : goal.returns-in-Err-give_order-clause-breaks
+returns-in-Err-give_order-clause-breaks g c =
+    let so_far = c.loop-turn.invariant.story in
+    let routes = c.in-Ok.ensures.given in
+    let broke = c.in-Err-give_order.ensures.breaks in
+    let before = at_still c.before-in-loop-turn.new.wires so_far.2 g.met.W.Wire.more (omega (arith, c.requires.same))
+    c.before-in-loop-turn.ensures.still in
+    record {
+      rounds = c.loop-turn.turn;
+      fewer = c.loop-turn-test.true;
+      mid = moment c.give_routes.new.hub c.loop-turn.rounds.quiets c.before-in-loop-turn.new.wires;
+      attended = attended_at (at_given routes.0 c.give_routes.new.hub before routes.1 routes.2)
+          (ap (λ (rs : List (List Turn)). length rs) (rounds-with_given so_far.0 routes.0) ∙ so_far.1);
+      breaks = inl (broke.0, broke.1, broke.2, refl);
+    }
+
+pub returns-in-Err-give_order-clause-keeps : goal.returns-in-Err-give_order-clause-keeps
+returns-in-Err-give_order-clause-keeps g c =
+    keeps_ill g.K.Keeper.says c.args.keeper.now c.give_order.new.keeper c.in-Err-give_order.fault c.give_order.new.hub
+    (omega (arith, c.loop-turn.invariant.kept, c.in-Ok.ensures.keeps.counts, c.in-Err-give_order.ensures.keeps.counts))
+    (counted_from _ _ _ (omega (arith, c.loop-turn.invariant.kept, c.in-Ok.ensures.keeps.faultless))
+    c.in-Err-give_order.ensures.keeps.counted)
+
+pub returns-in-Err-give_order-clause-lines : goal.returns-in-Err-give_order-clause-lines
+returns-in-Err-give_order-clause-lines g c = λ d.
+    c.in-Err-give_order.ensures.lines d ∙ c.give_routes.ensures.lines d ∙ c.loop-turn.invariant.same d
+
 -- ---- it failed in a round
 
 pub returns-in-Err-take_due-clause-breaks : goal.returns-in-Err-take_due-clause-breaks
 returns-in-Err-take_due-clause-breaks g c =
     let so_far = c.loop-turn.invariant.story in
-    let given = c.in-Ok.ensures.given in
-    let mid = moment c.give_routes.new.hub c.loop-turn.rounds.quiets c.before-in-loop-turn.new.wires in
+    let routes = c.in-Ok.ensures.given in
+    let order = c.in-Ok-give_order.ensures.given in
+    let routed = with_given so_far.0 routes.0 in
+    let mid = moment c.give_order.new.hub c.loop-turn.rounds.quiets c.before-in-loop-turn.new.wires in
     let before = at_still c.before-in-loop-turn.new.wires so_far.2 g.met.W.Wire.more (omega (arith, c.requires.same))
-    c.before-in-loop-turn.ensures in
+    c.before-in-loop-turn.ensures.still in
+    let with_routes = at_given routes.0 c.give_routes.new.hub before routes.1 routes.2 in
     let P : List LineId → Type 0 = λ ls. RoundBreaks g.W.Wire.says (g.K.Keeper.says.may_leave c.take_due.new.keeper) ls
     mid (hub_wires c.take_due.new.hub c.take_due.new.wires) in
     record {
       rounds = c.loop-turn.turn;
       fewer = c.loop-turn-test.true;
       mid = mid;
-      attended = attended_at (at_given given.0 c.give_routes.new.hub before given.1 given.2)
-          (ap (λ (rs : List (List Turn)). length rs) (rounds-with_given so_far.0 given.0) ∙ so_far.1);
+      attended = attended_at (at_given order.0 c.give_order.new.hub with_routes order.1 order.2)
+          (ap (λ (rs : List (List Turn)). length rs)
+          (rounds-with_given routed order.0 ∙ rounds-with_given so_far.0 routes.0) ∙ so_far.1);
       breaks = inr (subst P c.loop-turn.invariant.lines c.in-Err-take_due.ensures.breaks);
     }
 
@@ -111,8 +153,19 @@ pub returns-in-Err-take_due-clause-keeps : goal.returns-in-Err-take_due-clause-k
 returns-in-Err-take_due-clause-keeps g c =
     keeps_ill g.K.Keeper.says c.args.keeper.now c.take_due.new.keeper
     c.in-Err-take_due.fault c.take_due.new.hub
-    (omega (arith, c.loop-turn.invariant.kept, c.in-Ok.ensures.keeps.counts, c.in-Err-take_due.ensures.keeps.counts))
-    (counted_from _ _ _ (omega (arith, c.loop-turn.invariant.kept, c.in-Ok.ensures.keeps.faultless))
+    (omega (
+      arith,
+      c.loop-turn.invariant.kept,
+      c.in-Ok.ensures.keeps.counts,
+      c.in-Ok-give_order.ensures.keeps.counts,
+      c.in-Err-take_due.ensures.keeps.counts,
+    ))
+    (counted_from _ _ _ (omega (
+      arith,
+      c.loop-turn.invariant.kept,
+      c.in-Ok.ensures.keeps.faultless,
+      c.in-Ok-give_order.ensures.keeps.faultless,
+    ))
     c.in-Err-take_due.ensures.keeps.counted)
 
 pub returns-in-Err-take_due-clause-same : goal.returns-in-Err-take_due-clause-same
@@ -120,7 +173,29 @@ returns-in-Err-take_due-clause-same g c = c.in-Err-take_due.ensures.same ∙ c.l
 
 pub returns-in-Err-take_due-clause-lines : goal.returns-in-Err-take_due-clause-lines
 returns-in-Err-take_due-clause-lines g c = λ d.
-    c.in-Err-take_due.ensures.lines d ∙ c.give_routes.ensures.lines d ∙ c.loop-turn.invariant.same d
+    c.in-Err-take_due.ensures.lines d ∙ c.give_order.ensures.lines d ∙ c.give_routes.ensures.lines d
+    ∙ c.loop-turn.invariant.same d
+
+-- ---- the attendant ends it
+
+pub returns-then-is_over-clause-attended : goal.returns-then-is_over-clause-attended
+returns-then-is_over-clause-attended g c =
+    let so_far = c.loop-turn.invariant.story in
+    attended_in so_far.2 (inr (c.is_over.ensures c.if-is_over.true, omega (arith, so_far.1, c.loop-turn-test.true)))
+
+pub returns-then-is_over-clause-told : goal.returns-then-is_over-clause-told
+returns-then-is_over-clause-told g c = c.loop-turn.invariant.told
+
+pub returns-then-is_over-clause-keeps : goal.returns-then-is_over-clause-keeps
+returns-then-is_over-clause-keeps g c =
+    keeps_well g.K.Keeper.says c.args.keeper.now c.loop-turn.keeper tt c.loop-turn.hub c.loop-turn.invariant.settled
+    c.loop-turn.invariant.kept
+
+pub returns-then-is_over-clause-lines : goal.returns-then-is_over-clause-lines
+returns-then-is_over-clause-lines g c = c.loop-turn.invariant.same
+
+pub returns-then-is_over-clause-same : goal.returns-then-is_over-clause-same
+returns-then-is_over-clause-same g c = c.loop-turn.invariant.lines
 
 -- ---- all rounds are over
 
@@ -140,19 +215,23 @@ take_due-requires-clause-same g c = omega (
 
 pub take_due-requires-clause-known : goal.take_due-requires-clause-known
 take_due-requires-clause-known g c =
-    subst (λ (ls : List LineId). All (HasLine c.give_routes.new.hub) ls) (sym c.loop-turn.invariant.lines)
+    subst (λ (ls : List LineId). All (HasLine c.give_order.new.hub) ls) (sym c.loop-turn.invariant.lines)
     (λ k d within.
     omega (
       arith,
       c.requires.known k d within,
       c.loop-turn.invariant.same (get_or c.args.rounds.now.lines k d).customer,
       c.give_routes.ensures.lines (get_or c.args.rounds.now.lines k d).customer,
+      c.give_order.ensures.lines (get_or c.args.rounds.now.lines k d).customer,
     ))
 
 pub returns-clause-attended : goal.returns-clause-attended
 returns-clause-attended g c =
     let so_far = c.loop-turn.invariant.story in
     attended_at so_far.2 (omega (arith, so_far.1))
+
+pub returns-clause-told : goal.returns-clause-told
+returns-clause-told g c = c.loop-turn.invariant.told
 
 pub returns-clause-lines : goal.returns-clause-lines
 returns-clause-lines g c = c.loop-turn.invariant.same

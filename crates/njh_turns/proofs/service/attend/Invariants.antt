@@ -1,4 +1,4 @@
-use Rattle.std.proofs.Common.{◌≡◌, List, length}
+use Rattle.std.proofs.Common.{◌≡◌, List, None, length}
 use Rattle.njh_hub.specs.WholeHub.{SameLines}
 use Rattle.njh_turns.specs.Keeping.{IsSettled}
 use Rattle.njh_turns.specs.Service.{Happening, service_rounds}
@@ -10,10 +10,11 @@ use Rattle.njh_turns.proofs.service.attend.Given as goal
 abbrev pub invariant-loop-turn : goal.invariant-loop-turn
 invariant-loop-turn g l = record {
   story : (story : List Happening) × (length (service_rounds story) ≡ l.turn) ×
-      IsAt g.W.Wire.says g.A.Attendant.brings l.fn.rounds.lines (moment l.fn.hub l.fn.rounds.quiets l.fn.wires) story
+      IsAt g.W.Wire.says g.A.Attendant.steers l.fn.rounds.lines (moment l.fn.hub l.fn.rounds.quiets l.fn.wires) story
       (moment l.hub l.rounds.quiets l.wires);
   lines : l.rounds.lines ≡ l.fn.rounds.lines;
   same : SameLines l.fn.hub l.hub;
+  told : g.A.Attendant.waits l.fn.attendant None → g.A.Attendant.waits l.attendant None;
   settled : IsSettled g.K.Keeper.says l.keeper l.hub;
   kept : g.K.Keeper.says.count l.keeper ≡ g.K.Keeper.says.count l.fn.keeper;
 }

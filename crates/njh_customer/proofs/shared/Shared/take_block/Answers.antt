@@ -1,26 +1,26 @@
 -- The line table's verdict, the records, and what follows them.
-use Rattle.{std.proofs.Common.{◌≡◌, true, false, sym, ◌∙◌, rules}, njh_line.specs.LineTable.Block}
+use Rattle.{std.proofs.Common.{◌≡◌, Option, Some, None, sym, ◌∙◌, rules}, njh_line.specs.LineTable.Block}
 use Rattle.{njh_line.specs.Openings.shown_first, njh_customer.{proofs.ReadyLaws.left_by_block, specs.Alone.block_input}}
 use Rattle.njh_customer.proofs.shared.Shared.take_block.Goals as goal
 
-pub returns-then-act_where : goal.returns-then-act_where
-returns-then-act_where c =
+pub returns-in-Some : goal.returns-in-Some
+returns-in-Some c =
     let accepted = c.accept-verdict in
     let acted = c.act_where in
     let input : Block c.bcb.result c.fcs.result (shown_first c.first_general.result) ≡ block_input c.args.read = search
     rules in
-    left_by_block true c.args.id c.args.self.now accepted.new.self acted.new.self _ c.args.lines.now accepted.new.lines
-    acted.new.lines _ _ c.args.read _ accepted.result c.requires.ready input accepted.ensures.verdict
-    accepted.ensures.after (sym c.if-act_where.true ∙ acted.ensures.is_ended) acted.ensures.after
+    left_by_block (Some c.in-Some.end) c.args.id c.args.self.now accepted.new.self acted.new.self _ c.args.lines.now
+    accepted.new.lines acted.new.lines _ _ c.args.read _ accepted.result c.requires.ready input
+    accepted.ensures.verdict accepted.ensures.after (sym c.in-Some.is ∙ acted.ensures.end_is) acted.ensures.after
     (record { after = c.end_session.ensures; frame = c.clear.ensures })
 
-pub returns-else-act_where : goal.returns-else-act_where
-returns-else-act_where c =
+pub returns-in-None : goal.returns-in-None
+returns-in-None c =
     let accepted = c.accept-verdict in
     let acted = c.act_where in
     let input : Block c.bcb.result c.fcs.result (shown_first c.first_general.result) ≡ block_input c.args.read = search
     rules in
-    left_by_block false c.args.id c.args.self.now accepted.new.self acted.new.self _ c.args.lines.now
+    left_by_block None c.args.id c.args.self.now accepted.new.self acted.new.self _ c.args.lines.now
     accepted.new.lines acted.new.lines _ _ c.args.read _ accepted.result c.requires.ready input
-    accepted.ensures.verdict accepted.ensures.after (sym c.if-act_where.false ∙ acted.ensures.is_ended)
+    accepted.ensures.verdict accepted.ensures.after (sym c.in-None.is ∙ acted.ensures.end_is)
     acted.ensures.after c.carry_out.ensures

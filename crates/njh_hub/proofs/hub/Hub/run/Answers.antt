@@ -1,19 +1,23 @@
 use Rattle.std.proofs.Common.{◌≡◌, ℕ, ◌+◌, ◌<◌, List, [], ◌∷◌, ◌++◌, length, take, Option, Some, ap, sym, subst, ◌∙◌}
-use Rattle.std.proofs.Common.{arith, ◌≤◌, ⊎_elim, inl, inr}
+use Rattle.std.proofs.Common.{arith, ◌≤◌, ⊎_elim, inl, inr, true, false}
 use Rattle.std.specs.Prelude.{IsSomeAnd, slice_get, All, IsSome}
 use Rattle.std.specs.Vec.{vec_capacity}
 use Rattle.njh_bisync.specs.Limits.{longest_frame}
-use Rattle.std.proofs.lemmas.List.{take_all, length-append}
+use Rattle.std.proofs.lemmas.List.{take_all, take_more, length-append}
 use Rattle.njh_customer.specs.Runs.{alone_run}
 use Rattle.njh_hub.specs.declared.event.Event.{Event}
 use Rattle.njh_hub.specs.declared.fault.RunFault.{RunFault}
+use Rattle.njh_hub.specs.declared.fault.Cause.{Cause}
+use Rattle.njh_hub.specs.declared.fault.Cause.TheVariants.{Hub}
+use Rattle.njh_hub.specs.declared.fault.HubFault.TheVariants.{NoRoute}
 use Rattle.njh_hub.specs.OwnEvents.{line_of_event, events_of, bytes_in_event, first_events}
-use Rattle.njh_hub.specs.RunStops.{HandedUntil, IfHub, IsRefused, IsRoutes}
-use Rattle.njh_hub.specs.WholeHub.{Part, part, HubRun, IsNamed, hub_run}
+use Rattle.njh_hub.specs.RunStops.{HandedUntil, IfHub, IsGiven, IsRefused, IsRoutes}
+use Rattle.njh_hub.specs.WholeHub.{Part, part, HaveWays, HubRun, IsNamed, IsWay, hub_run}
 use Rattle.njh_hub.proofs.RunLaws.{each_is_alone}
 use Rattle.njh_hub.proofs.RunningLaws.{stopped_in, went_on, HandedUntil-after, HandedUntil-some}
 use Rattle.njh_hub.proofs.NamedLaws.{All-more, LedOn, behind-known, either_event, found_at, hub_run-length, led_on}
-use Rattle.njh_hub.proofs.NamedLaws.{named-before, refused_at}
+use Rattle.njh_hub.proofs.NamedLaws.{have_ways_more, if_order_given, named-before, refused_at}
+use Rattle.njh_customer.specs.Orders.{has_way}
 use Rattle.njh_hub.proofs.StopLaws.{stop_later}
 use Rattle.njh_hub.proofs.hub.Hub.run.Goals as goal
 
@@ -26,8 +30,8 @@ returns-in-Err-clause-parts g c = λ d there.
     let event = c.index-events-index.result in
     let within : k < length events = omega arith in
     let stop = stopped_in start c.loop-index.self events k fault.events fault.bytes event within
-    c.index-events-index.is c.in-Err.ensures.one.1 c.loop-index.invariant.parts in
-    ap (part d) (c.in-Err.ensures.leads ∙ ap (λ (h : HubRun). h.parts) (sym stop))
+    c.index-events-index.is c.in-Err.ensures.run.one.1 c.loop-index.invariant.parts in
+    ap (part d) (c.in-Err.ensures.run.leads ∙ ap (λ (h : HubRun). h.parts) (sym stop))
     ∙ (each_is_alone d start (first_events events (k + fault.events) fault.bytes) there).after
     ∙ ap (λ (f : RunFault). (alone_run (part d start) (events_of d (first_events events f.events f.bytes))).after)
     (sym c.after.ensures)
@@ -41,12 +45,12 @@ returns-in-Err-clause-handed g c =
     let event = c.index-events-index.result in
     let within : k < length events = omega arith in
     let stop = stopped_in start c.loop-index.self events k fault.events fault.bytes event within
-    c.index-events-index.is c.in-Err.ensures.one.1 c.loop-index.invariant.parts in
+    c.index-events-index.is c.in-Err.ensures.run.one.1 c.loop-index.invariant.parts in
     let sent = (hub_run start (take k events)).sent in
     let more = (hub_run c.loop-index.self (first_events (event ∷ []) fault.events fault.bytes)).sent in
     let handed = HandedUntil-after g.S.Sink.took g.S.Sink.refused fault.cause c.args.sink.now c.loop-index.sink
     c.run_event.new.sink sent more
-    g.met.S.Sink.more c.loop-index.invariant.sent c.in-Err.ensures.handed in
+    g.met.S.Sink.more c.loop-index.invariant.sent c.in-Err.ensures.run.handed in
     let P : HubRun → Type 0 = λ h. HandedUntil g.S.Sink.took g.S.Sink.refused fault.cause c.args.sink.now
     c.run_event.new.sink h.sent in
     let Q : RunFault → Type 0 = λ f. HandedUntil g.S.Sink.took g.S.Sink.refused f.cause c.args.sink.now
@@ -63,12 +67,12 @@ returns-in-Err-clause-refused g c = λ refused.
     let event = c.index-events-index.result in
     let within : k < length events = omega arith in
     let stop = stopped_in start c.loop-index.self events k fault.events fault.bytes event within
-    c.index-events-index.is c.in-Err.ensures.one.1 c.loop-index.invariant.parts in
+    c.index-events-index.is c.in-Err.ensures.run.one.1 c.loop-index.invariant.parts in
     let sent = (hub_run start (take k events)).sent in
     let more = (hub_run c.loop-index.self (first_events (event ∷ []) fault.events fault.bytes)).sent in
     let some : 0 < length more = HandedUntil-some g.S.Sink.took g.S.Sink.refused fault.cause c.loop-index.sink
     c.run_event.new.sink more
-    (sym (ap (λ (f : RunFault). f.cause) c.after.ensures) ∙ refused) c.in-Err.ensures.handed in
+    (sym (ap (λ (f : RunFault). f.cause) c.after.ensures) ∙ refused) c.in-Err.ensures.run.handed in
     let same : length (hub_run start (first_events events c.after.result.events c.after.result.bytes)).sent
     ≡ length (sent ++ more) =
     ap (λ (f : RunFault). length (hub_run start (first_events events f.events f.bytes)).sent) c.after.ensures
@@ -82,7 +86,7 @@ returns-in-Err-clause-customers g c =
     let now = c.loop-index.self in
     let here : length now ≡ length start = ap (λ (ps : List Part). length ps) c.loop-index.invariant.parts
     ∙ hub_run-length start (take k c.args.events.now) in
-    ap (λ (ps : List Part). length ps) c.in-Err.ensures.leads
+    ap (λ (ps : List Part). length ps) c.in-Err.ensures.run.leads
     ∙ hub_run-length now (first_events (c.index-events-index.result ∷ []) c.in-Err.fault.events c.in-Err.fault.bytes)
     ∙ here
 
@@ -98,9 +102,9 @@ returns-in-Err-clause-before g c =
     led_on start c.loop-index.self (take k events)
     c.loop-index.invariant.parts c.loop-index.invariant.same in
     let behind : c.in-Err.fault.events ≡ 1 → IsNamed start event = λ one. named-before start c.loop-index.self on event
-    (c.in-Err.ensures.behind one) in
+    (c.in-Err.ensures.run.behind one) in
     subst P (sym c.after.ensures) (behind-known start events k c.in-Err.fault.events c.in-Err.fault.bytes event within
-    c.index-events-index.is c.in-Err.ensures.one.1 behind c.loop-index.invariant.known)
+    c.index-events-index.is c.in-Err.ensures.run.one.1 behind c.loop-index.invariant.known)
 
 pub returns-in-Err-clause-within : goal.returns-in-Err-clause-within
 returns-in-Err-clause-within g c = λ some.
@@ -110,7 +114,7 @@ returns-in-Err-clause-within g c = λ some.
     let event = c.index-events-index.result in
     let within : k < length events = omega arith in
     let bytes : c.after.result.bytes ≡ fault.bytes = ap (λ (f : RunFault). f.bytes) c.after.ensures in
-    let one = c.in-Err.ensures.one.0 (omega (arith, bytes, some)) in
+    let one = c.in-Err.ensures.run.one.0 (omega (arith, bytes, some)) in
     let at : slice_get events c.after.result.events ≡ Some event =
     ap (λ (f : RunFault). slice_get events f.events) c.after.ensures
     ∙ found_at events k fault.events event within c.index-events-index.is one.0 in
@@ -133,7 +137,7 @@ returns-in-Err-clause-causes g c =
     (λ why. IsSomeAnd (slice_get events f.events) (λ e. IsRefused start e why)) in
     subst P (sym c.after.ensures) (refused_at start c.loop-index.self on events k fault.events event within
     c.index-events-index.is
-    fault.cause c.in-Err.ensures.causes)
+    fault.cause c.in-Err.ensures.run.causes)
 
 pub returns-in-Err-clause-memory : goal.returns-in-Err-clause-memory
 returns-in-Err-clause-memory g c = λ memory.
@@ -142,12 +146,12 @@ returns-in-Err-clause-memory g c = λ memory.
     let fault = c.in-Err.fault in
     let event = c.index-events-index.result in
     let within : k < length events = omega arith in
-    let told = c.in-Err.ensures.memory (sym (ap (λ (f : RunFault). f.cause) c.after.ensures) ∙ memory) in
+    let told = c.in-Err.ensures.run.memory (sym (ap (λ (f : RunFault). f.cause) c.after.ensures) ∙ memory) in
     let at : slice_get events c.after.result.events ≡ Some event =
     ap (λ (f : RunFault). slice_get events f.events) c.after.ensures
     ∙ found_at events k fault.events event within c.index-events-index.is told.0 in
     let P : Option Event → Type 0 = λ o. IsSomeAnd o IsRoutes in
-    let Q : ℕ → Type 0 = λ n. All IsRoutes (take n events) in
+    let Q : ℕ → Type 0 = λ n. All IsGiven (take n events) in
     let here : k ≡ c.after.result.events = omega (arith, ap (λ (f : RunFault). f.events) c.after.ensures, told.0) in (
       ap (λ (f : RunFault). f.bytes) c.after.ensures ∙ told.1,
       ⊎_elim (λ (routes : IsRoutes event). inl (subst P (sym at) routes))
@@ -157,10 +161,33 @@ returns-in-Err-clause-memory g c = λ memory.
           c.loop-index.invariant.room) told.2,
     )
 
+pub returns-in-Err-clause-no_way : goal.returns-in-Err-clause-no_way
+returns-in-Err-clause-no_way g c = λ none.
+    let start = c.args.self.now in
+    let events = c.args.events.now in
+    let k = c.loop-index.index in
+    let fault = c.in-Err.fault in
+    let event = c.index-events-index.result in
+    let within : k < length events = omega arith in
+    let cause : fault.cause ≡ Hub NoRoute = sym (ap (λ (f : RunFault). f.cause) c.after.ensures) ∙ none in
+    let C : Cause → Type 0 = λ cause. IfHub cause
+    (λ why. (fault.events ≡ 0) × IsRefused c.loop-index.self event why) in
+    let told = subst C cause c.in-Err.ensures.run.causes in
+    let at : slice_get events c.after.result.events ≡ Some event =
+    ap (λ (f : RunFault). slice_get events f.events) c.after.ensures
+    ∙ found_at events k fault.events event within c.index-events-index.is told.0 in
+    let here : k ≡ c.after.result.events = omega (arith, ap (λ (f : RunFault). f.events) c.after.ensures, told.0) in
+    let P : Option Event → Type 0 = λ o. IsSomeAnd o
+    (λ e. IsWay (hub_run start (take c.after.result.events events)).parts e false) in
+    let Q : ℕ → Type 0 = λ n. IsWay (hub_run start (take n events)).parts event false in
+    let way : IsWay c.loop-index.self event false = if_order_given event
+    (λ n order. has_way (part n c.loop-index.self).customer.entry order ≡ false) c.in-Err.ensures.way cause in
+    subst P (sym at) (subst Q here (subst (λ (ps : List Part). IsWay ps event false) c.loop-index.invariant.parts way))
+
 pub returns-in-Err-clause-begun : goal.returns-in-Err-clause-begun
 returns-in-Err-clause-begun g c =
     let P : RunFault → Type 0 = λ f. IfHub f.cause (λ why. f.bytes ≡ 0) in
-    subst P (sym c.after.ensures) c.in-Err.ensures.begun
+    subst P (sym c.after.ensures) c.in-Err.ensures.run.begun
 
 pub returns-in-Err-clause-behind : goal.returns-in-Err-clause-behind
 returns-in-Err-clause-behind g c = λ sink.
@@ -170,7 +197,7 @@ returns-in-Err-clause-behind g c = λ sink.
     stop_later c.args.self.now c.loop-index.self events k c.index-events-index.result c.in-Err.fault c.after.result
     within
     c.index-events-index.is c.loop-index.invariant.parts c.after.ensures
-    (c.in-Err.ensures.behind_frame (sym (ap (λ (f : RunFault). f.cause) c.after.ensures) ∙ sink))
+    (c.in-Err.ensures.run.behind_frame (sym (ap (λ (f : RunFault). f.cause) c.after.ensures) ∙ sink))
 
 pub loop-index-preserved : goal.loop-index-preserved
 loop-index-preserved g c =
@@ -184,21 +211,26 @@ loop-index-preserved g c =
     let led : LedOn start c.loop-index.self =
     led_on start c.loop-index.self (take k events)
     c.loop-index.invariant.parts c.loop-index.invariant.same in
-    let known : IsNamed start event = named-before start c.loop-index.self led event c.in-Ok.ensures.known in
+    let known : IsNamed start event = named-before start c.loop-index.self led event c.in-Ok.ensures.run.known in
     let P : HubRun → Type 0 = λ h. g.S.Sink.took c.args.sink.now c.run_event.new.sink h.sent in
     record {
-      parts = c.in-Ok.ensures.leads ∙ ap (λ (h : HubRun). h.parts) (sym on);
-      sent = subst P (sym on) (g.met.S.Sink.more _ _ _ _ _ c.loop-index.invariant.sent c.in-Ok.ensures.handed);
+      parts = c.in-Ok.ensures.run.leads ∙ ap (λ (h : HubRun). h.parts) (sym on);
+      sent = subst P (sym on) (g.met.S.Sink.more _ _ _ _ _ c.loop-index.invariant.sent c.in-Ok.ensures.run.handed);
       known = All-more (IsNamed start) events k event within c.index-events-index.is c.loop-index.invariant.known known;
-      same = λ d. c.in-Ok.ensures.lines d ∙ c.loop-index.invariant.same d;
-      room = ⊎_elim (λ (line : IsSome (line_of_event event)). inr (c.in-Ok.ensures.room (inl line)))
-          (λ (routes : IsRoutes event). ⊎_elim
-          (λ (all : All IsRoutes (take k events)). inl
-          (All-more IsRoutes events k event within c.index-events-index.is all routes))
-          (λ (enough : longest_frame ≤ vec_capacity c.loop-index.out). inr (c.in-Ok.ensures.room (inr enough)))
+      same = λ d. c.in-Ok.ensures.run.lines d ∙ c.loop-index.invariant.same d;
+      room = ⊎_elim (λ (line : IsSome (line_of_event event)). inr (c.in-Ok.ensures.run.room (inl line)))
+          (λ (given : IsGiven event). ⊎_elim
+          (λ (all : All IsGiven (take k events)). inl
+          (All-more IsGiven events k event within c.index-events-index.is all given))
+          (λ (enough : longest_frame ≤ vec_capacity c.loop-index.out). inr (c.in-Ok.ensures.run.room (inr enough)))
           c.loop-index.invariant.room)
           (either_event event);
-      counts = omega (arith, c.in-Ok.ensures.counts);
+      counts = omega (arith, c.in-Ok.ensures.run.counts);
+      ways = subst (HaveWays start)
+          (sym (take_more events k event within
+          ∙ ap (λ (x : Event). take k events ++ x ∷ []) (sym c.index-events-index.is)))
+          (have_ways_more start (take k events) event c.loop-index.invariant.ways
+          (subst (λ (ps : List Part). IsWay ps event true) c.loop-index.invariant.parts c.in-Ok.ensures.way));
     }
 
 pub returns-clause-parts : goal.returns-clause-parts
@@ -232,3 +264,7 @@ returns-clause-sent g c =
       λ d there.
           (each_is_alone d start events there).sent,
     )
+
+pub returns-clause-ways : goal.returns-clause-ways
+returns-clause-ways g c =
+    subst (HaveWays c.args.self.now) (take_all _ c.args.events.now (omega arith)) c.loop-index.invariant.ways

@@ -2,8 +2,8 @@ use Rattle.std.proofs.Common.{◌≡◌, ◌≤◌, ◌⊎◌, take}
 use Rattle.std.specs.Prelude.{All}
 use Rattle.std.specs.Vec.{vec_capacity}
 use Rattle.njh_bisync.specs.Limits.{longest_frame}
-use Rattle.njh_hub.specs.RunStops.{IsRoutes}
-use Rattle.njh_hub.specs.WholeHub.{IsNamed, SameLines, hub_run}
+use Rattle.njh_hub.specs.RunStops.{IsGiven}
+use Rattle.njh_hub.specs.WholeHub.{HaveWays, IsNamed, SameLines, hub_run}
 use Rattle.njh_hub.proofs.hub.Hub.run.Given as goal
 
 -- so many events have happened
@@ -13,6 +13,7 @@ invariant-loop-index g l = record {
   sent : g.S.Sink.took l.fn.sink l.sink (hub_run l.fn.self (take l.index l.events)).sent;
   known : All (IsNamed l.fn.self) (take l.index l.events);
   same : SameLines l.fn.self l.self;
-  room : All IsRoutes (take l.index l.events) ⊎ (longest_frame ≤ vec_capacity l.out);
+  room : All IsGiven (take l.index l.events) ⊎ (longest_frame ≤ vec_capacity l.out);
+  ways : HaveWays l.fn.self (take l.index l.events);
   counts : g.S.Sink.count l.fn.sink ≤ g.S.Sink.count l.sink;
 }
