@@ -24,7 +24,6 @@ use Rattle.njh_customer.proofs.{RecordsDo.{RecordDoes, record_does}, Restated.{I
 use Rattle.njh_customer.proofs.{Restated.{completed_harmless, refused_restated}, SpoolWalks.received_so}
 use Rattle.njh_customer.specs.Customer.{sender_at}
 use Rattle.njh_block.specs.Blocks as block
-use Rattle.njh_stream.specs.declared.receiver.Receiver.TheVariants as receiver
 use Rattle.njh_customer.proofs.RecordsDo as does
 use Rattle.njh_customer.specs.declared.given_order.GivenOrder.TheVariants as orders
 

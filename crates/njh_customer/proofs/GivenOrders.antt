@@ -1,12 +1,12 @@
 -- What an order does to a customer.
 use Rattle.njh_customer.proofs.Words
-use Words.{ℕ, List, [], length, fold, refl, sym, ap, inl, inr, subst, false, CustomerEntry, User, Route, Here, Line}
-use Words.{Unknown, route_of, notice_record, message_outcome, without_sending, with_outcome, goes, with_message_to}
-use Words.{Customer, CustomerLine, LeadsByMoves, nowhere, onward, OrderMoves, OrderDoes, OrdersDoSo, OrdersDoAsCommands}
+use Words.{ℕ, List, fold, refl, sym, ap, inl, inr, subst, false, User, Route, Here, Line}
+use Words.{Unknown, route_of, notice_record, message_outcome, without_sending, goes}
+use Words.{Customer, CustomerLine, LeadsByMoves, nowhere, onward, OrderMoves, OrdersDoSo, OrdersDoAsCommands}
 use Words.{GivenOrder, customer_after_order, has_way, leads_to_line, outgoing, streams_from_hub, Part, sender_of}
 use Words.{part_after_order, entry_with, with_marks}
-use Rattle.{std.proofs.Common.{◌≡◌, ◌⊎◌, ◌∙◌}, njh_command.proofs.CommandMoves.files_move}
-use Rattle.njh_customer.proofs.ActingMoves.{Commanded, nothing_moves, command_moves, commanded, told}
+use Rattle.{std.proofs.Common.{◌≡◌, ◌⊎◌}, njh_command.proofs.CommandMoves.files_move}
+use Rattle.njh_customer.proofs.ActingMoves.{nothing_moves, command_moves, commanded, told}
 use Rattle.njh_customer.proofs.{LineWalks.{lines_of, order_entry, order_keeps, told_so}, OutgoingLaws.of_parts}
 use Rattle.njh_customer.proofs.OutgoingLaws.{senders_receiving}
 use Rattle.njh_customer.specs.declared.given_order.GivenOrder.TheVariants as orders

@@ -118,10 +118,9 @@ pub use Rattle.njh_customer.specs.MovingLaws.{FilesLeaveSoBetween, IdleStreamsTa
 pub use Rattle.njh_customer.specs.MovingLaws.{RecordsChangeSo, RoutesDo, RoutesDoSo, RoutesMoveFile, StreamMoves}
 pub use Rattle.njh_customer.specs.MovingLaws.{StreamsMoveSo, TakesMoveSo, coming, is_as_before, is_held}
 pub use Rattle.njh_customer.specs.MovingLaws.{LeavesByOrder, OrderDoes, OrderMovesFile, OrderMovesStream, OrdersDoSo}
-pub use Rattle.njh_customer.specs.MovingLaws.{cancels_file, is_rerouted, keeps_records, remains}
+pub use Rattle.njh_customer.specs.MovingLaws.{OrdersDoAsCommands, cancels_file, is_rerouted, keeps_records, remains}
 pub use Rattle.njh_customer.specs.NewRoutes.{UnroutedFilesStay, customer_with_routes, entry_with, routes_given}
-pub use Rattle.njh_customer.specs.Orders.{DoesAsCommand, OrdersDoAsCommands, customer_after_order, has_way}
-pub use Rattle.njh_customer.specs.Orders.{leads_to_line, part_after_order, with_command}
+pub use Rattle.njh_customer.specs.Orders.{customer_after_order, has_way, leads_to_line, part_after_order, with_command}
 pub use Rattle.njh_customer.specs.{NewRoutes.taken_where, OutgoingFiles.{Outgoing, each_stream, has_file, outgoing}}
 pub use Rattle.njh_customer.specs.OutgoingFiles.{record_numbered, sender_on, streams_from_hub, streams_of, with_arrival}
 pub use Rattle.njh_customer.specs.OutgoingFiles.{with_file_state, with_files, with_sender_on, without_numbered}

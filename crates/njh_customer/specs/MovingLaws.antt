@@ -26,12 +26,15 @@ use Rattle.njh_sched.specs.NextBlock.{may_go}
 use Rattle.njh_command.specs.declared.command.Command.TheVariants.{Cancel, Reroute}
 use Rattle.njh_command.specs.Commands.{is_of_name, is_sending}
 use Rattle.njh_customer.specs.declared.signal.Signal.{Signal}
+use Rattle.njh_nmr.specs.Nodal.{Nodal, sender_of}
+use Rattle.njh_customer.specs.Acting.{after_user_command}
 use Rattle.njh_customer.specs.Customer.{Customer}
 use Rattle.njh_customer.specs.Alone.{after_frame, after_signal}
 use Rattle.njh_customer.specs.Part.{Part, part_after_bytes, rest_on}
 use Rattle.njh_customer.specs.NewRoutes.{entry_with}
-use Rattle.njh_customer.specs.Orders.{has_way}
+use Rattle.njh_customer.specs.Orders.{customer_after_order, has_way}
 use Rattle.njh_customer.specs.declared.given_order.GivenOrder.{GivenOrder}
+use Rattle.njh_customer.specs.declared.given_order.GivenOrder.TheVariants.{Command}
 use Rattle.njh_customer.specs.Runs.{OwnEvent, OwnBytes, OwnSignal, OwnRoutes, OwnOrder, Run, event_run}
 use Rattle.njh_customer.specs.OutgoingFiles.{Outgoing, outgoing, has_file, record_numbered, sender_on}
 use Rattle.njh_customer.specs.OutgoingFiles.{with_sender_on}
@@ -75,6 +78,17 @@ pub record OrderDoes (p : Part) (order : GivenOrder) (r : Run) : Type 0 where
 
 abbrev pub OrdersDoSo : Type 0
 OrdersDoSo = (p : Part) (order : GivenOrder) → OrderDoes p order (event_run p (OwnOrder order))
+
+-- The same command, by an order and on a line: it leaves the same files, whole and partial, and the same streams from
+-- the hub.
+pub record DoesAsCommand (by_order by_line : Customer) : Type 0 where
+  pub spool : by_order.spool ≡ by_line.spool
+  pub outgoing_is : outgoing by_order ≡ outgoing by_line
+
+abbrev pub OrdersDoAsCommands : Type 0
+OrdersDoAsCommands =
+    (n : Nodal) (c : Customer)
+    → DoesAsCommand (customer_after_order (Command (sender_of n) n.message) c) (after_user_command n c)
 
 -- what comes by an event: the records of the frames that its bytes make whole, new routes, or an order
 abbrev pub coming : Part → OwnEvent → Coming

@@ -1,13 +1,11 @@
 -- What the bureau's operator orders for a customer: a command in the name of a user, or a message to a user.
-use Rattle.std.specs.Prelude.{◌≡◌, ℕ, Bool, true, false, List, [], fold}
-use Rattle.njh_nmr.specs.Nodal.{Nodal, sender_of}
+use Rattle.std.specs.Prelude.{ℕ, Bool, true, false, List, [], fold}
 use Rattle.njh_table.specs.Entries.{CustomerEntry, route_of}
 use Rattle.njh_table.specs.declared.Route.{Route}
 use Rattle.njh_table.specs.declared.Route.TheVariants.{Here, Line, Unknown}
 use Rattle.njh_command.specs.Commands.{CommandOutcome, message_outcome, spool_after}
-use Rattle.njh_customer.specs.Acting.{after_user_command, without_sending}
+use Rattle.njh_customer.specs.Acting.{without_sending}
 use Rattle.njh_customer.specs.Customer.{Customer}
-use Rattle.njh_customer.specs.OutgoingFiles.{outgoing}
 use Rattle.njh_customer.specs.Part.{Part}
 use Rattle.njh_customer.specs.Waiting.{with_message_to}
 use Rattle.njh_customer.specs.declared.given_order.GivenOrder.{GivenOrder}
@@ -47,16 +45,3 @@ leads_to_line Unknown = false
 abbrev pub has_way : CustomerEntry → GivenOrder → Bool
 has_way entry (Command owner text) = true
 has_way entry (Message whom text) = leads_to_line (route_of entry whom.node)
-
--- ---- what is said of it
-
--- The same command, by an order and on a line: it leaves the same files, whole and partial, and the same streams from
--- the hub.
-pub record DoesAsCommand (by_order by_line : Customer) : Type 0 where
-  pub spool : by_order.spool ≡ by_line.spool
-  pub outgoing_is : outgoing by_order ≡ outgoing by_line
-
-abbrev pub OrdersDoAsCommands : Type 0
-OrdersDoAsCommands =
-    (n : Nodal) (c : Customer)
-    → DoesAsCommand (customer_after_order (Command (sender_of n) n.message) c) (after_user_command n c)

@@ -39,10 +39,10 @@ impl Shared {
         let mut block = block;
         let mut record = Record::new();
         while let Some(item) = block.next(&mut record) {
-            if let Some(end) = SessionEnd::of_record(&item) {
-                return Some(end);
+            match SessionEnd::of_record(&item) {
+                Some(end) => return Some(end),
+                None => self.act(id, item, &record, lines),
             }
-            self.act(id, item, &record, lines);
         }
         None
     }

@@ -4,7 +4,8 @@ ghost use Rattle.std.specs.Prelude.{◌≡◌, ◌<◌, length, slice_set};
 ghost use Rattle.njh_spool.specs.Spools.{spool_at};
 ghost use Rattle.njh_table.specs.TableFile.{customer_at, entry_of};
 ghost use Rattle.njh_customer.specs.Customer.{customer_with};
-ghost use Rattle.njh_customer.specs.Orders.{OrdersDoAsCommands, customer_after_order, replies_to};
+ghost use Rattle.njh_customer.specs.MovingLaws.{OrdersDoAsCommands};
+ghost use Rattle.njh_customer.specs.Orders.{customer_after_order, replies_to};
 ghost use Rattle.njh_customer.specs.code.Coherence.{OrdersKeepCoherent};
 
 use crate::customer_lines::CustomerLines;

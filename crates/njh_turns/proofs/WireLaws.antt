@@ -1,5 +1,5 @@
 -- An event of a wire: its steps, the frames that are written, and a write that fails.
-use Rattle.std.proofs.Common.{◌≡◌, ℕ, ◌+◌, ◌-◌, ◌<◌, List, [], ◌∷◌, ◌++◌, length, map, take, set, refl}
+use Rattle.std.proofs.Common.{◌≡◌, ℕ, ◌+◌, ◌<◌, List, [], ◌∷◌, ◌++◌, length, map, take, set, refl}
 use Rattle.std.proofs.Common.{Option, Some, ap, sym, ◌∙◌}
 use Rattle.std.proofs.lemmas.List.{map-append}
 use Rattle.njh_table.specs.declared.LineId.{LineId}

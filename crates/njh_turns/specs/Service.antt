@@ -1,12 +1,11 @@
 -- A service: rounds of turns, and between them what customers are given: new routes, or an order.
-use Rattle.std.specs.Prelude.{◌≡◌, ◌⊎◌, ℕ, ◌<◌, ◌≤◌, ◌==◌, true, cond, List, [], ◌∷◌, ◌++◌, length, Option, Some, None, ⊤}
-use Rattle.std.specs.Prelude.{Result, OnOk, OnErr, slice_index_or, All}
+use Rattle.std.specs.Prelude.{◌≡◌, ◌⊎◌, ℕ, ◌<◌, ◌≤◌, ◌==◌, true, cond, List, [], ◌∷◌, ◌++◌, length, Option, Some, None}
+use Rattle.std.specs.Prelude.{⊤, Result, OnOk, OnErr, slice_index_or, All}
 use Rattle.std.specs.List.{flat_map}
 use Rattle.njh_table.specs.declared.LineId.{LineId}
 use Rattle.njh_customer.specs.Orders.{replies_to}
 use Rattle.njh_customer.specs.declared.given_order.GivenOrder.{GivenOrder}
 use Rattle.njh_hub.specs.declared.event.Event.{Event}
-use Rattle.njh_hub.specs.declared.event.Event.TheVariants.{Order}
 use Rattle.njh_hub.specs.declared.fault.HubFault.{HubFault}
 use Rattle.njh_hub.specs.OwnEvents.{customer_of_event, events_of}
 use Rattle.njh_hub.specs.RunStops.{IsGiven}
@@ -89,8 +88,8 @@ ArePossible parts lines quiets (happening ∷ story) = IsPossible parts happenin
     (happening_quiets quiets happening) story
 
 -- A service of so many rounds, or of fewer where the attendant may end it: each wire had one turn in each, in their
--- order, and nothing else passed on it; the hub was told of these turns, of new routes and orders that it could give and
--- that the attendant may bring, and of nothing else.
+-- order, and nothing else passed on it; the hub was told of these turns, of new routes and orders that it could give
+-- and that the attendant may bring, and of nothing else.
 pub record IsAttended {W : Type 0} (says : WireSays W) (steers : Type 0) (lines : List LineId) (turns : ℕ)
     (before after : HubMoment W) : Type 0 where
   pub story : List Happening

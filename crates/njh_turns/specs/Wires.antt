@@ -4,7 +4,7 @@ use Rattle.std.specs.Prelude.{Err, IsSome, ⊤, Vec, vec_capacity, slice_set}
 use Rattle.njh_bisync.specs.Limits.{longest_frame}
 use Rattle.njh_table.specs.declared.LineId.{LineId}
 use Rattle.njh_hub.specs.declared.event.Event.{Event}
-use Rattle.njh_hub.specs.declared.event.Event.TheVariants.{Bytes, Lost}
+use Rattle.njh_hub.specs.declared.event.Event.TheVariants.{Lost}
 use Rattle.njh_hub.specs.Cuts.{SendsAt, cut_to, run_until}
 use Rattle.njh_hub.specs.OwnEvents.{line_of_event}
 use Rattle.njh_hub.specs.Sent.{IsCounted}

@@ -154,6 +154,6 @@ fn hub_in(
 }
 
 /// Lets go of a spool file as a program does that is killed.
-pub fn kill<S: Start>(store: Store<FileStore<FileFrom<S>>>) {
+pub(crate) fn kill<S: Start>(store: Store<FileStore<FileFrom<S>>>) {
     drop(store);
 }

@@ -3,6 +3,6 @@
 use std::process::Abort;
 
 /// Ends the test where what was found isn't what is wanted, and tells the line of the case.
-pub fn is_same<R: Abort>(rt: &R, found: &str, want: &str, line: &str) {
+pub(crate) fn is_same<R: Abort>(rt: &R, found: &str, want: &str, line: &str) {
     assert_eq!(rt; found, want, "{line}");
 }

@@ -81,7 +81,7 @@ pub struct Joint {
 
 impl Joint {
     /// Nobody has dialled.
-    pub fn new(alloc: Global) -> Joint {
+    pub(crate) fn new(alloc: Global) -> Joint {
         Joint {
             now: Cell::new(0),
             moves: Cell::new(false),
@@ -111,18 +111,18 @@ impl Joint {
     }
 
     /// The time of a hub's clock, in milliseconds.
-    pub fn clock(&self, number: usize) -> u64 {
+    pub(crate) fn clock(&self, number: usize) -> u64 {
         let ahead = if number == 0 { 0 } else { AHEAD };
         self.now.get().saturating_add(ahead)
     }
 
     /// The time, in milliseconds.
-    pub fn now(&self) -> u64 {
+    pub(crate) fn now(&self) -> u64 {
         self.now.get()
     }
 
     /// A hub waits so many milliseconds at most. Answers what is ready.
-    pub fn wait(&self, number: usize, milliseconds: u64) -> Ready {
+    pub(crate) fn wait(&self, number: usize, milliseconds: u64) -> Ready {
         let end = self.end(number);
         end.until.set(self.now.get().saturating_add(milliseconds));
         Ready {
@@ -135,7 +135,7 @@ impl Joint {
 
     /// If nothing moved since this was last called, lets the time pass until a hub waits no
     /// longer.
-    pub fn pass(&self) {
+    pub(crate) fn pass(&self) {
         if self.moves.replace(false) {
             return;
         }
@@ -144,7 +144,7 @@ impl Joint {
     }
 
     /// A hub dials the other.
-    pub fn dial(&self, number: usize) {
+    pub(crate) fn dial(&self, number: usize) {
         self.moves.set(true);
         self.end(number).made.set(true);
         self.other(number).waits.set(true);
@@ -152,31 +152,31 @@ impl Joint {
 
     /// Whether somebody waited to be accepted on the line between the hubs, and now doesn't any
     /// more.
-    pub fn accept(&self, number: usize) -> bool {
+    pub(crate) fn accept(&self, number: usize) -> bool {
         self.moves.set(true);
         self.end(number).waits.replace(false)
     }
 
     /// Whether the peer waited to be accepted.
-    pub fn accept_peer(&self) -> bool {
+    pub(crate) fn accept_peer(&self) -> bool {
         self.moves.set(true);
         self.peer.replace(false)
     }
 
     /// The peer connects to the first hub's further line, and sends this.
-    pub fn play(&self, script: &'static [u8]) {
+    pub(crate) fn play(&self, script: &'static [u8]) {
         self.script.set(script);
         self.peer.set(true);
         self.moves.set(true);
     }
 
     /// The next frame of a hub is lost.
-    pub fn lose(&self, number: usize) {
+    pub(crate) fn lose(&self, number: usize) {
         self.end(number).loses.set(true);
     }
 
     /// Frames of a hub on the line between them.
-    pub fn send(&self, number: usize, bytes: &[u8]) {
+    pub(crate) fn send(&self, number: usize, bytes: &[u8]) {
         self.moves.set(true);
         let end = self.end(number);
         end.frames.set(end.frames.get().saturating_add(1));
@@ -219,20 +219,20 @@ impl Joint {
     }
 
     /// A hub's log.
-    pub fn tell(&self, number: usize, text: &[u8]) {
+    pub(crate) fn tell(&self, number: usize, text: &[u8]) {
         if let Ok(mut log) = self.end(number).log.try_borrow_mut() {
             let _kept = log.extend_from_slice(text).is_ok();
         }
     }
 
     /// How many frames a hub sent on the line between them, and how many of them are texts.
-    pub fn sent(&self, number: usize) -> (u32, u32) {
+    pub(crate) fn sent(&self, number: usize) -> (u32, u32) {
         let end = self.end(number);
         (end.frames.get(), end.texts.get())
     }
 
     /// How many lines of a hub's log have this.
-    pub fn told(&self, number: usize, this: &str) -> usize {
+    pub(crate) fn told(&self, number: usize, this: &str) -> usize {
         match self.end(number).log.try_borrow() {
             Ok(log) => count_lines(str::from_utf8(&log).unwrap_or(""), this),
             Err(_) => 0,

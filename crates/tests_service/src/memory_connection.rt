@@ -31,7 +31,7 @@ impl<'a> MemoryConnection<'a> {
     }
 
     /// Its peer.
-    pub fn peer(&self) -> &'a Peer {
+    pub(crate) fn peer(&self) -> &'a Peer {
         self.peer
     }
 

@@ -22,7 +22,7 @@ fn hub_address() -> IpAddr {
 }
 
 /// Plays what happens up to a moment on a service of these tables, and compares what is seen.
-pub fn play<R: Abort>(
+pub(crate) fn play<R: Abort>(
     rt: &R,
     alloc: Global,
     tables: &str,
@@ -40,7 +40,7 @@ pub fn play<R: Abort>(
 
 /// Asks for a service of these tables that has to listen on each port, and compares what is seen if
 /// it is refused.
-pub fn refuse<R: Abort>(
+pub(crate) fn refuse<R: Abort>(
     rt: &R,
     alloc: Global,
     tables: &str,
@@ -98,6 +98,6 @@ impl Player for Until<'_> {
 }
 
 /// Adds a moment and a text.
-pub fn add_text(wanted: &mut Vec<u8>, moment: u64, text: &str) {
+pub(crate) fn add_text(wanted: &mut Vec<u8>, moment: u64, text: &str) {
     let _kept = write!(*wanted, "{moment}{text}").is_ok();
 }

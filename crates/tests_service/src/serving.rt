@@ -29,7 +29,7 @@ pub trait Player {
 }
 
 /// Serves the lines of tables, which listen on this address or are to, while somebody plays.
-pub fn serve<N: Network + Drop, L: Write + Drop, P: Player>(
+pub(crate) fn serve<N: Network + Drop, L: Write + Drop, P: Player>(
     alloc: Global,
     tables: Tables,
     exchange: Exchange<N, L, NoSource>,
@@ -50,7 +50,7 @@ pub fn serve<N: Network + Drop, L: Write + Drop, P: Player>(
 }
 
 /// Whether the lines of tables aren't served, if each has to listen on its port of this address.
-pub fn is_refused<N: Network + Drop, L: Write + Drop>(
+pub(crate) fn is_refused<N: Network + Drop, L: Write + Drop>(
     alloc: Global,
     tables: Tables,
     exchange: Exchange<N, L, NoSource>,

@@ -129,37 +129,37 @@ impl Peer {
     }
 
     /// Whether calls on its connection fail.
-    pub fn is_broken(&self) -> bool {
+    pub(crate) fn is_broken(&self) -> bool {
         self.broken.get()
     }
 
     /// Whether sends on its connection fail.
-    pub fn is_deaf(&self) -> bool {
+    pub(crate) fn is_deaf(&self) -> bool {
         self.deaf.get() || self.broken.get()
     }
 
     /// Whether it sends no more.
-    pub fn has_ended(&self) -> bool {
+    pub(crate) fn has_ended(&self) -> bool {
         self.ended.get()
     }
 
     /// What becomes of a dial to it.
-    pub fn answer(&self) -> Answer {
+    pub(crate) fn answer(&self) -> Answer {
         self.answer.get()
     }
 
     /// What it sent and nobody read.
-    pub fn coming(&self) -> &'static [u8] {
+    pub(crate) fn coming(&self) -> &'static [u8] {
         self.coming.get()
     }
 
     /// What it sent was read up to here.
-    pub fn leave(&self, rest: &'static [u8]) {
+    pub(crate) fn leave(&self, rest: &'static [u8]) {
         self.coming.set(rest);
     }
 
     /// Takes up to so many bytes, and answers how many.
-    pub fn take(&self, count: usize) -> usize {
+    pub(crate) fn take(&self, count: usize) -> usize {
         let room = self.room.get();
         let taken = count.min(room);
         self.room.set(room.saturating_sub(taken));
@@ -208,7 +208,7 @@ pub struct World<'a> {
 
 impl<'a> World<'a> {
     /// One in which this happens, in this order.
-    pub fn new(alloc: Global, acts: &'a [Happens]) -> World<'a> {
+    pub(crate) fn new(alloc: Global, acts: &'a [Happens]) -> World<'a> {
         World {
             acts,
             next: Cell::new(0),
@@ -229,17 +229,17 @@ impl<'a> World<'a> {
     }
 
     /// Milliseconds since the beginning.
-    pub fn now(&self) -> u64 {
+    pub(crate) fn now(&self) -> u64 {
         self.now.get()
     }
 
     /// A peer.
-    pub fn peer(&self, peer: usize) -> Option<&Peer> {
+    pub(crate) fn peer(&self, peer: usize) -> Option<&Peer> {
         self.peers.get(peer)
     }
 
     /// What becomes of listening on a port. What is to happen by now has happened.
-    pub fn ports(&self) -> Ports {
+    pub(crate) fn ports(&self) -> Ports {
         self.see_ports();
         self.listening.get()
     }
@@ -257,7 +257,7 @@ impl<'a> World<'a> {
     }
 
     /// A line listens on a port.
-    pub fn listen(&self, place: usize, port: u16) {
+    pub(crate) fn listen(&self, place: usize, port: u16) {
         let mut ports = self.ports.get();
         if let Some(found) = ports.get_mut(place) {
             *found = port;
@@ -266,7 +266,7 @@ impl<'a> World<'a> {
     }
 
     /// The first peer that waits at a port is connected to a line.
-    pub fn accept(&self, place: usize, port: u16) -> Option<usize> {
+    pub(crate) fn accept(&self, place: usize, port: u16) -> Option<usize> {
         for (number, peer) in self.peers.iter().enumerate() {
             if peer.waits_at.get() == port {
                 peer.connect(place);
@@ -277,7 +277,7 @@ impl<'a> World<'a> {
     }
 
     /// A line dials the peer of this port. None if that is refused at once.
-    pub fn dial(&self, place: usize, port: u16) -> Option<usize> {
+    pub(crate) fn dial(&self, place: usize, port: u16) -> Option<usize> {
         let number = usize::from(port.saturating_sub(FIRST_PORT));
         let peer = self.peers.get(number)?;
         if peer.answer.get() == Answer::Unreachable {
@@ -290,12 +290,12 @@ impl<'a> World<'a> {
     }
 
     /// How many bytes of a line the log's writer takes.
-    pub fn log_takes(&self) -> usize {
+    pub(crate) fn log_takes(&self) -> usize {
         self.log_takes.get()
     }
 
     /// Waits for the next act, until a moment at most. Not at all if a dial was answered.
-    pub fn wait_until(&self, moment: u64) {
+    pub(crate) fn wait_until(&self, moment: u64) {
         if self.peers.iter().any(|peer| peer.reports.get()) {
             return;
         }
@@ -306,7 +306,7 @@ impl<'a> World<'a> {
     }
 
     /// What the next act that has come, or an answer to a dial, makes ready, if there is one.
-    pub fn next_mark(&self) -> Option<Mark> {
+    pub(crate) fn next_mark(&self) -> Option<Mark> {
         for peer in &self.peers {
             if peer.reports.get() {
                 peer.reports.set(false);
@@ -367,28 +367,28 @@ impl<'a> World<'a> {
     }
 
     /// The hub sent bytes to a peer.
-    pub fn see_sent(&self, number: usize, bytes: &[u8]) {
+    pub(crate) fn see_sent(&self, number: usize, bytes: &[u8]) {
         if let Ok(mut seen) = self.seen.try_borrow_mut() {
             add_sent(&mut seen, self.now.get(), number, bytes);
         }
     }
 
     /// The hub dialled a port.
-    pub fn see_dial(&self, port: u16) {
+    pub(crate) fn see_dial(&self, port: u16) {
         if let Ok(mut seen) = self.seen.try_borrow_mut() {
             add_dial(&mut seen, self.now.get(), port);
         }
     }
 
     /// The hub wrote this to its log.
-    pub fn see_log(&self, bytes: &[u8]) {
+    pub(crate) fn see_log(&self, bytes: &[u8]) {
         if let Ok(mut seen) = self.seen.try_borrow_mut() {
             let _kept = seen.extend_from_slice(bytes).is_ok();
         }
     }
 
     /// What was seen.
-    pub fn into_seen(self) -> Vec<u8> {
+    pub(crate) fn into_seen(self) -> Vec<u8> {
         self.seen.into_inner()
     }
 }

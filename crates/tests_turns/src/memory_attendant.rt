@@ -1,7 +1,5 @@
 //! An attendant in memory.
 
-ghost use Rattle.std.specs.Prelude.{is_some};
-
 use crate::memory_wire::MemoryWire;
 use arrayvec::ArrayVec;
 use njh_command::Replies;
@@ -46,7 +44,7 @@ pub struct MemoryAttendant {
 
 impl MemoryAttendant {
     /// One that has these routes to bring, by which all wires are due and none is prompted.
-    pub fn new(brought: Option<NewRoutes>) -> MemoryAttendant {
+    pub(crate) fn new(brought: Option<NewRoutes>) -> MemoryAttendant {
         MemoryAttendant {
             brought,
             ordered: None,
@@ -65,28 +63,28 @@ impl MemoryAttendant {
     }
 
     /// One that has an order to bring and no routes.
-    pub fn ordering(order: NewOrder) -> MemoryAttendant {
+    pub(crate) fn ordering(order: NewOrder) -> MemoryAttendant {
         let mut attendant = MemoryAttendant::new(None);
         attendant.ordered = Some(order);
         attendant
     }
 
     /// One that brings nothing, and by which a wire has a pause.
-    pub fn with_pause(pause: Pause) -> MemoryAttendant {
+    pub(crate) fn with_pause(pause: Pause) -> MemoryAttendant {
         let mut attendant = MemoryAttendant::new(None);
         attendant.pause = Some(pause);
         attendant
     }
 
     /// One that brings nothing, and ends the service after so many rounds.
-    pub fn ending(rounds: u32) -> MemoryAttendant {
+    pub(crate) fn ending(rounds: u32) -> MemoryAttendant {
         let mut attendant = MemoryAttendant::new(None);
         attendant.rounds = Some(rounds);
         attendant
     }
 
     /// One that brings nothing, and prompts each line that rests.
-    pub fn prompting() -> MemoryAttendant {
+    pub(crate) fn prompting() -> MemoryAttendant {
         let mut attendant = MemoryAttendant::new(None);
         attendant.prompts = true;
         attendant
@@ -94,7 +92,7 @@ impl MemoryAttendant {
 }
 
 impl Attendant<MemoryWire> for MemoryAttendant {
-    ghost use Rattle.std.specs.Prelude.{◌≡◌};
+    ghost use Rattle.std.specs.Prelude.{◌≡◌, is_some};
 
     ghost waits = { λ attendant order. attendant.waits ≡ is_some order };
 

@@ -27,7 +27,7 @@ pub struct Peer {
 
 impl Peer {
     /// One that takes as many bytes as come.
-    pub fn new() -> Peer {
+    pub(crate) fn new() -> Peer {
         Peer {
             coming: Cell::new(0),
             ended: Cell::new(false),

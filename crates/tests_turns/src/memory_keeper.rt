@@ -22,7 +22,7 @@ pub struct MemoryKeeper {
 
 impl MemoryKeeper {
     /// One that fails at a step, and at a settling, by their numbers from 1 on; 0 is none.
-    pub fn new(broken_step: u32, broken_settling: u32) -> MemoryKeeper {
+    pub(crate) fn new(broken_step: u32, broken_settling: u32) -> MemoryKeeper {
         MemoryKeeper {
             steps: 0,
             settlings: 0,

@@ -38,7 +38,7 @@ impl MemoryWire {
     /// says; `pending`, `closed` and `absent`; `fails`. Any other word is a quiet, or the answer to
     /// a prompt, and so is what comes after the last. The write of this number fails, from 1 on; 0
     /// is none.
-    pub fn new(steps: &'static str, broken_write: u32) -> MemoryWire {
+    pub(crate) fn new(steps: &'static str, broken_write: u32) -> MemoryWire {
         MemoryWire {
             steps,
             sent: ArrayVec::new(),
@@ -50,17 +50,17 @@ impl MemoryWire {
     }
 
     /// All frames that were sent.
-    pub fn sent(&self) -> &[u8] {
+    pub(crate) fn sent(&self) -> &[u8] {
         self.sent.as_slice()
     }
 
     /// How often it was read.
-    pub fn reads(&self) -> u32 {
+    pub(crate) fn reads(&self) -> u32 {
         self.reads
     }
 
     /// How many frames it was to send.
-    pub fn writes(&self) -> u32 {
+    pub(crate) fn writes(&self) -> u32 {
         self.writes
     }
 

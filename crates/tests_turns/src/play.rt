@@ -52,7 +52,12 @@ struct Player<'a> {
 }
 
 /// Plays steps on a new wire.
-pub fn play<R: Abort>(rt: &R, alloc: Global, name: &str, steps: &[Step]) -> Result<(), Fail> {
+pub(crate) fn play<R: Abort>(
+    rt: &R,
+    alloc: Global,
+    name: &str,
+    steps: &[Step],
+) -> Result<(), Fail> {
     let peers = [Peer::new(), Peer::new()];
     let mut player = Player {
         wire: LineWire::new(alloc, 0)?,

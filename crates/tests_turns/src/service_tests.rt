@@ -19,7 +19,7 @@ const ACK0: &[u8] = b"\x10\x70";
 const ACK0_AND_NAK: &[u8] = b"\x10\x70\x3d";
 
 /// A route to METZ on a line, for the first customer.
-pub fn metz_by(alloc: Global, id: LineId) -> Result<NewRoutes, Fail> {
+pub(crate) fn metz_by(alloc: Global, id: LineId) -> Result<NewRoutes, Fail> {
     let node = Name::of_text("METZ")?;
     let entry = GivenRoute {
         node,
@@ -46,7 +46,7 @@ fn anna_at(node: &str) -> Result<User, Fail> {
 }
 
 /// LIST, in the name of ANNA in LYON.
-pub fn list_for(alloc: Global, customer: u16) -> Result<NewOrder, Fail> {
+pub(crate) fn list_for(alloc: Global, customer: u16) -> Result<NewOrder, Fail> {
     let text = OrderText::of(alloc, LIST)?;
     let order = GivenOrder::Command(anna_at("LYON")?, text);
     Ok(NewOrder { customer, order })

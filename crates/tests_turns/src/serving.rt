@@ -55,14 +55,14 @@ pub static TOLD: [u8; 103] =
     \xd3\xc5\xe2\x00\x00\x10\x26";
 
 /// A hub of these tables.
-pub fn opened(alloc: Global) -> Result<Hub, Fail> {
+pub(crate) fn opened(alloc: Global) -> Result<Hub, Fail> {
     let tables = Tables::read(alloc, TABLES)?;
     Ok(Hub::open(alloc, tables)?)
 }
 
 /// So many turns of wires of both lines, on a hub that is opened for them. Answers what the turns
 /// answer.
-pub fn serve<R: Abort>(
+pub(crate) fn serve<R: Abort>(
     rt: &R,
     alloc: Global,
     keeper: &mut MemoryKeeper,
@@ -88,7 +88,7 @@ fn serve_on<R: Abort>(
 
 /// A service of wires of both lines, on a hub that is opened for them: so many rounds, and then so
 /// many more. Answers what the service answers.
-pub fn attend_twice<R: Abort>(
+pub(crate) fn attend_twice<R: Abort>(
     rt: &R,
     alloc: Global,
     keeper: &mut MemoryKeeper,

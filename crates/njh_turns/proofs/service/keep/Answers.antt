@@ -1,4 +1,3 @@
-use Rattle.std.proofs.Common.{arith}
 use Rattle.njh_turns.proofs.KeepingLaws.{either_of_only, keeps_ill, keeps_settled, leaves_only, on_err}
 use Rattle.njh_turns.proofs.service.keep.Goals as goal
 

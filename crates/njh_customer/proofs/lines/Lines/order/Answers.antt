@@ -1,6 +1,6 @@
 use Rattle.njh_customer.proofs.Words
 use Words.{length, ap, sym, Customer, customer_after_order, customer_with, entry_of, customer_at, spool_at}
-use Rattle.{std.proofs.Common.{◌≡◌, ◌∙◌}, njh_customer.proofs.LineWalks.{lines_of, order_keeps}}
+use Rattle.{std.proofs.Common.{◌∙◌}, njh_customer.proofs.LineWalks.{lines_of, order_keeps}}
 use Rattle.njh_customer.proofs.lines.Lines.order.Goals as goal
 
 pub invariant_of-self : goal.invariant_of-self

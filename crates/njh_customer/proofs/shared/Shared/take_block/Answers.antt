@@ -1,5 +1,5 @@
 -- The line table's verdict, the records, and what follows them.
-use Rattle.{std.proofs.Common.{◌≡◌, Option, Some, None, sym, ◌∙◌, rules}, njh_line.specs.LineTable.Block}
+use Rattle.{std.proofs.Common.{◌≡◌, Some, None, sym, ◌∙◌, rules}, njh_line.specs.LineTable.Block}
 use Rattle.{njh_line.specs.Openings.shown_first, njh_customer.{proofs.ReadyLaws.left_by_block, specs.Alone.block_input}}
 use Rattle.njh_customer.proofs.shared.Shared.take_block.Goals as goal
 
