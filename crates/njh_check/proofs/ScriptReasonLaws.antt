@@ -9,20 +9,28 @@ use Rattle.hex.specs.declared.error.FromHexError.{FromHexError}
 use Rattle.hex.specs.declared.error.FromHexError.TheVariants.{InvalidHexCharacter, OddLength, InvalidStringLength}
 use Rattle.hex.specs.declared.error.FromHexError.TheVariants.{OutOfMemory}
 use Rattle.njh_ebcdic.specs.Reading.{name_of_text}
+use Rattle.njh_ebcdic.specs.Users.{User}
 use Rattle.njh_hub.specs.declared.event.Event.{Event}
-use Rattle.njh_hub.specs.declared.event.Event.TheVariants.{Bytes, Tick, Garbled, Lost, Routes}
+use Rattle.njh_hub.specs.declared.event.Event.TheVariants.{Bytes, Tick, Garbled, Lost, Routes, Order}
 use Rattle.njh_table.specs.declared.LineId.{LineId}
 use Rattle.njh_table.specs.declared.new_routes.GivenRoute.{GivenRoute}
 use Rattle.njh_table.specs.declared.fault.TableFault.{TableFault}
 use Rattle.njh_table.specs.NewRoutes.{new_routes_of, routes_checked}
 use Rattle.njh_table.specs.TableFile.{TableFile, customer_at, entry_of, line_named}
+use Rattle.njh_customer.specs.declared.given_order.GivenOrder.{GivenOrder}
 use Rattle.njh_check.specs.ScriptReasons.{Told, first_told, is_bytes, is_event, reason_behind, reason_of_bytes}
+use Rattle.njh_check.specs.ScriptReasons.{reason_by_kind, reason_of_order, reason_of_order_words, reason_of_text}
+use Rattle.njh_check.specs.ScriptReasons.{reason_of_user, reason_of_user_parts}
 use Rattle.njh_check.specs.ScriptReasons.{reason_of, reason_of_check, reason_of_given, reason_of_lines, reason_of_pair}
 use Rattle.njh_check.specs.ScriptReasons.{reason_of_pairs}
 use Rattle.njh_check.specs.ScriptReasons.{reason_of_parts, reason_of_routes, reason_of_second, reason_of_words}
 use Rattle.njh_check.specs.ScriptReasons.{reason_on_line}
-use Rattle.njh_replay.specs.Script.{bytes_on, event_of_words, event_on_line, piece_of, script_event, signal_of}
-use Rattle.njh_replay.specs.Script.{some_bytes, words_of}
+use Rattle.njh_replay.specs.Script.{bytes_on, event_by_kind, event_of_words, event_on_line, piece_of, script_event}
+use Rattle.njh_replay.specs.Script.{signal_of, some_bytes, words_of}
+use Rattle.njh_replay.specs.ScriptOrders.{event_of_order, order_as, order_kind, order_of_words, order_text}
+use Rattle.njh_replay.specs.ScriptOrders.{parts_of_user, text_of_words, user_of_parts}
+use Rattle.njh_replay.specs.declared.script_orders.OrderKind.{OrderKind}
+use Rattle.njh_replay.specs.declared.script_orders.TextFault.{TextFault}
 use Rattle.njh_replay.specs.ScriptRoutes.{customer_named, event_of_routes, parts_of_pair, route_of_pair, route_of_parts}
 use Rattle.njh_replay.specs.ScriptRoutes.{routes_for, routes_of_pairs, second_by}
 
@@ -180,21 +188,78 @@ on_routes : (tables : TableFile) (words : List (List ℕ)) → event_of_routes t
 on_routes tables [] none = refl
 on_routes tables (name ∷ pairs) none = no_customer tables pairs (customer_named tables name) _ none
 
+-- ---- orders
+
+no_text : {B : Type 0} (read : Result (List ℕ) TextFault) (f : List ℕ → B)
+    → option_map f (result_ok read) ≡ None → IsSome (reason_of_text read)
+no_text (Ok bytes) f none = absurd (cc none)
+no_text (Err fault) f none = refl
+
+-- a user is named or isn't, and then the text is one or isn't
+no_user : {B F : Type 0} (user : Result (List ℕ) F) (text : List ℕ) (named : List ℕ → User) (f : User → List ℕ → B)
+    → option_and_then (λ who. option_map (f who) (result_ok (order_text text))) (option_map named (result_ok user))
+    ≡ None → (t : Told)
+    → IsSome (elim user [ Ok name ↦ reason_of_text (order_text text) | Err fault ↦ Some t ])
+no_user (Ok name) text named f none t = no_text (order_text text) (f (named name)) none
+no_user (Err fault) text named f none t = refl
+
+no_ends : {B F : Type 0} (node : Result (List ℕ) F) (user text : List ℕ) (f : User → List ℕ → B)
+    → option_and_then (λ who. option_map (f who) (result_ok (order_text text)))
+    (option_and_then (λ (n : List ℕ). option_map (λ (u : List ℕ). record { node = n; user = u })
+    (result_ok (name_of_text user))) (result_ok node)) ≡ None → (t : Told)
+    → IsSome (elim node [ Ok name ↦ reason_of_user user text | Err fault ↦ Some t ])
+no_ends (Ok name) user text f none t =
+    no_user (name_of_text user) text (λ u. record { node = name; user = u }) f none _
+no_ends (Err fault) user text f none t = refl
+
+no_parts : {B : Type 0} (word : List ℕ) (parts : List (List ℕ)) (text : List ℕ) (f : User → List ℕ → B)
+    → option_and_then (λ who. option_map (f who) (result_ok (order_text text))) (user_of_parts parts) ≡ None
+    → IsSome (reason_of_user_parts word parts text)
+no_parts word [] text f none = refl
+no_parts word (node ∷ []) text f none = refl
+no_parts word (node ∷ user ∷ []) text f none = no_ends (name_of_text node) user text f none _
+no_parts word (node ∷ user ∷ other ∷ parts) text f none = refl
+
+no_order : (kind : OrderKind) (words : List (List ℕ)) → order_of_words kind words ≡ None
+    → IsSome (reason_of_order_words words)
+no_order kind [] none = refl
+no_order kind (user ∷ words) none = no_parts user (parts_of_user user) (text_of_words words) (order_as kind) none
+
+no_order_for : (kind : OrderKind) (words : List (List ℕ)) (found : Option ℕ) (f : ℕ → GivenOrder → Event)
+    → option_and_then (λ c. option_map (f c) (order_of_words kind words)) found ≡ None → (t : Told)
+    → IsSome (cond (is_some found) (reason_of_order_words words) (Some t))
+no_order_for kind words None f none t = refl
+no_order_for kind words (Some c) f none t = no_order kind words (no_piece (f c) (order_of_words kind words) none)
+
+on_order : (tables : TableFile) (kind : OrderKind) (words : List (List ℕ)) → event_of_order tables kind words ≡ None
+    → IsSome (reason_of_order tables words)
+on_order tables kind [] none = refl
+on_order tables kind (name ∷ words) none =
+    no_order_for kind words (customer_named tables name) (λ c order. Order c order) none _
+
 -- ---- a whole line
 
-on_word : (tables : TableFile) (word : List ℕ) (words : List (List ℕ)) (routes event : Bool) → is_event word ≡ event
-    → cond routes (event_of_routes tables words) (event_on_line (line_named tables) (word ∷ words)) ≡ None
-    → (t : Told) → IsSome (cond routes (reason_of_routes tables words)
-    (cond event (reason_on_line tables word words) (Some t)))
-on_word tables word words true event is none t = on_routes tables words none
-on_word tables word words false true is none t = on_line tables word words is none
-on_word tables word words false false is none t = refl
+on_other : (tables : TableFile) (word : List ℕ) (words : List (List ℕ)) (event : Bool) → is_event word ≡ event
+    → event_on_line (line_named tables) (word ∷ words) ≡ None → (t : Told)
+    → IsSome (cond event (reason_on_line tables word words) (Some t))
+on_other tables word words true is none t = on_line tables word words is none
+on_other tables word words false is none t = refl
+
+on_kind : (tables : TableFile) (kind : Option OrderKind) (word : List ℕ) (words : List (List ℕ))
+    → event_by_kind tables kind word words ≡ None → IsSome (reason_by_kind tables kind word words)
+on_kind tables (Some kind) word words none = on_order tables kind words none
+on_kind tables None word words none = on_other tables word words (is_event word) refl none _
+
+on_word : (tables : TableFile) (word : List ℕ) (words : List (List ℕ)) (routes : Bool)
+    → cond routes (event_of_routes tables words) (event_by_kind tables (order_kind word) word words) ≡ None
+    → IsSome (cond routes (reason_of_routes tables words) (reason_by_kind tables (order_kind word) word words))
+on_word tables word words true none = on_routes tables words none
+on_word tables word words false none = on_kind tables (order_kind word) word words none
 
 on_words : (tables : TableFile) (words : List (List ℕ)) → event_of_words tables words ≡ None
     → IsSome (reason_of_words tables words)
 on_words tables [] none = refl
-on_words tables (word ∷ words) none = on_word tables word words (bytes_eq word (codes "ROUTES")) (is_event word) refl
-    none _
+on_words tables (word ∷ words) none = on_word tables word words (bytes_eq word (codes "ROUTES")) none
 
 on_text : (tables : TableFile) (words : List (List ℕ)) (text : Bool)
     → cond text (event_of_words tables words) None ≡ None

@@ -8,15 +8,24 @@ use Rattle.njh_check.specs.FaultTexts.{fault_name}
 use Rattle.njh_check.specs.ScriptReasons.{Told, reason_of}
 use Rattle.njh_io.specs.Lines.{lines_of}
 use Rattle.njh_replay.specs.Script.{max_script_bytes, script_of}
+use Rattle.njh_replay.specs.declared.script_orders.TextFault.{TextFault}
+use Rattle.njh_replay.specs.declared.script_orders.TextFault.TheVariants.{Empty, TooLong, NoCharacter}
 use Rattle.njh_check.specs.declared.script_reason.ScriptReason.{ScriptReason}
-use Rattle.njh_check.specs.declared.script_reason.ScriptReason.TheVariants.{BadDigit, BadNode, MoreLines, MoreWords}
-use Rattle.njh_check.specs.declared.script_reason.ScriptReason.TheVariants.{NoBytes, NoColon, NoCustomer}
+use Rattle.njh_check.specs.declared.script_reason.ScriptReason.TheVariants.{BadDigit, BadNode, BadUser, MoreLines}
+use Rattle.njh_check.specs.declared.script_reason.ScriptReason.TheVariants.{MoreWords, NoBytes, NoColon, NoCustomer}
 use Rattle.njh_check.specs.declared.script_reason.ScriptReason.TheVariants.{NoCustomerName, NoEvent, NoLine, NoName}
-use Rattle.njh_check.specs.declared.script_reason.ScriptReason.TheVariants.{NotText, OddDigits, Routes}
+use Rattle.njh_check.specs.declared.script_reason.ScriptReason.TheVariants.{NotText, NoUser, NoUserName, OddDigits}
+use Rattle.njh_check.specs.declared.script_reason.ScriptReason.TheVariants.{Routes, Text}
 
 -- words as they are, kept whole
 unfoldable pub label : List ℕ → List ℕ
 label words = words
+
+-- what is wrong with the text of an order
+abbrev pub text_fault_words : TextFault → List ℕ
+text_fault_words Empty = label (codes "no text")
+text_fault_words TooLong = label (codes "more than 148 characters")
+text_fault_words NoCharacter = label (codes "a character that EBCDIC lacks")
 
 -- why a line is bad, but for the word that is
 abbrev pub why_words : ScriptReason → List ℕ
@@ -33,6 +42,10 @@ why_words NoCustomer = label (codes "no customer ")
 why_words NoColon = label (codes "no colon in ")
 why_words BadNode = label (codes "no node's name is ")
 why_words MoreLines = label (codes "more than two lines in ")
+why_words NoUserName = label (codes "no user is named")
+why_words NoUser = label (codes "no node and user in ")
+why_words BadUser = label (codes "no user's name is ")
+why_words (Text fault) = text_fault_words fault
 why_words (Routes fault) = label (codes "routes: ") ++ label (fault_name fault)
 
 -- a word, with `?` for each byte that would move a terminal

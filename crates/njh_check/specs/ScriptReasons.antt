@@ -11,13 +11,17 @@ use Rattle.njh_table.specs.declared.new_routes.GivenRoute.{GivenRoute}
 use Rattle.njh_table.specs.NewRoutes.{new_routes_of, routes_checked}
 use Rattle.njh_table.specs.TableFile.{TableFile, customer_at, entry_of, line_named}
 use Rattle.njh_replay.specs.Script.{words_of}
+use Rattle.njh_replay.specs.ScriptOrders.{order_kind, order_text, parts_of_user, text_of_words}
 use Rattle.njh_replay.specs.ScriptRoutes.{customer_named, parts_of_pair, routes_of_pairs}
+use Rattle.njh_replay.specs.declared.script_orders.OrderKind.{OrderKind}
+use Rattle.njh_replay.specs.declared.script_orders.TextFault.{TextFault}
 use Rattle.njh_check.specs.declared.script_reason.BadLine.{BadLine}
 use Rattle.njh_check.specs.declared.script_reason.ScriptReason.{ScriptReason}
-use Rattle.njh_check.specs.declared.script_reason.ScriptReason.TheVariants.{BadDigit, BadNode, MoreLines, MoreWords}
-use Rattle.njh_check.specs.declared.script_reason.ScriptReason.TheVariants.{NoBytes, NoColon, NoCustomer}
+use Rattle.njh_check.specs.declared.script_reason.ScriptReason.TheVariants.{BadDigit, BadNode, BadUser, MoreLines}
+use Rattle.njh_check.specs.declared.script_reason.ScriptReason.TheVariants.{MoreWords, NoBytes, NoColon, NoCustomer}
 use Rattle.njh_check.specs.declared.script_reason.ScriptReason.TheVariants.{NoCustomerName, NoEvent, NoLine, NoName}
-use Rattle.njh_check.specs.declared.script_reason.ScriptReason.TheVariants.{NotText, OddDigits, Routes}
+use Rattle.njh_check.specs.declared.script_reason.ScriptReason.TheVariants.{NotText, NoUser, NoUserName, OddDigits}
+use Rattle.njh_check.specs.declared.script_reason.ScriptReason.TheVariants.{Routes, Text}
 
 -- a reason, and the word that it is about, which is empty if it is about none alone
 abbrev pub Told : Type 0
@@ -107,13 +111,53 @@ reason_of_routes tables (name ∷ pairs) = elim (customer_named tables name) [
   | Some customer ↦ reason_of_given tables pairs customer (routes_of_pairs tables pairs)
 ]
 
+-- what is wrong with the text of an order
+abbrev pub reason_of_text : Result (List ℕ) TextFault → Option Told
+reason_of_text (Ok bytes) = None
+reason_of_text (Err fault) = Some (Text fault, [])
+
+-- what is wrong with a user's name at a node, and then with the text
+abbrev pub reason_of_user : (user text : List ℕ) → Option Told
+reason_of_user user text =
+    elim (name_of_text user) [ Ok name ↦ reason_of_text (order_text text) | Err fault ↦ Some (BadUser, user) ]
+
+-- what is wrong with the names of a node and of a user there, and then with the text
+abbrev pub reason_of_ends : (node user text : List ℕ) → Option Told
+reason_of_ends node user text =
+    elim (name_of_text node) [ Ok name ↦ reason_of_user user text | Err fault ↦ Some (BadNode, node) ]
+
+-- what is wrong with a user's word, by its parts, and then with the text
+abbrev pub reason_of_user_parts : (word : List ℕ) → List (List ℕ) → (text : List ℕ) → Option Told
+reason_of_user_parts word (node ∷ user ∷ []) text = reason_of_ends node user text
+reason_of_user_parts word parts text = Some (NoUser, word)
+
+-- what is wrong with the words after a customer's name
+abbrev pub reason_of_order_words : List (List ℕ) → Option Told
+reason_of_order_words [] = Some (NoUserName, [])
+reason_of_order_words (user ∷ words) = reason_of_user_parts user (parts_of_user user) (text_of_words words)
+
+-- what is wrong with the words after `ORDER` or `TELL`
+abbrev pub reason_of_order : TableFile → List (List ℕ) → Option Told
+reason_of_order tables [] = Some (NoCustomerName, [])
+reason_of_order tables (name ∷ words) =
+    if is_some (customer_named tables name) then reason_of_order_words words else Some (NoCustomer, name)
+
+-- what is wrong with the words of a line that gives no order
+abbrev pub reason_of_other : TableFile → (word : List ℕ) → List (List ℕ) → Option Told
+reason_of_other tables word words =
+    if is_event word then reason_on_line tables word words else Some (NoEvent, word)
+
+-- what is wrong with the words of a line that gives no routes, by the kind of order that the first one gives
+abbrev pub reason_by_kind : TableFile → Option OrderKind → (word : List ℕ) → List (List ℕ) → Option Told
+reason_by_kind tables (Some kind) word words = reason_of_order tables words
+reason_by_kind tables None word words = reason_of_other tables word words
+
 -- what is wrong with the words of a line
 abbrev pub reason_of_words : TableFile → List (List ℕ) → Option Told
 reason_of_words tables [] = Some (NoEvent, [])
 reason_of_words tables (word ∷ words) =
     if bytes_eq word (codes "ROUTES") then reason_of_routes tables words
-    else if is_event word then reason_on_line tables word words
-    else Some (NoEvent, word)
+    else reason_by_kind tables (order_kind word) word words
 
 -- what is wrong with a line that isn't skipped, if anything is
 unfoldable pub reason_of : TableFile → List ℕ → Option Told

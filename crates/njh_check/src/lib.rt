@@ -6,6 +6,7 @@ mod checking;
 mod elements;
 mod fault;
 mod line;
+mod order_reasons;
 mod reasons;
 mod report;
 mod route_reasons;

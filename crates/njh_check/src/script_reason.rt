@@ -1,5 +1,6 @@
 //! Why a line of a script is bad.
 
+use njh_replay::TextFault;
 use njh_table::TableFault;
 
 /// Why a line has no event.
@@ -24,16 +25,27 @@ pub enum ScriptReason {
         /// How many digits come before it.
         index: usize,
     },
-    /// No customer's name comes after `ROUTES`.
+    /// No customer's name comes after `ROUTES`, `ORDER` or `TELL`.
     NoCustomerName,
     /// No customer has this name.
     NoCustomer,
     /// A route has no colon.
     NoColon,
-    /// The node of a route is no name.
+    /// The node of a route or of a user is no name.
     BadNode,
     /// A route has more than two lines.
     MoreLines,
+    /// No user comes after the customer's name.
+    NoUserName,
+    /// A user's word is no node and user with a full stop between them.
+    NoUser,
+    /// The user at a node is no name.
+    BadUser,
+    /// The text of an order can't be one.
+    Text {
+        /// Why not.
+        fault: TextFault,
+    },
     /// The customer may not have the routes.
     Routes {
         /// Why not.

@@ -4,15 +4,16 @@ ghost use Rattle.std.specs.Prelude.{◌≡◌, ℕ, List, [], Some, None, option
 ghost use Rattle.njh_table.specs.TableFile.{TableFile};
 ghost use Rattle.hex.specs.Hex.{decode_of};
 ghost use Rattle.njh_check.specs.ScriptReasons.{is_event, reason_behind, reason_of, reason_of_bytes};
-ghost use Rattle.njh_check.specs.ScriptReasons.{reason_of_words, reason_on_line, told};
+ghost use Rattle.njh_check.specs.ScriptReasons.{reason_of_other, reason_of_words, reason_on_line, told};
 ghost use Rattle.njh_replay.specs.Script.{script_event, words_of};
 ghost use Rattle.njh_check.specs.declared.script_reason.ScriptReason.TheVariants.{MoreWords};
 ghost use Rattle.njh_replay.specs.FirstParts.{parts_behind};
 
+use crate::order_reasons::reason_of_order;
 use crate::route_reasons::reason_of_routes;
 use crate::script_reason::{BadLine, ScriptReason};
 use hex::FromHexError;
-use njh_replay::first_part;
+use njh_replay::{first_part, order_kind};
 use njh_table::Tables;
 use std::alloc::{AllocError, Global};
 
@@ -43,6 +44,22 @@ fn reason_of_text<'a>(
     if word == "ROUTES" {
         return reason_of_routes(alloc, tables, behind);
     }
+    match order_kind(word) {
+        Some(_) => Ok(reason_of_order(tables, behind)),
+        None => reason_of_other(alloc, tables, word, behind),
+    }
+}
+
+/// The same of a line that gives no routes and no order.
+fn reason_of_other<'a>(
+    alloc: Global,
+    tables: &Tables,
+    word: &'a str,
+    behind: Option<&'a str>,
+) -> Result<Option<BadLine<'a>>, AllocError>
+    ensures { IfOk result (λ bad. option_map told bad
+        ≡ reason_of_other tables.now word.now (parts_behind 32 behind.entry)) }
+{
     if !is_event(word) {
         return Ok(Some(BadLine {
             why: ScriptReason::NoEvent,

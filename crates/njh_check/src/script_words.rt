@@ -3,11 +3,12 @@
 ghost use Rattle.std.specs.Prelude.{◌≡◌, ◌++◌, ◌∷◌, [], length, option_map, IfOk, OnOk};
 ghost use Rattle.std.specs.Fmt.{decimal};
 ghost use Rattle.njh_check.specs.ScriptChecks.{bad_words, label, right_words, shown_byte, shown_word};
-ghost use Rattle.njh_check.specs.ScriptChecks.{told_words, why_words};
+ghost use Rattle.njh_check.specs.ScriptChecks.{text_fault_words, told_words, why_words};
 ghost use Rattle.njh_check.specs.ScriptReasons.{told};
 
 use crate::line::fault_name;
 use crate::script_reason::{BadLine, ScriptReason};
+use njh_replay::TextFault;
 use std::alloc::{AllocError, Global};
 
 /// What is said of a script without a bad line, by the number of its events.
@@ -78,10 +79,25 @@ fn put_why(words: &mut Vec<u8>, why: ScriptReason) -> Result<(), AllocError>
         ScriptReason::NoColon => put_words(words, "no colon in "),
         ScriptReason::BadNode => put_words(words, "no node's name is "),
         ScriptReason::MoreLines => put_words(words, "more than two lines in "),
+        ScriptReason::NoUserName => put_words(words, "no user is named"),
+        ScriptReason::NoUser => put_words(words, "no node and user in "),
+        ScriptReason::BadUser => put_words(words, "no user's name is "),
+        ScriptReason::Text { fault } => put_text_fault(words, fault),
         ScriptReason::Routes { fault } => {
             put_words(words, "routes: ")?;
             put_words(words, fault_name(fault))
         }
+    }
+}
+
+/// Appends what is wrong with the text of an order.
+fn put_text_fault(words: &mut Vec<u8>, fault: TextFault) -> Result<(), AllocError>
+    ensures { OnOk result (words.new.items ≡ words.old.items ++ text_fault_words fault) }
+{
+    match fault {
+        TextFault::Empty => put_words(words, "no text"),
+        TextFault::TooLong => put_words(words, "more than 148 characters"),
+        TextFault::NoCharacter => put_words(words, "a character that EBCDIC lacks"),
     }
 }
 

@@ -156,11 +156,15 @@ named_outcome states (Some field) name text =
 unfoldable pub colon_outcome : List LineState → List ℕ → Result Outcome Reason
 colon_outcome states line = named_outcome states (line_in (front 58 line)) (front 58 line) (back 58 line)
 
+-- the words of an order
+abbrev pub is_order_word : List ℕ → Bool
+is_order_word word = bytes_eq word (codes "ORDER") || bytes_eq word (codes "TELL")
+
 -- a line of a script by its first word
 unfoldable pub is_script_word : List ℕ → Bool
 is_script_word word =
     bytes_eq word (codes "BYTES") || (bytes_eq word (codes "TICK") || (bytes_eq word (codes "GARBLED")
-    || (bytes_eq word (codes "LOST") || bytes_eq word (codes "ROUTES"))))
+    || (bytes_eq word (codes "LOST") || (bytes_eq word (codes "ROUTES") || is_order_word word))))
 
 -- a blank comes first
 abbrev pub is_indented : List ℕ → Bool

@@ -81,8 +81,8 @@ ghost use Rattle.hex.specs.Hex.{is_hex_digit};
 ghost use Rattle.std.specs.List.{list_all};
 ghost use Rattle.njh_encode.specs.Encoded.{IsAppended, are_hex, bytes_outcome, colon_outcome, is_direction};
 ghost use Rattle.njh_encode.specs.Encoded.{is_indented, is_kept, is_left_out, is_of_frame};
-ghost use Rattle.njh_encode.specs.Encoded.{is_script_word, line_outcome, named_outcome, statement_outcome};
-ghost use Rattle.njh_encode.specs.Encoded.{words_outcome};
+ghost use Rattle.njh_encode.specs.Encoded.{is_order_word, is_script_word, line_outcome, named_outcome};
+ghost use Rattle.njh_encode.specs.Encoded.{statement_outcome, words_outcome};
 ghost use Rattle.njh_encode.specs.declared.line_states.LineState as declared;
 
 /// Appends what a line becomes.
@@ -155,7 +155,18 @@ fn is_kept(line: &str) -> bool
 fn is_script_word(word: &str) -> bool
     ensures { result ≡ is_script_word word.now }
 {
-    word == "BYTES" || word == "TICK" || word == "GARBLED" || word == "LOST" || word == "ROUTES"
+    word == "BYTES"
+        || word == "TICK"
+        || word == "GARBLED"
+        || word == "LOST"
+        || word == "ROUTES"
+        || is_order_word(word)
+}
+
+fn is_order_word(word: &str) -> bool
+    ensures { result ≡ is_order_word word.now }
+{
+    word == "ORDER" || word == "TELL"
 }
 
 /// Appends what a line with a colon becomes.

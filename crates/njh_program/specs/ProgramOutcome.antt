@@ -14,8 +14,7 @@ use Rattle.njh_listing.specs.Printed.{IsPrinted, IsPrintedInPart}
 use Rattle.njh_program.specs.ShownText.{AreRefusedWords, IsTextBegun, IsTextShown}
 use Rattle.njh_hub.specs.Parts.{entries_of}
 use Rattle.njh_hub.specs.WholeHub.{Part, SameLines, part_at_open}
-use Rattle.njh_hub.specs.declared.fault.HubFault.TheVariants.{Memory}
-use Rattle.njh_replay.specs.Replayed.{HasTooLong, HasBadLine}
+use Rattle.njh_replay.specs.Replayed.{HasTooLong, HasBadLine, MayEndRun}
 use Rattle.njh_replay.specs.declared.fault.ReplayFault.TheVariants.{TooLong, Script, Device, Hub}
 use Rattle.njh_service.specs.Serving.{AreServed, IsOpenedEmpty}
 use Rattle.njh_service.specs.declared.fault.ServeFault.{ServeFault}
@@ -126,7 +125,7 @@ IsFailed arguments left (Replay TooLong) = AsksTask arguments
 IsFailed arguments left (Replay (Script number)) = AsksTask arguments
     (λ task. ReplaysBy task (λ tables. HasBadLine tables left number))
 IsFailed arguments left (Replay Device) = ⊤
-IsFailed arguments left (Replay (Hub fault)) = fault ≡ Memory
+IsFailed arguments left (Replay (Hub fault)) = MayEndRun fault
 IsFailed arguments left (Trace trace.TooLong) = AsksTask arguments (λ task. TellsLong task left)
 IsFailed arguments left (Trace trace.Device) = ⊤
 IsFailed arguments left (Trace trace.Memory) = ⊤

@@ -1,21 +1,23 @@
 -- The lines of files, one after another.
 use Rattle.std.proofs.Common.{◌≡◌, ◌+◌, ◌<◌, ◌≤◌, ℕ, zero, suc, true, List, [], ◌∷◌, ◌++◌, length, get_or, take, drop}
 use Rattle.std.proofs.Common.{Option, Some, refl, sym, ap, ◌∙◌, append_assoc, append-nil, arith, map, ltb}
-use Rattle.std.proofs.Common.{ltb-true, eqb, find, unwrap_or}
+use Rattle.std.proofs.Common.{ltb-true, eqb, find, take_all, unwrap_or}
 use Rattle.std.specs.List.{flat_map, list_all}
 use Rattle.std.specs.Option.{option_map}
 use Rattle.std.specs.Io.KnownBytes.{Appends}
 use Rattle.std.proofs.KnownBytes.{Appends-trans}
 use Rattle.std.proofs.lemmas.Bool.{and_parts, cond_both}
+use Rattle.std.proofs.lemmas.List.{take_more}
+use Rattle.std.proofs.lemmas.List.Concat.{flat_map-append}
 use Rattle.njh_ebcdic.specs.Characters.{character_of, printed_character, table}
 use Rattle.njh_spool.specs.CustomerSpool.{WholeFile}
 use Rattle.njh_hub.specs.declared.event.Event.{Event}
-use Rattle.njh_hub.specs.Files.{files_at, files_of, view_of_file}
+use Rattle.njh_hub.specs.Files.{files_at, view_of_file}
 use Rattle.njh_hub.specs.Views.{file_summary}
 use Rattle.njh_hub.specs.WholeHub.{Part, hub_run}
 use Rattle.njh_io.specs.Written.{AppendsBeginning}
-use Rattle.njh_replay.specs.Printed.{file_text, files_from, files_text, frames_text, summary_text}
-use Rattle.njh_replay.specs.Replayed.{text_by, SameParts}
+use Rattle.njh_replay.specs.Printed.{file_text, files_from, files_text, replies_text, run_text, summary_text, told_line}
+use Rattle.njh_replay.specs.Replayed.{text_by}
 use Rattle.njh_replay.proofs.PrintedParts.{beginning-after}
 
 -- what is shown is of ASCII
@@ -82,44 +84,65 @@ files_from-split c (n ∷ names) parts (suc i) =
           ∙ ap (λ text. files_text n (files_at c parts) ++ text) later.1,
     )
 
--- what is shown of customers is a matter of their own parts
-pub files_from-same : (c : ℕ) (names : List (List ℕ)) (parts others : List Part)
-    → SameParts parts others (c + length names) → files_from c names others ≡ files_from c names parts
-files_from-same c [] parts others same = refl
-files_from-same c (n ∷ names) parts others same =
-    ap (λ p. files_text n (files_of p.customer.spool) ++ files_from (c + 1) names others) (same c (omega arith))
-    ∙ ap (λ text. files_text n (files_at c parts) ++ text)
-    (files_from-same (c + 1) names parts others (λ k within. same k (omega (arith, within))))
-
--- ---- frames, and then files
+-- ---- frames and replies, and then files
 
 module _ (names : List (List (List ℕ))) (parts after : List Part) (events : List Event) (shown : List (List ℕ))
-    (a b c : Option (List ℕ))
-    (same : SameParts (hub_run parts events).parts after (length parts)) (few : length shown ≤ length parts) where
-  files-after : files_from 0 shown after ≡ files_from 0 shown (hub_run parts events).parts
-  files-after = files_from-same 0 shown (hub_run parts events).parts after
-      (λ k within. same k (omega (arith, within, few)))
-
-  pub all_printed : Appends a b (frames_text names (hub_run parts events).sent) → Appends b c (files_from 0 shown after)
+    (a b c : Option (List ℕ)) (same : after ≡ (hub_run parts events).parts) where
+  pub all_printed : Appends a b (run_text names shown parts events) → Appends b c (files_from 0 shown after)
       → Appends a c (text_by names parts events shown)
-  all_printed frames files =
-      Appends-trans a b c (frames_text names (hub_run parts events).sent)
-      (files_from 0 shown (hub_run parts events).parts) frames
-      (rw files-after at files)
+  all_printed run files =
+      Appends-trans a b c (run_text names shown parts events) (files_from 0 shown (hub_run parts events).parts) run
+      (rw same at files)
 
-  pub files_begun : Appends a b (frames_text names (hub_run parts events).sent)
-      → AppendsBeginning b c (files_from 0 shown after)
+  pub files_begun : Appends a b (run_text names shown parts events) → AppendsBeginning b c (files_from 0 shown after)
       → AppendsBeginning a c (text_by names parts events shown)
-  files_begun frames files =
-      beginning-after a b c (frames_text names (hub_run parts events).sent) (files_from 0 shown after) []
-      (text_by names parts events shown)
-      frames files (ap (λ text. frames_text names (hub_run parts events).sent ++ text)
-      (append-nil (files_from 0 shown after) ∙ files-after))
+  files_begun run files =
+      beginning-after a b c (run_text names shown parts events) (files_from 0 shown after) []
+      (text_by names parts events shown) run files
+      (ap (λ text. run_text names shown parts events ++ text)
+      (append-nil (files_from 0 shown after) ∙ ap (files_from 0 shown) same))
 
-pub frames_begun : (names : List (List (List ℕ))) (parts : List Part) (events : List Event) (shown : List (List ℕ))
+pub run_begun : (names : List (List (List ℕ))) (parts : List Part) (events : List Event) (shown : List (List ℕ))
     (a b : Option (List ℕ))
-    → AppendsBeginning a b (frames_text names (hub_run parts events).sent)
+    → AppendsBeginning a b (run_text names shown parts events)
     → AppendsBeginning a b (text_by names parts events shown)
-frames_begun names parts events shown a b begun =
+run_begun names parts events shown a b begun =
     let files = files_from 0 shown (hub_run parts events).parts in
     (begun.0, begun.1 ++ files, sym (append_assoc begun.0 begun.1 files) ∙ ap (λ text. text ++ files) begun.2, begun.3)
+
+-- the texts of items that are seen as others
+pub flat_map-map : {X Y : Type 0} (f : Y → List ℕ) (g : X → Y) (xs : List X)
+    → flat_map (λ x. f (g x)) xs ≡ flat_map f (map g xs)
+flat_map-map f g [] = refl
+flat_map-map f g (x ∷ xs) = ap (λ (text : List ℕ). f (g x) ++ text) (flat_map-map f g xs)
+
+-- replies: those before one, the text of that one, and those behind it
+module _ {X : Type 0} (name : List ℕ) (items : X → List ℕ) (xs : List X) where
+  abbrev line_of_reply : X → List ℕ
+  line_of_reply x = told_line name (items x)
+
+  pub replies-split : (i : ℕ) (one : X) (text : List ℕ) → i < length xs → one ≡ get_or xs i one
+      → text ≡ told_line name (items one)
+      → flat_map (λ x. told_line name (items x)) (take i xs)
+      ++ (text ++ flat_map (λ x. told_line name (items x)) (drop (suc i) xs))
+      ≡ replies_text name (map items xs)
+  replies-split i one text within is line =
+      ap (λ (t : List ℕ). flat_map line_of_reply (take i xs) ++ (t ++ flat_map line_of_reply (drop (suc i) xs)))
+      (line ∙ ap line_of_reply is)
+      ∙ flat_map-split line_of_reply xs i one within ∙ flat_map-map (told_line name) items xs
+
+  pub replies-more : (i : ℕ) (one : X) (text : List ℕ) → i < length xs → one ≡ get_or xs i one
+      → text ≡ told_line name (items one)
+      → flat_map (λ x. told_line name (items x)) (take i xs) ++ text
+      ≡ flat_map (λ x. told_line name (items x)) (take (i + 1) xs)
+  replies-more i one text within is line =
+      ap (λ (t : List ℕ). flat_map line_of_reply (take i xs) ++ t)
+      (line ∙ ap line_of_reply is ∙ sym (append-nil (line_of_reply (get_or xs i one))))
+      ∙ sym (flat_map-append line_of_reply (take i xs) (get_or xs i one ∷ []))
+      ∙ ap (flat_map line_of_reply) (sym (take_more xs i one within))
+
+  -- all of them
+  pub replies-all : (i : ℕ) → length xs ≤ i
+      → flat_map (λ x. told_line name (items x)) (take i xs) ≡ replies_text name (map items xs)
+  replies-all i all =
+      ap (flat_map line_of_reply) (take_all i xs all) ∙ flat_map-map (told_line name) items xs

@@ -7,4 +7,6 @@ mod PrintSteps
 mod PrintedParts
 mod Printing
 mod ReplayLaws
+mod RunPieces
+mod RunTexts
 mod StartLaws

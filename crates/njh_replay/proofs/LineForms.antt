@@ -1,5 +1,6 @@
 -- How a line falls into words, and the event of each form of line.
-use Rattle.std.proofs.Common.{◌≡◌, ℕ, ◌<◌, ◌≤◌, eqb, Bool, true, false, cond, codes, List, ◌∷◌, length, get_or, Option}
+use Rattle.std.proofs.Common.{◌≡◌, ℕ, ◌<◌, ◌≤◌, eqb, Bool, true, false, cond, codes, List, [], ◌∷◌, length, get_or}
+use Rattle.std.proofs.Common.{Option}
 use Rattle.std.proofs.Common.{Some, None, option_and_then, Result, Ok, Err, ◌⊎◌, inl, inr, refl, sym, ap, subst, ◌∙◌}
 use Rattle.std.proofs.Common.{lit<, Bor}
 use Rattle.std.proofs.lemmas.Bool.{cases_lt, eqb-true}
@@ -12,11 +13,14 @@ use Rattle.hex.specs.Hex.{decode_of, is_hex_digit}
 use Rattle.hex.specs.declared.error.FromHexError.{FromHexError}
 use Rattle.hex.proofs.HexLemmas.{decode_of-ok}
 use Rattle.njh_table.specs.declared.LineId.{LineId}
-use Rattle.njh_table.specs.TableFile.{TableFile, line_named, HasLine}
+use Rattle.njh_table.specs.TableFile.{TableFile, HasLine}
 use Rattle.njh_hub.specs.declared.event.Event.{Event}
 use Rattle.njh_hub.specs.declared.event.Event.TheVariants.{Bytes, Tick, Garbled, Lost, Routes, Order}
 use Rattle.njh_hub.specs.OwnEvents.{line_of_event}
-use Rattle.njh_replay.specs.Script.{words_of, event_of_words, event_on_line, bytes_on, piece_of, some_bytes, signal_of}
+use Rattle.njh_replay.specs.Script.{words_of, event_by_kind, event_of_words, event_on_line, bytes_on, piece_of}
+use Rattle.njh_replay.specs.Script.{some_bytes, signal_of}
+use Rattle.njh_replay.specs.ScriptOrders.{order_kind}
+use Rattle.njh_replay.specs.declared.script_orders.OrderKind.{OrderKind}
 use Rattle.njh_replay.specs.ScriptRoutes.{event_of_routes, IsNamedIn}
 use Rattle.njh_replay.proofs.Parting.{parts-first, parts-none, parts-some, parts-whole}
 
@@ -59,11 +63,15 @@ test-same : (test : Bool) (o : Option Event) → o ≡ None → cond test None o
 test-same true o none = refl
 test-same false o none = none
 
+one_word : (tables : TableFile) (kind : Option OrderKind) (word : List ℕ) → event_by_kind tables kind word [] ≡ None
+one_word tables (Some kind) word = refl
+one_word tables None word = refl
+
 pub event_of_words-one : (tables : TableFile) (line : List ℕ) → IsSplitOnceResult 32 line None
     → event_of_words tables (words_of line) ≡ None
 event_of_words-one tables line whole =
     ap (event_of_words tables) (parts-whole 32 line (lit< tt) whole)
-    ∙ test-same (bytes_eq line (codes "ROUTES")) None refl
+    ∙ test-same (bytes_eq line (codes "ROUTES")) _ (one_word tables (order_kind line) line)
 
 -- `ROUTES` and other words
 pub event_of_words-routes : (tables : TableFile) (line : List ℕ) (word rest : Bor (List ℕ))
@@ -72,16 +80,16 @@ pub event_of_words-routes : (tables : TableFile) (line : List ℕ) (word rest : 
 event_of_words-routes tables line word rest split same =
     ap (event_of_words tables) (parts-first 32 line word rest (lit< tt) split).0
     ∙ ap (λ test. cond test (event_of_routes tables (words_of rest.now))
-    (event_on_line (line_named tables) (word.now ∷ words_of rest.now))) same
+    (event_by_kind tables (order_kind word.now) word.now (words_of rest.now))) same
 
 -- any other word
 pub event_of_words-other : (tables : TableFile) (line : List ℕ) (word rest : Bor (List ℕ))
     → IsSplitOnceResult 32 line (Some (word, rest)) → bytes_eq word.now (codes "ROUTES") ≡ false
-    → event_of_words tables (words_of line) ≡ event_on_line (line_named tables) (word.now ∷ words_of rest.now)
+    → event_of_words tables (words_of line) ≡ event_by_kind tables (order_kind word.now) word.now (words_of rest.now)
 event_of_words-other tables line word rest split other =
     ap (event_of_words tables) (parts-first 32 line word rest (lit< tt) split).0
     ∙ ap (λ test. cond test (event_of_routes tables (words_of rest.now))
-    (event_on_line (line_named tables) (word.now ∷ words_of rest.now))) other
+    (event_by_kind tables (order_kind word.now) word.now (words_of rest.now))) other
 
 -- the event of a word and the name of a line
 pub event_on_line-two : (names : List ℕ → Option LineId) (word name : List ℕ) → IsSplitOnceResult 32 name None

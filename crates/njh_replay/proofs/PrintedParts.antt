@@ -1,5 +1,5 @@
 -- Texts and beginnings of texts, one after another.
-use Rattle.std.proofs.Common.{◌≡◌, Result, Ok, Err, OnErr, ℕ, List, [], ◌∷◌, ◌++◌, Option, refl, sym, ap, ◌∙◌}
+use Rattle.std.proofs.Common.{◌≡◌, Result, Ok, Err, OnErr, OnOk, ℕ, List, [], ◌∷◌, ◌++◌, Option, refl, sym, ap, ◌∙◌}
 use Rattle.std.proofs.Common.{append_assoc, append-nil}
 use Rattle.std.specs.Io.KnownBytes.{Appends}
 use Rattle.std.proofs.KnownBytes.{Appends-nil, Appends-trans}
@@ -50,7 +50,15 @@ frame-parts name frame =
     sym (append_assoc (name ++ 32 ∷ []) (encode_lower frame) (10 ∷ [])
     ∙ append_assoc name (32 ∷ []) (encode_lower frame ++ 10 ∷ []))
 
--- on Err alone
+-- on Ok alone, and on Err alone
+pub on_ok_of : {A E : Type 0} (r : Result A E) (P : Type 0) → P → OnOk r P
+on_ok_of (Ok x) P so = so
+on_ok_of (Err e) P so = tt
+
+pub on_ok_then : {A E : Type 0} (r : Result A E) (P Q : Type 0) → (P → Q) → OnOk r P → OnOk r Q
+on_ok_then (Ok x) P Q then so = then so
+on_ok_then (Err e) P Q then so = tt
+
 pub on_err_of : {A E : Type 0} (r : Result A E) (P : Type 0) → P → OnErr r P
 on_err_of (Ok x) P so = tt
 on_err_of (Err e) P so = so

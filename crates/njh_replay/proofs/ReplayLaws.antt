@@ -1,9 +1,9 @@
 -- A hub that was just opened on tables, a run of it over a script, and what is printed.
 use Rattle.std.proofs.Common.{◌≡◌, ◌<◌, ℕ, zero, suc, List, [], ◌∷◌, ◌++◌, length, map, get_or, take, Option, Some}
 use Rattle.std.proofs.Common.{None, ◌⊎◌, inl, inr, refl, sym, ap, subst, ◌∙◌, append-nil, arith}
-use Rattle.std.specs.Prelude.{All, IsSomeAnd, slice_get}
+use Rattle.std.specs.Prelude.{All, IsSomeAnd, slice_get, ⊤}
 use Rattle.std.specs.Io.KnownBytes.{Appends, Keeps}
-use Rattle.std.proofs.lemmas.List.{length-map}
+use Rattle.std.proofs.lemmas.List.{ext_get_or, length-map}
 use Rattle.std.proofs.lemmas.Option.{slice_get_within, get_or_from_slice_get}
 use Rattle.njh_table.specs.declared.LineId.{LineId}
 use Rattle.njh_table.specs.declared.fault.TableFault.{TableFault}
@@ -16,20 +16,21 @@ use Rattle.njh_hub.specs.declared.event.Event.TheVariants.{Bytes, Tick, Garbled,
 use Rattle.njh_hub.specs.declared.fault.Cause.{Cause}
 use Rattle.njh_hub.specs.declared.fault.Cause.TheVariants as cause
 use Rattle.njh_hub.specs.declared.fault.HubFault.{HubFault}
-use Rattle.njh_hub.specs.declared.fault.HubFault.TheVariants.{UnknownLine, UnknownCustomer, Memory, BadRoutes, NoRoute}
-use Rattle.njh_hub.specs.OwnEvents.{first_events, order_of}
+use Rattle.njh_hub.specs.declared.fault.HubFault.TheVariants.{UnknownLine, UnknownCustomer, Memory, NoRoute, BadRoutes}
+use Rattle.njh_hub.specs.OwnEvents.{first_events}
 use Rattle.njh_hub.specs.Parts.{entries_of}
 use Rattle.njh_hub.specs.WholeHub.{Part, part_at_open}
 use Rattle.njh_hub.specs.Laws.{Begins}
+use Rattle.njh_hub.proofs.NamedLaws.{hub_run-length}
 use Rattle.njh_hub.specs.RunStops.{HandedUntil, IfHub, IsGiven, IsRefused, IsRoutes}
 use Rattle.njh_hub.specs.WholeHub as hub
 use Rattle.njh_replay.specs.LineNames.{customers_of}
-use Rattle.njh_replay.specs.declared.fault.ReplayFault.TheVariants.{Hub}
 use Rattle.njh_io.specs.Written.{AppendsBeginning}
 use Rattle.njh_replay.specs.Printed.{frames_text, IsPrinted}
 use Rattle.njh_replay.specs.code.PrintedLaws.{text_of-append}
-use Rattle.njh_replay.specs.Replayed.{fault_after, IsRefusal, IsSentUpTo, MayEnd, MayStop}
-use Rattle.njh_replay.specs.ScriptRoutes.{IsNamedIn, IsScripted}
+use Rattle.njh_replay.specs.Replayed.{fault_after, IfHubs, MayStop}
+use Rattle.njh_replay.specs.code.RunPieces.{IsFramesShort, IsNoOrder, MayBeFirst}
+use Rattle.njh_replay.specs.ScriptRoutes.{IsNamedIn}
 
 get_or-map_default : {X Y : Type 0} (f : X → Y) (xs : List X) (k : ℕ) (d : X)
     → get_or (map f xs) k (f d) ≡ f (get_or xs k d)
@@ -61,6 +62,10 @@ opened_named t (Bytes id piece) named = opened_line t id named
 opened_named t (Tick id) named = opened_line t id named
 opened_named t (Garbled id) named = opened_line t id named
 opened_named t (Lost id) named = opened_line t id named
+opened_named t (Order c order) named =
+    let parts : length (map part_at_open (entries_of t)) ≡ length t.customers =
+    length-map (entries_of t) part_at_open ∙ length-map t.customers entry_of in
+    omega (arith, named, parts)
 opened_named t (Routes c routes) named =
     let parts : length (map part_at_open (entries_of t)) ≡ length t.customers =
     length-map (entries_of t) part_at_open ∙ length-map t.customers entry_of in
@@ -69,29 +74,19 @@ opened_named t (Routes c routes) named =
     (entry_of (customer_at t c)) =
     ap (λ (p : Part). p.customer.entry) (opened_part t c) in
     (within, ap (λ (e : CustomerEntry). routes_checked e (new_routes_of c routes)) entry ∙ named.1)
-opened_named t (Order c order) named = absurd named
-
-no_order : (t : TableFile) (event : Event) → IsNamedIn t event → order_of event ≡ None
-no_order t (Bytes id piece) named = refl
-no_order t (Tick id) named = refl
-no_order t (Garbled id) named = refl
-no_order t (Lost id) named = refl
-no_order t (Routes c routes) named = refl
-no_order t (Order c order) named = absurd named
 
 -- so do all events of a script
 pub all_named : (t : TableFile) (parts : List Part) (events : List Event) → parts ≡ map part_at_open (entries_of t)
-    → All (IsNamedIn t) events → All (IsScripted parts) events
+    → All (IsNamedIn t) events → All (hub.IsNamed parts) events
 all_named t parts events fresh named = λ k event within.
-    let at = get_or events k event in
-    let here = opened_named t at (named k event within) in
-    (subst (λ (ps : List Part). hub.IsNamed ps at) (sym fresh) here, no_order t at (named k event within))
+    let here = opened_named t (get_or events k event) (named k event within) in
+    subst (λ (ps : List Part). hub.IsNamed ps (get_or events k event)) (sym fresh) here
 
 IsSomeAnd-never : {X : Type 0} (o : Option X) (P : X → Type 0) → ((x : X) → o ≡ Some x → P x → ⊥) → IsSomeAnd o P → ⊥
 IsSomeAnd-never None P never some = some
 IsSomeAnd-never (Some x) P never some = never x refl some
 
--- an event that names what is there is refused for want of memory alone
+-- an event that is no order and names what is there is refused for want of memory alone
 not_unknown : (parts : List Part) (event : Event) → hub.IsNamed parts event → IsRefused parts event UnknownLine → ⊥
 not_unknown parts (Bytes id piece) named refused = refused named
 not_unknown parts (Tick id) named refused = refused named
@@ -117,45 +112,51 @@ not_bad parts (Lost id) fault named refused = refused
 not_bad parts (Routes c routes) fault named refused = cc (sym named.1 ∙ refused.1)
 not_bad parts (Order c order) fault named refused = refused
 
-not_without_way : (parts : List Part) (event : Event) → order_of event ≡ None → IsRefused parts event NoRoute → ⊥
-not_without_way parts event none refused =
-    subst (λ o. IsSomeAnd o (λ given. given.0 < length parts)) none refused
+not_wayless : (parts : List Part) (event : Event) → IsNoOrder event → IsRefused parts event NoRoute → ⊥
+not_wayless parts (Bytes id piece) no_order refused = refused
+not_wayless parts (Tick id) no_order refused = refused
+not_wayless parts (Garbled id) no_order refused = refused
+not_wayless parts (Lost id) no_order refused = refused
+not_wayless parts (Routes c routes) no_order refused = refused
+not_wayless parts (Order c order) no_order refused = cc no_order
 
-no_refusal : (why : Cause) → IsRefusal (fault_after why) → ⊥
-no_refusal (cause.Hub fault) refusal = refusal
-no_refusal cause.Sink refusal = refusal
+-- what stops a run of events none of which is an order: the sink, or that memory ran out
+abbrev pub IsSinkOrMemory : Cause → Type 0
+IsSinkOrMemory (cause.Hub fault) = fault ≡ Memory
+IsSinkOrMemory cause.Sink = ⊤
 
-module _ (parts : List Part) (events : List Event) (k : ℕ) (named : All (IsScripted parts) events) where
-  never : (why : HubFault) → ((event : Event) → IsScripted parts event → IsRefused parts event why → ⊥)
+module _ (parts : List Part) (events : List Event) (k : ℕ) (named : All (hub.IsNamed parts) events)
+    (without : All IsNoOrder events) where
+  never : (why : HubFault)
+      → ((event : Event) → hub.IsNamed parts event → IsNoOrder event → IsRefused parts event why → ⊥)
       → IsSomeAnd (slice_get events k) (λ event. IsRefused parts event why) → ⊥
   never why not refused =
       IsSomeAnd-never (slice_get events k) (λ event. IsRefused parts event why) (λ event at is.
-      let there : IsScripted parts event =
-      subst (IsScripted parts) (get_or_from_slice_get events k event event at)
-      (named k event (slice_get_within events k event at)) in
-      not event there is) refused
+      let within = slice_get_within events k event at in
+      let here = get_or_from_slice_get events k event event at in
+      let there : hub.IsNamed parts event = subst (hub.IsNamed parts) here (named k event within) in
+      let plain : IsNoOrder event = subst IsNoOrder here (without k event within) in
+      not event there plain is) refused
 
-  -- what is left that stops a run of such events
-  MayEnd-stopped : (why : Cause) → IfHub why
+  pub sink_or_memory : (why : Cause) → IfHub why
       (λ why. IsSomeAnd (slice_get events k) (λ event. IsRefused parts event why))
-      → MayEnd (fault_after why)
-  MayEnd-stopped (cause.Hub UnknownLine) refused =
-      absurd (never UnknownLine (λ event names. not_unknown parts event names.0) refused)
-  MayEnd-stopped (cause.Hub UnknownCustomer) refused =
-      absurd (never UnknownCustomer (λ event names. not_foreign parts event names.0) refused)
-  MayEnd-stopped (cause.Hub Memory) refused = refl
-  MayEnd-stopped (cause.Hub (BadRoutes fault)) refused =
-      absurd (never (BadRoutes fault) (λ event names. not_bad parts event fault names.0) refused)
-  MayEnd-stopped (cause.Hub NoRoute) refused =
-      absurd (never NoRoute (λ event names. not_without_way parts event names.1) refused)
-  MayEnd-stopped cause.Sink refused = tt
+      → IsSinkOrMemory why
+  sink_or_memory (cause.Hub UnknownLine) refused =
+      absurd (never UnknownLine (λ event named plain. not_unknown parts event named) refused)
+  sink_or_memory (cause.Hub UnknownCustomer) refused =
+      absurd (never UnknownCustomer (λ event named plain. not_foreign parts event named) refused)
+  sink_or_memory (cause.Hub Memory) refused = refl
+  sink_or_memory (cause.Hub NoRoute) refused =
+      absurd (never NoRoute (λ event named plain. not_wayless parts event plain) refused)
+  sink_or_memory (cause.Hub (BadRoutes fault)) refused =
+      absurd (never (BadRoutes fault) (λ event named plain. not_bad parts event fault named) refused)
+  sink_or_memory cause.Sink refused = tt
 
-  pub MayStop-stopped : (why : Cause) → IfHub why
-      (λ why. IsSomeAnd (slice_get events k) (λ event. IsRefused parts event why))
-      → MayStop (fault_after why)
-  MayStop-stopped why refused = (MayEnd-stopped why refused, no_refusal why)
+pub MayStop-stopped : (why : Cause) → IsSinkOrMemory why → MayStop (fault_after why)
+MayStop-stopped (cause.Hub fault) memory = (inl memory, λ refusal. refusal)
+MayStop-stopped cause.Sink so = (tt, λ refusal. refusal)
 
--- what a customer is given sends nothing
+-- new routes and orders send nothing
 given_silent : (parts : List Part) (event : Event) → IsGiven event → (hub.hub_event parts event).sent ≡ []
 given_silent parts (Bytes id piece) given = absurd (cc given)
 given_silent parts (Tick id) given = absurd (cc given)
@@ -198,40 +199,84 @@ printed_begins names later a b front more whole printed all = (
   printed.1,
 )
 
--- if memory ran out, the frames of all that had happened were printed
-pub stopped_whole : {S : Type 0} (took : S → S → List (LineId × List ℕ) → Type 0)
-    (refused : S → S → LineId × List ℕ → Type 0) (why : Cause)
-    (before after : S) (sent : List (LineId × List ℕ)) → HandedUntil took refused why before after sent
-    → fault_after why ≡ Hub Memory
-    → (why ≡ cause.Hub Memory) × took before after sent
-stopped_whole took refused (cause.Hub fault) before after sent handed memory =
-    let is_memory : fault ≡ Memory = cc memory in
-    (ap (λ (f : HubFault). cause.Hub f) is_memory, handed)
-stopped_whole took refused cause.Sink before after sent handed memory = absurd (cc memory)
-
 pub Keeps-none : (a b : Option (List ℕ)) → Appends a b [] → Keeps a b
 Keeps-none None b written = tt
 Keeps-none (Some x) None written = absurd written
 Keeps-none (Some x) (Some y) written = written ∙ append-nil x
 
--- A run that ran out of memory did so at an event that gives routes, or after events alone by which a customer is given
--- something, which send nothing.
-pub stopped_at_routes : (names : List (List (List ℕ))) (parts : List Part) (events : List Event) (k n : ℕ)
+-- the events before one, that one and those behind it
+pub parted_at : (events : List Event) (k : ℕ) (P : Event → Type 0) → IsSomeAnd (slice_get events k) P
+    → (stop : Event) × (behind : List Event) × (events ≡ take k events ++ stop ∷ behind) × P stop
+parted_at [] k P some = absurd some
+parted_at (event ∷ events) zero P some = (event, events, refl, some)
+parted_at (event ∷ events) (suc k) P some =
+    let later = parted_at events k P some in
+    (later.0, later.1, ap (λ (es : List Event). event ∷ es) later.2, later.3)
+
+IsSomeAnd-any : {X : Type 0} (o : Option X) (P Q : X → Type 0) → IsSomeAnd o P → ((x : X) → Q x) → IsSomeAnd o Q
+IsSomeAnd-any None P Q some any = some
+IsSomeAnd-any (Some x) P Q some any = any x
+
+IsSomeAnd-then : {X : Type 0} (o : Option X) (P Q : X → Type 0) → ((x : X) → P x → Q x) → IsSomeAnd o P → IsSomeAnd o Q
+IsSomeAnd-then None P Q then some = some
+IsSomeAnd-then (Some x) P Q then some = then x some
+
+-- the event at which memory ran out gives routes, or nothing before it came on a line
+wants_memory : (parts : List Part) (events : List Event) (k : ℕ)
+    → IsSomeAnd (slice_get events k) (λ event. IsRefused parts event Memory)
+    → (IsSomeAnd (slice_get events k) IsRoutes ⊎ All IsGiven (take k events))
+    → IsSomeAnd (slice_get events k) (MayBeFirst (take k events))
+wants_memory parts events k refused which = elim which [
+  | inl routes ↦ IsSomeAnd-then (slice_get events k) IsRoutes (MayBeFirst (take k events)) (λ event is. inl is) routes
+  | inr before ↦ IsSomeAnd-any (slice_get events k) _ (MayBeFirst (take k events)) refused (λ event. inr before)
+]
+
+-- so the frames of the events before it were printed
+pub stopped_at_want : (names : List (List (List ℕ))) (parts : List Part) (events : List Event) (k n : ℕ)
     (a b : Option (List ℕ)) → n ≡ 0
+    → IsSomeAnd (slice_get events k) (λ event. IsRefused parts event Memory)
     → (IsSomeAnd (slice_get events k) IsRoutes ⊎ All IsGiven (take k events))
     → Appends a b (frames_text names (hub.hub_run parts (first_events events k n)).sent)
-    → Keeps a b ⊎ IsSentUpTo names parts events a b
-stopped_at_routes names parts events k n a b none which printed =
+    → IsFramesShort names parts events Memory a b
+stopped_at_want names parts events k n a b none refused which printed =
     let whole : first_events events k n ≡ take k events =
     ap (λ (m : ℕ). first_events events k m) none ∙ append-nil (take k events) in
-    let sent : Appends a b (frames_text names (hub.hub_run parts (take k events)).sent) =
-    subst (λ (es : List Event). Appends a b (frames_text names (hub.hub_run parts es).sent)) whole printed in
-    elim which [
-      | inl here ↦ inr (k, here, sent)
-      | inr before ↦
-          let silent = all_silent parts (take k events) before in
-          inl (Keeps-none a b (subst (λ (s : List (LineId × List ℕ)). Appends a b (frames_text names s)) silent sent))
-    ]
+    let at = parted_at events k (MayBeFirst (take k events)) (wants_memory parts events k refused which) in
+    record {
+      before = take k events;
+      stop = at.0;
+      behind = at.1;
+      are = at.2;
+      stops = at.3;
+      sent = subst (λ (es : List Event). Appends a b (frames_text names (hub.hub_run parts es).sent)) whole printed;
+    }
+
+-- what is written where a run of events none of which is an order was stopped by the hub
+pub stopped_short : {S : Type 0} (took : S → S → List (LineId × List ℕ) → Type 0)
+    (refused : S → S → LineId × List ℕ → Type 0) (names : List (List (List ℕ))) (parts : List Part)
+    (events : List Event) (k n : ℕ) (why : Cause) (before after : S) (a b : Option (List ℕ)) → IsSinkOrMemory why
+    → HandedUntil took refused why before after (hub.hub_run parts (first_events events k n)).sent
+    → IfHub why (λ w. IsSomeAnd (slice_get events k) (λ event. IsRefused parts event w))
+    → (why ≡ cause.Hub Memory
+    → (n ≡ 0) × (IsSomeAnd (slice_get events k) IsRoutes ⊎ All IsGiven (take k events)))
+    → (took before after (hub.hub_run parts (first_events events k n)).sent
+    → Appends a b (frames_text names (hub.hub_run parts (first_events events k n)).sent))
+    → IfHubs (fault_after why) (λ w. IsFramesShort names parts events w a b)
+stopped_short took refused names parts events k n (cause.Hub fault) before after a b memory handed causes at printed =
+    let which = at (ap (λ (f : HubFault). cause.Hub f) memory) in
+    let none : IsSomeAnd (slice_get events k) (λ event. IsRefused parts event Memory) =
+    subst (λ w. IsSomeAnd (slice_get events k) (λ event. IsRefused parts event w)) memory causes in
+    subst (λ w. IsFramesShort names parts events w a b) (sym memory)
+    (stopped_at_want names parts events k n a b which.0 none which.1 (printed handed))
+stopped_short took refused names parts events k n cause.Sink before after a b so handed causes at printed = tt
+
+-- the hub is what a run leads to
+pub led_to : (start after : List Part) (events : List Event) → length after ≡ length start
+    → ((c : ℕ) → c < length start → hub.part c after ≡ hub.part c (hub.hub_run start events).parts)
+    → after ≡ (hub.hub_run start events).parts
+led_to start after events many each =
+    ext_get_or hub.no_part after (hub.hub_run start events).parts (many ∙ sym (hub_run-length start events))
+    (λ c there. each c (omega (arith, there, many)))
 
 -- it has as many customers as its tables
 pub opened_customers : (t : TableFile) (parts : List Part) (customers : List (List ℕ))

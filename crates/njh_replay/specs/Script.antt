@@ -11,7 +11,9 @@ use Rattle.njh_table.specs.TableFile.{TableFile, line_named}
 use Rattle.njh_hub.specs.declared.event.Event.{Event}
 use Rattle.njh_hub.specs.declared.event.Event.TheVariants.{Bytes, Tick, Garbled, Lost}
 use Rattle.njh_io.specs.Lines.{lines_of}
+use Rattle.njh_replay.specs.ScriptOrders.{event_of_order, order_kind}
 use Rattle.njh_replay.specs.ScriptRoutes.{event_of_routes}
+use Rattle.njh_replay.specs.declared.script_orders.OrderKind.{OrderKind}
 
 -- how many bytes a script has at most: the product's own limit
 abbrev pub max_script_bytes : ℕ
@@ -55,12 +57,17 @@ event_on_line names (word ∷ name ∷ []) = option_and_then (signal_of word) (n
 event_on_line names (word ∷ name ∷ digits ∷ []) = option_and_then (bytes_on word digits) (names name)
 event_on_line names words = None
 
--- the event of words, which give a customer routes or tell what comes on a line
+-- the event of words that give no routes, by the kind of order that the first one gives
+abbrev pub event_by_kind : TableFile → Option OrderKind → (word : List ℕ) → List (List ℕ) → Option Event
+event_by_kind tables (Some kind) word words = event_of_order tables kind words
+event_by_kind tables None word words = event_on_line (line_named tables) (word ∷ words)
+
+-- the event of words, which give a customer routes or an order, or tell what comes on a line
 abbrev pub event_of_words : TableFile → List (List ℕ) → Option Event
 event_of_words tables [] = None
 event_of_words tables (word ∷ words) =
-    if bytes_eq word (codes "ROUTES") then event_of_routes tables words else event_on_line (line_named tables)
-    (word ∷ words)
+    if bytes_eq word (codes "ROUTES") then event_of_routes tables words
+    else event_by_kind tables (order_kind word) word words
 
 -- the event of a line, which is UTF-8
 unfoldable pub script_event : TableFile → List ℕ → Option Event

@@ -11,8 +11,6 @@ use Rattle.njh_table.specs.NewRoutes.{new_routes_of, routes_checked}
 use Rattle.njh_table.specs.TableFile.{TableFile, customer_at, entry_of, line_named, HasLine}
 use Rattle.njh_hub.specs.declared.event.Event.{Event}
 use Rattle.njh_hub.specs.declared.event.Event.TheVariants.{Bytes, Tick, Garbled, Lost, Routes, Order}
-use Rattle.njh_hub.specs.OwnEvents.{order_of}
-use Rattle.njh_hub.specs.WholeHub.{Part, IsNamed}
 
 -- the number of the customer that a word names
 abbrev pub customer_named : TableFile → List ℕ → Option ℕ
@@ -71,7 +69,8 @@ event_of_routes tables [] = None
 event_of_routes tables (name ∷ pairs) = option_and_then
     (λ c. option_and_then (routes_for tables c) (routes_of_pairs tables pairs)) (customer_named tables name)
 
--- An event names what the tables have: its line, or its customer, which may have these routes. A script gives no orders.
+-- An event names what the tables have: its line, or its customer, which may have these routes. Any customer may have an
+-- order.
 abbrev pub IsNamedIn : TableFile → Event → Type 0
 IsNamedIn tables (Bytes id piece) = HasLine tables id
 IsNamedIn tables (Tick id) = HasLine tables id
@@ -79,8 +78,4 @@ IsNamedIn tables (Garbled id) = HasLine tables id
 IsNamedIn tables (Lost id) = HasLine tables id
 IsNamedIn tables (Routes c routes) = (c < length tables.customers)
     × (routes_checked (entry_of (customer_at tables c)) (new_routes_of c routes) ≡ Ok tt)
-IsNamedIn tables (Order c order) = ⊥
-
--- So it names what a hub has that was opened on these tables, and is no order.
-abbrev pub IsScripted : List Part → Event → Type 0
-IsScripted parts event = IsNamed parts event × (order_of event ≡ None)
+IsNamedIn tables (Order c order) = c < length tables.customers

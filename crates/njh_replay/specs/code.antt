@@ -1,3 +1,4 @@
 -- What only bodies and proofs speak of.
 pub mod LineStarts
 pub mod PrintedLaws
+pub mod RunPieces

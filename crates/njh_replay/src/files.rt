@@ -6,7 +6,7 @@ ghost use Rattle.njh_ebcdic.specs.Characters.{shown_text};
 ghost use Rattle.njh_hub.specs.Files.{files_at};
 ghost use Rattle.njh_replay.specs.LineNames.{customers_of};
 ghost use Rattle.njh_io.specs.Written.{AppendsBeginning};
-ghost use Rattle.njh_replay.specs.Printed.{files_from, files_text, summary_text};
+ghost use Rattle.njh_replay.specs.Printed.{files_from, files_text, summary_text, told_line};
 
 use arrayvec::ArrayVec;
 use njh_ebcdic::{Name, text_of};
@@ -16,9 +16,9 @@ use njh_table::Tables;
 use std::alloc::{AllocError, Global};
 use std::io::Write;
 
-/// Room for a file's line: at most 8 bytes of its customer's name, a blank, at most 148 of what is
-/// said of it, and the line's end.
-type FileLine = ArrayVec<u8, 158>;
+/// Room for the line of a file or of a reply: at most 8 bytes of its customer's name, a blank, at
+/// most 148 of what that is told, and the line's end.
+pub(crate) type FileLine = ArrayVec<u8, 158>;
 
 /// The names of the customers, in their order. Out of memory is the only refusal.
 pub fn customer_names(alloc: Global, tables: &Tables) -> Result<Vec<Name>, AllocError>
@@ -73,10 +73,19 @@ fn print_customer<W: Write>(
 fn line_of(name: Name, file: &FileSummaryView) -> FileLine
     ensures { result.items ≡ summary_text name file.now }
 {
+    told_line(name, &file.line())
+}
+
+/// A customer's name, a blank, what it is told, in EBCDIC, and the line's end.
+#[tactic(auto, unfolding(crate::specs::Printed::told_line))]
+pub(crate) fn told_line(name: Name, told: &[u8]) -> FileLine
+    requires { length told.now ≤ 148 }
+    ensures { result.items ≡ told_line name told.now }
+{
     let mut line = FileLine::new();
     push_shown(&mut line, name.trimmed());
     line.push(b' ');
-    push_shown(&mut line, &file.line());
+    push_shown(&mut line, told);
     line.push(b'\n');
     line
 }

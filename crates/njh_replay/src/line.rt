@@ -3,12 +3,15 @@
 ghost use Rattle.std.specs.Prelude.{◌≡◌, ◌∷◌, Some, IfOk, IfSome};
 ghost use Rattle.njh_table.specs.TableFile.{line_named};
 ghost use Rattle.njh_hub.specs.OwnEvents.{line_of_event};
-ghost use Rattle.njh_replay.specs.Script.{bytes_on, script_event, event_of_words, event_on_line, piece_of, signal_of};
+ghost use Rattle.njh_replay.specs.Script.{bytes_on, script_event, event_by_kind, event_of_words, event_on_line};
+ghost use Rattle.njh_replay.specs.Script.{piece_of, signal_of};
 ghost use Rattle.njh_replay.specs.Script.{words_of};
+ghost use Rattle.njh_replay.specs.ScriptOrders.{order_kind};
 ghost use Rattle.njh_replay.specs.ScriptRoutes.{IsNamedIn};
 ghost use Rattle.njh_replay.specs.code.LineStarts.{Begins, IsStart};
 
 use crate::line_starts::Start;
+use crate::script_orders::{event_of_order, order_kind};
 use crate::script_routes::event_of_routes;
 use hex::FromHexError;
 use njh_hub::{Event, Piece, SHORT_PIECE};
@@ -81,7 +84,24 @@ fn event_of_text(alloc: Global, tables: &Tables, line: &str) -> Result<Option<Ev
     if word == "ROUTES" {
         return event_of_routes(alloc, tables, rest);
     }
-    event_on_line(alloc, tables, word, rest)
+    event_of_other(alloc, tables, word, rest)
+}
+
+/// The event of a word that gives no routes, and of what comes after it.
+fn event_of_other(
+    alloc: Global,
+    tables: &Tables,
+    word: &str,
+    rest: &str,
+) -> Result<Option<Event>, AllocError>
+    ensures event { IfOk result (λ event. event
+        ≡ event_by_kind tables.now (order_kind word.now) word.now (words_of rest.now)) }
+    ensures named { IfOk result (λ event. IfSome event (IsNamedIn tables.now)) }
+{
+    match order_kind(word) {
+        Some(kind) => event_of_order(alloc, tables, kind, rest),
+        None => event_on_line(alloc, tables, word, rest),
+    }
 }
 
 /// The event of a word and what comes after it: the name of a line, and digits if it is

@@ -3,11 +3,10 @@ use Rattle.std.specs.Prelude.{◌≡◌, ◌⊎◌, ℕ, Bool, true, false, List
 use Rattle.std.specs.Io.KnownBytes.{Appends}
 use Rattle.njh_table.specs.TableFile.{TableFile}
 use Rattle.njh_hub.specs.declared.event.Event.{Event}
-use Rattle.njh_hub.specs.declared.fault.HubFault.TheVariants.{Memory}
 use Rattle.njh_encode.specs.Scripts.{IsEncodedInPart, IsEncodedTo}
 use Rattle.njh_encode.specs.declared.fault.EncodeFault.{EncodeFault}
 use Rattle.njh_io.specs.Written.{AppendsBeginning}
-use Rattle.njh_replay.specs.Replayed.{HasTooLong, HasBadLine, HasScript, IsBegun, IsReplayed, text_of_run}
+use Rattle.njh_replay.specs.Replayed.{HasTooLong, HasBadLine, HasScript, IsBegun, IsReplayed, MayEndRun, text_of_run}
 use Rattle.njh_replay.specs.declared.fault.ReplayFault.TheVariants.{TooLong, Script, Device, Hub}
 use Rattle.njh_trace.specs.Trace.{has_long_line, trace_told}
 use Rattle.njh_trace.specs.declared.fault.TraceFault.TheVariants as trace
@@ -109,7 +108,7 @@ abbrev pub IsReplayRefused : (tables : TableFile) (left : Option (List ℕ)) →
 IsReplayRefused tables left (Replay TooLong) = HasTooLong left
 IsReplayRefused tables left (Replay (Script number)) = HasBadLine tables left number
 IsReplayRefused tables left (Replay Device) = ⊤
-IsReplayRefused tables left (Replay (Hub fault)) = fault ≡ Memory
+IsReplayRefused tables left (Replay (Hub fault)) = MayEndRun fault
 IsReplayRefused tables left (Trace fault) = ⊤
 IsReplayRefused tables left (failure.Encode end) = ⊥
 IsReplayRefused tables left Found = ⊥
@@ -141,7 +140,7 @@ IsFailed task left (Tables fault) = RefusesTables task (Tables fault)
 IsFailed task left (Replay TooLong) = ReplaysBy task (λ tables. HasTooLong left) ⊎ ChecksScript task
 IsFailed task left (Replay (Script number)) = ReplaysBy task (λ tables. HasBadLine tables left number)
 IsFailed task left (Replay Device) = ⊤
-IsFailed task left (Replay (Hub fault)) = fault ≡ Memory
+IsFailed task left (Replay (Hub fault)) = MayEndRun fault
 IsFailed task left (Trace trace.TooLong) = TellsLong task left
 IsFailed task left (Trace trace.Device) = ⊤
 IsFailed task left (Trace trace.Memory) = ⊤

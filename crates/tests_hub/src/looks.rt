@@ -158,7 +158,8 @@ fn show_notice<R: Print + AllocGlobal>(rt: &R, notice: &Notice) -> io::Result<()
     println!(rt; "file refused: {} {user} was told: {text}", notice.node)
 }
 
-fn characters(alloc: Global, bytes: &[u8]) -> Result<String, AllocError> {
+/// Bytes as characters.
+pub(crate) fn characters(alloc: Global, bytes: &[u8]) -> Result<String, AllocError> {
     let mut text = String::new(alloc);
     for byte in bytes {
         text.push(text_of(*byte))?;

@@ -8,6 +8,7 @@
 mod damage;
 mod looks;
 mod new_routes;
+mod orders;
 mod pairs;
 mod script_lines;
 mod steps;
@@ -49,6 +50,7 @@ fn main(rt: HostRuntime) -> io::Result<()> {
     pairs::compare(&rt, tables, stored(&rt, "acme_alone", "toml")?.as_str())?;
     script_lines::say_each(&rt, tables, stored(&rt, "bad_lines", "txt")?.as_str())?;
     script_lines::say_each(&rt, tables, stored(&rt, "route_lines", "txt")?.as_str())?;
+    script_lines::say_each(&rt, tables, stored(&rt, "order_lines", "txt")?.as_str())?;
     script_lines::say_faults(&rt)?;
     script_lines::try_lengths(&rt, tables)
 }

@@ -1,6 +1,6 @@
 //! A hub that was just opened, lent to what tries it; and what all tries share.
 
-use crate::{looks, new_routes, steps};
+use crate::{looks, new_routes, orders, steps};
 use njh_hub::{Hub, HubFault};
 use njh_table::{LineId, Tables};
 use std::alloc::{AllocError, Global};
@@ -39,6 +39,7 @@ enum Trial {
     Looks,
     Refusal,
     Routes,
+    Orders,
     Sink,
 }
 
@@ -51,6 +52,7 @@ pub(crate) fn try_each<R: Print + AllocGlobal>(rt: &R, tables: &str) -> io::Resu
         Trial::Looks,
         Trial::Refusal,
         Trial::Routes,
+        Trial::Orders,
         Trial::Sink,
     ] {
         let mut hub = open(rt.alloc(), tables)?;
@@ -69,6 +71,7 @@ fn try_on<R: Print + AllocGlobal>(rt: &R, hub: &mut Hub, trial: Trial) -> io::Re
         Trial::Looks => looks::look(rt, hub),
         Trial::Refusal => looks::refuse(rt, hub),
         Trial::Routes => new_routes::refuse(rt, hub),
+        Trial::Orders => orders::give_each(rt, hub),
         Trial::Sink => steps::refuse(rt, hub),
     }
 }

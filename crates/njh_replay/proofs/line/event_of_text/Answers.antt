@@ -18,4 +18,4 @@ returns-clause-event c =
     let test : bytes_eq c.in-Some.word.now (codes "ROUTES") ≡ false = search rules in
     let same = event_of_words-other c.args.tables.now c.args.line.now c.in-Some.word c.in-Some.rest
     c.in-Some.ensures.cases test in
-    rw same c.event_on_line.ensures.event
+    rw same c.event_of_other.ensures.event
