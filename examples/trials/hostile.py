@@ -480,7 +480,8 @@ def port_in_use(options):
         # A process that is forked before this has the socket too.
         taken.close()
         begin, other = time.monotonic(), Other(places[1].port)
-        while time.monotonic() < begin + 15 and not any("listens on" in line for line in hub.log()):
+        told = f"listens on 127.0.0.1:{places[0].port}"
+        while time.monotonic() < begin + 15 and not any(told in line for line in hub.log()):
             time.sleep(0.1)
         waited = time.monotonic() - begin
         with connected(places[0].port, timeout=2) as peer:

@@ -86,7 +86,7 @@ def play(ports, hub, crowd, loop):
     moved = table_of(ports, "a3")
     steps.step("METZ by the line of PARIS: the file goes out", moved, "ACME: new routes", lambda: taker.files == [FILE])
     steps.step("another quota", table_of(ports, "a2", 501), "customer ACME: its quota differs; nothing changes")
-    steps.step("no TOML", "capacity = \n", "K1 BadToml; nothing changes")
+    steps.step("no TOML", "capacity = \n", "K1 BadToml: line 1: no TOML; nothing changes")
     steps.step("3 MB", padded(moved, 3_000_000), "longer than 2000000 bytes; nothing changes")
     steps.step("as it was", moved, "no new routes")
     steps.step("METZ by its own line again", table_of(ports), "ACME: new routes")

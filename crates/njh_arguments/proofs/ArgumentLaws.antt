@@ -16,8 +16,9 @@ use Rattle.clap.specs.declared.parser.matches.ArgMatches.{ArgMatches}
 use Rattle.clap.specs.declared.parser.matches.ArgMatches.TheViews.{out-ArgMatches, out-SubCommand}
 use Rattle.njh_arguments.specs.declared.arguments.Request.{Request}
 use Rattle.njh_arguments.specs.declared.serve_options.Unasked.{Unasked}
-use Rattle.njh_arguments.specs.declared.serve_options.Unasked.TheVariants.{Missing, NoAddress, Nothing, Unclear}
-use Rattle.njh_arguments.specs.Arguments.{AreUnclear, AsksFor, AsksIn, HasNoAddress, HasNothing, IsUnasked}
+use Rattle.njh_arguments.specs.declared.serve_options.Unasked.TheVariants.{Missing, NoAddress, NoFormat, Nothing}
+use Rattle.njh_arguments.specs.declared.serve_options.Unasked.TheVariants.{Unclear}
+use Rattle.njh_arguments.specs.Arguments.{AreUnclear, AsksFor, AsksIn, HasNoAddress, HasNoFormat, HasNothing, IsUnasked}
 use Rattle.njh_arguments.specs.Arguments.{IsTarget, IsUnaskedBy, IsUnclear, PrintsNothing, is_given}
 use Rattle.njh_arguments.specs.Arguments.{program_app}
 
@@ -96,6 +97,7 @@ serves_refused m named is (Ok request) unasked = tt
 serves_refused m named is (Err Missing) unasked = tt
 serves_refused m named is (Err Nothing) unasked = subst HasNothing (sym is) unasked
 serves_refused m named is (Err (NoAddress text)) unasked = subst HasNoAddress (sym is) unasked
+serves_refused m named is (Err (NoFormat text)) unasked = subst HasNoFormat (sym is) unasked
 serves_refused m named is (Err Unclear) unasked = subst AreUnclear (sym is) unasked
 
 -- a text that is tested for a word

@@ -1,6 +1,6 @@
 -- The arguments of the command line.
 use Rattle.std.specs.Prelude.{◌≡◌, ◌↔◌, ◌⊎◌, ℕ, pos, List, [], ◌∷◌, codes, Bool, true, false, option_map}
-use Rattle.std.specs.Prelude.{Option, Some, None, IsSomeAnd, IsTrue, ⊤, is_some}
+use Rattle.std.specs.Prelude.{Option, Some, None, IsSomeAnd, IsTrue, ⊤, is_some, bytes_eq, if◌then◌else◌}
 use Rattle.std.specs.Net.Grammar.{IsIpText}
 use Rattle.std.specs.declared.net.ip_addr.IpAddr.{IpAddr}
 use Rattle.std.specs.Str.Parse.{IsNumeral, digits_value, without_leading_plus}
@@ -17,7 +17,8 @@ use Rattle.njh_arguments.specs.declared.arguments.Request.TheVariants as request
 use Rattle.njh_arguments.specs.declared.arguments.Task.{Task}
 use Rattle.njh_arguments.specs.declared.arguments.Task.TheVariants.{CheckScript, CheckTables, Decode, Encode, Replay}
 use Rattle.njh_arguments.specs.declared.serve_options.Unasked.{Unasked}
-use Rattle.njh_arguments.specs.declared.serve_options.Unasked.TheVariants.{Missing, NoAddress, Nothing, Unclear}
+use Rattle.njh_arguments.specs.declared.serve_options.Unasked.TheVariants.{Missing, NoAddress, NoFormat, Nothing}
+use Rattle.njh_arguments.specs.declared.serve_options.Unasked.TheVariants.{Unclear}
 
 -- a text is this number's digits, before which a plus may stand
 abbrev pub Spells : Text → ℕ → Type 0
@@ -69,8 +70,20 @@ listening_app = with_rule addressed_app (flag_rule (codes "quiet"))
 abbrev pub spool_rule : Rule
 spool_rule = record (new_rule (codes "spool")) { long = Some (codes "spool"); value_names = 1; action = Some Set }
 
+-- the option `--log FORMAT`
+abbrev pub log_rule : Rule
+log_rule = record (new_rule (codes "log")) {
+  long = Some (codes "log");
+  value_names = 1;
+  action = Some Set;
+  defaults = codes "text" ∷ [];
+}
+
+abbrev pub keeping_app : App
+keeping_app = with_rule listening_app spool_rule
+
 abbrev pub serve_app : App
-serve_app = with_rule listening_app spool_rule
+serve_app = with_rule keeping_app log_rule
 
 -- `decode`, and its option
 abbrev pub decode_app : App
@@ -168,6 +181,12 @@ SpellsNumber (Some text) number = IsSomeAnd number (Spells text)
 abbrev pub ListensAt : Option Text → IpAddr → Type 0
 ListensAt text address = IsSomeAnd text (λ t. IsIpText t address)
 
+-- a log is in JSON, or in text
+abbrev pub is_json_by : Option Text → Option Bool
+is_json_by None = Some false
+is_json_by (Some text) =
+    if bytes_eq text (codes "text") then Some false else if bytes_eq text (codes "json") then Some true else None
+
 -- a flag is set, or isn't
 abbrev pub IsFlag : Text → List Row → Bool → Type 0
 IsFlag flag rows set = IsTrue set ↔ (first_of flag rows ≡ Some (codes "true"))
@@ -220,13 +239,14 @@ AsksFor named (Copy spool customer into is_new) = (named.0 ≡ codes "files")
     × (first_of (codes "spool") named.1 ≡ Some spool.now)
     × (first_of (codes "customer") named.1 ≡ option_map (λ s. s.now) customer)
     × IsTarget named.1 into.now is_new
-AsksFor named (Serve tables turns listen strict quiet spool) = (named.0 ≡ codes "serve")
+AsksFor named (Serve tables turns listen strict quiet spool json) = (named.0 ≡ codes "serve")
     × (first_of (codes "tables") named.1 ≡ Some tables.now)
     × SpellsNumber (first_of (codes "turns") named.1) turns
     × ListensAt (first_of (codes "listen") named.1) listen
     × IsFlag (codes "strict") named.1 strict
     × IsFlag (codes "quiet") named.1 quiet
     × (first_of (codes "spool") named.1 ≡ option_map (λ s. s.now) spool)
+    × (is_json_by (first_of (codes "log") named.1) ≡ Some json)
 
 -- what a parse asks for
 abbrev pub AsksIn : Option (Text × List Row) → Request → Type 0
@@ -242,6 +262,13 @@ NamesNoAddress rows = IsSomeAnd (first_of (codes "listen") rows) (λ text. (addr
 
 abbrev pub HasNoAddress : Option (Text × List Row) → Type 0
 HasNoAddress named = IsSomeAnd named (λ p. NamesNoAddress p.1)
+
+-- the text of `--log` is no format
+abbrev pub NamesNoFormat : List Row → Type 0
+NamesNoFormat rows = is_json_by (first_of (codes "log") rows) ≡ None
+
+abbrev pub HasNoFormat : Option (Text × List Row) → Type 0
+HasNoFormat named = IsSomeAnd named (λ p. NamesNoFormat p.1)
 
 -- neither a table file nor a script is named
 abbrev pub NamesNothing : List Row → Type 0
@@ -263,6 +290,7 @@ abbrev pub IsUnasked : List Row → Unasked → Type 0
 IsUnasked rows Missing = ⊤
 IsUnasked rows Nothing = NamesNothing rows
 IsUnasked rows (NoAddress text) = NamesNoAddress rows
+IsUnasked rows (NoFormat text) = NamesNoFormat rows
 IsUnasked rows Unclear = IsUnclear rows
 
 -- and why a parse does
@@ -270,6 +298,7 @@ abbrev pub IsUnaskedBy : Option (Text × List Row) → Unasked → Type 0
 IsUnaskedBy named Missing = ⊤
 IsUnaskedBy named Nothing = HasNothing named
 IsUnaskedBy named (NoAddress text) = HasNoAddress named
+IsUnaskedBy named (NoFormat text) = HasNoFormat named
 IsUnaskedBy named Unclear = AreUnclear named
 
 -- the refusal that says so
@@ -277,12 +306,14 @@ abbrev pub IsRefusalOf : Unasked → Error → Type 0
 IsRefusalOf Missing error = kind_of error ≡ MissingSubcommand
 IsRefusalOf Nothing error = kind_of error ≡ MissingRequiredArgument
 IsRefusalOf (NoAddress text) error = kind_of error ≡ ValueValidation
+IsRefusalOf (NoFormat text) error = kind_of error ≡ ValueValidation
 IsRefusalOf Unclear error = kind_of error ≡ ArgumentConflict
 
--- The arguments are refused so: as clap's definitions say of this program, or since an address is none, nothing is
--- named to be checked, or it isn't clear what is to be copied.
+-- The arguments are refused so: as clap's definitions say of this program, or since an address or a format is none,
+-- nothing is named to be checked, or it isn't clear what is to be copied.
 abbrev pub AreRefusedBy : List Text → Error → Type 0
 AreRefusedBy arguments error = HasKind (MissingSubcommand ∷ fault_of program_app arguments) error
     ⊎ ((kind_of error ≡ ValueValidation) × HasNoAddress (subcommand_of program_app arguments))
     ⊎ ((kind_of error ≡ MissingRequiredArgument) × HasNothing (subcommand_of program_app arguments))
     ⊎ ((kind_of error ≡ ArgumentConflict) × AreUnclear (subcommand_of program_app arguments))
+    ⊎ ((kind_of error ≡ ValueValidation) × HasNoFormat (subcommand_of program_app arguments))

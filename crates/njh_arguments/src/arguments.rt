@@ -42,6 +42,8 @@ pub enum Request<'a> {
         quiet: bool,
         /// The spool file that keeps whole files, if there is one.
         spool: Option<&'a str>,
+        /// With a log in JSON.
+        json: bool,
     },
     /// To print what a spool file holds.
     Files {
@@ -208,6 +210,7 @@ fn refusal_of(
             "nothing to check: name --tables F, --script F or both",
         ),
         Unasked::NoAddress(text) => no_address(alloc, program, text),
+        Unasked::NoFormat(text) => no_format(alloc, program, text),
         Unasked::Unclear => program.error(
             ErrorKind::ArgumentConflict,
             "to copy files: --customer NAME --into FILE, or --compact NEW, without --export, \
@@ -222,6 +225,16 @@ fn no_address(alloc: Global, program: &mut Command<'_>, text: &str) -> Result<Er
 {
     let message = format!(in alloc;
         "invalid value '{text}' for '--listen <ADDRESS>': invalid IP address syntax"
+    )?;
+    program.error(ErrorKind::ValueValidation, message.as_str())
+}
+
+/// The refusal of a text of `--log` that is no format.
+fn no_format(alloc: Global, program: &mut Command<'_>, text: &str) -> Result<Error, AllocError>
+    ensures { IfOk result (λ error. kind_of error ≡ ErrorKind.ValueValidation) }
+{
+    let message = format!(in alloc;
+        "invalid value '{text}' for '--log <FORMAT>': it is text or json"
     )?;
     program.error(ErrorKind::ValueValidation, message.as_str())
 }

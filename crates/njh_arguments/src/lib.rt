@@ -12,4 +12,4 @@ mod serve_options;
 mod shown;
 
 pub use arguments::{Request, Task, not_utf8, request_of};
-pub use shown::is_shown;
+pub use shown::{VERSION, is_shown};

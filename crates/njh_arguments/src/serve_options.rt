@@ -1,10 +1,11 @@
 //! The options of `serve`.
 
-ghost use Rattle.std.specs.Prelude.{◌≡◌, codes, false, IfOk, IfErr};
+ghost use Rattle.std.specs.Prelude.{◌≡◌, codes, false, Some, IfOk, IfErr};
 ghost use Rattle.clap.specs.Words.{app_of, first_of, found_of, new_app, rows_of, rule_of};
 ghost use Rattle.clap.specs.declared.builder.command.Command.TheViews.{out-Command};
 ghost use Rattle.njh_arguments.specs.Arguments.{AsksFor, IsUnasked, ListensAt, addressed_app, bounded_serve_app};
-ghost use Rattle.njh_arguments.specs.Arguments.{listen_rule, listening_app, serve_app, turns_rule};
+ghost use Rattle.njh_arguments.specs.Arguments.{is_json_by, keeping_app, listen_rule, listening_app, log_rule};
+ghost use Rattle.njh_arguments.specs.Arguments.{serve_app, turns_rule};
 
 use crate::arguments::Request;
 use crate::options::{
@@ -33,6 +34,8 @@ pub(crate) enum Unasked<'a> {
     Nothing,
     /// The text of `--listen` is no address.
     NoAddress(&'a str),
+    /// The text of `--log` is no format.
+    NoFormat(&'a str),
     /// Files are to be copied, and which or where to isn't clear, or other options beside that.
     Unclear,
 }
@@ -47,6 +50,7 @@ pub(crate) fn served_in<'a>(options: &ArgMatches<'a>) -> Result<Request<'a>, Una
     };
     let turns = number_of(options, "turns")?;
     let listen = address_in(options)?;
+    let json = is_json_in(options)?;
     Ok(Request::Serve {
         tables,
         turns,
@@ -54,7 +58,36 @@ pub(crate) fn served_in<'a>(options: &ArgMatches<'a>) -> Result<Request<'a>, Una
         strict: is_set(options, "strict"),
         quiet: is_set(options, "quiet"),
         spool: options.get_str("spool"),
+        json,
     })
+}
+
+/// Whether the log is to be in JSON.
+fn is_json_in<'a>(options: &ArgMatches<'a>) -> Result<bool, Unasked<'a>>
+    ensures asked { IfOk result (λ json. is_json_by (first_of (codes "log") (rows_of (found_of options.now)))
+        ≡ Some json) }
+    ensures refused { IfErr result (IsUnasked (rows_of (found_of options.now))) }
+{
+    match options.get_str("log") {
+        Some(text) => match is_json_by(text) {
+            Some(json) => Ok(json),
+            None => Err(Unasked::NoFormat(text)),
+        },
+        None => Ok(false),
+    }
+}
+
+/// Whether a text names JSON; none where it is no format.
+fn is_json_by(text: &str) -> Option<bool>
+    ensures { result ≡ is_json_by (Some text.now) }
+{
+    if text == "text" {
+        Some(false)
+    } else if text == "json" {
+        Some(true)
+    } else {
+        None
+    }
 }
 
 /// Where lines are to listen.
@@ -75,6 +108,14 @@ fn address_in<'a>(options: &ArgMatches<'a>) -> Result<IpAddr, Unasked<'a>>
 /// `serve`, with its options.
 pub(crate) fn serve_command<'a>(alloc: Global) -> Result<Command<'a>, AllocError>
     ensures app { IfOk result (λ command. app_of command ≡ serve_app) }
+    ensures local { IfOk result (λ command. (out-Command command).has_globals ≡ false) }
+{
+    with_option(keeping_command(alloc), log_option(alloc))
+}
+
+/// `serve`, with its tables, turns, address, strict, quiet and spool file.
+fn keeping_command<'a>(alloc: Global) -> Result<Command<'a>, AllocError>
+    ensures app { IfOk result (λ command. app_of command ≡ keeping_app) }
     ensures local { IfOk result (λ command. (out-Command command).has_globals ≡ false) }
 {
     let spool = spool_option(
@@ -155,4 +196,18 @@ fn listen_option<'a>(alloc: Global) -> Arg<'a>
         "The IP address on whose ports the lines listen",
     )
     .default_value("127.0.0.1")
+}
+
+/// `--log FORMAT`.
+fn log_option<'a>(alloc: Global) -> Arg<'a>
+    ensures rule { rule_of result ≡ log_rule }
+    ensures local { result.global ≡ false }
+{
+    valued_option(
+        alloc,
+        "log",
+        "FORMAT",
+        "The log as text, or as json: an object of JSON a line",
+    )
+    .default_value("text")
 }

@@ -9,7 +9,7 @@ use clap::error::ErrorKind;
 use std::convert::AsStr;
 
 /// The version, which `--version` prints behind the program's name.
-pub(crate) const VERSION: &str = "0.1.0";
+pub const VERSION: &str = "0.1.0";
 
 /// Whether these arguments, of which `clap` says so, ask for a text and are not refused: for the
 /// version, or for the help of a subcommand. Help of `replay`, or of the program alone, is a refusal.

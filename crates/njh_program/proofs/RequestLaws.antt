@@ -56,19 +56,19 @@ failed_so : (arguments : List Text) (left : Option (List ℕ)) (asked : Request)
 failed_so arguments left (request.Task t) why asks ended = task_failed arguments left t why asks ended
 failed_so arguments left (Files spool customer file number raw) why asks ended = files_failed arguments left why ended
 failed_so arguments left (Copy spool customer into is_new) why asks ended = files_failed arguments left why ended
-failed_so arguments left (Serve tables turns listen strict quiet spool) why asks (inr ended) =
+failed_so arguments left (Serve tables turns listen strict quiet spool json) why asks (inr ended) =
     files_failed arguments left why ended
-failed_so arguments left (Serve tables turns listen strict quiet spool) why asks (inl (inl (inl is))) =
+failed_so arguments left (Serve tables turns listen strict quiet spool json) why asks (inl (inl (inl is))) =
     let P : Failure → Type 0 = λ f. IsFailed arguments left f in subst P (sym is) tt
-failed_so arguments left (Serve tables turns listen strict quiet spool) why asks (inl (inl (inr (inl is)))) =
+failed_so arguments left (Serve tables turns listen strict quiet spool json) why asks (inl (inl (inr (inl is)))) =
     let P : Failure → Type 0 = λ f. IsFailed arguments left f in subst P (sym is) tt
-failed_so arguments left (Serve tables turns listen strict quiet spool) why asks (inl (inl (inr (inr is)))) =
+failed_so arguments left (Serve tables turns listen strict quiet spool json) why asks (inl (inl (inr (inr is)))) =
     let P : Failure → Type 0 = λ f. IsFailed arguments left f in
-    subst P (sym is) (Serve tables turns listen strict quiet spool, asks, inl (inr (inr refl)))
-failed_so arguments left (Serve tables turns listen strict quiet spool) why asks (inl (inr refused)) =
+    subst P (sym is) (Serve tables turns listen strict quiet spool json, asks, inl (inr (inr refl)))
+failed_so arguments left (Serve tables turns listen strict quiet spool json) why asks (inl (inr refused)) =
     let P : Failure → Type 0 = λ f. IsFailed arguments left f in
     subst P (sym refused.2)
-    (Serve tables turns listen strict quiet spool, asks, inr (refused.0, refused.1, refl, refused.3))
+    (Serve tables turns listen strict quiet spool json, asks, inr (refused.0, refused.1, refl, refused.3))
 
 pub failed_by : {T : Type 0} (arguments : List Text) (left : Option (List ℕ)) (asked : Request) (r : Result T Failure)
     → Asks arguments asked → IfErr r (Fails asked left) → IfErr r (IsFailed arguments left)
@@ -92,6 +92,6 @@ pub bad_by : (arguments : List Text) (fault : EncodeFault) (left old new : Optio
     → Asks arguments asked → HasBadWords asked fault left old new → IsEncodedBefore arguments fault left old new
 bad_by arguments fault left old new (request.Task t) asks bad =
     let P : Task → Type 0 = λ t. Asks arguments (request.Task t) in (subst P bad.0 asks, bad.1)
-bad_by arguments fault left old new (Serve tables turns listen strict quiet spool) asks bad = absurd bad
+bad_by arguments fault left old new (Serve tables turns listen strict quiet spool json) asks bad = absurd bad
 bad_by arguments fault left old new (Files spool customer file number raw) asks bad = absurd bad
 bad_by arguments fault left old new (Copy spool customer into is_new) asks bad = absurd bad

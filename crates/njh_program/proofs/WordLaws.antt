@@ -24,7 +24,9 @@ shown_among arguments error (inr (inl late)) shown =
     let bad = subst (λ (k : ErrorKind). is_shown arguments k ≡ true) late.0 shown in cc bad
 shown_among arguments error (inr (inr (inl late))) shown =
     let bad = subst (λ (k : ErrorKind). is_shown arguments k ≡ true) late.0 shown in cc bad
-shown_among arguments error (inr (inr (inr late))) shown =
+shown_among arguments error (inr (inr (inr (inl late)))) shown =
+    let bad = subst (λ (k : ErrorKind). is_shown arguments k ≡ true) late.0 shown in cc bad
+shown_among arguments error (inr (inr (inr (inr late)))) shown =
     let bad = subst (λ (k : ErrorKind). is_shown arguments k ≡ true) late.0 shown in cc bad
 
 words_failed : (arguments : List Text) (left : Option (List ℕ)) (why : Failure) → IsWordsEnd arguments why

@@ -43,7 +43,8 @@ AreServedOf file turns (Some spool) =
 -- what a request asks for was done, of what a reader had left
 abbrev pub IsDone : Request → (left old new : Option (List ℕ)) → Type 0
 IsDone (request.Task task) left old new = tasks.IsDone task left old new
-IsDone (Serve tables turns listen strict quiet spool) left old new = AreServedOf tables.now turns spool × Keeps old new
+IsDone (Serve tables turns listen strict quiet spool json) left old new =
+    AreServedOf tables.now turns spool × Keeps old new
 IsDone (Files spool customer file number raw) left old new =
     IsPrinted (option_map (λ s. s.now) customer) file raw old new
 IsDone (Copy spool customer into is_new) left old new = IsListed (option_map (λ s. s.now) customer) old new
@@ -51,7 +52,7 @@ IsDone (Copy spool customer into is_new) left old new = IsListed (option_map (λ
 -- it was done in part
 abbrev pub IsDoneInPart : Request → (left old new : Option (List ℕ)) → Type 0
 IsDoneInPart (request.Task task) left old new = tasks.IsDoneInPart task left old new
-IsDoneInPart (Serve tables turns listen strict quiet spool) left old new = Keeps old new
+IsDoneInPart (Serve tables turns listen strict quiet spool json) left old new = Keeps old new
 IsDoneInPart (Files spool customer file number raw) left old new =
     IsPrintedInPart (option_map (λ s. s.now) customer) file raw old new
 IsDoneInPart (Copy spool customer into is_new) left old new = IsListedInPart (option_map (λ s. s.now) customer) old new
@@ -72,7 +73,7 @@ IsBegunFor arguments left old new =
 -- written
 abbrev pub FindsFault : Request → (old new : Option (List ℕ)) → Type 0
 FindsFault (request.Task task) old new = tasks.FindsFault task old new
-FindsFault (Serve tables turns listen strict quiet spool) old new = ⊥
+FindsFault (Serve tables turns listen strict quiet spool json) old new = ⊥
 FindsFault (Files spool customer file number raw) old new = ⊥
 FindsFault (Copy spool customer into is_new) old new = ⊥
 
@@ -82,7 +83,7 @@ IsFound arguments old new = (request : Request) × Asks arguments request × Fin
 -- a line in words is the first bad one, and what those before it become was written
 abbrev pub HasBadWords : Request → (fault : EncodeFault) (left old new : Option (List ℕ)) → Type 0
 HasBadWords (request.Task task) fault left old new = tasks.HasBadWords task fault left old new
-HasBadWords (Serve tables turns listen strict quiet spool) fault left old new = ⊥
+HasBadWords (Serve tables turns listen strict quiet spool json) fault left old new = ⊥
 HasBadWords (Files spool customer file number raw) fault left old new = ⊥
 HasBadWords (Copy spool customer into is_new) fault left old new = ⊥
 
@@ -93,7 +94,7 @@ IsEncodedBefore arguments fault left old new =
 -- the tables of a request are refused so
 abbrev pub RefusesTables : Request → Failure → Type 0
 RefusesTables (request.Task task) failure = tasks.RefusesTables task failure
-RefusesTables (Serve tables turns listen strict quiet spool) failure = AreRefused (Some tables) failure
+RefusesTables (Serve tables turns listen strict quiet spool json) failure = AreRefused (Some tables) failure
 RefusesTables (Files spool customer file number raw) failure = ⊥
 RefusesTables (Copy spool customer into is_new) failure = ⊥
 
@@ -105,7 +106,7 @@ IsFilesEnd failure = ⊥
 -- why what a request asks for was not done, or not to the end
 abbrev pub Fails : Request → (left : Option (List ℕ)) → Failure → Type 0
 Fails (request.Task task) left failure = tasks.IsFailed task left failure
-Fails (Serve tables turns listen strict quiet spool) left failure =
+Fails (Serve tables turns listen strict quiet spool json) left failure =
     AreRefused (Some tables) failure ⊎ IsFilesEnd failure
 Fails (Files spool customer file number raw) left failure = IsFilesEnd failure
 Fails (Copy spool customer into is_new) left failure = IsFilesEnd failure

@@ -4,8 +4,8 @@ ghost use Rattle.std.specs.Prelude.{◌<◌, ◌↔◌, IfErr, IsSome};
 ghost use Rattle.njh_program.specs.ProgramOutcome.{IsOfDevices};
 ghost use Rattle.njh_service.specs.Handles.{handles_needed};
 
-use njh_service::{Endpoint, Log, endpoints_of, handles_needed};
-use njh_sockets::utc_seconds;
+use njh_service::{Endpoint, Heading, Log, endpoints_of, handles_needed};
+use njh_sockets::utc_milliseconds;
 use njh_subcommands::{Failure, table_bytes};
 use njh_table::Tables;
 use std::fmt;
@@ -36,7 +36,7 @@ pub(crate) fn refuse_few<F: Files + Clock + AllocGlobal, L: Write + Drop>(
     };
     match few_of(limit, &endpoints) {
         Some(few) => {
-            log.write(utc_seconds(rt), &few);
+            log.write(Heading::error(utc_milliseconds(rt)), &few);
             Err(Failure::Device)
         }
         None => Ok(()),

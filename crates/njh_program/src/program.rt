@@ -58,7 +58,26 @@ fn outcome_of<R: Env + Files + Spooling + Net + Clock + Input + Print + AllocGlo
     let arguments = arguments_of(rt)?;
     let mut out = BufWriter::with_capacity(rt.alloc(), WRITTEN_AT_ONCE, io::writer(rt))?;
     let log = StandardError::new(errors);
-    carry_out(rt, &arguments, &mut rt.reader(), &mut out, log)
+    carry_out(
+        rt,
+        &arguments,
+        &mut rt.reader(),
+        &mut out,
+        log,
+        is_for_journal(rt),
+    )
+}
+
+/// Whether systemd's journal takes standard error, which says so in the environment
+/// (systemd.exec(5), "JOURNAL_STREAM").
+fn is_for_journal<R: Env + AllocGlobal>(rt: &R) -> bool {
+    match env::var(rt, "JOURNAL_STREAM") {
+        Ok(value) => {
+            drop(value);
+            true
+        }
+        Err(_) => false,
+    }
 }
 
 /// The program's arguments.
@@ -79,15 +98,23 @@ fn arguments_of<R: Env + AllocGlobal>(rt: &R) -> Result<Vec<String>, Failure> {
 }
 
 /// Does what the arguments ask for: the arguments are checked first, then the tables, then the
-/// script. The log of a service goes to `log`. `script` is what the program is given to read: a
-/// script, for `decode` a trace, for `encode` lines in words.
+/// script. The log of a service goes to `log`, each line behind its priority if it is for a journal.
+/// `script` is what the program is given to read: a script, for `decode` a trace, for `encode` lines
+/// in words.
 pub fn carry_out<
     F: Files + Spooling + Net + Clock + AllocGlobal,
     S: AsStr,
     R: Read,
     W: Write,
     L: Write + Drop,
->(rt: &F, arguments: &[S], script: &mut R, out: &mut W, log: L) -> Result<(), Failure>
+>(
+    rt: &F,
+    arguments: &[S],
+    script: &mut R,
+    out: &mut W,
+    log: L,
+    is_for_journal: bool,
+) -> Result<(), Failure>
     ensures done { OnOk result (IsRunDone (map S.text arguments.now) (R.remaining script.old) (W.contents out.old)
         (W.contents out.new)) }
     ensures failed { IfErr result (IsFailed (map S.text arguments.now) (R.remaining script.old)) }
@@ -101,7 +128,7 @@ pub fn carry_out<
     ensures silent { IfErr result (λ failure. ComesFirst failure → Keeps (W.contents out.old) (W.contents out.new)) }
 {
     match request_of(rt.alloc(), arguments) {
-        Ok(request) => carry_out_request(rt, request, script, out, log),
+        Ok(request) => carry_out_request(rt, request, script, out, log, is_for_journal),
         Err(refusal) => {
             drop(log);
             show_or_refuse(rt.alloc(), arguments, refusal, out)

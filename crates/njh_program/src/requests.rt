@@ -15,19 +15,27 @@ use crate::service::{Options, serve_file};
 use crate::spooling::Spooling;
 use njh_arguments::Request;
 use njh_listing::{Asked, Move};
-use njh_service::{Listening, Log};
+use njh_service::{Listening, Log, LogStyle};
 use njh_subcommands::{Failure, perform};
 use std::io::{Read, Write};
 use std::net::Net;
 use std::rt::{Clock, Files};
 
-/// Does what a request asks for. The log of a service goes to `log`.
+/// Does what a request asks for. The log of a service goes to `log`, each line behind its priority
+/// if it is for a journal.
 pub(crate) fn carry_out_request<
     F: Files + Spooling + Net + Clock + AllocGlobal,
     R: Read,
     W: Write,
     L: Write + Drop,
->(rt: &F, request: Request<'_>, script: &mut R, out: &mut W, log: L) -> Result<(), Failure>
+>(
+    rt: &F,
+    request: Request<'_>,
+    script: &mut R,
+    out: &mut W,
+    log: L,
+    is_for_journal: bool,
+) -> Result<(), Failure>
     ensures done { OnOk result (IsDone request.entry (R.remaining script.old) (W.contents out.old)
         (W.contents out.new)) }
     ensures failed { IfErr result (Fails request.entry (R.remaining script.old)) }
@@ -81,8 +89,13 @@ pub(crate) fn carry_out_request<
             strict,
             quiet,
             spool,
+            json,
         } => {
-            let log = Log::new(if quiet { None } else { Some(log) });
+            let style = LogStyle {
+                is_json: json,
+                has_priority: is_for_journal,
+            };
+            let log = Log::new(if quiet { None } else { Some(log) }, style);
             let listening = Listening {
                 address: listen,
                 strict,

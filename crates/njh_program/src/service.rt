@@ -9,8 +9,9 @@ ghost use Rattle.njh_table.specs.TableFile.{TableFile};
 use crate::handles::refuse_few;
 use crate::start_log::log_failure;
 use crate::table_source::TableFileSource;
-use njh_service::{Exchange, Listening, Log, Revision, ServeFault, TableSource, serve};
-use njh_sockets::{MioNetwork, utc_seconds};
+use njh_arguments::VERSION;
+use njh_service::{Exchange, Heading, Listening, Log, Revision, ServeFault, TableSource, serve};
+use njh_sockets::{MioNetwork, utc_milliseconds};
 use njh_subcommands::{Failure, tables_twice};
 use njh_table::Tables;
 use njh_turns::{Depot, KeepsNothing};
@@ -108,7 +109,7 @@ fn exchange_of<'a, R: Files + Net + Clock + AllocGlobal, L: Write + Drop, S: Tab
     ensures { IfErr result (λ refused. IsOfDevices refused.0) }
 {
     match network_for(rt, tables, &mut log) {
-        Ok(network) => Ok(Exchange::new(rt.alloc(), network, log, revision)),
+        Ok(network) => Ok(Exchange::new(rt.alloc(), VERSION, network, log, revision)),
         Err(failure) => {
             drop(revision);
             Err((failure, log))
@@ -139,7 +140,7 @@ fn network_on<'a, R: Net + Clock + AllocGlobal, L: Write + Drop>(
         Ok(network) => Ok(network),
         Err(error) => {
             log.write(
-                utc_seconds(rt),
+                Heading::error(utc_milliseconds(rt)),
                 &"the sockets of this machine can't be waited for",
             );
             Err(Failure::from(error))

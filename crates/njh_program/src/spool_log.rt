@@ -1,8 +1,8 @@
 //! What the log says of a spool file that isn't opened, or fails.
 
 use njh_listing::FilesFault;
-use njh_service::Log;
-use njh_sockets::utc_seconds;
+use njh_service::{Heading, Log};
+use njh_sockets::utc_milliseconds;
 use njh_subcommands::Failure;
 use sqlite::Error;
 use std::fmt;
@@ -18,7 +18,10 @@ pub(crate) fn log_unopened<R: Clock, L: Write + Drop>(
 ) {
     if let Failure::Files(fault) = failure {
         let why = why_unopened(fault);
-        log.write(utc_seconds(rt), &Unopened { spool, why });
+        log.write(
+            Heading::error(utc_milliseconds(rt)),
+            &Unopened { spool, why },
+        );
     }
 }
 
@@ -30,7 +33,10 @@ pub(crate) fn log_cause<R: Clock, L: Write + Drop>(
     cause: Option<Error>,
 ) {
     if let Some(error) = cause {
-        log.write(utc_seconds(rt), &Failed { spool, error });
+        log.write(
+            Heading::error(utc_milliseconds(rt)),
+            &Failed { spool, error },
+        );
     }
 }
 

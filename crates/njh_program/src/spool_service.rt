@@ -14,8 +14,8 @@ use crate::spool_log::{log_cause, log_unopened};
 use crate::start_log::log_failure;
 use njh_keeper::SpoolKeeper;
 use njh_listing::{FilesFault, SpoolFiles};
-use njh_service::Log;
-use njh_sockets::utc_seconds;
+use njh_service::{Heading, Log};
+use njh_sockets::utc_milliseconds;
 use njh_spoolfile::{Origin, Store};
 use njh_subcommands::{Failure, tables_of};
 use sqlite::Start;
@@ -56,7 +56,7 @@ pub(crate) fn serve_spool_file<
 /// Logs that a spool file's log is gone, if it is.
 fn log_gone<R: Clock, L: Write + Drop>(rt: &R, spool: &str, is_gone: bool, log: &mut Log<L>) {
     if is_gone {
-        log.write(utc_seconds(rt), &LogGone { spool });
+        log.write(Heading::error(utc_milliseconds(rt)), &LogGone { spool });
     }
 }
 
@@ -162,7 +162,10 @@ fn log_strangers<F: Files + Clock + AllocGlobal, R: Clock, S: Origin + Drop, L: 
     match strangers {
         Ok(0) => Ok(()),
         Ok(count) => {
-            log.write(utc_seconds(rt), &Strangers { spool, count });
+            log.write(
+                Heading::warning(utc_milliseconds(rt)),
+                &Strangers { spool, count },
+            );
             Ok(())
         }
         Err(error) => Err(Failure::Files(FilesFault::from(error))),

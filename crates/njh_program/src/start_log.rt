@@ -1,8 +1,8 @@
 //! What the log says of a table file from which no lines are served.
 
 use njh_check::fault_text;
-use njh_service::Log;
-use njh_sockets::utc_seconds;
+use njh_service::{Heading, Log};
+use njh_sockets::utc_milliseconds;
 use njh_subcommands::{Failure, table_bytes};
 use std::fmt;
 use std::fs::File;
@@ -19,7 +19,7 @@ pub(crate) fn log_failure<F: Files + Clock + AllocGlobal, L: Write + Drop>(
     log_fault(rt, path, log);
     if is_device(failure) {
         log.write(
-            utc_seconds(rt),
+            Heading::error(utc_milliseconds(rt)),
             &Unread {
                 path,
                 why: why_unread(rt, path),
@@ -42,7 +42,7 @@ fn log_fault<F: Files + Clock + AllocGlobal, L: Write + Drop>(
     };
     if let Ok(Some(fault)) = fault_text(rt.alloc(), text) {
         let why = fault.as_str();
-        log.write(utc_seconds(rt), &Unread { path, why });
+        log.write(Heading::error(utc_milliseconds(rt)), &Unread { path, why });
     }
 }
 

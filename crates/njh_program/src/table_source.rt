@@ -3,10 +3,12 @@
 ghost use Rattle.std.specs.Prelude.{◌≡◌, ◌≤◌, vec_len, IfOk, IfSome};
 ghost use Rattle.njh_subcommands.specs.TableBytes.{AreGivenWithin, max_changed_bytes};
 
+use njh_check::fault_text;
 use njh_io::{ReadFault, read_text};
 use njh_service::TableSource;
 use njh_subcommands::tables_in;
 use njh_table::{TableFault, Tables};
+use std::alloc::Global;
 use std::fs;
 use std::fs::File;
 use std::io::ErrorKind;
@@ -18,8 +20,11 @@ use thiserror::Error;
 const MAX_CHANGED_BYTES: usize = 2_000_000;
 
 /// Why a table file that changed gives no tables.
-#[derive(Clone, Copy, Debug, PartialEq, Eq, Error)]
+#[derive(Debug, Drop, Error)]
 pub enum ChangeFault {
+    /// It isn't there any more.
+    #[error("not found")]
+    Gone,
     /// It can't be read.
     #[error("not readable")]
     Unread,
@@ -29,9 +34,12 @@ pub enum ChangeFault {
     /// It has more bytes than are read while a hub runs.
     #[error("longer than 2000000 bytes")]
     TooLong,
-    /// It is refused.
+    /// It is refused for this fault, of which there is no memory to say the place.
     #[error("{0}")]
     Tables(TableFault),
+    /// It is refused for this fault at this place, as `check` tells them.
+    #[error("{0}")]
+    Found(String),
 }
 
 /// What tells one state of a file from another.
@@ -64,19 +72,21 @@ impl<'a, R: Files + AllocGlobal> TableFileSource<'a, R> {
 impl<R: Files + AllocGlobal> TableSource for TableFileSource<'_, R> {
     type Fault = ChangeFault;
 
-    /// The tables of the file, or why it gives none, if it isn't as it was at the last look. One
-    /// that is gone is as it was.
+    /// The tables of the file, or why it gives none, if it isn't as it was at the last look.
     ///
     /// Its time and its length are looked at, and no more than 2 MB of it are read.
     fn changed(&mut self) -> Option<Result<Tables, ChangeFault>>
         ensures { IfSome result (λ read. IfOk read (AreGivenWithin max_changed_bytes)) }
     {
-        let stamp = stamp_of(self.rt, self.path)?;
-        if self.seen == Some(stamp) {
+        let stamp = stamp_of(self.rt, self.path);
+        if self.seen == stamp {
             return None;
         }
-        self.seen = Some(stamp);
-        Some(changed_tables(self.rt, self.path))
+        self.seen = stamp;
+        match stamp {
+            Some(_) => Some(changed_tables(self.rt, self.path)),
+            None => Some(Err(ChangeFault::Gone)),
+        }
     }
 }
 
@@ -96,7 +106,18 @@ fn changed_tables<R: Files + AllocGlobal>(rt: &R, path: &str) -> Result<Tables, 
     let bytes = changed_bytes(rt, path)?;
     match tables_in(rt.alloc(), &bytes) {
         Ok(tables) => Ok(tables),
-        Err(fault) => Err(ChangeFault::Tables(fault)),
+        Err(fault) => Err(fault_in(rt.alloc(), &bytes, fault)),
+    }
+}
+
+/// Why these bytes are refused, which have this fault.
+fn fault_in(alloc: Global, bytes: &[u8], fault: TableFault) -> ChangeFault {
+    let Ok(text) = str::from_utf8(bytes) else {
+        return ChangeFault::Tables(fault);
+    };
+    match fault_text(alloc, text) {
+        Ok(Some(found)) => ChangeFault::Found(found),
+        _ => ChangeFault::Tables(fault),
     }
 }
 

@@ -23,3 +23,7 @@ is_shorter old new (Some c) some bytes longer =
     let whole : length old ≡ length new + length (encode_utf8 c) =
     ap length bytes ∙ length-append new (encode_utf8 c) in
     omega (arith, whole, some_byte c)
+
+-- a backslash is one byte
+pub backslash : encode_utf8 92 ≡ 92 ∷ []
+backslash = encode_ascii 92 (lit< tt)

@@ -69,9 +69,10 @@ told_connected label now = if nat_le label.again now
     then record label { connected = true; again = min (now + 1000) 18446744073709551615 }
     else record label { connected = false }
 
-abbrev pub end_event : ConnectionEnd → LogEvent
-end_event ends.Ended = events.Closed
-end_event ends.Closed = events.Closed
-end_event ends.Failed = events.Failed failures.Broken
-end_event ends.Stalled = events.Failed failures.Stalled
-end_event ends.Replaced = events.Failed failures.Replaced
+-- its end, which came early if the peer ended it while a session was on its way up
+abbrev pub end_event : (is_early : Bool) → ConnectionEnd → LogEvent
+end_event is_early ends.Ended = if is_early then events.ClosedEarly else events.Closed
+end_event is_early ends.Closed = events.Closed
+end_event is_early ends.Failed = events.Failed failures.Broken
+end_event is_early ends.Stalled = events.Failed failures.Stalled
+end_event is_early ends.Replaced = events.Failed failures.Replaced

@@ -4,7 +4,7 @@ use Rattle.std.specs.declared.net.socket_addr.SocketAddr.{SocketAddr}
 use Rattle.njh_service.specs.declared.door.Door.{Door}
 use Rattle.njh_service.specs.declared.door.Door.TheVariants.{Open, Shut}
 use Rattle.njh_service.specs.declared.entry.LogEvent.{LogEvent}
-use Rattle.njh_service.specs.declared.entry.LogEvent.TheVariants.{ListenFailed}
+use Rattle.njh_service.specs.declared.entry.LogEvent.TheVariants as events
 use Rattle.njh_service.specs.declared.opening.ListenCause.{ListenCause}
 use Rattle.njh_service.specs.declared.site.Site.{Site}
 use Rattle.njh_service.specs.declared.site.Site.TheVariants.{Listens, Dials}
@@ -45,8 +45,8 @@ IsBegun strict now (Listens (Open listener)) = ⊤
 IsBegun strict now (Listens (Shut address cause again)) = (strict ≡ false) × (again ≡ tried_again_at now)
 IsBegun strict now (Dials peer) = ⊤
 
--- what is told of a line's site at the start
-abbrev pub begin_event : {L : Type 0} → Site (Door L) SocketAddr → Option LogEvent
-begin_event (Listens (Open listener)) = None
-begin_event (Listens (Shut address cause again)) = Some (ListenFailed address cause)
-begin_event (Dials peer) = None
+-- what is told of a line's site at the start, by the address on which it is to listen if it doesn't dial
+abbrev pub begin_event : {L : Type 0} → SocketAddr → Site (Door L) SocketAddr → LogEvent
+begin_event address (Listens (Open listener)) = events.Listening address
+begin_event address (Listens (Shut own cause again)) = events.ListenFailed address cause
+begin_event address (Dials peer) = events.Dials peer

@@ -30,3 +30,4 @@ IsPassedOver None = ⊥
 IsPassedOver (Some (outcomes.Refused fault)) = ⊥
 IsPassedOver (Some (outcomes.Differs difference)) = ⊤
 IsPassedOver (Some outcomes.Same) = ⊥
+IsPassedOver (Some (outcomes.Taken before)) = ⊥

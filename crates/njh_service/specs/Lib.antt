@@ -1,4 +1,5 @@
 pub mod Attention
+pub mod Awaiting
 pub mod Connecting
 pub mod Dialling
 pub mod Doors
@@ -7,11 +8,13 @@ pub mod Giving
 pub mod Handles
 pub mod Logging
 pub mod News
+pub mod Objects
 pub mod Opened
 pub mod Prompting
 pub mod Revisions
 pub mod Serving
 pub mod Sessions
+pub mod Severities
 pub mod Telling
 pub mod Waking
 pub mod Watching

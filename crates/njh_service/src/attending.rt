@@ -35,10 +35,12 @@ impl<N: Network + Drop, L: Write + Drop, S: TableSource + Drop> Attendant<LineWi
     fn order_done(
         &mut self,
         _hub: &Hub,
-        _new: &NewOrder,
-        _answer: Result<(), HubFault>,
-        _replies: &Replies,
-    ) {}
+        new: &NewOrder,
+        answer: Result<(), HubFault>,
+        replies: &Replies,
+    ) {
+        self.desk.tell_order(new, answer, replies);
+    }
 
     fn is_due(&self, place: usize) -> bool {
         self.is_due(place)
@@ -49,6 +51,7 @@ impl<N: Network + Drop, L: Write + Drop, S: TableSource + Drop> Attendant<LineWi
     }
 
     fn after(&mut self, hub: &Hub, wires: &mut [LineWire<N::Connection>]) {
+        self.tell_unrouted(hub);
         self.end_round(hub, wires);
     }
 }

@@ -136,11 +136,12 @@ impl<N: Network + Drop, L: Write + Drop> Desk<N, L> {
         }
         wire.connect(connection);
         if let Some(end) = wire.take_end() {
-            self.tell_end(label, end);
+            self.tell_end(label, end, false);
         }
         // That the session before used up its tries ends its own connection, and not this one.
         label.in_session = false;
         label.no_session_since = self.now;
+        label.awaits_again = 0;
         self.tell_connected(label, event);
     }
 
@@ -215,8 +216,9 @@ impl<N: Network + Drop, L: Write + Drop> Desk<N, L> {
         self.tell(label, event);
     }
 
-    /// Tells of the end of a connection that was told.
-    pub(crate) fn tell_end(&mut self, label: &mut Label, end: ConnectionEnd)
+    /// Tells of the end of a connection that was told, and which came early if its session was on
+    /// its way up.
+    pub(crate) fn tell_end(&mut self, label: &mut Label, end: ConnectionEnd, is_early: bool)
         ensures told { label.new ≡ record label.old { connected = false } }
         ensures now { self.new.now ≡ self.old.now }
         ensures logged { IsTrue label.old.connected → IsSome self.old.log.writer →
@@ -227,7 +229,7 @@ impl<N: Network + Drop, L: Write + Drop> Desk<N, L> {
             return;
         }
         label.connected = false;
-        self.tell(label, end_event(end));
+        self.tell(label, end_event(end, is_early));
     }
 }
 
@@ -279,12 +281,18 @@ fn answer_of(made: io::Result<bool>, until: u64, now: u64) -> DialAnswer
     }
 }
 
-/// What is told of a connection's end.
-fn end_event(end: ConnectionEnd) -> LogEvent
-    ensures { result ≡ end_event end }
+/// What is told of a connection's end, which may come early.
+fn end_event(end: ConnectionEnd, is_early: bool) -> LogEvent
+    ensures { result ≡ end_event is_early end }
 {
     match end {
-        ConnectionEnd::Ended => LogEvent::Closed,
+        ConnectionEnd::Ended => {
+            if is_early {
+                LogEvent::ClosedEarly
+            } else {
+                LogEvent::Closed
+            }
+        }
         ConnectionEnd::Closed => LogEvent::Closed,
         ConnectionEnd::Failed => LogEvent::Failed(ConnectionFailure::Broken),
         ConnectionEnd::Stalled => LogEvent::Failed(ConnectionFailure::Stalled),

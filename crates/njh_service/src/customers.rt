@@ -3,6 +3,10 @@
 ghost use Rattle.std.specs.Prelude.{◌≡◌};
 ghost use Rattle.njh_service.specs.Waking.{is_wanted, look_moment, looked, looked_again, marked, pause_for};
 
+use crate::streams::has_come_near;
+use njh_ebcdic::Name;
+use njh_table::Tables;
+
 /// How many customers a hub has at most.
 pub(crate) const CUSTOMERS: usize = 64;
 
@@ -17,6 +21,14 @@ const FILES: u64 = 12_500;
 pub(crate) struct Customers {
     /// Whether it was told that it is near its quota.
     pub(crate) near: [bool; CUSTOMERS],
+    /// Whether it was told that it is near the number of files that it may have.
+    pub(crate) near_files: [bool; CUSTOMERS],
+    /// How many files it may have, whole and coming in; 0 if that isn't known.
+    most_files: [u32; CUSTOMERS],
+    /// What it is called, if that is known.
+    names: [Option<Name>; CUSTOMERS],
+    /// The customer that was given new routes in this round, if one was.
+    pub(crate) rerouted: Option<u16>,
     /// Where its lines are.
     rows: [Row; CUSTOMERS],
 }
@@ -105,7 +117,39 @@ impl Customers {
     pub(crate) fn none() -> Customers {
         Customers {
             near: [false; CUSTOMERS],
+            near_files: [false; CUSTOMERS],
+            most_files: [0; CUSTOMERS],
+            names: [None; CUSTOMERS],
+            rerouted: None,
             rows: [Row::NONE; CUSTOMERS],
+        }
+    }
+
+    /// The customers are those of these tables.
+    pub(crate) fn know(&mut self, tables: &Tables) {
+        let customers = tables.customers();
+        for place in 0..CUSTOMERS {
+            if let Some(customer) = customers.get(place) {
+                self.most_files[place] = customer.files();
+                self.names[place] = Some(customer.name());
+            }
+        }
+    }
+
+    /// What a customer is called.
+    pub(crate) fn name(&self, customer: u16) -> Option<Name> {
+        *self.names.get(usize::from(customer))?
+    }
+
+    /// Whether a customer that has so many whole files has come near the number that it may have.
+    /// Answers that number if so.
+    pub(crate) fn has_come_near_files(&mut self, customer: usize, files: u32) -> Option<u32> {
+        let most = *self.most_files.get(customer)?;
+        let near = self.near_files.get_mut(customer)?;
+        if most > 0 && has_come_near(near, files, most) {
+            Some(most)
+        } else {
+            None
         }
     }
 

@@ -14,12 +14,15 @@ ghost use Rattle.njh_service.specs.Sessions.{HasRefused, IsReady};
 
 use crate::attention::{NOTHING, Watch, is_marked};
 use crate::customers::Customers;
-use crate::entry::{LogEntry, LogEvent, Place};
+use crate::entry::LogEvent;
+use crate::heading::{Heading, Place};
 use crate::log::Log;
 use crate::post::{Label, Post};
 use crate::sessions::sight_of;
+use crate::severity::{Severity, severity_of};
 use crate::site::Site;
 use crate::traffic::{Sight, Traffic};
+use njh_ebcdic::Name;
 use njh_hub::Hub;
 use njh_table::LineId;
 use njh_wire::{Connection, LineWire, Network, Readiness};
@@ -195,17 +198,29 @@ impl<N: Network + Drop, L: Write + Drop> Desk<N, L> {
         ensures now { self.new.now ≡ self.old.now }
         ensures logged { IsSome self.old.log.writer → IsLogged L.contents self.old.log self.new.log }
     {
-        let place = Place::Line(label.customer, label.line.as_str());
-        self.write(&LogEntry { place, event });
+        let place = Place::Line(label.customer, label.line);
+        self.write(severity_of(&event), place, &event);
     }
 
-    /// Writes a line of the log, with the time.
-    pub(crate) fn write<T: fmt::Display>(&mut self, text: &T)
+    /// Tells of a customer.
+    pub(crate) fn tell_of(&mut self, customer: Name, event: LogEvent)
         ensures now { self.new.now ≡ self.old.now }
         ensures logged { IsSome self.old.log.writer → IsLogged L.contents self.old.log self.new.log }
     {
-        let second = self.network.utc();
-        self.log.write(second, text);
+        self.write(severity_of(&event), Place::Customer(customer), &event);
+    }
+
+    /// Writes a line of the log, with the time.
+    pub(crate) fn write<T: fmt::Display>(&mut self, severity: Severity, place: Place, text: &T)
+        ensures now { self.new.now ≡ self.old.now }
+        ensures logged { IsSome self.old.log.writer → IsLogged L.contents self.old.log self.new.log }
+    {
+        let heading = Heading {
+            milliseconds: self.network.utc(),
+            severity,
+            place,
+        };
+        self.log.write(heading, text);
     }
 }
 

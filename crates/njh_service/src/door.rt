@@ -107,15 +107,15 @@ pub(crate) fn admitted<L: Drop>(door: Door<L>, strict: bool) -> Result<Door<L>, 
     }
 }
 
-/// What is told of a line's site at the start.
-pub(crate) fn begin_event<L>(site: &Site<Door<L>, SocketAddr>) -> Option<LogEvent>
-    ensures { result ≡ begin_event site.now }
+/// What is told of a line's site at the start, by the address on which it is to listen if it
+/// doesn't dial.
+pub(crate) fn begin_event<L>(address: SocketAddr, site: &Site<Door<L>, SocketAddr>) -> LogEvent
+    ensures { result ≡ begin_event address site.now }
 {
     match site {
-        Site::Listens(Door::Shut { address, cause, .. }) => Some(LogEvent::ListenFailed(
-            *address, *cause,
-        )),
-        _ => None,
+        Site::Listens(Door::Open(_)) => LogEvent::Listening(address),
+        Site::Listens(Door::Shut { cause, .. }) => LogEvent::ListenFailed(address, *cause),
+        Site::Dials(peer) => LogEvent::Dials(*peer),
     }
 }
 

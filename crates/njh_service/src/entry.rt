@@ -1,9 +1,11 @@
 //! What the log tells.
 
+use crate::awaited::Awaited;
 use crate::last_frame::LastFrame;
 use crate::notice_line::NoticeLine;
 use crate::opening::ListenCause;
 use crate::reasons::{EndText, RefusalText};
+use crate::route_news::RouteNews;
 use njh_block::Stream;
 use njh_ebcdic::{Name, text_of};
 use njh_header::{Destination, FileName, User};
@@ -16,24 +18,6 @@ use std::net::SocketAddr;
 /// A blank in EBCDIC.
 const BLANK: u8 = 0x40;
 
-/// What happened, and where.
-#[derive(Clone, Copy, Drop)]
-pub struct LogEntry<'a> {
-    /// Where it happened.
-    pub place: Place<'a>,
-    /// What happened.
-    pub event: LogEvent,
-}
-
-/// Where something happened.
-#[derive(Clone, Copy, Drop)]
-pub enum Place<'a> {
-    /// On a line of a customer.
-    Line(Name, &'a str),
-    /// With a customer.
-    Customer(Name),
-}
-
 /// Something that an operator wants to know.
 #[derive(Clone, Copy, Drop)]
 pub enum LogEvent {
@@ -43,10 +27,14 @@ pub enum LogEvent {
     ConnectedTo(SocketAddr),
     /// The port of this address can't be listened on, for this cause.
     ListenFailed(SocketAddr, ListenCause),
-    /// The port of this address is listened on, which it couldn't be before.
+    /// The port of this address is listened on: from the start on, or now that it can be.
     Listening(SocketAddr),
+    /// This address is dialled.
+    Dials(SocketAddr),
     /// The peer ended the connection, or the hub did after the tries.
     Closed,
+    /// The peer ended it while a session was on its way up, as if it refused the hub's sign-on.
+    ClosedEarly,
     /// The connection failed.
     Failed(ConnectionFailure),
     /// Nobody could be connected to at this address.
@@ -55,6 +43,8 @@ pub enum LogEvent {
     AcceptFailed,
     /// A sign-on was refused, for this reason: it doesn't fit, or none came where one was due.
     SignOnRefused(Refusal),
+    /// A connection is without a session for ten seconds, or for a minute more, and this is due.
+    NoSession(Awaited),
     /// The session went up or down.
     SessionChanged(SessionChange),
     /// It did both, so many times in all, and this was the last.
@@ -75,8 +65,16 @@ pub enum LogEvent {
     ComingCutOff(Stream),
     /// So many blocks of its quota are used.
     NearQuota(u32, u32),
+    /// It has so many whole files, of those that it may have.
+    NearFiles(u32, u32),
     /// It was given new routes.
     NewRoutes,
+    /// New tables have another route for a node of it.
+    Route(RouteNews),
+    /// Further nodes have another, or stand elsewhere among many.
+    MoreRoutes,
+    /// So many of its files are held whose nodes have no route by its new ones.
+    Unrouted(u32),
     /// Its new routes were refused.
     RoutesRefused(HubFault),
 }
@@ -128,21 +126,6 @@ pub struct FileLine {
     pub blocks: u32,
 }
 
-impl fmt::Display for LogEntry<'_> {
-    fn fmt<W: fmt::Write>(&self, f: &mut fmt::Formatter<W>) -> fmt::Result {
-        write!(f, "{}: {}", self.place, self.event)
-    }
-}
-
-impl fmt::Display for Place<'_> {
-    fn fmt<W: fmt::Write>(&self, f: &mut fmt::Formatter<W>) -> fmt::Result {
-        match self {
-            Place::Line(customer, line) => write!(f, "{customer} {line}"),
-            Place::Customer(customer) => write!(f, "{customer}"),
-        }
-    }
-}
-
 impl fmt::Display for LogEvent {
     fn fmt<W: fmt::Write>(&self, f: &mut fmt::Formatter<W>) -> fmt::Result {
         match self {
@@ -153,13 +136,16 @@ impl fmt::Display for LogEvent {
                 "can't listen on {address}: {cause}"
             ),
             LogEvent::Listening(address) => write!(f, "listens on {address}"),
+            LogEvent::Dials(address) => write!(f, "dials {address}"),
             LogEvent::Closed => write!(f, "closed"),
+            LogEvent::ClosedEarly => write!(f, "closed before a session was up"),
             LogEvent::Failed(failure) => write!(f, "failed: {failure}"),
             LogEvent::DialFailed(address) => write!(f, "no connection to {address}"),
             LogEvent::AcceptFailed => write!(f, "a connection could not be taken"),
             LogEvent::SignOnRefused(refusal) => {
                 write!(f, "sign-on refused: {}", RefusalText(*refusal))
             }
+            LogEvent::NoSession(due) => write!(f, "{due}"),
             LogEvent::SessionChanged(change) => write!(f, "{change}"),
             LogEvent::SessionsChanged(change, count) => {
                 write!(f, "{change}, the last of {count} changes")
@@ -181,7 +167,13 @@ impl fmt::Display for LogEvent {
             ),
             LogEvent::ComingCutOff(stream) => write!(f, "file in cut off: {}", StreamName(*stream)),
             LogEvent::NearQuota(used, quota) => write!(f, "{used} of {quota} blocks are used"),
+            LogEvent::NearFiles(files, most) => write!(f, "{files} of {most} files are there"),
             LogEvent::NewRoutes => write!(f, "new routes"),
+            LogEvent::Route(news) => write!(f, "{news}"),
+            LogEvent::MoreRoutes => write!(f, "further routes differ"),
+            LogEvent::Unrouted(files) => {
+                write!(f, "{files} files are held, since their nodes have no route")
+            }
             LogEvent::RoutesRefused(fault) => write!(f, "new routes refused: {fault}"),
         }
     }

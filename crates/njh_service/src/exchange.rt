@@ -26,6 +26,7 @@ use crate::desk::Desk;
 use crate::door::Door;
 use crate::log::Log;
 use crate::post::{Label, LineNames, Post};
+use crate::ready::{Version, version_of};
 use crate::revision::Revision;
 use crate::site::Site;
 use crate::table_source::TableSource;
@@ -41,6 +42,8 @@ use std::net::SocketAddr;
 /// ends connections, lets out what waits, brings new routes, and writes the log.
 #[derive(Drop)]
 pub struct Exchange<N: Network + Drop, L: Write + Drop, S: TableSource + Drop> {
+    /// The version of the program, as the log tells it.
+    pub(crate) version: Version,
     pub(crate) desk: Desk<N, L>,
     posts: Vec<Post<N::Listener, N::Connection>>,
     ready: Vec<Readiness>,
@@ -75,11 +78,18 @@ impl<N: Network + Drop, L: Write + Drop, S: TableSource + Drop> Model for Exchan
 }
 
 impl<N: Network + Drop, L: Write + Drop, S: TableSource + Drop> Exchange<N, L, S> {
-    /// One that serves no line yet.
-    pub fn new(alloc: Global, network: N, log: Log<L>, revision: Revision<S>) -> Exchange<N, L, S>
+    /// One of this version of the program, which serves no line yet.
+    pub fn new(
+        alloc: Global,
+        version: &str,
+        network: N,
+        log: Log<L>,
+        revision: Revision<S>,
+    ) -> Exchange<N, L, S>
         ensures { result.lines ≡ [] }
     {
         Exchange {
+            version: version_of(version),
             desk: Desk {
                 network,
                 log,

@@ -7,12 +7,28 @@ ghost use Rattle.std.specs.Io.KnownBytes.{Appends};
 ghost use Rattle.njh_service.specs.Logging.{log_onto, one_dropped, IsLine, IsLogged, Begins, GoesOut};
 ghost use Rattle.njh_service.specs.code.Logs.{HasTold, Sends, Tells};
 
+use crate::heading::Heading;
 use crate::line_text::LineText;
-use crate::moment::Moment;
 use std::fmt;
-use std::fmt::Write as _;
 use std::io::Write;
 use std::marker::Model;
+
+/// How the lines of a log are written.
+#[derive(Clone, Copy, Debug, Drop, PartialEq, Eq)]
+pub struct LogStyle {
+    /// Each as an object (RFC 8259); else as a text.
+    pub is_json: bool,
+    /// Each behind its priority, as `<4>` (sd-daemon(3)).
+    pub has_priority: bool,
+}
+
+impl LogStyle {
+    /// Texts without a priority.
+    pub const PLAIN: LogStyle = LogStyle {
+        is_json: false,
+        has_priority: false,
+    };
+}
 
 /// Writes lines, each with its time. It never waits for its writer and never fails.
 ///
@@ -22,6 +38,7 @@ use std::marker::Model;
 #[derive(Drop)]
 pub struct Log<L: Write + Drop> {
     writer: Option<L>,
+    style: LogStyle,
     line: LineText,
     /// How many bytes of `line` went out.
     out: usize,
@@ -38,12 +55,13 @@ impl<L: Write + Drop> Model for Log<L> {
 }
 
 impl<L: Write + Drop> Log<L> {
-    /// A log onto a writer, or none.
-    pub fn new(writer: Option<L>) -> Log<L>
+    /// A log onto a writer, or none, of lines that are written so.
+    pub fn new(writer: Option<L>, style: LogStyle) -> Log<L>
         ensures { result ≡ log_onto writer }
     {
         Log {
             writer,
+            style,
             line: LineText::new(),
             out: 0,
             dropped: 0,
@@ -64,15 +82,15 @@ impl<L: Write + Drop> Log<L> {
         self.dropped
     }
 
-    /// Writes a line, at so many seconds since 1970.
-    pub fn write<D: fmt::Display>(&mut self, second: i64, text: &D)
+    /// Writes a line.
+    pub fn write<D: fmt::Display>(&mut self, heading: Heading, text: &D)
         ensures none { self.old.writer ≡ None → self.new ≡ self.old }
         ensures logged { IsSome self.old.writer → IsLogged L.contents self.old self.new }
     {
         if self.writer.is_none() {
             return;
         }
-        if !self.tell(second, text) {
+        if !self.tell(heading, text) {
             self.count();
         }
     }
@@ -85,17 +103,17 @@ impl<L: Write + Drop> Log<L> {
     }
 
     /// Tells a line. Says whether it goes out, in whole or in part.
-    fn tell<D: fmt::Display>(&mut self, second: i64, text: &D) -> bool
+    fn tell<D: fmt::Display>(&mut self, heading: Heading, text: &D) -> bool
         requires { IsSome self.old.writer }
         ensures out { OnTrue result (IsLogged L.contents self.old self.new) }
         ensures dropped { OnFalse result (IsLogged L.contents self.old (one_dropped self.new)) }
     {
-        self.make_way(second) && self.begin(second, text)
+        self.make_way(heading.milliseconds) && self.begin(heading, text)
     }
 
     /// Makes way for a line: hands the writer what is left of one, and tells how many were dropped,
     /// if any. Says whether nothing is left then.
-    fn make_way(&mut self, second: i64) -> bool
+    fn make_way(&mut self, milliseconds: i64) -> bool
         requires { IsSome self.old.writer }
         ensures free { OnTrue result ((telling : List ℕ) × HasTold L.contents self.old self.new telling) }
         ensures dropped { OnFalse result (IsLogged L.contents self.old (one_dropped self.new)) }
@@ -103,11 +121,11 @@ impl<L: Write + Drop> Log<L> {
         if !self.go_on() {
             return false;
         }
-        self.tell_dropped(second) && self.go_on()
+        self.tell_dropped(milliseconds) && self.go_on()
     }
 
     /// Tells how many lines were dropped, if any. Says whether a further line may follow it.
-    fn tell_dropped(&mut self, second: i64) -> bool
+    fn tell_dropped(&mut self, milliseconds: i64) -> bool
         requires writer { IsSome self.old.writer }
         requires left { self.old.left ≡ [] }
         ensures told { OnTrue result ((telling : List ℕ) × Tells L.contents self.old self.new telling) }
@@ -118,7 +136,7 @@ impl<L: Write + Drop> Log<L> {
             return true;
         }
         let dropped = Dropped(self.dropped);
-        if self.begin(second, &dropped) {
+        if self.begin(Heading::warning(milliseconds), &dropped) {
             self.dropped = 0;
             return true;
         }
@@ -126,14 +144,14 @@ impl<L: Write + Drop> Log<L> {
     }
 
     /// Hands the writer a new line. If it takes nothing of it, the line is gone.
-    fn begin<D: fmt::Display>(&mut self, second: i64, text: &D) -> bool
+    fn begin<D: fmt::Display>(&mut self, heading: Heading, text: &D) -> bool
         requires writer { IsSome self.old.writer }
         requires left { self.old.left ≡ [] }
         ensures begun { OnTrue result ((line : List ℕ) × Begins L.contents self.old self.new [] line) }
         ensures gone { OnFalse result (GoesOut L.contents self.old self.new [] × (self.new.left ≡ [])) }
         ensures dropped { self.new.dropped ≡ self.old.dropped }
     {
-        self.set(second, text);
+        self.set(heading, text);
         if self.send() == 0 {
             self.line.clear();
             return false;
@@ -142,14 +160,13 @@ impl<L: Write + Drop> Log<L> {
     }
 
     /// Makes a line.
-    fn set<D: fmt::Display>(&mut self, second: i64, text: &D)
+    fn set<D: fmt::Display>(&mut self, heading: Heading, text: &D)
         ensures line { IsLine self.new.left }
         ensures rest { self.new ≡ record self.old { left = self.new.left } }
     {
         self.out = 0;
         self.line.clear();
-        let time = Moment(second);
-        let _whole = write!(self.line, "{time} {text}").is_ok();
+        self.line.add(self.style, &heading, text);
         self.line.end();
     }
 

@@ -3,16 +3,16 @@
 use jiff::Timestamp;
 use std::fmt;
 
-/// So many seconds since 1970, shown as a date and a time in UTC.
+/// So many milliseconds since 1970, shown as a date and a time in UTC.
 #[derive(Clone, Copy, Debug, Drop)]
 pub(crate) struct Moment(pub(crate) i64);
 
 impl fmt::Display for Moment {
     fn fmt<W: fmt::Write>(&self, f: &mut fmt::Formatter<W>) -> fmt::Result {
-        let second = self.0;
-        match Timestamp::from_second(second) {
-            Ok(time) => write!(f, "{time}"),
-            Err(_) => write!(f, "{second}"),
+        let milliseconds = self.0;
+        match Timestamp::from_millisecond(milliseconds) {
+            Ok(time) => write!(f, "{time:.3}"),
+            Err(_) => write!(f, "{milliseconds}"),
         }
     }
 }

@@ -11,16 +11,18 @@ use crate::door::{Door, begin_event};
 use crate::endpoints::{Endpoint, endpoints_of};
 use crate::exchange::Exchange;
 use crate::fault::ServeFault;
+use crate::heading::Place;
 use crate::opening::{ListenCause, Listening, open};
 use crate::post::{Label, LineNames};
 use crate::refusal::Refusal;
+use crate::severity::Severity;
 use crate::site::Site;
 use crate::table_source::TableSource;
 use njh_table::{LineId, Tables};
 use njh_wire::Network;
 use std::alloc::{AllocError, Global};
 use std::io::Write;
-use std::net::SocketAddr;
+use std::net::{IpAddr, SocketAddr};
 
 impl<N: Network + Drop, L: Write + Drop, S: TableSource + Drop> Exchange<N, L, S> {
     /// Opens the sockets of the lines of tables that have a port or a peer, and serves these lines.
@@ -41,13 +43,24 @@ impl<N: Network + Drop, L: Write + Drop, S: TableSource + Drop> Exchange<N, L, S
     {
         let endpoints = endpoints_of(alloc, tables)?;
         if needed && endpoints.is_empty() {
-            self.desk
-                .write(&"no line of the tables has a port or a peer");
+            self.desk.write(
+                Severity::Error,
+                Place::Hub,
+                &"no line of the tables has a port or a peer",
+            );
             return Err(ServeFault::Device);
         }
+        self.know_customers(tables);
         let sites = self.sites_on(alloc, tables, listening, &endpoints)?;
-        self.add_lines(tables, &endpoints, sites)?;
+        self.add_lines(tables, listening.address, &endpoints, sites)?;
         Ok(endpoints)
+    }
+
+    /// Knows the customers of tables by their names, which the log has.
+    fn know_customers(&mut self, tables: &Tables)
+        ensures { self.new.lines ≡ self.old.lines }
+    {
+        self.desk.customers.know(tables);
     }
 
     /// The sockets of lines. If one can't be opened the log says why.
@@ -67,17 +80,19 @@ impl<N: Network + Drop, L: Write + Drop, S: TableSource + Drop> Exchange<N, L, S
         match open(alloc, &mut self.desk.network, listening, now, endpoints) {
             Ok(sites) => Ok(sites),
             Err(fault) => {
-                self.desk.write(&Refusal::of(tables, endpoints, fault));
+                let refusal = Refusal::of(tables, endpoints, fault);
+                self.desk.write(Severity::Error, Place::Hub, &refusal);
                 Err(fault_of(fault.cause))
             }
         }
     }
 
-    /// Serves lines of tables, each at its site. The log tells of the ports that can't be listened
-    /// on.
+    /// Serves lines of tables, each at its site. The log tells where each listens or what it dials,
+    /// and of the ports that can't be listened on.
     fn add_lines(
         &mut self,
         tables: &Tables,
+        own: IpAddr,
         endpoints: &[Endpoint],
         sites: Vec<Site<Door<N::Listener>, SocketAddr>>,
     ) -> Result<(), AllocError>
@@ -92,20 +107,31 @@ impl<N: Network + Drop, L: Write + Drop, S: TableSource + Drop> Exchange<N, L, S
                 return Ok(());
             };
             let names = names_of(tables, endpoint.line);
-            self.tell_site(&names, &site);
+            self.tell_site(&names, address_in(own, endpoint), &site);
             self.add(endpoint.line, &names, site)?;
         }
         Ok(())
     }
 
-    /// Tells of a line's port if it can't be listened on.
-    fn tell_site(&mut self, names: &LineNames<'_>, site: &Site<Door<N::Listener>, SocketAddr>)
+    /// Tells of a line's site, by the address on which it is to listen if it doesn't dial.
+    fn tell_site(
+        &mut self,
+        names: &LineNames<'_>,
+        address: SocketAddr,
+        site: &Site<Door<N::Listener>, SocketAddr>,
+    )
         ensures lines { self.new.lines ≡ self.old.lines }
     {
-        match begin_event(site) {
-            Some(event) => self.desk.tell(&Label::of(names), event),
-            None => {}
-        }
+        self.desk
+            .tell(&Label::of(names), begin_event(address, site));
+    }
+}
+
+/// Where a line is connected: on this address if it listens, or at its peer's.
+fn address_in(own: IpAddr, endpoint: &Endpoint) -> SocketAddr {
+    match endpoint.site {
+        Site::Listens(port) => SocketAddr::new(own, port),
+        Site::Dials(peer) => peer,
     }
 }
 

@@ -3,7 +3,9 @@
 ghost use Rattle.std.specs.Prelude.{◌≡◌};
 
 use crate::exchange::Exchange;
+use crate::heading::Place;
 use crate::line_text::LineText;
+use crate::severity::Severity;
 use crate::table_source::TableSource;
 use njh_turns::Depot;
 use njh_wire::Network;
@@ -29,7 +31,7 @@ impl<N: Network + Drop, L: Write + Drop, S: TableSource + Drop> Exchange<N, L, S
         if depot.tell(number, &mut text).is_none() {
             return false;
         }
-        self.desk.write(&text);
+        self.desk.write(Severity::Warning, Place::Hub, &text);
         true
     }
 }

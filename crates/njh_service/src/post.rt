@@ -62,6 +62,8 @@ pub(crate) struct Label {
     pub(crate) refusals: u64,
     /// Until when it takes no connection, on the service's clock.
     pub(crate) barred_until: u64,
+    /// From when on it may be told that its connection is without a session.
+    pub(crate) awaits_again: u64,
 }
 
 impl Label {
@@ -80,6 +82,7 @@ impl Label {
             tries_since: None,
             refusals: 0,
             barred_until: 0,
+            awaits_again: 0,
             again: 0,
             connected: false,
         }

@@ -4,10 +4,12 @@ ghost use Rattle.std.specs.Prelude.{◌≡◌, IfSome};
 ghost use Rattle.njh_table.specs.TableFile.{customer_at};
 ghost use Rattle.njh_service.specs.Revisions.{AreKept, given_routes};
 
-use crate::entry::{LogEntry, LogEvent, Place};
+use crate::entry::LogEvent;
 use crate::exchange::Exchange;
+use crate::heading::Place;
+use crate::revision::SourceOutcome;
 use crate::table_source::TableSource;
-use njh_hub::HubFault;
+use njh_hub::{Hub, HubFault};
 use njh_turns::NewRoutes;
 use njh_wire::Network;
 use std::io::Write;
@@ -36,10 +38,15 @@ impl<N: Network + Drop, L: Write + Drop, S: TableSource + Drop> Exchange<N, L, S
         ensures lines { self.new.lines ≡ self.old.lines }
         ensures kept { AreKept self.old.tables self.new.tables }
     {
-        let Some(notice) = self.revision.look(self.desk.now) else {
+        let Some(outcome) = self.revision.look(self.desk.now) else {
             return;
         };
-        self.desk.write(&notice);
+        self.desk.write(outcome.severity(), Place::Hub, &outcome);
+        if let SourceOutcome::Taken(before) = &outcome {
+            if let Some(tables) = self.revision.tables() {
+                self.desk.tell_new_routes(before, tables);
+            }
+        }
     }
 
     /// Tells what came of a customer's new routes. By routes that it was given its lines may have
@@ -52,11 +59,29 @@ impl<N: Network + Drop, L: Write + Drop, S: TableSource + Drop> Exchange<N, L, S
         let Some(name) = self.revision.note_routes(customer, answer.is_ok()) else {
             return;
         };
+        self.desk.customers.rerouted = Some(customer);
         let event = match answer {
             Ok(()) => LogEvent::NewRoutes,
             Err(fault) => LogEvent::RoutesRefused(fault),
         };
-        let place = Place::Customer(name);
-        self.desk.write(&LogEntry { place, event });
+        self.desk.tell_of(name, event);
+    }
+
+    /// Tells how many files are held whose nodes have no route, of a customer that was given new
+    /// routes in this round.
+    pub(crate) fn tell_unrouted(&mut self, hub: &Hub)
+        ensures lines { self.new.lines ≡ self.old.lines }
+        ensures tables { self.new.tables ≡ self.old.tables }
+    {
+        let Some(customer) = self.desk.customers.rerouted else {
+            return;
+        };
+        self.desk.customers.rerouted = None;
+        let Some((name, files)) = self.revision.unrouted(customer, hub) else {
+            return;
+        };
+        if files > 0 {
+            self.desk.tell_of(name, LogEvent::Unrouted(files));
+        }
     }
 }

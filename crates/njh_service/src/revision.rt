@@ -7,10 +7,12 @@ ghost use Rattle.njh_service.specs.Revisions.{given_routes, AreKept};
 
 use crate::customer_routes::{have_other_routes, routes_of};
 use crate::difference::{Difference, difference_of};
+use crate::severity::Severity;
 use crate::table_source::{NoSource, TableSource};
 use njh_ebcdic::Name;
-use njh_hub::{GivenRoutes, HubFault};
-use njh_table::Tables;
+use njh_hub::{FileSummaryView, GivenRoutes, Hub, HubFault};
+use njh_spool::State;
+use njh_table::{NamedCustomer, Route, Tables};
 use njh_turns::NewRoutes;
 use std::alloc::{AllocError, Global};
 use std::fmt;
@@ -63,6 +65,8 @@ pub enum SourceOutcome<F: Drop> {
     Differs(Difference),
     /// No routes differ.
     Same,
+    /// Routes differ from those of these tables, and its own are taken in their place.
+    Taken(Tables),
 }
 
 impl Revision<NoSource> {
@@ -138,11 +142,14 @@ impl<S: TableSource + Drop> Revision<S> {
         }
         let differ = mark(&mut self.route_states, known, &tables);
         self.next = 0;
-        self.tables = Some(tables);
-        if differ {
-            None
-        } else {
-            Some(SourceOutcome::Same)
+        let before = std::mem::replace(&mut self.tables, Some(tables));
+        if !differ {
+            drop(before);
+            return Some(SourceOutcome::Same);
+        }
+        match before {
+            Some(before) => Some(SourceOutcome::Taken(before)),
+            None => None,
         }
     }
 
@@ -172,6 +179,17 @@ impl<S: TableSource + Drop> Revision<S> {
         u16::try_from(place).ok()
     }
 
+    /// The name of a customer, and how many of its whole files are held whose nodes have no route by
+    /// the tables that were last taken.
+    pub(crate) fn unrouted(&self, customer: u16, hub: &Hub) -> Option<(Name, u32)> {
+        let entry = self
+            .tables
+            .as_ref()?
+            .customers()
+            .get(usize::from(customer))?;
+        Some((entry.name(), unrouted_files(customer, entry, hub)))
+    }
+
     /// Notes whether a customer has its routes now. Answers its name.
     pub fn note_routes(&mut self, customer: u16, given: bool) -> Option<Name>
         ensures { self.new ≡ self.old }
@@ -186,6 +204,28 @@ impl<S: TableSource + Drop> Revision<S> {
             .customers()
             .get(usize::from(customer))?;
         Some(customer.name())
+    }
+}
+
+/// How many whole files of a customer are held whose nodes have no route by its entry.
+fn unrouted_files(customer: u16, entry: &NamedCustomer, hub: &Hub) -> u32 {
+    let mut files = 0u32;
+    for index in 0..hub.file_count(customer) {
+        if is_unrouted(&hub.summary_at(customer, index), entry) {
+            files = files.saturating_add(1);
+        }
+    }
+    files
+}
+
+/// Whether a file is held and its node has no route by its customer's entry.
+fn is_unrouted(file: &FileSummaryView, entry: &NamedCustomer) -> bool {
+    if file.state != State::Held {
+        return false;
+    }
+    match Name::of_field(&file.destination.node) {
+        Ok(node) => entry.route(node) == Route::Unknown,
+        Err(_) => false,
     }
 }
 
@@ -259,6 +299,18 @@ fn differ_at(place: usize, known: &Tables, tables: &Tables) -> bool {
     }
 }
 
+impl<F: fmt::Display + Drop> SourceOutcome<F> {
+    /// How grave it is.
+    pub(crate) fn severity(&self) -> Severity {
+        match self {
+            SourceOutcome::Refused(_) => Severity::Error,
+            SourceOutcome::Differs(_) => Severity::Warning,
+            SourceOutcome::Same => Severity::Information,
+            SourceOutcome::Taken(_) => Severity::Information,
+        }
+    }
+}
+
 impl<F: fmt::Display + Drop> fmt::Display for SourceOutcome<F> {
     fn fmt<W: fmt::Write>(&self, f: &mut fmt::Formatter<W>) -> fmt::Result {
         match self {
@@ -268,6 +320,7 @@ impl<F: fmt::Display + Drop> fmt::Display for SourceOutcome<F> {
                 "table file: {difference}; nothing changes"
             ),
             SourceOutcome::Same => write!(f, "table file: no new routes"),
+            SourceOutcome::Taken(_) => write!(f, "table file: new routes"),
         }
     }
 }

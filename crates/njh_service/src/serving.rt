@@ -119,9 +119,11 @@ fn service_of<N: Network + Drop, L: Write + Drop, S: TableSource + Drop, D: Depo
     ensures places { IfOk result (λ service. ArePlaced service.wires) }
     ensures settled { IfOk result (λ service. IsSettled D.says service.depot service.hub) }
 {
+    let customers = tables.customers().len();
     match depot.open(alloc, tables) {
         Ok(hub) => {
             exchange.tell_opened(&depot);
+            exchange.tell_ready(customers, endpoints.len(), &hub);
             service_over(alloc, hub, depot, endpoints, exchange)
         }
         Err(fault) => Err((ServeFault::from(fault), depot, exchange)),

@@ -6,6 +6,7 @@ ghost use Rattle.njh_hub.specs.Views.{HasGivenUp, hub_line, line_view};
 ghost use Rattle.njh_hub.specs.WholeHub.{HasLine};
 ghost use Rattle.njh_wire.specs.Standing.{after_close};
 ghost use Rattle.njh_wire.specs.Tally.{tally};
+ghost use Rattle.njh_service.specs.Awaiting.{awaits_again, told_awaited};
 ghost use Rattle.njh_service.specs.Connecting.{silence_of, IsConnected};
 ghost use Rattle.njh_service.specs.Dialling.{moment_of_loss};
 ghost use Rattle.njh_service.specs.Logging.{IsLogged};
@@ -15,9 +16,10 @@ ghost use Rattle.njh_service.specs.Prompting.{HasSeen};
 ghost use Rattle.njh_service.specs.Sessions.{barred_until, moment_seen, news_seen, tries_end};
 ghost use Rattle.njh_service.specs.Sessions.{HasRefused, IsInSession, IsReady};
 
+use crate::awaited::{awaits_again, due_next, is_told};
 use crate::desk::Desk;
 use crate::ending::{refusal_event, session_end, tries_end};
-use crate::entry::SessionEnd;
+use crate::entry::{LogEvent, SessionEnd};
 use crate::post::{Label, Post};
 use crate::traffic::Sight;
 use njh_hub::{Hub, SessionView};
@@ -81,11 +83,13 @@ impl<N: Network + Drop, L: Write + Drop> Desk<N, L> {
         let gave_up = self.end_tries(post.line, &post.label, hub, wire);
         let is_refused = self.end_refused(&mut post.label, &session, wire);
         let end = heard_end(wire, gave_up.is_some() || is_refused);
+        let is_early = post.label.in_session && !post.label.up;
         post.see(session, session_end(gave_up, session.last_end), now);
         self.tell_files(post.line, &post.label, &mut post.streams, hub);
         self.tell_sessions(&mut post.label, now);
+        self.tell_awaited(&mut post.label, &session, wire.is_connected());
         if let Some(end) = end {
-            self.tell_end(&mut post.label, end);
+            self.tell_end(&mut post.label, end, is_early);
             post.lose(now);
         }
     }
@@ -154,6 +158,45 @@ impl<N: Network + Drop, L: Write + Drop> Desk<N, L> {
             Some(event) => self.tell(label, event),
             None => {}
         }
+    }
+
+    /// Tells what is due on a line that has a connection without a session, if it is to be told
+    /// now.
+    fn tell_awaited(&mut self, label: &mut Label, session: &SessionView, is_connected: bool)
+        ensures now { self.new.now ≡ self.old.now }
+        ensures news { label.new.news ≡ label.old.news }
+        ensures told { IsSome (told_awaited label.old session.now is_connected self.old.now) →
+            label.new ≡ record label.old { awaits_again = awaits_again self.old.now } }
+        ensures silent { told_awaited label.old session.now is_connected self.old.now ≡ None →
+            (label.new ≡ label.old) × (self.new ≡ self.old) }
+        ensures logged { IsSome (told_awaited label.old session.now is_connected self.old.now) →
+            IsSome self.old.log.writer → IsLogged L.contents self.old.log self.new.log }
+    {
+        match awaited_event(label, session, is_connected, self.now) {
+            Some(event) => {
+                label.awaits_again = awaits_again(self.now);
+                self.tell(label, event);
+            }
+            None => {}
+        }
+    }
+}
+
+/// What is told of a line whose session was seen so, if it has a connection without a session.
+fn awaited_event(
+    label: &Label,
+    session: &SessionView,
+    is_connected: bool,
+    now: u64,
+) -> Option<LogEvent>
+    ensures { result ≡ told_awaited label.now session.now is_connected now }
+{
+    if !(is_connected && is_told(label.no_session_since, label.awaits_again, now)) {
+        return None;
+    }
+    match due_next(session.phase, session.role) {
+        Some(what) => Some(LogEvent::NoSession(what)),
+        None => None,
     }
 }
 

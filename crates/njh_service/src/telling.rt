@@ -5,7 +5,7 @@ ghost use Rattle.njh_service.specs.Telling.{arrival, departure, loss, state_on};
 ghost use Rattle.njh_service.specs.declared.entry.FileLine.{FileLine};
 
 use crate::desk::Desk;
-use crate::entry::{FileLine, LogEntry, LogEvent, Place};
+use crate::entry::{FileLine, LogEvent};
 use crate::notice_line::NoticeLine;
 use crate::post::Label;
 use crate::streams::{
@@ -21,7 +21,7 @@ use std::io::Write;
 
 impl<N: Network + Drop, L: Write + Drop> Desk<N, L> {
     /// Tells which files of a line came, went out or were refused since it was last looked at, and
-    /// whether its customer has come near its quota.
+    /// whether its customer has come near its quota, or near the number of files that it may have.
     pub(crate) fn tell_files(
         &mut self,
         id: LineId,
@@ -32,6 +32,7 @@ impl<N: Network + Drop, L: Write + Drop> Desk<N, L> {
         self.tell_coming(id, label, streams, hub);
         self.tell_going(id, label, streams, hub);
         self.tell_quota(id.customer, label, hub);
+        self.tell_file_count(id.customer, label, hub);
     }
 
     /// Tells of the files that came in.
@@ -104,6 +105,20 @@ impl<N: Network + Drop, L: Write + Drop> Desk<N, L> {
         }
     }
 
+    /// Tells of a customer that has come near the number of files that it may have.
+    fn tell_file_count(&mut self, customer: u16, label: &Label, hub: &Hub) {
+        let files = hub.file_count(customer);
+        match self
+            .customers
+            .has_come_near_files(usize::from(customer), files)
+        {
+            Some(most) => {
+                self.tell_of(label.customer, LogEvent::NearFiles(files, most));
+            }
+            None => {}
+        }
+    }
+
     /// Tells of a customer that has come near its quota.
     fn tell_quota(&mut self, customer: u16, label: &Label, hub: &Hub) {
         let (Ok(used), Ok(quota)) = (hub.used(customer), hub.quota(customer)) else {
@@ -113,9 +128,7 @@ impl<N: Network + Drop, L: Write + Drop> Desk<N, L> {
             return;
         };
         if has_come_near(near, used, quota) {
-            let place = Place::Customer(label.customer);
-            let event = LogEvent::NearQuota(used, quota);
-            self.write(&LogEntry { place, event });
+            self.tell_of(label.customer, LogEvent::NearQuota(used, quota));
         }
     }
 }

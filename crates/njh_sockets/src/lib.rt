@@ -5,4 +5,4 @@ mod connection;
 mod network;
 
 pub use connection::MioConnection;
-pub use network::{MioListener, MioNetwork, utc_seconds};
+pub use network::{MioListener, MioNetwork, utc_milliseconds};

@@ -126,16 +126,16 @@ impl<'a, R: Net + Clock> Network for MioNetwork<'a, R> {
     }
 
     fn utc(&mut self) -> i64 {
-        utc_seconds(self.rt)
+        utc_milliseconds(self.rt)
     }
 }
 
-/// Seconds since the beginning of 1970, 0 if the clock fails or shows an earlier time.
-pub fn utc_seconds<R: Clock>(rt: &R) -> i64
+/// Milliseconds since the beginning of 1970, 0 if the clock fails or shows an earlier time.
+pub fn utc_milliseconds<R: Clock>(rt: &R) -> i64
     ensures { pos 0 ≤ℤ result }
 {
     match SystemTime::now(rt) {
-        Ok(time) => seconds_since_1970(time),
+        Ok(time) => milliseconds_since_1970(time),
         Err(_) => 0,
     }
 }
@@ -198,12 +198,12 @@ fn milliseconds_of(time: Duration) -> u64 {
     u64::try_from(time.as_millis()).unwrap_or(u64::MAX)
 }
 
-/// No seconds if the clock shows a time before 1970.
-fn seconds_since_1970(time: SystemTime) -> i64
+/// None if the clock shows a time before 1970.
+fn milliseconds_since_1970(time: SystemTime) -> i64
     ensures { pos 0 ≤ℤ result }
 {
     match time.duration_since(UNIX_EPOCH) {
-        Ok(since) => i64::try_from(since.as_secs()).unwrap_or(i64::MAX),
+        Ok(since) => i64::try_from(milliseconds_of(since)).unwrap_or(i64::MAX),
         Err(_) => 0,
     }
 }

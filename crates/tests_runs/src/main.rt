@@ -24,7 +24,7 @@ impl<R: Files + Spooling + Net + Clock + AllocGlobal> Program for WholeProgram<'
             bytes: &mut run.logged,
             peer: &mut run.peer,
         };
-        match carry_out(self.rt, words, &mut run.source, &mut run.drain, log) {
+        match carry_out(self.rt, words, &mut run.source, &mut run.drain, log, false) {
             Ok(()) => Ok(0),
             Err(failure) => {
                 let status = failure.status();

@@ -28,15 +28,15 @@ fn dials(rt: HostRuntime) -> Result<(), Fail> {
     ];
     let wanted = "\
 0 dial 9000
-1970-01-01T00:00:00Z ACME a1: no connection to 10.0.0.9:9000
+1970-01-01T00:00:00.000Z ACME a1: no connection to 10.0.0.9:9000
 1000 dial 9000
-1970-01-01T00:00:01Z ACME a1: no connection to 10.0.0.9:9000
+1970-01-01T00:00:01.000Z ACME a1: no connection to 10.0.0.9:9000
 11000 dial 9000
-1970-01-01T00:00:11Z ACME a1: connected to 10.0.0.9:9000
+1970-01-01T00:00:11.000Z ACME a1: connected to 10.0.0.9:9000
 12000 to 0: 012d
-1970-01-01T00:00:12Z ACME a1: closed
+1970-01-01T00:00:12.500Z ACME a1: closed
 13500 dial 9000
-1970-01-01T00:00:23Z ACME a1: no connection to 10.0.0.9:9000
+1970-01-01T00:00:23.500Z ACME a1: no connection to 10.0.0.9:9000
 ";
     play(&rt, rt.alloc(), TABLES, &acts, 23_600, wanted)
 }
@@ -51,8 +51,8 @@ fn late_answer(rt: HostRuntime) -> Result<(), Fail> {
     ];
     let wanted = "\
 0 dial 9000
-1970-01-01T00:00:09Z ACME a1: connected to 10.0.0.9:9000
-1970-01-01T00:00:10Z ACME a1: failed: a read or a write failed
+1970-01-01T00:00:09.990Z ACME a1: connected to 10.0.0.9:9000
+1970-01-01T00:00:10.300Z ACME a1: failed: a read or a write failed
 11300 dial 9000
 ";
     play(&rt, rt.alloc(), TABLES, &acts, 11_400, wanted)

@@ -72,12 +72,12 @@ fn lines_at_the_edges(rt: HostRuntime) -> Result<(), Fail> {
         at(4980, 5, Act::Ends),
     ];
     let wanted = "\
-1970-01-01T00:00:01Z C0 p0: connected from 10.0.0.0:5000
-1970-01-01T00:00:01Z C1 p15: connected from 10.0.0.1:5000
-1970-01-01T00:00:01Z C1 p16: connected from 10.0.0.2:5000
-1970-01-01T00:00:01Z C3 p31: connected from 10.0.0.3:5000
-1970-01-01T00:00:01Z C3 p32: connected from 10.0.0.4:5000
-1970-01-01T00:00:01Z C3 p39: connected from 10.0.0.5:5000
+1970-01-01T00:00:01.000Z C0 p0: connected from 10.0.0.0:5000
+1970-01-01T00:00:01.010Z C1 p15: connected from 10.0.0.1:5000
+1970-01-01T00:00:01.020Z C1 p16: connected from 10.0.0.2:5000
+1970-01-01T00:00:01.030Z C3 p31: connected from 10.0.0.3:5000
+1970-01-01T00:00:01.040Z C3 p32: connected from 10.0.0.4:5000
+1970-01-01T00:00:01.050Z C3 p39: connected from 10.0.0.5:5000
 1550 to 0: 1070
 1560 to 1: 1070
 1570 to 2: 1070
@@ -90,12 +90,12 @@ fn lines_at_the_edges(rt: HostRuntime) -> Result<(), Fail> {
 4080 to 3: 3d
 4090 to 4: 3d
 4100 to 5: 3d
-1970-01-01T00:00:04Z C0 p0: closed
-1970-01-01T00:00:04Z C1 p15: closed
-1970-01-01T00:00:04Z C1 p16: closed
-1970-01-01T00:00:04Z C3 p31: closed
-1970-01-01T00:00:04Z C3 p32: closed
-1970-01-01T00:00:04Z C3 p39: closed
+1970-01-01T00:00:04.430Z C0 p0: closed before a session was up
+1970-01-01T00:00:04.540Z C1 p15: closed before a session was up
+1970-01-01T00:00:04.650Z C1 p16: closed before a session was up
+1970-01-01T00:00:04.760Z C3 p31: closed before a session was up
+1970-01-01T00:00:04.870Z C3 p32: closed before a session was up
+1970-01-01T00:00:04.980Z C3 p39: closed before a session was up
 ";
     let mut tables = Vec::new(rt.alloc());
     add_tables(&mut tables)?;

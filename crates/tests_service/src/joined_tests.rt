@@ -4,7 +4,7 @@
 use crate::joint::Joint;
 use crate::joint_network::{JointLog, JointNetwork};
 use crate::serving::{Player, Rounds, serve};
-use njh_service::{Exchange, Log, Revision};
+use njh_service::{Exchange, Log, LogStyle, Revision};
 use njh_table::Tables;
 use std::alloc::{AllocError, Global};
 use std::net::{IpAddr, Ipv4Addr};
@@ -125,9 +125,10 @@ fn join_by<R: Abort>(rt: &R, alloc: Global, joint: &Joint, case: Case) -> Result
     Ok(())
 }
 
-/// Looks what came of a hub: it connects once and its session goes up, and nothing else.
+/// Looks what came of a hub: it listens or dials, it connects once and its session goes up, and
+/// nothing else.
 fn look<R: Abort>(rt: &R, joint: &Joint, number: usize, case: Case) {
-    assert_eq!(rt; joint.told(number, " j1: "), 2, "hub {number}");
+    assert_eq!(rt; joint.told(number, " j1: "), 3, "hub {number}");
     assert_eq!(rt;
         joint.told(number, " j1: session up with "),
         1,
@@ -158,8 +159,8 @@ fn serve_one<P: Player>(
 ) -> Result<(), Fail> {
     let tables = tables_of(alloc, number, case)?;
     let network = JointNetwork { joint, end: number };
-    let log = Log::new(Some(JointLog { joint, end: number }));
-    let exchange = Exchange::new(alloc, network, log, Revision::none(alloc));
+    let log = Log::new(Some(JointLog { joint, end: number }), LogStyle::PLAIN);
+    let exchange = Exchange::new(alloc, "9.9", network, log, Revision::none(alloc));
     let address = IpAddr::V4(Ipv4Addr::new(10, 0, 0, 1));
     serve(alloc, tables, exchange, address, player)
 }

@@ -105,7 +105,7 @@ impl<'a> Network for JointNetwork<'a> {
     }
 
     fn utc(&mut self) -> i64 {
-        i64::try_from(self.joint.now() / 1000).unwrap_or(0)
+        i64::try_from(self.joint.now()).unwrap_or(0)
     }
 }
 

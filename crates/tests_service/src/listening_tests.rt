@@ -72,19 +72,19 @@ fn silence_ends_after_five_tries(rt: HostRuntime) -> Result<(), Fail> {
         at(17_050, 1, CONTACT),
     ];
     let wanted = "\
-1970-01-01T00:00:01Z ACME a1: connected from 10.0.0.0:5000
+1970-01-01T00:00:01.000Z ACME a1: connected from 10.0.0.0:5000
 1000 to 0: 1070
 1050 to 0: 1002a08fcff0d129c2e4d9c5c1e4404001000000000000040040404040404040404040404040404040\
 0000000000001026
-1970-01-01T00:00:01Z ACME a1: session up with LYON
+1970-01-01T00:00:01.050Z ACME a1: session up with LYON
 3550 to 0: 3d
 6050 to 0: 3d
 8550 to 0: 3d
 11050 to 0: 3d
 13550 to 0: 3d
-1970-01-01T00:00:16Z ACME a1: session down: no answer after five tries
-1970-01-01T00:00:16Z ACME a1: closed
-1970-01-01T00:00:17Z ACME a1: connected from 10.0.0.1:5000
+1970-01-01T00:00:16.050Z ACME a1: session down: no answer after five tries
+1970-01-01T00:00:16.050Z ACME a1: closed
+1970-01-01T00:00:17.000Z ACME a1: connected from 10.0.0.1:5000
 17050 to 1: 1070
 ";
     play(&rt, rt.alloc(), TABLES, &acts, 17_900, wanted)
@@ -114,16 +114,16 @@ fn five_tries_of_a_peer_that_answers(rt: HostRuntime) -> Result<(), Fail> {
 /// Adds what is seen of five tries of a peer that answers each.
 fn add_tries(wanted: &mut Vec<u8>) -> Result<(), AllocError> {
     wanted.extend_from_slice(
-        b"1970-01-01T00:00:01Z ACME a1: connected from 10.0.0.0:5000\n1000 to 0: 1070\n",
+        b"1970-01-01T00:00:01.000Z ACME a1: connected from 10.0.0.0:5000\n1000 to 0: 1070\n",
     )?;
     add_text(wanted, 1050, RESPONSE);
-    wanted.extend_from_slice(b"1970-01-01T00:00:01Z ACME a1: session up with LYON\n")?;
+    wanted.extend_from_slice(b"1970-01-01T00:00:01.050Z ACME a1: session up with LYON\n")?;
     for moment in [2000, 3000, 4000, 5000, 6000] {
         add_text(wanted, moment, RESPONSE);
     }
     wanted.extend_from_slice(
-        b"1970-01-01T00:00:07Z ACME a1: session down: five tries in a row, NAK came last\n\
-        1970-01-01T00:00:07Z ACME a1: closed\n",
+        b"1970-01-01T00:00:07.000Z ACME a1: session down: five tries in a row, NAK came last\n\
+        1970-01-01T00:00:07.000Z ACME a1: closed\n",
     )
 }
 
@@ -139,11 +139,11 @@ fn refused_sign_on(rt: HostRuntime) -> Result<(), Fail> {
         at(1100, 1, CONTACT),
     ];
     let wanted = "\
-1970-01-01T00:00:01Z ACME a1: connected from 10.0.0.0:5000
+1970-01-01T00:00:01.000Z ACME a1: connected from 10.0.0.0:5000
 1000 to 0: 1070
-1970-01-01T00:00:01Z ACME a1: sign-on refused: it is of node LION
-1970-01-01T00:00:01Z ACME a1: closed
-1970-01-01T00:00:02Z ACME a1: connected from 10.0.0.1:5000
+1970-01-01T00:00:01.050Z ACME a1: sign-on refused: it is of node LION
+1970-01-01T00:00:01.050Z ACME a1: closed
+1970-01-01T00:00:02.050Z ACME a1: connected from 10.0.0.1:5000
 2050 to 1: 1070
 ";
     play(&rt, rt.alloc(), TABLES, &acts, 2500, wanted)
@@ -159,9 +159,9 @@ fn another_takes_the_place_after_ten_seconds(rt: HostRuntime) -> Result<(), Fail
         at(2000, 1, CONTACT),
     ];
     let wanted = "\
-1970-01-01T00:00:01Z ACME a1: connected from 10.0.0.0:5000
-1970-01-01T00:00:11Z ACME a1: failed: replaced by another connection
-1970-01-01T00:00:11Z ACME a1: connected from 10.0.0.1:5000
+1970-01-01T00:00:01.000Z ACME a1: connected from 10.0.0.0:5000
+1970-01-01T00:00:11.000Z ACME a1: failed: replaced by another connection
+1970-01-01T00:00:11.000Z ACME a1: connected from 10.0.0.1:5000
 11000 to 1: 1070
 ";
     play(&rt, rt.alloc(), TABLES, &acts, 11_500, wanted)
@@ -181,11 +181,11 @@ fn bytes_without_a_session(rt: HostRuntime) -> Result<(), Fail> {
         at(10_500, 0, nak),
     ];
     let wanted = "\
-1970-01-01T00:00:01Z ACME a1: connected from 10.0.0.0:5000
+1970-01-01T00:00:01.000Z ACME a1: connected from 10.0.0.0:5000
 9000 to 0: 1070
 10500 to 0: 1070
-1970-01-01T00:00:11Z ACME a1: failed: replaced by another connection
-1970-01-01T00:00:11Z ACME a1: connected from 10.0.0.1:5000
+1970-01-01T00:00:11.000Z ACME a1: failed: replaced by another connection
+1970-01-01T00:00:11.000Z ACME a1: connected from 10.0.0.1:5000
 11000 to 1: 1070
 ";
     play(&rt, rt.alloc(), TABLES, &acts, 11_500, wanted)
@@ -201,10 +201,11 @@ fn line_without_a_program(rt: HostRuntime) -> Result<(), Fail> {
         at(61_000, 1, CONTACT),
     ];
     let wanted = "\
-1970-01-01T00:00:01Z ACME a1: connected from 10.0.0.0:5000
+1970-01-01T00:00:01.000Z ACME a1: connected from 10.0.0.0:5000
+1970-01-01T00:00:11.000Z ACME a1: the peer makes no contact
 60000 to 0: 1070
-1970-01-01T00:01:01Z ACME a1: failed: replaced by another connection
-1970-01-01T00:01:01Z ACME a1: connected from 10.0.0.1:5000
+1970-01-01T00:01:01.000Z ACME a1: failed: replaced by another connection
+1970-01-01T00:01:01.000Z ACME a1: connected from 10.0.0.1:5000
 61000 to 1: 1070
 ";
     play(&rt, rt.alloc(), TABLES, &acts, 61_500, wanted)
@@ -221,19 +222,19 @@ fn session_keeps_its_line(rt: HostRuntime) -> Result<(), Fail> {
         at(2000, 1, CONTACT),
     ];
     let wanted = "\
-1970-01-01T00:00:01Z ACME a1: connected from 10.0.0.0:5000
+1970-01-01T00:00:01.000Z ACME a1: connected from 10.0.0.0:5000
 1000 to 0: 1070
 1050 to 0: 1002a08fcff0d129c2e4d9c5c1e4404001000000000000040040404040404040404040404040404040\
 0000000000001026
-1970-01-01T00:00:01Z ACME a1: session up with LYON
+1970-01-01T00:00:01.050Z ACME a1: session up with LYON
 3550 to 0: 3d
 6050 to 0: 3d
 8550 to 0: 3d
 11050 to 0: 3d
 13550 to 0: 3d
-1970-01-01T00:00:16Z ACME a1: session down: no answer after five tries
-1970-01-01T00:00:16Z ACME a1: closed
-1970-01-01T00:00:16Z ACME a1: connected from 10.0.0.1:5000
+1970-01-01T00:00:16.050Z ACME a1: session down: no answer after five tries
+1970-01-01T00:00:16.050Z ACME a1: closed
+1970-01-01T00:00:16.050Z ACME a1: connected from 10.0.0.1:5000
 16050 to 1: 1070
 ";
     play(&rt, rt.alloc(), TABLES, &acts, 16_500, wanted)
@@ -252,14 +253,14 @@ fn ten_seconds_after_a_session(rt: HostRuntime) -> Result<(), Fail> {
         at(8000, 0, Act::Sends(b"\x37")),
     ];
     let wanted = "\
-1970-01-01T00:00:01Z ACME a1: connected from 10.0.0.0:5000
+1970-01-01T00:00:01.000Z ACME a1: connected from 10.0.0.0:5000
 1000 to 0: 1070
 1050 to 0: 1002a08fcff0d129c2e4d9c5c1e4404001000000000000040040404040404040404040404040404040\
 0000000000001026
-1970-01-01T00:00:01Z ACME a1: session up with LYON
-1970-01-01T00:00:03Z ACME a1: session down: the peer sent EOT
-1970-01-01T00:00:13Z ACME a1: failed: replaced by another connection
-1970-01-01T00:00:13Z ACME a1: connected from 10.0.0.1:5000
+1970-01-01T00:00:01.050Z ACME a1: session up with LYON
+1970-01-01T00:00:03.000Z ACME a1: session down: the peer sent EOT
+1970-01-01T00:00:13.000Z ACME a1: failed: replaced by another connection
+1970-01-01T00:00:13.000Z ACME a1: connected from 10.0.0.1:5000
 13000 to 1: 1070
 ";
     play(&rt, rt.alloc(), TABLES, &acts, 13_500, wanted)
@@ -275,15 +276,16 @@ fn another_takes_the_place_after_five_tries(rt: HostRuntime) -> Result<(), Fail>
         at(14_050, 1, CONTACT),
     ];
     let wanted = "\
-1970-01-01T00:00:01Z ACME a1: connected from 10.0.0.0:5000
+1970-01-01T00:00:01.000Z ACME a1: connected from 10.0.0.0:5000
 1000 to 0: 1070
 3500 to 0: 3d
 6000 to 0: 3d
 8500 to 0: 3d
 11000 to 0: 3d
+1970-01-01T00:00:11.000Z ACME a1: the peer doesn't sign on
 13500 to 0: 3d
-1970-01-01T00:00:14Z ACME a1: failed: replaced by another connection
-1970-01-01T00:00:14Z ACME a1: connected from 10.0.0.1:5000
+1970-01-01T00:00:14.000Z ACME a1: failed: replaced by another connection
+1970-01-01T00:00:14.000Z ACME a1: connected from 10.0.0.1:5000
 14050 to 1: 1070
 ";
     play(&rt, rt.alloc(), TABLES, &acts, 14_500, wanted)
@@ -307,15 +309,15 @@ fn peer_that_stalls(rt: HostRuntime) -> Result<(), Fail> {
         at(2250, 2, CONTACT),
     ];
     let wanted = "\
-1970-01-01T00:00:01Z ACME a1: connected from 10.0.0.0:5000
-1970-01-01T00:00:01Z BOLT b1: connected from 10.0.0.2:5000
+1970-01-01T00:00:01.000Z ACME a1: connected from 10.0.0.0:5000
+1970-01-01T00:00:01.000Z BOLT b1: connected from 10.0.0.2:5000
 1000 to 0: 1070
 1000 to 2: 1070
 1200 to 0: 10
 1300 to 2: 1070
 1600 to 2: 1070
-1970-01-01T00:00:02Z ACME a1: failed: the peer did not take its bytes within a second
-1970-01-01T00:00:02Z ACME a1: connected from 10.0.0.1:5000
+1970-01-01T00:00:02.200Z ACME a1: failed: the peer did not take its bytes within a second
+1970-01-01T00:00:02.200Z ACME a1: connected from 10.0.0.1:5000
 2200 to 1: 1070
 2250 to 2: 1070
 ";
@@ -332,13 +334,13 @@ fn peer_that_sends_no_more(rt: HostRuntime) -> Result<(), Fail> {
         at(1000, 0, Act::Ends),
     ];
     let wanted = "\
-1970-01-01T00:00:01Z ACME a1: connected from 10.0.0.0:5000
+1970-01-01T00:00:01.000Z ACME a1: connected from 10.0.0.0:5000
 1000 to 0: 10701002a08fcff0d129c2e4d9c5c1e4404001000000000000040040404040404040404040404040404040\
 00000000000010261002808fcf9a80c82077000ed3e8d6d584c500c1d5d5c184c6c2e4d9c5c1e482cf00d5d1c8f0f0f2\
 40f040c6c9d3c5e200001026
-1970-01-01T00:00:01Z ACME a1: session up with LYON
-1970-01-01T00:00:01Z ACME a1: closed
-1970-01-01T00:00:02Z ACME a1: session down: the line was lost
+1970-01-01T00:00:01.000Z ACME a1: session up with LYON
+1970-01-01T00:00:01.000Z ACME a1: closed
+1970-01-01T00:00:02.000Z ACME a1: session down: the line was lost
 ";
     play(&rt, rt.alloc(), TABLES, &acts, 2500, wanted)
 }
@@ -355,10 +357,10 @@ fn reset_in_a_frame(rt: HostRuntime) -> Result<(), Fail> {
         at(2500, 1, CONTACT),
     ];
     let wanted = "\
-1970-01-01T00:00:01Z ACME a1: connected from 10.0.0.0:5000
+1970-01-01T00:00:01.000Z ACME a1: connected from 10.0.0.0:5000
 1000 to 0: 1070
-1970-01-01T00:00:01Z ACME a1: failed: a read or a write failed
-1970-01-01T00:00:02Z ACME a1: connected from 10.0.0.1:5000
+1970-01-01T00:00:01.200Z ACME a1: failed: a read or a write failed
+1970-01-01T00:00:02.500Z ACME a1: connected from 10.0.0.1:5000
 2500 to 1: 1070
 ";
     play(&rt, rt.alloc(), TABLES, &acts, 2700, wanted)
@@ -378,14 +380,14 @@ fn answer_that_fails(rt: HostRuntime) -> Result<(), Fail> {
         at(3500, 1, CONTACT),
     ];
     let wanted = "\
-1970-01-01T00:00:01Z ACME a1: connected from 10.0.0.0:5000
+1970-01-01T00:00:01.000Z ACME a1: connected from 10.0.0.0:5000
 1000 to 0: 1070
 1050 to 0: 1002a08fcff0d129c2e4d9c5c1e4404001000000000000040040404040404040404040404040404040\
 0000000000001026
-1970-01-01T00:00:01Z ACME a1: session up with LYON
-1970-01-01T00:00:02Z ACME a1: session down: the line was lost
-1970-01-01T00:00:02Z ACME a1: failed: a read or a write failed
-1970-01-01T00:00:03Z ACME a1: connected from 10.0.0.1:5000
+1970-01-01T00:00:01.050Z ACME a1: session up with LYON
+1970-01-01T00:00:02.200Z ACME a1: session down: the line was lost
+1970-01-01T00:00:02.200Z ACME a1: failed: a read or a write failed
+1970-01-01T00:00:03.500Z ACME a1: connected from 10.0.0.1:5000
 3500 to 1: 1070
 ";
     play(&rt, rt.alloc(), TABLES, &acts, 3700, wanted)
@@ -410,8 +412,8 @@ fn add_beside(acts: &mut Vec<Happens>, wanted: &mut Vec<u8>) -> Result<(), Alloc
         at(1000, 1, Act::Connects(2)),
     ])?;
     wanted.extend_from_slice(
-        b"1970-01-01T00:00:01Z ACME a1: connected from 10.0.0.0:5000\n\
-        1970-01-01T00:00:01Z BOLT b1: connected from 10.0.0.1:5000\n1000 to 0: 1070\n",
+        b"1970-01-01T00:00:01.000Z ACME a1: connected from 10.0.0.0:5000\n\
+        1970-01-01T00:00:01.000Z BOLT b1: connected from 10.0.0.1:5000\n1000 to 0: 1070\n",
     )?;
     for moment in 1001..6500u64 {
         if moment == 3500 || moment == 6000 {

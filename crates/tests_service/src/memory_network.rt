@@ -96,7 +96,7 @@ impl<'a> Network for MemoryNetwork<'a> {
     }
 
     fn utc(&mut self) -> i64 {
-        i64::try_from(self.world.now() / 1000).unwrap_or(0)
+        i64::try_from(self.world.now()).unwrap_or(0)
     }
 }
 

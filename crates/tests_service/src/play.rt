@@ -4,7 +4,7 @@ use crate::memory_log::MemoryLog;
 use crate::memory_network::MemoryNetwork;
 use crate::serving::{Player, Rounds, is_refused, serve};
 use crate::world::{Happens, World};
-use njh_service::{Exchange, Log, Revision};
+use njh_service::{Exchange, Log, LogStyle, NoSource, Revision};
 use njh_table::Tables;
 use std::alloc::Global;
 use std::io::Write;
@@ -16,12 +16,16 @@ use std::test::Fail;
 /// something happens fifty times.
 const ROUNDS: u64 = 100;
 
+/// How long all that is seen is looked at, in milliseconds.
+const WHOLE: u64 = 31_900;
+
 /// Where the hub listens.
 fn hub_address() -> IpAddr {
     IpAddr::V4(Ipv4Addr::new(10, 0, 0, 100))
 }
 
-/// Plays what happens up to a moment on a service of these tables, and compares what is seen.
+/// Plays what happens up to a moment on a service of these tables, and compares what is seen once
+/// the lines are served.
 pub(crate) fn play<R: Abort>(
     rt: &R,
     alloc: Global,
@@ -30,12 +34,65 @@ pub(crate) fn play<R: Abort>(
     end: u64,
     wanted: &str,
 ) -> Result<(), Fail> {
-    let world = World::new(alloc, acts);
-    play_in(alloc, &world, tables, end)?;
-    assert!(rt; world.now() >= end, "it spins at {}", world.now());
-    let seen = world.into_seen();
+    let seen = seen_of(rt, alloc, tables, acts, end, LogStyle::PLAIN)?;
+    assert_eq!(rt;
+        after_start(str::from_utf8(&seen).unwrap_or("no text")),
+        wanted
+    );
+    Ok(())
+}
+
+/// The same of all that is seen in 31.9 seconds, by a log whose lines are written so.
+pub(crate) fn play_whole<R: Abort>(
+    rt: &R,
+    alloc: Global,
+    tables: &str,
+    acts: &[Happens],
+    style: LogStyle,
+    wanted: &str,
+) -> Result<(), Fail> {
+    let seen = seen_of(rt, alloc, tables, acts, WHOLE, style)?;
     assert_eq!(rt; str::from_utf8(&seen).unwrap_or("no text"), wanted);
     Ok(())
+}
+
+/// What is seen up to a moment on a service of these tables.
+fn seen_of<R: Abort>(
+    rt: &R,
+    alloc: Global,
+    tables: &str,
+    acts: &[Happens],
+    end: u64,
+    style: LogStyle,
+) -> Result<Vec<u8>, Fail> {
+    let world = World::new(alloc, acts);
+    play_in(alloc, &world, tables, end, style)?;
+    assert!(rt; world.now() >= end, "it spins at {}", world.now());
+    Ok(world.into_seen())
+}
+
+/// What comes after the line that says that the lines are served.
+fn after_start(seen: &str) -> &str {
+    match seen.split_once(" 0 files\n") {
+        Some((_, after)) => after,
+        None => "not ready",
+    }
+}
+
+/// An attendant in a world, whose log has such lines.
+fn exchange_in<'a>(
+    alloc: Global,
+    world: &'a World<'a>,
+    style: LogStyle,
+) -> Exchange<MemoryNetwork<'a>, MemoryLog<'a>, NoSource> {
+    let log = Log::new(Some(MemoryLog { world }), style);
+    Exchange::new(
+        alloc,
+        "9.9",
+        MemoryNetwork { world },
+        log,
+        Revision::none(alloc),
+    )
 }
 
 /// Asks for a service of these tables that has to listen on each port, and compares what is seen if
@@ -58,16 +115,20 @@ pub(crate) fn refuse<R: Abort>(
 /// Whether lines of tables aren't served in a world if each has to listen on its port.
 fn is_refused_in<'a>(alloc: Global, world: &'a World<'a>, tables: &str) -> Result<bool, Fail> {
     let tables = Tables::read(alloc, tables)?;
-    let log = Log::new(Some(MemoryLog { world }));
-    let exchange = Exchange::new(alloc, MemoryNetwork { world }, log, Revision::none(alloc));
+    let exchange = exchange_in(alloc, world, LogStyle::PLAIN);
     Ok(is_refused(alloc, tables, exchange, hub_address()))
 }
 
 /// Serves the lines of tables in a world up to a moment.
-fn play_in<'a>(alloc: Global, world: &'a World<'a>, tables: &str, end: u64) -> Result<(), Fail> {
+fn play_in<'a>(
+    alloc: Global,
+    world: &'a World<'a>,
+    tables: &str,
+    end: u64,
+    style: LogStyle,
+) -> Result<(), Fail> {
     let tables = Tables::read(alloc, tables)?;
-    let log = Log::new(Some(MemoryLog { world }));
-    let exchange = Exchange::new(alloc, MemoryNetwork { world }, log, Revision::none(alloc));
+    let exchange = exchange_in(alloc, world, style);
     serve(
         alloc,
         tables,

@@ -37,25 +37,27 @@ fn sessions_in_a_loop(rt: HostRuntime) -> Result<(), Fail> {
 /// Adds what happens in a loop, and what is seen of it.
 fn add_loop(acts: &mut Vec<Happens>, wanted: &mut Vec<u8>) -> Result<(), AllocError> {
     acts.push(at(1000, 0, Act::Connects(1)))?;
-    wanted.extend_from_slice(b"1970-01-01T00:00:01Z ACME a1: connected from 10.0.0.0:5000\n")?;
+    wanted.extend_from_slice(b"1970-01-01T00:00:01.000Z ACME a1: connected from 10.0.0.0:5000\n")?;
     add_session(acts, wanted, 1000)?;
-    wanted.extend_from_slice(b"1970-01-01T00:00:01Z ACME a1: session up with LYON\n")?;
+    wanted.extend_from_slice(b"1970-01-01T00:00:01.001Z ACME a1: session up with LYON\n")?;
     for moment in [1010, 1020, 1030, 1040u64] {
         acts.push(at(moment.saturating_sub(5), 0, EOT))?;
         add_session(acts, wanted, moment)?;
     }
     acts.push(at(1100, 0, EOT))?;
     wanted.extend_from_slice(
-        b"1970-01-01T00:00:02Z ACME a1: session down: the peer sent EOT, the last of 9 changes\n",
+        b"1970-01-01T00:00:02.005Z ACME a1: session down: the peer sent EOT, the last of 9 changes\n",
     )?;
     add_session(acts, wanted, 2500)?;
-    wanted.extend_from_slice(b"1970-01-01T00:00:03Z ACME a1: session up with LYON\n")?;
+    wanted.extend_from_slice(b"1970-01-01T00:00:03.005Z ACME a1: session up with LYON\n")?;
     acts.push(at(5000, 0, EOT))?;
-    wanted.extend_from_slice(b"1970-01-01T00:00:05Z ACME a1: session down: the peer sent EOT\n")?;
+    wanted.extend_from_slice(
+        b"1970-01-01T00:00:05.000Z ACME a1: session down: the peer sent EOT\n",
+    )?;
     add_session(acts, wanted, 5500)?;
     acts.push(at(5600, 0, EOT))?;
     wanted.extend_from_slice(
-        b"1970-01-01T00:00:06Z ACME a1: session down: the peer sent EOT, the last of 2 changes\n",
+        b"1970-01-01T00:00:06.000Z ACME a1: session down: the peer sent EOT, the last of 2 changes\n",
     )
 }
 
@@ -117,12 +119,12 @@ fn end_is_told<R: Abort>(
     ];
     let mut wanted = Vec::new(alloc);
     wanted.extend_from_slice(
-        b"1970-01-01T00:00:01Z ACME a1: connected from 10.0.0.0:5000\n1000 to 0: 1070\n",
+        b"1970-01-01T00:00:01.000Z ACME a1: connected from 10.0.0.0:5000\n1000 to 0: 1070\n",
     )?;
     add_text(&mut wanted, 1001, RESPONSE);
-    wanted.extend_from_slice(b"1970-01-01T00:00:01Z ACME a1: session up with LYON\n")?;
+    wanted.extend_from_slice(b"1970-01-01T00:00:01.001Z ACME a1: session up with LYON\n")?;
     wanted.extend_from_slice(answer.as_bytes())?;
-    wanted.extend_from_slice(b"1970-01-01T00:00:02Z ACME a1: session down: ")?;
+    wanted.extend_from_slice(b"1970-01-01T00:00:02.500Z ACME a1: session down: ")?;
     wanted.extend_from_slice(end.as_bytes())?;
     wanted.extend_from_slice(b"\n")?;
     play(
@@ -194,11 +196,11 @@ fn refusal_is_told<R: Abort>(
     ];
     let mut wanted = Vec::new(alloc);
     wanted.extend_from_slice(
-        b"1970-01-01T00:00:01Z ACME a1: connected from 10.0.0.0:5000\n1000 to 0: 1070\n\
-        1970-01-01T00:00:01Z ACME a1: sign-on refused: ",
+        b"1970-01-01T00:00:01.000Z ACME a1: connected from 10.0.0.0:5000\n1000 to 0: 1070\n\
+        1970-01-01T00:00:01.050Z ACME a1: sign-on refused: ",
     )?;
     wanted.extend_from_slice(refusal.as_bytes())?;
-    wanted.extend_from_slice(b"\n1970-01-01T00:00:01Z ACME a1: closed\n")?;
+    wanted.extend_from_slice(b"\n1970-01-01T00:00:01.050Z ACME a1: closed\n")?;
     play(
         rt,
         alloc,

@@ -13,4 +13,5 @@ returns-clause-asked c =
       c.is_set.ensures,
       c.is_set-2.ensures,
       sym (first_value-rows options (codes "spool")) ∙ sym c.get_str-2.ensures,
+      c.in_ok-json.ensures.asked,
     )

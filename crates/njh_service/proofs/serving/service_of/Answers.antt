@@ -25,4 +25,5 @@ returns-in-Ok-clause-settled g c =
 -- what was told leaves the attendant as it was
 pub returns-in-Ok-clause-attended : goal.returns-in-Ok-clause-attended
 returns-in-Ok-clause-attended g c =
-    IfOk-weaker c.service_over.result _ _ (λ service same. same ∙ c.tell_opened.ensures) c.service_over.ensures.attended
+    IfOk-weaker c.service_over.result _ _ (λ service same. same ∙ (c.tell_ready.ensures ∙ c.tell_opened.ensures))
+    c.service_over.ensures.attended

@@ -16,5 +16,6 @@ returns-clause-served g c =
     let lines : List Endpoint → List ServedLine = λ es. c.args.self.now.lines ++ map (served_on on) es in
     let same = c.deref.ensures.value ∙ sym c.deref-2.ensures.value in
     c.in_ok-add_lines.ensures on (c.in_ok-sites.ensures.opened ∙ ap sites same)
-    ∙ (ap (λ (before : List ServedLine). before ++ map (served_on on) c.deref-2.result.now) c.sites_on.ensures.lines
+    ∙ (ap (λ (before : List ServedLine). before ++ map (served_on on) c.deref-2.result.now)
+    (c.sites_on.ensures.lines ∙ c.know_customers.ensures)
     ∙ ap lines c.deref-2.ensures.value)

@@ -1,0 +1,61 @@
+//! What a line of the log begins with.
+
+use crate::severity::Severity;
+use arrayvec::ArrayString;
+use njh_ebcdic::Name;
+use std::fmt;
+
+/// How many bytes the name of a line has at most.
+const NAME: usize = 8;
+
+/// When something happened, how grave it is, and where it happened.
+#[derive(Clone, Copy, Drop)]
+pub struct Heading {
+    /// In milliseconds since the beginning of 1970, in UTC.
+    pub milliseconds: i64,
+    /// How grave it is.
+    pub severity: Severity,
+    /// Where it happened.
+    pub place: Place,
+}
+
+/// Where something happened.
+#[derive(Clone, Copy, Drop)]
+pub enum Place {
+    /// Not with one customer.
+    Hub,
+    /// With a customer.
+    Customer(Name),
+    /// On a line of a customer.
+    Line(Name, ArrayString<NAME>),
+}
+
+impl fmt::Display for Place {
+    fn fmt<W: fmt::Write>(&self, f: &mut fmt::Formatter<W>) -> fmt::Result {
+        match self {
+            Place::Hub => Ok(()),
+            Place::Customer(customer) => write!(f, "{customer}: "),
+            Place::Line(customer, line) => write!(f, "{customer} {line}: "),
+        }
+    }
+}
+
+impl Heading {
+    /// That of an error which isn't one customer's.
+    pub fn error(milliseconds: i64) -> Heading {
+        Heading {
+            milliseconds,
+            severity: Severity::Error,
+            place: Place::Hub,
+        }
+    }
+
+    /// That of a warning which isn't one customer's.
+    pub fn warning(milliseconds: i64) -> Heading {
+        Heading {
+            milliseconds,
+            severity: Severity::Warning,
+            place: Place::Hub,
+        }
+    }
+}

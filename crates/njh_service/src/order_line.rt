@@ -1,0 +1,104 @@
+//! What the log tells of an order.
+
+ghost use Rattle.std.specs.Prelude.{◌≡◌, IsSome};
+ghost use Rattle.njh_service.specs.Logging.{IsLogged};
+
+use crate::desk::Desk;
+use crate::entry::write_user;
+use crate::heading::Place;
+use crate::severity::Severity;
+use njh_command::Replies;
+use njh_ebcdic::text_of;
+use njh_header::User;
+use njh_hub::{GivenOrder, HubFault};
+use njh_turns::NewOrder;
+use njh_wire::Network;
+use std::fmt;
+use std::io::Write;
+
+/// An order that was given for a customer, and what came of it.
+#[derive(Drop)]
+struct OrderLine<'a> {
+    order: &'a GivenOrder,
+    answer: Result<(), HubFault>,
+    replies: &'a Replies,
+}
+
+impl<N: Network + Drop, L: Write + Drop> Desk<N, L> {
+    /// Tells what came of an order: in whose name it was given or whom it is for, its words, and its
+    /// first reply, or why it was refused.
+    pub(crate) fn tell_order(
+        &mut self,
+        new: &NewOrder,
+        answer: Result<(), HubFault>,
+        replies: &Replies,
+    )
+        ensures now { self.new.now ≡ self.old.now }
+        ensures logged { IsSome self.old.log.writer → IsLogged L.contents self.old.log self.new.log }
+    {
+        let severity = if answer.is_ok() {
+            Severity::Information
+        } else {
+            Severity::Warning
+        };
+        let place = match self.customers.name(new.customer) {
+            Some(name) => Place::Customer(name),
+            None => Place::Hub,
+        };
+        let line = OrderLine {
+            order: &new.order,
+            answer,
+            replies,
+        };
+        self.write(severity, place, &line);
+    }
+}
+
+impl fmt::Display for OrderLine<'_> {
+    fn fmt<W: fmt::Write>(&self, f: &mut fmt::Formatter<W>) -> fmt::Result {
+        match self.order {
+            GivenOrder::Command(owner, text) => {
+                f.write_str("order in the name of ")?;
+                write_words(f, owner, text.bytes())?;
+            }
+            GivenOrder::Message(whom, text) => {
+                f.write_str("message to ")?;
+                write_words(f, whom, text.bytes())?;
+            }
+        }
+        match self.answer {
+            Ok(()) => write_first(f, self.replies),
+            Err(fault) => write!(f, ": refused: {fault}"),
+        }
+    }
+}
+
+/// Writes a user, and the words of an order.
+fn write_words<W: fmt::Write>(f: &mut fmt::Formatter<W>, user: &User, text: &[u8]) -> fmt::Result {
+    write!(f, "{}", user.node)?;
+    write_user(f, &user.user)?;
+    f.write_str(": ")?;
+    write_text(f, text)
+}
+
+/// Writes the first reply to an order, if it has one, and how many it has.
+fn write_first<W: fmt::Write>(f: &mut fmt::Formatter<W>, replies: &Replies) -> fmt::Result {
+    let texts = replies.texts();
+    let Some(first) = texts.first() else {
+        return Ok(());
+    };
+    f.write_str(": ")?;
+    write_text(f, first)?;
+    if texts.len() > 1 {
+        write!(f, ", the first of {} replies", texts.len())?;
+    }
+    Ok(())
+}
+
+/// Writes the characters of a text in EBCDIC.
+fn write_text<W: fmt::Write>(f: &mut fmt::Formatter<W>, text: &[u8]) -> fmt::Result {
+    for byte in text {
+        f.write_char(text_of(*byte))?;
+    }
+    Ok(())
+}
