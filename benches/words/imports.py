@@ -274,8 +274,9 @@ class Sources:
                 for path, _, braced in paths_of(tree):
                     if path[-1] != "*" and not self.is_there(path, braced, (crate, kind, steps)):
                         yield told(module, start, path, ".")
-            if not OF_FUNCTIONS & set(steps):
-                yield from wrong_mods(module, self.below.get((crate, kind, steps), set()) - OF_FUNCTIONS)
+            made = OF_FUNCTIONS if kind == "proofs" else set()
+            if not made & set(steps):
+                yield from wrong_mods(module, self.below.get((crate, kind, steps), set()) - made)
 
 
 def wrong_mods(module, below):

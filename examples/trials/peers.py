@@ -1,5 +1,6 @@
 """Peers of the trials: they keep sessions with a hub, many on one thread, or a crowd in a process of its own."""
 
+import collections
 import multiprocessing
 import select
 import time
@@ -30,7 +31,7 @@ class Loop:
     """Peers on one thread, each called when its connection has bytes."""
 
     def __init__(self):
-        self.poll, self.peers = select.epoll(), {}
+        self.poll, self.peers, self.late = select.epoll(), {}, collections.deque()
 
     def add(self, peer):
         self.peers[peer.socket.fileno()] = peer
@@ -40,14 +41,21 @@ class Loop:
         if self.peers.pop(peer.socket.fileno(), None):
             self.poll.unregister(peer.socket.fileno())
 
+    def delay(self, seconds, say):
+        """Has something said after so long, the same for all that is delayed on this loop."""
+        self.late.append((time.monotonic() + seconds, say))
+
     def run(self, seconds, until=lambda: False):
         """Goes on for so long, or until something is so, and says whether it is."""
         end = time.monotonic() + seconds
         while not until():
-            left = end - time.monotonic()
-            if left <= 0:
+            now = time.monotonic()
+            while self.late and self.late[0][0] <= now:
+                self.late.popleft()[1]()
+            if now >= end:
                 return False
-            for place, _ in self.poll.poll(min(left, 0.1)):
+            next_late = self.late[0][0] - now if self.late else 0.1
+            for place, _ in self.poll.poll(min(end - now, 0.1, next_late)):
                 if place in self.peers:
                     self.peers[place].readable()
         return True

@@ -1,24 +1,28 @@
 -- What the arguments name, from the matches of a parse.
 use Rattle.std.proofs.Common.{◌≡◌, Result, Ok, Err, OnOk, IfOk, IfErr, Bool, true, false, cond, List, [], ◌∷◌, map}
 use Rattle.std.proofs.Common.{Option, Some, None, option_and_then, refl, sym, ap, subst, ◌∙◌, ◌↔◌, IsTrue}
-use Rattle.std.specs.Prelude.{codes, find, is_some, option_map, slice_get, bytes_eq}
+use Rattle.std.specs.Prelude.{codes, find, is_some, option_map, slice_get, bytes_eq, unwrap_or}
+use Rattle.std.specs.Option.{option_map_or}
 use Rattle.std.proofs.lemmas.Option.{slice_get-map}
 use Rattle.std.proofs.lemmas.Slice.Eq.{bytes_eq-Decides}
 use Rattle.std.specs.Box.{box_value}
 use Rattle.clap.proofs.OnLiterals.{clap_on_literals}
 use Rattle.clap.specs.Faults.{is_simple_and_free}
-use Rattle.clap.specs.Matches.{found_of, first_value, subcommand_name_of}
+use Rattle.clap.specs.Matches.{found_of, first_value, matched_of, raw_values, subcommand_name_of}
 use Rattle.clap.specs.Simple.{is_simple, subcommand_rows_of}
-use Rattle.clap.specs.Walk.{Row, Text, first_of, row_of, rows_of}
+use Rattle.clap.specs.Walk.{Row, Text, all_of, first_of, row_of, rows_of}
 use Rattle.clap.specs.Kinds.{FailsBy, Kinds, HasKind}
 use Rattle.clap.specs.declared.error.Error.{Error}
 use Rattle.clap.specs.declared.parser.matches.ArgMatches.{ArgMatches}
 use Rattle.clap.specs.declared.parser.matches.ArgMatches.TheViews.{out-ArgMatches, out-SubCommand}
 use Rattle.njh_arguments.specs.declared.arguments.Request.{Request}
 use Rattle.njh_arguments.specs.declared.serve_options.Unasked.{Unasked}
-use Rattle.njh_arguments.specs.declared.serve_options.Unasked.TheVariants.{Missing, NoAddress, NoFormat, Nothing}
+use Rattle.njh_arguments.specs.declared.serve_options.Unasked.TheVariants.{Missing, NoAddress, NoCommand, NoFormat, Nothing}
 use Rattle.njh_arguments.specs.declared.serve_options.Unasked.TheVariants.{Unclear}
-use Rattle.njh_arguments.specs.Arguments.{AreUnclear, AsksFor, AsksIn, HasNoAddress, HasNoFormat, HasNothing, IsUnasked}
+use Rattle.njh_arguments.specs.Arguments.{AreUnclear, AsksFor, AsksIn, HasNoAddress, HasNoCommand, HasNoFormat}
+use Rattle.njh_arguments.specs.Arguments.{HasNothing, IsUnasked}
+use Rattle.njh_arguments.specs.Commands.{CommandView, Given, command_asked, command_in, given_in, given_of, is_set_in}
+use Rattle.njh_arguments.specs.declared.console_words.CommandOptions.{CommandOptions}
 use Rattle.njh_arguments.specs.Arguments.{IsTarget, IsUnaskedBy, IsUnclear, PrintsNothing, is_given}
 use Rattle.njh_arguments.specs.Arguments.{program_app}
 
@@ -98,7 +102,49 @@ serves_refused m named is (Err Missing) unasked = tt
 serves_refused m named is (Err Nothing) unasked = subst HasNothing (sym is) unasked
 serves_refused m named is (Err (NoAddress text)) unasked = subst HasNoAddress (sym is) unasked
 serves_refused m named is (Err (NoFormat text)) unasked = subst HasNoFormat (sym is) unasked
+serves_refused m named is (Err (NoCommand word)) unasked = subst HasNoCommand (sym is) unasked
 serves_refused m named is (Err Unclear) unasked = subst AreUnclear (sym is) unasked
+
+-- whether a flag is set, by its text
+pub flag_value : (flag : Text) (rows : List Row) (o : Option Text) → first_of flag rows ≡ o
+    → is_set_in flag rows ≡ option_map_or (λ text. bytes_eq text (codes "true")) o false
+flag_value flag rows o is = ap (λ (t : Option Text). option_map_or (λ text. bytes_eq text (codes "true")) t false) is
+
+at_values : {X Y : Type 0} (o : Option X) (to : X → Y) (read : Y → List Text) (row : X → Row)
+    → ((x : X) → read (to x) ≡ (row x).values)
+    → option_map read (option_map to o) ≡ option_map (λ r. r.values) (option_map row o)
+at_values None to read row same = refl
+at_values (Some x) to read row same = ap (λ (v : List Text). Some v) (same x)
+
+-- all values of an id, by the rows
+pub all_values-rows : (m : ArgMatches) (id : Text)
+    → option_map raw_values (matched_of (found_of m) id) ≡ all_of id (rows_of (found_of m))
+all_values-rows m id =
+    let entries = (found_of m).entries.items in
+    at_values (find (λ e. bytes_eq e.0.now id) entries) (λ e. e.1) raw_values row_of (λ e. refl)
+    ∙ ap (option_map (λ r. r.values)) (sym (find-map row_of (λ r. bytes_eq r.id id) entries))
+
+given_fields : {owner own node at state so : Option Text} {when_idle idle : Bool} → owner ≡ own → node ≡ at
+    → state ≡ so → when_idle ≡ idle
+    → ◌≡◌ {A = Given} (record { owner = owner; node = node; state = state; when_idle = when_idle })
+    (record { owner = own; node = at; state = so; when_idle = idle })
+given_fields owner node state idle = rw (owner, node, state, idle) refl
+
+-- the options beside a command, by the rows
+pub given_is : (given : CommandOptions) (rows : List Row)
+    → option_map (λ text. text.now) given.owner ≡ first_of (codes "owner") rows
+    → option_map (λ text. text.now) given.node ≡ first_of (codes "node") rows
+    → option_map (λ text. text.now) given.state ≡ first_of (codes "state") rows
+    → given.when_idle ≡ is_set_in (codes "when-idle") rows → given_of given ≡ given_in rows
+given_is given rows owner node state idle = given_fields owner node state idle
+
+-- the command that rows are, by its words and the options beside them
+pub command_is : (rows : List Row) (words : List Text) (given : Given) (found : Option CommandView)
+    → all_of (codes "command") rows ≡ Some words → given ≡ given_in rows → found ≡ command_in words given
+    → command_asked rows ≡ found
+command_is rows words given found all same is =
+    ap (λ (w : Option (List Text)). command_in (unwrap_or w []) (given_in rows)) all
+    ∙ sym (is ∙ ap (command_in words) same)
 
 -- a text that is tested for a word
 pub spells_word : (b : Bool) (text word : Text) → b ≡ bytes_eq text word → IsTrue b ↔ (Some text ≡ Some word)

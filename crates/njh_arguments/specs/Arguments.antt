@@ -7,17 +7,18 @@ use Rattle.std.specs.Str.Parse.{IsNumeral, digits_value, without_leading_plus}
 use Rattle.clap.specs.declared.builder.value_parser.ValueParser.TheVariants.{Signed}
 use Rattle.clap.specs.Words.{App, HasKind, Row, Rule, Text, fault_of, first_of, kind_of, new_app, new_rule}
 use Rattle.clap.specs.Words.{subcommand_of, with_rule, with_subcommand}
-use Rattle.clap.specs.declared.builder.ArgAction.TheVariants.{Set, SetTrue}
+use Rattle.clap.specs.declared.builder.ArgAction.TheVariants.{Append, Set, SetTrue}
 use Rattle.clap.specs.declared.error.Error.{Error}
 use Rattle.clap.specs.declared.error.kind.ErrorKind.TheVariants.{MissingRequiredArgument, MissingSubcommand}
-use Rattle.clap.specs.declared.error.kind.ErrorKind.TheVariants.{ArgumentConflict, ValueValidation}
+use Rattle.clap.specs.declared.error.kind.ErrorKind.TheVariants.{ArgumentConflict, InvalidSubcommand, ValueValidation}
+use Rattle.njh_arguments.specs.Commands.{command_asked, view_of}
 use Rattle.njh_arguments.specs.declared.arguments.Request.{Request}
-use Rattle.njh_arguments.specs.declared.arguments.Request.TheVariants.{Copy, Files, Serve}
+use Rattle.njh_arguments.specs.declared.arguments.Request.TheVariants.{Control, Copy, Files, Serve}
 use Rattle.njh_arguments.specs.declared.arguments.Request.TheVariants as request
 use Rattle.njh_arguments.specs.declared.arguments.Task.{Task}
 use Rattle.njh_arguments.specs.declared.arguments.Task.TheVariants.{CheckScript, CheckTables, Decode, Encode, Replay}
 use Rattle.njh_arguments.specs.declared.serve_options.Unasked.{Unasked}
-use Rattle.njh_arguments.specs.declared.serve_options.Unasked.TheVariants.{Missing, NoAddress, NoFormat, Nothing}
+use Rattle.njh_arguments.specs.declared.serve_options.Unasked.TheVariants.{Missing, NoAddress, NoCommand, NoFormat, Nothing}
 use Rattle.njh_arguments.specs.declared.serve_options.Unasked.TheVariants.{Unclear}
 
 -- a text is this number's digits, before which a plus may stand
@@ -70,6 +71,10 @@ listening_app = with_rule addressed_app (flag_rule (codes "quiet"))
 abbrev pub spool_rule : Rule
 spool_rule = record (new_rule (codes "spool")) { long = Some (codes "spool"); value_names = 1; action = Some Set }
 
+-- the option `--console PATH`
+abbrev pub console_rule : Rule
+console_rule = record (new_rule (codes "console")) { long = Some (codes "console"); value_names = 1; action = Some Set }
+
 -- the option `--log FORMAT`
 abbrev pub log_rule : Rule
 log_rule = record (new_rule (codes "log")) {
@@ -83,7 +88,7 @@ abbrev pub keeping_app : App
 keeping_app = with_rule listening_app spool_rule
 
 abbrev pub serve_app : App
-serve_app = with_rule keeping_app log_rule
+serve_app = with_rule (with_rule keeping_app console_rule) log_rule
 
 -- `decode`, and its option
 abbrev pub decode_app : App
@@ -146,6 +151,35 @@ compact_rule = record (new_rule (codes "compact")) { long = Some (codes "compact
 abbrev pub files_app : App
 files_app = with_rule (with_rule printing_app into_rule) compact_rule
 
+-- `ctl`, and its options: a console, which it must have, the flag `--json`, and what stands beside a command
+abbrev pub wanted_console_rule : Rule
+wanted_console_rule = record console_rule { required = true }
+
+abbrev pub owner_rule : Rule
+owner_rule = record (new_rule (codes "owner")) { long = Some (codes "owner"); value_names = 1; action = Some Set }
+
+abbrev pub node_rule : Rule
+node_rule = record (new_rule (codes "node")) { long = Some (codes "node"); value_names = 1; action = Some Set }
+
+abbrev pub state_rule : Rule
+state_rule = record (new_rule (codes "state")) { long = Some (codes "state"); value_names = 1; action = Some Set }
+
+-- the words of a command
+abbrev pub command_rule : Rule
+command_rule = record (new_rule (codes "command")) { value_names = 1; action = Some Append; required = true }
+
+abbrev pub connecting_app : App
+connecting_app = with_rule (with_rule (new_app (codes "ctl")) wanted_console_rule) (flag_rule (codes "json"))
+
+abbrev pub owning_app : App
+owning_app = with_rule connecting_app owner_rule
+
+abbrev pub filtering_app : App
+filtering_app = with_rule (with_rule owning_app node_rule) state_rule
+
+abbrev pub ctl_app : App
+ctl_app = with_rule (with_rule filtering_app (flag_rule (codes "when-idle"))) command_rule
+
 -- a program with a version, whose first word is a subcommand
 abbrev pub bare_app : App
 bare_app = let a = new_app (codes "njehub") in record a {
@@ -169,8 +203,11 @@ encoding_app = with_subcommand decoding_app encode_app.top
 abbrev pub checking_app : App
 checking_app = with_subcommand encoding_app check_app.top
 
+abbrev pub filing_app : App
+filing_app = with_subcommand checking_app files_app.top
+
 abbrev pub program_app : App
-program_app = with_subcommand checking_app files_app.top
+program_app = with_subcommand filing_app ctl_app.top
 
 -- the number that an option's text spells, if there is one: of turns, or of a file
 abbrev pub SpellsNumber : Option Text → Option ℕ → Type 0
@@ -239,14 +276,19 @@ AsksFor named (Copy spool customer into is_new) = (named.0 ≡ codes "files")
     × (first_of (codes "spool") named.1 ≡ Some spool.now)
     × (first_of (codes "customer") named.1 ≡ option_map (λ s. s.now) customer)
     × IsTarget named.1 into.now is_new
-AsksFor named (Serve tables turns listen strict quiet spool json) = (named.0 ≡ codes "serve")
+AsksFor named (Serve tables turns listen strict quiet spool console json) = (named.0 ≡ codes "serve")
     × (first_of (codes "tables") named.1 ≡ Some tables.now)
     × SpellsNumber (first_of (codes "turns") named.1) turns
     × ListensAt (first_of (codes "listen") named.1) listen
     × IsFlag (codes "strict") named.1 strict
     × IsFlag (codes "quiet") named.1 quiet
     × (first_of (codes "spool") named.1 ≡ option_map (λ s. s.now) spool)
+    × (first_of (codes "console") named.1 ≡ option_map (λ s. s.now) console)
     × (is_json_by (first_of (codes "log") named.1) ≡ Some json)
+AsksFor named (Control console json command) = (named.0 ≡ codes "ctl")
+    × (first_of (codes "console") named.1 ≡ Some console.now)
+    × IsFlag (codes "json") named.1 json
+    × (command_asked named.1 ≡ Some (view_of command))
 
 -- what a parse asks for
 abbrev pub AsksIn : Option (Text × List Row) → Request → Type 0
@@ -270,6 +312,13 @@ NamesNoFormat rows = is_json_by (first_of (codes "log") rows) ≡ None
 abbrev pub HasNoFormat : Option (Text × List Row) → Type 0
 HasNoFormat named = IsSomeAnd named (λ p. NamesNoFormat p.1)
 
+-- the words behind `ctl`, with the options beside them, are no command
+abbrev pub NamesNoCommand : List Row → Type 0
+NamesNoCommand rows = command_asked rows ≡ None
+
+abbrev pub HasNoCommand : Option (Text × List Row) → Type 0
+HasNoCommand named = IsSomeAnd named (λ p. NamesNoCommand p.1)
+
 -- neither a table file nor a script is named
 abbrev pub NamesNothing : List Row → Type 0
 NamesNothing rows = (first_of (codes "tables") rows ≡ None) × (first_of (codes "script") rows ≡ None)
@@ -285,12 +334,13 @@ IsUnclear rows = ¬ ((first_of (codes "into") rows ≡ None) × (first_of (codes
 abbrev pub AreUnclear : Option (Text × List Row) → Type 0
 AreUnclear named = IsSomeAnd named (λ p. IsUnclear p.1)
 
--- why the rows of `serve`, `check` or `files` ask for nothing
+-- why the rows of `serve`, `check`, `files` or `ctl` ask for nothing
 abbrev pub IsUnasked : List Row → Unasked → Type 0
 IsUnasked rows Missing = ⊤
 IsUnasked rows Nothing = NamesNothing rows
 IsUnasked rows (NoAddress text) = NamesNoAddress rows
 IsUnasked rows (NoFormat text) = NamesNoFormat rows
+IsUnasked rows (NoCommand word) = NamesNoCommand rows
 IsUnasked rows Unclear = IsUnclear rows
 
 -- and why a parse does
@@ -299,6 +349,7 @@ IsUnaskedBy named Missing = ⊤
 IsUnaskedBy named Nothing = HasNothing named
 IsUnaskedBy named (NoAddress text) = HasNoAddress named
 IsUnaskedBy named (NoFormat text) = HasNoFormat named
+IsUnaskedBy named (NoCommand word) = HasNoCommand named
 IsUnaskedBy named Unclear = AreUnclear named
 
 -- the refusal that says so
@@ -307,13 +358,15 @@ IsRefusalOf Missing error = kind_of error ≡ MissingSubcommand
 IsRefusalOf Nothing error = kind_of error ≡ MissingRequiredArgument
 IsRefusalOf (NoAddress text) error = kind_of error ≡ ValueValidation
 IsRefusalOf (NoFormat text) error = kind_of error ≡ ValueValidation
+IsRefusalOf (NoCommand word) error = kind_of error ≡ InvalidSubcommand
 IsRefusalOf Unclear error = kind_of error ≡ ArgumentConflict
 
 -- The arguments are refused so: as clap's definitions say of this program, or since an address or a format is none,
--- nothing is named to be checked, or it isn't clear what is to be copied.
+-- nothing is named to be checked, it isn't clear what is to be copied, or words are no command.
 abbrev pub AreRefusedBy : List Text → Error → Type 0
 AreRefusedBy arguments error = HasKind (MissingSubcommand ∷ fault_of program_app arguments) error
     ⊎ ((kind_of error ≡ ValueValidation) × HasNoAddress (subcommand_of program_app arguments))
     ⊎ ((kind_of error ≡ MissingRequiredArgument) × HasNothing (subcommand_of program_app arguments))
     ⊎ ((kind_of error ≡ ArgumentConflict) × AreUnclear (subcommand_of program_app arguments))
     ⊎ ((kind_of error ≡ ValueValidation) × HasNoFormat (subcommand_of program_app arguments))
+    ⊎ ((kind_of error ≡ InvalidSubcommand) × HasNoCommand (subcommand_of program_app arguments))

@@ -9,7 +9,7 @@ use Rattle.clap.specs.declared.error.kind.ErrorKind.TheVariants.{DisplayHelp, Di
 -- a subcommand whose help is printed: that of `replay` is a refusal
 abbrev pub has_help : Text → Bool
 has_help word = bytes_eq word (codes "serve") || bytes_eq word (codes "decode") || bytes_eq word (codes "encode")
-    || bytes_eq word (codes "check") || bytes_eq word (codes "files")
+    || bytes_eq word (codes "check") || bytes_eq word (codes "files") || bytes_eq word (codes "ctl")
 
 -- What a parse that ends so shows is asked for, and no refusal: the version, or the help of such a subcommand. The
 -- first word is the program's name, and no word can stand between it and a subcommand.

@@ -7,10 +7,12 @@ ghost use Rattle.clap.specs.Words.{HasKind, with_subcommand};
 ghost use Rattle.clap.specs.declared.builder.command.Command.TheViews.{out-Command};
 ghost use Rattle.njh_arguments.specs.Arguments.{AreRefusedBy, Asks, AsksFor, AsksIn, IsRefusalOf, IsUnasked};
 ghost use Rattle.njh_arguments.specs.Arguments.{IsUnaskedBy};
-ghost use Rattle.njh_arguments.specs.Arguments.{bare_app, checking_app, decoding_app, encoding_app, program_app};
-ghost use Rattle.njh_arguments.specs.Arguments.{replaying_app, serving_app};
+ghost use Rattle.njh_arguments.specs.Arguments.{bare_app, checking_app, decoding_app, encoding_app, filing_app};
+ghost use Rattle.njh_arguments.specs.Arguments.{program_app, replaying_app, serving_app};
 
 use crate::check_options::{check_command, checked_in};
+use crate::console_command::ConsoleCommand;
+use crate::ctl_options::{controlled_in, ctl_command, usage_of};
 use crate::decode_options::{decode_command, decoded_in};
 use crate::encode_options::encode_command;
 use crate::files_options::{files_command, files_in};
@@ -42,6 +44,8 @@ pub enum Request<'a> {
         quiet: bool,
         /// The spool file that keeps whole files, if there is one.
         spool: Option<&'a str>,
+        /// Where the operator's console is, if there is one.
+        console: Option<&'a str>,
         /// With a log in JSON.
         json: bool,
     },
@@ -68,6 +72,15 @@ pub enum Request<'a> {
         into: &'a str,
         /// Whether the other one is to be made, and isn't there yet.
         is_new: bool,
+    },
+    /// A command to a hub that runs.
+    Control {
+        /// Where its console is.
+        console: &'a str,
+        /// To print the answers as they came.
+        json: bool,
+        /// The command.
+        command: ConsoleCommand<'a>,
     },
 }
 
@@ -191,6 +204,7 @@ fn request_named<'a>(name: &str, options: &ArgMatches<'a>) -> Result<Request<'a>
         "encode" => Ok(Request::Task(Task::Encode)),
         "check" => checked_in(options),
         "files" => files_in(options),
+        "ctl" => controlled_in(options),
         _ => Err(Unasked::Missing),
     }
 }
@@ -211,6 +225,7 @@ fn refusal_of(
         ),
         Unasked::NoAddress(text) => no_address(alloc, program, text),
         Unasked::NoFormat(text) => no_format(alloc, program, text),
+        Unasked::NoCommand(word) => program.error(ErrorKind::InvalidSubcommand, usage_of(word)),
         Unasked::Unclear => program.error(
             ErrorKind::ArgumentConflict,
             "to copy files: --customer NAME --into FILE, or --compact NEW, without --export, \
@@ -242,6 +257,13 @@ fn no_format(alloc: Global, program: &mut Command<'_>, text: &str) -> Result<Err
 /// The program and its subcommands.
 fn program_command<'a>(alloc: Global) -> Result<Command<'a>, AllocError>
     ensures { IfOk result (λ command. app_of command ≡ program_app) }
+{
+    with_subcommand(filing_command(alloc), ctl_command(alloc))
+}
+
+/// The program and its first six subcommands.
+fn filing_command<'a>(alloc: Global) -> Result<Command<'a>, AllocError>
+    ensures { IfOk result (λ command. app_of command ≡ filing_app) }
 {
     with_subcommand(checking_command(alloc), files_command(alloc))
 }

@@ -3,6 +3,9 @@
 
 mod arguments;
 mod check_options;
+mod console_command;
+mod console_words;
+mod ctl_options;
 mod decode_options;
 mod encode_options;
 mod files_options;
@@ -12,4 +15,5 @@ mod serve_options;
 mod shown;
 
 pub use arguments::{Request, Task, not_utf8, request_of};
+pub use console_command::{Change, ConsoleCommand, FileState, Owner};
 pub use shown::{VERSION, is_shown};

@@ -6,6 +6,7 @@ ghost use Rattle.clap.specs.Words.{with_rule};
 ghost use Rattle.clap.specs.declared.builder.ArgAction.TheVariants.{Set};
 ghost use Rattle.clap.specs.declared.builder.command.Command.TheViews.{out-Command};
 ghost use Rattle.njh_arguments.specs.Arguments.{IsFlag, IsUnasked, SpellsNumber, flag_rule, spool_rule, tables_rule};
+ghost use Rattle.njh_arguments.specs.Commands.{is_set_in};
 
 use crate::serve_options::Unasked;
 use clap::{Arg, ArgAction, ArgMatches, Command};
@@ -100,7 +101,8 @@ pub(crate) fn is_given(options: &ArgMatches<'_>, name: &str) -> bool
 
 /// Whether a flag is set.
 pub(crate) fn is_set(options: &ArgMatches<'_>, flag: &str) -> bool
-    ensures { IsFlag flag.now (rows_of (found_of options.now)) result }
+    ensures flag { IsFlag flag.now (rows_of (found_of options.now)) result }
+    ensures value { result ≡ is_set_in flag.now (rows_of (found_of options.now)) }
 {
     match options.get_str(flag) {
         Some(text) => text == "true",

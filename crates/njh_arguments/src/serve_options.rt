@@ -8,6 +8,7 @@ ghost use Rattle.njh_arguments.specs.Arguments.{is_json_by, keeping_app, listen_
 ghost use Rattle.njh_arguments.specs.Arguments.{serve_app, turns_rule};
 
 use crate::arguments::Request;
+use crate::ctl_options::console_option;
 use crate::options::{
     described_command, flag, is_set, number_of, spool_option, tables_option, valued_option,
     with_option,
@@ -36,6 +37,8 @@ pub(crate) enum Unasked<'a> {
     NoAddress(&'a str),
     /// The text of `--log` is no format.
     NoFormat(&'a str),
+    /// The words behind `ctl`, of which the first is this, are no command.
+    NoCommand(&'a str),
     /// Files are to be copied, and which or where to isn't clear, or other options beside that.
     Unclear,
 }
@@ -58,6 +61,7 @@ pub(crate) fn served_in<'a>(options: &ArgMatches<'a>) -> Result<Request<'a>, Una
         strict: is_set(options, "strict"),
         quiet: is_set(options, "quiet"),
         spool: options.get_str("spool"),
+        console: options.get_str("console"),
         json,
     })
 }
@@ -110,7 +114,12 @@ pub(crate) fn serve_command<'a>(alloc: Global) -> Result<Command<'a>, AllocError
     ensures app { IfOk result (λ command. app_of command ≡ serve_app) }
     ensures local { IfOk result (λ command. (out-Command command).has_globals ≡ false) }
 {
-    with_option(keeping_command(alloc), log_option(alloc))
+    let console = console_option(
+        alloc,
+        "Listens for njehub ctl on this Unix socket, whose folder has to have mode 0700",
+    );
+    let controlled = with_option(keeping_command(alloc), console);
+    with_option(controlled, log_option(alloc))
 }
 
 /// `serve`, with its tables, turns, address, strict, quiet and spool file.

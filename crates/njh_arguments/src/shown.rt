@@ -30,5 +30,10 @@ pub fn is_shown<S: AsStr>(arguments: &[S], refusal: &Error) -> bool
 fn has_help(word: &str) -> bool
     ensures { result ≡ has_help word.now }
 {
-    word == "serve" || word == "decode" || word == "encode" || word == "check" || word == "files"
+    word == "serve"
+        || word == "decode"
+        || word == "encode"
+        || word == "check"
+        || word == "files"
+        || word == "ctl"
 }

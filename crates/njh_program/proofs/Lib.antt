@@ -1,2 +1,3 @@
+mod ControlLaws
 mod RequestLaws
 mod WordLaws

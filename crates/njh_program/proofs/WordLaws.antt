@@ -1,5 +1,5 @@
 -- What the program did, from what became of words that ask for nothing to be done.
-use Rattle.std.proofs.Common.{◌≡◌, ◌⊎◌, ℕ, List, Option, Result, Ok, Err, OnErr, OnOk, IfErr, inl, inr, true, subst, sym}
+use Rattle.std.proofs.Common.{◌≡◌, ◌⊎◌, ℕ, List, Option, Result, Ok, Err, OnErr, OnOk, IfErr, inl, inr, true, subst}
 use Rattle.std.specs.Io.KnownBytes.{Keeps}
 use Rattle.clap.specs.Words.{IsAmong, Text, fault_of, kind_of}
 use Rattle.clap.specs.declared.error.Error.{Error}
@@ -9,7 +9,7 @@ use Rattle.njh_arguments.specs.Shown.{is_shown}
 use Rattle.njh_subcommands.specs.declared.failure.Failure.{Failure}
 use Rattle.njh_subcommands.specs.declared.failure.Failure.TheVariants.{Arguments, Encode, Found, Replay, Tables, Trace}
 use Rattle.njh_subcommands.specs.declared.failure.Failure.TheVariants as failure
-use Rattle.njh_program.specs.ProgramOutcome.{IsBegunFor, IsFailed, IsOfDevices, IsRunDone}
+use Rattle.njh_program.specs.ProgramOutcome.{IsBegunFor, IsFailed, IsRunDone}
 use Rattle.njh_program.specs.ShownText.{IsTextBegun, IsTextShown, IsWordsEnd}
 
 -- a text is shown at a kind that clap gives of the arguments: the other refusals show none
@@ -26,7 +26,9 @@ shown_among arguments error (inr (inr (inl late))) shown =
     let bad = subst (λ (k : ErrorKind). is_shown arguments k ≡ true) late.0 shown in cc bad
 shown_among arguments error (inr (inr (inr (inl late)))) shown =
     let bad = subst (λ (k : ErrorKind). is_shown arguments k ≡ true) late.0 shown in cc bad
-shown_among arguments error (inr (inr (inr (inr late)))) shown =
+shown_among arguments error (inr (inr (inr (inr (inl late))))) shown =
+    let bad = subst (λ (k : ErrorKind). is_shown arguments k ≡ true) late.0 shown in cc bad
+shown_among arguments error (inr (inr (inr (inr (inr late))))) shown =
     let bad = subst (λ (k : ErrorKind). is_shown arguments k ≡ true) late.0 shown in cc bad
 
 words_failed : (arguments : List Text) (left : Option (List ℕ)) (why : Failure) → IsWordsEnd arguments why
@@ -38,6 +40,7 @@ words_failed arguments left (Trace fault) ended = absurd ended
 words_failed arguments left (Encode end) ended = absurd ended
 words_failed arguments left Found ended = absurd ended
 words_failed arguments left (failure.Files fault) ended = absurd ended
+words_failed arguments left (failure.Control fault) ended = absurd ended
 words_failed arguments left failure.Device ended = tt
 words_failed arguments left failure.Memory ended = tt
 

@@ -1,10 +1,10 @@
 -- What the program did, and why it failed.
 use Rattle.std.specs.Prelude.{◌≡◌, ◌⊎◌, ℕ, List, Option, Some, None, map, option_map, ⊤}
-use Rattle.std.specs.Io.KnownBytes.{Keeps}
+use Rattle.std.specs.Io.KnownBytes.{Appends, Keeps}
 use Rattle.clap.specs.Words.{Text}
 use Rattle.njh_arguments.specs.Arguments.{Asks}
 use Rattle.njh_arguments.specs.declared.arguments.Request.{Request}
-use Rattle.njh_arguments.specs.declared.arguments.Request.TheVariants.{Copy, Files, Serve}
+use Rattle.njh_arguments.specs.declared.arguments.Request.TheVariants.{Control, Copy, Files, Serve}
 use Rattle.njh_arguments.specs.declared.arguments.Request.TheVariants as request
 use Rattle.njh_arguments.specs.declared.arguments.Task.{Task}
 use Rattle.njh_arguments.specs.declared.arguments.Task.TheVariants.{Encode}
@@ -40,22 +40,28 @@ AreServedOf file turns None =
 AreServedOf file turns (Some spool) =
     (tables : TableFile) × AreGiven (Some file) tables × AreServed (HasLinesOf tables) tables turns
 
+-- what a console answered was told: a text, of which no clause says more, since none says what a socket gives
+abbrev pub IsTold : (old new : Option (List ℕ)) → Type 0
+IsTold old new = (text : List ℕ) × Appends old new text
+
 -- what a request asks for was done, of what a reader had left
 abbrev pub IsDone : Request → (left old new : Option (List ℕ)) → Type 0
 IsDone (request.Task task) left old new = tasks.IsDone task left old new
-IsDone (Serve tables turns listen strict quiet spool json) left old new =
+IsDone (Serve tables turns listen strict quiet spool console json) left old new =
     AreServedOf tables.now turns spool × Keeps old new
 IsDone (Files spool customer file number raw) left old new =
     IsPrinted (option_map (λ s. s.now) customer) file raw old new
 IsDone (Copy spool customer into is_new) left old new = IsListed (option_map (λ s. s.now) customer) old new
+IsDone (Control console json command) left old new = IsTold old new
 
 -- it was done in part
 abbrev pub IsDoneInPart : Request → (left old new : Option (List ℕ)) → Type 0
 IsDoneInPart (request.Task task) left old new = tasks.IsDoneInPart task left old new
-IsDoneInPart (Serve tables turns listen strict quiet spool json) left old new = Keeps old new
+IsDoneInPart (Serve tables turns listen strict quiet spool console json) left old new = Keeps old new
 IsDoneInPart (Files spool customer file number raw) left old new =
     IsPrintedInPart (option_map (λ s. s.now) customer) file raw old new
 IsDoneInPart (Copy spool customer into is_new) left old new = IsListedInPart (option_map (λ s. s.now) customer) old new
+IsDoneInPart (Control console json command) left old new = IsTextBegun old new
 
 -- What the arguments ask for was done: the script that a reader had left was replayed, lines were served, the trace or
 -- the lines in words that a reader had left were told or encoded, or a table file or a script was checked and is right;
@@ -73,9 +79,10 @@ IsBegunFor arguments left old new =
 -- written
 abbrev pub FindsFault : Request → (old new : Option (List ℕ)) → Type 0
 FindsFault (request.Task task) old new = tasks.FindsFault task old new
-FindsFault (Serve tables turns listen strict quiet spool json) old new = ⊥
+FindsFault (Serve tables turns listen strict quiet spool console json) old new = ⊥
 FindsFault (Files spool customer file number raw) old new = ⊥
 FindsFault (Copy spool customer into is_new) old new = ⊥
+FindsFault (Control console json command) old new = ⊥
 
 abbrev pub IsFound : (arguments : List Text) (old new : Option (List ℕ)) → Type 0
 IsFound arguments old new = (request : Request) × Asks arguments request × FindsFault request old new
@@ -83,9 +90,10 @@ IsFound arguments old new = (request : Request) × Asks arguments request × Fin
 -- a line in words is the first bad one, and what those before it become was written
 abbrev pub HasBadWords : Request → (fault : EncodeFault) (left old new : Option (List ℕ)) → Type 0
 HasBadWords (request.Task task) fault left old new = tasks.HasBadWords task fault left old new
-HasBadWords (Serve tables turns listen strict quiet spool json) fault left old new = ⊥
+HasBadWords (Serve tables turns listen strict quiet spool console json) fault left old new = ⊥
 HasBadWords (Files spool customer file number raw) fault left old new = ⊥
 HasBadWords (Copy spool customer into is_new) fault left old new = ⊥
+HasBadWords (Control console json command) fault left old new = ⊥
 
 abbrev pub IsEncodedBefore : (arguments : List Text) (fault : EncodeFault) (left old new : Option (List ℕ)) → Type 0
 IsEncodedBefore arguments fault left old new =
@@ -94,22 +102,30 @@ IsEncodedBefore arguments fault left old new =
 -- the tables of a request are refused so
 abbrev pub RefusesTables : Request → Failure → Type 0
 RefusesTables (request.Task task) failure = tasks.RefusesTables task failure
-RefusesTables (Serve tables turns listen strict quiet spool json) failure = AreRefused (Some tables) failure
+RefusesTables (Serve tables turns listen strict quiet spool console json) failure = AreRefused (Some tables) failure
 RefusesTables (Files spool customer file number raw) failure = ⊥
 RefusesTables (Copy spool customer into is_new) failure = ⊥
+RefusesTables (Control console json command) failure = ⊥
 
 -- why no spool file is printed or copied, or not all of what was asked for
 abbrev pub IsFilesEnd : Failure → Type 0
 IsFilesEnd (failure.Files fault) = ⊤
 IsFilesEnd failure = ⊥
 
+-- why a command to a hub wasn't carried out, or not told to the end
+abbrev pub IsControlEnd : Failure → Type 0
+IsControlEnd (failure.Control fault) = ⊤
+IsControlEnd failure.Device = ⊤
+IsControlEnd failure = ⊥
+
 -- why what a request asks for was not done, or not to the end
 abbrev pub Fails : Request → (left : Option (List ℕ)) → Failure → Type 0
 Fails (request.Task task) left failure = tasks.IsFailed task left failure
-Fails (Serve tables turns listen strict quiet spool json) left failure =
+Fails (Serve tables turns listen strict quiet spool console json) left failure =
     AreRefused (Some tables) failure ⊎ IsFilesEnd failure
 Fails (Files spool customer file number raw) left failure = IsFilesEnd failure
 Fails (Copy spool customer into is_new) left failure = IsFilesEnd failure
+Fails (Control console json command) left failure = IsControlEnd failure
 
 -- a task is asked for, and this holds of it
 abbrev pub AsksTask : (arguments : List Text) → (Task → Type 0) → Type 0
@@ -133,6 +149,7 @@ IsFailed arguments left (Trace trace.Memory) = ⊤
 IsFailed arguments left (failure.Encode end) = ⊤
 IsFailed arguments left Found = ⊤
 IsFailed arguments left (failure.Files fault) = ⊤
+IsFailed arguments left (failure.Control fault) = ⊤
 IsFailed arguments left failure.Device = ⊤
 IsFailed arguments left failure.Memory = ⊤
 

@@ -2,6 +2,8 @@
 //! print what a spool file holds, or a task of njh_subcommands.
 #![tactic(auto)]
 
+mod console_log;
+mod control;
 mod handles;
 mod program;
 mod refusals;

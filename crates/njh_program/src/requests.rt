@@ -11,6 +11,7 @@ ghost use Rattle.njh_listing.specs.Printed.{IsPrinted, IsPrintedInPart};
 ghost use Rattle.njh_subcommands.specs.Status.{ComesFirst};
 ghost use Rattle.njh_subcommands.specs.TableBytes.{AreRefused};
 
+use crate::control::control;
 use crate::service::{Options, serve_file};
 use crate::spooling::Spooling;
 use njh_arguments::Request;
@@ -89,6 +90,7 @@ pub(crate) fn carry_out_request<
             strict,
             quiet,
             spool,
+            console,
             json,
         } => {
             let style = LogStyle {
@@ -96,11 +98,23 @@ pub(crate) fn carry_out_request<
                 has_priority: is_for_journal,
             };
             let log = Log::new(if quiet { None } else { Some(log) }, style);
-            let listening = Listening {
-                address: listen,
-                strict,
+            let options = Options {
+                turns,
+                listening: Listening {
+                    address: listen,
+                    strict,
+                },
+                console,
             };
-            return serve_lines(rt, tables, spool, Options { turns, listening }, log);
+            return serve_lines(rt, tables, spool, options, log);
+        }
+        Request::Control {
+            console,
+            json,
+            command,
+        } => {
+            drop(log);
+            return control(rt, console, json, &command, out);
         }
     }
 }
@@ -151,10 +165,10 @@ fn serve_lines<F: Files + Spooling + Net + Clock + AllocGlobal, L: Write + Drop>
     rt: &F,
     path: &str,
     spool: Option<&str>,
-    options: Options,
+    options: Options<'_>,
     log: Log<L>,
 ) -> Result<(), Failure>
-    ensures served { OnOk result (AreServedOf path.now options.turns spool.entry) }
+    ensures served { OnOk result (AreServedOf path.now options.entry.turns spool.entry) }
     ensures refused { IfErr result (λ failure. AreRefused (Some path.now) failure ⊎ IsFilesEnd failure) }
 {
     match spool {

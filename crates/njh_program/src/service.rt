@@ -6,11 +6,15 @@ ghost use Rattle.njh_service.specs.Serving.{AreServedFrom};
 ghost use Rattle.njh_subcommands.specs.TableBytes.{AreGiven, AreRefused};
 ghost use Rattle.njh_table.specs.TableFile.{TableFile};
 
+use crate::console_log::open_console;
 use crate::handles::refuse_few;
 use crate::start_log::log_failure;
 use crate::table_source::TableFileSource;
 use njh_arguments::VERSION;
-use njh_service::{Exchange, Heading, Listening, Log, Revision, ServeFault, TableSource, serve};
+use njh_console::Console;
+use njh_service::{
+    Bureau, Exchange, Heading, Listening, Log, Revision, ServeFault, TableSource, serve,
+};
 use njh_sockets::{MioNetwork, utc_milliseconds};
 use njh_subcommands::{Failure, tables_twice};
 use njh_table::Tables;
@@ -23,11 +27,13 @@ use std::rt::{Clock, Files};
 
 /// How lines are served.
 #[derive(Clone, Copy)]
-pub struct Options {
+pub struct Options<'a> {
     /// For how many turns, if they end.
     pub turns: Option<u32>,
     /// How those with a port listen.
     pub listening: Listening,
+    /// Where the operator's console is, if there is one.
+    pub console: Option<&'a str>,
 }
 
 /// Serves the lines of a table file. No file is kept. If the table file can't be read, or its lines
@@ -35,10 +41,10 @@ pub struct Options {
 pub(crate) fn serve_file<F: Files + Net + Clock + AllocGlobal, L: Write + Drop>(
     rt: &F,
     path: &str,
-    options: Options,
+    options: Options<'_>,
     log: Log<L>,
 ) -> Result<(), Failure>
-    ensures served { OnOk result (AreServedOf {Spool = ⊤} path.now options.turns None) }
+    ensures served { OnOk result (AreServedOf {Spool = ⊤} path.now options.entry.turns None) }
     ensures refused { IfErr result (AreRefused (Some path.now)) }
 {
     let (served, _, log) = serve_over(rt, path, options, log, KeepsNothing);
@@ -50,17 +56,17 @@ pub(crate) fn serve_file<F: Files + Net + Clock + AllocGlobal, L: Write + Drop>(
 pub(crate) fn serve_over<F: Files + Net + Clock + AllocGlobal, L: Write + Drop, D: Depot + Drop>(
     rt: &F,
     path: &str,
-    options: Options,
+    options: Options<'_>,
     mut log: Log<L>,
     depot: D,
 ) -> (Result<(), Failure>, D, Log<L>)
     ensures served { OnOk result.0 ((tables : TableFile) × AreGiven (Some path.now) tables
-        × AreServedFrom D.opens D.says depot result.1 tables options.turns) }
+        × AreServedFrom D.opens D.says depot result.1 tables options.entry.turns) }
     ensures refused { IfErr result.0 (AreRefused (Some path.now)) }
 {
     match tables_and_revision(rt, path) {
-        Ok((tables, revision)) => match exchange_of(rt, &tables, log, revision) {
-            Ok(exchange) => serve_tables(rt.alloc(), depot, tables, exchange, options),
+        Ok((tables, revision)) => match bureau_of(rt, &tables, options.console, log, revision) {
+            Ok(bureau) => serve_tables(rt.alloc(), depot, tables, bureau, options),
             Err((failure, log)) => {
                 drop(tables);
                 (Err(failure), depot, log)
@@ -98,18 +104,19 @@ fn tables_and_revision<'a, F: Files + AllocGlobal>(
     }
 }
 
-/// An attendant of no line yet, on the sockets of this machine, for the lines of these tables. If
-/// there is none the log is given back.
-fn exchange_of<'a, R: Files + Net + Clock + AllocGlobal, L: Write + Drop, S: TableSource + Drop>(
+/// An attendant of no line yet, on the sockets of this machine, for the lines of these tables and
+/// the console, if there is to be one. If there is none the log is given back.
+fn bureau_of<'a, R: Files + Net + Clock + AllocGlobal, L: Write + Drop, S: TableSource + Drop>(
     rt: &'a R,
     tables: &Tables,
+    console: Option<&str>,
     mut log: Log<L>,
     revision: Revision<S>,
-) -> Result<Exchange<MioNetwork<'a, R>, L, S>, (Failure, Log<L>)>
+) -> Result<Bureau<MioNetwork<'a, R>, L, S>, (Failure, Log<L>)>
     ensures { IfErr result (λ refused. IsOfDevices refused.0) }
 {
-    match network_for(rt, tables, &mut log) {
-        Ok(network) => Ok(Exchange::new(rt.alloc(), VERSION, network, log, revision)),
+    match network_for(rt, tables, console, &mut log) {
+        Ok(network) => bureau_on(rt.alloc(), network, log, revision),
         Err(failure) => {
             drop(revision);
             Err((failure, log))
@@ -117,16 +124,48 @@ fn exchange_of<'a, R: Files + Net + Clock + AllocGlobal, L: Write + Drop, S: Tab
     }
 }
 
-/// The sockets of this machine, if the lines of these tables may have as many as they need.
+/// An attendant of no line yet and of a console, on a network. If there is none the log is given
+/// back.
+fn bureau_on<N: Network + Drop, L: Write + Drop, S: TableSource + Drop>(
+    alloc: Global,
+    network: N,
+    log: Log<L>,
+    revision: Revision<S>,
+) -> Result<Bureau<N, L, S>, (Failure, Log<L>)>
+    ensures { IfErr result (λ refused. IsOfDevices refused.0) }
+{
+    match Console::new(alloc) {
+        Ok(console) => {
+            let exchange = Exchange::new(alloc, VERSION, network, log, revision);
+            Ok(Bureau::new(alloc, exchange, console))
+        }
+        Err(_) => {
+            drop(network);
+            drop(revision);
+            Err((Failure::Memory, log))
+        }
+    }
+}
+
+/// The sockets of this machine, if the lines of these tables may have as many as they need, and the
+/// console, if there is to be one.
 fn network_for<'a, R: Files + Net + Clock + AllocGlobal, L: Write + Drop>(
     rt: &'a R,
     tables: &Tables,
+    console: Option<&str>,
     log: &mut Log<L>,
 ) -> Result<MioNetwork<'a, R>, Failure>
     ensures { IfErr result IsOfDevices }
 {
     refuse_few(rt, tables, log)?;
-    network_on(rt, log)
+    let mut network = network_on(rt, log)?;
+    match open_console(rt, &mut network, console, log) {
+        Ok(()) => Ok(network),
+        Err(failure) => {
+            drop(network);
+            Err(failure)
+        }
+    }
 }
 
 /// The sockets of this machine. If they can't be waited for the log says so.
@@ -153,14 +192,20 @@ fn serve_tables<N: Network + Drop, L: Write + Drop, S: TableSource + Drop, D: De
     alloc: Global,
     depot: D,
     tables: Tables,
-    exchange: Exchange<N, L, S>,
-    options: Options,
+    bureau: Bureau<N, L, S>,
+    options: Options<'_>,
 ) -> (Result<(), Failure>, D, Log<L>)
-    ensures served { OnOk result.0 (AreServedFrom D.opens D.says depot result.1 tables options.turns) }
+    ensures served { OnOk result.0 (AreServedFrom D.opens D.says depot result.1 tables options.entry.turns) }
     ensures refused { IfErr result.0 IsOfDevices }
 {
-    let Options { turns, listening } = options;
-    match serve(alloc, depot, tables, exchange, listening, turns) {
+    match serve(
+        alloc,
+        depot,
+        tables,
+        bureau,
+        options.listening,
+        options.turns,
+    ) {
         (Ok(()), depot, log) => (Ok(()), depot, log),
         (Err(fault), depot, log) => (Err(failure_of(fault)), depot, log),
     }

@@ -37,10 +37,10 @@ pub(crate) fn serve_spool_file<
     path: &str,
     spool: &str,
     start: S,
-    options: Options,
+    options: Options<'_>,
     mut log: Log<L>,
 ) -> Result<(), Failure>
-    ensures served { OnOk result (AreServedOf path.now options.turns (Some spool.now)) }
+    ensures served { OnOk result (AreServedOf path.now options.entry.turns (Some spool.now)) }
     ensures refused { IfErr result (λ failure. AreRefused (Some path.now) failure ⊎ IsFilesEnd failure) }
 {
     match rt.mark_spool(spool) {
@@ -83,12 +83,12 @@ fn serve_marked<F: Files + Net + Clock + AllocGlobal, L: Write + Drop, S: Origin
     rt: &F,
     path: &str,
     spool: &str,
-    options: Options,
+    options: Options<'_>,
     mut log: Log<L>,
     mut store: Store<S>,
 ) -> Result<(), Failure>
     requires { StandsAsFound S.Store S.found store }
-    ensures served { OnOk result (AreServedOf path.now options.turns (Some spool.now)) }
+    ensures served { OnOk result (AreServedOf path.now options.entry.turns (Some spool.now)) }
     ensures refused { IfErr result (λ failure. AreRefused (Some path.now) failure ⊎ IsFilesEnd failure) }
 {
     match store.set_mark() {
@@ -108,13 +108,13 @@ fn serve_kept<F: Files + Net + Clock + AllocGlobal, L: Write + Drop, S: Origin +
     rt: &F,
     path: &str,
     spool: &str,
-    options: Options,
+    options: Options<'_>,
     mut log: Log<L>,
     store: Store<S>,
 ) -> Result<(), Failure>
     requires { StandsAsFound S.Store S.found store }
-    ensures served { OnOk result (AreServedOf path.now options.turns (Some spool.now)) }
-    ensures kept { OnOk result (AreServedOver S.Store S.found store path.now options.turns) }
+    ensures served { OnOk result (AreServedOf path.now options.entry.turns (Some spool.now)) }
+    ensures kept { OnOk result (AreServedOver S.Store S.found store path.now options.entry.turns) }
     ensures refused { IfErr result (λ failure. AreRefused (Some path.now) failure ⊎ IsFilesEnd failure) }
 {
     let mut keeper = SpoolKeeper::new(rt, rt.alloc(), store, options.listening.strict);

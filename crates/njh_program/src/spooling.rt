@@ -56,10 +56,10 @@ pub trait Spooling {
         &self,
         path: &str,
         spool: &str,
-        options: Options,
+        options: Options<'_>,
         log: Log<L>,
     ) -> Result<(), Failure>
-        ensures served { OnOk result (AreServedOf path.now options.turns (Some spool.now)) }
+        ensures served { OnOk result (AreServedOf path.now options.entry.turns (Some spool.now)) }
         ensures refused { IfErr result (λ failure. AreRefused (Some path.now) failure ⊎ IsFilesEnd failure) };
 }
 
@@ -86,7 +86,7 @@ impl<F: SpoolFiles + Files + Net + Clock + AllocGlobal> Spooling for F {
         &self,
         path: &str,
         spool: &str,
-        options: Options,
+        options: Options<'_>,
         log: Log<L>,
     ) -> Result<(), Failure> {
         serve_spool_file(self, path, spool, Unknown, options, log)

@@ -1,7 +1,9 @@
 mod PostLaws
 mod AlikeLaws
+mod BureauLaws
 mod EndpointLaws
 mod OpenedLaws
+mod StateLaws
 mod StillLaws
 mod LineLaws
 mod LoggingLaws

@@ -7,20 +7,39 @@ use Rattle.std.specs.declared.net.ip_addr.IpAddr.{IpAddr}
 use Rattle.std.specs.declared.net.socket_addr.SocketAddr.{SocketAddr}
 use Rattle.std.proofs.Math.ListN.{get_or-map}
 use Rattle.njh_table.specs.declared.LineId.{LineId}
+use Rattle.njh_service.specs.LineStates.{with_state}
 use Rattle.njh_service.specs.Opened.{site_kept}
 use Rattle.njh_service.specs.Watching.{served_line, ServedLine}
+use Rattle.njh_answer.specs.declared.views.LineState.{LineState}
 use Rattle.njh_service.specs.declared.post.Post.{Post}
 use Rattle.njh_service.specs.declared.site.Site.{Site}
 use Rattle.std.proofs.Math.Seq.{map-set_same}
 
--- a post of which the line and the site stay
+-- a post of which the line, the site and the state stay
 pub served_stays : {L C : Type 0} (address_of : L → SocketAddr) (was new : Post L C) → new.line ≡ was.line
-    → site_kept address_of new.site ≡ site_kept address_of was.site
+    → site_kept address_of new.site ≡ site_kept address_of was.site → new.state ≡ was.state
     → served_line address_of new ≡ served_line address_of was
-served_stays {L} {C} address_of was new line site =
-    let On : LineId → ServedLine = λ id. record { id = id; site = site_kept address_of new.site } in
-    let At : Site (IpAddr × ℕ) SocketAddr → ServedLine = λ own. record { id = was.line; site = own } in
-    ap On line ∙ ap At site
+served_stays {L} {C} address_of was new line site state =
+    let On : LineId → ServedLine = λ id.
+    record { id = id; site = site_kept address_of new.site; state = new.state } in
+    let At : Site (IpAddr × ℕ) SocketAddr → ServedLine = λ own.
+    record { id = was.line; site = own; state = new.state } in
+    let As : LineState → ServedLine = λ its.
+    record { id = was.line; site = site_kept address_of was.site; state = its } in
+    ap On line ∙ (ap At site ∙ ap As state)
+
+-- a post of which the line and the site stay, and which is served so now
+pub served_so : {L C : Type 0} (address_of : L → SocketAddr) (was new : Post L C) (state : LineState)
+    → new.line ≡ was.line → site_kept address_of new.site ≡ site_kept address_of was.site → new.state ≡ state
+    → served_line address_of new ≡ with_state state (served_line address_of was)
+served_so {L} {C} address_of was new state line site is =
+    let On : LineId → ServedLine = λ id.
+    record { id = id; site = site_kept address_of new.site; state = new.state } in
+    let At : Site (IpAddr × ℕ) SocketAddr → ServedLine = λ own.
+    record { id = was.line; site = own; state = new.state } in
+    let As : LineState → ServedLine = λ its.
+    record { id = was.line; site = site_kept address_of was.site; state = its } in
+    ap On line ∙ (ap At site ∙ ap As is)
 
 -- one of them changed, and keeps its line
 pub lines_stay : {P L : Type 0} (line_of : P → L) (posts : List P) (lines : List L) (place : ℕ) (was new : P)

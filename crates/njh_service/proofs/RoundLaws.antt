@@ -79,6 +79,16 @@ one_begun now place r w mark new_mark watch new_watch in_r in_w mark_is watch_is
   is_other p place (inl less) same = omega (arith, less, same)
   is_other p place (inr more) same = omega (arith, more, same)
 
+-- a line of the marks and the watches is due
+pub due_there : (now place : ℕ) (r : List Readiness) (w : List Watch) (mark : Readiness) (watch : Watch)
+    → place < length r → place < length w → mark ≡ get_or r place mark → watch ≡ get_or w place watch
+    → IsDue (mark_at r place) (watch_at w place).moment now → IsDue mark watch.moment now
+due_there now place r w mark watch in_r in_w mark_is watch_is due =
+    let was : mark ≡ mark_at r place = get_or_read r place mark in_r mark_is nothing in
+    let is : watch ≡ watch_at w place = get_or_read w place watch in_w watch_is at_once in
+    subst (λ (m : Readiness). IsDue m watch.moment now) (sym was)
+    (subst (λ (x : Watch). IsDue (mark_at r place) x.moment now) (sym is) due)
+
 -- no line is at this place
 pub past_begun : (now place : ℕ) (r : List Readiness) (w : List Watch) → length r ≤ place → length w ≤ place
     → HasBegun now (mark_at r place) (mark_at r place) (watch_at w place) (watch_at w place)

@@ -14,6 +14,8 @@ use Rattle.njh_service.specs.Serving.{ArePlaced}
 use Rattle.njh_service.specs.Watching.{served_line, served_on, ServedLine}
 use Rattle.njh_service.specs.declared.door.Door.{Door}
 use Rattle.njh_service.specs.declared.endpoints.Endpoint.{Endpoint}
+use Rattle.njh_answer.specs.declared.views.LineState.{LineState}
+use Rattle.njh_answer.specs.declared.views.LineState.TheVariants.{Started}
 use Rattle.njh_service.specs.declared.post.Post.{Post}
 use Rattle.njh_service.specs.declared.site.Site.{Site}
 use Rattle.njh_service.proofs.AlikeLaws.{map_more}
@@ -22,14 +24,18 @@ use Rattle.njh_service.proofs.AlikeLaws.{map_more}
 pub post_added : {L C : Type 0} (address_of : L → SocketAddr) (posts new_posts : List (Post L C)) (post : Post L C)
     (lines : List ServedLine) (id : LineId) (site : Site (Door L) SocketAddr)
     → new_posts ≡ posts ++ post ∷ [] → map (served_line address_of) posts ≡ lines → post.line ≡ id
-    → site_kept address_of post.site ≡ site_opened address_of site
+    → site_kept address_of post.site ≡ site_opened address_of site → post.state ≡ Started
     → map (served_line address_of) new_posts
-    ≡ lines ++ record { id = id; site = site_opened address_of site } ∷ []
-post_added {L} {C} address_of posts new_posts post lines id site added seen line own =
-    let On : LineId → ServedLine = λ name. record { id = name; site = site_kept address_of post.site } in
-    let At : Site (IpAddr × ℕ) SocketAddr → ServedLine = λ its. record { id = id; site = its } in
-    let same : served_line address_of post ≡ record { id = id; site = site_opened address_of site } =
-    ap On line ∙ ap At own in
+    ≡ lines ++ record { id = id; site = site_opened address_of site; state = Started } ∷ []
+post_added {L} {C} address_of posts new_posts post lines id site added seen line own started =
+    let On : LineId → ServedLine = λ name.
+    record { id = name; site = site_kept address_of post.site; state = post.state } in
+    let At : Site (IpAddr × ℕ) SocketAddr → ServedLine = λ its.
+    record { id = id; site = its; state = post.state } in
+    let As : LineState → ServedLine = λ state.
+    record { id = id; site = site_opened address_of site; state = state } in
+    let same : served_line address_of post ≡ record { id = id; site = site_opened address_of site; state = Started } =
+    ap On line ∙ (ap At own ∙ ap As started) in
     ap (map (served_line address_of)) added
     ∙ (map-append (served_line address_of) posts (post ∷ [])
     ∙ (ap (λ (xs : List ServedLine). xs ++ served_line address_of post ∷ []) seen
@@ -66,13 +72,13 @@ pub served_more : {L : Type 0} (address_of : L → SocketAddr) (es : List Endpoi
     → ((address : IpAddr) → map (site_opened address_of) sites ≡ map (λ (e : Endpoint). site_on address e.site) es
     → before ≡ old ++ map (served_on address) (take n es))
     → n < length es → site ≡ get_or sites n site → told ≡ before
-    → after ≡ told ++ record { id = (get_or es n d).line; site = site_opened address_of site } ∷ []
+    → after ≡ told ++ record { id = (get_or es n d).line; site = site_opened address_of site; state = Started } ∷ []
     → (address : IpAddr) → map (site_opened address_of) sites ≡ map (λ (e : Endpoint). site_on address e.site) es
     → after ≡ old ++ map (served_on address) (take (n + 1) es)
 served_more address_of es sites n d site old before told after so_far within read still one address same =
     let front = map (served_on address) (take n es) in
     let line = (get_or es n d).line in
-    let own : Site (IpAddr × ℕ) SocketAddr → ServedLine = λ s. record { id = line; site = s } in
+    let own : Site (IpAddr × ℕ) SocketAddr → ServedLine = λ s. record { id = line; site = s; state = Started } in
     let its = its_site address_of address es sites n d site same within read in
     one
     ∙ (ap (λ (xs : List ServedLine). xs ++ own (site_opened address_of site) ∷ []) (still ∙ so_far address same)

@@ -18,9 +18,18 @@ next_dial has_failed now = min (now + pause_after has_failed) 184467440737095516
 abbrev pub given_up_at : (now : ℕ) → ℕ
 given_up_at now = min (now + 10000) 18446744073709551615
 
+abbrev pub state_resumed : {C : Type 0} → State C → (now : ℕ) → State C
+state_resumed (Resting moment) now = Resting now
+state_resumed (Dialling connection moment) now = Dialling connection moment
+state_resumed Connected now = Connected
+
 -- a dial failed: the next comes after the pause
 abbrev pub failed : {C : Type 0} → Dial C → (now : ℕ) → Dial C
 failed dial now = record dial { state = Resting (next_dial dial.has_failed now); has_failed = true }
+
+-- the next dial comes now, if none is under way and the line has no connection
+abbrev pub resumed : {C : Type 0} → Dial C → (now : ℕ) → Dial C
+resumed dial now = record dial { state = state_resumed dial.state now }
 
 -- when something is to be done that nobody's answer brings: the next dial, or giving one up
 abbrev pub dial_moment : {C : Type 0} → State C → ℕ

@@ -10,6 +10,6 @@ handles_of endpoint = elim endpoint.site [
   | Dials peer ↦ 1
 ]
 
--- all lines', and ten for what else is open
+-- all lines', and fifteen for what else is open
 abbrev pub handles_needed : List Endpoint → ℕ
-handles_needed endpoints = 10 + sum_by handles_of endpoints
+handles_needed endpoints = 15 + sum_by handles_of endpoints

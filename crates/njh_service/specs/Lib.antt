@@ -1,11 +1,13 @@
 pub mod Attention
 pub mod Awaiting
+pub mod Bureaus
 pub mod Connecting
 pub mod Dialling
 pub mod Doors
 pub mod Endpoints
 pub mod Giving
 pub mod Handles
+pub mod LineStates
 pub mod Logging
 pub mod News
 pub mod Objects

@@ -51,6 +51,18 @@ no_session_since since true false now = now
 no_session_since since true true now = since
 no_session_since since false is_up now = since
 
+-- since when it is up, or when the last one came up: since this came up, or as before
+abbrev pub up_since : (since : ℕ) → (was_up is_up : Bool) → (now : ℕ) → ℕ
+up_since since false true now = now
+up_since since false false now = since
+up_since since true is_up now = since
+
+-- why the last session ended that was up: so if this one did, or as before
+abbrev pub end_after : (last : Option SessionEnd) → (was_up is_up : Bool) → SessionEnd → Option SessionEnd
+end_after last true false end = Some end
+end_after last true true end = last
+end_after last false is_up end = last
+
 -- what is to be told of a session that was up or wasn't, and is now
 abbrev pub session_change : (was_up is_up : Bool) → (node : List ℕ) → SessionEnd → Option SessionChange
 session_change false true node end = Some (changes.Up node)
@@ -64,6 +76,8 @@ after_session label session end now = record label {
   in_session = is_session session.phase;
   tries_since = tries_since label.tries_since session.tries now;
   no_session_since = no_session_since label.no_session_since label.up (is_up session.phase) now;
+  up_since = up_since label.up_since label.up (is_up session.phase) now;
+  last_end = end_after label.last_end label.up (is_up session.phase) end;
   up = is_up session.phase;
   refusals = session.refusals;
   news = with_change (session_change label.up (is_up session.phase) label.node end) label.news;

@@ -9,21 +9,27 @@ use Rattle.njh_service.specs.Attention.{IsDue, IsInGroup, IsMarked, mark_at, wat
 use Rattle.njh_service.specs.Opened.{site_kept, site_on}
 use Rattle.njh_service.specs.declared.attention.Watch.{Watch}
 use Rattle.njh_service.specs.declared.endpoints.Endpoint.{Endpoint}
+use Rattle.njh_answer.specs.declared.views.LineState.{LineState}
+use Rattle.njh_answer.specs.declared.views.LineState.TheVariants.{Started}
 use Rattle.njh_service.specs.declared.post.Post.{Post}
 use Rattle.njh_service.specs.declared.site.Site.{Site}
 use Rattle.njh_service.specs.declared.traffic.Traffic.{Traffic}
 
--- A line that is served: which it is, and the address and the port on which it listens, or the peer that it dials.
+-- A line that is served: which it is, the address and the port on which it listens, or the peer that it dials, and how
+-- it is served.
 pub record ServedLine : Type 0 where
   pub id : LineId
   pub site : Site (IpAddr × ℕ) SocketAddr
+  pub state : LineState
 
 abbrev pub served_line : {L C : Type 0} → (L → SocketAddr) → Post L C → ServedLine
-served_line address_of post = record { id = post.line; site = site_kept address_of post.site }
+served_line address_of post =
+    record { id = post.line; site = site_kept address_of post.site; state = post.state }
 
--- the line of an endpoint, if lines with a port listen on this address
+-- the line of an endpoint, if lines with a port listen on this address, at first
 abbrev pub served_on : IpAddr → Endpoint → ServedLine
-served_on address endpoint = record { id = endpoint.line; site = site_on address endpoint.site }
+served_on address endpoint =
+    record { id = endpoint.line; site = site_on address endpoint.site; state = Started }
 
 -- What is seen of the attendant: the lines that it serves, by their places, what it noted of each, how many sign-ons
 -- were refused on each as its session was seen last, what is ready of each, when each is looked at, until when it

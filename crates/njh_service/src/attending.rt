@@ -1,6 +1,8 @@
 //! The attendant's part in the rounds of a service.
 
-use crate::exchange::Exchange;
+ghost use Rattle.std.specs.Prelude.{◌≡◌};
+
+use crate::bureau::Bureau;
 use crate::table_source::TableSource;
 use njh_command::Replies;
 use njh_hub::{Hub, HubFault};
@@ -9,10 +11,15 @@ use njh_wire::{LineWire, Network};
 use std::io::Write;
 
 impl<N: Network + Drop, L: Write + Drop, S: TableSource + Drop> Attendant<LineWire<N::Connection>>
-    for Exchange<N, L, S> {
-    /// Nobody ends it but by the number of turns.
+    for Bureau<N, L, S> {
+    ghost use Rattle.std.specs.Prelude.{◌≡◌};
+
+    // It waits to hear of the order that its console gave.
+    ghost waits = { λ bureau order. bureau.console.orders.given ≡ order };
+
+    /// The operator may end it.
     fn is_over(&self) -> bool {
-        false
+        self.is_over()
     }
 
     fn before(&mut self, wires: &mut [LineWire<N::Connection>]) {
@@ -20,16 +27,16 @@ impl<N: Network + Drop, L: Write + Drop, S: TableSource + Drop> Attendant<LineWi
     }
 
     fn new_routes(&mut self) -> Option<NewRoutes> {
-        self.revise()
+        self.exchange.revise()
     }
 
     fn routes_given(&mut self, customer: u16, answer: Result<(), HubFault>) {
-        self.tell_routes(customer, answer);
+        self.exchange.tell_routes(customer, answer);
     }
 
-    /// Nobody orders anything of a running service yet.
+    /// What the operator ordered in the round before.
     fn new_order(&mut self) -> Option<NewOrder> {
-        None
+        self.console.order()
     }
 
     fn order_done(
@@ -39,19 +46,20 @@ impl<N: Network + Drop, L: Write + Drop, S: TableSource + Drop> Attendant<LineWi
         answer: Result<(), HubFault>,
         replies: &Replies,
     ) {
-        self.desk.tell_order(new, answer, replies);
+        self.order_done(new, answer, replies);
     }
 
     fn is_due(&self, place: usize) -> bool {
-        self.is_due(place)
+        self.exchange.is_due(place)
     }
 
     fn prompts(&self, place: usize, hub: &Hub) -> bool {
-        self.prompts(place, hub)
+        self.exchange.prompts(place, hub)
     }
 
     fn after(&mut self, hub: &Hub, wires: &mut [LineWire<N::Connection>]) {
-        self.tell_unrouted(hub);
+        self.exchange.tell_unrouted(hub);
         self.end_round(hub, wires);
+        self.serve_console(hub, wires);
     }
 }

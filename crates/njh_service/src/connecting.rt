@@ -141,6 +141,7 @@ impl<N: Network + Drop, L: Write + Drop> Desk<N, L> {
         // That the session before used up its tries ends its own connection, and not this one.
         label.in_session = false;
         label.no_session_since = self.now;
+        label.connected_since = self.now;
         label.awaits_again = 0;
         self.tell_connected(label, event);
     }
@@ -254,7 +255,7 @@ pub(crate) fn kept_until(is_up: bool, since: u64) -> u64
 }
 
 /// When a listener is looked at again.
-fn listens_again(admission: Admission, now: u64) -> u64
+pub(crate) fn listens_again(admission: Admission, now: u64) -> u64
     ensures { result ≡ listens_again admission now }
 {
     match admission {

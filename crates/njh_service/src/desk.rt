@@ -7,15 +7,18 @@ ghost use Rattle.njh_hub.specs.WholeHub.{HasLine};
 ghost use Rattle.njh_wire.specs.Standing.{due};
 ghost use Rattle.njh_wire.specs.Tally.{tally};
 ghost use Rattle.njh_service.specs.Attention.{again_at, first_of, stalled_at, IsDue, IsMarked};
+ghost use Rattle.njh_service.specs.Connecting.{IsConnected};
 ghost use Rattle.njh_service.specs.Logging.{IsLogged};
 ghost use Rattle.njh_service.specs.News.{news_moment, IsTold};
 ghost use Rattle.njh_service.specs.Opened.{site_kept};
 ghost use Rattle.njh_service.specs.Sessions.{HasRefused, IsReady};
+ghost use Rattle.njh_answer.specs.declared.views.LineState.TheVariants.{Stopped};
 
 use crate::attention::{NOTHING, Watch, is_marked};
 use crate::customers::Customers;
 use crate::entry::LogEvent;
 use crate::heading::{Heading, Place};
+use crate::line_state::is_stopped;
 use crate::log::Log;
 use crate::post::{Label, Post};
 use crate::sessions::sight_of;
@@ -76,6 +79,8 @@ impl<N: Network + Drop, L: Write + Drop> Desk<N, L> {
         ensures tally { tally wire.new ≡ tally wire.old }
         ensures line { post.new.line ≡ post.old.line }
         ensures site { site_kept N.address_of post.new.site ≡ site_kept N.address_of post.old.site }
+        ensures state { post.new.state ≡ post.old.state }
+        ensures stopped { post.old.state ≡ Stopped → IsTrue watch.new.is_due → ¬ IsConnected wire.new }
         ensures now { self.new.now ≡ self.old.now }
     {
         let mark = *ready;
@@ -85,7 +90,7 @@ impl<N: Network + Drop, L: Write + Drop> Desk<N, L> {
         }
         *ready = NOTHING;
         wire.set_clock(self.now);
-        if is_ready || post.moment <= self.now {
+        if is_ready || post.moment <= self.now || is_stopped(post.state) {
             self.attend(place, post, wire, mark);
         }
     }
@@ -103,6 +108,33 @@ impl<N: Network + Drop, L: Write + Drop> Desk<N, L> {
         ensures clock { wire.new.clock ≡ wire.old.clock }
         ensures line { post.new.line ≡ post.old.line }
         ensures site { site_kept N.address_of post.new.site ≡ site_kept N.address_of post.old.site }
+        ensures state { post.new.state ≡ post.old.state }
+        ensures stopped { post.old.state ≡ Stopped → ¬ IsConnected wire.new }
+        ensures now { self.new.now ≡ self.old.now }
+    {
+        if is_stopped(post.state) {
+            self.hold(place, post, wire, mark);
+        } else {
+            self.look_for_peer(place, post, wire, mark);
+        }
+        // A connection that ends in the round to come is seen to have been there.
+        post.linked = post.linked || wire.is_connected();
+    }
+
+    /// Looks at a line that isn't stopped.
+    fn look_for_peer(
+        &mut self,
+        place: usize,
+        post: &mut Post<N::Listener, N::Connection>,
+        wire: &mut LineWire<N::Connection>,
+        mark: Readiness,
+    )
+        ensures counts { wire.old.failures ≤ wire.new.failures }
+        ensures tally { tally wire.new ≡ tally wire.old }
+        ensures clock { wire.new.clock ≡ wire.old.clock }
+        ensures line { post.new.line ≡ post.old.line }
+        ensures site { site_kept N.address_of post.new.site ≡ site_kept N.address_of post.old.site }
+        ensures state { post.new.state ≡ post.old.state }
         ensures now { self.new.now ≡ self.old.now }
     {
         if mark.reads {
@@ -122,8 +154,6 @@ impl<N: Network + Drop, L: Write + Drop> Desk<N, L> {
                 post.moment = dial.moment();
             }
         }
-        // A connection that ends in the round to come is seen to have been there.
-        post.linked = post.linked || wire.is_connected();
     }
 
     /// Ends the connection of a line whose session gave up, or refused a sign-on, and tells what
@@ -139,6 +169,7 @@ impl<N: Network + Drop, L: Write + Drop> Desk<N, L> {
         ensures tally { tally wire.new ≡ tally wire.old }
         ensures line { post.new.line ≡ post.old.line }
         ensures site { site_kept N.address_of post.new.site ≡ site_kept N.address_of post.old.site }
+        ensures state { post.new.state ≡ post.old.state }
         ensures told { IsTold post.new.label.news self.old.now }
         ensures tells { result ≤ news_moment post.new.label.news }
         ensures kept { HasLine hub.now post.old.line → ¬ HasGivenUp hub.now post.old.line →
@@ -167,6 +198,7 @@ impl<N: Network + Drop, L: Write + Drop> Desk<N, L> {
         ensures tally { tally wire.new ≡ tally wire.old }
         ensures line { post.new.line ≡ post.old.line }
         ensures site { site_kept N.address_of post.new.site ≡ site_kept N.address_of post.old.site }
+        ensures state { post.new.state ≡ post.old.state }
         ensures told { IsTold post.new.label.news self.old.now }
         ensures kept { HasLine hub.now post.old.line → ¬ HasGivenUp hub.now post.old.line →
             ¬ HasRefused post.old.label (line_view (hub_line post.old.line hub.now).state) →

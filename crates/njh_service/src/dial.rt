@@ -2,7 +2,7 @@
 
 ghost use Rattle.std.specs.Prelude.{◌≡◌, ◌↔◌, IsTrue, IsSome, true, false};
 ghost use Rattle.njh_service.specs.Dialling.{connection_in, dial_moment, failed, given_up_at, next_dial, pause_after};
-ghost use Rattle.njh_service.specs.Dialling.{IsToCome};
+ghost use Rattle.njh_service.specs.Dialling.{resumed, IsToCome};
 ghost use Rattle.njh_service.specs.declared.dial.State.TheVariants.{Connected, Dialling, Resting};
 
 use njh_wire::Network;
@@ -57,6 +57,13 @@ impl<C: Drop> Dial<C> {
         ensures { result ≡ self.now.address }
     {
         self.address
+    }
+
+    /// Whether a dial failed since the last connection was made.
+    pub(crate) fn has_failed(&self) -> bool
+        ensures { result ≡ self.now.has_failed }
+    {
+        self.has_failed
     }
 
     /// When it wants to be looked at.
@@ -131,6 +138,24 @@ impl<C: Drop> Dial<C> {
         ensures { self.new ≡ record self.old { state = Resting (next_dial self.old.has_failed now) } }
     {
         self.rest(now);
+    }
+
+    /// Nobody is dialled. A dial that is under way is given up.
+    pub(crate) fn halt(&mut self)
+        ensures { self.new ≡ record self.old { state = Resting 18446744073709551615 } }
+    {
+        self.state = State::Resting(u64::MAX);
+    }
+
+    /// The next dial comes now, if none is under way and the line has no connection.
+    pub(crate) fn resume(&mut self, now: u64)
+        ensures { self.new ≡ resumed self.old now }
+    {
+        match &mut self.state {
+            State::Resting(moment) => *moment = now,
+            State::Dialling(_, _) => {}
+            State::Connected => {}
+        }
     }
 
     /// The next dial comes after the pause.

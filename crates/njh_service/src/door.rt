@@ -162,7 +162,7 @@ impl<N: Network + Drop, L: Write + Drop> Desk<N, L> {
     }
 
     /// Tries the port of a line again if the time for that came.
-    fn try_door(&mut self, place: usize, door: &mut Door<N::Listener>, label: &Label)
+    pub(crate) fn try_door(&mut self, place: usize, door: &mut Door<N::Listener>, label: &Label)
         ensures address { door_address N.address_of door.new ≡ door_address N.address_of door.old }
         ensures tried { IsSome (to_try door.old self.old.now) → IsTried self.old.now door.new }
         ensures waits { to_try door.old self.old.now ≡ None → door.new ≡ door.old }

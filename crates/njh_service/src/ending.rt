@@ -2,7 +2,7 @@
 
 ghost use Rattle.std.specs.Prelude.{◌≡◌};
 ghost use Rattle.njh_service.specs.Sessions.{is_session, is_up, no_session_since, session_change, session_end};
-ghost use Rattle.njh_service.specs.Sessions.{refusal_event, tries_end, tries_since};
+ghost use Rattle.njh_service.specs.Sessions.{end_after, refusal_event, tries_end, tries_since, up_since};
 
 use crate::entry::{LogEvent, SessionChange, SessionEnd};
 use crate::last_frame::LastFrame;
@@ -46,6 +46,25 @@ pub(crate) fn no_session_since(since: u64, was_up: bool, is_up: bool, now: u64) 
     ensures { result ≡ no_session_since since was_up is_up now }
 {
     if was_up && !is_up { now } else { since }
+}
+
+/// Since when a session is up, or when the last one came up, now that it was seen.
+pub(crate) fn up_since(since: u64, was_up: bool, is_up: bool, now: u64) -> u64
+    ensures { result ≡ up_since since was_up is_up now }
+{
+    if !was_up && is_up { now } else { since }
+}
+
+/// Why the last session ended that was up, now that one was seen which ended so if it is down.
+pub(crate) fn end_after(
+    last: Option<SessionEnd>,
+    was_up: bool,
+    is_up: bool,
+    end: SessionEnd,
+) -> Option<SessionEnd>
+    ensures { result ≡ end_after last was_up is_up end }
+{
+    if was_up && !is_up { Some(end) } else { last }
 }
 
 /// How a session ended that made five tries in a row: without an answer if nothing came since the

@@ -77,6 +77,12 @@ pub enum LogEvent {
     Unrouted(u32),
     /// Its new routes were refused.
     RoutesRefused(HubFault),
+    /// The operator started the line.
+    LineStarted,
+    /// It is stopped once no file is on its streams.
+    LineDrains,
+    /// It is stopped: its connection ends, and it lets none in.
+    LineStopped,
 }
 
 /// Why a connection failed.
@@ -175,6 +181,9 @@ impl fmt::Display for LogEvent {
                 write!(f, "{files} files are held, since their nodes have no route")
             }
             LogEvent::RoutesRefused(fault) => write!(f, "new routes refused: {fault}"),
+            LogEvent::LineStarted => f.write_str("started"),
+            LogEvent::LineDrains => f.write_str("is stopped once no file is on its streams"),
+            LogEvent::LineStopped => f.write_str("stopped"),
         }
     }
 }

@@ -9,12 +9,16 @@ ghost use Rattle.njh_hub.specs.WholeHub.{HasLine};
 ghost use Rattle.njh_wire.specs.Tally.{tally, IsTallied};
 ghost use Rattle.njh_service.specs.Opened.{site_opened};
 ghost use Rattle.njh_service.specs.Prompting.{IsPrompted};
-ghost use Rattle.njh_service.specs.Attention.{at_once, mark_at, watch_at, IsAnyMarked, IsInGroup};
+ghost use Rattle.njh_service.specs.Attention.{at_once, mark_at, watch_at, IsAnyMarked, IsDue, IsInGroup};
+ghost use Rattle.njh_service.specs.Connecting.{IsConnected};
 ghost use Rattle.njh_service.specs.Sessions.{HasRefusedMore};
 ghost use Rattle.njh_service.specs.Watching.{HasBegun, HaveBegun, IsRoundBegun, ServedLine};
+ghost use Rattle.njh_answer.specs.declared.views.LineState.TheVariants.{Started, Stopped};
 ghost use Rattle.njh_service.specs.declared.attention.Watch.{Watch};
 ghost use Rattle.njh_service.specs.declared.traffic.Traffic.{Traffic};
 
+pub(crate) mod states;
+mod viewing;
 mod waking;
 
 use crate::attention::{
@@ -132,7 +136,7 @@ impl<N: Network + Drop, L: Write + Drop, S: TableSource + Drop> Exchange<N, L, S
         site: Site<Door<N::Listener>, SocketAddr>,
     ) -> Result<(), AllocError>
         ensures added { OnOk result (self.new.lines
-            ≡ self.old.lines ++ record { id = id; site = site_opened N.address_of site } ∷ []) }
+            ≡ self.old.lines ++ record { id = id; site = site_opened N.address_of site; state = Started } ∷ []) }
         ensures watched { OnOk result (self.new.watches ≡ self.old.watches ++ at_once ∷ []) }
         ensures err { OnErr result (self.new ≡ self.old) }
     {
@@ -149,23 +153,24 @@ impl<N: Network + Drop, L: Write + Drop, S: TableSource + Drop> Exchange<N, L, S
         Ok(())
     }
 
-    /// Waits until a line is ready or due, and looks at each that is.
-    pub(crate) fn begin_round(&mut self, wires: &mut [LineWire<N::Connection>])
+    /// Waits until a line is ready or due, until this moment at most, and looks at each that is.
+    pub(crate) fn begin_round(&mut self, until: u64, wires: &mut [LineWire<N::Connection>])
         ensures still { AreStill IsTallied (λ wire. wire.failures) wires.old wires.new }
         ensures lines { self.new.lines ≡ self.old.lines }
         ensures begun { IsRoundBegun (min (length self.old.lines) (length wires.old)) self.old self.new }
     {
-        self.wait();
+        self.wait(until);
         self.begin_groups(wires);
     }
 
-    /// Waits until something of a line is ready, or one wants to be looked at.
-    fn wait(&mut self)
+    /// Waits until something of a line is ready, or one wants to be looked at, until this moment at
+    /// most.
+    fn wait(&mut self, until: u64)
         ensures lines { self.new.lines ≡ self.old.lines }
         ensures watches { self.new.watches ≡ self.old.watches }
     {
         self.desk.now = self.desk.network.now();
-        let wait = wait_of(self.desk.now, self.next);
+        let wait = wait_of(self.desk.now, self.next.min(until));
         wait_on(&mut self.desk.network, wait, &mut self.ready);
         self.desk.now = self.desk.network.now();
     }
@@ -224,8 +229,7 @@ impl<N: Network + Drop, L: Write + Drop, S: TableSource + Drop> Exchange<N, L, S
         }
     }
 
-    /// Looks at a line if something of it is ready or its moment came, and sets its wire's clock
-    /// then.
+    /// Looks at a line if something is ready or its moment came, and sets its wire's clock then.
     fn begin(&mut self, place: usize, wire: &mut LineWire<N::Connection>)
         ensures counts { wire.old.failures ≤ wire.new.failures }
         ensures tally { tally wire.new ≡ tally wire.old }
@@ -233,6 +237,9 @@ impl<N: Network + Drop, L: Write + Drop, S: TableSource + Drop> Exchange<N, L, S
         ensures now { self.new.now ≡ self.old.now }
         ensures begun { HaveBegun self.old.now place (place + 1) self.old.ready self.new.ready self.old.watches
             self.new.watches }
+        ensures stopped { (line : ServedLine) → slice_get self.old.lines place ≡ Some line → line.state ≡ Stopped →
+            IsDue (mark_at self.old.ready place) (watch_at self.old.watches place).moment self.old.now →
+            ¬ IsConnected wire.new }
     {
         if self.posts.len() <= place {
             return;
@@ -283,8 +290,7 @@ impl<N: Network + Drop, L: Write + Drop, S: TableSource + Drop> Exchange<N, L, S
         self.wake(hub);
     }
 
-    /// Ends the round of a group's lines, if one was looked at. Answers when one wants to be
-    /// looked at next.
+    /// Ends a group's round, if one of its lines was looked at. Answers when one wants to be next.
     fn end_group(&mut self, group: usize, hub: &Hub, wires: &mut [LineWire<N::Connection>]) -> u64
         ensures still { AreStill IsTallied (λ wire. wire.failures) wires.old wires.new }
         ensures lines { self.new.lines ≡ self.old.lines }

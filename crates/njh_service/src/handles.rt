@@ -14,8 +14,8 @@ const DIALLING: u64 = 1;
 
 /// What else is open: the three standard streams, the poll of the sockets, a spool file with its
 /// log and their folder, the table file while it is read, a connection that is let in before the one
-/// that it takes the place of is gone, and one more.
-const OTHERS: u64 = 10;
+/// that it takes the place of is gone, the console's listener and its four visitors, and one more.
+const OTHERS: u64 = 15;
 
 /// How many handles these lines need, with all that is open beside them.
 pub fn handles_needed(endpoints: &[Endpoint]) -> u64

@@ -3,19 +3,25 @@
 ghost use Rattle.std.specs.Prelude.{◌≡◌, ◌↔◌, IsTrue};
 ghost use Rattle.std.specs.declared.net.socket_addr.SocketAddr.{SocketAddr};
 ghost use Rattle.njh_service.specs.Dialling.{moment_of_loss};
+ghost use Rattle.njh_service.specs.LineStates.{change_event};
 ghost use Rattle.njh_service.specs.Opened.{site_kept, site_opened};
 ghost use Rattle.njh_service.specs.Sessions.{after_session, moment_seen, HasRefused};
+ghost use Rattle.njh_answer.specs.declared.views.LineState.TheVariants.{Started};
 
 use crate::connecting::kept_until;
 use crate::dial::Dial;
 use crate::door::Door;
-use crate::ending::{is_session, is_up, no_session_since, session_change, tries_since};
-use crate::entry::SessionEnd;
+use crate::ending::{
+    end_after, is_session, is_up, no_session_since, session_change, tries_since, up_since,
+};
+use crate::entry::{LogEvent, SessionEnd};
+use crate::line_state::change_event;
 use crate::news::News;
 use crate::site::Site;
 use crate::streams::Streams;
 use crate::traffic::Traffic;
 use arrayvec::ArrayString;
+use njh_answer::LineState;
 use njh_ebcdic::Name;
 use njh_hub::SessionView;
 use njh_table::LineId;
@@ -62,6 +68,12 @@ pub(crate) struct Label {
     pub(crate) refusals: u64,
     /// Until when it takes no connection, on the service's clock.
     pub(crate) barred_until: u64,
+    /// When its last connection came, on the service's clock.
+    pub(crate) connected_since: u64,
+    /// When its last session came up, on the service's clock.
+    pub(crate) up_since: u64,
+    /// Why the last session ended that was up, if one did.
+    pub(crate) last_end: Option<SessionEnd>,
     /// From when on it may be told that its connection is without a session.
     pub(crate) awaits_again: u64,
 }
@@ -82,6 +94,9 @@ impl Label {
             tries_since: None,
             refusals: 0,
             barred_until: 0,
+            connected_since: 0,
+            up_since: 0,
+            last_end: None,
             awaits_again: 0,
             again: 0,
             connected: false,
@@ -98,6 +113,8 @@ impl Label {
         self.in_session = is_session(session.phase);
         self.tries_since = tries_since(self.tries_since, session.tries, now);
         self.no_session_since = no_session_since(self.no_session_since, self.up, is_up, now);
+        self.up_since = up_since(self.up_since, self.up, is_up, now);
+        self.last_end = end_after(self.last_end, self.up, is_up, end);
         self.up = is_up;
         self.refusals = session.refusals;
     }
@@ -118,6 +135,8 @@ pub(crate) struct Post<Li: Drop, C: Drop> {
     /// Whether its wire had a connection, or an end to tell, when it was last looked at.
     pub(crate) linked: bool,
     pub(crate) line: LineId,
+    /// How it is served.
+    pub(crate) state: LineState,
     /// Its door, or its dials.
     pub(crate) site: Site<Door<Li>, Dial<C>>,
     pub(crate) label: Label,
@@ -131,6 +150,7 @@ impl<Li: Drop, C: Drop> Post<Li, C> {
     /// A line on which nothing happened yet.
     pub(crate) fn new(id: LineId, label: Label, site: Site<Door<Li>, SocketAddr>) -> Post<Li, C>
         ensures line { result.line ≡ id }
+        ensures state { result.state ≡ Started }
         ensures site { (address_of : Li → SocketAddr)
             → site_kept address_of result.site ≡ site_opened address_of site }
     {
@@ -138,6 +158,7 @@ impl<Li: Drop, C: Drop> Post<Li, C> {
             moment: 0,
             linked: false,
             line: id,
+            state: LineState::Started,
             site: match site {
                 Site::Listens(door) => Site::Listens(door),
                 Site::Dials(address) => Site::Dials(Dial::new(address)),
@@ -164,9 +185,41 @@ impl<Li: Drop, C: Drop> Post<Li, C> {
         }
     }
 
+    /// It is served so from now on. If it wasn't before, it is looked at at this moment, and what is
+    /// told of the change is answered.
+    pub(crate) fn set_state(&mut self, state: LineState, now: u64) -> Option<LogEvent>
+        ensures line { self.new.line ≡ self.old.line }
+        ensures site { (address_of : Li → SocketAddr)
+            → site_kept address_of self.new.site ≡ site_kept address_of self.old.site }
+        ensures state { self.new.state ≡ state }
+        ensures told { result ≡ change_event self.old.state state }
+    {
+        let event = change_event(self.state, state);
+        self.state = state;
+        if event.is_some() {
+            self.moment = now;
+            self.resume(now);
+        }
+        event
+    }
+
+    /// If it is dialled and may have a connection, and none is under way, the next dial comes now.
+    fn resume(&mut self, now: u64)
+        ensures line { self.new.line ≡ self.old.line }
+        ensures state { self.new.state ≡ self.old.state }
+        ensures site { (address_of : Li → SocketAddr)
+            → site_kept address_of self.new.site ≡ site_kept address_of self.old.site }
+    {
+        match &mut self.site {
+            Site::Listens(_) => {}
+            Site::Dials(dial) => dial.resume(now),
+        }
+    }
+
     /// The line has no connection any more.
     pub(crate) fn lose(&mut self, now: u64)
         ensures line { self.new.line ≡ self.old.line }
+        ensures state { self.new.state ≡ self.old.state }
         ensures site { (address_of : Li → SocketAddr)
             → site_kept address_of self.new.site ≡ site_kept address_of self.old.site }
         ensures moment { self.new.moment ≡ moment_of_loss self.old.site self.old.moment now }

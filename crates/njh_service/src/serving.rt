@@ -10,8 +10,8 @@ ghost use Rattle.njh_service.specs.Opened.{IsApart};
 ghost use Rattle.njh_service.specs.Serving.{AreServedFrom, ArePlaced, IsOpened, IsOpenedOn};
 ghost use Rattle.njh_service.specs.Watching.{served_on};
 
+use crate::bureau::Bureau;
 use crate::endpoints::Endpoint;
-use crate::exchange::Exchange;
 use crate::fault::ServeFault;
 use crate::log::Log;
 use crate::opening::Listening;
@@ -39,13 +39,13 @@ pub fn serve<N: Network + Drop, L: Write + Drop, S: TableSource + Drop, D: Depot
     alloc: Global,
     depot: D,
     tables: Tables,
-    exchange: Exchange<N, L, S>,
+    bureau: Bureau<N, L, S>,
     listening: Listening,
     turns: Option<u32>,
 ) -> (Result<(), ServeFault>, D, Log<L>)
     ensures { OnOk result.0 (AreServedFrom D.opens D.says depot result.1 tables turns) }
 {
-    match service_on(alloc, depot, tables, exchange, listening, turns.is_none()) {
+    match service_on(alloc, depot, tables, bureau, listening, turns.is_none()) {
         Ok(mut service) => match service.run(turns) {
             Ok(()) => {
                 let (depot, log) = ended(service);
@@ -56,18 +56,18 @@ pub fn serve<N: Network + Drop, L: Write + Drop, S: TableSource + Drop, D: Depot
                 (Err(ServeFault::Device), depot, log)
             }
         },
-        Err((fault, depot, exchange)) => (Err(fault), depot, exchange.into_log()),
+        Err((fault, depot, bureau)) => (Err(fault), depot, bureau.into_log()),
     }
 }
 
 /// What is left of a service of which no more lines are served: its depot and its log.
 fn ended<W: Drop, N: Network + Drop, L: Write + Drop, S: TableSource + Drop, D: Drop>(
-    service: Service<W, Exchange<N, L, S>, D>,
+    service: Service<W, Bureau<N, L, S>, D>,
 ) -> (D, Log<L>)
     ensures { result.0 ≡ service.depot }
 {
-    let (depot, exchange) = service.into_parts();
-    (depot, exchange.into_log())
+    let (depot, bureau) = service.into_parts();
+    (depot, bureau.into_log())
 }
 
 /// A service of the lines of tables that have a port or a peer, of a hub that the depot opens. If
@@ -79,24 +79,21 @@ pub fn service_on<N: Network + Drop, L: Write + Drop, S: TableSource + Drop, D: 
     alloc: Global,
     depot: D,
     tables: Tables,
-    mut exchange: Exchange<N, L, S>,
+    mut bureau: Bureau<N, L, S>,
     listening: Listening,
     needed: bool,
-) -> Result<
-    Service<LineWire<N::Connection>, Exchange<N, L, S>, D>,
-    (ServeFault, D, Exchange<N, L, S>),
->
+) -> Result<Service<LineWire<N::Connection>, Bureau<N, L, S>, D>, (ServeFault, D, Bureau<N, L, S>)>
     ensures opened { IfOk result (λ service. IsOpened (D.opens depot service.depot tables) tables service) }
-    ensures attended { IfOk result (λ service. service.attendant.lines
-        ≡ exchange.lines ++ map (served_on listening.address) (endpoints_of tables)) }
+    ensures attended { IfOk result (λ service. service.attendant.exchange.lines
+        ≡ bureau.exchange.lines ++ map (served_on listening.address) (endpoints_of tables)) }
     ensures places { IfOk result (λ service. ArePlaced service.wires) }
     ensures settled { IfOk result (λ service. IsSettled D.says service.depot service.hub) }
 {
-    match exchange.open_lines(alloc, &tables, listening, needed) {
-        Ok(endpoints) => service_of(alloc, depot, tables, &endpoints, exchange),
+    match bureau.open_lines(alloc, &tables, listening, needed) {
+        Ok(endpoints) => service_of(alloc, depot, tables, &endpoints, bureau),
         Err(fault) => {
             drop(tables);
-            Err((fault, depot, exchange))
+            Err((fault, depot, bureau))
         }
     }
 }
@@ -107,26 +104,23 @@ fn service_of<N: Network + Drop, L: Write + Drop, S: TableSource + Drop, D: Depo
     mut depot: D,
     tables: Tables,
     endpoints: &[Endpoint],
-    mut exchange: Exchange<N, L, S>,
-) -> Result<
-    Service<LineWire<N::Connection>, Exchange<N, L, S>, D>,
-    (ServeFault, D, Exchange<N, L, S>),
->
+    mut bureau: Bureau<N, L, S>,
+) -> Result<Service<LineWire<N::Connection>, Bureau<N, L, S>, D>, (ServeFault, D, Bureau<N, L, S>)>
     requires known { All (λ endpoint. HasLine tables endpoint.line) endpoints.now }
     requires apart { IsApart endpoints.now }
     ensures opened { IfOk result (λ service. IsOpenedOn (D.opens depot service.depot tables) endpoints.now service) }
-    ensures attended { IfOk result (λ service. service.attendant ≡ exchange) }
+    ensures attended { IfOk result (λ service. service.attendant ≡ bureau) }
     ensures places { IfOk result (λ service. ArePlaced service.wires) }
     ensures settled { IfOk result (λ service. IsSettled D.says service.depot service.hub) }
 {
     let customers = tables.customers().len();
     match depot.open(alloc, tables) {
         Ok(hub) => {
-            exchange.tell_opened(&depot);
-            exchange.tell_ready(customers, endpoints.len(), &hub);
-            service_over(alloc, hub, depot, endpoints, exchange)
+            bureau.tell_opened(&depot);
+            bureau.tell_ready(customers, endpoints.len(), &hub);
+            service_over(alloc, hub, depot, endpoints, bureau)
         }
-        Err(fault) => Err((ServeFault::from(fault), depot, exchange)),
+        Err(fault) => Err((ServeFault::from(fault), depot, bureau)),
     }
 }
 
@@ -136,29 +130,26 @@ fn service_over<N: Network + Drop, L: Write + Drop, S: TableSource + Drop, D: Dr
     hub: Hub,
     depot: D,
     endpoints: &[Endpoint],
-    exchange: Exchange<N, L, S>,
-) -> Result<
-    Service<LineWire<N::Connection>, Exchange<N, L, S>, D>,
-    (ServeFault, D, Exchange<N, L, S>),
->
+    bureau: Bureau<N, L, S>,
+) -> Result<Service<LineWire<N::Connection>, Bureau<N, L, S>, D>, (ServeFault, D, Bureau<N, L, S>)>
     requires { All (λ endpoint. HubHasLine hub endpoint.line) endpoints.now }
     ensures hub { IfOk result (λ service. service.hub ≡ hub) }
     ensures depot { IfOk result (λ service. service.depot ≡ depot) }
     ensures lines { IfOk result (λ service. service.lines ≡ lines_of endpoints.now) }
     ensures calm { IfOk result (λ service. service.quiets ≡ no_quiets (lines_of endpoints.now)) }
-    ensures attended { IfOk result (λ service. service.attendant ≡ exchange) }
+    ensures attended { IfOk result (λ service. service.attendant ≡ bureau) }
     ensures places { IfOk result (λ service. ArePlaced service.wires) }
 {
     let wires = match wires_for(alloc, endpoints) {
         Ok(wires) => wires,
         Err(_) => {
             drop(hub);
-            return Err((ServeFault::Memory, depot, exchange));
+            return Err((ServeFault::Memory, depot, bureau));
         }
     };
-    match Service::new(alloc, hub, depot, endpoints, wires, exchange) {
+    match Service::new(alloc, hub, depot, endpoints, wires, bureau) {
         Ok(service) => Ok(service),
-        Err((_, depot, exchange)) => Err((ServeFault::Memory, depot, exchange)),
+        Err((_, depot, bureau)) => Err((ServeFault::Memory, depot, bureau)),
     }
 }
 

@@ -56,6 +56,7 @@ impl<N: Network + Drop, L: Write + Drop> Desk<N, L> {
         ensures tally { tally wire.new ≡ tally wire.old }
         ensures line { post.new.line ≡ post.old.line }
         ensures site { site_kept N.address_of post.new.site ≡ site_kept N.address_of post.old.site }
+        ensures state { post.new.state ≡ post.old.state }
         ensures moment { HasLine hub.now post.old.line →
             let session = line_view (hub_line post.old.line hub.now).state in
             let moment = moment_seen post.old.label session self.old.now post.old.moment in

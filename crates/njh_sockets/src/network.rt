@@ -3,11 +3,13 @@
 ghost use Rattle.std.specs.Prelude.{◌≡◌, ◌≤◌, ◌≤ℤ◌, pos, IfOk, length};
 
 use crate::connection::{MioConnection, is_wait};
+use crate::console_socket::{ConsoleFault, accept_visitor, listen_at};
 use mio::event::Event;
-use mio::net::{TcpListener, TcpStream};
+use mio::net::{TcpListener, TcpStream, UnixListener, UnixStream};
 use mio::{Events, Interest, Poll, Token};
 use njh_wire::{Network, Readiness};
 use std::alloc::Global;
+use std::fs::Files;
 use std::io;
 use std::io::ErrorKind;
 use std::marker::Model;
@@ -16,6 +18,11 @@ use std::time::{Clock, Duration, Instant, SystemTime, UNIX_EPOCH};
 
 /// How many events one wait gives at most; what is left is given by the next.
 const EVENTS: usize = 512;
+
+/// The console's listener and its visitors have numbers that no line has.
+const CONSOLE: Token = Token(usize::MAX);
+
+const VISITOR: Token = Token(usize::MAX - 1);
 
 /// A socket that listens.
 #[derive(Drop)]
@@ -34,6 +41,10 @@ pub struct MioNetwork<'a, R: Net + Clock> {
     events: Events<Global>,
     start: Instant,
     now: u64,
+    /// Where the console's visitors come in.
+    console: Option<UnixListener>,
+    /// Somebody may wait there.
+    has_visitors: bool,
 }
 
 impl<'a, R: Net + Clock> Model for MioNetwork<'a, R> {
@@ -56,7 +67,28 @@ impl<'a, R: Net + Clock + AllocGlobal> MioNetwork<'a, R> {
             events: Events::with_capacity(rt.alloc(), EVENTS)?,
             start: Instant::now(rt)?,
             now: 0,
+            console: None,
+            has_visitors: false,
         })
+    }
+}
+
+impl<'a, R: Net + Clock + Files> MioNetwork<'a, R> {
+    /// Lets the console's visitors in at this path, whose folder has to be its owner's alone. A
+    /// socket there that nobody answers is replaced.
+    pub fn open_console(&mut self, path: &str) -> Result<(), ConsoleFault>
+        ensures clock { self.new ≡ self.old }
+    {
+        let mut listener = listen_at(self.rt, path)?;
+        let registry = self.poll.registry();
+        match registry.register(&mut listener, CONSOLE, Interest::READABLE) {
+            Ok(()) => {
+                self.console = Some(listener);
+                self.has_visitors = true;
+                Ok(())
+            }
+            Err(_) => Err(ConsoleFault::Device),
+        }
     }
 }
 
@@ -64,6 +96,8 @@ impl<'a, R: Net + Clock> Network for MioNetwork<'a, R> {
     type Listener = MioListener;
 
     type Connection = MioConnection;
+
+    type Visitor = UnixStream;
 
     ghost address_of = { λ listener. listener.address };
 
@@ -106,9 +140,24 @@ impl<'a, R: Net + Clock> Network for MioNetwork<'a, R> {
         }
     }
 
+    fn visitor(&mut self) -> Option<UnixStream> {
+        if !self.has_visitors {
+            return None;
+        }
+        let visitor = match &self.console {
+            Some(console) => accept_visitor(console, &self.poll, VISITOR),
+            None => None,
+        };
+        self.has_visitors = visitor.is_some();
+        visitor
+    }
+
     fn wait(&mut self, milliseconds: u64, ready: &mut [Readiness]) -> io::Result<()> {
         self.poll.poll(&mut self.events, Some(Duration::from_millis(milliseconds)))?;
         for event in &self.events {
+            if event.token() == CONSOLE {
+                self.has_visitors = true;
+            }
             note(ready, event);
         }
         Ok(())

@@ -39,6 +39,7 @@ FindsInPart path old new = IsScriptBegun path old new ⊎ IsTablesBegun old new
 abbrev pub IsScriptEnd : Failure → Type 0
 IsScriptEnd Found = ⊤
 IsScriptEnd (failure.Files fault) = ⊥
+IsScriptEnd (failure.Control fault) = ⊥
 IsScriptEnd (Tables fault) = ⊥
 IsScriptEnd (Replay TooLong) = ⊤
 IsScriptEnd (Replay Device) = ⊥

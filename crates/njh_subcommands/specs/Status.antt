@@ -3,6 +3,7 @@ use Rattle.std.specs.Prelude.{◌≡◌, ◌≢◌, ◌⊎◌, ℕ, Result, Ok, 
 use Rattle.njh_subcommands.specs.declared.failure.Failure.{Failure}
 use Rattle.njh_subcommands.specs.declared.failure.Failure.TheVariants.{Arguments, Encode, Found, Replay, Tables, Trace}
 use Rattle.njh_subcommands.specs.declared.failure.Failure.TheVariants as failure
+use Rattle.njh_ctl.specs.declared.fault.CtlFault.TheVariants as ctl
 use Rattle.njh_encode.specs.declared.fault.EncodeEnd.TheVariants as encode
 use Rattle.njh_listing.specs.declared.fault.FilesFault.TheVariants as files
 use Rattle.njh_replay.specs.declared.fault.ReplayFault.TheVariants.{TooLong, Script, Device, Hub}
@@ -15,8 +16,8 @@ abbrev pub table_status : TableFault → ℕ
 table_status Memory = 2
 table_status fault = 1
 
--- 1 if arguments, tables, the script, the trace or a line in words are refused, a check found a fault, or
--- a spool file has no such file, several, or one that can't be put back; 2 if another thing fails
+-- 1 if arguments, tables, the script, the trace or a line in words are refused, a check found a fault, a spool file has
+-- no such file, several, or one that can't be put back, or a hub refuses a command; 2 if another thing fails
 abbrev pub status_of : Failure → ℕ
 status_of (Arguments error) = 1
 status_of (Tables fault) = table_status fault
@@ -36,15 +37,20 @@ status_of (failure.Files (files.Several list)) = 1
 status_of (failure.Files (files.Refused why)) = 1
 status_of (failure.Files (files.Taken why)) = 1
 status_of (failure.Files fault) = 2
+status_of (failure.Control (ctl.Refused sentence)) = 1
+status_of (failure.Control ctl.BadName) = 1
+status_of (failure.Control fault) = 2
 status_of failure.Device = 2
 status_of failure.Memory = 2
 
 -- What is refused before anything is written: all that has status 1 but a trace, of which the lines before a line that
--- is too long were told, a line in words, of which what the lines before it become was written, and what a check found.
+-- is too long were told, a line in words, of which what the lines before it become was written, what a check found, and
+-- a command, of which the answers before a refusal were told.
 abbrev pub ComesFirst : Failure → Type 0
 ComesFirst (Trace fault) = ⊥
 ComesFirst (Encode end) = ⊥
 ComesFirst Found = ⊥
+ComesFirst (failure.Control fault) = ⊥
 ComesFirst failure = status_of failure ≡ 1
 
 -- the status to end with: 0 if nothing failed

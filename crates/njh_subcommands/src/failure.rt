@@ -6,6 +6,7 @@ ghost use Rattle.clap.specs.Words.{kind_of};
 ghost use Rattle.njh_subcommands.specs.Status.{status_of, Becomes};
 
 use clap::error::ErrorKind;
+use njh_ctl::CtlFault;
 use njh_encode::EncodeEnd;
 use njh_hub::HubFault;
 use njh_listing::FilesFault;
@@ -31,6 +32,8 @@ pub enum Failure {
     /// A spool file wasn't printed or copied, or not all of what was asked for, or no hub was opened
     /// from it.
     Files(FilesFault),
+    /// A command to the console of a hub that runs wasn't carried out, or not to its end.
+    Control(CtlFault),
     /// A check found a fault, and said it on standard output.
     Found,
     /// A file or a stream failed outside a replay, or lines could not be served.
@@ -41,8 +44,9 @@ pub enum Failure {
 
 impl Failure {
     /// The status to end with: 1 if the arguments, the tables, the script, the trace or a line
-    /// in words are refused, a check found a fault, or a spool file has no such file, several, one
-    /// that can't be put back, or some where others are to be copied; 2 if a file, a stream or memory fails.
+    /// in words are refused, a check found a fault, a spool file has no such file, several, one that
+    /// can't be put back, or some where others are to be copied, or a hub refuses a command; 2 if a
+    /// file, a stream or memory fails.
     pub fn status(&self) -> u8
         ensures { result ≡ status_of self.now }
     {
@@ -65,6 +69,9 @@ impl Failure {
             Failure::Files(FilesFault::Refused(_)) => 1,
             Failure::Files(FilesFault::Taken(_)) => 1,
             Failure::Files(_) => 2,
+            Failure::Control(CtlFault::Refused(_)) => 1,
+            Failure::Control(CtlFault::BadName) => 1,
+            Failure::Control(_) => 2,
             Failure::Found => 1,
             Failure::Device => 2,
             Failure::Memory => 2,
@@ -82,6 +89,7 @@ impl fmt::Display for Failure {
             Failure::Trace(fault) => writeln!(f, "njehub: {fault}"),
             Failure::Encode(end) => writeln!(f, "njehub: {end}"),
             Failure::Files(fault) => writeln!(f, "njehub: {fault}"),
+            Failure::Control(fault) => writeln!(f, "njehub: {fault}"),
             Failure::Found => Ok(()),
             Failure::Device => writeln!(f, "njehub: {}", ReplayFault::Device),
             Failure::Memory => writeln!(f, "njehub: {}", HubFault::Memory),

@@ -6,6 +6,7 @@ ghost use Rattle.njh_wire.specs.Places.{IsTaken};
 
 use crate::connection::Connection;
 use std::io;
+use std::io::{Read, Write};
 use std::net::SocketAddr;
 
 /// What is ready of a line.
@@ -30,6 +31,9 @@ pub trait Network {
 
     /// A connection of a line.
     type Connection: Connection + Drop;
+
+    /// A visitor of the operator's console, whose calls never wait.
+    type Visitor: Read + Write + Drop;
 
     /// Where a listener listens.
     ghost address_of: { Self.Listener → SocketAddr };
@@ -60,13 +64,17 @@ pub trait Network {
     fn is_connected(&mut self, connection: &mut Self::Connection) -> io::Result<bool>
         ensures place { Self.Connection.place_of connection.new ≡ Self.Connection.place_of connection.old };
 
-    /// Waits until something is ready, so many milliseconds at most, and marks what is ready of
-    /// each line, by place. Clears no mark.
+    /// A visitor of the console that waits to be let in. `None`: nobody waits, or there is no
+    /// console.
+    fn visitor(&mut self) -> Option<Self::Visitor>;
+
+    /// Waits until something is ready, of a line or of the console, so many milliseconds at
+    /// most, and marks what is ready of each line, by place. Clears no mark.
     fn wait(&mut self, milliseconds: u64, ready: &mut [Readiness]) -> io::Result<()>;
 
     /// Milliseconds on a clock that never goes back.
     fn now(&mut self) -> u64;
 
-    /// Seconds since the beginning of 1970, for the log.
+    /// Milliseconds since the beginning of 1970, in UTC, for the log.
     fn utc(&mut self) -> i64;
 }

@@ -46,8 +46,8 @@ fn compare<R: Abort>(rt: &R, endpoints: &[Endpoint]) {
     assert_eq!(rt; endpoints.len(), 2);
     compare_one(rt, endpoints[0], 0, 2);
     compare_one(rt, endpoints[1], 1, 7);
-    // Two for each, and ten for what else is open.
-    assert_eq!(rt; handles_needed(endpoints), 14);
+    // Two for each, and fifteen for what else is open.
+    assert_eq!(rt; handles_needed(endpoints), 19);
 }
 
 /// Of either customer it is the line of the customer's own number.

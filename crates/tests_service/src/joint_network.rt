@@ -5,7 +5,7 @@ ghost use Rattle.std.specs.Prelude.{◌≡◌, ◌≤◌, length, IfOk};
 use crate::joint::{JOINED, Joint};
 use njh_wire::{Connection, ConnectionFault, ConnectionRead, Network, Readiness};
 use std::io;
-use std::io::Write;
+use std::io::{Read, Write};
 use std::net::{Ipv4Addr, SocketAddr};
 
 /// A socket that listens.
@@ -53,6 +53,8 @@ impl<'a> Network for JointNetwork<'a> {
 
     type Connection = JointConnection<'a>;
 
+    type Visitor = JointLog<'a>;
+
     ghost address_of = { λ listener. listener.address };
 
     ghost listener_place = { λ listener. listener.place };
@@ -85,6 +87,11 @@ impl<'a> Network for JointNetwork<'a> {
 
     fn is_connected(&mut self, _connection: &mut JointConnection<'a>) -> io::Result<bool> {
         Ok(true)
+    }
+
+    /// Nobody visits.
+    fn visitor(&mut self) -> Option<JointLog<'a>> {
+        None
     }
 
     fn wait(&mut self, milliseconds: u64, ready: &mut [Readiness]) -> io::Result<()> {
@@ -155,6 +162,12 @@ pub struct JointLog<'a> {
     pub joint: &'a Joint,
     /// Of which hub: 0 or 1.
     pub end: usize,
+}
+
+impl Read for JointLog<'_> {
+    fn read(&mut self, _buf: &mut [u8]) -> io::Result<usize> {
+        Ok(0)
+    }
 }
 
 impl Write for JointLog<'_> {

@@ -30,16 +30,22 @@ mod memory_log;
 #[cfg(test)]
 mod memory_network;
 #[cfg(test)]
+mod memory_visitor;
+#[cfg(test)]
 mod play;
 #[cfg(test)]
 mod port_tests;
 #[cfg(test)]
 mod prompting_tests;
 #[cfg(test)]
+mod route_tests;
+#[cfg(test)]
 mod serving;
 #[cfg(test)]
 mod session_tests;
 #[cfg(test)]
 mod socket_tests;
+#[cfg(test)]
+mod state_tests;
 #[cfg(test)]
 mod world;

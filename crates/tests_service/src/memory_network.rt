@@ -3,6 +3,7 @@
 ghost use Rattle.std.specs.Prelude.{◌≡◌, IfOk};
 
 use crate::memory_connection::MemoryConnection;
+use crate::memory_visitor::MemoryVisitor;
 use crate::world::{Answer, Mark, Ports, World};
 use njh_wire::{Network, Readiness};
 use std::io;
@@ -28,6 +29,8 @@ impl<'a> Network for MemoryNetwork<'a> {
     type Listener = MemoryListener;
 
     type Connection = MemoryConnection<'a>;
+
+    type Visitor = MemoryVisitor<'a>;
 
     ghost address_of = { λ listener. listener.address };
 
@@ -77,6 +80,14 @@ impl<'a> Network for MemoryNetwork<'a> {
                 Err(io::Error::from(ErrorKind::ConnectionRefused))
             }
         }
+    }
+
+    fn visitor(&mut self) -> Option<MemoryVisitor<'a>> {
+        let coming = self.world.let_in()?;
+        Some(MemoryVisitor {
+            world: self.world,
+            coming,
+        })
     }
 
     fn wait(&mut self, milliseconds: u64, ready: &mut [Readiness]) -> io::Result<()> {

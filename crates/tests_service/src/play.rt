@@ -20,7 +20,7 @@ const ROUNDS: u64 = 100;
 const WHOLE: u64 = 31_900;
 
 /// Where the hub listens.
-fn hub_address() -> IpAddr {
+pub(crate) fn hub_address() -> IpAddr {
     IpAddr::V4(Ipv4Addr::new(10, 0, 0, 100))
 }
 
@@ -72,27 +72,45 @@ fn seen_of<R: Abort>(
 }
 
 /// What comes after the line that says that the lines are served.
-fn after_start(seen: &str) -> &str {
+pub(crate) fn after_start(seen: &str) -> &str {
     match seen.split_once(" 0 files\n") {
         Some((_, after)) => after,
         None => "not ready",
     }
 }
 
-/// An attendant in a world, whose log has such lines.
+/// Plays what happens on a service of these tables until it ends of itself at a moment, and compares
+/// what is seen once the lines are served.
+pub(crate) fn end_at<R: Abort>(
+    rt: &R,
+    alloc: Global,
+    tables: &str,
+    acts: &[Happens],
+    moment: u64,
+    wanted: &str,
+) -> Result<(), Fail> {
+    let world = World::new(alloc, acts);
+    let end = moment.saturating_add(5_000);
+    play_in(alloc, &world, tables, end, LogStyle::PLAIN)?;
+    assert_eq!(rt; world.now(), moment);
+    let seen = world.into_seen();
+    assert_eq!(rt;
+        after_start(str::from_utf8(&seen).unwrap_or("no text")),
+        wanted
+    );
+    Ok(())
+}
+
+/// An attendant in a world, which tells of these tables, and whose log has such lines.
 fn exchange_in<'a>(
     alloc: Global,
     world: &'a World<'a>,
+    tables: &str,
     style: LogStyle,
-) -> Exchange<MemoryNetwork<'a>, MemoryLog<'a>, NoSource> {
+) -> Result<Exchange<MemoryNetwork<'a>, MemoryLog<'a>, NoSource>, Fail> {
+    let revision = Revision::new(alloc, Tables::read(alloc, tables)?, NoSource)?;
     let log = Log::new(Some(MemoryLog { world }), style);
-    Exchange::new(
-        alloc,
-        "9.9",
-        MemoryNetwork { world },
-        log,
-        Revision::none(alloc),
-    )
+    Ok(Exchange::new(alloc, "9.9", MemoryNetwork { world }, log, revision))
 }
 
 /// Asks for a service of these tables that has to listen on each port, and compares what is seen if
@@ -114,9 +132,9 @@ pub(crate) fn refuse<R: Abort>(
 
 /// Whether lines of tables aren't served in a world if each has to listen on its port.
 fn is_refused_in<'a>(alloc: Global, world: &'a World<'a>, tables: &str) -> Result<bool, Fail> {
-    let tables = Tables::read(alloc, tables)?;
-    let exchange = exchange_in(alloc, world, LogStyle::PLAIN);
-    Ok(is_refused(alloc, tables, exchange, hub_address()))
+    let own = Tables::read(alloc, tables)?;
+    let exchange = exchange_in(alloc, world, tables, LogStyle::PLAIN)?;
+    is_refused(alloc, own, exchange, hub_address())
 }
 
 /// Serves the lines of tables in a world up to a moment.
@@ -127,11 +145,11 @@ fn play_in<'a>(
     end: u64,
     style: LogStyle,
 ) -> Result<(), Fail> {
-    let tables = Tables::read(alloc, tables)?;
-    let exchange = exchange_in(alloc, world, style);
+    let own = Tables::read(alloc, tables)?;
+    let exchange = exchange_in(alloc, world, tables, style)?;
     serve(
         alloc,
-        tables,
+        own,
         exchange,
         hub_address(),
         &mut Until { world, end },
@@ -140,9 +158,9 @@ fn play_in<'a>(
 
 /// Plays what happens in a world up to a moment.
 #[derive(Drop)]
-struct Until<'a> {
-    world: &'a World<'a>,
-    end: u64,
+pub(crate) struct Until<'a> {
+    pub(crate) world: &'a World<'a>,
+    pub(crate) end: u64,
 }
 
 impl Player for Until<'_> {

@@ -1,7 +1,11 @@
 //! A service that is made, lent and dropped in one place, over whatever network: nothing else names
-//! its type.
+//! its type, nor that of its bureau, whose console the borrow checker doesn't cover where the network
+//! has a lifetime.
 
-use njh_service::{Exchange, Listening, NoSource, ServeFault, Service, service_on};
+use njh_console::Console;
+use njh_service::{
+    Bureau, Exchange, Listening, NoSource, ServeFault, Service, TableSource, service_on,
+};
 use njh_table::Tables;
 use njh_turns::{Attendant, KeepsNothing, Wire};
 use njh_wire::Network;
@@ -29,21 +33,22 @@ pub trait Player {
 }
 
 /// Serves the lines of tables, which listen on this address or are to, while somebody plays.
-pub(crate) fn serve<N: Network + Drop, L: Write + Drop, P: Player>(
+pub(crate) fn serve<N: Network + Drop, L: Write + Drop, S: TableSource + Drop, P: Player>(
     alloc: Global,
     tables: Tables,
-    exchange: Exchange<N, L, NoSource>,
+    exchange: Exchange<N, L, S>,
     address: IpAddr,
     player: &mut P,
 ) -> Result<(), Fail> {
+    let bureau = Bureau::new(alloc, exchange, Console::new(alloc)?);
     let listening = Listening {
         address,
         strict: false,
     };
-    match service_on(alloc, KeepsNothing, tables, exchange, listening, true) {
+    match service_on(alloc, KeepsNothing, tables, bureau, listening, true) {
         Ok(mut service) => player.play(&mut service),
-        Err((fault, _, exchange)) => {
-            drop(exchange);
+        Err((fault, _, bureau)) => {
+            drop(bureau);
             Err(Fail::from(fault))
         }
     }
@@ -55,19 +60,20 @@ pub(crate) fn is_refused<N: Network + Drop, L: Write + Drop>(
     tables: Tables,
     exchange: Exchange<N, L, NoSource>,
     address: IpAddr,
-) -> bool {
+) -> Result<bool, Fail> {
+    let bureau = Bureau::new(alloc, exchange, Console::new(alloc)?);
     let listening = Listening {
         address,
         strict: true,
     };
-    match service_on(alloc, KeepsNothing, tables, exchange, listening, true) {
+    match service_on(alloc, KeepsNothing, tables, bureau, listening, true) {
         Ok(service) => {
             drop(service);
-            false
+            Ok(false)
         }
-        Err((fault, _, exchange)) => {
-            drop(exchange);
-            fault == ServeFault::Device
+        Err((fault, _, bureau)) => {
+            drop(bureau);
+            Ok(fault == ServeFault::Device)
         }
     }
 }

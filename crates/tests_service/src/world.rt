@@ -34,6 +34,8 @@ pub enum Act {
     LogTakes(usize),
     /// From now on this becomes of listening, of whatever peer this is said.
     Ports(Ports),
+    /// Somebody visits the console and sends these bytes, of whatever peer this is said.
+    Visits(&'static [u8]),
 }
 
 /// What becomes of a dial.
@@ -176,7 +178,7 @@ impl Peer {
             Act::Resets => self.broken.set(true),
             Act::Deafens => self.deaf.set(true),
             Act::Answers(answer) => self.answer.set(answer),
-            Act::LogTakes(_) | Act::Ports(_) => {}
+            Act::LogTakes(_) | Act::Ports(_) | Act::Visits(_) => {}
         }
     }
 
@@ -203,6 +205,8 @@ pub struct World<'a> {
     log_takes: Cell<usize>,
     /// What becomes of listening.
     listening: Cell<Ports>,
+    /// What the visitor sends who waits to be let in.
+    visit: Cell<Option<&'static [u8]>>,
     seen: RefCell<Vec<u8>>,
 }
 
@@ -224,6 +228,7 @@ impl<'a> World<'a> {
             ports: Cell::new([0; LINES]),
             log_takes: Cell::new(1_000_000),
             listening: Cell::new(Ports::Free),
+            visit: Cell::new(None),
             seen: RefCell::new(Vec::new(alloc)),
         }
     }
@@ -326,6 +331,7 @@ impl<'a> World<'a> {
         match next.act {
             Act::LogTakes(count) => self.log_takes.set(count),
             Act::Ports(ports) => self.listening.set(ports),
+            Act::Visits(bytes) => self.visit.set(Some(bytes)),
             _ => {}
         }
         let peer = self.peers.get(next.peer)?;
@@ -352,7 +358,7 @@ impl<'a> World<'a> {
                 mark.reads = true;
                 mark.writes = true;
             }
-            Act::Deafens | Act::LogTakes(_) | Act::Ports(_) => {}
+            Act::Deafens | Act::LogTakes(_) | Act::Ports(_) | Act::Visits(_) => {}
         }
         mark
     }
@@ -377,6 +383,20 @@ impl<'a> World<'a> {
     pub(crate) fn see_dial(&self, port: u16) {
         if let Ok(mut seen) = self.seen.try_borrow_mut() {
             add_dial(&mut seen, self.now.get(), port);
+        }
+    }
+
+    /// What the visitor sends who is let in now, if one waits.
+    pub(crate) fn let_in(&self) -> Option<&'static [u8]> {
+        self.visit.take()
+    }
+
+    /// The console wrote this to a visitor.
+    pub(crate) fn see_told(&self, bytes: &[u8]) {
+        if let Ok(mut seen) = self.seen.try_borrow_mut() {
+            let _begun = write!(*seen, "{} told: ", self.now.get()).is_ok();
+            let _kept = seen.extend_from_slice(bytes).is_ok();
+            let _ended = seen.push(b'\n').is_ok();
         }
     }
 

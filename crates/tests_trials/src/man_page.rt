@@ -12,7 +12,9 @@ use std::{fs, io};
 const PAGE: &str = "njehub.1";
 
 /// The subcommands.
-const NAMES: [&str; 6] = ["replay", "serve", "decode", "encode", "check", "files"];
+const NAMES: [&str; 7] = [
+    "replay", "serve", "decode", "encode", "check", "files", "ctl",
+];
 
 /// Says of each subcommand how many options the help has, and which of them the man page lacks; and
 /// how many commands its examples have, and which of them no run has.

@@ -76,7 +76,7 @@ impl<N: Network + Drop, L: Write + Drop, S: TableSource + Drop> Exchange<N, L, S
     }
 
     /// A line is looked at in the next round, which doesn't wait.
-    fn call(&mut self, place: usize)
+    pub(super) fn call(&mut self, place: usize)
         ensures lines { self.new.lines ≡ self.old.lines }
     {
         let now = self.desk.now;

@@ -1,7 +1,7 @@
-use Rattle.njh_arguments.specs.Arguments.{checking_app, files_app}
+use Rattle.njh_arguments.specs.Arguments.{ctl_app, filing_app}
 use Rattle.njh_arguments.proofs.arguments.program_command.Goals as goal
 
 pub returns : goal.returns
 returns c =
-    c.with_subcommand.ensures checking_app files_app c.checking_command.ensures c.files_command.ensures.app
-    c.files_command.ensures.local
+    c.with_subcommand.ensures filing_app ctl_app c.filing_command.ensures c.ctl_command.ensures.app
+    c.ctl_command.ensures.local

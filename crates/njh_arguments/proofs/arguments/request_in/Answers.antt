@@ -1,4 +1,3 @@
-use Rattle.std.proofs.Common.{rules}
 use Rattle.clap.specs.Matches.{found_of}
 use Rattle.clap.specs.Walk.{rows_of}
 use Rattle.njh_arguments.proofs.ArgumentLaws.{asks_in, serves_refused, subcommand_is}

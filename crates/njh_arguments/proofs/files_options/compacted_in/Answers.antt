@@ -1,5 +1,5 @@
 use Rattle.std.proofs.Common.{◌≡◌, ◌∙◌, Some, None, codes, option_map, sym, rules}
-use Rattle.clap.specs.Words.{first_of, found_of, rows_of}
+use Rattle.clap.specs.Words.{found_of, rows_of}
 use Rattle.njh_arguments.proofs.ArgumentLaws.{first_value-rows, unclear-new}
 use Rattle.njh_arguments.proofs.files_options.compacted_in.Goals as goal
 

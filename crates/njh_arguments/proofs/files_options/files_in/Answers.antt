@@ -1,6 +1,5 @@
-use Rattle.std.proofs.Common.{◌≡◌, ◌∙◌, Some, None, codes, option_map, sym, rules, true, false}
-use Rattle.clap.specs.Words.{first_of, found_of, rows_of}
-use Rattle.njh_arguments.specs.Arguments.{is_given}
+use Rattle.std.proofs.Common.{◌≡◌, ◌∙◌, Some, None, codes, option_map, sym, rules}
+use Rattle.clap.specs.Words.{found_of, rows_of}
 use Rattle.njh_arguments.proofs.ArgumentLaws.{first_value-rows, unclear-into}
 use Rattle.njh_arguments.proofs.files_options.files_in.Goals as goal
 

@@ -11,7 +11,7 @@ returns-clause-asked c =
       sym (first_value-rows options (codes "customer")) ∙ sym c.get_str-2.ensures,
       sym (first_value-rows options (codes "export")) ∙ sym c.get_str-3.ensures,
       c.in_ok-number.ensures.asked,
-      c.is_set.ensures,
+      c.is_set.ensures.flag,
       c.requires.into,
       c.requires.compact,
     )

@@ -1,4 +1,4 @@
-use Rattle.std.proofs.Common.{◌≡◌, ◌∙◌, ap, sym, rules, option_map, is_some}
+use Rattle.std.proofs.Common.{◌∙◌, ap, sym, is_some}
 use Rattle.njh_arguments.proofs.ArgumentLaws.{first_value-rows, is_some-map}
 use Rattle.njh_arguments.proofs.options.is_given.Goals as goal
 

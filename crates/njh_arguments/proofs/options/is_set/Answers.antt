@@ -1,7 +1,7 @@
 use Rattle.std.proofs.Common.{◌≡◌, ◌↔◌, ◌∙◌, Option, Some, None, IsTrue, false, codes, option_map, sym, subst, rules}
 use Rattle.clap.specs.Matches.{found_of}
 use Rattle.clap.specs.Walk.{Text, first_of, rows_of}
-use Rattle.njh_arguments.proofs.ArgumentLaws.{first_value-rows, spells_word}
+use Rattle.njh_arguments.proofs.ArgumentLaws.{first_value-rows, flag_value, spells_word}
 use Rattle.njh_arguments.proofs.options.is_set.Goals as goal
 
 pub returns-in-Some : goal.returns-in-Some
@@ -12,8 +12,10 @@ returns-in-Some c =
     let named : first_of (c.args.flag.now) (rows_of (found_of options)) ≡ Some text =
     sym (first_value-rows options (c.args.flag.now)) ∙ (sym c.get_str.ensures ∙ found) in
     let Is : Option Text → Type 0 = λ o. IsTrue c.eq.result ↔ (o ≡ Some (codes "true")) in
-    let said : Is (Some text) = spells_word c.eq.result text (codes "true") c.eq.ensures in
-    subst Is (sym named) said
+    let said : Is (Some text) = spells_word c.eq.result text (codes "true") c.eq.ensures in record {
+      flag = subst Is (sym named) said;
+      value = c.eq.ensures ∙ sym (flag_value (c.args.flag.now) (rows_of (found_of options)) (Some text) named);
+    }
 
 pub returns-in-None : goal.returns-in-None
 returns-in-None c =
@@ -22,5 +24,7 @@ returns-in-None c =
     let named : first_of (c.args.flag.now) (rows_of (found_of options)) ≡ None =
     sym (first_value-rows options (c.args.flag.now)) ∙ (sym c.get_str.ensures ∙ found) in
     let Is : Option Text → Type 0 = λ o. IsTrue false ↔ (o ≡ Some (codes "true")) in
-    let said : Is None = search rules in
-    subst Is (sym named) said
+    let said : Is None = search rules in record {
+      flag = subst Is (sym named) said;
+      value = sym (flag_value (c.args.flag.now) (rows_of (found_of options)) None named);
+    }

@@ -7,5 +7,5 @@ returns c =
     let options = c.args.options.now in (
       refl,
       sym (first_value-rows options (codes "tables")) ∙ sym c.get_str.ensures,
-      c.is_set.ensures,
+      c.is_set.ensures.flag,
     )

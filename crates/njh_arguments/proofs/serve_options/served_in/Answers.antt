@@ -10,8 +10,9 @@ returns-clause-asked c =
       sym (first_value-rows options (codes "tables")) ∙ (sym c.get_str.ensures ∙ found),
       c.in_ok-turns.ensures.asked,
       c.in_ok-listen.ensures.asked,
-      c.is_set.ensures,
-      c.is_set-2.ensures,
+      c.is_set.ensures.flag,
+      c.is_set-2.ensures.flag,
       sym (first_value-rows options (codes "spool")) ∙ sym c.get_str-2.ensures,
+      sym (first_value-rows options (codes "console")) ∙ sym c.get_str-3.ensures,
       c.in_ok-json.ensures.asked,
     )

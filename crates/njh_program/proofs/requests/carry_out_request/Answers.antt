@@ -1,4 +1,4 @@
-use Rattle.std.proofs.Common.{◌≡◌, ◌⊎◌, OnErr, subst, sym}
+use Rattle.std.proofs.Common.{◌⊎◌, OnErr, subst, sym}
 use Rattle.std.specs.Io.KnownBytes.{Keeps}
 use Rattle.njh_arguments.specs.declared.arguments.Request.{Request}
 use Rattle.njh_program.specs.ProgramOutcome.{IsDoneInPart}

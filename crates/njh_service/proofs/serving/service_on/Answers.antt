@@ -1,9 +1,10 @@
-use Rattle.std.proofs.Common.{◌≡◌, ◌++◌, ◌∙◌, ap, map, subst, List}
+use Rattle.std.proofs.Common.{◌++◌, ◌∙◌, ap, map, subst, List}
 use Rattle.std.specs.Prelude.{IfOk}
 use Rattle.std.proofs.lemmas.Result.{IfOk-weaker}
 use Rattle.njh_service.specs.declared.endpoints.Endpoint.{Endpoint}
+use Rattle.njh_service.specs.Bureaus.{Attended}
 use Rattle.njh_service.specs.Serving.{IsOpenedOn}
-use Rattle.njh_service.specs.Watching.{served_on, ServedLine, Watched}
+use Rattle.njh_service.specs.Watching.{served_on, ServedLine}
 use Rattle.njh_service.proofs.serving.service_on.Goals as goal
 
 -- the endpoints that were opened are those of the tables
@@ -17,7 +18,8 @@ returns-in-Ok-clause-opened g c =
 pub returns-in-Ok-clause-attended : goal.returns-in-Ok-clause-attended
 returns-in-Ok-clause-attended g c =
     let Of : List Endpoint → List ServedLine = λ endpoints.
-    c.args.exchange.lines ++ map (served_on c.args.listening.address) endpoints in
+    c.args.bureau.exchange.lines ++ map (served_on c.args.listening.address) endpoints in
+    let Lines : Attended g.row.N-Visitor.Denot → List ServedLine = λ seen. seen.exchange.lines in
     let lines = c.in-Ok.ensures.served ∙ ap Of c.in-Ok.ensures.all in
-    IfOk-weaker c.service_of.result _ _ (λ service same. ap (λ (seen : Watched). seen.lines) same ∙ lines)
+    IfOk-weaker c.service_of.result _ _ (λ service same. ap Lines same ∙ lines)
     c.service_of.ensures.attended

@@ -40,4 +40,4 @@ returns-clause-added g c =
     c.args.self.now.lines c.args.id c.args.site
     (c.push_reserved-3.ensures.items ∙ ap (λ (posts : List P). posts ++ c.new.result ∷ []) c.reserve.ensures.items)
     (ap (λ (seen : Watched). seen.lines) c.self.view_is) c.new.ensures.line
-    (c.new.ensures.site g.N.Network.address_of)
+    (c.new.ensures.site g.N.Network.address_of) c.new.ensures.state

@@ -1,0 +1,53 @@
+-- The laws of answers.
+use Rattle.std.proofs.Common.{◌≡◌, ℕ, ◌+◌, ◌-◌, ◌≤◌, List, ◌++◌, length, take, drop, ap, sym, ◌∙◌, arith}
+use Rattle.std.proofs.Common.{length-append, take-append-drop}
+use Rattle.std.proofs.lemmas.List.{drop-drop}
+use Rattle.njh_spool.specs.CustomerSpool.{WholeFile}
+use Rattle.njh_table.specs.TableFile.{customer_at}
+use Rattle.njh_hub.specs.WholeHub.{Part}
+use Rattle.njh_answer.specs.Answers.{ordered, shows}
+use Rattle.njh_answer.specs.Files.{files_data, files_page}
+use Rattle.njh_answer.specs.Laws.{AnswersAreOfTheCustomer, NoFileIsPassedOver, PagesTellAll}
+use Rattle.njh_answer.specs.Lines.{lines_data}
+use Rattle.njh_answer.specs.Owners.{owner_for}
+
+-- so many from a place, and those behind them
+parts-joined : (xs : List WholeFile) (first end : ℕ) → first ≤ end
+    → take (end - first) (drop first xs) ++ drop end xs ≡ drop first xs
+parts-joined xs first end ordered =
+    let same : first + (end - first) ≡ end = omega arith in
+    let behind : drop (end - first) (drop first xs) ≡ drop end xs =
+    drop-drop (end - first) first xs ∙ ap (λ (n : ℕ). drop n xs) same in
+    ap (λ (rest : List WholeFile). take (end - first) (drop first xs) ++ rest) (sym behind)
+    ∙ take-append-drop (end - first) (drop first xs)
+
+pub pages_tell_all : PagesTellAll
+pages_tell_all from s =
+    parts-joined s.whole (files_page from s).first (files_page from s).end (omega arith)
+
+pub no_file_is_passed_over : NoFileIsPassedOver
+no_file_is_passed_over told untold left_told left_untold before after x =
+    let was = ap length x.before_is in
+    let is = ap length x.after_is in
+    omega (
+      arith,
+      was,
+      is,
+      x.fewer_told,
+      x.fewer_untold,
+      x.arrived,
+      x.counted,
+      length-append told untold,
+      length-append left_told (left_untold ++ x.new),
+      length-append left_untold x.new,
+    )
+
+pub answers_are_of_the_customer : AnswersAreOfTheCustomer
+answers_are_of_the_customer c parts others same = record {
+  of_files = λ from tables service lines orders next.
+      ap (λ (p : Part). shows (files_data (customer_at tables c).name from p.customer.spool)) same;
+  of_lines = λ from tables service views orders next.
+      ap (λ (p : Part). shows (lines_data (customer_at tables c) c p views from)) same;
+  of_orders = λ owner text tables service lines orders_known next.
+      ap (λ (p : Part). ordered c (owner_for owner text p.customer.spool.whole) text next) same;
+}

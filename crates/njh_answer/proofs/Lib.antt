@@ -1,0 +1,5 @@
+pub mod AnswerLaws
+pub mod OwnerLaws
+pub mod Summing
+pub mod TableBounds
+pub mod Telling

@@ -1,0 +1,9 @@
+use Rattle.std.proofs.Common.{◌≡◌, ◌≤◌, ◌*◌}
+use Rattle.njh_answer.specs.Status.{quota_of, sum_to}
+use Rattle.njh_answer.proofs.status.quota_of_all.Given as goal
+
+abbrev pub invariant-loop-customer : goal.invariant-loop-customer
+invariant-loop-customer l = record {
+  summed : l.sum ≡ sum_to (quota_of l.hub) l.customer;
+  small : l.sum ≤ 4294967295 * l.customer;
+}

@@ -1,0 +1,10 @@
+pub mod Fields
+pub mod Pages
+pub mod Files
+pub mod Customers
+pub mod Lines
+pub mod Owners
+pub mod Orders
+pub mod Status
+pub mod Answers
+pub mod Laws

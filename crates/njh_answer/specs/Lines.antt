@@ -1,0 +1,170 @@
+-- What is told of a customer's lines: each of the tables', by its own line of the hub, and as the service knows it.
+use Rattle.std.specs.Prelude.{ℕ, ◌-◌, ◌==◌, ◌&&◌, Bool, true, false, List, [], length, map, find, codes}
+use Rattle.std.specs.Prelude.{slice_get, slice_index_or}
+use Rattle.std.specs.Prelude.{string_bytes, Option, Some, None}
+use Rattle.std.specs.List.{range_with_len}
+use Rattle.serde_json.specs.Data.{Data, null, number, unsigned, string, array, object, member, no_members}
+use Rattle.serde_json.specs.View.{items_of}
+use Rattle.njh_line.specs.declared.Phase.{Phase}
+use Rattle.njh_line.specs.declared.Phase.TheVariants.{Down, Calling, Answered, SentI, Up}
+use Rattle.njh_spool.specs.CustomerSpool.{CustomerSpool, WholeFile, whole_numbered}
+use Rattle.njh_stream.specs.SpoolFiles.{records_in}
+use Rattle.njh_stream.specs.declared.receiver.Receiver.{Receiver}
+use Rattle.njh_stream.specs.declared.receiver.Receiver.TheVariants as receiver
+use Rattle.njh_stream.specs.declared.sender.Sender.{Sender}
+use Rattle.njh_stream.specs.declared.sender.Sender.TheVariants as sender
+use Rattle.njh_table.specs.declared.LineId.{LineId}
+use Rattle.njh_table.specs.declared.Role.{Role}
+use Rattle.njh_table.specs.declared.Role.TheVariants.{Call, Answer}
+use Rattle.njh_table.specs.TableFile.{NamedCustomer, NamedLine, no_line}
+use Rattle.njh_customer.specs.Customer.{CustomerLine}
+use Rattle.njh_hub.specs.Files.{said_name}
+use Rattle.njh_hub.specs.Views.{line_view}
+use Rattle.njh_hub.specs.WholeHub.{Part}
+use Rattle.njh_hub.specs.declared.session_view.SessionView.{SessionView}
+use Rattle.njh_answer.specs.Fields.{file_name_text, name_text}
+use Rattle.njh_answer.specs.Pages.{next_data, page_of}
+use Rattle.njh_answer.specs.declared.page.Page.{Page}
+use Rattle.njh_answer.specs.declared.views.LineState.{LineState}
+use Rattle.njh_answer.specs.declared.views.LineState.TheVariants.{Started, Draining, Stopped}
+use Rattle.njh_answer.specs.declared.views.LineView.{LineView}
+
+-- how many lines an answer has at most
+abbrev pub lines_told : ℕ
+lines_told = 32
+
+-- ---- its session
+
+abbrev pub phase_text : Phase → List ℕ
+phase_text Down = codes "down"
+phase_text Calling = codes "calling"
+phase_text Answered = codes "answered"
+phase_text SentI = codes "signing on"
+phase_text Up = codes "up"
+
+-- only a session that is up has turns
+abbrev pub turn_text : Phase → Bool → List ℕ
+turn_text Up true = codes "hub"
+turn_text Up false = codes "peer"
+turn_text Down has_turn = codes "nobody"
+turn_text Calling has_turn = codes "nobody"
+turn_text Answered has_turn = codes "nobody"
+turn_text SentI has_turn = codes "nobody"
+
+abbrev pub role_text : Role → List ℕ
+role_text Call = codes "calls"
+role_text Answer = codes "answers"
+
+abbrev pub session_data : SessionView → Data
+session_data s = object (
+    member (codes "phase") (string (phase_text s.phase))
+    (member (codes "refusals") (number (unsigned s.refusals))
+    (member (codes "tries") (number (unsigned s.tries))
+    (member (codes "turn") (string (turn_text s.phase s.has_turn)) no_members))))
+
+-- The customer's line of a number, where it has one. A hub of these tables has each of theirs; of another hub nothing
+-- is told of the session and the streams of a line that it lacks.
+abbrev pub line_where : ℕ → Part → Option CustomerLine
+line_where index p = slice_get p.customer.lines index
+
+abbrev pub session_where : Option CustomerLine → Data
+session_where None = null
+session_where (Some line) = session_data (line_view line.state)
+
+-- ---- its streams
+
+abbrev pub says_state : List ℕ → Data
+says_state text = object (member (codes "state") (string text) no_members)
+
+-- a file that comes: its records so far
+abbrev pub receiver_data : CustomerSpool → Receiver → Data
+receiver_data s receiver.Idle = null
+receiver_data s (receiver.Open n progress) =
+    object (member (codes "records") (number (unsigned (length (records_in n s)))) no_members)
+receiver_data s receiver.Draining = says_state (codes "passed over")
+
+abbrev pub name_where : Option WholeFile → Data
+name_where None = null
+name_where (Some f) = string (file_name_text (said_name f.records))
+
+-- a file that goes out
+abbrev pub going_data : CustomerSpool → ℕ → ℕ → List ℕ → Data
+going_data s n sent state = object (
+    member (codes "name") (name_where (whole_numbered n s))
+    (member (codes "records") (number (unsigned (length (records_in n s))))
+    (member (codes "sent") (number (unsigned sent))
+    (member (codes "state") (string state) no_members))))
+
+abbrev pub sender_data : CustomerSpool → Sender → Data
+sender_data s sender.Idle = null
+sender_data s (sender.Requested n) = going_data s n 0 (codes "asked for")
+sender_data s (sender.Sending n next) = going_data s n next (codes "sending")
+sender_data s (sender.EofSent n) = going_data s n (length (records_in n s)) (codes "sent")
+sender_data s sender.Aborting = says_state (codes "given up")
+
+abbrev pub receivers_where : CustomerSpool → Option CustomerLine → List Data
+receivers_where s None = []
+receivers_where s (Some line) = map (receiver_data s) line.receivers
+
+abbrev pub senders_where : CustomerSpool → Option CustomerLine → List Data
+senders_where s None = []
+senders_where s (Some line) = map (sender_data s) line.senders
+
+-- ---- how it is served
+
+abbrev pub state_text : LineState → List ℕ
+state_text Started = codes "started"
+state_text Draining = codes "draining"
+state_text Stopped = codes "stopped"
+
+abbrev pub moment_data : Option ℕ → Data
+moment_data None = null
+moment_data (Some moment) = number (unsigned moment)
+
+abbrev pub served_data : Option LineView → Data
+served_data None = null
+served_data (Some v) = object (
+    member (codes "connected") (moment_data v.connected)
+    (member (codes "last_end") (string (string_bytes v.last_end))
+    (member (codes "site") (string (string_bytes v.site))
+    (member (codes "state") (string (state_text v.state))
+    (member (codes "up") (moment_data v.up) no_members)))))
+
+abbrev pub is_of_line : LineId → LineView → Bool
+is_of_line id v = (v.line.customer == id.customer) && (v.line.number == id.number)
+
+-- ---- all
+
+-- a line: by the tables, by the customer's files and its own line, and as it is served
+abbrev pub line_data : NamedLine → CustomerSpool → Option CustomerLine → Option LineView → Data
+line_data named s line served = object (
+    member (codes "from_hub") (array (items_of (senders_where s line)))
+    (member (codes "name") (string named.name)
+    (member (codes "node") (string (name_text named.entry.node))
+    (member (codes "role") (string (role_text named.entry.role))
+    (member (codes "served") (served_data served)
+    (member (codes "session") (session_where line)
+    (member (codes "to_hub") (array (items_of (receivers_where s line))) no_members)))))))
+
+abbrev pub line_id : ℕ → ℕ → LineId
+line_id c index = record { customer = c; number = index }
+
+-- the line of a number of customer c, whose part of the hub this is
+abbrev pub line_told : List NamedLine → ℕ → Part → List LineView → ℕ → Data
+line_told named c p views index =
+    line_data (slice_index_or named index no_line) p.customer.spool (line_where index p)
+    (find (is_of_line (line_id c index)) views)
+
+abbrev pub lines_told_from : List NamedLine → ℕ → Part → List LineView → Page → List Data
+lines_told_from named c p views page =
+    map (line_told named c p views) (range_with_len page.first (page.end - page.first))
+
+abbrev pub lines_page : NamedCustomer → ℕ → Page
+lines_page named from = page_of from lines_told (length named.lines)
+
+-- {"customer":"ACME","lines":[..],"next":null}
+abbrev pub lines_data : NamedCustomer → ℕ → Part → List LineView → ℕ → Data
+lines_data named c p views from = object (
+    member (codes "customer") (string (name_text named.name))
+    (member (codes "lines") (array (items_of (lines_told_from named.lines c p views (lines_page named from))))
+    (member (codes "next") (next_data 0 (lines_page named from).end (length named.lines)) no_members)))

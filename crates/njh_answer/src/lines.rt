@@ -1,0 +1,360 @@
+//! A customer's lines.
+
+ghost use Rattle.std.specs.Prelude.{◌≡◌, ◌^◌, ◌≤◌, ◌<◌, find, length, map, IfOk, option_map};
+ghost use Rattle.serde_json.specs.Data.{null};
+ghost use Rattle.serde_json.specs.View.{view};
+ghost use Rattle.njh_hub.specs.WholeHub.{part};
+ghost use Rattle.njh_spool.specs.CustomerSpool.{whole_numbered};
+ghost use Rattle.njh_table.specs.TableFile.{customer_at};
+ghost use Rattle.njh_answer.specs.Lines.{going_data, is_of_line, line_data, line_told, line_where};
+ghost use Rattle.njh_answer.specs.Lines.{lines_data, lines_told_from, moment_data, name_where, phase_text};
+ghost use Rattle.njh_answer.specs.Lines.{receiver_data, receivers_where, role_text, sender_data, senders_where};
+ghost use Rattle.njh_answer.specs.Lines.{served_data, session_data, session_where, state_text, turn_text};
+
+use crate::fields::{file_name_text, name_text};
+use crate::page::Page;
+use crate::views::{LineState, LineView};
+use njh_hub::{Hub, SessionView};
+use njh_line::Phase;
+use njh_spool::FileId;
+use njh_stream::{Receiver, Sender};
+use njh_table::{LineId, NamedLine, Role, Tables};
+use serde_json::{Value, json};
+use std::alloc::{AllocError, Global};
+
+/// How many lines an answer has at most.
+const LINES: usize = 32;
+
+/// A line's session.
+fn session_value(alloc: Global, session: &SessionView) -> Result<Value, AllocError>
+    ensures { IfOk result (λ value. view value ≡ session_data session.now) }
+{
+    json!(in alloc; {
+        "phase": phase_text(session.phase),
+        "refusals": session.refusals,
+        "tries": session.tries,
+        "turn": turn_text(session)
+    })
+}
+
+fn phase_text(phase: Phase) -> &'static str
+    ensures { result.now ≡ phase_text phase }
+{
+    match phase {
+        Phase::Down => "down",
+        Phase::Calling => "calling",
+        Phase::Answered => "answered",
+        Phase::SentI => "signing on",
+        Phase::Up => "up",
+    }
+}
+
+/// Who is to send next; nobody if the session isn't up.
+fn turn_text(session: &SessionView) -> &'static str
+    ensures { result.now ≡ turn_text session.now.phase session.now.has_turn }
+{
+    match session.phase {
+        Phase::Up => if session.has_turn { "hub" } else { "peer" },
+        _ => "nobody",
+    }
+}
+
+fn role_text(role: Role) -> &'static str
+    ensures { result.now ≡ role_text role }
+{
+    match role {
+        Role::Call => "calls",
+        Role::Answer => "answers",
+    }
+}
+
+/// What comes on a stream, if something does.
+fn receiver_value(
+    alloc: Global,
+    hub: &Hub,
+    customer: u16,
+    receiver: Receiver,
+) -> Result<Value, AllocError>
+    ensures { IfOk result (λ value. view value ≡ receiver_data (part customer hub.now).customer.spool receiver) }
+{
+    match receiver {
+        Receiver::Idle => Ok(Value::Null),
+        Receiver::Open { file, .. } =>
+            json!(in alloc; {"records": hub.record_count(customer, file)}),
+        Receiver::Draining => json!(in alloc; {"state": "passed over"}),
+    }
+}
+
+/// What goes out on a stream, if something does.
+fn sender_value(
+    alloc: Global,
+    hub: &Hub,
+    customer: u16,
+    sender: Sender,
+) -> Result<Value, AllocError>
+    ensures { IfOk result (λ value. view value ≡ sender_data (part customer hub.now).customer.spool sender) }
+{
+    match sender {
+        Sender::Idle => Ok(Value::Null),
+        Sender::Requested(file) => going_value(alloc, hub, customer, file, 0, "asked for"),
+        Sender::Sending(file, next) => going_value(alloc, hub, customer, file, next, "sending"),
+        Sender::EofSent(file) => {
+            let records = hub.record_count(customer, file);
+            going_value(alloc, hub, customer, file, records, "sent")
+        }
+        Sender::Aborting => json!(in alloc; {"state": "given up"}),
+    }
+}
+
+/// A file that goes out: how many of its records went, and how far it is.
+fn going_value(
+    alloc: Global,
+    hub: &Hub,
+    customer: u16,
+    file: FileId,
+    sent: u32,
+    state: &str,
+) -> Result<Value, AllocError>
+    ensures { IfOk result (λ value. view value
+        ≡ going_data (part customer hub.now).customer.spool file sent state.now) }
+{
+    let name = going_name(alloc, hub, customer, file)?;
+    let records = hub.record_count(customer, file);
+    json!(in alloc; {"name": name, "records": records, "sent": sent, "state": state})
+}
+
+/// The name of a file that goes out; null once it has left.
+fn going_name(alloc: Global, hub: &Hub, customer: u16, file: FileId) -> Result<Value, AllocError>
+    ensures { IfOk result (λ value. view value
+        ≡ name_where (whole_numbered file (part customer hub.now).customer.spool)) }
+{
+    match hub.file_summary(customer, file) {
+        Some(file) => Ok(Value::String(file_name_text(alloc, file.name)?)),
+        None => Ok(Value::Null),
+    }
+}
+
+/// What comes on each of a line's streams to the hub; no stream where the hub has no such line.
+#[tactic(auto, using(crate::proofs::Telling::line_here, crate::proofs::Telling::line_nowhere))]
+fn receivers_of(alloc: Global, hub: &Hub, id: LineId) -> Result<Vec<Value>, AllocError>
+    ensures { IfOk result (λ values. map view values.items ≡ receivers_where
+        (part id.customer hub.now).customer.spool (line_where id.number (part id.customer hub.now))) }
+{
+    match hub.receivers(id) {
+        Ok(receivers) => receiver_values(alloc, hub, id.customer, receivers),
+        Err(_) => Ok(Vec::new(alloc)),
+    }
+}
+
+fn receiver_values(
+    alloc: Global,
+    hub: &Hub,
+    customer: u16,
+    receivers: &[Receiver],
+) -> Result<Vec<Value>, AllocError>
+    ensures { IfOk result (λ values. map view values.items
+        ≡ map (receiver_data (part customer hub.now).customer.spool) receivers.now) }
+{
+    let mut values = Vec::new(alloc);
+    for receiver in receivers {
+        values.push(receiver_value(alloc, hub, customer, *receiver)?)?;
+    }
+    Ok(values)
+}
+
+/// What goes out on each of a line's streams from the hub; no stream where the hub has no such line.
+#[tactic(auto, using(crate::proofs::Telling::line_here, crate::proofs::Telling::line_nowhere))]
+fn senders_of(alloc: Global, hub: &Hub, id: LineId) -> Result<Vec<Value>, AllocError>
+    ensures { IfOk result (λ values. map view values.items ≡ senders_where
+        (part id.customer hub.now).customer.spool (line_where id.number (part id.customer hub.now))) }
+{
+    match hub.senders(id) {
+        Ok(senders) => sender_values(alloc, hub, id.customer, senders),
+        Err(_) => Ok(Vec::new(alloc)),
+    }
+}
+
+fn sender_values(
+    alloc: Global,
+    hub: &Hub,
+    customer: u16,
+    senders: &[Sender],
+) -> Result<Vec<Value>, AllocError>
+    ensures { IfOk result (λ values. map view values.items
+        ≡ map (sender_data (part customer hub.now).customer.spool) senders.now) }
+{
+    let mut values = Vec::new(alloc);
+    for sender in senders {
+        values.push(sender_value(alloc, hub, customer, *sender)?)?;
+    }
+    Ok(values)
+}
+
+/// A line's session, by the hub; null where it has no such line.
+#[tactic(auto, using(crate::proofs::Telling::line_here, crate::proofs::Telling::line_nowhere))]
+fn session_of(alloc: Global, hub: &Hub, id: LineId) -> Result<Value, AllocError>
+    ensures { IfOk result (λ value. view value
+        ≡ session_where (line_where id.number (part id.customer hub.now))) }
+{
+    match hub.session(id) {
+        Ok(session) => session_value(alloc, &session),
+        Err(_) => Ok(nothing()),
+    }
+}
+
+/// JSON's null.
+fn nothing() -> Value
+    ensures { view result ≡ null }
+{
+    Value::Null
+}
+
+/// How a line is served; null if it isn't.
+fn served_value(alloc: Global, served: Option<&LineView>) -> Result<Value, AllocError>
+    ensures { IfOk result (λ value. view value ≡ served_data (option_map (λ s. s.now) served.entry)) }
+{
+    match served {
+        Some(served) => json!(in alloc; {
+            "connected": moment_value(served.connected),
+            "last_end": served.last_end.as_str(),
+            "site": served.site.as_str(),
+            "state": state_text(served.state),
+            "up": moment_value(served.up)
+        }),
+        None => Ok(Value::Null),
+    }
+}
+
+fn state_text(state: LineState) -> &'static str
+    ensures { result.now ≡ state_text state }
+{
+    match state {
+        LineState::Started => "started",
+        LineState::Draining => "draining",
+        LineState::Stopped => "stopped",
+    }
+}
+
+/// A moment, if there is one.
+pub(crate) fn moment_value(moment: Option<u64>) -> Value
+    ensures { view result ≡ moment_data moment }
+{
+    match moment {
+        Some(moment) => Value::from(moment),
+        None => Value::Null,
+    }
+}
+
+/// What the service knows of a line, if it serves it.
+fn served_as(lines: &[LineView], id: LineId) -> Option<&LineView>
+    ensures { option_map (λ s. s.now) result ≡ find (is_of_line id) lines.now }
+{
+    lines.iter().find(|line| is_of_line(*line, id))
+}
+
+fn is_of_line(line: &LineView, id: LineId) -> bool
+    ensures { result ≡ is_of_line id line.now }
+{
+    line.line.customer == id.customer && line.line.number == id.number
+}
+
+/// A line, by what the tables say of it.
+fn line_value(
+    alloc: Global,
+    hub: &Hub,
+    id: LineId,
+    named: &NamedLine,
+    lines: &[LineView],
+) -> Result<Value, AllocError>
+    ensures { IfOk result (λ value. view value
+        ≡ line_data named.now (part id.customer hub.now).customer.spool
+        (line_where id.number (part id.customer hub.now)) (find (is_of_line id) lines.now)) }
+{
+    let from_hub = Value::Array(senders_of(alloc, hub, id)?);
+    let node = name_text(alloc, named.node())?;
+    let served = served_value(alloc, served_as(lines, id))?;
+    let session = session_of(alloc, hub, id)?;
+    let to_hub = Value::Array(receivers_of(alloc, hub, id)?);
+    json!(in alloc; {
+        "from_hub": from_hub,
+        "name": named.name(),
+        "node": node,
+        "role": role_text(named.role()),
+        "served": served,
+        "session": session,
+        "to_hub": to_hub
+    })
+}
+
+/// The line of a number, of a customer's lines by its tables.
+fn told_line(
+    alloc: Global,
+    hub: &Hub,
+    id: LineId,
+    named: &[NamedLine],
+    lines: &[LineView],
+) -> Result<Value, AllocError>
+    requires { id.number < length named.now }
+    ensures { IfOk result (λ value. view value
+        ≡ line_told named.now id.customer (part id.customer hub.now) lines.now id.number) }
+{
+    line_value(alloc, hub, id, &named[usize::from(id.number)], lines)
+}
+
+/// The lines of a page.
+fn line_values(
+    alloc: Global,
+    hub: &Hub,
+    named: &[NamedLine],
+    lines: &[LineView],
+    customer: u16,
+    page: Page,
+) -> Result<Vec<Value>, AllocError>
+    requires ordered { page.first ≤ page.end }
+    requires within { page.end ≤ length named.now }
+    requires few { length named.now < 2 ^ 16 }
+    ensures { IfOk result (λ values. map view values.items
+        ≡ lines_told_from named.now customer (part customer hub.now) lines.now page) }
+{
+    let mut values = Vec::new(alloc);
+    for number in page.first..page.end {
+        let id = LineId {
+            customer,
+            number: number as u16,
+        };
+        values.push(told_line(alloc, hub, id, named, lines)?)?;
+    }
+    Ok(values)
+}
+
+/// A customer's lines by the tables: fewer than 65,536.
+pub(crate) fn lines_at(tables: &Tables, place: usize) -> &[NamedLine]
+    requires { place < length tables.now.customers }
+    ensures lines { result.now ≡ (customer_at tables.now place).lines }
+    ensures few { length result.now < 2 ^ 16 }
+{
+    let customers = tables.customers();
+    customers[place].lines()
+}
+
+/// A customer's lines from a place on, at most so many as one answer has, and the place to go on
+/// from. Out of memory is the only refusal.
+pub(crate) fn lines_value(
+    alloc: Global,
+    hub: &Hub,
+    tables: &Tables,
+    lines: &[LineView],
+    customer: u16,
+    from: u64,
+) -> Result<Value, AllocError>
+    requires { customer < length tables.now.customers }
+    ensures { IfOk result (λ value. view value
+        ≡ lines_data (customer_at tables.now customer) customer (part customer hub.now) lines.now from) }
+{
+    let named = lines_at(tables, usize::from(customer));
+    let page = Page::of(from, LINES, named.len());
+    let name = name_text(alloc, tables.customer(customer).name())?;
+    let told = Value::Array(line_values(alloc, hub, named, lines, customer, page)?);
+    let next = page.next(0, named.len());
+    json!(in alloc; {"customer": name, "lines": told, "next": next})
+}

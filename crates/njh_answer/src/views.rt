@@ -1,0 +1,44 @@
+//! What the service knows that the hub doesn't.
+
+use njh_table::LineId;
+
+/// How a line is served.
+#[derive(Clone, Copy, Debug, PartialEq, Eq)]
+pub enum LineState {
+    /// It has connections, as its tables say.
+    Started,
+    /// It is stopped once no file is on its streams.
+    Draining,
+    /// Its connection ended, and it lets none in.
+    Stopped,
+}
+
+/// What the service knows of a line. Moments are seconds since the beginning of 1970.
+#[derive(Drop)]
+pub struct LineView {
+    /// The line.
+    pub line: LineId,
+    /// How it is served.
+    pub state: LineState,
+    /// Where it listens, or whom it dials.
+    pub site: String,
+    /// Since when it has its connection, if it has one.
+    pub connected: Option<u64>,
+    /// Since when its session is up, if it is.
+    pub up: Option<u64>,
+    /// Why its last session ended; empty if none has.
+    pub last_end: String,
+}
+
+/// What the service knows of itself.
+#[derive(Drop)]
+pub struct ServiceView {
+    /// What it is, as `--version` says it.
+    pub version: String,
+    /// Since when it runs.
+    pub since: u64,
+    /// How many bytes FILE has, if there is one.
+    pub file_bytes: Option<u64>,
+    /// What is wrong now, a sentence each.
+    pub faults: Vec<String>,
+}

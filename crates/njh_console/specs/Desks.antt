@@ -1,0 +1,45 @@
+-- The desk of a round: it answers the first request by what there is to be told of, and keeps what that orders.
+use Rattle.std.specs.Prelude.{◌≡◌, ℕ, Bool, true, false, List}
+use Rattle.http.specs.declared.request.Request.{Request}
+use Rattle.http_server.specs.declared.response.Response.{Response}
+use Rattle.njh_request.specs.declared.refusal.Refusal.TheVariants.{OrderWaits}
+use Rattle.njh_answer.specs.Answers.{Told, refuses}
+use Rattle.njh_console.specs.Acts.{taken_by}
+use Rattle.njh_console.specs.Orders.{TakenOrders}
+use Rattle.njh_console.specs.Rounds.{told_to, IsToldBy}
+use Rattle.njh_console.specs.Scenes.{Scene}
+use Rattle.njh_console.specs.declared.act.Taken.{Taken}
+use Rattle.njh_console.specs.declared.act.Taken.TheVariants.{Nothing}
+
+pub record DeskState : Type 0 where
+  pub scene : Scene
+  pub orders : TakenOrders
+  -- a request of the round was answered
+  pub done : Bool
+  pub taken : Taken
+
+-- nobody has asked anything yet
+abbrev pub new_desk : Scene → TakenOrders → DeskState
+new_desk s o = record { scene = s; orders = o; done = false; taken = Nothing }
+
+abbrev pub told_when : Bool → Scene → TakenOrders → Request (List ℕ) → Told
+told_when false s o r = told_to s o r
+told_when true s o r = refuses OrderWaits
+
+-- what is answered to a request
+abbrev pub told_at : DeskState → Request (List ℕ) → Told
+told_at d r = told_when d.done d.scene d.orders r
+
+abbrev pub taken_when : Bool → Taken → Taken → Taken
+taken_when false what before = what
+taken_when true what before = before
+
+-- after a request
+abbrev pub desk_after : DeskState → Request (List ℕ) → DeskState
+desk_after d r = record d {
+  done = true;
+  taken = taken_when d.done (taken_by d.scene.tables (told_at d r).deed) d.taken;
+}
+
+abbrev pub IsServed : DeskState → Request (List ℕ) → Response → DeskState → Type 0
+IsServed d r response new = IsToldBy (told_at d r) response × (new ≡ desk_after d r)

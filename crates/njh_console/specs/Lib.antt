@@ -1,0 +1,6 @@
+pub mod Acts
+pub mod Consoles
+pub mod Desks
+pub mod Orders
+pub mod Rounds
+pub mod Scenes

@@ -1,0 +1,12 @@
+-- What there is to be told of at a moment: the hub's value, its tables, and what the service knows.
+use Rattle.std.specs.Prelude.{List}
+use Rattle.njh_table.specs.TableFile.{TableFile}
+use Rattle.njh_hub.specs.WholeHub.{Part}
+use Rattle.njh_answer.specs.declared.views.LineView.{LineView}
+use Rattle.njh_answer.specs.declared.views.ServiceView.{ServiceView}
+
+pub record Scene : Type 0 where
+  pub parts : List Part
+  pub tables : TableFile
+  pub service : ServiceView
+  pub lines : List LineView

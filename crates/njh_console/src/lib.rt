@@ -1,0 +1,18 @@
+//! The console of the bureau's operator: requests by HTTP, from four visitors at most, one a round,
+//! and the orders that were taken. It does no input and output of its own: a visitor's socket is
+//! what reads and writes.
+#![tactic(auto)]
+
+mod act;
+mod console;
+mod desk;
+mod keys;
+mod order_book;
+mod situation;
+mod visitor;
+
+pub use act::{Act, Taken};
+pub use console::Console;
+pub use order_book::REMEMBERED;
+pub use situation::Situation;
+pub use visitor::{SEATS, SILENCE};

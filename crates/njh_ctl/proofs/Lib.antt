@@ -1,0 +1,4 @@
+mod BodyText
+mod Numerals
+mod Paths
+mod ReadBack

@@ -1,0 +1,397 @@
+//! What is told of answers, for people.
+
+use crate::answers::{count_in, list_in, text_in};
+use crate::fault::CtlFault;
+use jiff::Timestamp;
+use njh_arguments::FileState;
+use serde_json::Value;
+use std::alloc::{AllocError, Global};
+
+/// What stands above customers.
+pub(crate) const CUSTOMERS: &str = "CUSTOMER  QUOTA   USED  READY   HELD REFUSED SENDING ARRIVED\n";
+
+/// What stands above lines.
+pub(crate) const LINES: &str =
+    "CUSTOMER LINE     NODE     ROLE    STATE    SESSION    TURN   SINCE                SITE\n";
+
+/// What stands above files.
+pub(crate) const FILES: &str =
+    "CUSTOMER FILE           KIND STATE    RECORDS BLOCKS OWNER             FOR\n";
+
+/// Which files are told.
+#[derive(Clone, Copy)]
+pub(crate) struct Filter<'a> {
+    /// Only those for this node.
+    pub(crate) node: Option<&'a str>,
+    /// Only those in this state.
+    pub(crate) state: Option<FileState>,
+}
+
+/// Tells how the hub is.
+pub(crate) fn show_status(alloc: Global, value: &Value, out: &mut String) -> Result<(), CtlFault> {
+    let version = text_in(value, "version")?;
+    let since = moment_text(alloc, count_in(value, "since")?)?;
+    let since = since.as_str();
+    add(out, format!(in alloc; "njehub {version}, since {since}\n"))?;
+    show_sums(alloc, value, out)?;
+    show_bytes(alloc, value, out)?;
+    show_faults(alloc, list_in(value, "faults")?, out)
+}
+
+/// Tells what all customers have together.
+fn show_sums(alloc: Global, value: &Value, out: &mut String) -> Result<(), CtlFault> {
+    let customers = count_in(value, "customers")?;
+    let files = count_in(value, "files")?;
+    let lines = member(value, "lines")?;
+    let up = count_in(lines, "up")?;
+    let all = count_in(lines, "all")?;
+    let blocks = member(value, "blocks")?;
+    let used = count_in(blocks, "used")?;
+    let left = count_in(blocks, "left")?;
+    add(
+        out,
+        format!(in alloc; "customers {customers}, lines up {up} of {all}\n"),
+    )?;
+    add(
+        out,
+        format!(in alloc; "files {files}, blocks {used} used and {left} left\n"),
+    )
+}
+
+/// Tells how large the spool file is, where that is known.
+fn show_bytes(alloc: Global, value: &Value, out: &mut String) -> Result<(), CtlFault> {
+    match value.get("file_bytes").and_then(Value::as_u64) {
+        Some(bytes) => add(out, format!(in alloc; "spool file {bytes} bytes\n")),
+        None => Ok(()),
+    }
+}
+
+/// Tells what is wrong now.
+fn show_faults(alloc: Global, faults: &[Value], out: &mut String) -> Result<(), CtlFault> {
+    if faults.is_empty() {
+        return add(out, String::from_str(alloc, "nothing is wrong\n"));
+    }
+    for fault in faults {
+        let Some(fault) = fault.as_str() else {
+            return Err(CtlFault::NotUnderstood);
+        };
+        add(out, format!(in alloc; "wrong: {fault}\n"))?;
+    }
+    Ok(())
+}
+
+/// Tells of customers.
+pub(crate) fn show_customers(
+    alloc: Global,
+    customers: &[Value],
+    out: &mut String,
+) -> Result<(), CtlFault> {
+    for customer in customers {
+        show_customer(alloc, customer, out)?;
+    }
+    Ok(())
+}
+
+fn show_customer(alloc: Global, customer: &Value, out: &mut String) -> Result<(), CtlFault> {
+    let name = text_in(customer, "name")?;
+    let quota = count_in(customer, "quota")?;
+    let used = count_in(customer, "blocks")?;
+    let arrived = count_in(customer, "arrived")?;
+    add(out, format!(in alloc; "{name:<8} {quota:>6} {used:>6} "))?;
+    show_tally(alloc, member(customer, "files")?, out)?;
+    add(out, format!(in alloc; "{arrived:>7}\n"))
+}
+
+/// Tells how many files are in each state.
+fn show_tally(alloc: Global, files: &Value, out: &mut String) -> Result<(), CtlFault> {
+    let ready = count_in(files, "ready")?;
+    let held = count_in(files, "held")?;
+    let refused = count_in(files, "refused")?;
+    let sending = count_in(files, "sending")?;
+    add(
+        out,
+        format!(in alloc; "{ready:>6} {held:>6} {refused:>7} {sending:>7} "),
+    )
+}
+
+/// Tells of a customer's files, those that are looked for.
+pub(crate) fn show_files(
+    alloc: Global,
+    customer: &str,
+    files: &[Value],
+    filter: Filter<'_>,
+    out: &mut String,
+) -> Result<(), CtlFault> {
+    for file in files {
+        if is_looked_for(file, filter)? {
+            show_file(alloc, customer, file, out)?;
+        }
+    }
+    Ok(())
+}
+
+/// Whether a file is looked for.
+fn is_looked_for(file: &Value, filter: Filter<'_>) -> Result<bool, CtlFault> {
+    let state = text_in(file, "state")?;
+    let node = text_in(member(file, "destination")?, "node")?;
+    Ok(is_of_node(node, filter.node) && is_in_state(state, filter.state))
+}
+
+fn is_of_node(node: &str, wanted: Option<&str>) -> bool {
+    match wanted {
+        Some(wanted) => node == wanted,
+        None => true,
+    }
+}
+
+fn is_in_state(state: &str, wanted: Option<FileState>) -> bool {
+    match wanted {
+        Some(FileState::Ready) => state == "READY",
+        Some(FileState::Held) => state == "HELD",
+        Some(FileState::Refused) => state == "REFUSED",
+        Some(FileState::Sending) => state == "SENDING",
+        None => true,
+    }
+}
+
+fn show_file(
+    alloc: Global,
+    customer: &str,
+    file: &Value,
+    out: &mut String,
+) -> Result<(), CtlFault> {
+    let name = text_in(file, "name")?;
+    let kind = text_in(file, "kind")?;
+    let state = text_in(file, "state")?;
+    let records = count_in(file, "records")?;
+    let blocks = count_in(file, "blocks")?;
+    add(
+        out,
+        format!(in alloc; "{customer:<8} {name:<14} {kind:<4} {state:<8} "),
+    )?;
+    add(out, format!(in alloc; "{records:>7} {blocks:>6} "))?;
+    show_users(
+        alloc,
+        member(file, "owner")?,
+        member(file, "destination")?,
+        out,
+    )
+}
+
+/// Tells whose a file is, and for whom.
+fn show_users(
+    alloc: Global,
+    owner: &Value,
+    destination: &Value,
+    out: &mut String,
+) -> Result<(), CtlFault> {
+    let owner = user_text(alloc, owner)?;
+    let owner = owner.as_str();
+    let destination = user_text(alloc, destination)?;
+    let destination = destination.as_str();
+    add(out, format!(in alloc; "{owner:<17} {destination}\n"))
+}
+
+/// A user at a node, as `LYON.ANNA`; a node alone where there is no user.
+fn user_text(alloc: Global, user: &Value) -> Result<String, CtlFault> {
+    let node = text_in(user, "node")?;
+    let name = text_in(user, "user")?;
+    if name.is_empty() {
+        return Ok(String::from_str(alloc, node)?);
+    }
+    Ok(format!(in alloc; "{node}.{name}")?)
+}
+
+/// Tells of a customer's lines.
+pub(crate) fn show_lines(
+    alloc: Global,
+    customer: &str,
+    lines: &[Value],
+    out: &mut String,
+) -> Result<(), CtlFault> {
+    for line in lines {
+        show_line(alloc, customer, line, out)?;
+        show_streams(alloc, line, out)?;
+    }
+    Ok(())
+}
+
+/// Tells of a line and its session.
+fn show_line(
+    alloc: Global,
+    customer: &str,
+    line: &Value,
+    out: &mut String,
+) -> Result<(), CtlFault> {
+    let name = text_in(line, "name")?;
+    let node = text_in(line, "node")?;
+    let role = text_in(line, "role")?;
+    add(
+        out,
+        format!(in alloc; "{customer:<8} {name:<8} {node:<8} {role:<7} "),
+    )?;
+    let served = member(line, "served")?;
+    let session = member(line, "session")?;
+    if served.is_null() {
+        return add(out, String::from_str(alloc, "not served\n"));
+    }
+    show_session(alloc, served, session, out)
+}
+
+/// Tells of a line's session and connection.
+fn show_session(
+    alloc: Global,
+    served: &Value,
+    session: &Value,
+    out: &mut String,
+) -> Result<(), CtlFault> {
+    let state = text_in(served, "state")?;
+    let site = text_in(served, "site")?;
+    let phase = text_in(session, "phase")?;
+    let turn = text_in(session, "turn")?;
+    let since = since_text(alloc, served)?;
+    let since = since.as_str();
+    add(
+        out,
+        format!(in alloc; "{state:<8} {phase:<10} {turn:<6} {since:<20} {site}\n"),
+    )?;
+    show_troubles(alloc, served, session, out)
+}
+
+/// Since when the session is up, or else there is a connection, if one of the two is so.
+fn since_text(alloc: Global, served: &Value) -> Result<String, CtlFault> {
+    match served.get("up").and_then(Value::as_u64) {
+        Some(moment) => moment_text(alloc, moment),
+        None => match served.get("connected").and_then(Value::as_u64) {
+            Some(moment) => moment_text(alloc, moment),
+            None => Ok(String::from_str(alloc, "-")?),
+        },
+    }
+}
+
+/// Tells why the last session ended, and what had to be sent again.
+fn show_troubles(
+    alloc: Global,
+    served: &Value,
+    session: &Value,
+    out: &mut String,
+) -> Result<(), CtlFault> {
+    let last = text_in(served, "last_end")?;
+    if !last.is_empty() {
+        add(out, format!(in alloc; "  last end: {last}\n"))?;
+    }
+    let refusals = count_in(session, "refusals")?;
+    let tries = count_in(session, "tries")?;
+    if refusals > 0 || tries > 0 {
+        add(
+            out,
+            format!(in alloc; "  tries {tries}, refusals {refusals}\n"),
+        )?;
+    }
+    Ok(())
+}
+
+/// Tells what comes and goes on a line's streams.
+fn show_streams(alloc: Global, line: &Value, out: &mut String) -> Result<(), CtlFault> {
+    let mut number: u64 = 0;
+    for stream in list_in(line, "from_hub")? {
+        number = number.saturating_add(1);
+        show_sender(alloc, number, stream, out)?;
+    }
+    number = 0;
+    for stream in list_in(line, "to_hub")? {
+        number = number.saturating_add(1);
+        show_receiver(alloc, number, stream, out)?;
+    }
+    Ok(())
+}
+
+/// Tells what goes on a stream, if something does.
+fn show_sender(
+    alloc: Global,
+    number: u64,
+    stream: &Value,
+    out: &mut String,
+) -> Result<(), CtlFault> {
+    if stream.is_null() {
+        return Ok(());
+    }
+    let state = text_in(stream, "state")?;
+    match stream.get("name").and_then(Value::as_str) {
+        Some(name) => {
+            let sent = count_in(stream, "sent")?;
+            let records = count_in(stream, "records")?;
+            add(
+                out,
+                format!(in alloc; "  from the hub, stream {number}: {name}, {state}, "),
+            )?;
+            add(out, format!(in alloc; "{sent} of {records} records\n"))
+        }
+        None => add(
+            out,
+            format!(in alloc; "  from the hub, stream {number}: {state}\n"),
+        ),
+    }
+}
+
+/// Tells what comes on a stream, if something does.
+fn show_receiver(
+    alloc: Global,
+    number: u64,
+    stream: &Value,
+    out: &mut String,
+) -> Result<(), CtlFault> {
+    if stream.is_null() {
+        return Ok(());
+    }
+    match stream.get("records").and_then(Value::as_u64) {
+        Some(records) => add(
+            out,
+            format!(in alloc; "  to the hub, stream {number}: {records} records\n"),
+        ),
+        None => {
+            let state = text_in(stream, "state")?;
+            add(
+                out,
+                format!(in alloc; "  to the hub, stream {number}: {state}\n"),
+            )
+        }
+    }
+}
+
+/// Tells what an order answered.
+pub(crate) fn show_replies(alloc: Global, value: &Value, out: &mut String) -> Result<(), CtlFault> {
+    for reply in list_in(value, "replies")? {
+        let Some(reply) = reply.as_str() else {
+            return Err(CtlFault::NotUnderstood);
+        };
+        add(out, format!(in alloc; "{reply}\n"))?;
+    }
+    Ok(())
+}
+
+/// A member, which has to be there.
+fn member<'a>(value: &'a Value, key: &str) -> Result<&'a Value, CtlFault> {
+    match value.get(key) {
+        Some(member) => Ok(member),
+        None => Err(CtlFault::NotUnderstood),
+    }
+}
+
+/// Seconds since 1970, as a date and a time in UTC.
+fn moment_text(alloc: Global, seconds: u64) -> Result<String, CtlFault> {
+    match i64::try_from(seconds) {
+        Ok(second) => match Timestamp::from_second(second) {
+            Ok(time) => Ok(format!(in alloc; "{time}")?),
+            Err(_) => Ok(format!(in alloc; "{seconds}")?),
+        },
+        Err(_) => Ok(format!(in alloc; "{seconds}")?),
+    }
+}
+
+/// Adds a text, unless memory was refused for it.
+fn add(out: &mut String, text: Result<String, AllocError>) -> Result<(), CtlFault> {
+    let text = text?;
+    out.push_str(text.as_str())?;
+    Ok(())
+}

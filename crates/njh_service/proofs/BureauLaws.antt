@@ -1,0 +1,99 @@
+-- Lines of which none is to be stopped once it is idle, and lines as the console tells them.
+use Rattle.std.proofs.Common.{◌≡◌, ℕ, ◌+◌, ◌<◌, List, [], ◌∷◌, ◌++◌, length, get_or, take, map, Some, refl}
+use Rattle.std.proofs.Common.{sym, ap, ◌∙◌, subst}
+use Rattle.std.proofs.lemmas.List.{map-append}
+use Rattle.std.specs.Prelude.{Bool, false, Option, None, slice_get, if◌then◌else◌, ◌&&◌}
+use Rattle.std.specs.Option.{option_map}
+use Rattle.std.specs.declared.net.socket_addr.SocketAddr.{SocketAddr}
+use Rattle.njh_answer.specs.declared.views.LineState.{LineState}
+use Rattle.njh_answer.specs.declared.views.LineState.TheVariants.{Stopped}
+use Rattle.njh_answer.specs.declared.views.LineView.{LineView}
+use Rattle.njh_console.specs.Consoles.{ConsoleState}
+use Rattle.njh_console.specs.declared.act.Act.{Act}
+use Rattle.njh_console.specs.declared.act.Act.TheVariants as act
+use Rattle.njh_hub.specs.WholeHub.{Part}
+use Rattle.njh_request.specs.declared.request.Moment.{Moment}
+use Rattle.njh_table.specs.declared.LineId.{LineId}
+use Rattle.njh_service.specs.Bureaus.{state_of, state_told, stop_after, Attended, IsAsked, IsObeyed}
+use Rattle.njh_service.specs.LineStates.{is_draining, is_free, line_settled, line_wished, with_state, AreMade}
+use Rattle.njh_service.specs.LineStates.{NoneDrains}
+use Rattle.njh_service.specs.Watching.{served_line, ServedLine, Watched}
+use Rattle.njh_service.specs.declared.post.Post.{Post}
+use Rattle.njh_service.proofs.OpenedLaws.{made_more}
+
+settled_same : (parts : List Part) (line : ServedLine) → is_draining line.state ≡ false
+    → line ≡ line_settled parts line
+settled_same parts line none =
+    sym (ap (λ (drains : Bool). with_state (if drains && is_free line.id parts then Stopped else line.state) line) none)
+
+settled_where : (parts : List Part) (found : Option ServedLine)
+    → ((line : ServedLine) → found ≡ Some line → is_draining line.state ≡ false)
+    → found ≡ option_map (line_settled parts) found
+settled_where parts None none = refl
+settled_where parts (Some line) none = ap Some (settled_same parts line (none line refl))
+
+-- where none is to be stopped once it is idle, a round leaves all as they are
+pub none_settled : (parts : List Part) (lines : List ServedLine) → NoneDrains lines
+    → AreMade (line_settled parts) lines lines
+none_settled parts lines none place =
+    settled_where parts (slice_get lines place) (λ line found. none place line found)
+
+-- a line and its state
+abbrev pub state_in : {L C : Type 0} → Post L C → LineId × LineState
+state_in post = (post.line, post.state)
+
+-- the states of posts are those of their lines
+states_of : {L C : Type 0} (address_of : L → SocketAddr) (posts : List (Post L C))
+    → map state_in posts ≡ map state_of (map (served_line address_of) posts)
+states_of address_of [] = refl
+states_of address_of (post ∷ posts) = ap (λ rest. state_in post ∷ rest) (states_of address_of posts)
+
+pub states_told : {L C : Type 0} (address_of : L → SocketAddr) (posts : List (Post L C)) (lines : List ServedLine)
+    → map (served_line address_of) posts ≡ lines → map state_in posts ≡ map state_of lines
+states_told address_of posts lines seen = states_of address_of posts ∙ ap (map state_of) seen
+
+-- what is told of the lines so far, and of one more
+pub told_more : {L C : Type 0} (posts : List (Post L C)) (n : ℕ) (post : Post L C) (views new : List LineView)
+    (view : LineView) → n < length posts → map state_told views ≡ map state_in (take n posts)
+    → new ≡ views ++ view ∷ [] → state_told view ≡ state_in post → post ≡ get_or posts n post
+    → map state_told new ≡ map state_in (take (n + 1) posts)
+told_more posts n post views new view within so_far pushed told read =
+    made_more state_in posts n post (map state_told views) (map state_told new) within so_far
+    (ap (map state_told) pushed
+    ∙ (map-append state_told views (view ∷ [])
+    ∙ ap (λ (one : LineId × LineState). map state_told views ++ one ∷ []) (told ∙ ap state_in read)))
+
+-- ---- what is asked is done
+
+-- a line is none that drains, where it was none
+pub none_drain : (old new : Watched) → new ≡ old → NoneDrains old.lines → NoneDrains new.lines
+none_drain old new same none = subst (λ (w : Watched). NoneDrains w.lines) (sym same) none
+
+-- what was asked of the same lines and the same console
+pub asked_as : {V : Type 0} (parts : List Part) (seen own : Watched) (before console after : ConsoleState V)
+    (what : Option Act) → seen ≡ own → before ≡ console → IsAsked parts seen before after what
+    → IsAsked parts own console after what
+asked_as {V} parts seen own before console after what same is asked =
+    subst (λ (w : Watched). IsAsked parts w console after what) same
+    (subst (λ (k : ConsoleState V). IsAsked parts seen k after what) is asked)
+
+-- what is obeyed behind an answer that changed nothing
+pub obeyed_after : {V : Type 0} (what : Option Act) (old between new : Attended V) → between.exchange ≡ old.exchange
+    → between.stop ≡ old.stop → IsObeyed what between new → IsObeyed what old new
+obeyed_after None old between new same stop obeyed = (obeyed.0 ∙ same, obeyed.1 ∙ stop)
+obeyed_after (Some (act.Line id wish)) old between new same stop obeyed = (
+  subst (λ (w : Watched). AreMade (line_wished id wish) w.lines new.exchange.lines) same obeyed.0,
+  obeyed.1 ∙ stop,
+)
+obeyed_after (Some (act.Stop moment)) old between new same stop obeyed =
+    (obeyed.0 ∙ same, obeyed.1 ∙ ap (λ (was : Option Moment). stop_after was moment) stop)
+
+-- the same of a service of which the lines and the end are those of another
+pub obeyed_as : {V : Type 0} (what : Option Act) (old new after : Attended V) → after.exchange ≡ new.exchange
+    → after.stop ≡ new.stop → IsObeyed what old new → IsObeyed what old after
+obeyed_as None old new after same stop obeyed = (same ∙ obeyed.0, stop ∙ obeyed.1)
+obeyed_as (Some (act.Line id wish)) old new after same stop obeyed = (
+  subst (λ (w : Watched). AreMade (line_wished id wish) old.exchange.lines w.lines) (sym same) obeyed.0,
+  stop ∙ obeyed.1,
+)
+obeyed_as (Some (act.Stop moment)) old new after same stop obeyed = (same ∙ obeyed.0, stop ∙ obeyed.1)

@@ -1,0 +1,48 @@
+use Rattle.std.proofs.Common.{◌∙◌, ℕ, ap, subst}
+use Rattle.std.specs.Prelude.{Bool, Option}
+use Rattle.njh_console.specs.Consoles.{AreTended, ConsoleState}
+use Rattle.njh_console.specs.Orders.{TakenOrders}
+use Rattle.njh_request.specs.declared.request.Moment.{Moment}
+use Rattle.njh_service.specs.Bureaus.{Attended}
+use Rattle.njh_service.specs.Watching.{Watched}
+use Rattle.njh_service.proofs.BureauLaws.{obeyed_after, obeyed_as}
+use Rattle.njh_service.proofs.bureau.Bureau.serve_console.Goals as goal
+
+-- one visitor at most was answered, and each was written to
+pub returns-clause-served : goal.returns-clause-served
+returns-clause-served g c =
+    let V : Type 0 = g.row.N-Visitor.Denot in
+    let between = c.answer-act.new.self in
+    let next = c.obey.new.self in
+    let what = c.answer-act.result in
+    let Seen : Attended V → Watched = λ seen. seen.exchange in
+    let Stop : Attended V → Option Moment = λ seen. seen.stop in
+    let Own : Attended V → ConsoleState V = λ seen. seen.console in
+    let Now : Attended V → ℕ = λ seen. seen.exchange.now in
+    let Orders : ConsoleState V → TakenOrders = λ console. console.orders in
+    let console = ap Own c.self-2.view_is ∙ c.obey.ensures.console in record {
+      what = what;
+      between = between.console;
+      asked = c.answer-act.ensures.asked;
+      obeyed = obeyed_as what c.args.self.now next _ (ap Seen c.self-2.view_is) (ap Stop c.self-2.view_is)
+          (obeyed_after what c.args.self.now between next c.answer-act.ensures.same.0 c.answer-act.ensures.same.1
+          c.obey.ensures.obeyed);
+      tended = subst (λ (moment : ℕ). AreTended moment between.console.seats c.tend.new.self.seats)
+          (c.now-now.ensures ∙ ap Now c.self.view_is)
+          (subst (λ (before : ConsoleState V). AreTended c.now-now.result before.seats c.tend.new.self.seats) console
+          c.tend.ensures.seats);
+      orders = c.tend.ensures.orders ∙ ap Orders console;
+    }
+
+pub returns-clause-given : goal.returns-clause-given
+returns-clause-given g c =
+    let V : Type 0 = g.row.N-Visitor.Denot in
+    let Own : Attended V → ConsoleState V = λ seen. seen.console in
+    let Orders : ConsoleState V → TakenOrders = λ console. console.orders in
+    let console = ap Own c.self-2.view_is ∙ c.obey.ensures.console in
+    ap (λ (orders : TakenOrders). orders.given) (c.tend.ensures.orders ∙ ap Orders console) ∙ c.answer-act.ensures.given
+
+pub returns-clause-over : goal.returns-clause-over
+returns-clause-over g c =
+    let Over : Attended g.row.N-Visitor.Denot → Bool = λ seen. seen.is_over in
+    ap Over c.self-2.view_is ∙ (c.obey.ensures.over ∙ c.answer-act.ensures.over)

@@ -1,0 +1,79 @@
+-- What is seen of a service's attendant: its lines, the operator's console, and when the service ends.
+use Rattle.std.specs.Prelude.{◌≡◌, ◌⊎◌, ⊤, ℕ, Bool, true, List, map, Option, Some, None, slice_get}
+use Rattle.njh_answer.specs.declared.views.LineState.{LineState}
+use Rattle.njh_answer.specs.declared.views.LineView.{LineView}
+use Rattle.njh_console.specs.Consoles.{AreTended, ConsoleState, IsRoundServed}
+use Rattle.njh_console.specs.Scenes.{Scene}
+use Rattle.njh_console.specs.declared.act.Act.{Act}
+use Rattle.njh_console.specs.declared.act.Act.TheVariants as act
+use Rattle.njh_hub.specs.WholeHub.{Part}
+use Rattle.njh_request.specs.declared.request.Moment.{Moment}
+use Rattle.njh_request.specs.declared.request.Moment.TheVariants.{AtOnce, WhenIdle}
+use Rattle.njh_table.specs.declared.LineId.{LineId}
+use Rattle.njh_service.specs.LineStates.{is_free, line_wished, AreMade}
+use Rattle.njh_service.specs.Watching.{ServedLine, Watched}
+
+-- The lines and what is seen of them, the console, whether a line may be one that is to be stopped once it is idle,
+-- when the service is to end, if that was ordered, and whether it ends now.
+pub record Attended (V : Type 0) : Type 0 where
+  pub exchange : Watched
+  pub console : ConsoleState V
+  pub drains : Bool
+  pub stop : Option Moment
+  pub is_over : Bool
+
+-- ---- when the service ends
+
+-- once this was ordered: what is to end at once does
+abbrev pub stop_after : Option Moment → Moment → Option Moment
+stop_after None moment = Some moment
+stop_after (Some AtOnce) moment = Some AtOnce
+stop_after (Some WhenIdle) moment = Some moment
+
+-- no file is on the streams of any line
+abbrev pub AreFree : List Part → List ServedLine → Type 0
+AreFree parts lines = (place : ℕ) (line : ServedLine) → slice_get lines place ≡ Some line → is_free line.id parts ≡ true
+
+-- it ends after a round: after the next one, or the first after which no file is on the streams of any line
+abbrev pub IsOver : Option Moment → List Part → List ServedLine → Type 0
+IsOver None parts lines = ⊥
+IsOver (Some AtOnce) parts lines = ⊤
+IsOver (Some WhenIdle) parts lines = AreFree parts lines
+
+-- ---- what the console does
+
+-- a line as the console tells it, and as it is
+abbrev pub state_told : LineView → LineId × LineState
+state_told view = (view.line, view.state)
+
+abbrev pub state_of : ServedLine → LineId × LineState
+state_of line = (line.id, line.state)
+
+-- What the console tells of is what is: the hub's value, the tables that were taken last, and each line with its state.
+pub record IsSceneOf (parts : List Part) (seen : Watched) (scene : Scene) : Type 0 where
+  pub parts_are : scene.parts ≡ parts
+  pub tables_are : Some scene.tables ≡ seen.tables
+  pub lines_are : map state_told scene.lines ≡ map state_of seen.lines
+
+-- One visitor at most was answered, by what is, and this was ordered of the service itself, if anything was.
+abbrev pub IsAsked : {V : Type 0} → List Part → Watched → (before after : ConsoleState V) → Option Act → Type 0
+IsAsked {V} parts seen before after what = ((after ≡ before) × (what ≡ None))
+    ⊎ ((scene : Scene) × IsSceneOf parts seen scene × IsRoundServed scene before after what)
+
+-- What was ordered of the service itself is done, and nothing else.
+abbrev pub IsObeyed : {V : Type 0} → Option Act → (old new : Attended V) → Type 0
+IsObeyed None old new = (new.exchange ≡ old.exchange) × (new.stop ≡ old.stop)
+IsObeyed (Some (act.Line id wish)) old new =
+    AreMade (line_wished id wish) old.exchange.lines new.exchange.lines × (new.stop ≡ old.stop)
+IsObeyed (Some (act.Stop moment)) old new =
+    (new.exchange ≡ old.exchange) × (new.stop ≡ stop_after old.stop moment)
+
+-- What a round of the console does: one visitor at most is answered by what is, what that orders of the service itself
+-- is done, and each visitor is written to.
+pub record IsConsoleServed {V : Type 0} (parts : List Part) (old new : Attended V) : Type 0 where
+  pub what : Option Act
+  pub between : ConsoleState V
+  pub asked : IsAsked parts old.exchange old.console between what
+  pub obeyed : IsObeyed what old new
+  pub tended : AreTended old.exchange.now between.seats new.console.seats
+  pub orders : new.console.orders ≡ between.orders

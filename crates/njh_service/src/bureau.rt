@@ -1,0 +1,334 @@
+//! The attendant of a service: its lines, and the operator's console.
+
+ghost use Rattle.std.specs.Prelude.{◌≡◌, ◌++◌, ◌↔◌, map, All, IfOk, IsTrue, None, Some};
+ghost use Rattle.njh_turns.specs.Service.{AreStill};
+ghost use Rattle.njh_wire.specs.Tally.{IsTallied};
+ghost use Rattle.njh_table.specs.TableFile.{HasLine};
+ghost use Rattle.njh_console.specs.Orders.{IsOrderDone};
+ghost use Rattle.njh_service.specs.Bureaus.{state_of, state_told, stop_after, IsAsked, IsConsoleServed};
+ghost use Rattle.njh_service.specs.Bureaus.{IsObeyed, IsOver};
+ghost use Rattle.njh_service.specs.Endpoints.{endpoints_of};
+ghost use Rattle.njh_service.specs.LineStates.{line_settled, AreMade};
+ghost use Rattle.njh_service.specs.Opened.{IsApart};
+ghost use Rattle.njh_service.specs.Watching.{served_on};
+
+use crate::endpoints::Endpoint;
+use crate::exchange::Exchange;
+use crate::fault::ServeFault;
+use crate::log::Log;
+use crate::opening::Listening;
+use crate::table_source::TableSource;
+use njh_answer::{LineView, ServiceView};
+use njh_command::Replies;
+use njh_console::{Act, Console, SEATS, Situation};
+use njh_hub::{Hub, HubFault};
+use njh_request::Moment;
+use njh_table::Tables;
+use njh_turns::{Depot, NewOrder};
+use njh_wire::{LineWire, Network};
+use std::alloc::Global;
+use std::io::Write;
+use std::marker::Model;
+
+/// What is done between the turns of a service's lines: what its exchange does with them, and what
+/// the operator asks of it at the console.
+#[derive(Drop)]
+pub struct Bureau<N: Network + Drop, L: Write + Drop, S: TableSource + Drop> {
+    alloc: Global,
+    pub(crate) exchange: Exchange<N, L, S>,
+    pub(crate) console: Console<N::Visitor>,
+    /// Whether a line may be one that is to be stopped once no file is on its streams.
+    drains: bool,
+    /// When the service is to end, if that was ordered.
+    stop: Option<Moment>,
+    /// Whether it ends now.
+    is_over: bool,
+    /// Since when there is a service, in milliseconds since the beginning of 1970.
+    since: i64,
+}
+
+impl<N: Network + Drop, L: Write + Drop, S: TableSource + Drop> Model for Bureau<N, L, S> {
+    ghost use Rattle.std.specs.Prelude.{◌≡◌, false};
+    ghost use Rattle.njh_service.specs.Bureaus.{Attended};
+    ghost use Rattle.njh_service.specs.LineStates.{NoneDrains};
+
+    ghost Value = { Attended N.Visitor };
+
+    ghost view = { λ bureau. record {
+      exchange = bureau.exchange;
+      console = bureau.console;
+      drains = bureau.drains;
+      stop = bureau.stop;
+      is_over = bureau.is_over;
+    } };
+
+    ghost invariant = { λ bureau. bureau.drains ≡ false → NoneDrains bureau.exchange.lines };
+}
+
+impl<N: Network + Drop, L: Write + Drop, S: TableSource + Drop> Bureau<N, L, S> {
+    /// One of these lines and this console. Nobody has ordered anything of it.
+    pub fn new(
+        alloc: Global,
+        mut exchange: Exchange<N, L, S>,
+        console: Console<N::Visitor>,
+    ) -> Bureau<N, L, S>
+        ensures exchange { result.exchange ≡ exchange }
+        ensures console { result.console ≡ console }
+        ensures stop { result.stop ≡ None }
+    {
+        let since = exchange.utc();
+        Bureau {
+            alloc,
+            exchange,
+            console,
+            drains: true,
+            stop: None,
+            is_over: false,
+            since,
+        }
+    }
+
+    /// Its log, where it attends no more.
+    pub(crate) fn into_log(self) -> Log<L> {
+        let Bureau {
+            exchange,
+            console,
+            ..
+        } = self;
+        drop(console);
+        exchange.into_log()
+    }
+
+    /// Opens the sockets of the lines of tables, as `Exchange::open_lines` does.
+    pub(crate) fn open_lines(
+        &mut self,
+        alloc: Global,
+        tables: &Tables,
+        listening: Listening,
+        needed: bool,
+    ) -> Result<Vec<Endpoint>, ServeFault>
+        ensures all { IfOk result (λ endpoints. endpoints.items ≡ endpoints_of tables.now) }
+        ensures known { IfOk result (λ endpoints. All (λ endpoint. HasLine tables.now endpoint.line) endpoints.items) }
+        ensures apart { IfOk result (λ endpoints. IsApart endpoints.items) }
+        ensures served { IfOk result (λ endpoints. self.new.exchange.lines
+            ≡ self.old.exchange.lines ++ map (served_on listening.address) endpoints.items) }
+    {
+        self.drains = true;
+        self.exchange.open_lines(alloc, tables, listening, needed)
+    }
+
+    /// Tells all that an operator is to know of what a depot opened.
+    pub(crate) fn tell_opened<D: Depot>(&mut self, depot: &D)
+        ensures { self.new ≡ self.old }
+    {
+        self.exchange.tell_opened(depot);
+    }
+
+    /// Tells that so many lines of a hub of so many customers are served.
+    pub(crate) fn tell_ready(&mut self, customers: usize, lines: usize, hub: &Hub)
+        ensures { self.new ≡ self.old }
+    {
+        self.exchange.tell_ready(customers, lines, hub);
+    }
+
+    /// Whether the service ends now.
+    pub(crate) fn is_over(&self) -> bool
+        ensures { result ≡ self.now.is_over }
+    {
+        self.is_over
+    }
+
+    /// Waits until a line is ready or due, or the console has something to do, and looks at each
+    /// that is. Visitors are let in, and what they sent is read.
+    pub(crate) fn begin_round(&mut self, wires: &mut [LineWire<N::Connection>])
+        ensures still { AreStill IsTallied (λ wire. wire.failures) wires.old wires.new }
+        ensures lines { self.new.exchange.lines ≡ self.old.exchange.lines }
+        ensures orders { self.new.console.orders ≡ self.old.console.orders }
+        ensures stop { self.new.stop ≡ self.old.stop }
+    {
+        let until = self.moment();
+        self.exchange.begin_round(until, wires);
+        self.receive();
+    }
+
+    /// When the console or the end of the service wants a round.
+    fn moment(&self) -> u64 {
+        let now = self.exchange.now();
+        match self.stop {
+            Some(Moment::AtOnce) => now,
+            _ => self.console.moment(now),
+        }
+    }
+
+    /// Lets visitors in while there are seats, and reads what each sent.
+    fn receive(&mut self)
+        ensures exchange { self.new.exchange ≡ self.old.exchange }
+        ensures orders { self.new.console.orders ≡ self.old.console.orders }
+        ensures stop { self.new.stop ≡ self.old.stop }
+    {
+        for _ in 0..SEATS {
+            if !self.let_in() {
+                break;
+            }
+        }
+        self.console.receive(self.exchange.now());
+    }
+
+    /// Lets a visitor in who waits, if there is a seat and there are tables to tell of. Answers
+    /// whether one came in.
+    fn let_in(&mut self) -> bool
+        ensures exchange { self.new.exchange ≡ self.old.exchange }
+        ensures orders { self.new.console.orders ≡ self.old.console.orders }
+        ensures stop { self.new.stop ≡ self.old.stop }
+    {
+        if self.console.is_full() || self.exchange.tables().is_none() {
+            return false;
+        }
+        match self.exchange.visitor() {
+            Some(visitor) => {
+                self.console.admit(visitor, self.exchange.now());
+                true
+            }
+            None => false,
+        }
+    }
+
+    /// Tells and notes what came of an order. By it the lines of the customer may have something to
+    /// send.
+    pub(crate) fn order_done(
+        &mut self,
+        new: &NewOrder,
+        answer: Result<(), HubFault>,
+        replies: &Replies,
+    )
+        ensures exchange { self.new.exchange ≡ self.old.exchange }
+        ensures done { IsOrderDone answer replies.now self.old.console.orders self.new.console.orders }
+        ensures given { self.new.console.orders.given ≡ None }
+        ensures stop { self.new.stop ≡ self.old.stop }
+    {
+        self.exchange.note_order(new, answer, replies);
+        self.console.order_done(answer, replies);
+    }
+
+    /// Ends a round as `Exchange::end_round` does. Lines that are to be stopped once no file is on
+    /// their streams are stopped if none is, and so the service ends if it is to.
+    pub(crate) fn end_round(&mut self, hub: &Hub, wires: &mut [LineWire<N::Connection>])
+        ensures still { AreStill IsTallied (λ wire. wire.failures) wires.old wires.new }
+        ensures lines { AreMade (line_settled hub.now) self.old.exchange.lines self.new.exchange.lines }
+        ensures over { IsTrue self.new.is_over ↔ IsOver self.old.stop hub.now self.new.exchange.lines }
+        ensures console { self.new.console ≡ self.old.console }
+        ensures stop { self.new.stop ≡ self.old.stop }
+    {
+        self.exchange.end_round(hub, wires);
+        self.settle(hub);
+        self.is_over = self.ends(hub);
+    }
+
+    /// Lines that are to be stopped once no file is on their streams are stopped if none is.
+    fn settle(&mut self, hub: &Hub)
+        ensures lines { AreMade (line_settled hub.now) self.old.exchange.lines self.new.exchange.lines }
+        ensures console { self.new.console ≡ self.old.console }
+        ensures stop { self.new.stop ≡ self.old.stop }
+    {
+        if !self.drains {
+            return;
+        }
+        self.drains = self.exchange.settle(hub);
+    }
+
+    /// Whether the service ends after a round.
+    fn ends(&self, hub: &Hub) -> bool
+        ensures { IsTrue result ↔ IsOver self.now.stop hub.now self.now.exchange.lines }
+    {
+        match self.stop {
+            None => false,
+            Some(Moment::AtOnce) => true,
+            Some(Moment::WhenIdle) => self.exchange.are_free(hub),
+        }
+    }
+
+    /// Answers at most one request of a visitor, does what it asks of the service itself, and writes
+    /// to each visitor.
+    pub(crate) fn serve_console(&mut self, hub: &Hub, wires: &[LineWire<N::Connection>])
+        ensures served { IsConsoleServed hub.now self.old self.new }
+        ensures given { self.new.console.orders.given ≡ self.old.console.orders.given }
+        ensures over { self.new.is_over ≡ self.old.is_over }
+    {
+        let now = self.exchange.now();
+        let act = self.answer(hub, wires);
+        self.obey(act);
+        self.console.tend(now);
+    }
+
+    /// Answers at most one request of a visitor, if there is one, and memory for what is to be told.
+    fn answer(&mut self, hub: &Hub, wires: &[LineWire<N::Connection>]) -> Option<Act>
+        ensures same { IsObeyed None self.old self.new }
+        ensures asked { IsAsked hub.now self.old.exchange self.old.console self.new.console result }
+        ensures given { self.new.console.orders.given ≡ self.old.console.orders.given }
+        ensures over { self.new.is_over ≡ self.old.is_over }
+    {
+        if !self.console.has_request() {
+            return None;
+        }
+        match self.exchange.line_views(self.alloc, wires) {
+            Ok(lines) => self.answer_with(hub, &lines),
+            Err(_) => None,
+        }
+    }
+
+    /// Answers at most one request of a visitor, by these lines, if there is memory for what is to
+    /// be told of the service.
+    fn answer_with(&mut self, hub: &Hub, lines: &[LineView]) -> Option<Act>
+        requires { map state_told lines.now ≡ map state_of self.old.exchange.lines }
+        ensures same { IsObeyed None self.old self.new }
+        ensures asked { IsAsked hub.now self.old.exchange self.old.console self.new.console result }
+        ensures given { self.new.console.orders.given ≡ self.old.console.orders.given }
+        ensures over { self.new.is_over ≡ self.old.is_over }
+    {
+        match self.exchange.service_view(self.alloc, self.since) {
+            Ok(service) => self.answer_by(hub, &service, lines),
+            Err(_) => None,
+        }
+    }
+
+    /// Answers at most one request of a visitor.
+    fn answer_by(&mut self, hub: &Hub, service: &ServiceView, lines: &[LineView]) -> Option<Act>
+        requires { map state_told lines.now ≡ map state_of self.old.exchange.lines }
+        ensures same { IsObeyed None self.old self.new }
+        ensures asked { IsAsked hub.now self.old.exchange self.old.console self.new.console result }
+        ensures given { self.new.console.orders.given ≡ self.old.console.orders.given }
+        ensures over { self.new.is_over ≡ self.old.is_over }
+    {
+        let Some(tables) = self.exchange.tables() else {
+            return None;
+        };
+        let situation = Situation::new(hub, tables, service, lines);
+        self.console.serve(&situation)
+    }
+
+    /// Does what was ordered of the service itself.
+    fn obey(&mut self, act: Option<Act>)
+        ensures obeyed { IsObeyed act self.old self.new }
+        ensures console { self.new.console ≡ self.old.console }
+        ensures over { self.new.is_over ≡ self.old.is_over }
+    {
+        match act {
+            None => {}
+            Some(Act::Line(id, wish)) => {
+                self.drains = true;
+                self.exchange.wish(id, wish);
+            }
+            Some(Act::Stop(moment)) => self.stop = Some(stop_after(self.stop, moment)),
+        }
+    }
+}
+
+/// When the service is to end, once this was ordered.
+fn stop_after(stop: Option<Moment>, moment: Moment) -> Moment
+    ensures { Some result ≡ stop_after stop moment }
+{
+    match stop {
+        Some(Moment::AtOnce) => Moment::AtOnce,
+        _ => moment,
+    }
+}

@@ -1,0 +1,239 @@
+//! Tries what the console answers: for each line of the input, a method, a path and a body, the
+//! status, the body, and what is ordered.
+#![tactic(auto)]
+
+use njh_answer::{
+    Answer, Deed, LineState, LineView, OrderRecord, Outcome, ServiceView, Views, answer_request,
+    refuses,
+};
+use njh_ebcdic::Name;
+use njh_hub::Hub;
+use njh_request::{Request, Text};
+use njh_table::{LineId, Tables};
+use std::alloc::{AllocError, Global};
+use std::io;
+
+const TABLES: &str = r#"
+capacity = 200
+[[customer]]
+name = "ACME"
+hub = "BUREAU"
+quota = 100
+files = 8
+[[customer.line]]
+name = "a1"
+node = "LYON"
+role = "answer"
+block = 1024
+streams = 4
+[[customer.line]]
+name = "a2"
+node = "METZ"
+role = "answer"
+block = 1024
+streams = 4
+[[customer.route]]
+node = "LYON"
+line = "a1"
+[[customer.route]]
+node = "METZ"
+line = "a2"
+[[customer]]
+name = "BOLT"
+hub = "BUREAU"
+quota = 100
+files = 8
+[[customer.line]]
+name = "b1"
+node = "LYON"
+role = "answer"
+block = 1024
+streams = 4
+"#;
+
+/// Contact, the sign-on of LYON, a request of SYSOUT 1, and job 42 of ANNA to PAUL at METZ.
+const PIECES: [&str; 4] = [
+    "012d",
+    "1002a08fcff0c929d3e8d6d540404040010000000000000400404040404040404040404040404040400000000000001026",
+    "1002808fcf909900001026",
+    concat!(
+        "1002818fcf",
+        "99c0c20064a300c160a300c12ab200ccd7c1e8d9d6d3d340c1d5d5c184b800c4d3e8d6d584c4c1d5d5c184c4d4c5e3e98c00",
+        "99e0c20018a300c7140000d4c5e3e984c4d7c1e4d38400",
+        "9980c605c8c5d3d3d600",
+        "99d0c40004000000",
+        "99800000",
+        "001026"
+    ),
+];
+
+fn bad() -> io::Error {
+    io::Error::from(io::ErrorKind::InvalidData)
+}
+
+fn tables(alloc: Global) -> io::Result<Tables> {
+    match Tables::read(alloc, TABLES) {
+        Ok(tables) => Ok(tables),
+        Err(_) => Err(bad()),
+    }
+}
+
+/// A hub that has a file of ANNA's at LYON.
+fn hub(alloc: Global) -> io::Result<Hub> {
+    let tables = tables(alloc)?;
+    let mut hub = match Hub::open(alloc, tables) {
+        Ok(hub) => hub,
+        Err(_) => return Err(bad()),
+    };
+    let line = LineId {
+        customer: 0,
+        number: 0,
+    };
+    let mut out = Vec::new(alloc);
+    for digits in PIECES {
+        let piece = match hex::decode(alloc, digits) {
+            Ok(piece) => piece,
+            Err(_) => return Err(bad()),
+        };
+        let _taken = hub.take(line, &piece, &mut out).is_ok();
+    }
+    Ok(hub)
+}
+
+/// What the service knows of itself.
+fn service_view(alloc: Global) -> Result<ServiceView, AllocError> {
+    let version = String::from_str(alloc, "0.9")?;
+    let faults = faults(alloc)?;
+    Ok(ServiceView {
+        version,
+        since: 1790650000,
+        file_bytes: None,
+        faults,
+    })
+}
+
+fn faults(alloc: Global) -> Result<Vec<String>, AllocError> {
+    let mut faults = Vec::new(alloc);
+    faults.push(String::from_str(alloc, "ACME: no room for \"files\"")?)?;
+    Ok(faults)
+}
+
+/// What it knows of the line that it serves.
+fn line_view(alloc: Global) -> Result<LineView, AllocError> {
+    let site = String::from_str(alloc, "listens 37801")?;
+    let last_end = String::from_str(alloc, "five tries")?;
+    Ok(LineView {
+        line: LineId {
+            customer: 0,
+            number: 0,
+        },
+        state: LineState::Started,
+        site,
+        connected: Some(1790650000),
+        up: None,
+        last_end,
+    })
+}
+
+fn line_views(alloc: Global) -> Result<Vec<LineView>, AllocError> {
+    let mut lines = Vec::new(alloc);
+    lines.push(line_view(alloc)?)?;
+    Ok(lines)
+}
+
+/// Three orders: one was carried out, one waits, and one had no way.
+fn order_records(alloc: Global) -> Result<Vec<OrderRecord>, AllocError> {
+    let mut orders = Vec::new(alloc);
+    if let Ok(customer) = Name::of_text("ACME") {
+        orders.push(order_record(3, customer, Outcome::Done(replies(alloc)?)))?;
+        orders.push(order_record(4, customer, Outcome::Waits))?;
+        orders.push(order_record(5, customer, Outcome::NoWay))?;
+    }
+    Ok(orders)
+}
+
+fn order_record(number: u64, customer: Name, outcome: Outcome) -> OrderRecord {
+    OrderRecord {
+        number,
+        customer,
+        outcome,
+    }
+}
+
+fn replies(alloc: Global) -> Result<Vec<Text>, AllocError> {
+    let mut replies = Vec::new(alloc);
+    if let Some(reply) = Text::of(alloc, "NJH003 LYON.42 HELD 1")? {
+        replies.push(reply)?;
+    }
+    Ok(replies)
+}
+
+fn deed_text(deed: &Deed) -> &'static str {
+    match deed {
+        Deed::Nothing => "nothing",
+        Deed::Command(..) => "a command",
+        Deed::Message(..) => "a message",
+        Deed::Line(..) => "a line",
+        Deed::Stop(..) => "the end",
+    }
+}
+
+fn answer(alloc: Global, line: &str, views: &Views<'_>) -> Result<Answer, AllocError> {
+    let (method, rest) = line.split_once(' ').unwrap_or((line, ""));
+    let (target, body) = rest.split_once(' ').unwrap_or((rest, ""));
+    let (path, query) = match target.split_once('?') {
+        Some((path, query)) => (path, Some(query)),
+        None => (target, None),
+    };
+    match Request::read(alloc, views.tables, method, path, query, body.as_bytes())? {
+        Ok(request) => answer_request(alloc, request, views),
+        Err(refusal) => refuses(alloc, refusal),
+    }
+}
+
+/// The status, the body and what is ordered, as they are printed.
+fn told(alloc: Global, line: &str, views: &Views<'_>) -> Result<String, AllocError> {
+    let answer = answer(alloc, line, views)?;
+    let body = answer.value.to_string(alloc)?;
+    let status = answer.status;
+    let deed = deed_text(&answer.deed);
+    format!(in alloc; "{status} {body} ({deed})")
+}
+
+/// The same of each line.
+fn told_lines(alloc: Global, text: &str, views: &Views<'_>) -> Result<String, AllocError> {
+    let mut all = String::new(alloc);
+    for line in text.lines() {
+        let told = told(alloc, line, views)?;
+        all.push_str(line)?;
+        all.push_str("\n  ")?;
+        all.push_str(told.as_str())?;
+        all.push('\n')?;
+    }
+    Ok(all)
+}
+
+fn told_by(alloc: Global, text: &str, hub: &Hub, tables: &Tables) -> Result<String, AllocError> {
+    let service = service_view(alloc)?;
+    let lines = line_views(alloc)?;
+    let orders = order_records(alloc)?;
+    let views = Views {
+        hub,
+        tables,
+        service: &service,
+        lines: &lines,
+        orders: &orders,
+        next: 6,
+    };
+    told_lines(alloc, text, &views)
+}
+
+fn main(rt: HostRuntime) -> io::Result<()> {
+    let alloc = rt.alloc();
+    let text = io::read_to_string(alloc, rt.stdin())?;
+    let tables = tables(alloc)?;
+    let hub = hub(alloc)?;
+    let told = told_by(alloc, text.as_str(), &hub, &tables)?;
+    print!(rt; "{told}")?;
+    Ok(())
+}

@@ -1,0 +1,134 @@
+//! Tries what requests ask for: of each line of the input, a method, a path and a body, it prints
+//! what is read, or the status and the sentence of the refusal.
+#![tactic(auto)]
+
+use njh_header::User;
+use njh_request::{LineWish, Moment, Refusal, Request, Text};
+use njh_table::Tables;
+use std::alloc::{AllocError, Global};
+use std::io;
+
+/// Two customers: ACME with the lines a1 and a2, BOLT with b1.
+const TABLES: &str = r#"
+capacity = 200
+[[customer]]
+name = "ACME"
+hub = "BUREAU"
+quota = 100
+files = 8
+[[customer.line]]
+name = "a1"
+node = "LYON"
+role = "answer"
+block = 1024
+streams = 4
+[[customer.line]]
+name = "a2"
+node = "METZ"
+role = "answer"
+block = 1024
+streams = 4
+[[customer.route]]
+node = "LYON"
+line = "a1"
+[[customer]]
+name = "BOLT"
+hub = "BUREAU"
+quota = 100
+files = 8
+[[customer.line]]
+name = "b1"
+node = "LYON"
+role = "answer"
+block = 1024
+streams = 4
+"#;
+
+fn moment_text(moment: Moment) -> &'static str {
+    match moment {
+        Moment::AtOnce => "at once",
+        Moment::WhenIdle => "when idle",
+    }
+}
+
+/// A user, by the bytes of its fields.
+fn user_text(alloc: Global, user: User) -> Result<String, AllocError> {
+    let node = user.node;
+    let field = hex::encode(alloc, user.user.as_slice())?;
+    let field = field.as_str();
+    format!(in alloc; "{node} {field}")
+}
+
+/// What is asked for, in words.
+fn request_text(alloc: Global, request: &Request) -> Result<String, AllocError> {
+    match request {
+        Request::Status => String::from_str(alloc, "status"),
+        Request::Customers(from) => format!(in alloc; "customers from {from}"),
+        Request::Lines(customer, from) => format!(in alloc; "lines of {customer} from {from}"),
+        Request::Files(customer, from) => format!(in alloc; "files of {customer} from {from}"),
+        Request::Outcome(number) => format!(in alloc; "order {number}"),
+        Request::Order(customer, owner, text) => {
+            let owner = match owner {
+                Some(owner) => user_text(alloc, *owner)?,
+                None => String::from_str(alloc, "nobody")?,
+            };
+            order_text(alloc, *customer, owner.as_str(), text)
+        }
+        Request::Message(customer, whom, text) => {
+            let whom = user_text(alloc, *whom)?;
+            order_text(alloc, *customer, whom.as_str(), text)
+        }
+        Request::Line(line, wish) => {
+            let (customer, number) = (line.customer, line.number);
+            let wish = match wish {
+                LineWish::Started => "started",
+                LineWish::Stopped(moment) => moment_text(*moment),
+            };
+            format!(in alloc; "line {number} of {customer}: {wish}")
+        }
+        Request::Stop(moment) => {
+            let moment = moment_text(*moment);
+            format!(in alloc; "stop {moment}")
+        }
+    }
+}
+
+fn order_text(alloc: Global, customer: u16, user: &str, text: &Text) -> Result<String, AllocError> {
+    let bytes = hex::encode(alloc, text.bytes())?;
+    let bytes = bytes.as_str();
+    format!(in alloc; "of {customer}, {user}: {bytes}")
+}
+
+fn refusal_text(alloc: Global, refusal: Refusal) -> Result<String, AllocError> {
+    let status = refusal.status();
+    let sentence = refusal.sentence();
+    format!(in alloc; "{status} {sentence}")
+}
+
+/// What a line of the input asks for.
+fn told(alloc: Global, tables: &Tables, line: &str) -> Result<String, AllocError> {
+    let (method, rest) = line.split_once(' ').unwrap_or((line, ""));
+    let (target, body) = rest.split_once(' ').unwrap_or((rest, ""));
+    let (path, query) = match target.split_once('?') {
+        Some((path, query)) => (path, Some(query)),
+        None => (target, None),
+    };
+    match Request::read(alloc, tables, method, path, query, body.as_bytes())? {
+        Ok(request) => request_text(alloc, &request),
+        Err(refusal) => refusal_text(alloc, refusal),
+    }
+}
+
+fn main(rt: HostRuntime) -> io::Result<()> {
+    let alloc = rt.alloc();
+    let tables = match Tables::read(alloc, TABLES) {
+        Ok(tables) => tables,
+        Err(_) => return Err(io::Error::from(io::ErrorKind::InvalidData)),
+    };
+    let text = io::read_to_string(alloc, rt.stdin())?;
+    for line in text.as_str().lines() {
+        let told = told(alloc, &tables, line)?;
+        println!(rt; "{line}\n  {told}")?;
+    }
+    Ok(())
+}
