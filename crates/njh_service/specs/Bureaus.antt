@@ -11,6 +11,7 @@ use Rattle.njh_request.specs.declared.request.Moment.{Moment}
 use Rattle.njh_request.specs.declared.request.Moment.TheVariants.{AtOnce, WhenIdle}
 use Rattle.njh_table.specs.declared.LineId.{LineId}
 use Rattle.njh_service.specs.LineStates.{is_free, line_wished, AreMade}
+use Rattle.njh_service.specs.Revisions.{opened_tables}
 use Rattle.njh_service.specs.Watching.{ServedLine, Watched}
 
 -- The lines and what is seen of them, the console, whether a line may be one that is to be stopped once it is idle,
@@ -49,10 +50,10 @@ state_told view = (view.line, view.state)
 abbrev pub state_of : ServedLine → LineId × LineState
 state_of line = (line.id, line.state)
 
--- What the console tells of is what is: the hub's value, the tables that were taken last, and each line with its state.
+-- What the console tells of is what is: the hub's value, the tables it was opened with, and each line with its state.
 pub record IsSceneOf (parts : List Part) (seen : Watched) (scene : Scene) : Type 0 where
   pub parts_are : scene.parts ≡ parts
-  pub tables_are : Some scene.tables ≡ seen.tables
+  pub tables_are : Some scene.tables ≡ opened_tables seen.tables
   pub lines_are : map state_told scene.lines ≡ map state_of seen.lines
 
 -- One visitor at most was answered, by what is, and this was ordered of the service itself, if anything was.

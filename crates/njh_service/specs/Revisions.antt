@@ -1,8 +1,8 @@
--- What tables may change while a hub runs: the routes of its customers, and nothing else.
+-- What tables may change while a hub runs: the routes of each customer whose entry stays in all else.
 use Rattle.std.specs.Prelude.{◌≡◌, ℕ, false, List, [], map, Option, Some, None, option_map, IfSome}
 use Rattle.njh_table.specs.declared.new_routes.GivenRoute.{GivenRoute}
 use Rattle.njh_table.specs.Entries.{RouteEntry}
-use Rattle.njh_table.specs.TableFile.{NamedLine, NamedCustomer, TableFile}
+use Rattle.njh_table.specs.TableFile.{NamedLine, NamedCustomer, TableFile, customer_at}
 
 -- ---- what stays
 
@@ -14,10 +14,13 @@ without_mark l = record l { up = false }
 abbrev pub without_routes : NamedCustomer → NamedCustomer
 without_routes c = record c { lines = map without_mark c.lines; routes = [] }
 
--- tables that differ in routes alone, or not at all
-pub record AgreeButRoutes (old new : TableFile) : Type 0 where
-  pub capacity : new.capacity ≡ old.capacity
-  pub customers : map without_routes new.customers ≡ map without_routes old.customers
+-- the entry of the customer of a number is the same in both but for its routes
+abbrev pub AgreesAt : ℕ → (old new : TableFile) → Type 0
+AgreesAt c old new = without_routes (customer_at new c) ≡ without_routes (customer_at old c)
+
+-- its routes are the same in both
+abbrev pub HasRoutesOf : ℕ → (old new : TableFile) → Type 0
+HasRoutesOf c old new = (customer_at new c).routes ≡ (customer_at old c).routes
 
 -- ---- what a customer is given
 
@@ -32,9 +35,26 @@ given_route c r = record {
 abbrev pub given_routes : ℕ → List RouteEntry → List GivenRoute
 given_routes c routes = map (given_route c) routes
 
--- ---- what tables a revision has
+-- ---- what tables a hub has
 
--- the tables of a revision changed in routes alone, or not at all
-abbrev pub AreKept : Option TableFile → Option TableFile → Type 0
-AreKept None new = new ≡ None
-AreKept (Some old) new = IfSome new (AgreeButRoutes old)
+-- those that it was opened with, and those by which its customers are given routes: the ones that were taken last
+pub record KnownTables : Type 0 where
+  pub opened : TableFile
+  pub last : TableFile
+
+abbrev pub last_of : TableFile → Option TableFile → TableFile
+last_of opened None = opened
+last_of opened (Some taken) = taken
+
+abbrev pub opened_tables : Option KnownTables → Option TableFile
+opened_tables known = option_map (λ tables. tables.opened) known
+
+-- what it was opened with stays
+abbrev pub AreKept : (old new : Option KnownTables) → Type 0
+AreKept old new = opened_tables new ≡ opened_tables old
+
+-- A customer is given all its routes of the tables that were taken last, in their order. All else of its entry there is
+-- what the hub was opened with, whatever differs of other customers.
+pub record IsGiven (customer : ℕ) (routes : List GivenRoute) (known : KnownTables) : Type 0 where
+  pub routes_are : routes ≡ given_routes customer (customer_at known.last customer).routes
+  pub agrees : AgreesAt customer known.opened known.last

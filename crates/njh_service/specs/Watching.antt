@@ -3,10 +3,10 @@ use Rattle.std.specs.Prelude.{◌≡◌, ℕ, ◌*◌, ◌<◌, ◌≤◌, ◌�
 use Rattle.std.specs.declared.net.ip_addr.IpAddr.{IpAddr}
 use Rattle.std.specs.declared.net.socket_addr.SocketAddr.{SocketAddr}
 use Rattle.njh_table.specs.declared.LineId.{LineId}
-use Rattle.njh_table.specs.TableFile.{TableFile}
 use Rattle.njh_wire.specs.declared.network.Readiness.{Readiness}
 use Rattle.njh_service.specs.Attention.{IsDue, IsInGroup, IsMarked, mark_at, watch_at}
 use Rattle.njh_service.specs.Opened.{site_kept, site_on}
+use Rattle.njh_service.specs.Revisions.{KnownTables}
 use Rattle.njh_service.specs.declared.attention.Watch.{Watch}
 use Rattle.njh_service.specs.declared.endpoints.Endpoint.{Endpoint}
 use Rattle.njh_answer.specs.declared.views.LineState.{LineState}
@@ -33,7 +33,7 @@ served_on address endpoint =
 
 -- What is seen of the attendant: the lines that it serves, by their places, what it noted of each, how many sign-ons
 -- were refused on each as its session was seen last, what is ready of each, when each is looked at, until when it
--- waits, the time, and the tables that it took last.
+-- waits, the time, and the tables of the hub.
 pub record Watched : Type 0 where
   pub lines : List ServedLine
   pub noted : List Traffic
@@ -42,7 +42,7 @@ pub record Watched : Type 0 where
   pub watches : List Watch
   pub next : ℕ
   pub now : ℕ
-  pub tables : Option TableFile
+  pub tables : Option KnownTables
 
 -- ---- what a round looks at
 

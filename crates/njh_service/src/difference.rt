@@ -1,7 +1,7 @@
 //! What differs between two tables, their routes aside.
 
 ghost use Rattle.std.specs.Prelude.{◌≡◌, None, length, map};
-ghost use Rattle.njh_service.specs.Revisions.{without_mark, without_routes, AgreeButRoutes};
+ghost use Rattle.njh_service.specs.Revisions.{without_mark, without_routes};
 
 use arrayvec::ArrayString;
 use njh_ebcdic::Name;
@@ -60,25 +60,32 @@ pub enum LineKey {
     Connect,
 }
 
-/// What differs first between these tables and others, their routes aside.
-pub fn difference_of(tables: &Tables, other: &Tables) -> Option<Difference>
-    ensures { result ≡ None → AgreeButRoutes tables.now other.now }
+/// What differs first between these tables and others that concerns all customers.
+pub(crate) fn size_difference(tables: &Tables, other: &Tables) -> Option<Difference>
+    ensures { result ≡ None → (other.now.capacity ≡ tables.now.capacity)
+        × (length other.now.customers ≡ length tables.now.customers) }
 {
     if other.capacity() != tables.capacity() {
         return Some(Difference::Capacity);
     }
-    of_customers(tables.customers(), other.customers())
+    if other.customers().len() != tables.customers().len() {
+        return Some(Difference::Customers);
+    }
+    None
 }
 
-/// What differs first between customers.
-fn of_customers(customers: &[NamedCustomer], others: &[NamedCustomer]) -> Option<Difference>
+/// What differs first between as many customers, from the left.
+pub(crate) fn customers_difference(
+    customers: &[NamedCustomer],
+    others: &[NamedCustomer],
+) -> Option<Difference>
     ensures { result ≡ None → map without_routes others.now ≡ map without_routes customers.now }
 {
     if others.len() != customers.len() {
         return Some(Difference::Customers);
     }
     for place in 0..customers.len() {
-        match of_customer(&customers[place], &others[place]) {
+        match customer_difference(&customers[place], &others[place]) {
             Some(difference) => return Some(difference),
             None => {}
         }
@@ -87,7 +94,10 @@ fn of_customers(customers: &[NamedCustomer], others: &[NamedCustomer]) -> Option
 }
 
 /// What differs first between two customers.
-fn of_customer(customer: &NamedCustomer, other: &NamedCustomer) -> Option<Difference>
+pub(crate) fn customer_difference(
+    customer: &NamedCustomer,
+    other: &NamedCustomer,
+) -> Option<Difference>
     ensures { result ≡ None → without_routes other.now ≡ without_routes customer.now }
 {
     match customer_key(customer, other) {

@@ -1,8 +1,7 @@
 //! New routes, and what the log tells of them.
 
 ghost use Rattle.std.specs.Prelude.{◌≡◌, IfSome};
-ghost use Rattle.njh_table.specs.TableFile.{customer_at};
-ghost use Rattle.njh_service.specs.Revisions.{AreKept, given_routes};
+ghost use Rattle.njh_service.specs.Revisions.{AreKept, IsGiven};
 
 use crate::entry::LogEvent;
 use crate::exchange::Exchange;
@@ -20,8 +19,7 @@ impl<N: Network + Drop, L: Write + Drop, S: TableSource + Drop> Exchange<N, L, S
     pub(crate) fn revise(&mut self) -> Option<NewRoutes>
         ensures lines { self.new.lines ≡ self.old.lines }
         ensures kept { AreKept self.old.tables self.new.tables }
-        ensures routes { IfSome result (λ new. IfSome self.new.tables (λ tables.
-            new.routes ≡ given_routes new.customer (customer_at tables new.customer).routes)) }
+        ensures routes { IfSome result (λ new. IfSome self.new.tables (IsGiven new.customer new.routes)) }
     {
         self.look_at_tables();
         match self.revision.next_routes()? {
@@ -43,8 +41,8 @@ impl<N: Network + Drop, L: Write + Drop, S: TableSource + Drop> Exchange<N, L, S
         };
         self.desk.write(outcome.severity(), Place::Hub, &outcome);
         if let SourceOutcome::Taken(before) = &outcome {
-            if let Some(tables) = self.revision.tables() {
-                self.desk.tell_new_routes(before, tables);
+            if let Some(known) = self.revision.known() {
+                self.desk.tell_new_routes(known, before);
             }
         }
     }

@@ -1,12 +1,13 @@
 //! New tables for a hub that runs.
 
-ghost use Rattle.std.specs.Prelude.{◌≡◌, ◌<◌, ◌⊎◌, length, option_map, Some, None, IfSome, IfOk};
-ghost use Rattle.njh_table.specs.TableFile.{customer_at};
-ghost use Rattle.njh_service.specs.Giving.{state_after, state_given, IsFirstWaiting, IsPassedOver};
-ghost use Rattle.njh_service.specs.Revisions.{given_routes, AreKept};
+ghost use Rattle.std.specs.Prelude.{◌≡◌, ◌<◌, ◌⊎◌, false, length, option_map, Some, None, IfSome, IfOk};
+ghost use Rattle.njh_service.specs.Giving.{state_after, state_given, HaveRoutes, IsFirstWaiting, IsPassedOver};
+ghost use Rattle.njh_service.specs.Revisions.{opened_tables, AgreesAt, AreKept, HasRoutesOf, IsGiven};
+ghost use Rattle.njh_service.specs.declared.revision.RouteState.TheVariants.{Has};
 
 use crate::customer_routes::{have_other_routes, routes_of};
-use crate::difference::{Difference, difference_of};
+use crate::difference::{Difference, customer_difference, customers_difference, size_difference};
+use crate::known::Known;
 use crate::severity::Severity;
 use crate::table_source::{NoSource, TableSource};
 use njh_ebcdic::Name;
@@ -30,15 +31,18 @@ enum RouteState {
     Waits,
     /// They could not be given.
     Lacks,
+    /// More than its routes differs from what the hub has. It keeps those that it has.
+    Apart,
 }
 
-/// The tables of a hub that runs, and their source. Tables that differ in routes alone are taken,
-/// and their customers are given these one after the other; others are passed over.
+/// The tables of a hub that runs, and their source. From new tables each customer is given its
+/// routes whose entry is that of the hub in all else, one customer after the other. Tables in which
+/// there is no such customer with other routes are passed over.
 #[derive(Drop)]
 pub struct Revision<S: TableSource + Drop> {
     alloc: Global,
     source: S,
-    tables: Option<Tables>,
+    known: Option<Known>,
     /// Of each customer, whether it has its routes.
     route_states: Vec<RouteState>,
     /// The customers before this one don't wait.
@@ -49,11 +53,11 @@ pub struct Revision<S: TableSource + Drop> {
 
 impl<S: TableSource + Drop> Model for Revision<S> {
     ghost use Rattle.std.specs.Prelude.{Option};
-    ghost use Rattle.njh_table.specs.TableFile.{TableFile};
+    ghost use Rattle.njh_service.specs.Revisions.{KnownTables};
 
-    ghost Value = { Option TableFile };
+    ghost Value = { Option KnownTables };
 
-    ghost view = { λ r. r.tables };
+    ghost view = { λ r. r.known };
 }
 
 /// What came of a look at a source that changed.
@@ -61,12 +65,13 @@ impl<S: TableSource + Drop> Model for Revision<S> {
 pub enum SourceOutcome<F: Drop> {
     /// It gives no tables.
     Refused(F),
-    /// More than routes differs, and this first.
+    /// Nobody can be given other routes, since this differs first.
     Differs(Difference),
     /// No routes differ.
     Same,
-    /// Routes differ from those of these tables, and its own are taken in their place.
-    Taken(Tables),
+    /// Routes differ from those of the tables that were taken before, if any were. Its own are taken
+    /// in their place.
+    Taken(Option<Tables>),
 }
 
 impl Revision<NoSource> {
@@ -77,7 +82,7 @@ impl Revision<NoSource> {
         Revision {
             alloc,
             source: NoSource,
-            tables: None,
+            known: None,
             route_states: Vec::new(alloc),
             next: 0,
             moment: 0,
@@ -89,7 +94,7 @@ impl<S: TableSource + Drop> Revision<S> {
     /// The tables that a hub was opened with, and where new ones come from. Out of memory is the
     /// only refusal.
     pub fn new(alloc: Global, tables: Tables, source: S) -> Result<Revision<S>, AllocError>
-        ensures { IfOk result (λ revision. revision ≡ Some tables) }
+        ensures { IfOk result (λ revision. revision ≡ Some (record { opened = tables; last = tables })) }
     {
         let mut route_states = Vec::new(alloc);
         for _customer in tables.customers() {
@@ -98,22 +103,32 @@ impl<S: TableSource + Drop> Revision<S> {
         Ok(Revision {
             alloc,
             source,
-            tables: Some(tables),
+            known: Some(Known::new(tables)),
             route_states,
             next: 0,
             moment: 0,
         })
     }
 
-    /// The tables that were last taken.
+    /// The tables that the hub was opened with.
     pub fn tables(&self) -> Option<&Tables>
-        ensures { option_map (λ tables. tables.now) result ≡ self.now }
+        ensures { option_map (λ tables. tables.now) result ≡ opened_tables self.now }
     {
-        self.tables.as_ref()
+        match &self.known {
+            Some(known) => Some(&known.opened),
+            None => None,
+        }
     }
 
-    /// Looks at the source, once a second on this clock, and takes its tables if they changed in
-    /// routes alone.
+    /// The tables of the hub.
+    pub(crate) fn known(&self) -> Option<&Known>
+        ensures { option_map (λ known. known.now) result ≡ self.now }
+    {
+        self.known.as_ref()
+    }
+
+    /// Looks at the source, once a second on this clock, and takes its tables if a customer can be
+    /// given other routes by them.
     pub fn look(&mut self, now: u64) -> Option<SourceOutcome<S::Fault>>
         ensures { AreKept self.old self.new }
     {
@@ -127,41 +142,47 @@ impl<S: TableSource + Drop> Revision<S> {
         }
     }
 
-    /// Takes new tables, if these differ in routes alone.
+    /// Takes new tables, if a customer can be given other routes by them or nothing differs.
     fn take(&mut self, tables: Tables) -> Option<SourceOutcome<S::Fault>>
         ensures kept { AreKept self.old self.new }
-        ensures taken { IfSome self.old (λ _. IsPassedOver result ⊎ (self.new ≡ Some tables)) }
+        ensures taken { IfSome self.old (λ old. IsPassedOver result ⊎ (self.new ≡ Some (record old { last = tables }))) }
         ensures passed { IsPassedOver result → self.new ≡ self.old }
     {
-        let Some(known) = &self.tables else {
-            return None;
-        };
-        match difference_of(known, &tables) {
+        let known = self.known.as_mut()?;
+        match size_difference(&known.opened, &tables) {
             Some(difference) => return Some(SourceOutcome::Differs(difference)),
             None => {}
         }
-        let differ = mark(&mut self.route_states, known, &tables);
-        self.next = 0;
-        let before = std::mem::replace(&mut self.tables, Some(tables));
+        let differ = will_wait(&self.route_states, known, &tables);
         if !differ {
-            drop(before);
-            return Some(SourceOutcome::Same);
+            match customers_difference(known.opened.customers(), tables.customers()) {
+                Some(difference) => return Some(SourceOutcome::Differs(difference)),
+                None => {}
+            }
         }
-        match before {
-            Some(before) => Some(SourceOutcome::Taken(before)),
-            None => None,
+        mark(&mut self.route_states, known, &tables);
+        self.next = 0;
+        let before = known.take(tables);
+        if differ {
+            Some(SourceOutcome::Taken(before))
+        } else {
+            drop(before);
+            Some(SourceOutcome::Same)
         }
     }
 
     /// The routes of the next customer that waits for some. If there is no memory for them, the
     /// customer's number.
     pub fn next_routes(&mut self) -> Option<Result<NewRoutes, u16>>
-        ensures routes { IfSome result (λ given. IfOk given (λ new. IfSome self.new (λ tables.
-            new.routes ≡ given_routes new.customer (customer_at tables new.customer).routes))) }
+        ensures routes { IfSome result (λ given. IfOk given (λ new. IfSome self.new (IsGiven new.customer new.routes))) }
         ensures kept { self.new ≡ self.old }
     {
         let customer = self.next_customer()?;
-        match routes_in(self.alloc, &self.tables, customer)? {
+        let Some(answer) = routes_in(self.alloc, &self.known, customer) else {
+            self.set_state(customer, RouteState::Apart);
+            return None;
+        };
+        match answer {
             Ok(routes) => Some(Ok(NewRoutes { customer, routes })),
             Err(_) => Some(Err(customer)),
         }
@@ -183,8 +204,9 @@ impl<S: TableSource + Drop> Revision<S> {
     /// the tables that were last taken.
     pub(crate) fn unrouted(&self, customer: u16, hub: &Hub) -> Option<(Name, u32)> {
         let entry = self
-            .tables
+            .known
             .as_ref()?
+            .last()
             .customers()
             .get(usize::from(customer))?;
         Some((entry.name(), unrouted_files(customer, entry, hub)))
@@ -194,16 +216,19 @@ impl<S: TableSource + Drop> Revision<S> {
     pub fn note_routes(&mut self, customer: u16, given: bool) -> Option<Name>
         ensures { self.new ≡ self.old }
     {
+        self.set_state(customer, state_given(given));
+        let customer = self.tables()?.customers().get(usize::from(customer))?;
+        Some(customer.name())
+    }
+
+    /// Notes how a customer is.
+    fn set_state(&mut self, customer: u16, state: RouteState)
+        ensures { self.new ≡ self.old }
+    {
         match self.route_states.get_mut(usize::from(customer)) {
-            Some(state) => *state = state_given(given),
+            Some(kept) => *kept = state,
             None => {}
         }
-        let customer = self
-            .tables
-            .as_ref()?
-            .customers()
-            .get(usize::from(customer))?;
-        Some(customer.name())
     }
 }
 
@@ -229,20 +254,32 @@ fn is_unrouted(file: &FileSummaryView, entry: &NamedCustomer) -> bool {
     }
 }
 
-/// The routes of a customer of tables, if there is such a customer.
+/// The routes of a customer by the tables that were taken last, if its entry there is that of the
+/// hub in all else.
 fn routes_in(
     alloc: Global,
-    tables: &Option<Tables>,
+    known: &Option<Known>,
     customer: u16,
 ) -> Option<Result<GivenRoutes, AllocError>>
-    ensures { IfSome result (λ given. IfOk given (λ routes. IfSome tables.now (λ tables.
-        routes ≡ given_routes customer (customer_at tables customer).routes))) }
+    ensures { IfSome result (λ given. IfOk given (λ routes. IfSome known.now (IsGiven customer routes))) }
 {
-    let tables = tables.as_ref()?;
-    if usize::from(customer) >= tables.customers().len() {
+    let known = known.as_ref()?;
+    if is_apart(customer, &known.opened, known.last()) {
         return None;
     }
-    Some(routes_of(alloc, tables, customer))
+    Some(routes_of(alloc, known.last(), customer))
+}
+
+/// Whether the entry of a customer isn't what it was when the hub was opened, its routes aside.
+fn is_apart(customer: u16, opened: &Tables, tables: &Tables) -> bool
+    ensures there { result ≡ false → customer < length tables.now.customers }
+    ensures agrees { result ≡ false → AgreesAt customer opened.now tables.now }
+{
+    let place = usize::from(customer);
+    if place >= opened.customers().len() || place >= tables.customers().len() {
+        return true;
+    }
+    customer_difference(opened.customer(customer), tables.customer(customer)).is_some()
 }
 
 /// The first customer from a place on that waits for routes.
@@ -257,11 +294,14 @@ fn first_waiting(route_states: &[RouteState], from: usize) -> Option<usize>
     None
 }
 
-/// How a customer is once there are new tables, in which its routes differ or don't.
-fn state_after(state: RouteState, differs: bool) -> RouteState
-    ensures { result ≡ state_after state differs }
+/// How a customer is once there are new tables, in which it is apart or isn't, and in which its
+/// routes differ or don't.
+fn state_after(state: RouteState, apart: bool, differs: bool) -> RouteState
+    ensures { result ≡ state_after state apart differs }
 {
-    if state != RouteState::Has || differs {
+    if apart {
+        RouteState::Apart
+    } else if state != RouteState::Has || differs {
         RouteState::Waits
     } else {
         RouteState::Has
@@ -279,23 +319,43 @@ fn state_given(given: bool) -> RouteState
     }
 }
 
-/// Marks each customer that has to be given its routes of new tables: those differ from the ones
-/// that it has, or it lacks them. Says whether there is any.
-fn mark(route_states: &mut [RouteState], known: &Tables, tables: &Tables) -> bool {
-    let mut any = false;
+/// Whether new tables have routes for a customer that it is to be given.
+fn will_wait(route_states: &[RouteState], known: &Known, tables: &Tables) -> bool {
     for place in 0..route_states.len() {
-        let state = state_after(route_states[place], differ_at(place, known, tables));
-        route_states[place] = state;
-        any = any | (state == RouteState::Waits);
+        if state_in(route_states[place], place, known, tables) == RouteState::Waits {
+            return true;
+        }
     }
-    any
+    false
 }
 
-/// Whether the customer of a number has other routes in new tables.
-fn differ_at(place: usize, known: &Tables, tables: &Tables) -> bool {
-    match (known.customers().get(place), tables.customers().get(place)) {
-        (Some(customer), Some(new)) => have_other_routes(customer, new),
-        _ => false,
+/// Marks each customer that is to be given its routes of new tables.
+fn mark(route_states: &mut [RouteState], known: &Known, tables: &Tables)
+    ensures { HaveRoutes known.now.last tables.now route_states.old route_states.new }
+{
+    for place in 0..route_states.len() {
+        route_states[place] = state_in(route_states[place], place, known, tables);
+    }
+}
+
+/// How the customer of a place is in new tables: if it has its routes these are what it was given.
+fn state_in(state: RouteState, place: usize, known: &Known, tables: &Tables) -> RouteState
+    ensures { result ≡ Has → (state ≡ Has) × HasRoutesOf place known.now.last tables.now }
+{
+    let Ok(customer) = u16::try_from(place) else {
+        return RouteState::Apart;
+    };
+    let apart = is_apart(customer, &known.opened, tables);
+    state_after(state, apart, differ_at(place, known.last(), tables))
+}
+
+/// Whether the customer of a place has other routes in new tables.
+fn differ_at(place: usize, tables: &Tables, new: &Tables) -> bool
+    ensures { result ≡ false → HasRoutesOf place tables.now new.now }
+{
+    match (tables.customers().get(place), new.customers().get(place)) {
+        (Some(customer), Some(other)) => have_other_routes(customer, other),
+        _ => true,
     }
 }
 

@@ -1,7 +1,11 @@
 //! What the log tells of new routes, route by route.
 
 use crate::desk::Desk;
+use crate::difference::{Difference, customer_difference};
 use crate::entry::LogEvent;
+use crate::heading::Place;
+use crate::known::Known;
+use crate::severity::Severity;
 use arrayvec::ArrayString;
 use njh_ebcdic::Name;
 use njh_table::{NamedCustomer, Route, RouteLines, Tables};
@@ -29,13 +33,40 @@ pub struct RouteNews {
     pub second: Option<ArrayString<NAME>>,
 }
 
+/// What keeps new routes from a customer.
+#[derive(Clone, Copy, Drop)]
+struct RoutesStay {
+    difference: Difference,
+}
+
 impl<N: Network + Drop, L: Write + Drop> Desk<N, L> {
-    /// Tells which routes of the customers differ between tables and new ones.
-    pub(crate) fn tell_new_routes(&mut self, tables: &Tables, new: &Tables) {
-        let (customers, others) = (tables.customers(), new.customers());
+    /// Tells which routes of the customers differ in the tables that were just taken from those that
+    /// were taken before, if any were, and which customers aren't given theirs.
+    pub(crate) fn tell_new_routes(&mut self, known: &Known, before: &Option<Tables>) {
+        let before = match before {
+            Some(tables) => tables,
+            None => &known.opened,
+        };
+        let (customers, new) = (known.opened.customers(), known.last().customers());
         for place in 0..customers.len() {
-            if let Some(other) = others.get(place) {
-                self.tell_routes_of(&customers[place], other);
+            if let (Some(old), Some(new)) = (before.customers().get(place), new.get(place)) {
+                self.tell_customer(&customers[place], old, new);
+            }
+        }
+    }
+
+    /// Tells what new tables bring a customer: other routes than those before, or none since more
+    /// than these differs from what it was opened with. Of one that wasn't given those before no
+    /// route is told.
+    fn tell_customer(&mut self, opened: &NamedCustomer, old: &NamedCustomer, new: &NamedCustomer) {
+        match customer_difference(opened, new) {
+            Some(difference) => {
+                self.write(Severity::Warning, Place::Hub, &RoutesStay { difference });
+            }
+            None => {
+                if customer_difference(opened, old).is_none() {
+                    self.tell_routes_of(old, new);
+                }
             }
         }
     }
@@ -166,5 +197,12 @@ impl fmt::Display for RouteNews {
             (Some(line), None) => write!(f, "route {node}: {line}"),
             (None, _) => write!(f, "route {node}: none"),
         }
+    }
+}
+
+impl fmt::Display for RoutesStay {
+    fn fmt<W: fmt::Write>(&self, f: &mut fmt::Formatter<W>) -> fmt::Result {
+        let difference = self.difference;
+        write!(f, "table file: {difference}; its routes stay")
     }
 }

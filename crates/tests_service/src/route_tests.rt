@@ -62,6 +62,73 @@ line = [
 ]
 "#;
 
+/// Two customers with a route each.
+const TWO: &str = r#"
+capacity = 200
+[[customer]]
+name = "ACME"
+hub = "BUREAU"
+quota = 50
+files = 8
+line = [{ name = "a1", node = "LYON", role = "answer", block = 1024, streams = 4, port = 1 }]
+route = [{ node = "LYON", line = "a1" }]
+[[customer]]
+name = "BOLT"
+hub = "BUREAU"
+quota = 50
+files = 8
+line = [{ name = "b1", node = "LYON", role = "answer", block = 1024, streams = 4, port = 2 }]
+route = [{ node = "LYON", line = "b1" }]
+"#;
+
+/// The same, but the first has another quota and no routes, and OSLO is new to the second.
+const FIRST_APART: &str = r#"
+capacity = 200
+[[customer]]
+name = "ACME"
+hub = "BUREAU"
+quota = 40
+files = 8
+line = [{ name = "a1", node = "LYON", role = "answer", block = 1024, streams = 4, port = 1 }]
+[[customer]]
+name = "BOLT"
+hub = "BUREAU"
+quota = 50
+files = 8
+line = [{ name = "b1", node = "LYON", role = "answer", block = 1024, streams = 4, port = 2 }]
+route = [{ node = "LYON", line = "b1" }, { node = "OSLO", line = "b1" }]
+"#;
+
+/// The first has its quota again, and a further route.
+const FIRST_AGAIN: &str = r#"
+capacity = 200
+[[customer]]
+name = "ACME"
+hub = "BUREAU"
+quota = 50
+files = 8
+line = [{ name = "a1", node = "LYON", role = "answer", block = 1024, streams = 4, port = 1 }]
+route = [{ node = "LYON", line = "a1" }, { node = "PARIS", line = "a1" }]
+[[customer]]
+name = "BOLT"
+hub = "BUREAU"
+quota = 50
+files = 8
+line = [{ name = "b1", node = "LYON", role = "answer", block = 1024, streams = 4, port = 2 }]
+route = [{ node = "LYON", line = "b1" }, { node = "OSLO", line = "b1" }]
+"#;
+
+/// The second customer is gone.
+const FIRST_ALONE: &str = r#"
+capacity = 200
+[[customer]]
+name = "ACME"
+hub = "BUREAU"
+quota = 50
+files = 8
+line = [{ name = "a1", node = "LYON", role = "answer", block = 1024, streams = 4, port = 1 }]
+"#;
+
 /// How many times the tables change.
 const CHANGES: usize = 4;
 
@@ -99,7 +166,7 @@ fn routes_one_by_one(rt: HostRuntime) -> Result<(), Fail> {
 ";
     let world = World::new(rt.alloc(), &[]);
     let texts = [AFTER, AFTER, OTHER_QUOTA, "no tables"];
-    change_in(rt.alloc(), &world, texts)?;
+    change_in(rt.alloc(), &world, BEFORE, texts)?;
     let seen = world.into_seen();
     assert_eq!(rt;
         after_start(str::from_utf8(&seen).unwrap_or("no text")),
@@ -108,10 +175,36 @@ fn routes_one_by_one(rt: HostRuntime) -> Result<(), Fail> {
     Ok(())
 }
 
-/// Serves lines for four seconds in a world while their tables change so.
+/// A customer of which more than its routes differs keeps those that it has, and keeps no other
+/// from new ones. Once its entry is as it was it is given its own.
+#[test]
+fn one_customer_apart(rt: HostRuntime) -> Result<(), Fail> {
+    let wanted = "\
+1970-01-01T00:00:00.000Z table file: new routes
+1970-01-01T00:00:00.000Z table file: customer ACME: its quota differs; its routes stay
+1970-01-01T00:00:00.000Z BOLT: route OSLO: b1
+1970-01-01T00:00:00.000Z BOLT: new routes
+1970-01-01T00:00:01.000Z table file: new routes
+1970-01-01T00:00:01.000Z ACME: new routes
+1970-01-01T00:00:02.000Z table file: the number of customers differs; nothing changes
+1970-01-01T00:00:03.000Z table file: customer ACME: its quota differs; nothing changes
+";
+    let world = World::new(rt.alloc(), &[]);
+    let texts = [FIRST_APART, FIRST_AGAIN, FIRST_ALONE, FIRST_APART];
+    change_in(rt.alloc(), &world, TWO, texts)?;
+    let seen = world.into_seen();
+    assert_eq!(rt;
+        after_start(str::from_utf8(&seen).unwrap_or("no text")),
+        wanted
+    );
+    Ok(())
+}
+
+/// Serves lines of tables for four seconds in a world while these change so.
 fn change_in<'a>(
     alloc: Global,
     world: &'a World<'a>,
+    before: &str,
     texts: [&'static str; CHANGES],
 ) -> Result<(), Fail> {
     let source = Changes {
@@ -119,8 +212,8 @@ fn change_in<'a>(
         texts,
         next: 0,
     };
-    let revision = Revision::new(alloc, Tables::read(alloc, BEFORE)?, source)?;
-    let tables = Tables::read(alloc, BEFORE)?;
+    let revision = Revision::new(alloc, Tables::read(alloc, before)?, source)?;
+    let tables = Tables::read(alloc, before)?;
     let log = Log::new(Some(MemoryLog { world }), LogStyle::PLAIN);
     let exchange = Exchange::new(alloc, "9.9", MemoryNetwork { world }, log, revision);
     serve(

@@ -2,6 +2,7 @@
 
 ghost use Rattle.std.specs.Prelude.{◌≡◌, ℕ, ◌<◌, map, option_map, IfOk};
 ghost use Rattle.njh_service.specs.Bureaus.{state_of, state_told};
+ghost use Rattle.njh_service.specs.Revisions.{opened_tables};
 
 use super::Exchange;
 use crate::door::Door;
@@ -19,9 +20,9 @@ use std::alloc::{AllocError, Global};
 use std::io::Write;
 
 impl<N: Network + Drop, L: Write + Drop, S: TableSource + Drop> Exchange<N, L, S> {
-    /// The tables that were last taken.
+    /// The tables that the hub was opened with.
     pub(crate) fn tables(&self) -> Option<&Tables>
-        ensures { option_map (λ tables. tables.now) result ≡ self.now.tables }
+        ensures { option_map (λ tables. tables.now) result ≡ opened_tables self.now.tables }
     {
         self.revision.tables()
     }

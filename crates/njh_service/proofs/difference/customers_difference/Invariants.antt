@@ -1,6 +1,6 @@
 use Rattle.std.proofs.Common.{◌≡◌, map, take}
 use Rattle.njh_service.specs.Revisions.{without_routes}
-use Rattle.njh_service.proofs.difference.of_customers.Given as goal
+use Rattle.njh_service.proofs.difference.customers_difference.Given as goal
 
 -- the customers so far are alike
 abbrev pub invariant-loop-place : goal.invariant-loop-place
