@@ -233,6 +233,8 @@ impl Shared {
             &mut self.replies,
         );
         lines.say_all(self.tables.customer(id.customer), node, user, &self.replies);
+        self.last_command
+            .note(node, user, message.message(), &self.replies);
     }
 }
 

@@ -183,6 +183,13 @@ impl CustomerLine {
         &self.senders
     }
 
+    /// How many nodal messages wait to go out.
+    pub(crate) fn message_count(&self) -> usize
+        ensures { result ≡ length self.now.state.messages }
+    {
+        self.line.message_count()
+    }
+
     /// Whether its state is up.
     pub(crate) fn is_up(&self) -> bool
         ensures { result ≡ laws.is_up self.now.state.session.phase }

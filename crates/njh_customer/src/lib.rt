@@ -10,6 +10,7 @@ mod customer_line;
 mod customer_lines;
 mod frame_buffer;
 mod given_order;
+mod last_command;
 mod laws;
 mod lines;
 mod new_routes;
@@ -20,6 +21,7 @@ mod signal;
 
 pub use frame_buffer::FrameBuffer;
 pub use given_order::{GivenOrder, OrderText};
+pub use last_command::LastCommand;
 pub use laws::{
     bad_texts_change_nothing, customers_stay_in_order, cuts_are_like, events_keep_entries,
     events_move_so, files_grow, files_leave_so, files_survive, first_bytes_send_first,

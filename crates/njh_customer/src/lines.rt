@@ -90,6 +90,14 @@ impl Lines {
         self.lines.line(line).session()
     }
 
+    /// How many nodal messages wait to go out on a line.
+    pub fn message_count(&self, line: u16) -> usize
+        requires { line < length self.now.lines }
+        ensures { result ≡ length (line_at line self.now.lines).state.messages }
+    {
+        self.lines.line(line).message_count()
+    }
+
     /// Whether the hub calls or answers on a line.
     pub fn role(&self, line: u16) -> Role
         requires { line < length self.now.lines }

@@ -2,6 +2,7 @@
 
 ghost use Rattle.std.specs.Prelude.{◌≡◌};
 
+use crate::last_command::LastCommand;
 use njh_block::{Bcb, BlockWriter, Fcs};
 use njh_command::Replies;
 use njh_spool::Spool;
@@ -19,6 +20,8 @@ pub struct Shared {
     pub(crate) block: BlockWriter,
     /// Room for the replies to a command.
     pub(crate) replies: Replies,
+    /// The last command that a user gave, for a log.
+    pub(crate) last_command: LastCommand,
 }
 
 impl Shared {
@@ -32,6 +35,12 @@ impl Shared {
             spool,
             block: BlockWriter::new(300, Bcb::normal(0), Fcs::nothing_suspended()),
             replies: Replies::new(),
+            last_command: LastCommand::none(),
         }
+    }
+
+    /// The last command that a user gave on a line, and how many were given.
+    pub fn last_command(&self) -> &LastCommand {
+        &self.last_command
     }
 }

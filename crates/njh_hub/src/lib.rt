@@ -25,7 +25,7 @@ pub use laws::{
     customers_never_meet, each_is_alone, others_stay, own_step_is_own, sent_in_order,
     two_lists_are_like,
 };
-pub use njh_customer::{GivenOrder, OrderText, Signal, cuts_are_like};
+pub use njh_customer::{GivenOrder, LastCommand, OrderText, Signal, cuts_are_like};
 pub use njh_spool::RestoreFault;
 pub use session_view::{QUIET_TIME, SessionView};
 pub use sink::{Sink, SinkFault};

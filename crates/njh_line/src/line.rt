@@ -187,6 +187,13 @@ impl Line {
         self.messages.front()
     }
 
+    /// How many nodal messages wait.
+    pub fn message_count(&self) -> usize
+        ensures { result ≡ length self.now.messages }
+    {
+        self.messages.len()
+    }
+
     /// Drops the message that waits longest, where there is one.
     pub fn drop_message(&mut self)
         ensures { self.new ≡ without_message self.old }

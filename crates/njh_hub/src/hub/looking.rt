@@ -9,16 +9,18 @@ ghost use Rattle.njh_stream.specs.WholeFiles.{HaveHeaders};
 ghost use Rattle.njh_hub.specs.Resting.{HasNext, IsResting};
 ghost use Rattle.njh_hub.specs.Views.{HasGivenUp, IsPartialOn, whole_file_on, file_summary, hub_line, line_view};
 ghost use Rattle.njh_hub.specs.WholeHub.{part, HasLine};
+ghost use Rattle.njh_table.specs.Entries.{route_of};
 
 use crate::fault::HubFault;
 use crate::file_summary::{FileSummaryView, file_summary, summary_at};
 use crate::hub::Hub;
 use crate::session_view::SessionView;
-use njh_customer::Lines;
+use njh_customer::{LastCommand, Lines};
+use njh_ebcdic::Name;
 use njh_line::{Phase, SessionEnd};
 use njh_spool::FileId;
 use njh_stream::{Notice, Receiver, Sender};
-use njh_table::LineId;
+use njh_table::{LineId, Route};
 
 /// How many tries in a row a session has.
 const TRIES: u8 = 5;
@@ -94,6 +96,17 @@ impl Hub {
             return false;
         }
         self.lines[usize::from(id.customer)].has_next(id, &self.shared)
+    }
+
+    /// How many nodal messages wait to go out on a line, 64 at most. `UnknownLine` comes where the
+    /// hub has no such line.
+    pub fn message_count(&self, id: LineId) -> Result<usize, HubFault>
+        ensures count { IfOk result (λ count. count ≡ length (hub_line id self.now).state.messages) }
+        ensures known { IsOk result ↔ HasLine self.now id }
+        ensures unknown { OnErr result (result ≡ Err HubFault.UnknownLine) }
+    {
+        let lines = self.lines_of(id)?;
+        Ok(lines.message_count(id.number))
     }
 
     /// What each of a line's streams to the hub is about: SYSIN 1 to 4, SYSOUT 1 to 4; a file that
@@ -180,6 +193,12 @@ impl Hub {
         summary_at(&self.shared.spool, customer, index)
     }
 
+    /// The last command that a user gave on a line of any customer, and how many were given, for a
+    /// log. No step depends on it.
+    pub fn last_command(&self) -> &LastCommand {
+        self.shared.last_command()
+    }
+
     /// How many blocks a customer's files may take. `UnknownCustomer` comes where the hub has no
     /// such customer.
     pub fn quota(&self, customer: u16) -> Result<u32, HubFault>
@@ -191,5 +210,18 @@ impl Hub {
             return Err(HubFault::UnknownCustomer);
         }
         Ok(self.shared.tables.customer(customer).quota())
+    }
+
+    /// Where a node's files and messages of a customer go now. `UnknownCustomer` comes where the
+    /// hub has no such customer.
+    pub fn route(&self, customer: u16, node: Name) -> Result<Route, HubFault>
+        ensures route { IfOk result (λ route. route ≡ route_of (part customer self.now).customer.entry node) }
+        ensures known { IsOk result ↔ (customer < length self.now) }
+        ensures unknown { OnErr result (result ≡ Err HubFault.UnknownCustomer) }
+    {
+        if usize::from(customer) >= self.lines.len() {
+            return Err(HubFault::UnknownCustomer);
+        }
+        Ok(self.shared.tables.route(customer, node))
     }
 }
