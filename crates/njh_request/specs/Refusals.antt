@@ -4,7 +4,7 @@ use Rattle.njh_request.specs.declared.refusal.Refusal.{Refusal}
 use Rattle.njh_request.specs.declared.refusal.Refusal.TheVariants.{NoResource, BadMethod, BadPlace, NotJson, BadText}
 use Rattle.njh_request.specs.declared.refusal.Refusal.TheVariants.{BadUser, NotACommand, NoOwner, BadState, BadMoment}
 use Rattle.njh_request.specs.declared.refusal.Refusal.TheVariants.{NoFile, NoOrder, NoWay, SeveralOwners}
-use Rattle.njh_request.specs.declared.refusal.Refusal.TheVariants.{OrderWaits, NotKept}
+use Rattle.njh_request.specs.declared.refusal.Refusal.TheVariants.{OrderWaits, NotKept, TooLong}
 
 abbrev pub status_of : Refusal → ℕ
 status_of NoResource = 404
@@ -23,6 +23,7 @@ status_of NoWay = 404
 status_of SeveralOwners = 409
 status_of OrderWaits = 409
 status_of NotKept = 500
+status_of TooLong = 500
 
 abbrev pub sentence_of : Refusal → List ℕ
 sentence_of NoResource = codes "there is nothing at this path"
@@ -42,3 +43,4 @@ sentence_of NoWay = codes "no line leads to this node"
 sentence_of SeveralOwners = codes "files of this name have several owners: give one"
 sentence_of OrderWaits = codes "the order hasn't been carried out yet"
 sentence_of NotKept = codes "the order was carried out, but there was no memory for its replies"
+sentence_of TooLong = codes "the answer has more than 65536 bytes"

@@ -38,6 +38,8 @@ pub enum Refusal {
     OrderWaits,
     /// The order was carried out, and there was no memory to keep what it answered.
     NotKept,
+    /// What would be answered is longer than an answer may be.
+    TooLong,
 }
 
 impl Refusal {
@@ -48,7 +50,7 @@ impl Refusal {
         match self {
             Refusal::NoResource | Refusal::NoFile | Refusal::NoOrder | Refusal::NoWay => NOT_FOUND,
             Refusal::SeveralOwners | Refusal::OrderWaits => CONFLICT,
-            Refusal::NotKept => NO_MEMORY,
+            Refusal::NotKept | Refusal::TooLong => SERVER_FAULT,
             _ => BAD_REQUEST,
         }
     }
@@ -77,6 +79,7 @@ impl Refusal {
             Refusal::OrderWaits => "the order hasn't been carried out yet",
             Refusal::NotKept =>
                 "the order was carried out, but there was no memory for its replies",
+            Refusal::TooLong => "the answer has more than 65536 bytes",
         }
     }
 }
@@ -87,4 +90,4 @@ const NOT_FOUND: u16 = 404;
 
 const CONFLICT: u16 = 409;
 
-const NO_MEMORY: u16 = 500;
+const SERVER_FAULT: u16 = 500;

@@ -119,6 +119,17 @@ fn told(alloc: Global, tables: &Tables, line: &str) -> Result<String, AllocError
     }
 }
 
+/// The refusals that no request has by itself.
+const LATER: [Refusal; 7] = [
+    Refusal::NoFile,
+    Refusal::NoOrder,
+    Refusal::NoWay,
+    Refusal::SeveralOwners,
+    Refusal::OrderWaits,
+    Refusal::NotKept,
+    Refusal::TooLong,
+];
+
 fn main(rt: HostRuntime) -> io::Result<()> {
     let alloc = rt.alloc();
     let tables = match Tables::read(alloc, TABLES) {
@@ -129,6 +140,10 @@ fn main(rt: HostRuntime) -> io::Result<()> {
     for line in text.as_str().lines() {
         let told = told(alloc, &tables, line)?;
         println!(rt; "{line}\n  {told}")?;
+    }
+    for refusal in LATER {
+        let told = refusal_text(alloc, refusal)?;
+        println!(rt; "  {told}")?;
     }
     Ok(())
 }
