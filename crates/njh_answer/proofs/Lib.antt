@@ -1,4 +1,5 @@
 pub mod AnswerLaws
+pub mod ArrivalLaws
 pub mod OwnerLaws
 pub mod Summing
 pub mod TableBounds

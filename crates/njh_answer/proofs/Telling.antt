@@ -8,24 +8,26 @@ use Rattle.std.proofs.lemmas.List.FromFn.{map-range_with_len_more}
 use Rattle.std.proofs.lemmas.List.Sums.{fold-append}
 use Rattle.std.proofs.lemmas.Option.{slice_get-get_or, slice_get_past}
 use Rattle.std.specs.List.{fold, filter, range_with_len}
-use Rattle.std.specs.Prelude.{Result, Err}
+use Rattle.std.specs.Prelude.{Result, Err, bytes_eq}
 use Rattle.serde_json.specs.Data.{Data}
 use Rattle.serde_json.specs.View.{view}
 use Rattle.serde_json.specs.declared.value.Value.{Value}
 use Rattle.njh_ebcdic.specs.Users.{User}
 use Rattle.njh_header.specs.FileNames.{FileName}
 use Rattle.njh_spool.specs.CustomerSpool.{CustomerSpool, WholeFile}
+use Rattle.njh_table.specs.Entries.{route_of}
 use Rattle.njh_table.specs.TableFile.{NamedLine, TableFile, customer_at}
+use Rattle.njh_table.specs.declared.Route.TheVariants.{Here, Unknown}
 use Rattle.njh_command.specs.Files.{file_at, no_file}
 use Rattle.njh_hub.specs.Files.{said_name, said_owner}
 use Rattle.njh_customer.specs.Customer.{no_customer_line}
-use Rattle.njh_hub.specs.Views.{file_summary, hub_line}
-use Rattle.njh_hub.specs.WholeHub.{HasLine, Part, no_part, part}
+use Rattle.njh_hub.specs.Views.{hub_line}
+use Rattle.njh_hub.specs.WholeHub.{HasLine, Part, no_entry, no_part, part}
 use Rattle.njh_table.specs.declared.LineId.{LineId}
 use Rattle.njh_request.specs.declared.refusal.Refusal.{Refusal}
 use Rattle.njh_request.specs.declared.refusal.Refusal.TheVariants as refusal
 use Rattle.njh_answer.specs.Customers.{customer_data, no_tally, tally_of, tally_with}
-use Rattle.njh_answer.specs.Files.{file_data, file_entry}
+use Rattle.njh_answer.specs.Files.{line_by_route}
 use Rattle.njh_answer.specs.Lines.{line_told, line_where}
 use Rattle.njh_answer.specs.Owners.{is_file_called, owner_by, owner_of_files}
 use Rattle.njh_answer.specs.declared.customers.Tally.{Tally}
@@ -54,10 +56,11 @@ told-more f xs d first index ordered within =
     refl
 
 -- a file more
-pub files_more : (s : CustomerSpool) (first index : ℕ) → first ≤ index → index < length s.whole
-    → map file_entry (take (index + 1 - first) (drop first s.whole))
-    ≡ map file_entry (take (index - first) (drop first s.whole)) ++ file_data (file_summary (file_at index s)) ∷ []
-files_more s first index ordered within = told-more file_entry s.whole no_file first index ordered within
+pub files_more : (entry : WholeFile → Data) (s : CustomerSpool) (first index : ℕ) → first ≤ index
+    → index < length s.whole
+    → map entry (take (index + 1 - first) (drop first s.whole))
+    ≡ map entry (take (index - first) (drop first s.whole)) ++ entry (file_at index s) ∷ []
+files_more entry s first index ordered within = told-more entry s.whole no_file first index ordered within
 
 ranged-more : {B : Type 0} (f : ℕ → B) (first index : ℕ) → first ≤ index
     → map f (range_with_len first (index + 1 - first)) ≡ map f (range_with_len first (index - first)) ++ f index ∷ []
@@ -128,3 +131,11 @@ line_nowhere parts id missing =
 -- no customer has no blocks
 pub not_there : (parts : List Part) (c : ℕ) → (c < length parts → ⊥) → part c parts ≡ no_part
 not_there parts c missing = get_or_past parts c no_part (omega (arith, missing))
+
+no-line-case : (lines : List NamedLine) (b : Bool) → line_by_route lines (cond b Here Unknown) ≡ None
+no-line-case lines true = refl
+no-line-case lines false = refl
+
+-- no customer has no routes
+pub no_line_there : (lines : List NamedLine) (node : List ℕ) → line_by_route lines (route_of no_entry node) ≡ None
+no_line_there lines node = no-line-case lines (bytes_eq no_entry.hub node)

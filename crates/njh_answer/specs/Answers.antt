@@ -10,6 +10,7 @@ use Rattle.njh_request.specs.Refusals.{sentence_of, status_of}
 use Rattle.njh_request.specs.declared.refusal.Refusal.{Refusal}
 use Rattle.njh_request.specs.declared.request.Request.{Request}
 use Rattle.njh_request.specs.declared.request.Request.TheVariants as request
+use Rattle.njh_answer.specs.Arrivals.{Seen, seen_of}
 use Rattle.njh_answer.specs.Customers.{customers_data}
 use Rattle.njh_answer.specs.Files.{files_data}
 use Rattle.njh_answer.specs.Lines.{lines_data}
@@ -40,7 +41,7 @@ abbrev pub refusal_data : Refusal → Data
 refusal_data r = object (member (codes "error") (string (sentence_of r)) no_members)
 
 abbrev pub refuses : Refusal → Told
-refuses r = record { status = status_of r; json = refusal_data r; deed = deed.Nothing }
+refuses r = record { status = status_of r; json = refusal_data r; deed = deed.Refused r }
 
 abbrev pub shows_or_refuses : Result Data Refusal → Told
 shows_or_refuses (Ok d) = shows d
@@ -63,20 +64,21 @@ ordered c (Ok owner) text n = takes n (deed.Command c owner text)
 ordered c (Err r) text n = refuses r
 
 -- What is answered.
-abbrev pub answer_of : Request → List Part → TableFile → ServiceView → List LineView → List OrderRecord → ℕ → Told
-answer_of request.Status parts tables service lines orders_known next =
+abbrev pub answer_of : Request → List Part → TableFile → ServiceView → List LineView → Seen → List OrderRecord → ℕ
+    → Told
+answer_of request.Status parts tables service lines seen orders_known next =
     shows (status_data tables parts service)
-answer_of (request.Customers from) parts tables service lines orders_known next =
+answer_of (request.Customers from) parts tables service lines seen orders_known next =
     shows (customers_data tables parts from)
-answer_of (request.Lines c from) parts tables service lines orders_known next =
+answer_of (request.Lines c from) parts tables service lines seen orders_known next =
     shows (lines_data (customer_at tables c) c (part c parts) lines from)
-answer_of (request.Files c from) parts tables service lines orders_known next =
-    shows (files_data (customer_at tables c).name from (part c parts).customer.spool)
-answer_of (request.Outcome n) parts tables service lines orders_known next =
+answer_of (request.Files c from) parts tables service lines seen orders_known next =
+    shows (files_data (customer_at tables c) (part c parts) (seen_of c seen) from)
+answer_of (request.Outcome n) parts tables service lines seen orders_known next =
     shows_or_refuses (outcome_told (find (is_numbered n) orders_known))
-answer_of (request.Order c owner text) parts tables service lines orders_known next =
+answer_of (request.Order c owner text) parts tables service lines seen orders_known next =
     ordered c (owner_for owner text (part c parts).customer.spool.whole) text next
-answer_of (request.Message c whom text) parts tables service lines orders_known next =
+answer_of (request.Message c whom text) parts tables service lines seen orders_known next =
     takes next (deed.Message c whom text)
-answer_of (request.Line id wish) parts tables service lines orders_known next = obeys (deed.Line id wish)
-answer_of (request.Stop moment) parts tables service lines orders_known next = obeys (deed.Stop moment)
+answer_of (request.Line id wish) parts tables service lines seen orders_known next = obeys (deed.Line id wish)
+answer_of (request.Stop moment) parts tables service lines seen orders_known next = obeys (deed.Stop moment)

@@ -7,4 +7,5 @@ pub mod Owners
 pub mod Orders
 pub mod Status
 pub mod Answers
+pub mod Arrivals
 pub mod Laws

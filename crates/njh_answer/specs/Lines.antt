@@ -71,6 +71,11 @@ abbrev pub session_where : Option CustomerLine → Data
 session_where None = null
 session_where (Some line) = session_data (line_view line.state)
 
+-- how many nodal messages wait to go out
+abbrev pub messages_where : Option CustomerLine → Data
+messages_where None = null
+messages_where (Some line) = number (unsigned (length line.state.messages))
+
 -- ---- its streams
 
 abbrev pub says_state : List ℕ → Data
@@ -126,9 +131,11 @@ served_data None = null
 served_data (Some v) = object (
     member (codes "connected") (moment_data v.connected)
     (member (codes "last_end") (string (string_bytes v.last_end))
+    (member (codes "naks") (number (unsigned v.naks))
+    (member (codes "repeats") (number (unsigned v.repeats))
     (member (codes "site") (string (string_bytes v.site))
     (member (codes "state") (string (state_text v.state))
-    (member (codes "up") (moment_data v.up) no_members)))))
+    (member (codes "up") (moment_data v.up) no_members)))))))
 
 abbrev pub is_of_line : LineId → LineView → Bool
 is_of_line id v = (v.line.customer == id.customer) && (v.line.number == id.number)
@@ -139,12 +146,13 @@ is_of_line id v = (v.line.customer == id.customer) && (v.line.number == id.numbe
 abbrev pub line_data : NamedLine → CustomerSpool → Option CustomerLine → Option LineView → Data
 line_data named s line served = object (
     member (codes "from_hub") (array (items_of (senders_where s line)))
+    (member (codes "messages") (messages_where line)
     (member (codes "name") (string named.name)
     (member (codes "node") (string (name_text named.entry.node))
     (member (codes "role") (string (role_text named.entry.role))
     (member (codes "served") (served_data served)
     (member (codes "session") (session_where line)
-    (member (codes "to_hub") (array (items_of (receivers_where s line))) no_members)))))))
+    (member (codes "to_hub") (array (items_of (receivers_where s line))) no_members))))))))
 
 abbrev pub line_id : ℕ → ℕ → LineId
 line_id c index = record { customer = c; number = index }

@@ -7,6 +7,7 @@ ghost use Rattle.njh_answer.specs.Answers.{answer_of, obeys, ordered, refusal_da
 ghost use Rattle.njh_answer.specs.Answers.{takes, takes_data, told_of};
 ghost use Rattle.njh_answer.specs.Orders.{viewed};
 
+use crate::arrivals::Arrivals;
 use crate::customers::customers_value;
 use crate::files::files_value;
 use crate::lines::lines_value;
@@ -26,6 +27,8 @@ use std::alloc::{AllocError, Global};
 pub enum Deed {
     /// Nothing.
     Nothing,
+    /// Nothing: the request was refused so.
+    Refused(Refusal),
     /// That a command is carried out for a customer, in this user's name.
     Command(u16, User, Text),
     /// That a user of a customer's is told this.
@@ -58,6 +61,8 @@ pub struct Views<'a> {
     pub service: &'a ServiceView,
     /// What it knows of the lines that it serves.
     pub lines: &'a [LineView],
+    /// When it saw files come.
+    pub arrivals: &'a Arrivals,
     /// The orders that are remembered.
     pub orders: &'a [OrderRecord],
     /// The number of the next order.
@@ -72,7 +77,7 @@ pub fn answer_request(
 ) -> Result<Answer, AllocError>
     requires { IsRequestOf views.now.tables.now request }
     ensures { IfOk result (λ answer. told_of answer ≡ answer_of request views.now.hub.now views.now.tables.now
-        views.now.service.now views.now.lines.now views.now.orders.now views.now.next) }
+        views.now.service.now views.now.lines.now views.now.arrivals.now views.now.orders.now views.now.next) }
 {
     match request {
         Request::Status => {
@@ -89,8 +94,8 @@ pub fn answer_request(
             Ok(shows(value))
         }
         Request::Files(customer, from) => {
-            let name = views.tables.customer(customer).name();
-            let value = files_value(alloc, views.hub, customer, name, from)?;
+            let (hub, tables) = (views.hub, views.tables);
+            let value = files_value(alloc, hub, tables, views.arrivals, customer, from)?;
             Ok(shows(value))
         }
         Request::Outcome(number) => {
@@ -140,7 +145,7 @@ pub fn refuses(alloc: Global, refusal: Refusal) -> Result<Answer, AllocError>
     Ok(Answer {
         status: refusal.status(),
         value,
-        deed: Deed::Nothing,
+        deed: Deed::Refused(refusal),
     })
 }
 

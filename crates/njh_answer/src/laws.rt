@@ -1,6 +1,7 @@
 //! Laws of the definitions: what holds of answers, whoever computes them.
 
-ghost use Rattle.njh_answer.specs.Laws.{AnswersAreOfTheCustomer, NoFileIsPassedOver, OwnersOwnAll, PagesTellAll};
+ghost use Rattle.njh_answer.specs.Laws.{AnswersAreOfTheCustomer, NoFileIsPassedOver, NotedIsTold, OwnersOwnAll};
+ghost use Rattle.njh_answer.specs.Laws.{PagesTellAll};
 
 /// The files of an answer, and those behind it, are all from its place on.
 pub fn pages_tell_all()
@@ -19,7 +20,12 @@ pub fn owners_own_all()
     ensures { OwnersOwnAll }
 {}
 
-/// What is told of a customer is by its own part of the hub alone.
+/// The moment at which a file came is told of it, and of other files what was told before.
+pub fn noted_is_told()
+    ensures { NotedIsTold }
+{}
+
+/// What is told of a customer is by its own part of the hub and its own arrivals alone.
 pub fn answers_are_of_the_customer()
     ensures { AnswersAreOfTheCustomer }
 {}

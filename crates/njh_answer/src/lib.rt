@@ -2,6 +2,7 @@
 #![tactic(auto)]
 
 mod answering;
+mod arrivals;
 mod customers;
 mod fields;
 mod files;
@@ -14,8 +15,10 @@ mod status;
 mod views;
 
 pub use answering::{Answer, Deed, Views, answer_request, refuses};
+pub use arrivals::Arrivals;
 pub use laws::{
-    answers_are_of_the_customer, no_file_is_passed_over, owners_own_all, pages_tell_all,
+    answers_are_of_the_customer, no_file_is_passed_over, noted_is_told, owners_own_all,
+    pages_tell_all,
 };
 pub use orders::{OrderRecord, Outcome};
 pub use views::{LineState, LineView, ServiceView};

@@ -1,13 +1,14 @@
 //! A customer's lines.
 
 ghost use Rattle.std.specs.Prelude.{◌≡◌, ◌^◌, ◌≤◌, ◌<◌, find, length, map, IfOk, option_map};
-ghost use Rattle.serde_json.specs.Data.{null};
-ghost use Rattle.serde_json.specs.View.{view};
+ghost use Rattle.serde_json.specs.Data.{array, null};
+ghost use Rattle.serde_json.specs.View.{items_of, view};
 ghost use Rattle.njh_hub.specs.WholeHub.{part};
 ghost use Rattle.njh_spool.specs.CustomerSpool.{whole_numbered};
 ghost use Rattle.njh_table.specs.TableFile.{customer_at};
 ghost use Rattle.njh_answer.specs.Lines.{going_data, is_of_line, line_data, line_told, line_where};
-ghost use Rattle.njh_answer.specs.Lines.{lines_data, lines_told_from, moment_data, name_where, phase_text};
+ghost use Rattle.njh_answer.specs.Lines.{lines_data, lines_told_from, messages_where, moment_data, name_where};
+ghost use Rattle.njh_answer.specs.Lines.{phase_text};
 ghost use Rattle.njh_answer.specs.Lines.{receiver_data, receivers_where, role_text, sender_data, senders_where};
 ghost use Rattle.njh_answer.specs.Lines.{served_data, session_data, session_where, state_text, turn_text};
 
@@ -162,6 +163,14 @@ fn receiver_values(
     Ok(values)
 }
 
+/// What comes on each of a line's streams to the hub, as a list.
+fn receivers_told(alloc: Global, hub: &Hub, id: LineId) -> Result<Value, AllocError>
+    ensures { IfOk result (λ value. view value ≡ array (items_of (receivers_where
+        (part id.customer hub.now).customer.spool (line_where id.number (part id.customer hub.now))))) }
+{
+    Ok(Value::Array(receivers_of(alloc, hub, id)?))
+}
+
 /// What goes out on each of a line's streams from the hub; no stream where the hub has no such line.
 #[tactic(auto, using(crate::proofs::Telling::line_here, crate::proofs::Telling::line_nowhere))]
 fn senders_of(alloc: Global, hub: &Hub, id: LineId) -> Result<Vec<Value>, AllocError>
@@ -190,6 +199,14 @@ fn sender_values(
     Ok(values)
 }
 
+/// What goes out on each of a line's streams from the hub, as a list.
+fn senders_told(alloc: Global, hub: &Hub, id: LineId) -> Result<Value, AllocError>
+    ensures { IfOk result (λ value. view value ≡ array (items_of (senders_where
+        (part id.customer hub.now).customer.spool (line_where id.number (part id.customer hub.now))))) }
+{
+    Ok(Value::Array(senders_of(alloc, hub, id)?))
+}
+
 /// A line's session, by the hub; null where it has no such line.
 #[tactic(auto, using(crate::proofs::Telling::line_here, crate::proofs::Telling::line_nowhere))]
 fn session_of(alloc: Global, hub: &Hub, id: LineId) -> Result<Value, AllocError>
@@ -199,6 +216,17 @@ fn session_of(alloc: Global, hub: &Hub, id: LineId) -> Result<Value, AllocError>
     match hub.session(id) {
         Ok(session) => session_value(alloc, &session),
         Err(_) => Ok(nothing()),
+    }
+}
+
+/// How many nodal messages wait to go out on a line; null where the hub has no such line.
+#[tactic(auto, using(crate::proofs::Telling::line_here, crate::proofs::Telling::line_nowhere))]
+fn messages_of(hub: &Hub, id: LineId) -> Value
+    ensures { view result ≡ messages_where (line_where id.number (part id.customer hub.now)) }
+{
+    match hub.message_count(id) {
+        Ok(count) => Value::from(count as u64),
+        Err(_) => nothing(),
     }
 }
 
@@ -217,6 +245,8 @@ fn served_value(alloc: Global, served: Option<&LineView>) -> Result<Value, Alloc
         Some(served) => json!(in alloc; {
             "connected": moment_value(served.connected),
             "last_end": served.last_end.as_str(),
+            "naks": served.naks,
+            "repeats": served.repeats,
             "site": served.site.as_str(),
             "state": state_text(served.state),
             "up": moment_value(served.up)
@@ -258,6 +288,13 @@ fn is_of_line(line: &LineView, id: LineId) -> bool
     line.line.customer == id.customer && line.line.number == id.number
 }
 
+/// How a line is served, if it is.
+fn served_told(alloc: Global, lines: &[LineView], id: LineId) -> Result<Value, AllocError>
+    ensures { IfOk result (λ value. view value ≡ served_data (find (is_of_line id) lines.now)) }
+{
+    served_value(alloc, served_as(lines, id))
+}
+
 /// A line, by what the tables say of it.
 fn line_value(
     alloc: Global,
@@ -270,13 +307,15 @@ fn line_value(
         ≡ line_data named.now (part id.customer hub.now).customer.spool
         (line_where id.number (part id.customer hub.now)) (find (is_of_line id) lines.now)) }
 {
-    let from_hub = Value::Array(senders_of(alloc, hub, id)?);
+    let from_hub = senders_told(alloc, hub, id)?;
+    let messages = messages_of(hub, id);
     let node = name_text(alloc, named.node())?;
-    let served = served_value(alloc, served_as(lines, id))?;
+    let served = served_told(alloc, lines, id)?;
     let session = session_of(alloc, hub, id)?;
-    let to_hub = Value::Array(receivers_of(alloc, hub, id)?);
+    let to_hub = receivers_told(alloc, hub, id)?;
     json!(in alloc; {
         "from_hub": from_hub,
+        "messages": messages,
         "name": named.name(),
         "node": node,
         "role": role_text(named.role()),

@@ -28,6 +28,10 @@ pub struct LineView {
     pub up: Option<u64>,
     /// Why its last session ended; empty if none has.
     pub last_end: String,
+    /// How many NAKs the hub sent on it since the service began.
+    pub naks: u64,
+    /// How many blocks it sent again since then.
+    pub repeats: u64,
 }
 
 /// What the service knows of itself.

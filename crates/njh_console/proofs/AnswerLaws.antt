@@ -32,6 +32,7 @@ refusal-status refusal.NoWay = (omega arith, omega arith)
 refusal-status refusal.SeveralOwners = (omega arith, omega arith)
 refusal-status refusal.OrderWaits = (omega arith, omega arith)
 refusal-status refusal.NotKept = (omega arith, omega arith)
+refusal-status refusal.TooLong = (omega arith, omega arith)
 
 pub refused : (tables : TableFile) (r : Refusal) → IsSound tables (refuses r)
 refused tables r = record { status_known = refusal-status r; deed_known = tt }
@@ -46,7 +47,7 @@ order-taken tables c (Ok owner) text n there = record { status_known = (omega ar
 order-taken tables c (Err r) text n there = refused tables r
 
 pub answered : (s : Scene) (o : TakenOrders) (r : asked.Request) → IsRequestOf s.tables r
-    → IsSound s.tables (answer_of r s.parts s.tables s.service s.lines o.records o.next)
+    → IsSound s.tables (answer_of r s.parts s.tables s.service s.lines s.arrivals o.records o.next)
 answered s o request.Status there = record { status_known = (omega arith, omega arith); deed_known = tt }
 answered s o (request.Customers from) there = record { status_known = (omega arith, omega arith); deed_known = tt }
 answered s o (request.Lines c from) there = record { status_known = (omega arith, omega arith); deed_known = tt }

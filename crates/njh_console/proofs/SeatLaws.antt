@@ -1,50 +1,63 @@
 -- The visitors, one after another.
-use Rattle.std.proofs.Common.{◌≡◌, ◌≢◌, ℕ, ◌+◌, ◌<◌, ◌≤◌, List, length, set, get_or, refl, sym, ap, subst}
-use Rattle.std.proofs.Common.{◌∙◌, ⊎_elim, inl, arith}
+use Rattle.std.proofs.Common.{◌≡◌, ◌≢◌, ℕ, ◌+◌, ◌<◌, ◌≤◌, List, [], ◌++◌, length, set, get_or, refl, sym, ap, subst}
+use Rattle.std.proofs.Common.{◌∙◌, ⊎_elim, inl, inr, arith, append-nil}
+use Rattle.std.specs.Prelude.{Option, Some, None, take, drop}
+use Rattle.std.specs.Io.KnownBytes.{Keeps}
 use Rattle.std.proofs.lemmas.Bool.{cases_eq}
 use Rattle.std.proofs.lemmas.List.{get_or-set_same, get_or-set_other, get_or_read, length-set}
-use Rattle.njh_console.specs.Consoles.{Seat, AreHeard, IsHeard}
+use Rattle.http_server.specs.History.{after_sent, History}
+use Rattle.njh_console.specs.Seats.{AreEach, IsReadFrom, IsSentTo, Seat}
 
--- nobody was heard yet
-pub none_heard : {V : Type 0} (now : ℕ) (seats : List (Seat V)) → AreHeard now seats seats
-none_heard now seats = record {
-  many = refl;
-  each = λ k d w. record { heard = inl (refl, refl); calls = refl };
-}
-
--- one more is heard, who wasn't before
-pub heard_more : {V : Type 0} (now : ℕ) (first seats : List (Seat V)) (i : ℕ) (was new : Seat V) → i < length seats
-    → was ≡ get_or first i was → IsHeard now was new → AreHeard now first seats → AreHeard now first (set seats i new)
-heard_more {V} now first seats i was new there read one heard = record {
-  many = length-set seats i new ∙ heard.many;
-  each = λ k d w. ⊎_elim (λ (here : k ≡ i).
-      let before : get_or first k d ≡ was =
-      ap (λ (n : ℕ). get_or first n d) here
-      ∙ sym (get_or_read first i was (omega (arith, there, heard.many)) read d) in
-      let after : get_or (set seats i new) k d ≡ new =
-      ap (λ (n : ℕ). get_or (set seats i new) n d) here ∙ get_or-set_same seats i new d there in
-      subst (λ (s : Seat V). IsHeard now s (get_or (set seats i new) k d)) (sym before)
-      (subst (λ (s : Seat V). IsHeard now was s) (sym after) one))
-      (λ (other : k ≢ i).
-      subst (λ (s : Seat V). IsHeard now (get_or first k d) s) (sym (get_or-set_other seats i k new d other))
-      (heard.each k d w))
-      (cases_eq k i);
-}
-
--- Those before a place were heard, and the others are as they were.
-pub record HeardTo {V : Type 0} (now place : ℕ) (first seats : List (Seat V)) : Type 0 where
-  pub heard : AreHeard now first seats
+-- Those before a place are so, and the others are as they were.
+pub record EachTo {V : Type 0} (Is : Seat V → Seat V → Type 0) (place : ℕ) (first seats : List (Seat V)) : Type 0 where
+  pub are : AreEach Is first seats
   pub rest : (k : ℕ) (d : Seat V) → place ≤ k → get_or seats k d ≡ get_or first k d
 
-pub heard_to_none : {V : Type 0} (now : ℕ) (seats : List (Seat V)) → HeardTo now 0 seats seats
-heard_to_none now seats = record { heard = none_heard now seats; rest = λ k d w. refl }
-
-pub heard_to_more : {V : Type 0} (now i : ℕ) (first seats : List (Seat V)) (was new : Seat V) → i < length seats
-    → was ≡ get_or seats i was → IsHeard now was new → HeardTo now i first seats
-    → HeardTo now (i + 1) first (set seats i new)
-heard_to_more now i first seats was new there read one to = record {
-  heard = heard_more now first seats i was new there (read ∙ to.rest i was (omega arith)) one to.heard;
-  rest = λ k d w.
-      let other : k ≢ i = λ here. omega (arith, here, w) in
-      get_or-set_other seats i k new d other ∙ to.rest k d (omega (arith, w));
+pub each_to_none : {V : Type 0} (Is : Seat V → Seat V → Type 0) (seats : List (Seat V)) → ((s : Seat V) → Is s s)
+    → EachTo Is 0 seats seats
+each_to_none Is seats same = record {
+  are = record { many = refl; each = λ k d w. same (get_or seats k d) };
+  rest = λ k d w. refl;
 }
+
+pub each_to_more : {V : Type 0} (Is : Seat V → Seat V → Type 0) (i : ℕ) (first seats : List (Seat V)) (was new : Seat V)
+    → i < length seats → was ≡ get_or seats i was → Is was new → EachTo Is i first seats
+    → EachTo Is (i + 1) first (set seats i new)
+each_to_more {V} Is i first seats was new there read one to =
+    let before : (d : Seat V) → get_or first i d ≡ was =
+    λ d. sym (to.rest i d (omega arith)) ∙ sym (get_or_read seats i was there read d) in
+    record {
+      are = record {
+        many = length-set seats i new ∙ to.are.many;
+        each = λ k d w. ⊎_elim (λ (here : k ≡ i).
+            let after : get_or (set seats i new) k d ≡ new =
+            ap (λ (n : ℕ). get_or (set seats i new) n d) here ∙ get_or-set_same seats i new d there in
+            subst (λ (s : Seat V). Is s (get_or (set seats i new) k d))
+            (sym (ap (λ (n : ℕ). get_or first n d) here ∙ before d))
+            (subst (λ (s : Seat V). Is was s) (sym after) one))
+            (λ (other : k ≢ i).
+            subst (λ (s : Seat V). Is (get_or first k d) s) (sym (get_or-set_other seats i k new d other))
+            (to.are.each k d w))
+            (cases_eq k i);
+      };
+      rest = λ k d w.
+          let other : k ≢ i = λ here. omega (arith, here, w) in
+          get_or-set_other seats i k new d other ∙ to.rest k d (omega (arith, w));
+    }
+
+pub keeps_itself : (known : Option (List ℕ)) → Keeps known known
+keeps_itself None = tt
+keeps_itself (Some bytes) = refl
+
+-- of whom nothing came
+pub nothing_came : {V : Type 0} (remaining : V → Option (List ℕ)) (now : ℕ) (s : Seat V) → IsReadFrom remaining now s s
+nothing_came remaining now s =
+    record { came = inr (keeps_itself (remaining s.socket), refl, refl); stays_failed = λ failed. failed }
+
+-- to whom nothing went
+pub nothing_went : {V : Type 0} (now : ℕ) (s : Seat V) → IsSentTo now s s
+nothing_went now s = record { went = inr (refl, refl); stays_failed = λ failed. failed }
+
+-- where no byte went out nothing changed
+pub none_sent : (h : History) → after_sent h 0 ≡ h
+none_sent h = ap (λ (sent : List ℕ). record h { sent = sent }) (append-nil h.sent)

@@ -6,7 +6,7 @@ use Rattle.njh_request.specs.declared.refusal.Refusal.TheVariants.{OrderWaits}
 use Rattle.njh_answer.specs.Answers.{Told, refuses}
 use Rattle.njh_console.specs.Acts.{taken_by}
 use Rattle.njh_console.specs.Orders.{TakenOrders}
-use Rattle.njh_console.specs.Rounds.{told_to, IsToldBy}
+use Rattle.njh_console.specs.Rounds.{told_to, IsToldBy, IsToldFor}
 use Rattle.njh_console.specs.Scenes.{Scene}
 use Rattle.njh_console.specs.declared.act.Taken.{Taken}
 use Rattle.njh_console.specs.declared.act.Taken.TheVariants.{Nothing}
@@ -34,12 +34,10 @@ abbrev pub taken_when : Bool → Taken → Taken → Taken
 taken_when false what before = what
 taken_when true what before = before
 
--- after a request
-abbrev pub desk_after : DeskState → Request (List ℕ) → DeskState
-desk_after d r = record d {
-  done = true;
-  taken = taken_when d.done (taken_by d.scene.tables (told_at d r).deed) d.taken;
-}
+-- after a request that was told so
+abbrev pub desk_after : DeskState → Told → DeskState
+desk_after d t = record d { done = true; taken = taken_when d.done (taken_by d.scene.tables t.deed) d.taken }
 
 abbrev pub IsServed : DeskState → Request (List ℕ) → Response → DeskState → Type 0
-IsServed d r response new = IsToldBy (told_at d r) response × (new ≡ desk_after d r)
+IsServed d r response new =
+    (t : Told) × IsToldFor (told_at d r) t × IsToldBy t response × (new ≡ desk_after d t)

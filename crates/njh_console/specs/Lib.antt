@@ -4,3 +4,5 @@ pub mod Desks
 pub mod Orders
 pub mod Rounds
 pub mod Scenes
+pub mod Seats
+pub mod code

@@ -1,7 +1,7 @@
 //! What is ordered.
 
 use njh_ebcdic::Name;
-use njh_request::{LineWish, Moment};
+use njh_request::{LineWish, Moment, Refusal};
 use njh_table::LineId;
 use njh_turns::NewOrder;
 
@@ -12,6 +12,8 @@ pub enum Act {
     Line(LineId, LineWish),
     /// The service is to end.
     Stop(Moment),
+    /// A request was refused so: the log tells it.
+    Refused(Refusal),
 }
 
 /// What was ordered in a round.

@@ -1,15 +1,18 @@
 //! The console.
 
-ghost use Rattle.std.specs.Prelude.{◌≡◌, ◌↔◌, ◌≤◌, ◌<◌, [], length, vec_capacity, IsTrue, IfOk, IfSome, None, option_map};
+ghost use Rattle.std.specs.Prelude.{◌≡◌, ◌↔◌, ◌≤◌, ◌⊎◌, [], All, length, vec_capacity, IsFalse, IsTrue, IfOk, IsSome, None};
+ghost use Rattle.std.specs.Prelude.{option_map};
 ghost use Rattle.njh_turns.specs.Service.{ordered};
 ghost use Rattle.njh_console.specs.Acts.{act_of, orders_after};
-ghost use Rattle.njh_console.specs.Consoles.{staying, with_visitor, AreHeard, AreTended, IsRoundServed, IsSeatAnswered};
+ghost use Rattle.njh_console.specs.Consoles.{AreServed, AreTended, IsRoundServed};
 ghost use Rattle.njh_console.specs.Orders.{no_orders, with_order_given, IsOrderDone};
+ghost use Rattle.njh_console.specs.Seats.{gone_astray, staying, with_visitor, AreReadFrom, IsAsking};
 
 use crate::act::{Act, Taken};
 use crate::desk::Desk;
 use crate::keys::KnownKeys;
 use crate::order_book::OrderBook;
+use crate::queue::{answer_first, count_astray, receive_all, send_all};
 use crate::situation::Situation;
 use crate::visitor::{SEATS, Visitor};
 use njh_command::Replies;
@@ -21,14 +24,13 @@ use std::io;
 use std::io::{Read, Write};
 use std::marker::Model;
 
-/// The visitors, whose turn it is, and the orders.
+/// The visitors, and the orders.
 #[derive(Drop)]
 pub struct Console<V: Read + Write + Drop> {
     alloc: Global,
     keys: RandomState,
+    /// The visitors, the first of whom is looked at next.
     seats: Vec<Visitor<V>>,
-    /// The place of the visitor whose turn it is.
-    turn: usize,
     /// A seat became free since the last read.
     has_freed: bool,
     book: OrderBook,
@@ -55,7 +57,6 @@ impl<V: Read + Write + Drop> Console<V> {
             alloc,
             keys: RandomState::new(&KnownKeys)?,
             seats: Vec::with_capacity(alloc, SEATS)?,
-            turn: 0,
             has_freed: false,
             book: OrderBook::new(alloc)?,
         })
@@ -82,7 +83,7 @@ impl<V: Read + Write + Drop> Console<V> {
 
     /// Reads once from each visitor.
     pub fn receive(&mut self, now: u64)
-        ensures seats { AreHeard now self.old.seats self.new.seats }
+        ensures seats { AreReadFrom V.remaining now self.old.seats self.new.seats }
         ensures orders { self.new.orders ≡ self.old.orders }
     {
         self.has_freed = false;
@@ -90,20 +91,19 @@ impl<V: Read + Write + Drop> Console<V> {
     }
 
     /// Whether a request may have come that wasn't answered.
-    pub fn has_request(&self) -> bool {
-        self.seats.iter().any(|visitor| visitor.is_unanswered())
+    pub fn has_request(&self) -> bool
+        ensures { IsFalse result → All (λ seat. ¬ (IsAsking seat.history)) self.now.seats }
+    {
+        self.seats.iter().any(|visitor| visitor.may_ask())
     }
 
-    /// Answers at most one request, and takes what it orders; what is the service's own to do is
+    /// Answers a request, if one came, and takes what it orders; what is the service's own to do is
     /// the answer.
     pub fn serve(&mut self, situation: &Situation<'_>) -> Option<Act>
         ensures served { IsRoundServed situation.now self.old self.new result }
         ensures given { self.new.orders.given ≡ self.old.orders.given }
     {
-        let Some(place) = self.next_place() else {
-            return None;
-        };
-        let taken = self.answer(place, situation);
+        let taken = self.answer(situation);
         self.take(taken)
     }
 
@@ -124,41 +124,26 @@ impl<V: Read + Write + Drop> Console<V> {
         }
     }
 
-    /// The place of the visitor who is answered next.
-    fn next_place(&self) -> Option<usize>
-        ensures { IfSome result (λ place. place < length self.now.seats) }
-    {
-        let count = self.seats.len();
-        for step in 0..count {
-            let place = (self.turn % count + step) % count;
-            if self.seats[place].is_unanswered() {
-                return Some(place);
-            }
-        }
-        None
-    }
-
-    /// Answers the visitor at a place. What is ordered.
-    fn answer(&mut self, place: usize, situation: &Situation<'_>) -> Taken
-        requires { place < length self.old.seats }
-        ensures answered { IsSeatAnswered situation.now place self.old self.new result }
+    /// Answers the first visitor whose request can be answered. What is ordered.
+    fn answer(&mut self, situation: &Situation<'_>) -> Taken
+        ensures seats { AreServed situation.now self.old.orders self.old.seats self.new.seats result }
         ensures orders { self.new.orders ≡ self.old.orders }
     {
         let mut desk = Desk::new(self.alloc, situation, &self.book);
-        self.seats[place].answer(&mut desk);
-        let taken = desk.into_taken();
-        self.turn = place + 1;
-        taken
+        answer_first(&mut self.seats, &mut desk);
+        desk.into_taken()
     }
 
     /// Writes once to each visitor, and lets go those who are done, whose sockets failed, or who
-    /// were silent for five seconds.
-    pub fn tend(&mut self, now: u64)
-        ensures seats { AreTended now self.old.seats self.new.seats }
+    /// were silent for five seconds. How many of those had sent what is no request of HTTP.
+    pub fn tend(&mut self, now: u64) -> usize
+        ensures seats { AreTended now self.old.seats self.new.seats result }
         ensures orders { self.new.orders ≡ self.old.orders }
     {
         send_all(&mut self.seats, now);
+        let astray = count_astray(&self.seats, now);
         self.let_go(now);
+        astray
     }
 
     /// Lets go those who are done, whose sockets failed, or who were silent for too long.
@@ -190,9 +175,12 @@ impl<V: Read + Write + Drop> Console<V> {
         self.book.order_done(answer, replies);
     }
 
-    /// When it wants to be looked at next.
-    pub fn moment(&self, now: u64) -> u64 {
-        if self.has_freed || self.book.has_order() {
+    /// When it wants to be looked at next: now, if an order or a request waits.
+    pub fn moment(&self, now: u64) -> u64
+        ensures order { IsSome self.now.orders.waiting → result ≡ now }
+        ensures request { ¬ (All (λ seat. ¬ (IsAsking seat.history)) self.now.seats) → result ≡ now }
+    {
+        if self.has_freed || self.book.has_order() || self.has_request() {
             return now;
         }
         let mut first = u64::MAX;
@@ -200,25 +188,5 @@ impl<V: Read + Write + Drop> Console<V> {
             first = first.min(visitor.moment(now));
         }
         first
-    }
-}
-
-/// Reads once from each visitor.
-fn receive_all<V: Read + Write + Drop>(seats: &mut Vec<Visitor<V>>, now: u64)
-    ensures heard { AreHeard now seats.old.items seats.new.items }
-    ensures capacity { vec_capacity seats.new ≡ vec_capacity seats.old }
-{
-    for place in 0..seats.len() {
-        seats[place].receive(now);
-    }
-}
-
-/// Writes once to each visitor.
-fn send_all<V: Read + Write + Drop>(seats: &mut Vec<Visitor<V>>, now: u64)
-    ensures heard { AreHeard now seats.old.items seats.new.items }
-    ensures capacity { vec_capacity seats.new ≡ vec_capacity seats.old }
-{
-    for place in 0..seats.len() {
-        seats[place].send(now);
     }
 }

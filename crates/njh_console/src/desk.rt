@@ -1,30 +1,26 @@
 //! What answers requests of HTTP.
 
-ghost use Rattle.std.specs.Prelude.{◌≡◌, ◌<◌, length, IfOk, OnOk};
-ghost use Rattle.http.specs.StatusCode.{IsStatusCode};
-ghost use Rattle.http_server.specs.Response.{IsBlank};
-ghost use Rattle.serde_json.specs.View.{view};
+ghost use Rattle.std.specs.Prelude.{◌≡◌, ◌<◌, length, IfOk};
 ghost use Rattle.njh_table.specs.TableFile.{customer_at};
 ghost use Rattle.njh_request.specs.Named.{IsReadOf};
 ghost use Rattle.njh_answer.specs.Answers.{told_of};
 ghost use Rattle.njh_console.specs.Acts.{is_order, taken_by, IsDeedOf, IsSound};
 ghost use Rattle.njh_console.specs.Desks.{new_desk, told_at};
-ghost use Rattle.njh_console.specs.Rounds.{asked_by, reply_to, IsWritten};
+ghost use Rattle.njh_console.specs.Rounds.{asked_by, reply_to};
 ghost use Rattle.njh_console.specs.declared.act.Taken.TheVariants as taken;
 
 use crate::act::{Act, Taken};
 use crate::order_book::OrderBook;
+use crate::page::{Page, page_of, write_text};
 use crate::situation::Situation;
-use bytes::{BufMut, Bytes};
-use http::header::{CONTENT_TYPE, HeaderValue};
-use http::{Request, StatusCode};
+use bytes::Bytes;
+use http::Request;
 use http_server::{Response, Service};
 use njh_answer::{Answer, Deed, answer_request, refuses};
 use njh_customer::{GivenOrder, OrderText};
 use njh_request::{Refusal, Text};
 use njh_table::Tables;
 use njh_turns::NewOrder;
-use serde_json::Value;
 use std::alloc::{AllocError, Global};
 use std::marker::Model;
 
@@ -64,6 +60,13 @@ impl<'a> Desk<'a> {
             is_done: false,
             taken: Taken::Nothing,
         }
+    }
+
+    /// Whether a request of this round was answered.
+    pub(crate) fn is_done(&self) -> bool
+        ensures { result ≡ self.now.done }
+    {
+        self.is_done
     }
 
     /// What was ordered.
@@ -145,37 +148,16 @@ impl Service for Desk<'_> {
         request: &Request<Bytes>,
         response: &mut Response,
     ) -> Result<(), AllocError> {
-        let Answer {
-            status,
-            value,
-            deed,
-        } = self.answer_in_turn(request)?;
+        let answer = self.answer_in_turn(request)?;
+        let Page { status, text, deed } = page_of(self.alloc, answer)?;
         let taken = taken_of(self.alloc, self.situation.tables(), deed)?;
-        write_answer(self.alloc, status, &value, response)?;
+        write_text(status, text.as_str(), response)?;
         if !self.is_done {
             self.taken = taken;
             self.is_done = true;
         }
         Ok(())
     }
-}
-
-/// Writes a status and JSON.
-fn write_answer(
-    alloc: Global,
-    status: u16,
-    value: &Value,
-    response: &mut Response,
-) -> Result<(), AllocError>
-    requires blank { IsBlank response.old }
-    requires known { IsStatusCode status }
-    ensures { OnOk result (IsWritten status (view value.now) response.new) }
-{
-    let text = value.to_string(alloc)?;
-    response.add_header(CONTENT_TYPE, HeaderValue::from_static("application/json"))?;
-    response.body.put_slice(text.as_bytes())?;
-    response.status = StatusCode::from_u16(status).unwrap_or(StatusCode::INTERNAL_SERVER_ERROR);
-    Ok(())
 }
 
 /// Whether it is an order for a customer.
@@ -205,6 +187,7 @@ fn taken_of(alloc: Global, tables: &Tables, deed: Deed) -> Result<Taken, AllocEr
         }
         Deed::Line(line, wish) => Ok(Taken::Act(Act::Line(line, wish))),
         Deed::Stop(moment) => Ok(Taken::Act(Act::Stop(moment))),
+        Deed::Refused(why) => Ok(Taken::Act(Act::Refused(why))),
     }
 }
 

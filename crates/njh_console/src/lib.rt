@@ -8,7 +8,10 @@ mod console;
 mod desk;
 mod keys;
 mod order_book;
+mod page;
+mod queue;
 mod situation;
+mod talk;
 mod visitor;
 
 pub use act::{Act, Taken};

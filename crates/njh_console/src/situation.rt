@@ -2,7 +2,7 @@
 
 ghost use Rattle.std.specs.Prelude.{◌≡◌};
 
-use njh_answer::{LineView, OrderRecord, ServiceView, Views};
+use njh_answer::{Arrivals, LineView, OrderRecord, ServiceView, Views};
 use njh_hub::Hub;
 use njh_table::Tables;
 use std::marker::Model;
@@ -14,6 +14,7 @@ pub struct Situation<'a> {
     tables: &'a Tables,
     service: &'a ServiceView,
     lines: &'a [LineView],
+    arrivals: &'a Arrivals,
 }
 
 impl<'a> Model for Situation<'a> {
@@ -26,27 +27,32 @@ impl<'a> Model for Situation<'a> {
       tables = situation.tables.now;
       service = situation.service.now;
       lines = situation.lines.now;
+      arrivals = situation.arrivals.now;
     } };
 }
 
 impl<'a> Situation<'a> {
-    /// The hub, its tables, what the service knows of itself, and what it knows of its lines.
+    /// The hub, its tables, what the service knows of itself, what it knows of its lines, and when
+    /// it saw files come.
     pub fn new(
         hub: &'a Hub,
         tables: &'a Tables,
         service: &'a ServiceView,
         lines: &'a [LineView],
+        arrivals: &'a Arrivals,
     ) -> Situation<'a>
         ensures parts { result.parts ≡ hub.now }
         ensures tables { result.tables ≡ tables.now }
         ensures service { result.service ≡ service.now }
         ensures lines { result.lines ≡ lines.now }
+        ensures arrivals { result.arrivals ≡ arrivals.now }
     {
         Situation {
             hub,
             tables,
             service,
             lines,
+            arrivals,
         }
     }
 
@@ -63,6 +69,7 @@ impl<'a> Situation<'a> {
         ensures tables { result.tables.now ≡ self.now.tables }
         ensures service { result.service.now ≡ self.now.service }
         ensures lines { result.lines.now ≡ self.now.lines }
+        ensures arrivals { result.arrivals.now ≡ self.now.arrivals }
         ensures orders { result.orders.now ≡ orders.now }
         ensures next { result.next ≡ next }
     {
@@ -71,6 +78,7 @@ impl<'a> Situation<'a> {
             tables: self.tables,
             service: self.service,
             lines: self.lines,
+            arrivals: self.arrivals,
             orders,
             next,
         }

@@ -1,13 +1,13 @@
 //! Who visits the console.
 
-ghost use Rattle.std.specs.Prelude.{◌≡◌, ◌+◌, min};
-ghost use Rattle.http_server.specs.Connection.{history};
+ghost use Rattle.std.specs.Prelude.{◌≡◌, ◌+◌, min, IsFalse};
 ghost use Rattle.http_server.specs.Exchange.{Calls};
-ghost use Rattle.http_server.specs.History.{IsQuiet};
-ghost use Rattle.njh_console.specs.Consoles.{is_done, is_open, leaves, new_seat, IsHeard};
+ghost use Rattle.http_server.specs.History.{IsQuiet, IsServed};
+ghost use Rattle.njh_console.specs.Seats.{config, is_astray, is_bad_request, is_done, is_open, leaves, new_seat};
+ghost use Rattle.njh_console.specs.Seats.{IsAsking, IsHeldUp, IsReadFrom, IsSentTo};
 
-use http_server::{Config, Connection, Service, State};
-use http1::Limits;
+use crate::talk::Talk;
+use http_server::{Reason, Refusal, Service, State};
 use std::alloc::Global;
 use std::hash::RandomState;
 use std::io::{ErrorKind, Read, Write};
@@ -19,43 +19,27 @@ pub const SEATS: usize = 4;
 /// For how many milliseconds a visitor may be silent.
 pub const SILENCE: u64 = 5_000;
 
-/// A request has at most so many bytes of head and of body. While an answer waits to go out no
-/// request is read: so one is answered a round.
-const CONFIG: Config = Config {
-    limits: Limits {
-        max_head_len: 4_096,
-        max_extensions_len: 64,
-        max_trailers_len: 64,
-    },
-    max_body_len: 4_096,
-    max_pending: 0,
-    read_size: 4_096,
-};
-
 /// A visitor. Moments are milliseconds on the service's clock.
 #[derive(Drop)]
 pub(crate) struct Visitor<V: Drop> {
-    connection: Connection,
+    talk: Talk,
     socket: V,
     /// When a byte last came or went.
     last: u64,
     /// Its socket may have more to read: the last read gave something.
     is_unread: bool,
-    /// Something came or went since it was last answered.
-    is_unanswered: bool,
     /// Its socket failed.
     has_failed: bool,
 }
 
 impl<V: Drop> Model for Visitor<V> {
-    ghost use Rattle.http_server.specs.Connection.{history};
-    ghost use Rattle.njh_console.specs.Consoles.{Seat};
+    ghost use Rattle.njh_console.specs.Seats.{Seat};
 
     ghost Value = { Seat V };
 
     ghost view = { λ visitor. record {
       socket = visitor.socket;
-      history = history visitor.connection;
+      history = visitor.talk;
       last = visitor.last;
       failed = visitor.has_failed;
     } };
@@ -67,64 +51,63 @@ impl<V: Read + Write + Drop> Visitor<V> {
         ensures { result ≡ new_seat socket now }
     {
         Visitor {
-            connection: Connection::new(alloc, keys, CONFIG),
+            talk: Talk::new(alloc, keys),
             socket,
             last: now,
             is_unread: true,
-            is_unanswered: false,
             has_failed: false,
         }
     }
 
     /// Whether a request of its may have come that wasn't answered.
-    pub(crate) fn is_unanswered(&self) -> bool {
-        self.is_unanswered
+    pub(crate) fn may_ask(&self) -> bool
+        ensures { IsFalse result → ¬ (IsAsking self.now.history) }
+    {
+        self.talk.may_ask()
     }
 
     /// Reads once, if it may send something now.
     pub(crate) fn receive(&mut self, now: u64)
-        ensures { IsHeard now self.old self.new }
+        ensures { IsReadFrom V.remaining now self.old self.new }
     {
         self.is_unread = false;
-        if !self.connection.wants_read() {
+        if !self.talk.wants_read() {
             return;
         }
-        match self.connection.read_from(&mut self.socket) {
+        match self.talk.read_from(&mut self.socket) {
             Ok(count) => {
                 self.last = now;
                 self.is_unread = count > 0;
-                self.is_unanswered = true;
             }
-            Err(error) => self.has_failed = !is_wait(error.kind()),
+            Err(error) => self.has_failed = self.has_failed || !is_wait(error.kind()),
         }
     }
 
     /// Answers what came whole.
     pub(crate) fn answer<D: Service>(&mut self, desk: &mut D)
         ensures calls { Calls D.answers desk.old desk.new self.old.history.calls self.new.history.calls }
+        ensures asked { IsAsking self.old.history → self.new.history.calls ≡ self.old.history.calls
+            → IsHeldUp self.new.history }
+        ensures served { ∥ IsServed config self.new.history ∥₁ }
         ensures quiet { IsQuiet self.old.history self.new.history }
         ensures socket { self.new.socket ≡ self.old.socket }
         ensures last { self.new.last ≡ self.old.last }
         ensures failed { self.new.failed ≡ self.old.failed }
     {
-        self.is_unanswered = false;
-        self.connection.advance(desk);
+        self.talk.answer(desk);
     }
 
     /// Writes once, if something waits to go out.
     pub(crate) fn send(&mut self, now: u64)
-        ensures { IsHeard now self.old self.new }
+        ensures { IsSentTo now self.old self.new }
     {
-        if !self.connection.wants_write() {
+        if !self.talk.wants_write() {
             return;
         }
-        match self.connection.write_to(&mut self.socket) {
+        match self.talk.write_to(&mut self.socket) {
             Ok(0) => {}
-            Ok(_) => {
-                self.last = now;
-                self.is_unanswered = true;
-            }
-            Err(error) => self.has_failed = !is_wait(error.kind()),
+            Ok(_) => self.last = now,
+            Err(error) => self.has_failed = self.has_failed || !is_wait(error.kind()),
         }
     }
 
@@ -135,11 +118,21 @@ impl<V: Read + Write + Drop> Visitor<V> {
         self.is_done() || self.has_failed || self.end_of_patience() <= now
     }
 
+    /// Whether its connection was closed since what came is no request of HTTP that is read here.
+    pub(crate) fn is_astray(&self) -> bool
+        ensures { result ≡ is_astray self.now.history.state }
+    {
+        match self.talk.state() {
+            State::Closing(Reason::Refused(why)) => is_bad_request(why),
+            _ => false,
+        }
+    }
+
     /// Whether HTTP has nothing more to do there.
     fn is_done(&self) -> bool
         ensures { result ≡ is_done self.now.history }
     {
-        !is_open(self.connection.state()) && !self.connection.wants_write()
+        !is_open(self.talk.state()) && !self.talk.wants_write()
     }
 
     /// When it is let go if it stays silent.
@@ -151,7 +144,7 @@ impl<V: Read + Write + Drop> Visitor<V> {
 
     /// When it wants to be looked at next.
     pub(crate) fn moment(&self, now: u64) -> u64 {
-        if self.is_unread || self.is_unanswered {
+        if self.is_unread {
             now
         } else {
             self.end_of_patience()
@@ -165,6 +158,16 @@ fn is_open(state: State) -> bool
     match state {
         State::Open => true,
         _ => false,
+    }
+}
+
+/// Whether what came was at fault, and not what was to be answered.
+fn is_bad_request(why: Refusal) -> bool
+    ensures { result ≡ is_bad_request why }
+{
+    match why {
+        Refusal::InvalidResponse(_) => false,
+        _ => true,
     }
 }
 

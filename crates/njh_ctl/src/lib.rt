@@ -8,6 +8,7 @@ mod question;
 mod request_text;
 mod session;
 mod shown;
+mod shown_lines;
 mod talk;
 
 pub use fault::CtlFault;

@@ -10,13 +10,10 @@ use std::alloc::{AllocError, Global};
 /// What stands above customers.
 pub(crate) const CUSTOMERS: &str = "CUSTOMER  QUOTA   USED  READY   HELD REFUSED SENDING ARRIVED\n";
 
-/// What stands above lines.
-pub(crate) const LINES: &str =
-    "CUSTOMER LINE     NODE     ROLE    STATE    SESSION    TURN   SINCE                SITE\n";
-
 /// What stands above files.
 pub(crate) const FILES: &str =
-    "CUSTOMER FILE           KIND STATE    RECORDS BLOCKS OWNER             FOR\n";
+    "CUSTOMER FILE           KIND STATE    RECORDS BLOCKS SINCE                \
+    LINE     OWNER             FOR\n";
 
 /// Which files are told.
 #[derive(Clone, Copy)]
@@ -170,12 +167,32 @@ fn show_file(
         format!(in alloc; "{customer:<8} {name:<14} {kind:<4} {state:<8} "),
     )?;
     add(out, format!(in alloc; "{records:>7} {blocks:>6} "))?;
+    show_way(alloc, file, out)?;
     show_users(
         alloc,
         member(file, "owner")?,
         member(file, "destination")?,
         out,
     )
+}
+
+/// Tells since when a file is there, if that is known, and by which line it goes, if one leads to
+/// its node.
+fn show_way(alloc: Global, file: &Value, out: &mut String) -> Result<(), CtlFault> {
+    let since = came_text(alloc, file)?;
+    let since = since.as_str();
+    let line = file
+        .get("line")
+        .and_then(Value::as_str)
+        .unwrap_or("no route");
+    add(out, format!(in alloc; "{since:<20} {line:<8} "))
+}
+
+fn came_text(alloc: Global, file: &Value) -> Result<String, CtlFault> {
+    match file.get("came").and_then(Value::as_u64) {
+        Some(moment) => moment_text(alloc, moment),
+        None => Ok(String::from_str(alloc, "-")?),
+    }
 }
 
 /// Tells whose a file is, and for whom.
@@ -202,163 +219,6 @@ fn user_text(alloc: Global, user: &Value) -> Result<String, CtlFault> {
     Ok(format!(in alloc; "{node}.{name}")?)
 }
 
-/// Tells of a customer's lines.
-pub(crate) fn show_lines(
-    alloc: Global,
-    customer: &str,
-    lines: &[Value],
-    out: &mut String,
-) -> Result<(), CtlFault> {
-    for line in lines {
-        show_line(alloc, customer, line, out)?;
-        show_streams(alloc, line, out)?;
-    }
-    Ok(())
-}
-
-/// Tells of a line and its session.
-fn show_line(
-    alloc: Global,
-    customer: &str,
-    line: &Value,
-    out: &mut String,
-) -> Result<(), CtlFault> {
-    let name = text_in(line, "name")?;
-    let node = text_in(line, "node")?;
-    let role = text_in(line, "role")?;
-    add(
-        out,
-        format!(in alloc; "{customer:<8} {name:<8} {node:<8} {role:<7} "),
-    )?;
-    let served = member(line, "served")?;
-    let session = member(line, "session")?;
-    if served.is_null() {
-        return add(out, String::from_str(alloc, "not served\n"));
-    }
-    show_session(alloc, served, session, out)
-}
-
-/// Tells of a line's session and connection.
-fn show_session(
-    alloc: Global,
-    served: &Value,
-    session: &Value,
-    out: &mut String,
-) -> Result<(), CtlFault> {
-    let state = text_in(served, "state")?;
-    let site = text_in(served, "site")?;
-    let phase = text_in(session, "phase")?;
-    let turn = text_in(session, "turn")?;
-    let since = since_text(alloc, served)?;
-    let since = since.as_str();
-    add(
-        out,
-        format!(in alloc; "{state:<8} {phase:<10} {turn:<6} {since:<20} {site}\n"),
-    )?;
-    show_troubles(alloc, served, session, out)
-}
-
-/// Since when the session is up, or else there is a connection, if one of the two is so.
-fn since_text(alloc: Global, served: &Value) -> Result<String, CtlFault> {
-    match served.get("up").and_then(Value::as_u64) {
-        Some(moment) => moment_text(alloc, moment),
-        None => match served.get("connected").and_then(Value::as_u64) {
-            Some(moment) => moment_text(alloc, moment),
-            None => Ok(String::from_str(alloc, "-")?),
-        },
-    }
-}
-
-/// Tells why the last session ended, and what had to be sent again.
-fn show_troubles(
-    alloc: Global,
-    served: &Value,
-    session: &Value,
-    out: &mut String,
-) -> Result<(), CtlFault> {
-    let last = text_in(served, "last_end")?;
-    if !last.is_empty() {
-        add(out, format!(in alloc; "  last end: {last}\n"))?;
-    }
-    let refusals = count_in(session, "refusals")?;
-    let tries = count_in(session, "tries")?;
-    if refusals > 0 || tries > 0 {
-        add(
-            out,
-            format!(in alloc; "  tries {tries}, refusals {refusals}\n"),
-        )?;
-    }
-    Ok(())
-}
-
-/// Tells what comes and goes on a line's streams.
-fn show_streams(alloc: Global, line: &Value, out: &mut String) -> Result<(), CtlFault> {
-    let mut number: u64 = 0;
-    for stream in list_in(line, "from_hub")? {
-        number = number.saturating_add(1);
-        show_sender(alloc, number, stream, out)?;
-    }
-    number = 0;
-    for stream in list_in(line, "to_hub")? {
-        number = number.saturating_add(1);
-        show_receiver(alloc, number, stream, out)?;
-    }
-    Ok(())
-}
-
-/// Tells what goes on a stream, if something does.
-fn show_sender(
-    alloc: Global,
-    number: u64,
-    stream: &Value,
-    out: &mut String,
-) -> Result<(), CtlFault> {
-    if stream.is_null() {
-        return Ok(());
-    }
-    let state = text_in(stream, "state")?;
-    match stream.get("name").and_then(Value::as_str) {
-        Some(name) => {
-            let sent = count_in(stream, "sent")?;
-            let records = count_in(stream, "records")?;
-            add(
-                out,
-                format!(in alloc; "  from the hub, stream {number}: {name}, {state}, "),
-            )?;
-            add(out, format!(in alloc; "{sent} of {records} records\n"))
-        }
-        None => add(
-            out,
-            format!(in alloc; "  from the hub, stream {number}: {state}\n"),
-        ),
-    }
-}
-
-/// Tells what comes on a stream, if something does.
-fn show_receiver(
-    alloc: Global,
-    number: u64,
-    stream: &Value,
-    out: &mut String,
-) -> Result<(), CtlFault> {
-    if stream.is_null() {
-        return Ok(());
-    }
-    match stream.get("records").and_then(Value::as_u64) {
-        Some(records) => add(
-            out,
-            format!(in alloc; "  to the hub, stream {number}: {records} records\n"),
-        ),
-        None => {
-            let state = text_in(stream, "state")?;
-            add(
-                out,
-                format!(in alloc; "  to the hub, stream {number}: {state}\n"),
-            )
-        }
-    }
-}
-
 /// Tells what an order answered.
 pub(crate) fn show_replies(alloc: Global, value: &Value, out: &mut String) -> Result<(), CtlFault> {
     for reply in list_in(value, "replies")? {
@@ -371,7 +231,7 @@ pub(crate) fn show_replies(alloc: Global, value: &Value, out: &mut String) -> Re
 }
 
 /// A member, which has to be there.
-fn member<'a>(value: &'a Value, key: &str) -> Result<&'a Value, CtlFault> {
+pub(crate) fn member<'a>(value: &'a Value, key: &str) -> Result<&'a Value, CtlFault> {
     match value.get(key) {
         Some(member) => Ok(member),
         None => Err(CtlFault::NotUnderstood),
@@ -379,7 +239,7 @@ fn member<'a>(value: &'a Value, key: &str) -> Result<&'a Value, CtlFault> {
 }
 
 /// Seconds since 1970, as a date and a time in UTC.
-fn moment_text(alloc: Global, seconds: u64) -> Result<String, CtlFault> {
+pub(crate) fn moment_text(alloc: Global, seconds: u64) -> Result<String, CtlFault> {
     match i64::try_from(seconds) {
         Ok(second) => match Timestamp::from_second(second) {
             Ok(time) => Ok(format!(in alloc; "{time}")?),
@@ -390,7 +250,7 @@ fn moment_text(alloc: Global, seconds: u64) -> Result<String, CtlFault> {
 }
 
 /// Adds a text, unless memory was refused for it.
-fn add(out: &mut String, text: Result<String, AllocError>) -> Result<(), CtlFault> {
+pub(crate) fn add(out: &mut String, text: Result<String, AllocError>) -> Result<(), CtlFault> {
     let text = text?;
     out.push_str(text.as_str())?;
     Ok(())

@@ -9,9 +9,9 @@ use crate::question::{Files, Question};
 use crate::request_text::{RequestText, is_askable};
 use crate::session::{Answer, Session};
 use crate::shown::{
-    CUSTOMERS, FILES, Filter, LINES, show_customers, show_files, show_lines, show_replies,
-    show_status,
+    CUSTOMERS, FILES, Filter, show_customers, show_files, show_replies, show_status,
 };
+use crate::shown_lines::{LINES, show_lines};
 use njh_arguments::{ConsoleCommand, Owner};
 use serde_json::Value;
 use std::alloc::Global;

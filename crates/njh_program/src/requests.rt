@@ -105,6 +105,7 @@ pub(crate) fn carry_out_request<
                     strict,
                 },
                 console,
+                spool,
             };
             return serve_lines(rt, tables, spool, options, log);
         }

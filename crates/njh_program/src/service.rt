@@ -34,6 +34,8 @@ pub struct Options<'a> {
     pub listening: Listening,
     /// Where the operator's console is, if there is one.
     pub console: Option<&'a str>,
+    /// The file in which whole files are kept, if they are.
+    pub spool: Option<&'a str>,
 }
 
 /// Serves the lines of a table file. No file is kept. If the table file can't be read, or its lines
@@ -64,7 +66,7 @@ pub(crate) fn serve_over<F: Files + Net + Clock + AllocGlobal, L: Write + Drop, 
         × AreServedFrom D.opens D.says depot result.1 tables options.entry.turns) }
     ensures refused { IfErr result.0 (AreRefused (Some path.now)) }
 {
-    match tables_and_revision(rt, path) {
+    match tables_and_revision(rt, path, options.spool) {
         Ok((tables, revision)) => match bureau_of(rt, &tables, options.console, log, revision) {
             Ok(bureau) => serve_tables(rt.alloc(), depot, tables, bureau, options),
             Err((failure, log)) => {
@@ -83,12 +85,13 @@ pub(crate) fn serve_over<F: Files + Net + Clock + AllocGlobal, L: Write + Drop, 
 fn tables_and_revision<'a, F: Files + AllocGlobal>(
     rt: &'a F,
     path: &'a str,
+    spool: Option<&'a str>,
 ) -> Result<(Tables, Revision<TableFileSource<'a, F>>), Failure>
     ensures given { IfOk result (λ found. AreGiven (Some path.now) found.0) }
     ensures refused { IfErr result (AreRefused (Some path.now)) }
 {
     // Before the tables are read, so that no change is missed.
-    let source = TableFileSource::new(rt, path);
+    let source = TableFileSource::new(rt, path, spool);
     match tables_twice(rt, path) {
         Ok((tables, known)) => match Revision::new(rt.alloc(), known, source) {
             Ok(revision) => Ok((tables, revision)),

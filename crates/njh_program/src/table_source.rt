@@ -54,16 +54,19 @@ struct Stamp {
 pub struct TableFileSource<'a, R: Files + AllocGlobal> {
     rt: &'a R,
     path: &'a str,
+    spool: Option<&'a str>,
     seen: Option<Stamp>,
 }
 
 impl<'a, R: Files + AllocGlobal> TableFileSource<'a, R> {
     /// The file as it is now. It is to be made before the tables are first read, so that no change
     /// is missed.
-    pub(crate) fn new(rt: &'a R, path: &'a str) -> TableFileSource<'a, R> {
+    /// The hub's files are kept in the file `spool`, if they are kept.
+    pub(crate) fn new(rt: &'a R, path: &'a str, spool: Option<&'a str>) -> TableFileSource<'a, R> {
         TableFileSource {
             rt,
             path,
+            spool,
             seen: stamp_of(rt, path),
         }
     }
@@ -71,6 +74,11 @@ impl<'a, R: Files + AllocGlobal> TableFileSource<'a, R> {
 
 impl<R: Files + AllocGlobal> TableSource for TableFileSource<'_, R> {
     type Fault = ChangeFault;
+
+    fn spool_bytes(&self) -> Option<u64> {
+        let metadata = fs::metadata(self.rt, self.spool?).ok()?;
+        Some(metadata.len())
+    }
 
     /// The tables of the file, or why it gives none, if it isn't as it was at the last look.
     ///

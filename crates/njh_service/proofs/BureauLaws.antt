@@ -5,7 +5,6 @@ use Rattle.std.proofs.lemmas.List.{map-append}
 use Rattle.std.specs.Prelude.{Bool, false, Option, None, slice_get, if◌then◌else◌, ◌&&◌}
 use Rattle.std.specs.Option.{option_map}
 use Rattle.std.specs.declared.net.socket_addr.SocketAddr.{SocketAddr}
-use Rattle.njh_answer.specs.declared.views.LineState.{LineState}
 use Rattle.njh_answer.specs.declared.views.LineState.TheVariants.{Stopped}
 use Rattle.njh_answer.specs.declared.views.LineView.{LineView}
 use Rattle.njh_console.specs.Consoles.{ConsoleState}
@@ -13,12 +12,12 @@ use Rattle.njh_console.specs.declared.act.Act.{Act}
 use Rattle.njh_console.specs.declared.act.Act.TheVariants as act
 use Rattle.njh_hub.specs.WholeHub.{Part}
 use Rattle.njh_request.specs.declared.request.Moment.{Moment}
-use Rattle.njh_table.specs.declared.LineId.{LineId}
-use Rattle.njh_service.specs.Bureaus.{state_of, state_told, stop_after, Attended, IsAsked, IsObeyed}
+use Rattle.njh_service.specs.Bureaus.{lines_told, post_told, stop_after, view_told, Attended, IsAsked, IsObeyed, ToldLine}
 use Rattle.njh_service.specs.LineStates.{is_draining, is_free, line_settled, line_wished, with_state, AreMade}
 use Rattle.njh_service.specs.LineStates.{NoneDrains}
 use Rattle.njh_service.specs.Watching.{served_line, ServedLine, Watched}
 use Rattle.njh_service.specs.declared.post.Post.{Post}
+use Rattle.njh_service.specs.declared.steps.Steps.{Steps}
 use Rattle.njh_service.proofs.OpenedLaws.{made_more}
 
 settled_same : (parts : List Part) (line : ServedLine) → is_draining line.state ≡ false
@@ -38,30 +37,30 @@ pub none_settled : (parts : List Part) (lines : List ServedLine) → NoneDrains 
 none_settled parts lines none place =
     settled_where parts (slice_get lines place) (λ line found. none place line found)
 
--- a line and its state
-abbrev pub state_in : {L C : Type 0} → Post L C → LineId × LineState
-state_in post = (post.line, post.state)
+-- what is told of posts is what is told of their lines, with what was noted of the steps on them
+posts_told : {L C : Type 0} (address_of : L → SocketAddr) (posts : List (Post L C))
+    → map post_told posts ≡ lines_told (map (served_line address_of) posts) (map (λ post. post.steps) posts)
+posts_told address_of [] = refl
+posts_told address_of (post ∷ posts) = ap (λ rest. post_told post ∷ rest) (posts_told address_of posts)
 
--- the states of posts are those of their lines
-states_of : {L C : Type 0} (address_of : L → SocketAddr) (posts : List (Post L C))
-    → map state_in posts ≡ map state_of (map (served_line address_of) posts)
-states_of address_of [] = refl
-states_of address_of (post ∷ posts) = ap (λ rest. state_in post ∷ rest) (states_of address_of posts)
-
-pub states_told : {L C : Type 0} (address_of : L → SocketAddr) (posts : List (Post L C)) (lines : List ServedLine)
-    → map (served_line address_of) posts ≡ lines → map state_in posts ≡ map state_of lines
-states_told address_of posts lines seen = states_of address_of posts ∙ ap (map state_of) seen
+pub all_told : {L C : Type 0} (address_of : L → SocketAddr) (posts : List (Post L C)) (lines : List ServedLine)
+    (steps : List Steps) → map (served_line address_of) posts ≡ lines → map (λ post. post.steps) posts ≡ steps
+    → map post_told posts ≡ lines_told lines steps
+all_told address_of posts lines steps seen noted =
+    posts_told address_of posts
+    ∙ (ap (λ (own : List ServedLine). lines_told own (map (λ post. post.steps) posts)) seen
+    ∙ ap (λ (own : List Steps). lines_told lines own) noted)
 
 -- what is told of the lines so far, and of one more
 pub told_more : {L C : Type 0} (posts : List (Post L C)) (n : ℕ) (post : Post L C) (views new : List LineView)
-    (view : LineView) → n < length posts → map state_told views ≡ map state_in (take n posts)
-    → new ≡ views ++ view ∷ [] → state_told view ≡ state_in post → post ≡ get_or posts n post
-    → map state_told new ≡ map state_in (take (n + 1) posts)
+    (view : LineView) → n < length posts → map view_told views ≡ map post_told (take n posts)
+    → new ≡ views ++ view ∷ [] → view_told view ≡ post_told post → post ≡ get_or posts n post
+    → map view_told new ≡ map post_told (take (n + 1) posts)
 told_more posts n post views new view within so_far pushed told read =
-    made_more state_in posts n post (map state_told views) (map state_told new) within so_far
-    (ap (map state_told) pushed
-    ∙ (map-append state_told views (view ∷ [])
-    ∙ ap (λ (one : LineId × LineState). map state_told views ++ one ∷ []) (told ∙ ap state_in read)))
+    made_more post_told posts n post (map view_told views) (map view_told new) within so_far
+    (ap (map view_told) pushed
+    ∙ (map-append view_told views (view ∷ [])
+    ∙ ap (λ (one : ToldLine). map view_told views ++ one ∷ []) (told ∙ ap post_told read)))
 
 -- ---- what is asked is done
 
@@ -87,6 +86,7 @@ obeyed_after (Some (act.Line id wish)) old between new same stop obeyed = (
 )
 obeyed_after (Some (act.Stop moment)) old between new same stop obeyed =
     (obeyed.0 ∙ same, obeyed.1 ∙ ap (λ (was : Option Moment). stop_after was moment) stop)
+obeyed_after (Some (act.Refused refusal)) old between new same stop obeyed = (obeyed.0 ∙ same, obeyed.1 ∙ stop)
 
 -- the same of a service of which the lines and the end are those of another
 pub obeyed_as : {V : Type 0} (what : Option Act) (old new after : Attended V) → after.exchange ≡ new.exchange
@@ -97,3 +97,4 @@ obeyed_as (Some (act.Line id wish)) old new after same stop obeyed = (
   stop ∙ obeyed.1,
 )
 obeyed_as (Some (act.Stop moment)) old new after same stop obeyed = (same ∙ obeyed.0, stop ∙ obeyed.1)
+obeyed_as (Some (act.Refused refusal)) old new after same stop obeyed = (same ∙ obeyed.0, stop ∙ obeyed.1)

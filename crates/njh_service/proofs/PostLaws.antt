@@ -1,7 +1,7 @@
 -- The lines of posts.
-use Rattle.std.proofs.Common.{◌≡◌, ℕ, ◌<◌, List, length, map, set, get_or, Some, sym, ap, subst, ◌∙◌, arith}
+use Rattle.std.proofs.Common.{◌≡◌, ℕ, ◌<◌, List, length, map, set, get_or, Some, refl, sym, ap, subst, ◌∙◌, arith}
 use Rattle.std.specs.Prelude.{slice_get}
-use Rattle.std.proofs.lemmas.List.{length-map}
+use Rattle.std.proofs.lemmas.List.{get_or-set_same, length-map, length-set}
 use Rattle.std.proofs.lemmas.Option.{slice_get-get_or, slice_get_within, same_Some}
 use Rattle.std.specs.declared.net.ip_addr.IpAddr.{IpAddr}
 use Rattle.std.specs.declared.net.socket_addr.SocketAddr.{SocketAddr}
@@ -68,3 +68,10 @@ post_there line_of posts lines place line seen found =
     let there : place < length lines = slice_get_within lines place line found in
     let many : length lines ≡ length posts = ap length (sym seen) ∙ length-map posts line_of in
     omega (arith, there, many)
+
+-- what is seen at a place is that of the post that is put there
+pub seen_there : {P L : Type 0} (line_of : P → L) (posts : List P) (place : ℕ) (new : P) (line : L)
+    → place < length posts → slice_get (map line_of (set posts place new)) place ≡ Some line → line ≡ line_of new
+seen_there line_of posts place new line there found =
+    line_there line_of (set posts place new) (map line_of (set posts place new)) place new line refl
+    (omega (arith, there, length-set posts place new)) (sym (get_or-set_same posts place new new there)) found

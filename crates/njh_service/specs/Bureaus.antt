@@ -1,5 +1,5 @@
 -- What is seen of a service's attendant: its lines, the operator's console, and when the service ends.
-use Rattle.std.specs.Prelude.{◌≡◌, ◌⊎◌, ⊤, ℕ, Bool, true, List, map, Option, Some, None, slice_get}
+use Rattle.std.specs.Prelude.{◌≡◌, ◌⊎◌, ⊤, ℕ, Bool, true, List, [], ◌∷◌, map, Option, Some, None, slice_get}
 use Rattle.njh_answer.specs.declared.views.LineState.{LineState}
 use Rattle.njh_answer.specs.declared.views.LineView.{LineView}
 use Rattle.njh_console.specs.Consoles.{AreTended, ConsoleState, IsRoundServed}
@@ -13,6 +13,8 @@ use Rattle.njh_table.specs.declared.LineId.{LineId}
 use Rattle.njh_service.specs.LineStates.{is_free, line_wished, AreMade}
 use Rattle.njh_service.specs.Revisions.{opened_tables}
 use Rattle.njh_service.specs.Watching.{ServedLine, Watched}
+use Rattle.njh_service.specs.declared.post.Post.{Post}
+use Rattle.njh_service.specs.declared.steps.Steps.{Steps}
 
 -- The lines and what is seen of them, the console, whether a line may be one that is to be stopped once it is idle,
 -- when the service is to end, if that was ordered, and whether it ends now.
@@ -43,18 +45,39 @@ IsOver (Some WhenIdle) parts lines = AreFree parts lines
 
 -- ---- what the console does
 
--- a line as the console tells it, and as it is
-abbrev pub state_told : LineView → LineId × LineState
-state_told view = (view.line, view.state)
+-- A line: how it is served, and how many NAKs and blocks once more the hub sent on it.
+pub record ToldLine : Type 0 where
+  pub line : LineId
+  pub state : LineState
+  pub naks : ℕ
+  pub repeats : ℕ
 
-abbrev pub state_of : ServedLine → LineId × LineState
-state_of line = (line.id, line.state)
+-- as the console tells it
+abbrev pub view_told : LineView → ToldLine
+view_told view = record { line = view.line; state = view.state; naks = view.naks; repeats = view.repeats }
 
--- What the console tells of is what is: the hub's value, the tables it was opened with, and each line with its state.
+-- as it is
+abbrev pub line_told : ServedLine → Steps → ToldLine
+line_told line steps =
+    record { line = line.id; state = line.state; naks = steps.naks; repeats = steps.repeats }
+
+abbrev pub post_told : {L C : Type 0} → Post L C → ToldLine
+post_told post =
+    record { line = post.line; state = post.state; naks = post.steps.naks; repeats = post.steps.repeats }
+
+-- each line, with what was noted of its steps
+abbrev pub lines_told : List ServedLine → List Steps → List ToldLine
+lines_told [] steps = []
+lines_told (line ∷ lines) [] = []
+lines_told (line ∷ lines) (own ∷ steps) = line_told line own ∷ lines_told lines steps
+
+-- What the console tells of is what is: the hub's value, the tables it was opened with, and each line with its state
+-- and its counts, and when files came.
 pub record IsSceneOf (parts : List Part) (seen : Watched) (scene : Scene) : Type 0 where
   pub parts_are : scene.parts ≡ parts
   pub tables_are : Some scene.tables ≡ opened_tables seen.tables
-  pub lines_are : map state_told scene.lines ≡ map state_of seen.lines
+  pub lines_are : map view_told scene.lines ≡ lines_told seen.lines seen.steps
+  pub arrivals_are : scene.arrivals ≡ seen.arrivals
 
 -- One visitor at most was answered, by what is, and this was ordered of the service itself, if anything was.
 abbrev pub IsAsked : {V : Type 0} → List Part → Watched → (before after : ConsoleState V) → Option Act → Type 0
@@ -68,13 +91,15 @@ IsObeyed (Some (act.Line id wish)) old new =
     AreMade (line_wished id wish) old.exchange.lines new.exchange.lines × (new.stop ≡ old.stop)
 IsObeyed (Some (act.Stop moment)) old new =
     (new.exchange ≡ old.exchange) × (new.stop ≡ stop_after old.stop moment)
+IsObeyed (Some (act.Refused refusal)) old new = (new.exchange ≡ old.exchange) × (new.stop ≡ old.stop)
 
 -- What a round of the console does: one visitor at most is answered by what is, what that orders of the service itself
--- is done, and each visitor is written to.
+-- is done, and each visitor is written to; so many who leave had sent what is no request.
 pub record IsConsoleServed {V : Type 0} (parts : List Part) (old new : Attended V) : Type 0 where
   pub what : Option Act
   pub between : ConsoleState V
   pub asked : IsAsked parts old.exchange old.console between what
   pub obeyed : IsObeyed what old new
-  pub tended : AreTended old.exchange.now between.seats new.console.seats
+  pub astray : ℕ
+  pub tended : AreTended old.exchange.now between.seats new.console.seats astray
   pub orders : new.console.orders ≡ between.orders

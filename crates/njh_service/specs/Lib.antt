@@ -17,6 +17,7 @@ pub mod Revisions
 pub mod Serving
 pub mod Sessions
 pub mod Severities
+pub mod Steps
 pub mod Telling
 pub mod Waking
 pub mod Watching

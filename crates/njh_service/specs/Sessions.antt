@@ -70,17 +70,29 @@ session_change true false node end = Some (changes.Down end)
 session_change false false node end = None
 session_change true true node end = None
 
--- what is kept of a line once its session was seen so; if that is down, it ended so
-abbrev pub after_session : Label → SessionView → SessionEnd → (now : ℕ) → Label
-after_session label session end now = record label {
-  in_session = is_session session.phase;
-  tries_since = tries_since label.tries_since session.tries now;
+-- whether a line was in a session that may still be on its way up: not once one that was up isn't any more
+abbrev pub in_session_after : (in_session was_up is_up : Bool) → Bool
+in_session_after in_session true false = false
+in_session_after in_session true true = in_session
+in_session_after in_session false is_up = in_session
+
+-- what is kept of a line once a step left its session so; if that is down, it ended so
+abbrev pub after_step : Label → SessionView → SessionEnd → (now : ℕ) → Label
+after_step label session end now = record label {
+  in_session = in_session_after label.in_session label.up (is_up session.phase);
   no_session_since = no_session_since label.no_session_since label.up (is_up session.phase) now;
   up_since = up_since label.up_since label.up (is_up session.phase) now;
   last_end = end_after label.last_end label.up (is_up session.phase) end;
   up = is_up session.phase;
-  refusals = session.refusals;
   news = with_change (session_change label.up (is_up session.phase) label.node end) label.news;
+}
+
+-- what is kept of it once its session was seen so at the end of a turn
+abbrev pub after_session : Label → SessionView → SessionEnd → (now : ℕ) → Label
+after_session label session end now = record (after_step label session end now) {
+  in_session = is_session session.phase;
+  tries_since = tries_since label.tries_since session.tries now;
+  refusals = session.refusals;
 }
 
 -- when its listener is looked at then

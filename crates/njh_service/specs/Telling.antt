@@ -1,5 +1,6 @@
 -- What is told of files that a line's streams are about no more.
-use Rattle.std.specs.Prelude.{ℕ, Bool, true, false, List, Option, Some, None, option_map, option_and_then, slice_get}
+use Rattle.std.specs.Prelude.{ℕ, ◌+◌, ◌-◌, ◌==◌, min, Bool, true, false, List, Option, Some, None, option_map, option_and_then}
+use Rattle.std.specs.Prelude.{slice_get}
 use Rattle.njh_hub.specs.Views.{file_summary, whole_file_on}
 use Rattle.njh_hub.specs.WholeHub.{Part}
 use Rattle.njh_hub.specs.declared.file_summary.FileSummaryView.{FileSummaryView}
@@ -8,12 +9,24 @@ use Rattle.njh_stream.specs.declared.receiver.Receiver.{Receiver}
 use Rattle.njh_stream.specs.declared.receiver.Receiver.TheVariants as receiving
 use Rattle.njh_stream.specs.declared.sender.Sender.{Sender}
 use Rattle.njh_stream.specs.declared.sender.Sender.TheVariants as sending
+use Rattle.njh_request.specs.declared.refusal.Refusal.{Refusal as RequestRefusal}
+use Rattle.njh_request.specs.declared.refusal.Refusal.TheVariants.{OrderWaits}
 use Rattle.njh_spool.specs.declared.State.{State}
 use Rattle.njh_spool.specs.declared.State.TheVariants.{Ready, Held, Refused, Sending}
+use Rattle.njh_service.specs.declared.customers.Came.{Came}
+use Rattle.njh_service.specs.declared.customers.FileCount.{FileCount}
 use Rattle.njh_service.specs.declared.entry.FileLine.{FileLine}
 use Rattle.njh_service.specs.declared.notice_line.NoticeLine.{NoticeLine}
 use Rattle.njh_service.specs.declared.entry.LogEvent.{LogEvent}
 use Rattle.njh_service.specs.declared.entry.LogEvent.TheVariants as events
+
+-- What came between two counts of a customer's files: none has left if as many more are there as came, and then these
+-- are its newest.
+abbrev pub came_between : FileCount → FileCount → Came
+came_between was now = record {
+  files = min (now.arrived - was.arrived) now.there;
+  are_there = min (was.there + (now.arrived - was.arrived)) 18446744073709551615 == now.there;
+}
 
 -- a file that came in is the customer's now, and is held or waits
 abbrev pub arrival : State → FileLine → LogEvent
@@ -43,6 +56,11 @@ departure None false line = None
 abbrev pub state_on : (customer file : ℕ) → List Part → Option State
 state_on customer file parts =
     option_map (λ (shown : FileSummaryView). shown.state) (option_map file_summary (whole_file_on customer file parts))
+
+-- A request of the operator's that was refused is told, unless it only came before its time.
+abbrev pub refusal_told : RequestRefusal → Option LogEvent
+refusal_told OrderWaits = None
+refusal_told refusal = Some (events.RequestRefused refusal)
 
 -- ---- what streams are about
 

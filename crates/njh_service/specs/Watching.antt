@@ -9,10 +9,12 @@ use Rattle.njh_service.specs.Opened.{site_kept, site_on}
 use Rattle.njh_service.specs.Revisions.{KnownTables}
 use Rattle.njh_service.specs.declared.attention.Watch.{Watch}
 use Rattle.njh_service.specs.declared.endpoints.Endpoint.{Endpoint}
+use Rattle.njh_answer.specs.Arrivals.{Seen}
 use Rattle.njh_answer.specs.declared.views.LineState.{LineState}
 use Rattle.njh_answer.specs.declared.views.LineState.TheVariants.{Started}
 use Rattle.njh_service.specs.declared.post.Post.{Post}
 use Rattle.njh_service.specs.declared.site.Site.{Site}
+use Rattle.njh_service.specs.declared.steps.Steps.{Steps}
 use Rattle.njh_service.specs.declared.traffic.Traffic.{Traffic}
 
 -- A line that is served: which it is, the address and the port on which it listens, or the peer that it dials, and how
@@ -31,18 +33,20 @@ abbrev pub served_on : IpAddr → Endpoint → ServedLine
 served_on address endpoint =
     record { id = endpoint.line; site = site_on address endpoint.site; state = Started }
 
--- What is seen of the attendant: the lines that it serves, by their places, what it noted of each, how many sign-ons
--- were refused on each as its session was seen last, what is ready of each, when each is looked at, until when it
--- waits, the time, and the tables of the hub.
+-- What is seen of the attendant: the lines that it serves, by their places, what it noted of each, and of the steps
+-- on it, how many sign-ons were refused on each as its session was seen last, what is ready of each, when each is
+-- looked at, until when it waits, the time, the tables of the hub, and when files came.
 pub record Watched : Type 0 where
   pub lines : List ServedLine
   pub noted : List Traffic
+  pub steps : List Steps
   pub refusals : List ℕ
   pub ready : List Readiness
   pub watches : List Watch
   pub next : ℕ
   pub now : ℕ
   pub tables : Option KnownTables
+  pub arrivals : Seen
 
 -- ---- what a round looks at
 

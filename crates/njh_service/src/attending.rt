@@ -13,6 +13,10 @@ use std::io::Write;
 impl<N: Network + Drop, L: Write + Drop, S: TableSource + Drop> Attendant<LineWire<N::Connection>>
     for Bureau<N, L, S> {
     ghost use Rattle.std.specs.Prelude.{◌≡◌};
+    ghost use Rattle.njh_service.specs.Steps.{HasNoted};
+
+    // It noted the session of the line at a place as the step left it, and the frame that it sent.
+    ghost saw = { λ bureau place parts frame. HasNoted bureau.exchange place parts frame };
 
     // It waits to hear of the order that its console gave.
     ghost waits = { λ bureau order. bureau.console.orders.given ≡ order };
@@ -55,6 +59,10 @@ impl<N: Network + Drop, L: Write + Drop, S: TableSource + Drop> Attendant<LineWi
 
     fn prompts(&self, place: usize, hub: &Hub) -> bool {
         self.exchange.prompts(place, hub)
+    }
+
+    fn stepped(&mut self, place: usize, hub: &Hub, frame: &[u8]) {
+        self.follow(place, hub, frame);
     }
 
     fn after(&mut self, hub: &Hub, wires: &mut [LineWire<N::Connection>]) {

@@ -5,11 +5,12 @@ ghost use Rattle.njh_turns.specs.Service.{AreStill};
 ghost use Rattle.njh_wire.specs.Tally.{IsTallied};
 ghost use Rattle.njh_table.specs.TableFile.{HasLine};
 ghost use Rattle.njh_console.specs.Orders.{IsOrderDone};
-ghost use Rattle.njh_service.specs.Bureaus.{state_of, state_told, stop_after, IsAsked, IsConsoleServed};
+ghost use Rattle.njh_service.specs.Bureaus.{lines_told, stop_after, view_told, IsAsked, IsConsoleServed};
 ghost use Rattle.njh_service.specs.Bureaus.{IsObeyed, IsOver};
 ghost use Rattle.njh_service.specs.Endpoints.{endpoints_of};
 ghost use Rattle.njh_service.specs.LineStates.{line_settled, AreMade};
 ghost use Rattle.njh_service.specs.Opened.{IsApart};
+ghost use Rattle.njh_service.specs.Steps.{HasNoted};
 ghost use Rattle.njh_service.specs.Watching.{served_on};
 
 use crate::endpoints::Endpoint;
@@ -193,6 +194,16 @@ impl<N: Network + Drop, L: Write + Drop, S: TableSource + Drop> Bureau<N, L, S> 
         }
     }
 
+    /// Notes what a step on the line at this place left, which sent this frame.
+    pub(crate) fn follow(&mut self, place: usize, hub: &Hub, frame: &[u8])
+        ensures noted { HasNoted self.new.exchange place hub.now frame.now }
+        ensures lines { self.new.exchange.lines ≡ self.old.exchange.lines }
+        ensures console { self.new.console ≡ self.old.console }
+        ensures stop { self.new.stop ≡ self.old.stop }
+    {
+        self.exchange.follow(place, hub, frame);
+    }
+
     /// Tells and notes what came of an order. By it the lines of the customer may have something to
     /// send.
     pub(crate) fn order_done(
@@ -257,7 +268,8 @@ impl<N: Network + Drop, L: Write + Drop, S: TableSource + Drop> Bureau<N, L, S> 
         let now = self.exchange.now();
         let act = self.answer(hub, wires);
         self.obey(act);
-        self.console.tend(now);
+        let astray = self.console.tend(now);
+        self.exchange.tell_astray(astray);
     }
 
     /// Answers at most one request of a visitor, if there is one, and memory for what is to be told.
@@ -279,7 +291,7 @@ impl<N: Network + Drop, L: Write + Drop, S: TableSource + Drop> Bureau<N, L, S> 
     /// Answers at most one request of a visitor, by these lines, if there is memory for what is to
     /// be told of the service.
     fn answer_with(&mut self, hub: &Hub, lines: &[LineView]) -> Option<Act>
-        requires { map state_told lines.now ≡ map state_of self.old.exchange.lines }
+        requires { map view_told lines.now ≡ lines_told self.old.exchange.lines self.old.exchange.steps }
         ensures same { IsObeyed None self.old self.new }
         ensures asked { IsAsked hub.now self.old.exchange self.old.console self.new.console result }
         ensures given { self.new.console.orders.given ≡ self.old.console.orders.given }
@@ -293,7 +305,7 @@ impl<N: Network + Drop, L: Write + Drop, S: TableSource + Drop> Bureau<N, L, S> 
 
     /// Answers at most one request of a visitor.
     fn answer_by(&mut self, hub: &Hub, service: &ServiceView, lines: &[LineView]) -> Option<Act>
-        requires { map state_told lines.now ≡ map state_of self.old.exchange.lines }
+        requires { map view_told lines.now ≡ lines_told self.old.exchange.lines self.old.exchange.steps }
         ensures same { IsObeyed None self.old self.new }
         ensures asked { IsAsked hub.now self.old.exchange self.old.console self.new.console result }
         ensures given { self.new.console.orders.given ≡ self.old.console.orders.given }
@@ -302,7 +314,8 @@ impl<N: Network + Drop, L: Write + Drop, S: TableSource + Drop> Bureau<N, L, S> 
         let Some(tables) = self.exchange.tables() else {
             return None;
         };
-        let situation = Situation::new(hub, tables, service, lines);
+        let arrivals = self.exchange.arrivals();
+        let situation = Situation::new(hub, tables, service, lines, arrivals);
         self.console.serve(&situation)
     }
 
@@ -318,7 +331,11 @@ impl<N: Network + Drop, L: Write + Drop, S: TableSource + Drop> Bureau<N, L, S> 
                 self.drains = true;
                 self.exchange.wish(id, wish);
             }
-            Some(Act::Stop(moment)) => self.stop = Some(stop_after(self.stop, moment)),
+            Some(Act::Stop(moment)) => {
+                self.exchange.tell_stop(moment);
+                self.stop = Some(stop_after(self.stop, moment));
+            }
+            Some(Act::Refused(refusal)) => self.exchange.tell_refusal(refusal),
         }
     }
 }

@@ -1,10 +1,12 @@
 //! What the attendant keeps of each customer.
 
 ghost use Rattle.std.specs.Prelude.{◌≡◌};
+ghost use Rattle.njh_service.specs.Telling.{came_between};
 ghost use Rattle.njh_service.specs.Waking.{is_wanted, look_moment, looked, looked_again, marked, pause_for};
 
 use crate::streams::has_come_near;
 use njh_ebcdic::Name;
+use njh_hub::Hub;
 use njh_table::Tables;
 
 /// How many customers a hub has at most.
@@ -27,10 +29,56 @@ pub(crate) struct Customers {
     most_files: [u32; CUSTOMERS],
     /// What it is called, if that is known.
     names: [Option<Name>; CUSTOMERS],
+    /// How many whole files it had after the step that was followed last, and how many had come.
+    files: [FileCount; CUSTOMERS],
     /// The customer that was given new routes in this round, if one was.
     pub(crate) rerouted: Option<u16>,
     /// Where its lines are.
     rows: [Row; CUSTOMERS],
+}
+
+/// How many whole files a customer has, and how many have come so far.
+#[derive(Clone, Copy, Drop)]
+struct FileCount {
+    there: u32,
+    arrived: u64,
+}
+
+impl FileCount {
+    /// Of a customer of whom no file is known.
+    const NONE: FileCount = FileCount {
+        there: 0,
+        arrived: 0,
+    };
+
+    /// Those of a customer of a hub.
+    fn of(hub: &Hub, customer: u16) -> FileCount {
+        FileCount {
+            there: hub.file_count(customer),
+            arrived: hub.arrived(customer),
+        }
+    }
+
+    /// What came between this count and a later one.
+    fn came_until(self, now: FileCount) -> Came
+        ensures { result ≡ came_between self now }
+    {
+        let files = now.arrived.saturating_sub(self.arrived);
+        let there = u64::from(self.there).saturating_add(files);
+        Came {
+            files: files.min(u64::from(now.there)) as u32,
+            are_there: there == u64::from(now.there),
+        }
+    }
+}
+
+/// How many files of a customer came since its files were counted last.
+#[derive(Clone, Copy, Debug, Drop, PartialEq, Eq)]
+pub(crate) struct Came {
+    /// So many, as far as there are that many.
+    pub(crate) files: u32,
+    /// Whether as many more are there, so that none left.
+    pub(crate) are_there: bool,
 }
 
 /// A customer, where its lines are among those that are served, beside each other, and when they
@@ -120,6 +168,7 @@ impl Customers {
             near_files: [false; CUSTOMERS],
             most_files: [0; CUSTOMERS],
             names: [None; CUSTOMERS],
+            files: [FileCount::NONE; CUSTOMERS],
             rerouted: None,
             rows: [Row::NONE; CUSTOMERS],
         }
@@ -133,6 +182,29 @@ impl Customers {
                 self.most_files[place] = customer.files();
                 self.names[place] = Some(customer.name());
             }
+        }
+    }
+
+    /// Counts the files of each customer, so that those which are there haven't come since.
+    pub(crate) fn count_all(&mut self, hub: &Hub) {
+        for customer in 0..CUSTOMERS {
+            let _there = self.count_files(customer as u16, hub);
+        }
+    }
+
+    /// Counts a customer's files. Answers how many came since they were counted last.
+    pub(crate) fn count_files(&mut self, customer: u16, hub: &Hub) -> Came {
+        let now = FileCount::of(hub, customer);
+        match self.files.get_mut(usize::from(customer)) {
+            Some(files) => {
+                let came = files.came_until(now);
+                *files = now;
+                came
+            }
+            None => Came {
+                files: 0,
+                are_there: true,
+            },
         }
     }
 

@@ -42,6 +42,9 @@ pub(crate) struct Desk<N: Network + Drop, L: Write + Drop> {
     pub(crate) log: Log<L>,
     pub(crate) now: u64,
     pub(crate) customers: Customers,
+    /// How many commands of users were carried out before the step that was followed last, and in
+    /// it.
+    pub(crate) commands: u64,
 }
 
 impl<N: Network + Drop, L: Write + Drop> Desk<N, L> {

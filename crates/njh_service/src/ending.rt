@@ -2,7 +2,7 @@
 
 ghost use Rattle.std.specs.Prelude.{◌≡◌};
 ghost use Rattle.njh_service.specs.Sessions.{is_session, is_up, no_session_since, session_change, session_end};
-ghost use Rattle.njh_service.specs.Sessions.{end_after, refusal_event, tries_end, tries_since, up_since};
+ghost use Rattle.njh_service.specs.Sessions.{end_after, in_session_after, refusal_event, tries_end, tries_since, up_since};
 
 use crate::entry::{LogEvent, SessionChange, SessionEnd};
 use crate::last_frame::LastFrame;
@@ -39,6 +39,13 @@ pub(crate) fn tries_since(was: Option<u64>, tries: u8, now: u64) -> Option<u64>
     } else {
         None
     }
+}
+
+/// Whether a line was in a session that may still be on its way up, now that its session was seen.
+pub(crate) fn in_session_after(in_session: bool, was_up: bool, is_up: bool) -> bool
+    ensures { result ≡ in_session_after in_session was_up is_up }
+{
+    if was_up && !is_up { false } else { in_session }
 }
 
 /// Since when a connection is without a session that is up, now that its session was seen.

@@ -12,6 +12,7 @@ use njh_header::{Destination, FileName, User};
 use njh_hub::{FileSummaryView, HubFault};
 use njh_line::Refusal;
 use njh_record::Kind;
+use njh_request::Moment;
 use std::fmt;
 use std::net::SocketAddr;
 
@@ -63,6 +64,8 @@ pub enum LogEvent {
     /// A file that was coming in on this stream isn't kept: its peer gave it up, its session ended,
     /// or the hub refused it, had nobody to tell, and its rest came at once.
     ComingCutOff(Stream),
+    /// A file came whole on this stream, and left in the same step.
+    FileLeft(Stream),
     /// So many blocks of its quota are used.
     NearQuota(u32, u32),
     /// It has so many whole files, of those that it may have.
@@ -83,6 +86,12 @@ pub enum LogEvent {
     LineDrains,
     /// It is stopped: its connection ends, and it lets none in.
     LineStopped,
+    /// The operator ends the service, at this moment.
+    ServiceEnds(Moment),
+    /// A request at the console was refused.
+    RequestRefused(njh_request::Refusal),
+    /// So many visitors of the console sent what is no request of HTTP.
+    NoRequest(usize),
 }
 
 /// Why a connection failed.
@@ -172,6 +181,9 @@ impl fmt::Display for LogEvent {
                 notice
             ),
             LogEvent::ComingCutOff(stream) => write!(f, "file in cut off: {}", StreamName(*stream)),
+            LogEvent::FileLeft(stream) => {
+                write!(f, "file in and gone at once: {}", StreamName(*stream))
+            }
             LogEvent::NearQuota(used, quota) => write!(f, "{used} of {quota} blocks are used"),
             LogEvent::NearFiles(files, most) => write!(f, "{files} of {most} files are there"),
             LogEvent::NewRoutes => write!(f, "new routes"),
@@ -184,6 +196,15 @@ impl fmt::Display for LogEvent {
             LogEvent::LineStarted => f.write_str("started"),
             LogEvent::LineDrains => f.write_str("is stopped once no file is on its streams"),
             LogEvent::LineStopped => f.write_str("stopped"),
+            LogEvent::ServiceEnds(Moment::AtOnce) => f.write_str("the operator ends the service"),
+            LogEvent::ServiceEnds(Moment::WhenIdle) => {
+                f.write_str("the operator ends the service once no file is on a stream")
+            }
+            LogEvent::RequestRefused(refusal) => {
+                write!(f, "request refused: {}", refusal.sentence())
+            }
+            LogEvent::NoRequest(1) => f.write_str("a request was no HTTP"),
+            LogEvent::NoRequest(visitors) => write!(f, "{visitors} requests were no HTTP"),
         }
     }
 }

@@ -12,9 +12,11 @@ ghost use Rattle.njh_service.specs.Prompting.{IsPrompted};
 ghost use Rattle.njh_service.specs.Attention.{at_once, mark_at, watch_at, IsAnyMarked, IsDue, IsInGroup};
 ghost use Rattle.njh_service.specs.Connecting.{IsConnected};
 ghost use Rattle.njh_service.specs.Sessions.{HasRefusedMore};
+ghost use Rattle.njh_service.specs.Steps.{steps_after, HasNoted};
 ghost use Rattle.njh_service.specs.Watching.{HasBegun, HaveBegun, IsRoundBegun, ServedLine};
 ghost use Rattle.njh_answer.specs.declared.views.LineState.TheVariants.{Started, Stopped};
 ghost use Rattle.njh_service.specs.declared.attention.Watch.{Watch};
+ghost use Rattle.njh_service.specs.declared.steps.Steps.{Steps};
 ghost use Rattle.njh_service.specs.declared.traffic.Traffic.{Traffic};
 
 pub(crate) mod states;
@@ -34,6 +36,7 @@ use crate::ready::{Version, version_of};
 use crate::revision::Revision;
 use crate::site::Site;
 use crate::table_source::TableSource;
+use njh_answer::Arrivals;
 use njh_hub::Hub;
 use njh_table::LineId;
 use njh_wire::{LineWire, Network, Readiness};
@@ -58,6 +61,8 @@ pub struct Exchange<N: Network + Drop, L: Write + Drop, S: TableSource + Drop> {
     next: u64,
     /// The tables, and where new ones come from.
     pub(crate) revision: Revision<S>,
+    /// When files came.
+    pub(crate) arrivals: Arrivals,
 }
 
 impl<N: Network + Drop, L: Write + Drop, S: TableSource + Drop> Model for Exchange<N, L, S> {
@@ -69,12 +74,14 @@ impl<N: Network + Drop, L: Write + Drop, S: TableSource + Drop> Model for Exchan
     ghost view = { λ exchange. record {
       lines = map (served_line N.address_of) exchange.posts.items;
       noted = map (λ post. post.traffic) exchange.posts.items;
+      steps = map (λ post. post.steps) exchange.posts.items;
       refusals = map (λ post. post.label.refusals) exchange.posts.items;
       ready = exchange.ready.items;
       watches = exchange.watches.items;
       next = exchange.next;
       now = exchange.desk.now;
       tables = exchange.revision;
+      arrivals = exchange.arrivals;
     } };
 
     ghost invariant = { λ exchange. AreGrouped (length exchange.posts.items) exchange.ready.items exchange.watches.items
@@ -99,6 +106,7 @@ impl<N: Network + Drop, L: Write + Drop, S: TableSource + Drop> Exchange<N, L, S
                 log,
                 now: 0,
                 customers: Customers::none(),
+                commands: 0,
             },
             posts: Vec::new(alloc),
             ready: Vec::new(alloc),
@@ -106,6 +114,7 @@ impl<N: Network + Drop, L: Write + Drop, S: TableSource + Drop> Exchange<N, L, S
             groups: Vec::new(alloc),
             next: 0,
             revision,
+            arrivals: Arrivals::empty(alloc),
         }
     }
 
@@ -118,6 +127,7 @@ impl<N: Network + Drop, L: Write + Drop, S: TableSource + Drop> Exchange<N, L, S
             watches,
             groups,
             revision,
+            arrivals,
             ..
         } = self;
         drop(posts);
@@ -125,6 +135,7 @@ impl<N: Network + Drop, L: Write + Drop, S: TableSource + Drop> Exchange<N, L, S
         drop(watches);
         drop(groups);
         drop(revision);
+        drop(arrivals);
         desk.into_log()
     }
 
@@ -270,6 +281,22 @@ impl<N: Network + Drop, L: Write + Drop, S: TableSource + Drop> Exchange<N, L, S
             return true;
         };
         post.traffic.prompts(hub, post.line, self.desk.now)
+    }
+
+    /// Notes what a step on the line at this place left, which sent this frame.
+    pub(crate) fn follow(&mut self, place: usize, hub: &Hub, frame: &[u8])
+        ensures lines { self.new.lines ≡ self.old.lines }
+        ensures watches { self.new.watches ≡ self.old.watches }
+        ensures noted { HasNoted self.new place hub.now frame.now }
+        ensures counted { (line : ServedLine) → (was now : Steps) → slice_get self.old.lines place ≡ Some line →
+            slice_get self.old.steps place ≡ Some was → slice_get self.new.steps place ≡ Some now →
+            HasLine hub.now line.id →
+            now ≡ steps_after was (line_view (hub_line line.id hub.now).state) frame.now }
+    {
+        let Some(post) = self.posts.get_mut(place) else {
+            return;
+        };
+        self.desk.follow(post, hub, frame, &mut self.arrivals);
     }
 
     /// Of each line that was looked at, which are all that had a turn, lets out what waits, ends a

@@ -1,8 +1,9 @@
 //! The attendant opens the sockets of its lines.
 
-ghost use Rattle.std.specs.Prelude.{◌≡◌, ◌++◌, map, All, IfOk, OnOk};
+ghost use Rattle.std.specs.Prelude.{◌≡◌, ◌++◌, length, map, All, IfOk, OnOk};
 ghost use Rattle.std.specs.declared.net.ip_addr.IpAddr.{IpAddr};
 ghost use Rattle.njh_table.specs.TableFile.{HasLine};
+ghost use Rattle.njh_answer.specs.Arrivals.{none_seen};
 ghost use Rattle.njh_service.specs.Endpoints.{endpoints_of};
 ghost use Rattle.njh_service.specs.Opened.{IsApart, site_on, site_opened};
 ghost use Rattle.njh_service.specs.Watching.{served_on};
@@ -18,6 +19,7 @@ use crate::refusal::Refusal;
 use crate::severity::Severity;
 use crate::site::Site;
 use crate::table_source::TableSource;
+use njh_answer::Arrivals;
 use njh_table::{LineId, Tables};
 use njh_wire::Network;
 use std::alloc::{AllocError, Global};
@@ -50,17 +52,21 @@ impl<N: Network + Drop, L: Write + Drop, S: TableSource + Drop> Exchange<N, L, S
             );
             return Err(ServeFault::Device);
         }
-        self.know_customers(tables);
+        self.know_customers(alloc, tables)?;
         let sites = self.sites_on(alloc, tables, listening, &endpoints)?;
         self.add_lines(tables, listening.address, &endpoints, sites)?;
         Ok(endpoints)
     }
 
-    /// Knows the customers of tables by their names, which the log has.
-    fn know_customers(&mut self, tables: &Tables)
-        ensures { self.new.lines ≡ self.old.lines }
+    /// Knows the customers of tables by their names, which the log has, and of none of them when a
+    /// file came. Out of memory is the only refusal.
+    fn know_customers(&mut self, alloc: Global, tables: &Tables) -> Result<(), AllocError>
+        ensures lines { self.new.lines ≡ self.old.lines }
+        ensures none { OnOk result (self.new.arrivals ≡ none_seen (length tables.now.customers)) }
     {
         self.desk.customers.know(tables);
+        self.arrivals = Arrivals::none(alloc, tables.customers().len())?;
+        Ok(())
     }
 
     /// The sockets of lines. If one can't be opened the log says why.

@@ -73,8 +73,12 @@ impl fmt::Display for OrderLine<'_> {
     }
 }
 
-/// Writes a user, and the words of an order.
-fn write_words<W: fmt::Write>(f: &mut fmt::Formatter<W>, user: &User, text: &[u8]) -> fmt::Result {
+/// Writes a user, and the words of an order or a command.
+pub(crate) fn write_words<W: fmt::Write>(
+    f: &mut fmt::Formatter<W>,
+    user: &User,
+    text: &[u8],
+) -> fmt::Result {
     write!(f, "{}", user.node)?;
     write_user(f, &user.user)?;
     f.write_str(": ")?;
@@ -84,13 +88,22 @@ fn write_words<W: fmt::Write>(f: &mut fmt::Formatter<W>, user: &User, text: &[u8
 /// Writes the first reply to an order, if it has one, and how many it has.
 fn write_first<W: fmt::Write>(f: &mut fmt::Formatter<W>, replies: &Replies) -> fmt::Result {
     let texts = replies.texts();
-    let Some(first) = texts.first() else {
-        return Ok(());
-    };
+    match texts.first() {
+        Some(first) => write_reply(f, first, texts.len()),
+        None => Ok(()),
+    }
+}
+
+/// Writes the first of so many replies.
+pub(crate) fn write_reply<W: fmt::Write>(
+    f: &mut fmt::Formatter<W>,
+    first: &[u8],
+    replies: usize,
+) -> fmt::Result {
     f.write_str(": ")?;
     write_text(f, first)?;
-    if texts.len() > 1 {
-        write!(f, ", the first of {} replies", texts.len())?;
+    if replies > 1 {
+        write!(f, ", the first of {replies} replies")?;
     }
     Ok(())
 }

@@ -2,22 +2,25 @@
 
 ghost use Rattle.std.specs.Prelude.{◌≡◌, ◌↔◌, IsTrue};
 ghost use Rattle.std.specs.declared.net.socket_addr.SocketAddr.{SocketAddr};
+ghost use Rattle.njh_service.specs.Connecting.{moment_behind};
 ghost use Rattle.njh_service.specs.Dialling.{moment_of_loss};
 ghost use Rattle.njh_service.specs.LineStates.{change_event};
 ghost use Rattle.njh_service.specs.Opened.{site_kept, site_opened};
-ghost use Rattle.njh_service.specs.Sessions.{after_session, moment_seen, HasRefused};
+ghost use Rattle.njh_service.specs.Sessions.{after_session, after_step, moment_seen, HasRefused};
 ghost use Rattle.njh_answer.specs.declared.views.LineState.TheVariants.{Started};
 
 use crate::connecting::kept_until;
 use crate::dial::Dial;
 use crate::door::Door;
 use crate::ending::{
-    end_after, is_session, is_up, no_session_since, session_change, tries_since, up_since,
+    end_after, in_session_after, is_session, is_up, no_session_since, session_change, tries_since,
+    up_since,
 };
 use crate::entry::{LogEvent, SessionEnd};
 use crate::line_state::change_event;
 use crate::news::News;
 use crate::site::Site;
+use crate::steps::Steps;
 use crate::streams::Streams;
 use crate::traffic::Traffic;
 use arrayvec::ArrayString;
@@ -103,20 +106,31 @@ impl Label {
         }
     }
 
-    /// Its session was seen so; if it is down, it ended so.
-    pub(crate) fn see(&mut self, session: SessionView, end: SessionEnd, now: u64)
-        ensures { self.new ≡ after_session self.old session end now }
+    /// A step left its session so; if it is down, it ended so.
+    pub(crate) fn follow(&mut self, session: SessionView, end: SessionEnd, now: u64)
+        ensures { self.new ≡ after_step self.old session end now }
     {
         let is_up = is_up(session.phase);
         self.news
             .add(session_change(self.up, is_up, self.node, end));
-        self.in_session = is_session(session.phase);
-        self.tries_since = tries_since(self.tries_since, session.tries, now);
+        self.in_session = in_session_after(self.in_session, self.up, is_up);
         self.no_session_since = no_session_since(self.no_session_since, self.up, is_up, now);
         self.up_since = up_since(self.up_since, self.up, is_up, now);
         self.last_end = end_after(self.last_end, self.up, is_up, end);
         self.up = is_up;
-        self.refusals = session.refusals;
+    }
+
+    /// Its session was seen so at the end of a turn; if it is down, it ended so.
+    pub(crate) fn see(&mut self, session: SessionView, end: SessionEnd, now: u64)
+        ensures { self.new ≡ after_session self.old session end now }
+    {
+        let tries_since = tries_since(self.tries_since, session.tries, now);
+        let in_session = is_session(session.phase);
+        let refusals = session.refusals;
+        self.follow(session, end, now);
+        self.in_session = in_session;
+        self.tries_since = tries_since;
+        self.refusals = refusals;
     }
 
     /// Whether a sign-on was refused since its session was seen last.
@@ -140,8 +154,10 @@ pub(crate) struct Post<Li: Drop, C: Drop> {
     /// Its door, or its dials.
     pub(crate) site: Site<Door<Li>, Dial<C>>,
     pub(crate) label: Label,
-    /// What its streams were about when it was last looked at.
+    /// What its streams were about after the last step on it.
     pub(crate) streams: Streams,
+    /// What was noted of it at that step, and counted.
+    pub(crate) steps: Steps,
     /// What was noted of it as it was last looked at.
     pub(crate) traffic: Traffic,
 }
@@ -165,6 +181,7 @@ impl<Li: Drop, C: Drop> Post<Li, C> {
             },
             label,
             streams: Streams::idle(),
+            steps: Steps::none(),
             traffic: Traffic::none(),
         }
     }
@@ -179,6 +196,30 @@ impl<Li: Drop, C: Drop> Post<Li, C> {
     {
         let was_up = self.label.up;
         self.label.see(session, end, now);
+        self.wait(was_up);
+    }
+
+    /// A step left its session so; if it is down, it ended so. Its site is looked at as if it was
+    /// seen so.
+    pub(crate) fn follow(&mut self, session: SessionView, end: SessionEnd, now: u64)
+        ensures { self.new ≡ record self.old {
+          label = after_step self.old.label session end now;
+          moment = moment_seen self.old.label session now self.old.moment;
+        } }
+    {
+        let was_up = self.label.up;
+        self.label.follow(session, end, now);
+        self.wait(was_up);
+    }
+
+    /// If its session was up before, its site is looked at ten seconds after that ended, if not
+    /// before.
+    fn wait(&mut self, was_up: bool)
+        ensures { self.new ≡ record self.old {
+          moment =
+              moment_behind was_up self.old.label.up self.old.label.no_session_since self.old.moment;
+        } }
+    {
         if was_up {
             let until = kept_until(self.label.up, self.label.no_session_since);
             self.moment = self.moment.min(until);

@@ -38,6 +38,7 @@ impl<N: Network + Drop, L: Write + Drop, S: TableSource + Drop> Exchange<N, L, S
     pub(crate) fn tell_ready(&mut self, customers: usize, lines: usize, hub: &Hub)
         ensures { self.new ≡ self.old }
     {
+        self.desk.customers.count_all(hub);
         let ready = Ready {
             version: self.version,
             customers,

@@ -120,6 +120,11 @@ impl<S: TableSource + Drop> Revision<S> {
         }
     }
 
+    /// How many bytes the file has that keeps the hub's files, if there is one.
+    pub(crate) fn spool_bytes(&self) -> Option<u64> {
+        self.source.spool_bytes()
+    }
+
     /// The tables of the hub.
     pub(crate) fn known(&self) -> Option<&Known>
         ensures { option_map (λ known. known.now) result ≡ self.now }

@@ -13,8 +13,9 @@ ghost use Rattle.njh_service.specs.Logging.{IsLogged};
 ghost use Rattle.njh_service.specs.News.{after_telling, told_now, IsTold};
 ghost use Rattle.njh_service.specs.Opened.{site_kept};
 ghost use Rattle.njh_service.specs.Prompting.{HasSeen};
-ghost use Rattle.njh_service.specs.Sessions.{barred_until, moment_seen, news_seen, tries_end};
+ghost use Rattle.njh_service.specs.Sessions.{after_step, barred_until, moment_seen, news_seen, session_end, tries_end};
 ghost use Rattle.njh_service.specs.Sessions.{HasRefused, IsInSession, IsReady};
+ghost use Rattle.njh_service.specs.Steps.{steps_after};
 
 use crate::awaited::{awaits_again, due_next, is_told};
 use crate::desk::Desk;
@@ -22,6 +23,7 @@ use crate::ending::{refusal_event, session_end, tries_end};
 use crate::entry::{LogEvent, SessionEnd};
 use crate::post::{Label, Post};
 use crate::traffic::Sight;
+use njh_answer::Arrivals;
 use njh_hub::{Hub, SessionView};
 use njh_line::Phase;
 use njh_table::{LineId, Role};
@@ -86,13 +88,44 @@ impl<N: Network + Drop, L: Write + Drop> Desk<N, L> {
         let end = heard_end(wire, gave_up.is_some() || is_refused);
         let is_early = post.label.in_session && !post.label.up;
         post.see(session, session_end(gave_up, session.last_end), now);
-        self.tell_files(post.line, &post.label, &mut post.streams, hub);
         self.tell_sessions(&mut post.label, now);
         self.tell_awaited(&mut post.label, &session, wire.is_connected());
         if let Some(end) = end {
             self.tell_end(&mut post.label, end, is_early);
             post.lose(now);
         }
+    }
+
+    /// Notes what a step on a line left, which sent this frame: tells what became of its files and
+    /// which commands were carried out, and keeps what is to be told of its session. That one gave up is seen at the end of the turn, by
+    /// what came last.
+    pub(crate) fn follow(
+        &mut self,
+        post: &mut Post<N::Listener, N::Connection>,
+        hub: &Hub,
+        frame: &[u8],
+        arrivals: &mut Arrivals,
+    )
+        ensures line { post.new.line ≡ post.old.line }
+        ensures site { site_kept N.address_of post.new.site ≡ site_kept N.address_of post.old.site }
+        ensures state { post.new.state ≡ post.old.state }
+        ensures traffic { post.new.traffic ≡ post.old.traffic }
+        ensures steps { HasLine hub.now post.old.line →
+            let session = line_view (hub_line post.old.line hub.now).state in
+            post.new.steps ≡ steps_after post.old.steps session frame.now }
+        ensures session { HasLine hub.now post.old.line → ¬ HasGivenUp hub.now post.old.line →
+            let session = line_view (hub_line post.old.line hub.now).state in
+            (post.new.label ≡ after_step post.old.label session (session_end None session.last_end) self.old.now)
+            × (post.new.moment ≡ moment_seen post.old.label session self.old.now post.old.moment) }
+        ensures gave_up { HasGivenUp hub.now post.old.line → post.new.label ≡ post.old.label }
+    {
+        let session = session_of(hub, post.line);
+        post.steps.note(&session, frame);
+        if !hub.has_given_up(post.line) {
+            post.follow(session, session_end(None, session.last_end), self.now);
+        }
+        self.tell_files(post.line, &post.label, &mut post.streams, hub, arrivals);
+        self.tell_commands(&post.label, hub);
     }
 
     /// Ends the connection of a line that was in a session which gave up. Answers how that ended.

@@ -59,6 +59,8 @@ pub(crate) fn severity_of(event: &LogEvent) -> Severity
         LogEvent::NearQuota(_, _) => Severity::Warning,
         LogEvent::NearFiles(_, _) => Severity::Warning,
         LogEvent::Unrouted(_) => Severity::Warning,
+        LogEvent::RequestRefused(_) => Severity::Warning,
+        LogEvent::NoRequest(_) => Severity::Warning,
         LogEvent::SessionChanged(change) => change_severity(*change),
         LogEvent::SessionsChanged(_, _) => Severity::Warning,
         _ => Severity::Information,

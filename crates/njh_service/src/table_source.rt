@@ -3,10 +3,13 @@
 use njh_table::{TableFault, Tables};
 use std::fmt;
 
-/// What the tables of a hub are read from, as a file.
+/// What a hub that runs reads of files: its tables, and how large the one is that keeps its files.
 pub trait TableSource {
     /// Why it gives no tables.
     type Fault: fmt::Display + Drop;
+
+    /// How many bytes the file has that keeps the hub's files, if there is one.
+    fn spool_bytes(&self) -> Option<u64>;
 
     /// Its tables, or why it gives none, if it isn't as it was at the last look. It never waits.
     fn changed(&mut self) -> Option<Result<Tables, Self::Fault>>;
@@ -18,6 +21,10 @@ pub struct NoSource;
 
 impl TableSource for NoSource {
     type Fault = TableFault;
+
+    fn spool_bytes(&self) -> Option<u64> {
+        None
+    }
 
     fn changed(&mut self) -> Option<Result<Tables, TableFault>> {
         None

@@ -4,6 +4,7 @@ ghost use Rattle.std.specs.Prelude.{◌≡◌, ◌<◌, ℕ, Bool, Some, slice_g
 ghost use Rattle.njh_service.specs.Telling.{arrival, departure, loss, state_on};
 ghost use Rattle.njh_service.specs.declared.entry.FileLine.{FileLine};
 
+use crate::customers::Came;
 use crate::desk::Desk;
 use crate::entry::{FileLine, LogEvent};
 use crate::notice_line::NoticeLine;
@@ -11,6 +12,7 @@ use crate::post::Label;
 use crate::streams::{
     STREAMS, Streams, ended, files_coming, files_going, first_gone, has_come_near,
 };
+use njh_answer::Arrivals;
 use njh_block::Stream;
 use njh_hub::Hub;
 use njh_spool::{FileId, State};
@@ -20,24 +22,36 @@ use njh_wire::Network;
 use std::io::Write;
 
 impl<N: Network + Drop, L: Write + Drop> Desk<N, L> {
-    /// Tells which files of a line came, went out or were refused since it was last looked at, and
-    /// whether its customer has come near its quota, or near the number of files that it may have.
+    /// Tells which files of a line came, went out or were refused by a step on it, and whether its
+    /// customer has come near its quota, or near the number of files that it may have.
     pub(crate) fn tell_files(
         &mut self,
         id: LineId,
         label: &Label,
         streams: &mut Streams,
         hub: &Hub,
+        arrivals: &mut Arrivals,
     ) {
-        self.tell_coming(id, label, streams, hub);
+        self.tell_coming(id, label, streams, hub, arrivals);
         self.tell_going(id, label, streams, hub);
         self.tell_quota(id.customer, label, hub);
         self.tell_file_count(id.customer, label, hub);
     }
 
-    /// Tells of the files that came in.
-    fn tell_coming(&mut self, id: LineId, label: &Label, streams: &mut Streams, hub: &Hub) {
-        let (Ok(receivers), Ok(notices)) = (hub.receivers(id), hub.notices(id)) else {
+    /// Tells of the files that came in, and notes when.
+    fn tell_coming(
+        &mut self,
+        id: LineId,
+        label: &Label,
+        streams: &mut Streams,
+        hub: &Hub,
+        arrivals: &mut Arrivals,
+    ) {
+        let came = self.customers.count_files(id.customer, hub);
+        if came.are_there {
+            self.tell_newest(id.customer, label, came.files, hub, arrivals);
+        }
+        let Ok(receivers) = hub.receivers(id) else {
             return;
         };
         let now = files_coming(receivers);
@@ -49,19 +63,65 @@ impl<N: Network + Drop, L: Write + Drop> Desk<N, L> {
                 break;
             };
             if let Some(file) = streams.coming[place] {
-                let event = match hub.file_summary(id.customer, file) {
-                    Some(summary) => arrival(summary.state, FileLine::of(&summary)),
-                    None => {
-                        let drains = matches!(receivers.get(place), Some(Receiver::Draining));
-                        let notice = notices.get(place).and_then(|notice| notice.as_ref());
-                        loss(Stream::at(place as u8), drains, notice.map(NoticeLine::of))
-                    }
-                };
-                self.tell(label, event);
+                let ended = Ended { id, place, file };
+                self.tell_ended(ended, label, came, hub, arrivals);
             }
             streams.coming[place] = None;
         }
         streams.coming = now;
+    }
+
+    /// Tells of a customer's newest files, so many, which are those that came in.
+    fn tell_newest(
+        &mut self,
+        customer: u16,
+        label: &Label,
+        files: u32,
+        hub: &Hub,
+        arrivals: &mut Arrivals,
+    ) {
+        let count = hub.file_count(customer);
+        for index in count.saturating_sub(files)..count {
+            let file = hub.number_at(customer, index);
+            if let Some(summary) = hub.file_summary(customer, file) {
+                arrivals.note(customer, file, self.seconds());
+                self.tell(label, arrival(summary.state, FileLine::of(&summary)));
+            }
+        }
+    }
+
+    /// Tells of a file that comes in no more, unless it is among the newest, which were told.
+    fn tell_ended(
+        &mut self,
+        ended: Ended,
+        label: &Label,
+        came: Came,
+        hub: &Hub,
+        arrivals: &mut Arrivals,
+    )
+        requires { ended.place < 8 }
+    {
+        let Ended { id, place, file } = ended;
+        match hub.file_summary(id.customer, file) {
+            Some(summary) => {
+                if !came.are_there {
+                    arrivals.note(id.customer, file, self.seconds());
+                    self.tell(label, arrival(summary.state, FileLine::of(&summary)));
+                }
+            }
+            None => {
+                if came.files > 0 && !came.are_there {
+                    self.tell(label, LogEvent::FileLeft(Stream::at(place as u8)));
+                } else {
+                    self.tell(label, loss_on(hub, id, place));
+                }
+            }
+        }
+    }
+
+    /// The time, in seconds since the beginning of 1970.
+    fn seconds(&mut self) -> u64 {
+        u64::try_from(self.network.utc() / 1000).unwrap_or(0)
     }
 
     /// Tells of the files that went out, and keeps what is to be told of those that go out now.
@@ -131,6 +191,29 @@ impl<N: Network + Drop, L: Write + Drop> Desk<N, L> {
             self.tell_of(label.customer, LogEvent::NearQuota(used, quota));
         }
     }
+}
+
+/// A file that came in on the stream of a place of a line, and comes no more.
+#[derive(Clone, Copy)]
+struct Ended {
+    id: LineId,
+    place: usize,
+    file: FileId,
+}
+
+/// What is told of a file that came in on the stream of a place and isn't kept.
+fn loss_on(hub: &Hub, id: LineId, place: usize) -> LogEvent
+    requires { place < 8 }
+{
+    let drains = match hub.receivers(id) {
+        Ok(receivers) => matches!(receivers.get(place), Some(Receiver::Draining)),
+        Err(_) => false,
+    };
+    let notice = match hub.notices(id) {
+        Ok(notices) => notices.get(place).and_then(|notice| notice.as_ref()),
+        Err(_) => None,
+    };
+    loss(Stream::at(place as u8), drains, notice.map(NoticeLine::of))
 }
 
 /// What is told of a file that came whole.

@@ -40,6 +40,10 @@ pub trait Attendant<W: Wire> {
     /// may wait for any and for none.
     ghost waits: { Self → Option (ℕ × GivenOrder) → Type 0 } = { λ attendant order. ⊤ };
 
+    /// What it noted of the step that it was told of last: the place of its wire, the hub after it,
+    /// and the frame that it sent. One that says nothing of it may have noted anything.
+    ghost saw: { Self → ℕ → List Part → List ℕ → Type 0 } = { λ attendant place parts frame. ⊤ };
+
     /// Whether the service ends now. It is asked before each round, and first.
     fn is_over(&self) -> bool
         ensures { IsTrue result → steers };
@@ -82,6 +86,12 @@ pub trait Attendant<W: Wire> {
     /// Whether the line at this place, which rests, is asked for what it has to send. Asked just
     /// before its wire is read.
     fn prompts(&self, place: usize, hub: &Hub) -> bool;
+
+    /// Comes after each step on the line at this place, once the keeper has followed it: the hub is
+    /// as the step left it. The frame that the step sent is empty where it sent none.
+    fn stepped(&mut self, place: usize, hub: &Hub, frame: &[u8])
+        ensures saw { saw self.new place hub.now frame.now }
+        ensures asks_none { waits self.old None → waits self.new None };
 
     /// Comes after each round.
     fn after(&mut self, hub: &Hub, wires: &mut [W])

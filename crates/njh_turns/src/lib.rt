@@ -21,7 +21,7 @@ pub use keeper::{KeepFault, Keeper, KeepsNothing, kept_is_own};
 pub use rounds::Rounds;
 pub use serve::serve_turns;
 pub use service::attend;
-pub use turn::{TurnRoom, Visit, wire_turn};
+pub use turn::{TurnRoom, Visit, WirePlace, wire_turn};
 pub use wire::Wire;
 pub use wire_laws::{own_service_decides, own_wires_decide};
 pub use wire_reading::{Reading, WireFault};

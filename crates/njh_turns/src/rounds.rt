@@ -1,6 +1,6 @@
 //! Rounds of turns: each wire of some lines has one in each.
 
-ghost use Rattle.std.specs.Prelude.{◌≡◌, ◌<◌, List, length, slice_index_or, slice_set, All, IsTrue};
+ghost use Rattle.std.specs.Prelude.{◌≡◌, ◌<◌, List, length, slice_index_or, slice_set, All, None, IsTrue};
 ghost use Rattle.std.specs.Prelude.{IfOk, OnOk, OnErr, Err};
 ghost use Rattle.njh_hub.specs.Resting.{IsResting};
 ghost use Rattle.njh_hub.specs.WholeHub.{HasLine, SameLines};
@@ -11,7 +11,7 @@ ghost use Rattle.njh_turns.specs.Wires.{hub_wire};
 
 use crate::attendant::Attendant;
 use crate::keeper::{KeepFault, Keeper};
-use crate::turn::{TurnRoom, Visit, wire_turn};
+use crate::turn::{TurnRoom, Visit, WirePlace, wire_turn};
 use crate::wire::Wire;
 use njh_hub::{Hub, HubFault};
 use njh_table::LineId;
@@ -68,7 +68,7 @@ impl Rounds {
         hub: &mut Hub,
         keeper: &mut K,
         wires: &mut [W],
-        attendant: &A,
+        attendant: &mut A,
     ) -> Result<(), KeepFault>
         requires same { length wires.old ≡ length self.old.lines }
         requires known { All (HasLine hub.old) self.old.lines }
@@ -77,6 +77,7 @@ impl Rounds {
             let after = moment hub.new self.new.quiets wires.new in
             OnOk result ((round : List Turn) × (length round ≡ length self.old.lines)
             × IsRound W.says self.old.lines before round after) }
+        ensures told { A.waits attendant.old None → A.waits attendant.new None }
         ensures breaks { OnErr result (RoundBreaks W.says (K.says.may_leave keeper.new) self.old.lines
             (moment hub.old self.old.quiets wires.old) (hub_wires hub.new wires.new)) }
         ensures keeps { Keeps K.says keeper.old result hub.new keeper.new }
@@ -96,7 +97,7 @@ impl Rounds {
         hub: &mut Hub,
         keeper: &mut K,
         wires: &mut [W],
-        attendant: &A,
+        attendant: &mut A,
     ) -> Result<(), KeepFault>
         requires same { length wires.old ≡ length self.old.lines }
         requires known { All (HasLine hub.old) self.old.lines }
@@ -105,6 +106,7 @@ impl Rounds {
             let after = moment hub.new self.new.quiets wires.new in
             OnOk result ((round : List Turn) × (length round ≡ length self.old.lines)
             × IsRound W.says self.old.lines before round after) }
+        ensures told { A.waits attendant.old None → A.waits attendant.new None }
         ensures stops { OnErr result (RoundStops W.says self.old.lines
             (moment hub.old self.old.quiets wires.old) (hub_wires hub.new wires.new)) }
         ensures follows { Follows K.says keeper.old result hub.new keeper.new }
@@ -132,7 +134,7 @@ impl Rounds {
         hub: &mut Hub,
         keeper: &mut K,
         wire: &mut W,
-        attendant: &A,
+        attendant: &mut A,
     ) -> Result<(), KeepFault>
         requires within { place < length self.old.lines }
         requires known { HasLine hub.old (slice_index_or self.old.lines place no_line_id) }
@@ -142,6 +144,7 @@ impl Rounds {
             OnOk result ((turn : Turn)
             × IsTurn W.says id quiet (hub_wire hub.old wire.old) turn (hub_wire hub.new wire.new)
             × (self.new.quiets ≡ slice_set self.old.quiets place (quiet_after quiet turn.heard))) }
+        ensures told { A.waits attendant.old None → A.waits attendant.new None }
         ensures breaks { let id = slice_index_or self.old.lines place no_line_id in
             let quiet = slice_index_or self.old.quiets place 0 in
             OnErr result ((turn : BrokenTurn)
@@ -153,11 +156,11 @@ impl Rounds {
     {
         let line = self.lines[place];
         let visit = Visit {
-            line,
+            at: WirePlace { line, place },
             quiet: self.quiets[place],
             is_prompted: prompts(attendant, place, hub, line),
         };
-        match wire_turn(hub, keeper, visit, wire, &mut self.room) {
+        match wire_turn(visit, hub, keeper, attendant, wire, &mut self.room) {
             Ok(quiets) => self.quiets[place] = quiets,
             Err(fault) => return Err(fault),
         }

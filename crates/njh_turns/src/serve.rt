@@ -98,5 +98,7 @@ impl<W: Wire> Attendant<W> for EveryWire {
         false
     }
 
+    fn stepped(&mut self, _place: usize, _hub: &Hub, _frame: &[u8]) {}
+
     fn after(&mut self, _hub: &Hub, _wires: &mut [W]) {}
 }

@@ -1,6 +1,7 @@
 //! One turn of a wire.
 
-ghost use Rattle.std.specs.Prelude.{◌≡◌, ℕ, ◌<◌, ◌≤◌, [], ◌∷◌, length, Option, Some, OnOk, OnErr, IfOk, IsTrue};
+ghost use Rattle.std.specs.Prelude.{◌≡◌, ℕ, ◌<◌, ◌≤◌, [], ◌∷◌, length, List, Option, Some, None, OnOk, OnErr};
+ghost use Rattle.std.specs.Prelude.{IfOk, IsTrue};
 ghost use Rattle.std.specs.Vec.{vec_capacity};
 ghost use Rattle.njh_bisync.specs.Limits.{longest_frame};
 ghost use Rattle.njh_customer.specs.Part.{part_after_bytes, part_after_signal};
@@ -9,12 +10,13 @@ ghost use Rattle.njh_hub.specs.OwnEvents.{event_by};
 ghost use Rattle.njh_hub.specs.Resting.{IsResting};
 ghost use Rattle.njh_hub.specs.Sent.{IsCounted};
 ghost use Rattle.njh_hub.specs.declared.event.Event.{Event};
-ghost use Rattle.njh_hub.specs.WholeHub.{part, HasLine, SameLines};
+ghost use Rattle.njh_hub.specs.WholeHub.{Part, part, HasLine, SameLines};
 ghost use Rattle.njh_turns.specs.Breaks.{Break, BrokenTurn, EventBreaks, TurnBreaks};
-ghost use Rattle.njh_turns.specs.Keeping.{Follows};
+ghost use Rattle.njh_turns.specs.Keeping.{Follows, LeadsHub, LeavesNoMore};
 ghost use Rattle.njh_turns.specs.Turns.{Turn, IsTurn, IsHeard, wire_event, quiet_after};
 ghost use Rattle.njh_turns.specs.Wires.{IsDone, Unsent, IsReading, heard_of, frame_acts, IsTaken, hub_wire};
 
+use crate::attendant::Attendant;
 use crate::keeper::{KeepFault, Keeper};
 use crate::wire::Wire;
 use crate::wire_reading::{Reading, WireFault};
@@ -51,11 +53,20 @@ impl Model for TurnRoom {
     ghost invariant = { λ room. (0 < length room.buffer.items) × (longest_frame ≤ vec_capacity room.out) };
 }
 
+/// A line, and the place of its wire among those that have turns.
+#[derive(Clone, Copy)]
+pub struct WirePlace {
+    /// The line.
+    pub line: LineId,
+    /// The place, from 0 on.
+    pub place: usize,
+}
+
 /// A visit of a line's wire, which is read once.
 #[derive(Clone, Copy)]
 pub struct Visit {
-    /// The line.
-    pub line: LineId,
+    /// The line, and the place of the wire.
+    pub at: WirePlace,
     /// How many quiets in a row came before.
     pub quiet: u8,
     /// Whether the line, which rests then, is asked for what it has to send.
@@ -66,9 +77,33 @@ pub struct Visit {
 /// many quiets in a row came before.
 #[derive(Clone, Copy)]
 struct Answer<'a> {
+    at: WirePlace,
     reading: Result<Reading, WireFault>,
     buffer: &'a [u8],
     quiet: u8,
+}
+
+/// Bytes that came on a wire.
+#[derive(Clone, Copy)]
+struct Arrival<'a> {
+    at: WirePlace,
+    piece: &'a [u8],
+}
+
+/// A signal on the line of a wire.
+#[derive(Clone, Copy)]
+struct LineSignal {
+    at: WirePlace,
+    signal: Signal,
+}
+
+impl WirePlace {
+    /// A signal on its line.
+    fn signal(self, signal: Signal) -> LineSignal
+        ensures { result ≡ record { at = self; signal = signal } }
+    {
+        LineSignal { at: self, signal }
+    }
 }
 
 impl TurnRoom {
@@ -93,24 +128,27 @@ impl TurnRoom {
 /// or can't be read loses its line. So does one that can't be written, and what was left of the
 /// bytes is dropped. Takes no memory, and clears none.
 ///
-/// Where the keeper fails the frame of that step isn't written, and nothing is done after it.
-pub fn wire_turn<W: Wire, K: Keeper>(
+/// Where the keeper fails the frame of that step isn't written, and nothing is done after it; the
+/// attendant isn't told of that step.
+pub fn wire_turn<W: Wire, K: Keeper, A: Attendant<W>>(
+    visit: Visit,
     hub: &mut Hub,
     keeper: &mut K,
-    visit: Visit,
+    attendant: &mut A,
     wire: &mut W,
     room: &mut TurnRoom,
 ) -> Result<u8, KeepFault>
-    requires known { HasLine hub.old visit.line }
+    requires known { HasLine hub.old visit.at.line }
     requires follows { K.says.knows keeper.old hub.old }
     requires few { visit.quiet < 10 }
-    requires resting { IsTrue visit.is_prompted → IsResting hub.old visit.line }
+    requires resting { IsTrue visit.is_prompted → IsResting hub.old visit.at.line }
     ensures turn { IfOk result (λ quiets. (turn : Turn)
-        × IsTurn W.says visit.line visit.quiet (hub_wire hub.old wire.old) turn (hub_wire hub.new wire.new)
+        × IsTurn W.says visit.at.line visit.quiet (hub_wire hub.old wire.old) turn (hub_wire hub.new wire.new)
         × (quiets ≡ quiet_after visit.quiet turn.heard)) }
     ensures breaks { OnErr result ((turn : BrokenTurn)
-        × TurnBreaks W.says visit.line visit.quiet (hub_wire hub.old wire.old) turn (hub_wire hub.new wire.new)) }
+        × TurnBreaks W.says visit.at.line visit.quiet (hub_wire hub.old wire.old) turn (hub_wire hub.new wire.new)) }
     ensures follows { Follows K.says keeper.old result hub.new keeper.new }
+    ensures told { A.waits attendant.old None → A.waits attendant.new None }
     ensures withheld { W.says.withheld wire.old wire.new }
     ensures few { IfOk result (λ quiets. quiets < 10) }
     ensures lines { SameLines hub.old hub.new }
@@ -118,12 +156,13 @@ pub fn wire_turn<W: Wire, K: Keeper>(
     let buffer = room.buffer.as_mut_slice();
     let reading = wire.read(buffer, visit.is_prompted);
     let answer = Answer {
+        at: visit.at,
         reading,
         buffer,
         quiet: visit.quiet,
     };
     let quiets = quiets_behind(answer);
-    match act_on(answer, hub, keeper, visit.line, wire, &mut room.out) {
+    match act_on(answer, hub, keeper, attendant, wire, &mut room.out) {
         Ok(()) => {}
         Err(fault) => return Err(fault),
     }
@@ -155,82 +194,93 @@ fn quiets_behind(answer: Answer<'_>) -> u8
 }
 
 /// Hands the hub what a read answered.
-fn act_on<W: Wire, K: Keeper>(
+fn act_on<W: Wire, K: Keeper, A: Attendant<W>>(
     answer: Answer<'_>,
     hub: &mut Hub,
     keeper: &mut K,
-    id: LineId,
+    attendant: &mut A,
     wire: &mut W,
     out: &mut Vec<u8>,
 ) -> Result<(), KeepFault>
     requires within { IfOk answer.reading (IsReading (length answer.buffer.now)) }
-    requires known { HasLine hub.old id }
+    requires known { HasLine hub.old answer.at.line }
     requires follows { K.says.knows keeper.old hub.old }
     requires few { answer.quiet < 10 }
     requires room { longest_frame ≤ vec_capacity out.old }
     ensures heard { let heard = heard_of answer.entry.reading answer.entry.buffer.now in
         OnOk result ((cut : Option ℕ) × IsHeard W.says (hub_wire hub.old wire.old)
-        (wire_event id answer.entry.quiet heard) cut (hub_wire hub.new wire.new)) }
+        (wire_event answer.entry.at.line answer.entry.quiet heard) cut (hub_wire hub.new wire.new)) }
     ensures breaks { let heard = heard_of answer.entry.reading answer.entry.buffer.now in
-        OnErr result ((event : Event) × (wire_event id answer.entry.quiet heard ≡ Some event) × (break : Break)
-        × EventBreaks W.says (hub_wire hub.old wire.old) event break (hub_wire hub.new wire.new)) }
+        OnErr result ((event : Event) × (wire_event answer.entry.at.line answer.entry.quiet heard ≡ Some event)
+        × (break : Break) × EventBreaks W.says (hub_wire hub.old wire.old) event break (hub_wire hub.new wire.new)) }
     ensures follows { Follows K.says keeper.old result hub.new keeper.new }
+    ensures told { A.waits attendant.old None → A.waits attendant.new None }
     ensures withheld { W.says.withheld wire.old wire.new }
     ensures lines { SameLines hub.old hub.new }
     ensures room { longest_frame ≤ vec_capacity out.new }
 {
+    let at = answer.at;
     match answer.reading {
         Ok(Reading::Bytes(count)) => {
-            pass_bytes(hub, keeper, id, &answer.buffer[..count], wire, out)
+            let piece = &answer.buffer[..count];
+            pass_bytes(Arrival { at, piece }, hub, keeper, attendant, wire, out)
         }
         Ok(Reading::Quiet) => {
             if answer.quiet < QUIETS {
                 return Ok(());
             }
-            pass_signal(hub, keeper, id, Signal::Tick, wire, out)
+            pass_signal(at.signal(Signal::Tick), hub, keeper, attendant, wire, out)
         }
         Ok(Reading::Pending) => Ok(()),
-        Ok(Reading::Prompted) => pass_signal(hub, keeper, id, Signal::Tick, wire, out),
-        Ok(Reading::Closed) => pass_signal(hub, keeper, id, Signal::Lost, wire, out),
+        Ok(Reading::Prompted) => {
+            pass_signal(at.signal(Signal::Tick), hub, keeper, attendant, wire, out)
+        }
+        Ok(Reading::Closed) => {
+            pass_signal(at.signal(Signal::Lost), hub, keeper, attendant, wire, out)
+        }
         Ok(Reading::Absent) => Ok(()),
-        Err(_) => pass_signal(hub, keeper, id, Signal::Lost, wire, out),
+        Err(_) => pass_signal(at.signal(Signal::Lost), hub, keeper, attendant, wire, out),
     }
 }
 
 /// Hands the hub bytes of a line and writes each frame that it sends, once the keeper has followed
 /// the step. Where a write fails the line is lost.
-fn pass_bytes<W: Wire, K: Keeper>(
+fn pass_bytes<W: Wire, K: Keeper, A: Attendant<W>>(
+    arrival: Arrival<'_>,
     hub: &mut Hub,
     keeper: &mut K,
-    id: LineId,
-    piece: &[u8],
+    attendant: &mut A,
     wire: &mut W,
     out: &mut Vec<u8>,
 ) -> Result<(), KeepFault>
-    requires known { HasLine hub.old id }
+    requires known { HasLine hub.old arrival.at.line }
     requires follows { K.says.knows keeper.old hub.old }
     requires room { longest_frame ≤ vec_capacity out.old }
-    ensures done { OnOk result ((cut : Option ℕ)
-        × IsDone W.says (hub_wire hub.old wire.old) (Bytes id piece.now) cut (hub_wire hub.new wire.new)) }
-    ensures breaks { OnErr result ((break : Break)
-        × EventBreaks W.says (hub_wire hub.old wire.old) (Bytes id piece.now) break (hub_wire hub.new wire.new)) }
+    ensures seen { OnOk result (0 < length arrival.entry.piece.now →
+        A.saw attendant.new arrival.entry.at.place hub.new out.new.items) }
+    ensures done { let event = Bytes arrival.entry.at.line arrival.entry.piece.now in OnOk result ((cut : Option ℕ)
+        × IsDone W.says (hub_wire hub.old wire.old) event cut (hub_wire hub.new wire.new)) }
+    ensures breaks { let event = Bytes arrival.entry.at.line arrival.entry.piece.now in OnErr result ((break : Break)
+        × EventBreaks W.says (hub_wire hub.old wire.old) event break (hub_wire hub.new wire.new)) }
     ensures follows { Follows K.says keeper.old result hub.new keeper.new }
+    ensures told { A.waits attendant.old None → A.waits attendant.new None }
     ensures withheld { W.says.withheld wire.old wire.new }
     ensures lines { SameLines hub.old hub.new }
     ensures room { longest_frame ≤ vec_capacity out.new }
 {
+    let Arrival { at, piece } = arrival;
     let mut taken = 0;
     while taken < piece.len() {
         let (_, left) = piece.split_at(taken);
-        let used = take_bytes(hub, id, left, out);
-        match keeper.follow(hub, id.customer) {
+        let used = take_bytes(hub, at.line, left, out);
+        match follow(at, hub, keeper, attendant, out) {
             Ok(()) => {}
             Err(fault) => return Err(fault),
         }
         taken += used;
         match send(wire, out) {
             Ok(()) => {}
-            Err(_) => return lose(hub, keeper, id, out),
+            Err(_) => return lose(at, hub, keeper, attendant, out),
         }
     }
     Ok(())
@@ -238,53 +288,86 @@ fn pass_bytes<W: Wire, K: Keeper>(
 
 /// Hands the hub a signal on a line and writes the frame that it sends, once the keeper has
 /// followed the step. Where the write fails the line is lost.
-fn pass_signal<W: Wire, K: Keeper>(
+fn pass_signal<W: Wire, K: Keeper, A: Attendant<W>>(
+    given: LineSignal,
     hub: &mut Hub,
     keeper: &mut K,
-    id: LineId,
-    signal: Signal,
+    attendant: &mut A,
     wire: &mut W,
     out: &mut Vec<u8>,
 ) -> Result<(), KeepFault>
-    requires known { HasLine hub.old id }
+    requires known { HasLine hub.old given.at.line }
     requires follows { K.says.knows keeper.old hub.old }
     requires room { longest_frame ≤ vec_capacity out.old }
-    ensures done { OnOk result ((cut : Option ℕ)
-        × IsDone W.says (hub_wire hub.old wire.old) (event_by signal id) cut (hub_wire hub.new wire.new)) }
-    ensures breaks { OnErr result ((break : Break)
-        × EventBreaks W.says (hub_wire hub.old wire.old) (event_by signal id) break (hub_wire hub.new wire.new)) }
+    ensures seen { OnOk result (A.saw attendant.new given.at.place hub.new out.new.items) }
+    ensures done { let event = event_by given.signal given.at.line in OnOk result ((cut : Option ℕ)
+        × IsDone W.says (hub_wire hub.old wire.old) event cut (hub_wire hub.new wire.new)) }
+    ensures breaks { let event = event_by given.signal given.at.line in OnErr result ((break : Break)
+        × EventBreaks W.says (hub_wire hub.old wire.old) event break (hub_wire hub.new wire.new)) }
     ensures follows { Follows K.says keeper.old result hub.new keeper.new }
+    ensures told { A.waits attendant.old None → A.waits attendant.new None }
     ensures withheld { W.says.withheld wire.old wire.new }
     ensures lines { SameLines hub.old hub.new }
     ensures room { longest_frame ≤ vec_capacity out.new }
 {
-    take_signal(hub, id, signal, out);
-    match keeper.follow(hub, id.customer) {
+    let LineSignal { at, signal } = given;
+    take_signal(hub, at.line, signal, out);
+    match follow(at, hub, keeper, attendant, out) {
         Ok(()) => {}
         Err(fault) => return Err(fault),
     }
     match send(wire, out) {
         Ok(()) => Ok(()),
-        Err(_) => lose(hub, keeper, id, out),
+        Err(_) => lose(at, hub, keeper, attendant, out),
     }
 }
 
 /// The loss of a line, which the keeper follows. It sends no frame.
-fn lose<K: Keeper>(
+fn lose<W: Wire, K: Keeper, A: Attendant<W>>(
+    at: WirePlace,
     hub: &mut Hub,
     keeper: &mut K,
-    id: LineId,
+    attendant: &mut A,
     out: &mut Vec<u8>,
 ) -> Result<(), KeepFault>
-    requires known { HasLine hub.old id }
+    requires known { HasLine hub.old at.line }
     requires follows { K.says.knows keeper.old hub.old }
     requires room { longest_frame ≤ vec_capacity out.old }
-    ensures step { let t = part_after_signal (part id.customer hub.old) id.number Signal.Lost in
-        IsTaken hub.old id t.after t.frame hub.new out.new }
+    ensures step { let t = part_after_signal (part at.line.customer hub.old) at.line.number Signal.Lost in
+        IsTaken hub.old at.line t.after t.frame hub.new out.new }
     ensures follows { Follows K.says keeper.old result hub.new keeper.new }
+    ensures seen { OnOk result (A.saw attendant.new at.place hub.new out.new.items) }
+    ensures told { A.waits attendant.old None → A.waits attendant.new None }
 {
-    take_signal(hub, id, Signal::Lost, out);
-    keeper.follow(hub, id.customer)
+    take_signal(hub, at.line, Signal::Lost, out);
+    follow(at, hub, keeper, attendant, out)
+}
+
+/// The keeper follows a step on a line, which sent this frame, and then the attendant is told of
+/// it.
+fn follow<W: Wire, K: Keeper, A: Attendant<W>>(
+    at: WirePlace,
+    hub: &Hub,
+    keeper: &mut K,
+    attendant: &mut A,
+    frame: &[u8],
+) -> Result<(), KeepFault>
+    requires led { (before : List Part) × K.says.knows keeper.old before × LeadsHub at.line.customer before hub.now }
+    ensures known { OnOk result (K.says.knows keeper.new hub.now) }
+    ensures leaves { LeavesNoMore K.says keeper.old keeper.new }
+    ensures faultless { OnOk result (K.says.count keeper.new ≡ K.says.count keeper.old) }
+    ensures counts { K.says.count keeper.old ≤ K.says.count keeper.new }
+    ensures counted { OnErr result (IsCounted (K.says.count keeper.old) (K.says.count keeper.new)) }
+    ensures seen { OnOk result (A.saw attendant.new at.place hub.now frame.now) }
+    ensures untold { OnErr result (attendant.new ≡ attendant.old) }
+    ensures told { A.waits attendant.old None → A.waits attendant.new None }
+{
+    match keeper.follow(hub, at.line.customer) {
+        Ok(()) => {}
+        Err(fault) => return Err(fault),
+    }
+    attendant.stepped(at.place, hub, frame);
+    Ok(())
 }
 
 /// A step by bytes, in the room that `out` has.

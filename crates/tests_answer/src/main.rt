@@ -3,11 +3,13 @@
 #![tactic(auto)]
 
 use njh_answer::{
-    Answer, Deed, LineState, LineView, OrderRecord, Outcome, ServiceView, Views, answer_request,
-    refuses,
+    Answer, Arrivals, Deed, LineState, LineView, OrderRecord, Outcome, ServiceView, Views,
+    answer_request, refuses,
 };
+use njh_command::Replies;
 use njh_ebcdic::Name;
-use njh_hub::Hub;
+use njh_header::User;
+use njh_hub::{GivenOrder, Hub, OrderText};
 use njh_request::{Request, Text};
 use njh_table::{LineId, Tables};
 use std::alloc::{AllocError, Global};
@@ -67,6 +69,9 @@ const PIECES: [&str; 4] = [
     ),
 ];
 
+/// `HI`.
+const HI: &[u8] = &[0xc8, 0xc9];
+
 fn bad() -> io::Error {
     io::Error::from(io::ErrorKind::InvalidData)
 }
@@ -78,7 +83,7 @@ fn tables(alloc: Global) -> io::Result<Tables> {
     }
 }
 
-/// A hub that has a file of ANNA's at LYON.
+/// A hub that has a file of ANNA's at LYON, and a message for LYON that waits.
 fn hub(alloc: Global) -> io::Result<Hub> {
     let tables = tables(alloc)?;
     let mut hub = match Hub::open(alloc, tables) {
@@ -97,7 +102,34 @@ fn hub(alloc: Global) -> io::Result<Hub> {
         };
         let _taken = hub.take(line, &piece, &mut out).is_ok();
     }
+    give_message(alloc, &mut hub)?;
     Ok(hub)
+}
+
+/// A message for LYON waits.
+fn give_message(alloc: Global, hub: &mut Hub) -> io::Result<()> {
+    let Ok(node) = Name::of_text("LYON") else {
+        return Err(bad());
+    };
+    let text = OrderText::of(alloc, HI)?;
+    let whom = User {
+        node,
+        user: [0x40; 8],
+    };
+    let mut replies = Replies::new();
+    match hub.order(0, &GivenOrder::Message(whom, text), &mut replies) {
+        Ok(()) => Ok(()),
+        Err(_) => Err(bad()),
+    }
+}
+
+/// The file was seen to come.
+fn arrivals(alloc: Global, hub: &Hub) -> Result<Arrivals, AllocError> {
+    let mut arrivals = Arrivals::none(alloc, 2)?;
+    if hub.file_count(0) > 0 {
+        arrivals.note(0, hub.number_at(0, 0), 1790650007);
+    }
+    Ok(arrivals)
 }
 
 /// What the service knows of itself.
@@ -132,6 +164,8 @@ fn line_view(alloc: Global) -> Result<LineView, AllocError> {
         connected: Some(1790650000),
         up: None,
         last_end,
+        naks: 2,
+        repeats: 5,
     })
 }
 
@@ -171,6 +205,7 @@ fn replies(alloc: Global) -> Result<Vec<Text>, AllocError> {
 fn deed_text(deed: &Deed) -> &'static str {
     match deed {
         Deed::Nothing => "nothing",
+        Deed::Refused(_) => "refused",
         Deed::Command(..) => "a command",
         Deed::Message(..) => "a message",
         Deed::Line(..) => "a line",
@@ -216,12 +251,14 @@ fn told_lines(alloc: Global, text: &str, views: &Views<'_>) -> Result<String, Al
 fn told_by(alloc: Global, text: &str, hub: &Hub, tables: &Tables) -> Result<String, AllocError> {
     let service = service_view(alloc)?;
     let lines = line_views(alloc)?;
+    let arrivals = arrivals(alloc, hub)?;
     let orders = order_records(alloc)?;
     let views = Views {
         hub,
         tables,
         service: &service,
         lines: &lines,
+        arrivals: &arrivals,
         orders: &orders,
         next: 6,
     };

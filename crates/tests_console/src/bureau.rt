@@ -1,7 +1,7 @@
 //! A hub with its console.
 
 use crate::pipe::{Pipe, Pipes, Visit};
-use njh_answer::ServiceView;
+use njh_answer::{Arrivals, ServiceView};
 use njh_command::Replies;
 use njh_console::{Act, Console, Situation};
 use njh_hub::Hub;
@@ -57,6 +57,9 @@ const PIECES: [&str; 4] = [
 /// A line of rounds is no longer than this.
 const ROUNDS: usize = 200;
 
+/// How many customers the tables have.
+const CUSTOMERS: usize = 1;
+
 /// A hub, its tables, its console, and the clock.
 #[derive(Drop)]
 pub(crate) struct Bureau<'a> {
@@ -65,6 +68,7 @@ pub(crate) struct Bureau<'a> {
     hub: Hub,
     tables: Tables,
     service: ServiceView,
+    arrivals: Arrivals,
     console: Console<Visit<'a>>,
     now: u64,
 }
@@ -83,6 +87,7 @@ impl<'a> Bureau<'a> {
                 file_bytes: None,
                 faults: Vec::new(alloc),
             },
+            arrivals: Arrivals::none(alloc, CUSTOMERS)?,
             console: Console::new(alloc)?,
             now: 1000,
         })
@@ -122,7 +127,10 @@ impl<'a> Bureau<'a> {
         if self.console.has_request() {
             self.answer(seen)?;
         }
-        self.console.tend(self.now);
+        let astray = self.console.tend(self.now);
+        if astray > 0 {
+            write!(*seen, "\n  {astray} gone who sent no HTTP")?;
+        }
         Ok(())
     }
 
@@ -142,7 +150,8 @@ impl<'a> Bureau<'a> {
 
     /// Answers a request.
     fn answer(&mut self, seen: &mut String) -> io::Result<()> {
-        let situation = Situation::new(&self.hub, &self.tables, &self.service, &[]);
+        let (hub, tables, service) = (&self.hub, &self.tables, &self.service);
+        let situation = Situation::new(hub, tables, service, &[], &self.arrivals);
         match self.console.serve(&situation) {
             Some(act) => {
                 let text = act_text(act);
@@ -185,6 +194,7 @@ fn act_text(act: Act) -> &'static str {
         Act::Line(_, LineWish::Stopped(Moment::WhenIdle)) => "a line drains",
         Act::Stop(Moment::AtOnce) => "the service stops",
         Act::Stop(Moment::WhenIdle) => "the service stops when idle",
+        Act::Refused(why) => why.sentence(),
     }
 }
 

@@ -143,6 +143,10 @@ struct Changes {
 impl TableSource for Changes {
     type Fault = TableFault;
 
+    fn spool_bytes(&self) -> Option<u64> {
+        None
+    }
+
     fn changed(&mut self) -> Option<Result<Tables, TableFault>> {
         let text = *self.texts.get(self.next)?;
         self.next = self.next.saturating_add(1);

@@ -137,6 +137,57 @@ fn end_is_told<R: Abort>(
     )
 }
 
+/// LYON asks whether it may send a file, and ends the session at once.
+const REQUEST_AND_EOT: &[u8] = b"\x10\x02\x80\x8f\xcf\x90\x98\x00\x00\x10\x26\x37";
+
+/// A file that comes and is given up within one turn is told, though the line's streams are about
+/// nothing before it and behind it.
+#[test]
+fn file_within_a_turn_is_told(rt: HostRuntime) -> Result<(), Fail> {
+    let told = "1970-01-01T00:00:02.500Z ACME a1: file in cut off: SYSIN 1\n\
+2500 to 0: 1002808fcfa09800001026\n";
+    end_is_told(&rt, rt.alloc(), REQUEST_AND_EOT, told, "the peer sent EOT")
+}
+
+/// LYON signs off, makes contact and signs on in one write.
+const AFRESH: &[u8] = b"\x10\x02\x80\x8f\xcf\xf0\xc2\x00\x10\x26\x01\x2d\
+    \x10\x02\xa0\x8f\xcf\xf0\xc9\x29\xd3\xe8\xd6\xd5\x40\x40\x40\x40\x01\x00\x00\x00\x00\x00\
+    \x00\x04\x00\x40\x40\x40\x40\x40\x40\x40\x40\x40\x40\x40\x40\x40\x40\x40\x40\x00\x00\x00\x00\x00\
+    \x00\x10\x26";
+
+/// A session that ends and comes up again within one turn is told, with how many changes it stands
+/// for.
+#[test]
+fn session_within_a_turn_is_told(rt: HostRuntime) -> Result<(), Fail> {
+    let acts = [
+        at(1000, 0, Act::Connects(1)),
+        at(1000, 0, CONTACT),
+        at(1001, 0, SIGN_ON),
+        at(2500, 0, Act::Sends(AFRESH)),
+    ];
+    let mut wanted = Vec::new(rt.alloc());
+    wanted.extend_from_slice(
+        b"1970-01-01T00:00:01.000Z ACME a1: connected from 10.0.0.0:5000\n1000 to 0: 1070\n",
+    )?;
+    add_text(&mut wanted, 1001, RESPONSE);
+    wanted.extend_from_slice(
+        b"1970-01-01T00:00:01.001Z ACME a1: session up with LYON\n2500 to 0: 1070",
+    )?;
+    let (_, response) = RESPONSE.split_once(": ").unwrap_or(("", ""));
+    wanted.extend_from_slice(response.as_bytes())?;
+    wanted.extend_from_slice(
+        b"1970-01-01T00:00:02.500Z ACME a1: session up with LYON, the last of 2 changes\n",
+    )?;
+    play(
+        &rt,
+        rt.alloc(),
+        TABLES,
+        &acts,
+        2900,
+        str::from_utf8(&wanted).unwrap_or("no text"),
+    )
+}
+
 /// ACME's line a1 asks for a password.
 const LOCKED: &str = r#"
 capacity = 200

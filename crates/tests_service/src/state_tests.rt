@@ -196,6 +196,47 @@ fn add_end(wanted: &mut Vec<u8>) -> Result<(), AllocError> {
     add_text(wanted, 1050, RESPONSE);
     wanted.extend_from_slice(b"1970-01-01T00:00:01.050Z ACME a1: session up with LYON\n")?;
     add_text(wanted, 1100, PERMISSION);
+    wanted.extend_from_slice(
+        b"1970-01-01T00:00:01.200Z the operator ends the service once no file is on a stream\n",
+    )?;
     add_text(wanted, 1200, DONE);
     wanted.extend_from_slice(b"1970-01-01T00:00:01.300Z ACME a1: file in cut off: SYSIN 1\n")
+}
+
+/// A visitor asks how ACME's lines are.
+const LINES: Act = Act::Visits(b"GET /v1/customers/ACME/lines HTTP/1.1\r\nhost: hub\r\n\r\n");
+
+/// What is told of them: one NAK, and one block sent again.
+const COUNTED: &str =
+    " told: HTTP/1.1 200 OK\r\ncontent-type: application/json\r\ncontent-length: 369\r\n\r\n\
+    {\"customer\":\"ACME\",\"lines\":[{\"from_hub\":[null,null,null,null,null,null,null,nu\
+    ll],\"messages\":0,\"name\":\"a1\",\"node\":\"LYON\",\"role\":\"answers\",\"served\":{\
+    \"connected\":1,\"last_end\":\"\",\"naks\":1,\"repeats\":1,\"site\":\"listens 1\",\"st\
+    ate\":\"started\",\"up\":1},\"session\":{\"phase\":\"up\",\"refusals\":0,\"tries\":2,\
+    \"turn\":\"peer\"},\"to_hub\":[null,null,null,null,null,null,null,null]}],\"next\":nul\
+    l}\n";
+
+/// A text that can't be read is answered by NAK, and the peer's NAK by the last block again. Both
+/// are counted, and told at the console.
+#[test]
+fn naks_and_repeats_are_counted(rt: HostRuntime) -> Result<(), Fail> {
+    let acts = [
+        at(1000, 0, Act::Connects(1)),
+        at(1000, 0, CONTACT),
+        at(1050, 0, SIGN_ON),
+        at(1100, 0, Act::Sends(b"\x3d")),
+        at(1200, 0, Act::Sends(b"\x10\x02\x80\x8f\xcf\x01\x10\x26")),
+        at(1300, 0, LINES),
+    ];
+    let mut wanted = Vec::new(rt.alloc());
+    wanted.extend_from_slice(
+        b"1970-01-01T00:00:01.000Z ACME a1: connected from 10.0.0.0:5000\n1000 to 0: 1070\n",
+    )?;
+    add_text(&mut wanted, 1050, RESPONSE);
+    wanted.extend_from_slice(b"1970-01-01T00:00:01.050Z ACME a1: session up with LYON\n")?;
+    add_text(&mut wanted, 1100, RESPONSE);
+    add_text(&mut wanted, 1200, " to 0: 3d\n");
+    add_text(&mut wanted, 1300, COUNTED);
+    let wanted = str::from_utf8(&wanted).unwrap_or("no text");
+    play(&rt, rt.alloc(), TABLES, &acts, 1400, wanted)
 }

@@ -40,6 +40,10 @@ pub struct MemoryAttendant {
     pub not_done: Option<HubFault>,
     /// The replies to its orders, one after the other.
     pub replies: ArrayVec<u8, 256>,
+    /// The places of the steps that it was told of.
+    pub steps: ArrayVec<u8, 256>,
+    /// The frames that they sent, one after the other.
+    pub frames: ArrayVec<u8, 256>,
 }
 
 impl MemoryAttendant {
@@ -59,6 +63,8 @@ impl MemoryAttendant {
             done: 0,
             not_done: None,
             replies: ArrayVec::new(),
+            steps: ArrayVec::new(),
+            frames: ArrayVec::new(),
         }
     }
 
@@ -149,6 +155,11 @@ impl Attendant<MemoryWire> for MemoryAttendant {
 
     fn prompts(&self, _place: usize, _hub: &Hub) -> bool {
         self.prompts
+    }
+
+    fn stepped(&mut self, place: usize, _hub: &Hub, frame: &[u8]) {
+        let _ = self.steps.try_push(u8::try_from(place).unwrap_or(u8::MAX));
+        let _ = self.frames.try_extend_from_slice(frame);
     }
 
     fn after(&mut self, _hub: &Hub, _wires: &mut [MemoryWire]) {

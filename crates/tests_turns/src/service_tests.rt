@@ -242,3 +242,21 @@ fn service_ends_when_it_is_told_to(rt: HostRuntime) -> Result<(), Fail> {
     }
     Ok(())
 }
+
+/// Each step is told with the place of its wire and its frame, three in one read; and so is the
+/// loss of a line whose frame can't be written.
+#[test]
+fn each_step_is_told(rt: HostRuntime) -> Result<(), Fail> {
+    let mut attendant = MemoryAttendant::new(None);
+    let mut wires = [
+        MemoryWire::new("pending all", 0),
+        MemoryWire::new("pending contact", 1),
+    ];
+    let keeper = &mut MemoryKeeper::new(0, 0);
+    attend_twice(&rt, rt.alloc(), keeper, &mut wires, &mut attendant, [1, 1])??;
+    assert_eq!(rt; attendant.steps.as_slice(), [0, 0, 0, 1, 1].as_slice());
+    let frames = attendant.frames.as_slice();
+    assert_eq!(rt; frames.get(..TOLD.len()), Some(TOLD.as_slice()));
+    assert_eq!(rt; frames.get(TOLD.len()..), Some(ACK0));
+    Ok(())
+}

@@ -1,7 +1,7 @@
 //! What the console tells of the lines that are served.
 
 ghost use Rattle.std.specs.Prelude.{◌≡◌, ℕ, ◌<◌, map, option_map, IfOk};
-ghost use Rattle.njh_service.specs.Bureaus.{state_of, state_told};
+ghost use Rattle.njh_service.specs.Bureaus.{lines_told, post_told, view_told};
 ghost use Rattle.njh_service.specs.Revisions.{opened_tables};
 
 use super::Exchange;
@@ -10,7 +10,7 @@ use crate::line_clock::LineClock;
 use crate::post::Post;
 use crate::site::Site;
 use crate::table_source::TableSource;
-use njh_answer::{LineView, ServiceView};
+use njh_answer::{Arrivals, LineView, ServiceView};
 use njh_command::Replies;
 use njh_hub::HubFault;
 use njh_table::{LineId, Tables};
@@ -25,6 +25,13 @@ impl<N: Network + Drop, L: Write + Drop, S: TableSource + Drop> Exchange<N, L, S
         ensures { option_map (λ tables. tables.now) result ≡ opened_tables self.now.tables }
     {
         self.revision.tables()
+    }
+
+    /// When files came.
+    pub(crate) fn arrivals(&self) -> &Arrivals
+        ensures { result.now ≡ self.now.arrivals }
+    {
+        &self.arrivals
     }
 
     /// The time on the service's clock, as the last round began.
@@ -68,7 +75,7 @@ impl<N: Network + Drop, L: Write + Drop, S: TableSource + Drop> Exchange<N, L, S
         wires: &[LineWire<N::Connection>],
     ) -> Result<Vec<LineView>, AllocError>
         ensures same { self.new ≡ self.old }
-        ensures states { IfOk result (λ views. map state_told views.items ≡ map state_of self.old.lines) }
+        ensures told { IfOk result (λ views. map view_told views.items ≡ lines_told self.old.lines self.old.steps) }
     {
         let clock = LineClock {
             now: self.desk.now,
@@ -86,7 +93,7 @@ fn views_of<Li: Drop, C: Connection + Drop>(
     wires: &[LineWire<C>],
     clock: LineClock,
 ) -> Result<Vec<LineView>, AllocError>
-    ensures { IfOk result (λ views. map state_told views.items ≡ map (λ post. (post.line, post.state)) posts.now) }
+    ensures { IfOk result (λ views. map view_told views.items ≡ map post_told posts.now) }
 {
     let mut views = Vec::new(alloc);
     for place in 0..posts.len() {
@@ -112,7 +119,7 @@ fn view_of<Li: Drop, C: Drop>(
     is_connected: bool,
     clock: LineClock,
 ) -> Result<LineView, AllocError>
-    ensures { IfOk result (λ view. state_told view ≡ (post.now.line, post.now.state)) }
+    ensures { IfOk result (λ view. view_told view ≡ post_told post.now) }
 {
     let site = site_text(alloc, tables, post.line)?;
     let last_end = end_text(alloc, post)?;
@@ -124,6 +131,8 @@ fn view_of<Li: Drop, C: Drop>(
         connected: clock.seconds_if(is_connected, label.connected_since),
         up: clock.seconds_if(label.up, label.up_since),
         last_end,
+        naks: post.steps.naks,
+        repeats: post.steps.repeats,
     })
 }
 
@@ -167,7 +176,7 @@ impl<N: Network + Drop, L: Write + Drop, S: TableSource + Drop> Exchange<N, L, S
         Ok(ServiceView {
             version,
             since: u64::try_from(since / 1000).unwrap_or(0),
-            file_bytes: None,
+            file_bytes: self.revision.spool_bytes(),
             faults,
         })
     }

@@ -1,10 +1,12 @@
 use Rattle.std.proofs.Common.{◌≡◌, ◌-◌, map, take, drop}
 use Rattle.serde_json.specs.View.{view}
 use Rattle.njh_hub.specs.WholeHub.{part}
+use Rattle.njh_answer.specs.Arrivals.{seen_of}
 use Rattle.njh_answer.specs.Files.{file_entry}
 use Rattle.njh_answer.proofs.files.file_values.Given as goal
 
 abbrev pub invariant-loop-index : goal.invariant-loop-index
 invariant-loop-index l =
-    map view l.values.items ≡ map file_entry
+    map view l.values.items
+    ≡ map (file_entry l.lines (part l.customer l.hub).customer.entry (seen_of l.customer l.arrivals))
     (take (l.index - l.fn.page.first) (drop l.fn.page.first (part l.customer l.hub).customer.spool.whole))

@@ -64,8 +64,9 @@ loop-turn-preserved g c =
       lines = c.take_due.ensures.same ∙ lines_is;
       same = λ d. c.take_due.ensures.lines d ∙ c.give_order.ensures.lines d ∙ c.give_routes.ensures.lines d
           ∙ c.loop-turn.invariant.same d;
-      told = λ waits. c.after.ensures.asks_none (c.in-Ok-give_order.ensures.told (c.in-Ok.ensures.told
-          (c.before-in-loop-turn.ensures.asks_none (c.loop-turn.invariant.told waits))));
+      told = λ waits. c.after.ensures.asks_none (c.in-Ok-take_due.ensures.told
+          (c.in-Ok-give_order.ensures.told (c.in-Ok.ensures.told
+          (c.before-in-loop-turn.ensures.asks_none (c.loop-turn.invariant.told waits)))));
       settled = c.in-Ok-take_due.ensures.keeps.settled;
       kept = c.in-Ok-take_due.ensures.keeps.faultless ∙ c.in-Ok-give_order.ensures.keeps.faultless
           ∙ c.in-Ok.ensures.keeps.faultless ∙ c.loop-turn.invariant.kept;

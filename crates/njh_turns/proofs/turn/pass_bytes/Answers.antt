@@ -15,13 +15,15 @@ use Rattle.njh_turns.proofs.turn.pass_bytes.Goals as goal
 
 pub loop-taken-init : goal.loop-taken-init
 loop-taken-init g c =
-    let none = after_bytes-none c.args.hub.now c.args.id in
+    let none = after_bytes-none c.args.hub.now c.args.arrival.at.line in
     let P : HubRun → Type 0 = λ h. g.W.Wire.says.passed c.args.wire.now c.args.wire.now (map sent_act h.sent) in
     record {
       within = omega arith;
       parts = sym (ap (λ (h : HubRun). h.parts) none);
       acts = subst P (sym none) (g.met.W.Wire.none c.args.wire.now);
       same = λ d. refl;
+      seen = λ some. absurd (omega arith);
+      told = λ waits. waits;
       room = c.requires.room;
       counts = omega arith;
       withheld = g.met.W.Wire.withheld_none c.args.wire.now;
@@ -32,7 +34,7 @@ loop-taken-init g c =
 
 pub take_bytes-used-requires-clause-known : goal.take_bytes-used-requires-clause-known
 take_bytes-used-requires-clause-known g c =
-    omega (arith, c.requires.known, c.loop-taken.invariant.same c.args.id.customer)
+    omega (arith, c.requires.known, c.loop-taken.invariant.same c.args.arrival.at.line.customer)
 
 pub take_bytes-used-requires-clause-room : goal.take_bytes-used-requires-clause-room
 take_bytes-used-requires-clause-room g c = c.loop-taken.invariant.room
@@ -42,17 +44,17 @@ follow-requires g c = record {
   led = (
     c.loop-taken.hub,
     c.loop-taken.invariant.knows,
-    (_, by_bytes c.args.id.number _ c.take_bytes-used.ensures.rests refl, c.take_bytes-used.ensures.step.hub),
+    (_, by_bytes c.args.arrival.at.line.number _ c.take_bytes-used.ensures.rests refl, c.take_bytes-used.ensures.step.hub),
   );
 }
 
 pub loop-taken-preserved : goal.loop-taken-preserved
 loop-taken-preserved g c =
     let start = c.args.hub.now in
-    let id = c.args.id in
+    let id = c.args.arrival.at.line in
     let known : HasLine start id = c.requires.known in
     let did = c.take_bytes-used.ensures.step in
-    let step : GoesOn start c.loop-taken.hub c.take_bytes-used.new.hub id c.args.piece.now c.split_at.result.1.now
+    let step : GoesOn start c.loop-taken.hub c.take_bytes-used.new.hub id c.args.arrival.piece.now c.split_at.result.1.now
     c.loop-taken.taken c.take_bytes-used.result c.take_bytes-used.new.out.items = record {
       known = known;
       now_is = c.loop-taken.invariant.parts;
@@ -63,8 +65,8 @@ loop-taken-preserved g c =
       frame_is = did.frame;
     } in
     let F : List ℕ → Type 0 = λ b. g.W.Wire.says.passed c.loop-taken.wire c.send.new.wire (frame_acts b) in
-    let sent = subst F c.deref.ensures.value c.in-Ok-send.ensures.ok in
-    let before = map sent_act (after_bytes start id (take c.loop-taken.taken c.args.piece.now)).sent in
+    let sent = subst F c.deref-in-loop-taken.ensures.value c.in-Ok-send.ensures.ok in
+    let before = map sent_act (after_bytes start id (take c.loop-taken.taken c.args.arrival.piece.now)).sent in
     let frame = c.take_bytes-used.new.out.items in
     let acts = g.met.W.Wire.more c.args.wire.now c.loop-taken.wire c.send.new.wire before (frame_acts frame)
     c.loop-taken.invariant.acts sent in
@@ -74,13 +76,16 @@ loop-taken-preserved g c =
       parts = sym (ap (λ (h : HubRun). h.parts) (step_done step));
       acts = subst P (sym (step_written step)) acts;
       same = λ d. did.lines d ∙ c.loop-taken.invariant.same d;
+      seen = λ some. subst (λ (b : List ℕ). g.A.Attendant.saw c.follow.new.attendant c.args.arrival.at.place
+          c.take_bytes-used.new.hub b) c.deref.ensures.value c.in-Ok.ensures.seen;
+      told = λ waits. c.follow.ensures.told (c.loop-taken.invariant.told waits);
       room = did.room;
       counts = omega (arith, c.loop-taken.invariant.counts, c.in-Ok-send.ensures.counts);
       withheld = g.met.W.Wire.withheld_more c.args.wire.now c.loop-taken.wire c.send.new.wire
           c.loop-taken.invariant.withheld
           c.in-Ok-send.ensures.withheld;
       knows = c.in-Ok.ensures.known;
-      leaves = no_more_then g.K.Keeper.says c.args.keeper.now c.loop-taken.keeper c.follow.new.self
+      leaves = no_more_then g.K.Keeper.says c.args.keeper.now c.loop-taken.keeper c.follow.new.keeper
           c.loop-taken.invariant.leaves c.in-Ok.ensures.leaves;
       kept = c.in-Ok.ensures.faultless ∙ c.loop-taken.invariant.kept;
     }
@@ -90,10 +95,10 @@ loop-taken-preserved g c =
 pub returns-in-Err-clause-breaks : goal.returns-in-Err-clause-breaks
 returns-in-Err-clause-breaks g c =
     let start = c.args.hub.now in
-    let id = c.args.id in
+    let id = c.args.arrival.at.line in
     let known : HasLine start id = c.requires.known in
     let did = c.take_bytes-used.ensures.step in
-    let step : GoesOn start c.loop-taken.hub c.take_bytes-used.new.hub id c.args.piece.now c.split_at.result.1.now
+    let step : GoesOn start c.loop-taken.hub c.take_bytes-used.new.hub id c.args.arrival.piece.now c.split_at.result.1.now
     c.loop-taken.taken c.take_bytes-used.result c.take_bytes-used.new.out.items = record {
       known = known;
       now_is = c.loop-taken.invariant.parts;
@@ -111,9 +116,9 @@ returns-in-Err-clause-breaks g c =
 
 pub returns-in-Err-clause-follows : goal.returns-in-Err-clause-follows
 returns-in-Err-clause-follows g c =
-    follows_ill g.K.Keeper.says c.args.keeper.now c.follow.new.self
+    follows_ill g.K.Keeper.says c.args.keeper.now c.follow.new.keeper
     c.in-Err.fault
-    c.take_bytes-used.new.hub (no_more_then g.K.Keeper.says c.args.keeper.now c.loop-taken.keeper c.follow.new.self
+    c.take_bytes-used.new.hub (no_more_then g.K.Keeper.says c.args.keeper.now c.loop-taken.keeper c.follow.new.keeper
     c.loop-taken.invariant.leaves c.in-Err.ensures.leaves)
     (omega (arith, c.loop-taken.invariant.kept, c.in-Err.ensures.counts))
     (counted_from _ _ _ (omega (arith, c.loop-taken.invariant.kept)) c.in-Err.ensures.counted)
@@ -127,17 +132,17 @@ pub lose-requires-clause-known : goal.lose-requires-clause-known
 lose-requires-clause-known g c = omega (
   arith,
   c.requires.known,
-  c.loop-taken.invariant.same c.args.id.customer,
-  c.take_bytes-used.ensures.step.lines c.args.id.customer,
+  c.loop-taken.invariant.same c.args.arrival.at.line.customer,
+  c.take_bytes-used.ensures.step.lines c.args.arrival.at.line.customer,
 )
 
 pub returns-in-Err-send-clause-done : goal.returns-in-Err-send-clause-done
 returns-in-Err-send-clause-done g c =
     let start = c.args.hub.now in
-    let id = c.args.id in
+    let id = c.args.arrival.at.line in
     let known : HasLine start id = c.requires.known in
     let did = c.take_bytes-used.ensures.step in
-    let step : GoesOn start c.loop-taken.hub c.take_bytes-used.new.hub id c.args.piece.now c.split_at.result.1.now
+    let step : GoesOn start c.loop-taken.hub c.take_bytes-used.new.hub id c.args.arrival.piece.now c.split_at.result.1.now
     c.loop-taken.taken c.take_bytes-used.result c.take_bytes-used.new.out.items = record {
       known = known;
       now_is = c.loop-taken.invariant.parts;
@@ -150,16 +155,16 @@ returns-in-Err-send-clause-done g c =
     let n = c.loop-taken.taken + c.take_bytes-used.result in
     let frame = c.take_bytes-used.new.out.items in
     let F : List ℕ → Type 0 = λ b. g.W.Wire.says.passed c.loop-taken.wire c.send.new.wire (Unsent b ∷ []) in
-    let unsent = subst F c.deref.ensures.value c.in-Err-send.ensures.err.0 in
+    let unsent = subst F c.deref-in-loop-taken.ensures.value c.in-Err-send.ensures.err.0 in
     let some : 0 < length frame = omega (
       arith,
       c.in-Err-send.ensures.err.1,
       ap (λ (b : List ℕ). length b)
-          c.deref.ensures.value,
+          c.deref-in-loop-taken.ensures.value,
     ) in
     let any : 0 < c.take_bytes-used.result =
     c.take_bytes-used.ensures.progress (omega (arith, c.split_at.ensures.back_len)) in
-    let within : n ≤ length c.args.piece.now =
+    let within : n ≤ length c.args.arrival.piece.now =
     omega (arith, c.take_bytes-used.ensures.within, c.split_at.ensures.back_len) in
     on_ok c.lose.result (
       Some n,
@@ -172,10 +177,10 @@ returns-in-Err-send-clause-done g c =
 pub returns-in-Err-send-clause-breaks : goal.returns-in-Err-send-clause-breaks
 returns-in-Err-send-clause-breaks g c =
     let start = c.args.hub.now in
-    let id = c.args.id in
+    let id = c.args.arrival.at.line in
     let known : HasLine start id = c.requires.known in
     let did = c.take_bytes-used.ensures.step in
-    let step : GoesOn start c.loop-taken.hub c.take_bytes-used.new.hub id c.args.piece.now c.split_at.result.1.now
+    let step : GoesOn start c.loop-taken.hub c.take_bytes-used.new.hub id c.args.arrival.piece.now c.split_at.result.1.now
     c.loop-taken.taken c.take_bytes-used.result c.take_bytes-used.new.out.items = record {
       known = known;
       now_is = c.loop-taken.invariant.parts;
@@ -188,20 +193,20 @@ returns-in-Err-send-clause-breaks g c =
     let n = c.loop-taken.taken + c.take_bytes-used.result in
     let frame = c.take_bytes-used.new.out.items in
     let F : List ℕ → Type 0 = λ b. g.W.Wire.says.passed c.loop-taken.wire c.send.new.wire (Unsent b ∷ []) in
-    let unsent = subst F c.deref.ensures.value c.in-Err-send.ensures.err.0 in
+    let unsent = subst F c.deref-in-loop-taken.ensures.value c.in-Err-send.ensures.err.0 in
     let some : 0 < length frame = omega (
       arith,
       c.in-Err-send.ensures.err.1,
       ap (λ (b : List ℕ). length b)
-          c.deref.ensures.value,
+          c.deref-in-loop-taken.ensures.value,
     ) in
     let any : 0 < c.take_bytes-used.result =
     c.take_bytes-used.ensures.progress (omega (arith, c.split_at.ensures.back_len)) in
-    let within : n ≤ length c.args.piece.now =
+    let within : n ≤ length c.args.arrival.piece.now =
     omega (arith, c.take_bytes-used.ensures.within, c.split_at.ensures.back_len) in
     on_err c.lose.result (
       AtLoss n,
-      loss_breaks g.W.Wire.says start c.lose.new.hub (Bytes id c.args.piece.now) n c.args.wire.now
+      loss_breaks g.W.Wire.says start c.lose.new.hub (Bytes id c.args.arrival.piece.now) n c.args.wire.now
           c.send.new.wire
           (bytes_unsent g.W.Wire.says c.args.wire.now c.loop-taken.wire c.send.new.wire
           g.met.W.Wire.more
@@ -212,9 +217,9 @@ returns-in-Err-send-clause-breaks g c =
 
 pub returns-in-Err-send-clause-follows : goal.returns-in-Err-send-clause-follows
 returns-in-Err-send-clause-follows g c =
-    follows_on g.K.Keeper.says c.args.keeper.now c.follow.new.self
+    follows_on g.K.Keeper.says c.args.keeper.now c.follow.new.keeper
     c.lose.new.keeper c.lose.result
-    c.lose.new.hub (no_more_then g.K.Keeper.says c.args.keeper.now c.loop-taken.keeper c.follow.new.self
+    c.lose.new.hub (no_more_then g.K.Keeper.says c.args.keeper.now c.loop-taken.keeper c.follow.new.keeper
     c.loop-taken.invariant.leaves c.in-Ok.ensures.leaves) (c.in-Ok.ensures.faultless ∙ c.loop-taken.invariant.kept)
     c.lose.ensures.follows
 
@@ -231,10 +236,10 @@ returns-in-Err-send-clause-lines g c = λ d. c.lose.ensures.step.lines d ∙ c.t
 
 pub returns-clause-done : goal.returns-clause-done
 returns-clause-done g c =
-    let all : take c.loop-taken.taken c.args.piece.now ≡ c.args.piece.now = take_all _ c.args.piece.now (omega arith) in
-    let on : after_bytes c.args.hub.now c.args.id (take c.loop-taken.taken c.args.piece.now)
-    ≡ hub_run c.args.hub.now (Bytes c.args.id c.args.piece.now ∷ []) =
-    ap (after_bytes c.args.hub.now c.args.id) all ∙ sym (whole_done c.args.hub.now (Bytes c.args.id c.args.piece.now))
+    let all : take c.loop-taken.taken c.args.arrival.piece.now ≡ c.args.arrival.piece.now = take_all _ c.args.arrival.piece.now (omega arith) in
+    let on : after_bytes c.args.hub.now c.args.arrival.at.line (take c.loop-taken.taken c.args.arrival.piece.now)
+    ≡ hub_run c.args.hub.now (Bytes c.args.arrival.at.line c.args.arrival.piece.now ∷ []) =
+    ap (after_bytes c.args.hub.now c.args.arrival.at.line) all ∙ sym (whole_done c.args.hub.now (Bytes c.args.arrival.at.line c.args.arrival.piece.now))
     in
     let P : HubRun → Type 0 = λ h. g.W.Wire.says.passed c.args.wire.now c.loop-taken.wire (map sent_act h.sent) in (
       None,

@@ -1,4 +1,4 @@
-use Rattle.std.proofs.Common.{◌≡◌, ◌≤◌, ◌-◌, length, map, take}
+use Rattle.std.proofs.Common.{◌≡◌, ◌<◌, ◌≤◌, ◌-◌, length, map, take, None}
 use Rattle.std.specs.Vec.{vec_capacity}
 use Rattle.njh_bisync.specs.Limits.{longest_frame}
 use Rattle.njh_hub.specs.WholeHub.{SameLines}
@@ -11,9 +11,11 @@ use Rattle.njh_turns.proofs.turn.pass_bytes.Given as goal
 abbrev pub invariant-loop-taken : goal.invariant-loop-taken
 invariant-loop-taken g l = record {
   within : l.taken ≤ length l.piece;
-  parts : l.hub ≡ (after_bytes l.fn.hub l.id (take l.taken l.piece)).parts;
-  acts : g.W.Wire.says.passed l.fn.wire l.wire (map sent_act (after_bytes l.fn.hub l.id (take l.taken l.piece)).sent);
+  parts : l.hub ≡ (after_bytes l.fn.hub l.at.line (take l.taken l.piece)).parts;
+  acts : g.W.Wire.says.passed l.fn.wire l.wire (map sent_act (after_bytes l.fn.hub l.at.line (take l.taken l.piece)).sent);
   same : SameLines l.fn.hub l.hub;
+  seen : 0 < l.taken → g.A.Attendant.saw l.attendant l.at.place l.hub l.out.items;
+  told : g.A.Attendant.waits l.fn.attendant None → g.A.Attendant.waits l.attendant None;
   room : longest_frame ≤ vec_capacity l.out;
   counts : g.W.Wire.says.count l.fn.wire ≤ g.W.Wire.says.count l.wire;
   withheld : g.W.Wire.says.withheld l.fn.wire l.wire;

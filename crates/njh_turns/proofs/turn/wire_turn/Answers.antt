@@ -8,7 +8,7 @@ returns-clause-turn g c =
     let read = c.read-reading in
     let did = c.in-Ok.ensures.heard in (
       _,
-      read_turn g.W.Wire.says c.args.hub.now c.act_on.new.hub c.args.visit.line c.args.visit.quiet read.result
+      read_turn g.W.Wire.says c.args.hub.now c.act_on.new.hub c.args.visit.at.line c.args.visit.quiet read.result
           read.new.into did.0 c.args.wire.now read.new.self c.act_on.new.wire g.met.W.Wire.more read.ensures.answered
           read.ensures.counts read.ensures.counted (λ w. c.requires.resting (read.ensures.prompted w)) did.1,
       c.quiets_behind-quiets.ensures.quiets,
@@ -25,7 +25,7 @@ returns-in-Err-clause-breaks g c =
     let read = c.read-reading in
     let did = c.in-Err.ensures.breaks in (
       _,
-      turn_breaks g.W.Wire.says c.args.hub.now c.act_on.new.hub c.args.visit.line c.args.visit.quiet
+      turn_breaks g.W.Wire.says c.args.hub.now c.act_on.new.hub c.args.visit.at.line c.args.visit.quiet
           read.result read.new.into did.0 did.2 c.args.wire.now read.new.self c.act_on.new.wire
           g.met.W.Wire.more read.ensures.answered read.ensures.counts read.ensures.counted
           (λ w. c.requires.resting (read.ensures.prompted w)) did.1 did.3,

@@ -1,6 +1,7 @@
 use Rattle.std.proofs.Common.{ap, ◌∙◌, rules}
 use Rattle.std.proofs.lemmas.Fn.{filter_same}
-use Rattle.njh_console.specs.Consoles.{ConsoleState, staying}
+use Rattle.njh_console.specs.Consoles.{ConsoleState}
+use Rattle.njh_console.specs.Seats.{staying}
 use Rattle.njh_console.proofs.console.Console.let_go.Goals as goal
 
 pub returns-clause-seats : goal.returns-clause-seats

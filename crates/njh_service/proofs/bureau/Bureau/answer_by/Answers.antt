@@ -2,7 +2,7 @@ use Rattle.std.proofs.Common.{◌∙◌, Some, ap, map, subst, inr}
 use Rattle.std.specs.Prelude.{Option}
 use Rattle.njh_console.specs.Consoles.{ConsoleState, IsRoundServed}
 use Rattle.njh_table.specs.TableFile.{TableFile}
-use Rattle.njh_service.specs.Bureaus.{state_told, Attended}
+use Rattle.njh_service.specs.Bureaus.{view_told, Attended}
 use Rattle.njh_service.specs.Revisions.{opened_tables}
 use Rattle.njh_service.proofs.bureau.Bureau.answer_by.Goals as goal
 
@@ -13,6 +13,7 @@ returns-clause-asked g c =
     let scene = c.new-situation.result in
     let Tables : Attended V → Option TableFile = λ seen. opened_tables seen.exchange.tables in
     let Own : Attended V → ConsoleState V = λ seen. seen.console in
+    let Seen = λ (seen : Attended V). seen.exchange.arrivals in
     let served = subst (λ (before : ConsoleState V). IsRoundServed scene before c.serve.new.self c.serve.result)
     (ap Own c.self.view_is) c.serve.ensures.served in
     inr (
@@ -20,7 +21,8 @@ returns-clause-asked g c =
       record {
         parts_are = c.new-situation.ensures.parts;
         tables_are = ap Some c.new-situation.ensures.tables ∙ (c.in-Some.ensures ∙ ap Tables c.self.view_is);
-        lines_are = ap (map state_told) c.new-situation.ensures.lines ∙ c.requires;
+        lines_are = ap (map view_told) c.new-situation.ensures.lines ∙ c.requires;
+        arrivals_are = c.new-situation.ensures.arrivals ∙ (c.arrivals-arrivals.ensures ∙ ap Seen c.self.view_is);
       },
       served,
     )

@@ -5,8 +5,13 @@ use Rattle.njh_console.specs.Orders.{TakenOrders}
 use Rattle.njh_request.specs.declared.request.Moment.{Moment}
 use Rattle.njh_service.specs.Bureaus.{Attended}
 use Rattle.njh_service.specs.Watching.{Watched}
-use Rattle.njh_service.proofs.BureauLaws.{obeyed_after, obeyed_as}
+use Rattle.njh_service.proofs.BureauLaws.{none_drain, obeyed_after, obeyed_as}
 use Rattle.njh_service.proofs.bureau.Bureau.serve_console.Goals as goal
+
+-- no line drains that didn't
+pub invariant_of-self : goal.invariant_of-self
+invariant_of-self g c =
+    λ is. none_drain c.self-2.inside.exchange c.tell_astray.new.self c.tell_astray.ensures (c.self-2.invariant is)
 
 -- one visitor at most was answered, and each was written to
 pub returns-clause-served : goal.returns-clause-served
@@ -24,14 +29,16 @@ returns-clause-served g c =
       what = what;
       between = between.console;
       asked = c.answer-act.ensures.asked;
-      obeyed = obeyed_as what c.args.self.now next _ (ap Seen c.self-2.view_is) (ap Stop c.self-2.view_is)
+      obeyed = obeyed_as what c.args.self.now next _ (c.tell_astray.ensures ∙ ap Seen c.self-2.view_is)
+          (ap Stop c.self-2.view_is)
           (obeyed_after what c.args.self.now between next c.answer-act.ensures.same.0 c.answer-act.ensures.same.1
           c.obey.ensures.obeyed);
-      tended = subst (λ (moment : ℕ). AreTended moment between.console.seats c.tend.new.self.seats)
-          (c.now-now.ensures ∙ ap Now c.self.view_is)
-          (subst (λ (before : ConsoleState V). AreTended c.now-now.result before.seats c.tend.new.self.seats) console
-          c.tend.ensures.seats);
-      orders = c.tend.ensures.orders ∙ ap Orders console;
+      astray = c.tend-astray.result;
+      tended = subst (λ (moment : ℕ). AreTended moment between.console.seats c.tend-astray.new.self.seats
+          c.tend-astray.result) (c.now-now.ensures ∙ ap Now c.self.view_is)
+          (subst (λ (before : ConsoleState V). AreTended c.now-now.result before.seats c.tend-astray.new.self.seats
+          c.tend-astray.result) console c.tend-astray.ensures.seats);
+      orders = c.tend-astray.ensures.orders ∙ ap Orders console;
     }
 
 pub returns-clause-given : goal.returns-clause-given
@@ -40,7 +47,7 @@ returns-clause-given g c =
     let Own : Attended V → ConsoleState V = λ seen. seen.console in
     let Orders : ConsoleState V → TakenOrders = λ console. console.orders in
     let console = ap Own c.self-2.view_is ∙ c.obey.ensures.console in
-    ap (λ (orders : TakenOrders). orders.given) (c.tend.ensures.orders ∙ ap Orders console) ∙ c.answer-act.ensures.given
+    ap (λ (orders : TakenOrders). orders.given) (c.tend-astray.ensures.orders ∙ ap Orders console) ∙ c.answer-act.ensures.given
 
 pub returns-clause-over : goal.returns-clause-over
 returns-clause-over g c =

@@ -17,5 +17,5 @@ returns-clause-served g c =
     let same = c.deref.ensures.value ∙ sym c.deref-2.ensures.value in
     c.in_ok-add_lines.ensures on (c.in_ok-sites.ensures.opened ∙ ap sites same)
     ∙ (ap (λ (before : List ServedLine). before ++ map (served_on on) c.deref-2.result.now)
-    (c.sites_on.ensures.lines ∙ c.know_customers.ensures)
+    (c.sites_on.ensures.lines ∙ c.know_customers.ensures.lines)
     ∙ ap lines c.deref-2.ensures.value)

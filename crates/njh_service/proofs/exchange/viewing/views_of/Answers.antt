@@ -1,6 +1,7 @@
 use Rattle.std.proofs.Common.{ap, map, ◌∙◌}
 use Rattle.std.proofs.lemmas.List.{take_all}
-use Rattle.njh_service.proofs.BureauLaws.{state_in, told_more}
+use Rattle.njh_service.specs.Bureaus.{post_told}
+use Rattle.njh_service.proofs.BureauLaws.{told_more}
 use Rattle.njh_service.proofs.exchange.viewing.views_of.Goals as goal
 
 -- a line more is told
@@ -13,4 +14,4 @@ loop-place-preserved g c =
 -- all lines are
 pub returns : goal.returns
 returns g c =
-    c.loop-place.invariant ∙ ap (map state_in) (take_all c.loop-place.place c.args.posts.now c.loop-place-test.false)
+    c.loop-place.invariant ∙ ap (map post_told) (take_all c.loop-place.place c.args.posts.now c.loop-place-test.false)

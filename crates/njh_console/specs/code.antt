@@ -1,0 +1,3 @@
+-- What only bodies and proofs speak of.
+pub mod Looking
+pub mod Pages

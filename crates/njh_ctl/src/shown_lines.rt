@@ -1,0 +1,188 @@
+//! What is told of lines, for people.
+
+use crate::answers::{count_in, list_in, text_in};
+use crate::fault::CtlFault;
+use crate::shown::{add, member, moment_text};
+use serde_json::Value;
+use std::alloc::Global;
+
+/// What stands above lines.
+pub(crate) const LINES: &str =
+    "CUSTOMER LINE     NODE     ROLE    STATE    SESSION    TURN   SINCE                SITE\n";
+
+/// Tells of a customer's lines.
+pub(crate) fn show_lines(
+    alloc: Global,
+    customer: &str,
+    lines: &[Value],
+    out: &mut String,
+) -> Result<(), CtlFault> {
+    for line in lines {
+        show_line(alloc, customer, line, out)?;
+        show_messages(alloc, line, out)?;
+        show_streams(alloc, line, out)?;
+    }
+    Ok(())
+}
+
+/// Tells of a line and its session.
+fn show_line(
+    alloc: Global,
+    customer: &str,
+    line: &Value,
+    out: &mut String,
+) -> Result<(), CtlFault> {
+    let name = text_in(line, "name")?;
+    let node = text_in(line, "node")?;
+    let role = text_in(line, "role")?;
+    add(
+        out,
+        format!(in alloc; "{customer:<8} {name:<8} {node:<8} {role:<7} "),
+    )?;
+    let served = member(line, "served")?;
+    let session = member(line, "session")?;
+    if served.is_null() {
+        return add(out, String::from_str(alloc, "not served\n"));
+    }
+    show_session(alloc, served, session, out)
+}
+
+/// Tells of a line's session and connection.
+fn show_session(
+    alloc: Global,
+    served: &Value,
+    session: &Value,
+    out: &mut String,
+) -> Result<(), CtlFault> {
+    let state = text_in(served, "state")?;
+    let site = text_in(served, "site")?;
+    let phase = text_in(session, "phase")?;
+    let turn = text_in(session, "turn")?;
+    let since = since_text(alloc, served)?;
+    let since = since.as_str();
+    add(
+        out,
+        format!(in alloc; "{state:<8} {phase:<10} {turn:<6} {since:<20} {site}\n"),
+    )?;
+    show_troubles(alloc, served, session, out)
+}
+
+/// Since when the session is up, or else there is a connection, if one of the two is so.
+fn since_text(alloc: Global, served: &Value) -> Result<String, CtlFault> {
+    match served.get("up").and_then(Value::as_u64) {
+        Some(moment) => moment_text(alloc, moment),
+        None => match served.get("connected").and_then(Value::as_u64) {
+            Some(moment) => moment_text(alloc, moment),
+            None => Ok(String::from_str(alloc, "-")?),
+        },
+    }
+}
+
+/// Tells why the last session ended, and what had to be asked for or sent again.
+fn show_troubles(
+    alloc: Global,
+    served: &Value,
+    session: &Value,
+    out: &mut String,
+) -> Result<(), CtlFault> {
+    let last = text_in(served, "last_end")?;
+    if !last.is_empty() {
+        add(out, format!(in alloc; "  last end: {last}\n"))?;
+    }
+    let refusals = count_in(session, "refusals")?;
+    let tries = count_in(session, "tries")?;
+    if refusals > 0 || tries > 0 {
+        add(
+            out,
+            format!(in alloc; "  tries {tries}, refusals {refusals}\n"),
+        )?;
+    }
+    show_repeats(alloc, served, out)
+}
+
+/// Tells how many NAKs and how many blocks again were sent, if any were.
+fn show_repeats(alloc: Global, served: &Value, out: &mut String) -> Result<(), CtlFault> {
+    let naks = count_in(served, "naks")?;
+    let repeats = count_in(served, "repeats")?;
+    if naks > 0 || repeats > 0 {
+        add(out, format!(in alloc; "  naks {naks}, repeats {repeats}\n"))?;
+    }
+    Ok(())
+}
+
+/// Tells how many nodal messages wait, if any do.
+fn show_messages(alloc: Global, line: &Value, out: &mut String) -> Result<(), CtlFault> {
+    match line.get("messages").and_then(Value::as_u64) {
+        None | Some(0) => Ok(()),
+        Some(1) => add(out, String::from_str(alloc, "  1 message waits\n")),
+        Some(count) => add(out, format!(in alloc; "  {count} messages wait\n")),
+    }
+}
+
+/// Tells what comes and goes on a line's streams.
+fn show_streams(alloc: Global, line: &Value, out: &mut String) -> Result<(), CtlFault> {
+    let mut number: u64 = 0;
+    for stream in list_in(line, "from_hub")? {
+        number = number.saturating_add(1);
+        show_sender(alloc, number, stream, out)?;
+    }
+    number = 0;
+    for stream in list_in(line, "to_hub")? {
+        number = number.saturating_add(1);
+        show_receiver(alloc, number, stream, out)?;
+    }
+    Ok(())
+}
+
+/// Tells what goes on a stream, if something does.
+fn show_sender(
+    alloc: Global,
+    number: u64,
+    stream: &Value,
+    out: &mut String,
+) -> Result<(), CtlFault> {
+    if stream.is_null() {
+        return Ok(());
+    }
+    let state = text_in(stream, "state")?;
+    match stream.get("name").and_then(Value::as_str) {
+        Some(name) => {
+            let sent = count_in(stream, "sent")?;
+            let records = count_in(stream, "records")?;
+            add(
+                out,
+                format!(in alloc; "  from the hub, stream {number}: {name}, {state}, "),
+            )?;
+            add(out, format!(in alloc; "{sent} of {records} records\n"))
+        }
+        None => add(
+            out,
+            format!(in alloc; "  from the hub, stream {number}: {state}\n"),
+        ),
+    }
+}
+
+/// Tells what comes on a stream, if something does.
+fn show_receiver(
+    alloc: Global,
+    number: u64,
+    stream: &Value,
+    out: &mut String,
+) -> Result<(), CtlFault> {
+    if stream.is_null() {
+        return Ok(());
+    }
+    match stream.get("records").and_then(Value::as_u64) {
+        Some(records) => add(
+            out,
+            format!(in alloc; "  to the hub, stream {number}: {records} records\n"),
+        ),
+        None => {
+            let state = text_in(stream, "state")?;
+            add(
+                out,
+                format!(in alloc; "  to the hub, stream {number}: {state}\n"),
+            )
+        }
+    }
+}
