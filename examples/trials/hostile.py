@@ -125,7 +125,7 @@ def next_peer(port, within=3.0):
         peer.settimeout(within)
         try:
             asked(peer)
-        except TimeoutError:
+        except socket.timeout:
             return f"the next peer isn't answered within {within:.0f} s"
         except (OSError, AssertionError) as error:
             return f"the next peer: {type(error).__name__} {error}"
@@ -190,7 +190,7 @@ def sends_a_byte_at_a_time(hub, places):
 
 def random_bytes(hub, places):
     with connected(places[0].port) as peer:
-        data, begin, at = random.Random(1).randbytes(1 << 20), time.monotonic(), 0
+        data, begin, at = bytes(random.Random(1).choices(range(256), k=1 << 20)), time.monotonic(), 0
         peer.setblocking(False)
         while time.monotonic() < begin + 30:
             reads, writes, _ = select.select([peer], [peer] if at < len(data) else [], [], 1)
@@ -378,7 +378,7 @@ def connects_and_closes(hub, places):
         try:
             peer.connect(("127.0.0.1", places[0].port))
             count += 1
-        except TimeoutError:
+        except socket.timeout:
             waited += 1
         peer.close()
     lasted = time.monotonic() - begin

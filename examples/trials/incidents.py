@@ -157,7 +157,7 @@ def peer_that_hangs(options, loop):
         with contextlib.closing(connected(hub.ports[0])) as second:
             second.settimeout(0.5)
             second.sendall(bytes.fromhex("012d"))
-            with contextlib.suppress(TimeoutError):
+            with contextlib.suppress(socket.timeout):
                 raise Wrong(f"the second is answered by {second.recv(2).hex()}")
         done("LYON's program hangs in its session, and the one that is started anew gets no answer")
         hub.shows(r"lyon.*up", "lines", "ACME")
@@ -332,12 +332,17 @@ def port_in_use(options, loop):
 def reboot(options, loop):
     """The machine is shut down and comes again, once in order and once not."""
     with Bureau(options).starts() as hub:
-        for number, end in ((42, lambda: hub.step("shutdown")), (43, lambda: hub.process.send_signal(signal.SIGKILL))):
+        ends = (
+            (42, lambda: hub.step("shutdown"), "the operator ends the service"),
+            (43, lambda: hub.process.send_signal(signal.SIGKILL), "file in: LYON.43"),
+        )
+        for number, end, told in ends:
             anna = peer_up(loop, hub.ports[0], "LYON")
             anna.to_send.append(letter(number, "METZ"))
             is_so(f"LYON.{number} is kept", loop, lambda: anna.went == 1)
             end()
             done(f"the hub has ended with status {hub.ends()}")
+            hub.says(told)
             anna.close()
             hub.starts()
             hub.shows(rf"LYON\.{number}", "files", "ACME")
