@@ -166,6 +166,7 @@ fn ends_at_once(rt: HostRuntime) -> Result<(), Fail> {
     wanted.extend_from_slice(
         b"1970-01-01T00:00:01.000Z ACME a1: connected from 10.0.0.0:5000\n1500 to 0: 1070\n",
     )?;
+    wanted.extend_from_slice(b"1970-01-01T00:00:02.000Z the operator ends the service\n")?;
     add_text(&mut wanted, 2000, DONE);
     let wanted = str::from_utf8(&wanted).unwrap_or("no text");
     end_at(&rt, rt.alloc(), TABLES, &acts, 2000, wanted)
