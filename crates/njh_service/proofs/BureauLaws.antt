@@ -11,8 +11,12 @@ use Rattle.njh_console.specs.Consoles.{ConsoleState}
 use Rattle.njh_console.specs.declared.act.Act.{Act}
 use Rattle.njh_console.specs.declared.act.Act.TheVariants as act
 use Rattle.njh_hub.specs.WholeHub.{Part}
+use Rattle.njh_turns.specs.Service.{order_event, ordered, routes_event}
+use Rattle.njh_turns.specs.declared.attendant.NewOrder.{NewOrder}
+use Rattle.njh_turns.specs.declared.attendant.NewRoutes.{NewRoutes}
 use Rattle.njh_request.specs.declared.request.Moment.{Moment}
-use Rattle.njh_service.specs.Bureaus.{lines_told, post_told, stop_after, view_told, Attended, IsAsked, IsObeyed, ToldLine}
+use Rattle.njh_service.specs.Bureaus.{lines_told, order_in, post_told, stop_after, view_told}
+use Rattle.njh_service.specs.Bureaus.{Attended, IsAsked, IsObeyed, ToldLine}
 use Rattle.njh_service.specs.LineStates.{is_draining, is_free, line_settled, line_wished, with_state, AreMade}
 use Rattle.njh_service.specs.LineStates.{NoneDrains}
 use Rattle.njh_service.specs.Watching.{served_line, ServedLine, Watched}
@@ -36,6 +40,17 @@ pub none_settled : (parts : List Part) (lines : List ServedLine) → NoneDrains 
     → AreMade (line_settled parts) lines lines
 none_settled parts lines none place =
     settled_where parts (slice_get lines place) (λ line found. none place line found)
+
+-- an order that is brought is the one in its event
+pub order_in_its_event : (brought : Option NewOrder)
+    → order_in (option_map order_event brought) ≡ option_map ordered brought
+order_in_its_event None = refl
+order_in_its_event (Some new) = refl
+
+-- in the event of new routes is none
+pub routes_are_no_order : (brought : Option NewRoutes) → order_in (option_map routes_event brought) ≡ None
+routes_are_no_order None = refl
+routes_are_no_order (Some new) = refl
 
 -- what is told of posts is what is told of their lines, with what was noted of the steps on them
 posts_told : {L C : Type 0} (address_of : L → SocketAddr) (posts : List (Post L C))

@@ -6,7 +6,10 @@ use Rattle.njh_console.specs.Consoles.{AreTended, ConsoleState, IsRoundServed}
 use Rattle.njh_console.specs.Scenes.{Scene}
 use Rattle.njh_console.specs.declared.act.Act.{Act}
 use Rattle.njh_console.specs.declared.act.Act.TheVariants as act
+use Rattle.njh_customer.specs.declared.given_order.GivenOrder.{GivenOrder}
 use Rattle.njh_hub.specs.WholeHub.{Part}
+use Rattle.njh_hub.specs.declared.event.Event.{Event}
+use Rattle.njh_hub.specs.declared.event.Event.TheVariants as events
 use Rattle.njh_request.specs.declared.request.Moment.{Moment}
 use Rattle.njh_request.specs.declared.request.Moment.TheVariants.{AtOnce, WhenIdle}
 use Rattle.njh_table.specs.declared.LineId.{LineId}
@@ -24,6 +27,12 @@ pub record Attended (V : Type 0) : Type 0 where
   pub drains : Bool
   pub stop : Option Moment
   pub is_over : Bool
+
+-- the order that is given by an event, with its customer, if one is
+abbrev pub order_in : Option Event → Option (ℕ × GivenOrder)
+order_in None = None
+order_in (Some (events.Order customer order)) = Some (customer, order)
+order_in (Some other) = None
 
 -- ---- when the service ends
 

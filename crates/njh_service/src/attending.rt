@@ -13,13 +13,14 @@ use std::io::Write;
 impl<N: Network + Drop, L: Write + Drop, S: TableSource + Drop> Attendant<LineWire<N::Connection>>
     for Bureau<N, L, S> {
     ghost use Rattle.std.specs.Prelude.{◌≡◌};
+    ghost use Rattle.njh_service.specs.Bureaus.{order_in};
     ghost use Rattle.njh_service.specs.Steps.{HasNoted};
 
     // It noted the session of the line at a place as the step left it, and the frame that it sent.
     ghost saw = { λ bureau place parts frame. HasNoted bureau.exchange place parts frame };
 
     // It waits to hear of the order that its console gave.
-    ghost waits = { λ bureau order. bureau.console.orders.given ≡ order };
+    ghost waits = { λ bureau event. bureau.console.orders.given ≡ order_in event };
 
     /// The operator may end it.
     fn is_over(&self) -> bool {
@@ -30,15 +31,17 @@ impl<N: Network + Drop, L: Write + Drop, S: TableSource + Drop> Attendant<LineWi
         self.begin_round(wires);
     }
 
+    #[tactic(auto, using(crate::proofs::BureauLaws::routes_are_no_order))]
     fn new_routes(&mut self) -> Option<NewRoutes> {
         self.exchange.revise()
     }
 
-    fn routes_given(&mut self, customer: u16, answer: Result<(), HubFault>) {
-        self.exchange.tell_routes(customer, answer);
+    fn routes_given(&mut self, _hub: &Hub, new: &NewRoutes, answer: Result<(), HubFault>) {
+        self.exchange.tell_routes(new.customer, answer);
     }
 
     /// What the operator ordered in the round before.
+    #[tactic(auto, using(crate::proofs::BureauLaws::order_in_its_event))]
     fn new_order(&mut self) -> Option<NewOrder> {
         self.console.order()
     }

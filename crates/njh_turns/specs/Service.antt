@@ -6,12 +6,14 @@ use Rattle.njh_table.specs.declared.LineId.{LineId}
 use Rattle.njh_customer.specs.Orders.{replies_to}
 use Rattle.njh_customer.specs.declared.given_order.GivenOrder.{GivenOrder}
 use Rattle.njh_hub.specs.declared.event.Event.{Event}
+use Rattle.njh_hub.specs.declared.event.Event.TheVariants.{Order, Routes}
 use Rattle.njh_hub.specs.declared.fault.HubFault.{HubFault}
 use Rattle.njh_hub.specs.OwnEvents.{customer_of_event, events_of}
 use Rattle.njh_hub.specs.RunStops.{IsGiven}
 use Rattle.njh_hub.specs.Steps.{IsOrdered}
 use Rattle.njh_hub.specs.WholeHub.{Part, part, IsNamed, IsWay, hub_run}
 use Rattle.njh_turns.specs.declared.attendant.NewOrder.{NewOrder}
+use Rattle.njh_turns.specs.declared.attendant.NewRoutes.{NewRoutes}
 use Rattle.njh_turns.specs.Turns.{Turn, Placed, HubMoment, HadTurns, turn_at, quiets_after, round_events}
 use Rattle.njh_turns.specs.WireLaws.{own_wires}
 use Rattle.njh_turns.specs.Wires.{WireAct, WireSays}
@@ -121,6 +123,20 @@ WasGiven parts (Some event) new = CanBeGiven parts event × (new ≡ (hub_run pa
 -- an order with its customer, as an attendant brings it
 abbrev pub ordered : NewOrder → ℕ × GivenOrder
 ordered new = (new.customer, new.order)
+
+-- what an attendant brings, as the event that it is
+abbrev pub routes_event : NewRoutes → Event
+routes_event new = Routes new.customer new.routes
+
+abbrev pub order_event : NewOrder → Event
+order_event new = Order new.customer new.order
+
+-- What came of new routes: the customer for whom they were brought was given just these, or they were refused and
+-- nothing has changed.
+pub record AreRoutesAnswered {A : Type 0} (parts : List Part) (brought : NewRoutes) (answer : Result A HubFault)
+    (new : List Part) : Type 0 where
+  pub given : OnOk answer (WasGiven parts (Some (routes_event brought)) new)
+  pub refused : OnErr answer (new ≡ parts)
 
 -- What came of an order, and what is said of it: the replies to it where it was done, none where it was refused.
 pub record IsAnswered {A : Type 0} (parts : List Part) (given : ℕ × GivenOrder) (answer : Result A HubFault)

@@ -2,7 +2,7 @@
 
 ghost use Rattle.std.specs.Prelude.{List, Some, None, IsSome, IsTrue, option_map};
 ghost use Rattle.njh_hub.specs.WholeHub.{Part};
-ghost use Rattle.njh_turns.specs.Service.{AreStill, IsAnswered, ordered};
+ghost use Rattle.njh_turns.specs.Service.{order_event, ordered, routes_event, AreRoutesAnswered, AreStill, IsAnswered};
 
 use crate::wire::Wire;
 use njh_command::Replies;
@@ -31,14 +31,14 @@ pub struct NewOrder {
 /// by it: it may let out what was written. The hub is told of the routes and the orders alone.
 pub trait Attendant<W: Wire> {
     ghost use Rattle.std.specs.Prelude.{⊤, ℕ, Option};
-    ghost use Rattle.njh_customer.specs.declared.given_order.GivenOrder.{GivenOrder};
+    ghost use Rattle.njh_hub.specs.declared.event.Event.{Event};
 
     /// It may bring new routes and orders, and end the service. One that says nothing of it may.
     ghost steers: { Type 0 } = { ⊤ };
 
-    /// Which order of which customer it waits for an answer to, if any. One that says nothing of it
-    /// may wait for any and for none.
-    ghost waits: { Self → Option (ℕ × GivenOrder) → Type 0 } = { λ attendant order. ⊤ };
+    /// Which routes or which order of which customer it waits for an answer to, if any. One that says
+    /// nothing of it may wait for any and for none.
+    ghost waits: { Self → Option Event → Type 0 } = { λ attendant event. ⊤ };
 
     /// What it noted of the step that it was told of last: the place of its wire, the hub after it,
     /// and the frame that it sent. One that says nothing of it may have noted anything.
@@ -56,16 +56,18 @@ pub trait Attendant<W: Wire> {
     /// New routes, where a customer is to have some. It is asked once before each round.
     fn new_routes(&mut self) -> Option<NewRoutes>
         ensures brought { IsSome result → steers }
-        ensures asks_none { waits self.old None → waits self.new None };
+        ensures asks { waits self.old None → waits self.new (option_map routes_event result) };
 
-    /// What came of the routes that it brought: those of `Hub::set_routes`.
-    fn routes_given(&mut self, customer: u16, answer: Result<(), HubFault>)
-        ensures asks_none { waits self.old None → waits self.new None };
+    /// What came of the routes that it brought: the customer has them, or why `Hub::set_routes`
+    /// refused them. What the routes made of the customer's files is kept then.
+    fn routes_given(&mut self, hub: &Hub, new: &NewRoutes, answer: Result<(), HubFault>)
+        requires answered { (before : List Part) × AreRoutesAnswered before new.now answer hub.now }
+        ensures asks_none { waits self.old (Some (routes_event new.now)) → waits self.new None };
 
     /// An order, where there is one for a customer. It is asked once before each round.
     fn new_order(&mut self) -> Option<NewOrder>
         ensures brought { IsSome result → steers }
-        ensures asks { waits self.old None → waits self.new (option_map ordered result) };
+        ensures asks { waits self.old None → waits self.new (option_map order_event result) };
 
     /// What came of the order that it brought: the replies to it, or why `Hub::order` refused it.
     /// What the order made of the customer's files is kept then.
@@ -77,7 +79,7 @@ pub trait Attendant<W: Wire> {
         replies: &Replies,
     )
         requires answered { (before : List Part) × IsAnswered before (ordered new.now) answer replies.now hub.now }
-        ensures asks_none { waits self.old (Some (ordered new.now)) → waits self.new None };
+        ensures asks_none { waits self.old (Some (order_event new.now)) → waits self.new None };
 
     /// Whether the wire at this place is visited in this round. One that isn't has the turn of an
     /// answer `Pending`: no event, and its count of quiets stays.

@@ -76,7 +76,7 @@ impl<W: Wire> Attendant<W> for EveryWire {
         None
     }
 
-    fn routes_given(&mut self, _customer: u16, _answer: Result<(), HubFault>) {}
+    fn routes_given(&mut self, _hub: &Hub, _new: &NewRoutes, _answer: Result<(), HubFault>) {}
 
     fn new_order(&mut self) -> Option<NewOrder> {
         None

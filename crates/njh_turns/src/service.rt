@@ -1,12 +1,12 @@
 //! A service: rounds of turns, with an attendant between them.
 
-ghost use Rattle.std.specs.Prelude.{◌≡◌, ◌<◌, ℕ, [], List, length, Option, Some, None, IsSome, OnOk, OnErr, IfOk, All};
-ghost use Rattle.njh_customer.specs.declared.given_order.GivenOrder.{GivenOrder};
+ghost use Rattle.std.specs.Prelude.{◌≡◌, ◌<◌, [], List, length, Option, Some, None, IsSome, OnOk, OnErr, IfOk, All};
 ghost use Rattle.njh_hub.specs.declared.event.Event.{Event};
 ghost use Rattle.njh_hub.specs.WholeHub.{HasLine, Part, SameLines};
 ghost use Rattle.njh_turns.specs.Breaks.{GivenBreak, ServiceBreaks};
 ghost use Rattle.njh_turns.specs.Keeping.{IsSettled, Keeps, LeadsHub, LeavesEither};
-ghost use Rattle.njh_turns.specs.Service.{IsAnswered, IsAttended, WasGiven, ordered};
+ghost use Rattle.njh_turns.specs.Service.{AreRoutesAnswered, IsAnswered, IsAttended, WasGiven};
+ghost use Rattle.njh_turns.specs.Service.{order_event, ordered, routes_event};
 ghost use Rattle.njh_turns.specs.Turns.{moment, hub_wires};
 
 use crate::attendant::{Attendant, NewOrder, NewRoutes};
@@ -78,6 +78,7 @@ fn give_routes<W: Wire, K: Keeper, A: Attendant<W>>(
     ensures breaks { OnErr result (A.steers × (event : Event)
         × GivenBreak (K.says.may_leave keeper.new) hub.old event hub.new) }
     ensures told { OnOk result (A.waits attendant.old None → A.waits attendant.new None) }
+    ensures untold { OnErr result (A.waits attendant.old None → (event : Event) × A.waits attendant.new (Some event)) }
     ensures keeps { Keeps K.says keeper.old result hub.new keeper.new }
     ensures lines { SameLines hub.old hub.new }
 {
@@ -98,12 +99,14 @@ fn give<W: Wire, K: Keeper, A: Attendant<W>>(
     requires settled { IsSettled K.says keeper.old hub.old }
     ensures given { OnOk result ((given : Option Event) × WasGiven hub.old given hub.new) }
     ensures breaks { OnErr result ((event : Event) × GivenBreak (K.says.may_leave keeper.new) hub.old event hub.new) }
-    ensures told { OnOk result (A.waits attendant.old None → A.waits attendant.new None) }
+    ensures told { OnOk result (A.waits attendant.old (Some (routes_event new.now)) → A.waits attendant.new None) }
+    ensures untold { OnErr result (A.waits attendant.old (Some (routes_event new.now))
+        → A.waits attendant.new (Some (routes_event new.now))) }
     ensures keeps { Keeps K.says keeper.old result hub.new keeper.new }
     ensures lines { SameLines hub.old hub.new }
 {
     match set_kept(hub, keeper, new) {
-        Ok(answer) => attendant.routes_given(new.customer, answer),
+        Ok(answer) => attendant.routes_given(hub, new, answer),
         Err(fault) => return Err(fault),
     }
     Ok(())
@@ -119,6 +122,7 @@ fn set_kept<K: Keeper>(
     requires settled { IsSettled K.says keeper.old hub.old }
     ensures given { OnOk result ((given : Option Event) × WasGiven hub.old given hub.new) }
     ensures breaks { OnErr result ((event : Event) × GivenBreak (K.says.may_leave keeper.new) hub.old event hub.new) }
+    ensures answered { IfOk result (λ answer. AreRoutesAnswered hub.old new.now answer hub.new) }
     ensures keeps { Keeps K.says keeper.old result hub.new keeper.new }
     ensures lines { SameLines hub.old hub.new }
 {
@@ -144,8 +148,7 @@ fn give_order<W: Wire, K: Keeper, A: Attendant<W>>(
     ensures breaks { OnErr result (A.steers × (event : Event)
         × GivenBreak (K.says.may_leave keeper.new) hub.old event hub.new) }
     ensures told { OnOk result (A.waits attendant.old None → A.waits attendant.new None) }
-    ensures untold { OnErr result (A.waits attendant.old None
-        → (given : ℕ × GivenOrder) × A.waits attendant.new (Some given)) }
+    ensures untold { OnErr result (A.waits attendant.old None → (event : Event) × A.waits attendant.new (Some event)) }
     ensures keeps { Keeps K.says keeper.old result hub.new keeper.new }
     ensures lines { SameLines hub.old hub.new }
 {
@@ -166,9 +169,9 @@ fn carry_out<W: Wire, K: Keeper, A: Attendant<W>>(
     requires settled { IsSettled K.says keeper.old hub.old }
     ensures given { OnOk result ((given : Option Event) × WasGiven hub.old given hub.new) }
     ensures breaks { OnErr result ((event : Event) × GivenBreak (K.says.may_leave keeper.new) hub.old event hub.new) }
-    ensures told { OnOk result (A.waits attendant.old (Some (ordered new.now)) → A.waits attendant.new None) }
-    ensures untold { OnErr result (A.waits attendant.old (Some (ordered new.now))
-        → A.waits attendant.new (Some (ordered new.now))) }
+    ensures told { OnOk result (A.waits attendant.old (Some (order_event new.now)) → A.waits attendant.new None) }
+    ensures untold { OnErr result (A.waits attendant.old (Some (order_event new.now))
+        → A.waits attendant.new (Some (order_event new.now))) }
     ensures keeps { Keeps K.says keeper.old result hub.new keeper.new }
     ensures lines { SameLines hub.old hub.new }
 {

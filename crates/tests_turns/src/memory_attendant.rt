@@ -100,7 +100,7 @@ impl MemoryAttendant {
 impl Attendant<MemoryWire> for MemoryAttendant {
     ghost use Rattle.std.specs.Prelude.{◌≡◌, is_some};
 
-    ghost waits = { λ attendant order. attendant.waits ≡ is_some order };
+    ghost waits = { λ attendant event. attendant.waits ≡ is_some event };
 
     fn is_over(&self) -> bool {
         self.rounds == Some(self.after)
@@ -111,14 +111,17 @@ impl Attendant<MemoryWire> for MemoryAttendant {
     }
 
     fn new_routes(&mut self) -> Option<NewRoutes> {
-        self.brought.take()
+        let routes = self.brought.take();
+        self.waits = routes.is_some();
+        routes
     }
 
-    fn routes_given(&mut self, _customer: u16, answer: Result<(), HubFault>) {
+    fn routes_given(&mut self, _hub: &Hub, _new: &NewRoutes, answer: Result<(), HubFault>) {
         match answer {
             Ok(()) => self.given = self.given.saturating_add(1),
             Err(fault) => self.refused = Some(fault),
         }
+        self.waits = false;
     }
 
     fn new_order(&mut self) -> Option<NewOrder> {
