@@ -6,8 +6,8 @@ ACME has lines to LYON, METZ, NICE and PARIS. LYON answers each block of the hub
 NICE sends each block garbled before it sends it right. METZ isn't there at first; then it comes and says nothing in its
 turn for two ticks; then it takes its turn. After each step `ctl lines` is to have exactly as many messages that wait,
 NAKs and repeats as these peers make: messages that wait now, NAKs that the hub sent and blocks that it sent again since
-it was started. Then PARIS sends files for METZ: when each came, and the line that METZ goes by, none once its route is
-gone; and what a start tells of those that FILE has. FILE's size may differ by two pages from what the file system says.
+it was started. Then PARIS sends files for METZ: when each came, also once the hub was started anew, and the line that
+METZ goes by, none once its route is gone. FILE's size may differ by two pages from what the file system says.
 
 The table has a row for each step, with what `ctl` says, what it is to say, and whether that is so.
 """
@@ -209,18 +209,18 @@ def lines_of(files):
     return {file.get("line", "-") for file in files}
 
 
-def started_anew(rows, loop, spool):
-    """What is told of the files that FILE has, and of one that comes then."""
+def started_anew(rows, loop, spool, before):
+    """What is told of the files that FILE has, which came at these times, and of one that comes then."""
     files = rows.files()
-    right = len(files) == FILES and all("came" in file and file["came"] is None for file in files)
-    rows.show("after a start: files, and those without a time", len(files), FILES, right)
+    right = [file["came"] for file in files] == before
+    rows.show("after a start: files, with the times of before", len(files), FILES, right and len(files) == FILES)
     rows.show("after a start: their lines", lines_of(files), {"metz"}, lines_of(files) == {"metz"})
     begin = int(time.time())
     paris = peer_up(loop, FilePeer, rows.hub.ports[3], "PARIS")
     paris.to_send.append(file_to(FILES + 1))
     loop.run(5, lambda: paris.went == 1)
     came = [file.get("came") for file in rows.files()]
-    right = came[:-1] == [None] * FILES and came[-1] is not None and begin <= came[-1] <= time.time()
+    right = came[:-1] == before and came[-1] is not None and begin <= came[-1] <= time.time()
     rows.show("after a start: when the file that comes then came", came[-1] if came else "", f"{begin} or later", right)
     rows.size(spool, "after the start")
     paris.close()
@@ -250,6 +250,7 @@ def main():
             messages_that_wait(rows, loop, ports, paris)
             naks_and_repeats(rows, loop, ports, lyon)
             files_that_wait(rows, loop, paris, spool, routes)
+            before = [file["came"] for file in rows.files()]
             lyon.close()
             paris.close()
             hub.prints("shutdown")
@@ -258,7 +259,7 @@ def main():
         with served(options, ports, routes, spool) as hub:
             hub.listens()
             rows = Rows(hub, loop)
-            started_anew(rows, loop, spool)
+            started_anew(rows, loop, spool, before)
             wrong += rows.wrong
     loop.close()
     sys.exit(wrong > 0)

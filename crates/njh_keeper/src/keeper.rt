@@ -214,6 +214,12 @@ impl<'a, R: Clock, S: Origin + Drop> Depot for SpoolKeeper<'a, R, S> {
         self.open_hub(alloc, tables)
     }
 
+    fn came(&self, customer: u16, index: u32) -> Option<u64> {
+        let own = self.customers.get(usize::from(customer))?;
+        let seconds = own.came(index as usize)?;
+        Some(u64::from(seconds))
+    }
+
     fn tell<W: fmt::Write>(&self, number: usize, to: &mut W) -> Option<fmt::Result> {
         let refused = self.refused.get(number)?;
         Some(write!(to, "{refused}"))

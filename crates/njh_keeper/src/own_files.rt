@@ -1,6 +1,7 @@
 //! What a keeper remembers of a customer's files.
 
 ghost use Rattle.std.specs.Prelude.{◌≡◌, ℕ, ◌<◌, ◌≤◌, length, take, get_or, remove, slice_get, None, IfSome, IsSomeAnd};
+ghost use Rattle.std.specs.Prelude.{option_map};
 ghost use Rattle.std.specs.List.{AllByRecursion};
 ghost use Rattle.njh_keeper.specs.code.Partly.{IsAnother};
 
@@ -85,6 +86,16 @@ pub(crate) struct HubFile {
 }
 
 impl OwnFiles {
+    /// When the whole file at an index in the order of arrival became whole, in seconds since 1970.
+    pub(crate) fn came(&self, index: usize) -> Option<u32>
+        ensures { result ≡ option_map (λ f. f.came) (slice_get self.now.whole.items index) }
+    {
+        match self.whole.get(index) {
+            Some(file) => Some(file.came),
+            None => None,
+        }
+    }
+
     /// The first place where a file of this number is remembered that wasn't whole, and can be the
     /// one with so many records now.
     pub(crate) fn place_of(&self, number: FileId, records: u32) -> Option<usize>

@@ -118,6 +118,15 @@ impl<N: Network + Drop, L: Write + Drop, S: TableSource + Drop> Bureau<N, L, S> 
         self.exchange.open_lines(alloc, tables, listening, needed)
     }
 
+    /// Knows of each file that a depot opened a hub with when it came, as far as the depot does.
+    pub(crate) fn know_arrivals<D: Depot>(&mut self, depot: &D, hub: &Hub)
+        ensures { self.new ≡ record self.old {
+          exchange = record self.old.exchange { arrivals = self.new.exchange.arrivals };
+        } }
+    {
+        self.exchange.know_arrivals(depot, hub);
+    }
+
     /// Tells all that an operator is to know of what a depot opened.
     pub(crate) fn tell_opened<D: Depot>(&mut self, depot: &D)
         ensures { self.new ≡ self.old }

@@ -109,13 +109,16 @@ fn service_of<N: Network + Drop, L: Write + Drop, S: TableSource + Drop, D: Depo
     requires known { All (λ endpoint. HasLine tables endpoint.line) endpoints.now }
     requires apart { IsApart endpoints.now }
     ensures opened { IfOk result (λ service. IsOpenedOn (D.opens depot service.depot tables) endpoints.now service) }
-    ensures attended { IfOk result (λ service. service.attendant ≡ bureau) }
+    ensures attended { IfOk result (λ service. service.attendant ≡ record bureau {
+      exchange = record bureau.exchange { arrivals = service.attendant.exchange.arrivals };
+    }) }
     ensures places { IfOk result (λ service. ArePlaced service.wires) }
     ensures settled { IfOk result (λ service. IsSettled D.says service.depot service.hub) }
 {
     let customers = tables.customers().len();
     match depot.open(alloc, tables) {
         Ok(hub) => {
+            bureau.know_arrivals(&depot, &hub);
             bureau.tell_opened(&depot);
             bureau.tell_ready(customers, endpoints.len(), &hub);
             service_over(alloc, hub, depot, endpoints, bureau)

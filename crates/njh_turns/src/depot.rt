@@ -48,6 +48,11 @@ pub trait Depot: Keeper {
         ensures settled { IfOk result (λ hub. IsSettled Self.says self.new hub) }
         ensures spared { spares self.old self.new result };
 
+    /// When the whole file at this index of a customer's, in their order of arrival, came to the hub
+    /// that kept it, in seconds since the beginning of 1970; none if that isn't known. Asked right
+    /// after an opening.
+    fn came(&self, customer: u16, index: u32) -> Option<u64>;
+
     /// Writes the thing of this number, counted from 0, that an operator is to know of what was
     /// opened: a few words without an end of line. None if there are no more.
     fn tell<W: fmt::Write>(&self, number: usize, to: &mut W) -> Option<fmt::Result>;
@@ -67,6 +72,10 @@ impl Depot for KeepsNothing {
             Ok(hub) => Ok(hub),
             Err(_) => Err(DepotFault::Memory),
         }
+    }
+
+    fn came(&self, _customer: u16, _index: u32) -> Option<u64> {
+        None
     }
 
     fn tell<W: fmt::Write>(&self, _number: usize, _to: &mut W) -> Option<fmt::Result> {

@@ -87,6 +87,7 @@ fn play_over<S: Origin + Drop>(
 /// Plays a run with a keeper.
 fn play_kept<D: Depot>(files: &SpoolFiles<'_>, keeper: &mut D, run: &str) -> Result<(), Fail> {
     let mut hub = files.hub_of(keeper)?;
+    check_times(keeper, &hub)?;
     let mut left = u32::MAX;
     for line in run.lines() {
         if let Some(note) = line.strip_prefix("# ") {
@@ -100,6 +101,22 @@ fn play_kept<D: Depot>(files: &SpoolFiles<'_>, keeper: &mut D, run: &str) -> Res
         }
     }
     check_kept(files, &hub, "at the end", None)
+}
+
+/// A depot that opened a hub knows when each whole file of the two customers came, and of no more.
+fn check_times<D: Depot>(depot: &D, hub: &Hub) -> Result<(), Fail> {
+    for customer in 0..2 {
+        let count = hub.file_count(customer);
+        for index in 0..count {
+            if depot.came(customer, index).is_none() {
+                return Err("when a file came that was put back isn't known".into());
+            }
+        }
+        if depot.came(customer, count).is_some() {
+            return Err("a file came that isn't there".into());
+        }
+    }
+    Ok(())
 }
 
 /// Does what a note says, and answers how many blocks come from now on.

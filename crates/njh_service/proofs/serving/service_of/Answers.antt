@@ -1,7 +1,8 @@
-use Rattle.std.proofs.Common.{List, ◌∙◌}
+use Rattle.std.proofs.Common.{List, ap, sym, ◌∙◌}
 use Rattle.std.proofs.lemmas.Result.{IfOk-weaker}
 use Rattle.njh_hub.specs.WholeHub.{Part}
 use Rattle.njh_turns.specs.Keeping.{IsSettled}
+use Rattle.njh_service.specs.Bureaus.{Attended}
 use Rattle.njh_service.proofs.EndpointLaws.{opened_endpoints}
 use Rattle.njh_service.proofs.ServiceLaws.{opened_on, settled_on}
 use Rattle.njh_service.proofs.serving.service_of.Goals as goal
@@ -22,8 +23,14 @@ returns-in-Ok-clause-settled g c =
     settled_on (λ depot (parts : List Part). IsSettled g.D.Keeper.says depot parts) c.in-Ok.hub c.open.new.self
     c.service_over.result c.in-Ok.ensures.settled c.service_over.ensures.hub c.service_over.ensures.depot
 
--- what was told leaves the attendant as it was
+-- the attendant knows when files came, and what was told leaves it as it was
 pub returns-in-Ok-clause-attended : goal.returns-in-Ok-clause-attended
 returns-in-Ok-clause-attended g c =
-    IfOk-weaker c.service_over.result _ _ (λ service same. same ∙ (c.tell_ready.ensures ∙ c.tell_opened.ensures))
+    let A : Type 0 = Attended g.row.N-Visitor.Denot in
+    let Knowing : A → A = λ seen. record c.args.bureau {
+      exchange = record c.args.bureau.exchange { arrivals = seen.exchange.arrivals };
+    } in
+    let told = c.tell_ready.ensures ∙ c.tell_opened.ensures in
+    IfOk-weaker c.service_over.result _ _
+    (λ service same. same ∙ told ∙ c.know_arrivals.ensures ∙ ap Knowing (sym (same ∙ told)))
     c.service_over.ensures.attended
