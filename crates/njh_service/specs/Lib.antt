@@ -21,4 +21,5 @@ pub mod Steps
 pub mod Telling
 pub mod Waking
 pub mod Watching
+pub mod Wrong
 pub mod code

@@ -292,21 +292,29 @@ impl<N: Network + Drop, L: Write + Drop, S: TableSource + Drop> Bureau<N, L, S> 
             return None;
         }
         match self.exchange.line_views(self.alloc, wires) {
-            Ok(lines) => self.answer_with(hub, &lines),
+            Ok(lines) => self.answer_with(hub, wires, &lines),
             Err(_) => None,
         }
     }
 
     /// Answers at most one request of a visitor, by these lines, if there is memory for what is to
     /// be told of the service.
-    fn answer_with(&mut self, hub: &Hub, lines: &[LineView]) -> Option<Act>
+    fn answer_with(
+        &mut self,
+        hub: &Hub,
+        wires: &[LineWire<N::Connection>],
+        lines: &[LineView],
+    ) -> Option<Act>
         requires { map view_told lines.now ≡ lines_told self.old.exchange.lines self.old.exchange.steps }
         ensures same { IsObeyed None self.old self.new }
         ensures asked { IsAsked hub.now self.old.exchange self.old.console self.new.console result }
         ensures given { self.new.console.orders.given ≡ self.old.console.orders.given }
         ensures over { self.new.is_over ≡ self.old.is_over }
     {
-        match self.exchange.service_view(self.alloc, self.since) {
+        match self
+            .exchange
+            .service_view(self.alloc, self.since, hub, wires)
+        {
             Ok(service) => self.answer_by(hub, &service, lines),
             Err(_) => None,
         }

@@ -213,6 +213,14 @@ impl Customers {
         *self.names.get(usize::from(customer))?
     }
 
+    /// How many files a customer may have, whole and coming in; 0 if that isn't known.
+    pub(crate) fn most_files(&self, customer: u16) -> u32 {
+        match self.most_files.get(usize::from(customer)) {
+            Some(most) => *most,
+            None => 0,
+        }
+    }
+
     /// Whether a customer that has so many whole files has come near the number that it may have.
     /// Answers that number if so.
     pub(crate) fn has_come_near_files(&mut self, customer: usize, files: u32) -> Option<u32> {

@@ -19,6 +19,7 @@ ghost use Rattle.njh_service.specs.declared.attention.Watch.{Watch};
 ghost use Rattle.njh_service.specs.declared.steps.Steps.{Steps};
 ghost use Rattle.njh_service.specs.declared.traffic.Traffic.{Traffic};
 
+mod faults;
 pub(crate) mod states;
 mod viewing;
 mod waking;
@@ -30,6 +31,7 @@ use crate::attention::{
 use crate::customers::Customers;
 use crate::desk::Desk;
 use crate::door::Door;
+use crate::line_text::LineText;
 use crate::log::Log;
 use crate::post::{Label, LineNames, Post};
 use crate::ready::{Version, version_of};
@@ -63,6 +65,10 @@ pub struct Exchange<N: Network + Drop, L: Write + Drop, S: TableSource + Drop> {
     pub(crate) revision: Revision<S>,
     /// When files came.
     pub(crate) arrivals: Arrivals,
+    /// What the log told of the table file, if it wasn't taken when it was looked at last.
+    pub(crate) table_fault: Option<LineText>,
+    /// How many files that were kept couldn't be put back at the start.
+    pub(crate) aside: usize,
 }
 
 impl<N: Network + Drop, L: Write + Drop, S: TableSource + Drop> Model for Exchange<N, L, S> {
@@ -115,6 +121,8 @@ impl<N: Network + Drop, L: Write + Drop, S: TableSource + Drop> Exchange<N, L, S
             next: 0,
             revision,
             arrivals: Arrivals::empty(alloc),
+            table_fault: None,
+            aside: 0,
         }
     }
 
@@ -128,6 +136,7 @@ impl<N: Network + Drop, L: Write + Drop, S: TableSource + Drop> Exchange<N, L, S
             groups,
             revision,
             arrivals,
+            table_fault,
             ..
         } = self;
         drop(posts);
@@ -136,6 +145,7 @@ impl<N: Network + Drop, L: Write + Drop, S: TableSource + Drop> Exchange<N, L, S
         drop(groups);
         drop(revision);
         drop(arrivals);
+        drop(table_fault);
         desk.into_log()
     }
 

@@ -53,6 +53,7 @@ mod streams;
 mod table_source;
 mod telling;
 mod traffic;
+mod wrong;
 
 pub use awaited::Awaited;
 pub use bureau::Bureau;

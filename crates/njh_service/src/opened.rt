@@ -28,6 +28,7 @@ impl<N: Network + Drop, L: Write + Drop, S: TableSource + Drop> Exchange<N, L, S
     {
         for number in 0..usize::MAX {
             if !self.tell_thing(depot, number) {
+                self.aside = number;
                 return;
             }
         }

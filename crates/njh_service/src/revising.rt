@@ -6,11 +6,14 @@ ghost use Rattle.njh_service.specs.Revisions.{AreKept, IsGiven};
 use crate::entry::LogEvent;
 use crate::exchange::Exchange;
 use crate::heading::Place;
+use crate::line_text::LineText;
 use crate::revision::SourceOutcome;
 use crate::table_source::TableSource;
 use njh_hub::{Hub, HubFault};
 use njh_turns::NewRoutes;
 use njh_wire::Network;
+use std::fmt;
+use std::fmt::Write as _;
 use std::io::Write;
 
 impl<N: Network + Drop, L: Write + Drop, S: TableSource + Drop> Exchange<N, L, S> {
@@ -40,6 +43,7 @@ impl<N: Network + Drop, L: Write + Drop, S: TableSource + Drop> Exchange<N, L, S
             return;
         };
         self.desk.write(outcome.severity(), Place::Hub, &outcome);
+        self.table_fault = fault_in(&outcome);
         if let SourceOutcome::Taken(before) = &outcome {
             if let Some(known) = self.revision.known() {
                 self.desk.tell_new_routes(known, before);
@@ -82,4 +86,17 @@ impl<N: Network + Drop, L: Write + Drop, S: TableSource + Drop> Exchange<N, L, S
             self.desk.tell_of(name, LogEvent::Unrouted(files));
         }
     }
+}
+
+/// What is told of a table file that wasn't taken.
+fn fault_in<F: fmt::Display + Drop>(outcome: &SourceOutcome<F>) -> Option<LineText> {
+    let mut text = LineText::new();
+    match outcome {
+        SourceOutcome::Refused(_) => {}
+        SourceOutcome::Differs(_) => {}
+        SourceOutcome::Same => return None,
+        SourceOutcome::Taken(_) => return None,
+    }
+    let _whole = write!(text, "{outcome}").is_ok();
+    Some(text)
 }

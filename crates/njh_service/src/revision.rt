@@ -150,7 +150,8 @@ impl<S: TableSource + Drop> Revision<S> {
     /// Takes new tables, if a customer can be given other routes by them or nothing differs.
     fn take(&mut self, tables: Tables) -> Option<SourceOutcome<S::Fault>>
         ensures kept { AreKept self.old self.new }
-        ensures taken { IfSome self.old (λ old. IsPassedOver result ⊎ (self.new ≡ Some (record old { last = tables }))) }
+        ensures taken { IfSome self.old (λ old.
+            IsPassedOver result ⊎ (self.new ≡ Some (record old { last = tables }))) }
         ensures passed { IsPassedOver result → self.new ≡ self.old }
     {
         let known = self.known.as_mut()?;
@@ -179,7 +180,8 @@ impl<S: TableSource + Drop> Revision<S> {
     /// The routes of the next customer that waits for some. If there is no memory for them, the
     /// customer's number.
     pub fn next_routes(&mut self) -> Option<Result<NewRoutes, u16>>
-        ensures routes { IfSome result (λ given. IfOk given (λ new. IfSome self.new (IsGiven new.customer new.routes))) }
+        ensures routes { IfSome result (λ given. IfOk given (λ new.
+            IfSome self.new (IsGiven new.customer new.routes))) }
         ensures kept { self.new ≡ self.old }
     {
         let customer = self.next_customer()?;
@@ -215,6 +217,18 @@ impl<S: TableSource + Drop> Revision<S> {
             .customers()
             .get(usize::from(customer))?;
         Some((entry.name(), unrouted_files(customer, entry, hub)))
+    }
+
+    /// Why a customer hasn't the routes of the tables that were last taken, if it can't have them.
+    pub(crate) fn why_behind(&self, customer: u16) -> Option<&'static str> {
+        match self.route_states.get(usize::from(customer))? {
+            RouteState::Has => None,
+            RouteState::Waits => None,
+            RouteState::Lacks => Some("its new routes were refused"),
+            RouteState::Apart => {
+                Some("more than its routes differs in the table file; its routes stay")
+            }
+        }
     }
 
     /// Notes whether a customer has its routes now. Answers its name.

@@ -17,12 +17,13 @@ ghost use Rattle.njh_service.specs.Sessions.{after_step, barred_until, moment_se
 ghost use Rattle.njh_service.specs.Sessions.{HasRefused, IsInSession, IsReady};
 ghost use Rattle.njh_service.specs.Steps.{steps_after};
 
-use crate::awaited::{awaits_again, due_next, is_told};
+use crate::awaited::{awaits_again, is_told};
 use crate::desk::Desk;
 use crate::ending::{refusal_event, session_end, tries_end};
 use crate::entry::{LogEvent, SessionEnd};
 use crate::post::{Label, Post};
 use crate::traffic::Sight;
+use crate::wrong::due_event;
 use njh_answer::Arrivals;
 use njh_hub::{Hub, SessionView};
 use njh_line::Phase;
@@ -97,8 +98,8 @@ impl<N: Network + Drop, L: Write + Drop> Desk<N, L> {
     }
 
     /// Notes what a step on a line left, which sent this frame: tells what became of its files and
-    /// which commands were carried out, and keeps what is to be told of its session. That one gave up is seen at the end of the turn, by
-    /// what came last.
+    /// which commands were carried out, and keeps what is to be told of its session. That one gave
+    /// up is seen at the end of the turn, by what came last.
     pub(crate) fn follow(
         &mut self,
         post: &mut Post<N::Listener, N::Connection>,
@@ -228,10 +229,7 @@ fn awaited_event(
     if !(is_connected && is_told(label.no_session_since, label.awaits_again, now)) {
         return None;
     }
-    match due_next(session.phase, session.role) {
-        Some(what) => Some(LogEvent::NoSession(what)),
-        None => None,
-    }
+    due_event(session)
 }
 
 /// Why a connection ended, once the hub has heard of it. It need not hear of one that was ended as
@@ -256,7 +254,7 @@ fn heard_end<C: Connection + Drop>(wire: &mut LineWire<C>, gave_up: bool) -> Opt
 }
 
 /// What is shown of a line's session.
-fn session_of(hub: &Hub, id: LineId) -> SessionView
+pub(crate) fn session_of(hub: &Hub, id: LineId) -> SessionView
     ensures { HasLine hub.now id → result ≡ line_view (hub_line id hub.now).state }
 {
     match hub.session(id) {

@@ -135,7 +135,7 @@ pub(crate) fn has_come_near(near: &mut bool, used: u32, quota: u32) -> bool
 
 /// Whether a customer counts as near its quota, which it begins to be at nine tenths of it and
 /// ceases to be below eight.
-fn near_after(was: bool, used: u32, quota: u32) -> bool
+pub(crate) fn near_after(was: bool, used: u32, quota: u32) -> bool
     ensures { result ≡ near_after was used quota }
 {
     let tenths = if was { 8 } else { 9 };

@@ -49,3 +49,5 @@ mod socket_tests;
 mod state_tests;
 #[cfg(test)]
 mod world;
+#[cfg(test)]
+mod wrong_tests;

@@ -7,7 +7,7 @@ use std::alloc::AllocError;
 use std::test::Fail;
 
 /// A visitor asks that the line a1 is stopped.
-const STOP: Act = Act::Visits(
+pub(crate) const STOP: Act = Act::Visits(
     b"PUT /v1/lines/a1 HTTP/1.1\r\nhost: hub\r\ncontent-length: 19\r\n\r\n{\"state\":\"stopped\"}",
 );
 
@@ -31,7 +31,7 @@ const END_WHEN_IDLE: Act = Act::Visits(
 );
 
 /// What is answered to each.
-const DONE: &str =
+pub(crate) const DONE: &str =
     " told: HTTP/1.1 202 Accepted\r\ncontent-type: application/json\r\ncontent-length: 2\r\n\r\n{}\n";
 
 /// LYON asks whether it may send a file on SYSIN 1.

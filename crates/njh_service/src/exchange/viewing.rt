@@ -5,14 +5,13 @@ ghost use Rattle.njh_service.specs.Bureaus.{lines_told, post_told, view_told};
 ghost use Rattle.njh_service.specs.Revisions.{opened_tables};
 
 use super::Exchange;
-use crate::door::Door;
+use super::faults::is_connected_at;
 use crate::line_clock::LineClock;
 use crate::post::Post;
-use crate::site::Site;
 use crate::table_source::TableSource;
 use njh_answer::{Arrivals, LineView, ServiceView};
 use njh_command::Replies;
-use njh_hub::HubFault;
+use njh_hub::{Hub, HubFault};
 use njh_table::{LineId, Tables};
 use njh_turns::NewOrder;
 use njh_wire::{Connection, LineWire, Network};
@@ -103,14 +102,6 @@ fn views_of<Li: Drop, C: Connection + Drop>(
     Ok(views)
 }
 
-/// Whether somebody is connected on the wire at a place.
-fn is_connected_at<C: Connection + Drop>(wires: &[LineWire<C>], place: usize) -> bool {
-    match wires.get(place) {
-        Some(wire) => wire.is_connected(),
-        None => false,
-    }
-}
-
 /// What is told of a line.
 fn view_of<Li: Drop, C: Drop>(
     alloc: Global,
@@ -169,10 +160,12 @@ impl<N: Network + Drop, L: Write + Drop, S: TableSource + Drop> Exchange<N, L, S
         &self,
         alloc: Global,
         since: i64,
+        hub: &Hub,
+        wires: &[LineWire<N::Connection>],
     ) -> Result<ServiceView, AllocError> {
         let version = self.version;
         let version = format!(in alloc; "{version}")?;
-        let faults = self.faults(alloc)?;
+        let faults = self.faults(alloc, hub, wires)?;
         Ok(ServiceView {
             version,
             since: u64::try_from(since / 1000).unwrap_or(0),
@@ -180,37 +173,4 @@ impl<N: Network + Drop, L: Write + Drop, S: TableSource + Drop> Exchange<N, L, S
             faults,
         })
     }
-
-    /// What is wrong now, a sentence each.
-    fn faults(&self, alloc: Global) -> Result<Vec<String>, AllocError> {
-        let mut faults = Vec::new(alloc);
-        for post in &self.posts {
-            add_fault(alloc, post, &mut faults)?;
-        }
-        Ok(faults)
-    }
-}
-
-/// Adds what is wrong with a line, if something is: its port can't be listened on, or its last dial
-/// failed.
-fn add_fault<Li: Drop, C: Drop>(
-    alloc: Global,
-    post: &Post<Li, C>,
-    faults: &mut Vec<String>,
-) -> Result<(), AllocError> {
-    let customer = post.label.customer;
-    let line = post.label.line.as_str();
-    match &post.site {
-        Site::Listens(Door::Shut { address, cause, .. }) => {
-            faults.push(format!(in alloc;
-                "{customer} {line}: can't listen on {address}: {cause}"
-            )?)?;
-        }
-        Site::Dials(dial) if dial.has_failed() => {
-            let address = dial.address();
-            faults.push(format!(in alloc; "{customer} {line}: no connection to {address}")?)?;
-        }
-        _ => {}
-    }
-    Ok(())
 }
