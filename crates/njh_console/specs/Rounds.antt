@@ -1,5 +1,6 @@
 -- What the console answers in a round: the first request by what there is to be told of, and no other.
-use Rattle.std.specs.Prelude.{◌≡◌, ◌⊎◌, ⊤, ℕ, ◌<◌, ◌≤◌, ◌&&◌, false, List, [], ◌∷◌, codes, cond, length, Result, Ok, Err}
+use Rattle.std.specs.Prelude.{◌≡◌, ◌⊎◌, ⊤, ℕ, ◌<◌, ◌≤◌, ◌&&◌, false, List, [], ◌∷◌, codes, cond, length}
+use Rattle.std.specs.Prelude.{Result, Ok, Err}
 use Rattle.serde_json.specs.Data.{Data}
 use Rattle.serde_json.specs.Written.{compact_text, has_float, IsInOrder}
 use Rattle.http.specs.declared.request.Request.{Request}

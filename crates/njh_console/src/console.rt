@@ -1,7 +1,7 @@
 //! The console.
 
-ghost use Rattle.std.specs.Prelude.{◌≡◌, ◌↔◌, ◌≤◌, ◌⊎◌, [], All, length, vec_capacity, IsFalse, IsTrue, IfOk, IsSome, None};
-ghost use Rattle.std.specs.Prelude.{option_map};
+ghost use Rattle.std.specs.Prelude.{◌≡◌, ◌↔◌, ◌≤◌, ◌⊎◌, [], All, length, vec_capacity, IsFalse, IsTrue, IfOk, IsSome};
+ghost use Rattle.std.specs.Prelude.{None, option_map};
 ghost use Rattle.njh_turns.specs.Service.{ordered};
 ghost use Rattle.njh_console.specs.Acts.{act_of, orders_after};
 ghost use Rattle.njh_console.specs.Consoles.{AreServed, AreTended, IsRoundServed};

@@ -194,7 +194,8 @@ fn taken_of(alloc: Global, tables: &Tables, deed: Deed) -> Result<Taken, AllocEr
 /// An order for a customer, with its name.
 fn order_of(tables: &Tables, customer: u16, order: GivenOrder) -> Taken
     requires { customer < length tables.now.customers }
-    ensures { result ≡ taken.Order (record { customer = customer; order = order }) (customer_at tables.now customer).name }
+    ensures { result
+        ≡ taken.Order (record { customer = customer; order = order }) (customer_at tables.now customer).name }
 {
     let name = tables.customer(customer).name();
     Taken::Order(NewOrder { customer, order }, name)

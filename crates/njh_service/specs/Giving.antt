@@ -14,8 +14,8 @@ IsFirstWaiting states from (Some place) = (from ≤ place) × ((slice_get states
     ((p : ℕ) → from ≤ p → p < place → slice_get states p ≢ Some Waits))
 IsFirstWaiting states from None = (p : ℕ) → from ≤ p → slice_get states p ≢ Some Waits
 
--- a customer waits for new routes if these differ from its own, or it hasn't got its own; one whose entry differs in more
--- waits for nothing
+-- a customer waits for new routes if these differ from its own, or it hasn't got its own; one whose entry differs in
+-- more waits for nothing
 abbrev pub state_after : RouteState → (apart differs : Bool) → RouteState
 state_after state true differs = Apart
 state_after Has false false = Has

@@ -1,6 +1,6 @@
 -- What is told of files that a line's streams are about no more.
-use Rattle.std.specs.Prelude.{ℕ, ◌+◌, ◌-◌, ◌==◌, min, Bool, true, false, List, Option, Some, None, option_map, option_and_then}
-use Rattle.std.specs.Prelude.{slice_get}
+use Rattle.std.specs.Prelude.{ℕ, ◌+◌, ◌-◌, ◌==◌, min, Bool, true, false, List, Option, Some, None}
+use Rattle.std.specs.Prelude.{option_map, option_and_then, slice_get}
 use Rattle.njh_hub.specs.Views.{file_summary, whole_file_on}
 use Rattle.njh_hub.specs.WholeHub.{Part}
 use Rattle.njh_hub.specs.declared.file_summary.FileSummaryView.{FileSummaryView}

@@ -2,7 +2,8 @@
 
 ghost use Rattle.std.specs.Prelude.{◌≡◌};
 ghost use Rattle.njh_service.specs.Sessions.{is_session, is_up, no_session_since, session_change, session_end};
-ghost use Rattle.njh_service.specs.Sessions.{end_after, in_session_after, refusal_event, tries_end, tries_since, up_since};
+ghost use Rattle.njh_service.specs.Sessions.{end_after, in_session_after, refusal_event, tries_end, tries_since};
+ghost use Rattle.njh_service.specs.Sessions.{up_since};
 
 use crate::entry::{LogEvent, SessionChange, SessionEnd};
 use crate::last_frame::LastFrame;

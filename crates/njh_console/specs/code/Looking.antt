@@ -9,7 +9,8 @@ use Rattle.njh_console.specs.Seats.{ArePassed, IsTurn, Seat}
 abbrev pub AreLookedAt : {V : Type 0} → DeskState → DeskState → List (Seat V) → List (Seat V) → Type 0
 AreLookedAt old new before after =
     (ArePassed before after × (new ≡ old))
-    ⊎ ((call : Call) × (others : List Call) × IsTurn before after (call ∷ others) × Chain IsServed old (call ∷ others) new)
+    ⊎ ((call : Call) × (others : List Call) × IsTurn before after (call ∷ others)
+    × Chain IsServed old (call ∷ others) new)
 
 -- Who stood at a place stands behind all the others.
 pub record IsMoved {V : Type 0} (place : ℕ) (before after : List (Seat V)) : Type 0 where
