@@ -1,5 +1,5 @@
 -- Numbers in a path and behind it are read back.
-use Rattle.std.proofs.Common.{◌≡◌, ℕ, ◌-◌, ◌^◌, ◌<◌, ◌≤◌, ◌&&◌, Bool, true, List, [], ◌∷◌, length, cond}
+use Rattle.std.proofs.Common.{◌≡◌, ℕ, ◌^◌, ◌<◌, ◌≤◌, ◌&&◌, Bool, true, List, [], ◌∷◌, length, cond}
 use Rattle.std.proofs.Common.{Some, None, refl, ap, ap₂, ◌∙◌, arith, leb, lit<}
 use Rattle.std.specs.Prelude.{not}
 use Rattle.std.specs.Fmt.{decimal}

@@ -3,9 +3,11 @@ use Rattle.std.proofs.Common.{◌≡◌, ℕ, Bool, true, List, Option, Some, No
 use Rattle.std.proofs.Common.{option_and_then, option_map, refl, ap, ◌∙◌}
 use Rattle.std.specs.Prelude.{codes}
 use Rattle.std.specs.Fmt.{decimal}
+use Rattle.std.specs.Str.{is_utf8}
 use Rattle.std.proofs.lemmas.Bool.{and_parts}
 use Rattle.serde_json.proofs.OnLiterals.{serde_json_on_literals}
 use Rattle.serde_json.specs.Data.{Data}
+use Rattle.percent_encoding.specs.Percent.{percent_decode}
 use Rattle.njh_arguments.specs.declared.console_command.Owner.{Owner}
 use Rattle.njh_request.specs.Bodies.{data_in}
 use Rattle.njh_request.specs.Fields.{text_of_characters}
@@ -91,13 +93,17 @@ line_asked (Some id) w d query body is reads = ap (body_asks (resource.Line id))
 
 -- ---- all
 
+-- what plain parts ask for
+abbrev asked_plainly : TableFile → (method path : List ℕ) → Option (List ℕ) → List ℕ → Read
+asked_plainly tables method path query body = asked_where (resource_of tables path) method query body
+
 by_path : (tables : TableFile) (method path : List ℕ) (query : Option (List ℕ)) (body : List ℕ) (r : Option Resource)
     (read : Read) → resource_of tables path ≡ r → asked_where r method query body ≡ read
-    → request_of tables method path query body ≡ read
+    → asked_plainly tables method path query body ≡ read
 by_path tables method path query body r read is asks = ap (λ (o : Option Resource). asked_where o method query body) is ∙ asks
 
 read_whole : (tables : TableFile) (q : Question) (body : List ℕ) → is_askable q ≡ true → IsBody (data_of q) body
-    → request_of tables (method_of q) (path_of q) (query_of q) body ≡ meant tables q
+    → asked_plainly tables (method_of q) (path_of q) (query_of q) body ≡ meant tables q
 read_whole tables question.Status body askable is = refl
 read_whole tables (question.Customers from) body askable is = ap customers_from (place-from_text from askable)
 read_whole tables (question.Lines customer from) body askable is =
@@ -156,7 +162,7 @@ read_whole tables (question.Shutdown when_idle) body askable is =
 
 -- a request with these parts is read as what is meant
 pub read_back : (tables : TableFile) (q : Question) (method path : List ℕ) (query : Option (List ℕ)) (body : List ℕ)
-    → is_askable q ≡ true → method ≡ method_of q → path ≡ path_of q → query ≡ query_of q → IsBody (data_of q) body
-    → request_of tables method path query body ≡ meant tables q
-read_back tables q method path query body askable method_is path_is query_is is =
-    rw (method_is, path_is, query_is) (read_whole tables q body askable is)
+    → is_askable q ≡ true → method ≡ method_of q → percent_decode path ≡ path_of q → is_utf8 (path_of q) ≡ true
+    → query ≡ query_of q → IsBody (data_of q) body → request_of tables method path query body ≡ meant tables q
+read_back tables q method path query body askable method_is path_is text query_is is =
+    rw (method_is, path_is, text, query_is) (read_whole tables q body askable is)

@@ -1,5 +1,5 @@
 -- What is asked of a console at once, as a request of HTTP; and what the console reads in it.
-use Rattle.std.specs.Prelude.{◌≡◌, ℕ, ◌++◌, ◌==◌, ◌&&◌, ◌||◌, Bool, true, List, [], codes, nat_lt, Option, Some}
+use Rattle.std.specs.Prelude.{◌≡◌, ℕ, ◌++◌, ◌==◌, ◌&&◌, not, Bool, true, List, [], codes, nat_lt, Option, Some}
 use Rattle.std.specs.Prelude.{None, option_and_then, Ok, Err}
 use Rattle.std.specs.Fmt.{decimal}
 use Rattle.std.specs.List.{list_all}
@@ -9,7 +9,6 @@ use Rattle.serde_json.specs.Data.{Data, boolean, string, object, member, no_memb
 use Rattle.njh_arguments.specs.declared.console_command.Change.{Change}
 use Rattle.njh_arguments.specs.declared.console_command.Change.TheVariants.{Hold, Release, Cancel}
 use Rattle.njh_arguments.specs.declared.console_command.Owner.{Owner}
-use Rattle.njh_ebcdic.specs.Names.{within}
 use Rattle.njh_ebcdic.specs.Reading.{name_of_text}
 use Rattle.njh_ebcdic.specs.Users.{User}
 use Rattle.njh_request.specs.Bodies.{data_in, user_at}
@@ -139,9 +138,9 @@ IsBody (Some d) body = data_in body ≡ Some d
 
 -- ---- what can be asked
 
--- a letter, a digit, $ or @
+-- no stroke: strokes part the words of a path
 abbrev pub is_path_byte : ℕ → Bool
-is_path_byte b = within 65 90 b || (within 97 122 b || (within 48 57 b || ((b == 36) || (b == 64))))
+is_path_byte b = not (b == 47)
 
 abbrev pub is_word : Text → Bool
 is_word name = list_all is_path_byte name

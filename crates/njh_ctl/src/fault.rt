@@ -10,7 +10,7 @@ use std::fmt;
 pub enum CtlFault {
     /// The console refuses it, with this sentence.
     Refused(String),
-    /// A name has a character that no name of a customer or a line has.
+    /// A name has a stroke, which no name of a customer or a line has.
     BadName,
     /// An answer isn't one of a console.
     NotUnderstood,
@@ -30,9 +30,7 @@ impl fmt::Display for CtlFault {
     fn fmt<W: fmt::Write>(&self, f: &mut fmt::Formatter<W>) -> fmt::Result {
         match self {
             CtlFault::Refused(sentence) => f.write_str(sentence.as_str()),
-            CtlFault::BadName => {
-                f.write_str("a customer's or a line's name has letters, digits, $ and @ here")
-            }
+            CtlFault::BadName => f.write_str("no customer and no line has a / in its name"),
             CtlFault::NotUnderstood => f.write_str("the console's answer isn't understood"),
             CtlFault::OrderWaits => f.write_str("the order waits; ask for it again"),
             CtlFault::Silent => f.write_str("the console doesn't answer"),

@@ -1,6 +1,8 @@
 //! What is asked, as a request of HTTP.
 
 ghost use Rattle.std.specs.Prelude.{◌≡◌, true, codes, option_map, string_bytes, IfOk};
+ghost use Rattle.std.specs.Str.{is_utf8};
+ghost use Rattle.percent_encoding.specs.Percent.{percent_decode};
 ghost use Rattle.njh_table.specs.TableFile.{TableFile};
 ghost use Rattle.njh_request.specs.Requests.{request_of};
 ghost use Rattle.njh_ctl.specs.Questions.{customer_path, from_text, is_askable, is_path_byte, is_word};
@@ -8,6 +10,7 @@ ghost use Rattle.njh_ctl.specs.Questions.{line_path, meant, order_path, path_of,
 
 use crate::bodies::body_of;
 use crate::question::Question;
+use percent_encoding::{AsciiSet, NON_ALPHANUMERIC, ascii_set, utf8_percent_encode};
 use std::alloc::{AllocError, Global};
 
 /// A request of HTTP.
@@ -30,7 +33,8 @@ impl RequestText {
         ensures { IfOk result (λ r. (tables : TableFile) → request_of tables r.method.now (string_bytes r.path)
             (option_map string_bytes r.query) (string_bytes r.body) ≡ meant tables question.now) }
     {
-        let path = path_of(alloc, question)?;
+        let plain = path_of(alloc, question)?;
+        let path = escaped(alloc, plain.as_str())?;
         let query = query_of(alloc, question)?;
         let body = body_of(alloc, question)?;
         Ok(RequestText {
@@ -42,8 +46,8 @@ impl RequestText {
     }
 }
 
-/// Whether what is asked can be written so: its names have letters, digits, $ and @ alone, and its
-/// numbers at most 18 digits.
+/// Whether what is asked can be written so: its names have no stroke, and its numbers at most 18
+/// digits.
 pub(crate) fn is_askable(question: &Question<'_>) -> bool
     ensures { result ≡ is_askable question.now }
 {
@@ -64,7 +68,7 @@ pub(crate) fn is_askable(question: &Question<'_>) -> bool
 /// The first number with more than 18 digits.
 const TOO_LARGE: u64 = 1_000_000_000_000_000_000;
 
-/// Whether a name can stand in a path as it is.
+/// Whether a name can be a word of a path.
 fn is_word(name: &str) -> bool
     ensures { result ≡ is_word name.now }
 {
@@ -74,10 +78,23 @@ fn is_word(name: &str) -> bool
 fn is_path_byte(byte: u8) -> bool
     ensures { result ≡ is_path_byte byte }
 {
-    matches!(byte, b'A'..=b'Z' | b'a'..=b'z' | b'0'..=b'9' | b'$' | b'@')
+    byte != b'/'
 }
 
-/// The path of what is asked.
+/// What is written by escapes in a path: all but letters, digits, strokes, $ and @ (RFC 3986, 2.1).
+const ESCAPED: AsciiSet = ascii_set!(NON_ALPHANUMERIC.remove(b'/').remove(b'$').remove(b'@'));
+
+/// A path with its escapes.
+fn escaped(alloc: Global, path: &str) -> Result<String, AllocError>
+    ensures plain { IfOk result (λ text. percent_decode (string_bytes text) ≡ path.now) }
+    ensures text { is_utf8 path.now ≡ true }
+{
+    let mut text = String::new(alloc);
+    utf8_percent_encode(path, ESCAPED).append_to(&mut text)?;
+    Ok(text)
+}
+
+/// The path of what is asked, without escapes.
 fn path_of(alloc: Global, question: &Question<'_>) -> Result<String, AllocError>
     ensures { IfOk result (λ path. string_bytes path ≡ path_of question.now) }
 {

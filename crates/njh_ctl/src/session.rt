@@ -202,8 +202,8 @@ fn on_error(kind: ErrorKind) -> Result<(), CtlFault> {
     }
 }
 
-/// Whether a part of a request was put behind the output: memory may be refused, and a name may have
-/// a character that no request has.
+/// Whether a part of a request was put behind the output. Out of memory is the only refusal of what
+/// has its escapes.
 fn written(put: Result<(), WriteError>) -> Result<(), CtlFault> {
     match put {
         Ok(()) => Ok(()),

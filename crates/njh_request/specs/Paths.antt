@@ -1,9 +1,12 @@
--- What a path names: `/v1/` and words, which strokes part. Names are those of the tables.
+-- What a path names: `/v1/` and words, which strokes part. Names are those of the tables. What may not stand in a path
+-- of HTTP is written by escapes, as `%23` for `#` (RFC 3986, 2.1).
 use Rattle.std.specs.Prelude.{ℕ, ◌+◌, ◌-◌, ◌*◌, ◌==◌, ◌&&◌, Bool, List, [], ◌∷◌, length, take, drop, codes, cond, not}
 use Rattle.std.specs.Prelude.{nat_le, bytes_eq, if◌then◌else◌, Option, Some, None, option_and_then, position}
 use Rattle.std.specs.Borrow.{Bor}
 use Rattle.std.specs.List.{list_all, slice_split}
 use Rattle.std.specs.Option.{option_map}
+use Rattle.std.specs.Str.{is_utf8}
+use Rattle.percent_encoding.specs.Percent.{percent_decode}
 use Rattle.njh_ebcdic.specs.Names.{is_empty, within}
 use Rattle.std.specs.Result.{result_ok}
 use Rattle.njh_ebcdic.specs.Reading.{name_of_text}
@@ -98,3 +101,11 @@ resource_of_parts tables (front ∷ parts) = if is_empty front then resource_of_
 
 abbrev pub resource_of : TableFile → List ℕ → Option Resource
 resource_of tables path = resource_of_parts tables (parts_of path)
+
+-- what plain bytes name, if they are a text
+abbrev pub resource_of_plain : TableFile → List ℕ → Option Resource
+resource_of_plain tables bytes = cond (is_utf8 bytes) (resource_of tables bytes) None
+
+-- as a request writes it
+abbrev pub resource_at : TableFile → List ℕ → Option Resource
+resource_at tables path = resource_of_plain tables (percent_decode path)

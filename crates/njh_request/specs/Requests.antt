@@ -5,7 +5,7 @@ use Rattle.njh_ebcdic.specs.Users.{User}
 use Rattle.njh_table.specs.declared.LineId.{LineId}
 use Rattle.njh_table.specs.TableFile.{TableFile}
 use Rattle.njh_request.specs.Bodies.{data_in, owner_in, string_in, text_in, user_member, waits_in}
-use Rattle.njh_request.specs.Paths.{place_in, resource_of}
+use Rattle.njh_request.specs.Paths.{place_in, resource_at}
 use Rattle.njh_request.specs.declared.refusal.Refusal.{Refusal}
 use Rattle.njh_request.specs.declared.refusal.Refusal.TheVariants.{NoResource, BadMethod, BadPlace, NotJson, BadText}
 use Rattle.njh_request.specs.declared.refusal.Refusal.TheVariants.{BadUser, BadState, BadMoment}
@@ -131,4 +131,4 @@ asked_where (Some r) method query body = asked r method query body
 
 -- What a method, a path, what stands behind it, and a body ask for.
 abbrev pub request_of : TableFile → List ℕ → List ℕ → Option (List ℕ) → List ℕ → Read
-request_of tables method path query body = asked_where (resource_of tables path) method query body
+request_of tables method path query body = asked_where (resource_at tables path) method query body

@@ -77,7 +77,7 @@ impl Request {
             ≡ request_of tables.now method.now path.now (option_map (λ q. q.now) query.entry) body.now) }
         ensures there { IfOk result (IsReadOf tables.now) }
     {
-        match Resource::of(tables, path) {
+        match Resource::at(alloc, tables, path)? {
             Some(resource) => asked(alloc, resource, method, query, body),
             None => Ok(Err(Refusal::NoResource)),
         }

@@ -1,18 +1,21 @@
 //! What a path names.
 
-ghost use Rattle.std.specs.Prelude.{◌≡◌, ◌<◌, ◌==◌, ◌∷◌, length, position, bytes_eq, IfSome};
+ghost use Rattle.std.specs.Prelude.{◌≡◌, ◌<◌, ◌==◌, ◌∷◌, length, position, bytes_eq, IfOk, IfSome};
 ghost use Rattle.std.specs.Option.{option_map};
 ghost use Rattle.njh_table.specs.TableFile.{TableFile, line_named};
 ghost use Rattle.njh_request.specs.Named.{HasCustomer, IsResourceOf};
 ghost use Rattle.njh_request.specs.Paths.{customer_named, customer_of_name, number_in};
 ghost use Rattle.njh_request.specs.Paths.{parts_of, resource_alone, resource_below, resource_named, resource_of};
 ghost use Rattle.njh_request.specs.Paths.{resource_of_customer, resource_of_parts, resource_of_version};
-ghost use Rattle.njh_request.specs.Paths.{resource_of_words};
+ghost use Rattle.njh_request.specs.Paths.{resource_at, resource_of_plain, resource_of_words};
 
 use crate::numbers::number_in;
 use crate::parts::first_part;
 use njh_ebcdic::Name;
 use njh_table::{LineId, NamedCustomer, Tables};
+use percent_encoding::percent_decode;
+use std::alloc::{AllocError, Global};
+use std::str;
 
 /// What may be asked for.
 #[derive(Clone, Copy, Debug, PartialEq, Eq)]
@@ -38,7 +41,18 @@ pub enum Resource {
 }
 
 impl Resource {
-    /// What a path names, if it names something.
+    /// What a path names as a request writes it, with escapes as `%23` for `#`, if it names
+    /// something. Out of memory is the only refusal.
+    pub fn at(alloc: Global, tables: &Tables, path: &str) -> Result<Option<Resource>, AllocError>
+        ensures resource { IfOk result (λ resource. resource ≡ resource_at tables.now path.now) }
+        ensures there { IfOk result (λ resource. IfSome resource (IsResourceOf tables.now)) }
+    {
+        let mut plain = Vec::new(alloc);
+        percent_decode(path.as_bytes()).append_to(&mut plain)?;
+        Ok(of_plain(tables, &plain))
+    }
+
+    /// What a path without escapes names, if it names something.
     pub fn of(tables: &Tables, path: &str) -> Option<Resource>
         ensures resource { result ≡ resource_of tables.now path.now }
         ensures there { IfSome result (IsResourceOf tables.now) }
@@ -48,6 +62,17 @@ impl Resource {
             return None;
         }
         of_version(tables, behind?)
+    }
+}
+
+/// What bytes name, if they are a text and it names something.
+fn of_plain(tables: &Tables, bytes: &[u8]) -> Option<Resource>
+    ensures resource { result ≡ resource_of_plain tables.now bytes.now }
+    ensures there { IfSome result (IsResourceOf tables.now) }
+{
+    match str::from_utf8(bytes) {
+        Ok(path) => Resource::of(tables, path),
+        Err(_) => None,
     }
 }
 

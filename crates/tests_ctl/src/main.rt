@@ -35,6 +35,13 @@ fn lists<R: Print + AllocGlobal>(rt: &R) -> io::Result<()> {
         false,
         &[(200, CUSTOMERS), (200, LINES), (200, LINES)],
     )?;
+    let customer = Some("DOCK#1");
+    play(
+        rt,
+        ConsoleCommand::Lines { customer },
+        true,
+        &[(200, "{\"lines\":[],\"next\":null}")],
+    )?;
     play(
         rt,
         files(None, None),

@@ -8,9 +8,9 @@ use njh_table::Tables;
 use std::alloc::{AllocError, Global};
 use std::io;
 
-/// Two customers: ACME with the lines a1 and a2, BOLT with b1.
+/// Three customers: ACME with the lines a1 and a2, BOLT with b1, DOCK#1 with d1.
 const TABLES: &str = r#"
-capacity = 200
+capacity = 300
 [[customer]]
 name = "ACME"
 hub = "BUREAU"
@@ -38,6 +38,17 @@ quota = 100
 files = 8
 [[customer.line]]
 name = "b1"
+node = "LYON"
+role = "answer"
+block = 1024
+streams = 4
+[[customer]]
+name = "DOCK#1"
+hub = "BUREAU"
+quota = 100
+files = 8
+[[customer.line]]
+name = "d1"
 node = "LYON"
 role = "answer"
 block = 1024

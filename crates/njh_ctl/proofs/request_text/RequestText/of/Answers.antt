@@ -1,4 +1,6 @@
+use Rattle.std.proofs.Common.{subst, ◌≡◌, List, ℕ, true, ◌∙◌}
 use Rattle.std.specs.Prelude.{string_bytes, option_map}
+use Rattle.std.specs.Str.{is_utf8}
 use Rattle.njh_ctl.proofs.ReadBack.{read_back}
 use Rattle.njh_ctl.proofs.request_text.RequestText.of.Goals as goal
 
@@ -6,4 +8,7 @@ pub returns : goal.returns
 returns c tables =
     read_back tables c.args.question.now c.method.result.now (string_bytes c.in_ok-path.path)
     (option_map string_bytes c.in_ok-query.query) (string_bytes c.in_ok-body.body) c.requires c.method.ensures
-    c.in_ok-path.ensures c.in_ok-query.ensures c.in_ok-body.ensures
+    (c.in_ok-path.ensures.plain ∙ c.as_str.ensures.value ∙ c.in_ok-plain.ensures)
+    (subst (λ (path : List ℕ). is_utf8 path ≡ true) (c.as_str.ensures.value ∙ c.in_ok-plain.ensures)
+    c.escaped.ensures.text)
+    c.in_ok-query.ensures c.in_ok-body.ensures
