@@ -121,23 +121,42 @@ fn show_messages(alloc: Global, line: &Value, out: &mut String) -> Result<(), Ct
 
 /// Tells what comes and goes on a line's streams.
 fn show_streams(alloc: Global, line: &Value, out: &mut String) -> Result<(), CtlFault> {
-    let mut number: u64 = 0;
+    let mut place = 0;
     for stream in list_in(line, "from_hub")? {
-        number = number.saturating_add(1);
-        show_sender(alloc, number, stream, out)?;
+        show_sender(alloc, stream_name(place), stream, out)?;
+        place = next_place(place);
     }
-    number = 0;
+    place = 0;
     for stream in list_in(line, "to_hub")? {
-        number = number.saturating_add(1);
-        show_receiver(alloc, number, stream, out)?;
+        show_receiver(alloc, stream_name(place), stream, out)?;
+        place = next_place(place);
     }
     Ok(())
+}
+
+fn next_place(place: u64) -> u64 {
+    place.saturating_add(1)
+}
+
+/// What a stream is called, by its place in an answer, as the log calls it.
+fn stream_name(place: u64) -> &'static str {
+    match place {
+        0 => "SYSIN 1",
+        1 => "SYSIN 2",
+        2 => "SYSIN 3",
+        3 => "SYSIN 4",
+        4 => "SYSOUT 1",
+        5 => "SYSOUT 2",
+        6 => "SYSOUT 3",
+        7 => "SYSOUT 4",
+        _ => "a stream",
+    }
 }
 
 /// Tells what goes on a stream, if something does.
 fn show_sender(
     alloc: Global,
-    number: u64,
+    name: &str,
     stream: &Value,
     out: &mut String,
 ) -> Result<(), CtlFault> {
@@ -146,26 +165,23 @@ fn show_sender(
     }
     let state = text_in(stream, "state")?;
     match stream.get("name").and_then(Value::as_str) {
-        Some(name) => {
+        Some(file) => {
             let sent = count_in(stream, "sent")?;
             let records = count_in(stream, "records")?;
             add(
                 out,
-                format!(in alloc; "  from the hub, stream {number}: {name}, {state}, "),
+                format!(in alloc; "  from the hub, {name}: {file}, {state}, "),
             )?;
             add(out, format!(in alloc; "{sent} of {records} records\n"))
         }
-        None => add(
-            out,
-            format!(in alloc; "  from the hub, stream {number}: {state}\n"),
-        ),
+        None => add(out, format!(in alloc; "  from the hub, {name}: {state}\n")),
     }
 }
 
 /// Tells what comes on a stream, if something does.
 fn show_receiver(
     alloc: Global,
-    number: u64,
+    name: &str,
     stream: &Value,
     out: &mut String,
 ) -> Result<(), CtlFault> {
@@ -175,14 +191,11 @@ fn show_receiver(
     match stream.get("records").and_then(Value::as_u64) {
         Some(records) => add(
             out,
-            format!(in alloc; "  to the hub, stream {number}: {records} records\n"),
+            format!(in alloc; "  to the hub, {name}: {records} records\n"),
         ),
         None => {
             let state = text_in(stream, "state")?;
-            add(
-                out,
-                format!(in alloc; "  to the hub, stream {number}: {state}\n"),
-            )
+            add(out, format!(in alloc; "  to the hub, {name}: {state}\n"))
         }
     }
 }
