@@ -14,6 +14,7 @@ ghost use Rattle.njh_service.specs.Steps.{HasNoted};
 ghost use Rattle.njh_service.specs.Watching.{served_on};
 
 use crate::endpoints::Endpoint;
+use crate::entry::LogEvent;
 use crate::exchange::Exchange;
 use crate::fault::ServeFault;
 use crate::log::Log;
@@ -27,7 +28,7 @@ use njh_request::Moment;
 use njh_table::Tables;
 use njh_turns::{Depot, NewOrder};
 use njh_wire::{LineWire, Network};
-use std::alloc::Global;
+use std::alloc::{AllocError, Global};
 use std::io::Write;
 use std::marker::Model;
 
@@ -311,13 +312,26 @@ impl<N: Network + Drop, L: Write + Drop, S: TableSource + Drop> Bureau<N, L, S> 
         ensures given { self.new.console.orders.given ≡ self.old.console.orders.given }
         ensures over { self.new.is_over ≡ self.old.is_over }
     {
-        match self
-            .exchange
-            .service_view(self.alloc, self.since, hub, wires)
-        {
+        match self.service_view(hub, wires) {
             Ok(service) => self.answer_by(hub, &service, lines),
             Err(_) => None,
         }
+    }
+
+    /// What is told of the service, and that it is to end if that was ordered. Out of memory is the
+    /// only refusal.
+    fn service_view(
+        &self,
+        hub: &Hub,
+        wires: &[LineWire<N::Connection>],
+    ) -> Result<ServiceView, AllocError> {
+        let alloc = self.alloc;
+        let mut view = self.exchange.service_view(alloc, self.since, hub, wires)?;
+        if let Some(moment) = self.stop {
+            let event = LogEvent::ServiceEnds(moment);
+            view.faults.push(format!(in alloc; "{event}")?)?;
+        }
+        Ok(view)
     }
 
     /// Answers at most one request of a visitor.

@@ -26,7 +26,7 @@ const START: Act = Act::Visits(
 const END: Act = Act::Visits(b"POST /v1/stop HTTP/1.1\r\nhost: hub\r\ncontent-length: 2\r\n\r\n{}");
 
 /// That it ends once no file is on the streams.
-const END_WHEN_IDLE: Act = Act::Visits(
+pub(crate) const END_WHEN_IDLE: Act = Act::Visits(
     b"POST /v1/stop HTTP/1.1\r\nhost: hub\r\ncontent-length: 18\r\n\r\n{\"when_idle\":true}",
 );
 
@@ -35,13 +35,13 @@ pub(crate) const DONE: &str =
     " told: HTTP/1.1 202 Accepted\r\ncontent-type: application/json\r\ncontent-length: 2\r\n\r\n{}\n";
 
 /// LYON asks whether it may send a file on SYSIN 1.
-const REQUEST: Act = Act::Sends(b"\x10\x02\x80\x8f\xcf\x90\x98\x00\x00\x10\x26");
+pub(crate) const REQUEST: Act = Act::Sends(b"\x10\x02\x80\x8f\xcf\x90\x98\x00\x00\x10\x26");
 
 /// It may.
 const PERMISSION: &str = " to 0: 1002808fcfa09800001026\n";
 
 /// LYON ends the session.
-const EOT: Act = Act::Sends(b"\x37");
+pub(crate) const EOT: Act = Act::Sends(b"\x37");
 
 /// A line that is stopped loses its connection, and lets none in until it is started.
 #[test]
@@ -185,12 +185,13 @@ fn ends_when_idle(rt: HostRuntime) -> Result<(), Fail> {
     ];
     let mut wanted = Vec::new(rt.alloc());
     add_end(&mut wanted)?;
+    wanted.extend_from_slice(b"1970-01-01T00:00:01.300Z ACME a1: file in cut off: SYSIN 1\n")?;
     let wanted = str::from_utf8(&wanted).unwrap_or("no text");
     end_at(&rt, rt.alloc(), TABLES, &acts, 1300, wanted)
 }
 
-/// Adds what is seen of a service that ends behind a file that is cut off.
-fn add_end(wanted: &mut Vec<u8>) -> Result<(), AllocError> {
+/// Adds what is seen of a service that is to end behind a file that comes.
+pub(crate) fn add_end(wanted: &mut Vec<u8>) -> Result<(), AllocError> {
     wanted.extend_from_slice(
         b"1970-01-01T00:00:01.000Z ACME a1: connected from 10.0.0.0:5000\n1000 to 0: 1070\n",
     )?;
@@ -201,7 +202,7 @@ fn add_end(wanted: &mut Vec<u8>) -> Result<(), AllocError> {
         b"1970-01-01T00:00:01.200Z the operator ends the service once no file is on a stream\n",
     )?;
     add_text(wanted, 1200, DONE);
-    wanted.extend_from_slice(b"1970-01-01T00:00:01.300Z ACME a1: file in cut off: SYSIN 1\n")
+    Ok(())
 }
 
 /// A visitor asks how ACME's lines are.
