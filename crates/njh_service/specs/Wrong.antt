@@ -1,6 +1,6 @@
--- What is wrong now with a line, as the log tells it: the first of these that is so. It isn't started; its port can't be
--- listened on, or its last dial failed; no session is up, and the last sign-on on it was refused, or its connection is
--- without a session for ten seconds.
+-- What is wrong now with a line, as the log tells it: the first of these that is so. It isn't started; its port can't
+-- be listened on, or its last dial failed; no session is up, and the last sign-on on it was refused, or its connection
+-- is without a session for ten seconds.
 use Rattle.std.specs.Prelude.{ℕ, ◌&&◌, Bool, nat_lt, if◌then◌else◌, Option, Some, None}
 use Rattle.njh_answer.specs.declared.views.LineState.{LineState}
 use Rattle.njh_answer.specs.declared.views.LineState.TheVariants.{Started, Draining, Stopped}
