@@ -1,10 +1,14 @@
 #!/usr/bin/env python3
 """Says what a run of the gate costs: by part and by crate, in minutes of CPU and GB of memory.
 
-    python3 benches/gate/minutes.py [--cpus 0,1] [the words of a command: RT_JOBS=4 rt ci where none are given]
+    python3 benches/gate/minutes.py [--cpus 0,1] [--keep] [the words of a command: RT_JOBS=4 rt ci where none are given]
 
 Where the toolchain's `rt ci` keeps what passed and no words are given, it is told to keep nothing (`--anew`); older
 ones keep nothing anyway.
+
+The file minutes.txt beside this has each crate's minutes of CPU at the last measurement. After a run that did a crate's
+whole work this says which crates took over a quarter more than they did then, where the run as a whole took so many
+times as long as then: machines differ. --keep writes what this run took into that file.
 
 Runs the command at the top of the repository (with --cpus, on these processors alone) and looks at its processes twice
 a second: the crate is the one that a check names, the part what the check is for. What a process used since it was
@@ -16,6 +20,7 @@ work; the most memory of one process in GB, and which process that was.
 """
 
 import collections
+import datetime
 import os
 import pathlib
 import resource
@@ -28,6 +33,7 @@ TICK = os.sysconf("SC_CLK_TCK")
 PAGE = os.sysconf("SC_PAGE_SIZE")
 PARTS = ("proof", "tests", "edits", "programs")
 WAIT = 0.5
+KEPT = pathlib.Path(__file__).with_name("minutes.txt")
 
 
 def words_of(pid):
@@ -54,7 +60,7 @@ def kind_of(words, folder):
     """The crate and the part that a process works for, if it says so itself."""
     if "--crate-name" in words:
         crate = words[words.index("--crate-name") + 1]
-        if "/rt-edit-" in folder:
+        if "/rt-edit-" in folder or "/wrong-bodies-" in folder:
             return crate, "edits"
         if "--test" in words:
             return crate, "tests"
@@ -100,10 +106,15 @@ class Run:
             pid = uses[pid][0]
         return None
 
-    def table(self):
+    def minutes(self):
+        """The minutes of each crate by part."""
         minutes = collections.defaultdict(collections.Counter)
         for (_, (crate, part)), seconds in self.used.items():
             minutes[crate][part] += seconds / 60
+        return minutes
+
+    def table(self):
+        minutes = self.minutes()
         row = "{:<18}" + "{:>8}" * (len(PARTS) + 3) + "  {}"
         print(row.format("crate", *PARTS, "in all", "alone", "GB", "of"))
         sums = collections.Counter()
@@ -117,6 +128,39 @@ class Run:
         memory, process = max(self.most.values(), default=(0, ""))
         more = f"{sum(self.alone.values()) / 60:.1f}", f"{memory / 1e9:.1f}", process
         print(row.format("all", *figures, f"{sum(sums.values()):.1f}", *more))
+
+
+def kept():
+    """The minutes of each crate at the last measurement: all, and each part."""
+    if not KEPT.is_file():
+        return {}
+    rows = (line.split() for line in KEPT.read_text().splitlines() if line and not line.startswith("#"))
+    return {crate: dict(zip(PARTS, map(float, figures))) for crate, *figures in rows}
+
+
+def compare(minutes, before):
+    """Says which crates took over a quarter more than at the last measurement, by how the others did."""
+    def took(figures):
+        return sum(figures.get(part, 0) for part in PARTS)
+    both = [crate for crate in before if took(before[crate]) >= 0.5 and took(minutes.get(crate, {})) >= 0.5]
+    if not both or len(both) < len(before) / 2:
+        print("too little was done anew to compare it with the last measurement")
+        return
+    factor = sum(took(minutes[crate]) for crate in both) / sum(took(before[crate]) for crate in both)
+    print(f"crates took {factor:.2f} times the minutes of the last measurement; over a quarter more than that:")
+    slow = [crate for crate in both if took(minutes[crate]) > 1.25 * factor * took(before[crate])]
+    for crate in slow:
+        print(f"    {crate}: {took(minutes[crate]):.1f} minutes, {took(before[crate]):.1f} then")
+    if not slow:
+        print("    none")
+
+
+def keep(minutes, how):
+    """Writes what a run took as the last measurement."""
+    lines = [f"# minutes of CPU of each crate: {' '.join(PARTS)}; {how}"]
+    for crate, parts in sorted(minutes.items()):
+        lines.append(" ".join([crate, *(f"{parts[part]:.1f}" for part in PARTS)]))
+    KEPT.write_text("\n".join(lines) + "\n")
 
 
 def anew():
@@ -140,10 +184,12 @@ class Passed(threading.Thread):
 
 
 def main():
-    words = sys.argv[1:]
+    words, keeps = sys.argv[1:], False
     if words[:1] == ["--cpus"]:
         os.sched_setaffinity(0, {int(number) for number in words[1].split(",")})
         words = words[2:]
+    if words[:1] == ["--keep"]:
+        words, keeps = words[1:], True
     if not words:
         os.environ.setdefault("RT_JOBS", "4")
         words = ["rt", "ci", *anew()]
@@ -162,7 +208,11 @@ def main():
     run.table()
     minutes = (used.ru_utime + used.ru_stime) / 60
     wall, processors = (time.monotonic() - begin) / 60, len(os.sched_getaffinity(0))
-    print(f"{minutes:.0f} minutes of CPU, {wall:.0f} of wall time, on {processors} processors")
+    how = f"{minutes:.0f} minutes of CPU, {wall:.0f} of wall time, on {processors} processors"
+    compare(run.minutes(), kept())
+    if keeps:
+        keep(run.minutes(), f"{datetime.date.today()}, {how}")
+    print(how)
     print(passed.last, end="", flush=True)
     sys.exit(process.returncode)
 

@@ -6,8 +6,7 @@
 A row for each crate (with --tests those that only try others too): lines of code, of definitions (specs/) and of
 proofs, a line longer than 120 columns counted as the lines of 120 that it would be; functions, and how many of them
 have more than three arguments, `self` not counted; clauses (`requires` and `ensures`) for a function that has any;
-lines of contracts for each line of bodies; wrong bodies in must-fail; lines of code over 100 columns. The last row sums
-up.
+lines of contracts for each line of bodies; wrong bodies; lines of code over 100 columns. The last row sums up.
 """
 
 import argparse
@@ -82,7 +81,7 @@ def row_of(crate):
         text = path.read_text(encoding="utf-8")
         functions += functions_in(text)
         wide += sum(len(line) > 100 for line in text.splitlines())
-    edits = len(list((crate / "must-fail").glob("*.edit"))) if (crate / "must-fail").is_dir() else 0
+    edits = sum(len(list((crate / name).glob("*.edit"))) for name in ("must-fail", "wrong-bodies"))
     return {
         "code": lines_of(folder, ".rt"),
         "specs": lines_of(crate / "specs", ".antt"),

@@ -105,7 +105,8 @@ def functions(crate):
 def wrong_bodies(tables, errors):
     """The wrong bodies by their names, each with the functions at which its first line says that it falls."""
     bodies = {}
-    for path in sorted(ROOT.glob("crates/*/must-fail/*.edit")):
+    folders = "must-fail", "wrong-bodies"
+    for path in sorted(path for name in folders for path in ROOT.glob(f"crates/*/{name}/*.edit")):
         crate, first = path.parts[-3], path.read_text().split("\n")[0]
         place, _, meaning = first.removeprefix("# falls at ").partition(": ")
         names = [name for name in re.findall(r"`([\w:]+)`", place) if name in tables[crate]]
