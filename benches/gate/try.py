@@ -110,12 +110,6 @@ class Build:
         """The bytes that it takes at most, about: while the compiler works beside rt, for less than half a minute."""
         return 1.5e9 + 140e3 * self.lines
 
-    def end(self):
-        """Ends what runs of it, which removes its folders."""
-        if self.process and self.process.poll() is None:
-            self.process.terminate()
-            self.process.wait()
-
     def stream(self, name):
         path = self.folder / name
         return path.read_bytes() if path.is_file() else b""
@@ -249,8 +243,11 @@ class Lanes:
                     else:
                         self.change.wait(5)
         finally:
-            for build in self.running:
-                build.end()
+            running = [build.process for build in self.running if build.process]
+            for process in running:
+                process.terminate()
+            for process in running:
+                process.wait()
 
     def begin(self, build):
         build.begin = time.monotonic()
