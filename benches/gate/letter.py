@@ -3,6 +3,7 @@
 The ports are free ones in place of README's, and what README has in /tmp is in a folder of its own.
 """
 
+import contextlib
 import os
 import pathlib
 import random
@@ -112,31 +113,41 @@ class Letter:
     def play(self, serving):
         """Waits until the hub listens, gives the peers' commands and ends the hub as Ctrl-C does."""
         while not all(map(listens, self.ports.values())):
-            if serving.poll() is not None:
+            if os.waitid(os.P_PID, serving.pid, os.WEXITED | os.WNOHANG | os.WNOWAIT):
                 raise Wrong("the hub never listened")
             time.sleep(0.2)
         hub = [pid for pid, words in processes_below(serving.pid) if words[-len(self.words):] == self.words]
         try:
             self.give_all()
         finally:
-            for pid in hub:
-                os.kill(pid, signal.SIGINT)
+            with contextlib.suppress(ProcessLookupError):
+                for pid in hub:
+                    os.kill(pid, signal.SIGINT)
 
     def give_all(self):
         """Gives the commands in turn. The one that README says to end by Ctrl-C is ended once it has told something."""
         told, listening = [], None
         lasting = re.search(r"end\s+`(\w+)`\s+there\s+by\s+Ctrl-C", self.readme)
-        for command in self.commands:
-            if lasting and lasting[1] in command:
-                listening = self.start(command)
-                continue
-            told += self.ended(self.start(command), command)
+        try:
+            for command in self.commands:
+                if lasting and lasting[1] in command:
+                    listening = self.start(command)
+                    continue
+                told += self.ended(self.start(command), command)
+                if listening:
+                    told += self.told_to(listening)
+                    listening = None
+        finally:
             if listening:
-                first = self.line_of(listening)
-                listening.send_signal(signal.SIGINT)
-                told += [first, *self.ended(listening, [lasting[1]])]
-                listening = None
+                listening.kill()
+                listening.wait()
         self.compare(told)
+
+    def told_to(self, listening):
+        """What is told to the peer that listens, until it is ended by Ctrl-C."""
+        first = self.line_of(listening)
+        listening.send_signal(signal.SIGINT)
+        return [first, *self.ended(listening, listening.args)]
 
     def start(self, command):
         how = {"stdin": subprocess.DEVNULL, "stdout": subprocess.PIPE, "stderr": subprocess.STDOUT}

@@ -200,8 +200,8 @@ class Build:
     def letter(self):
         if self.played:
             raise Wrong(self.played)
-        case = self.case(SERVE)
-        if case["run"] != "fault" or "killed by signal 2 (SIGINT)" not in self.said.partition(f"case={FIRST} ")[2]:
+        before = self.said.partition(f"\ncase={SERVE} run=fault ")[0]
+        if "killed by signal 2 (SIGINT)" not in before.rpartition("\ncase=")[2]:
             raise Wrong("the hub ended otherwise than by Ctrl-C")
 
 
