@@ -151,7 +151,7 @@ def make_libraries(names, uses):
         is_left = form.is_file() and not stamp.exists() and form.stat().st_mtime > max(map(newest, lower))
         if is_left and not lower & made:
             continue
-        ran = subprocess.run(["rt", "lib", "--jobs", "1"], cwd=ROOT / "crates" / name, stdout=subprocess.PIPE,
+        ran = subprocess.run([sys.executable, "-B", str(ROOT / "benches/gate/rt.py"), "lib", "--jobs", "1"], cwd=ROOT / "crates" / name, stdout=subprocess.PIPE,
                              stderr=subprocess.STDOUT, text=True, errors="replace", check=False)
         if ran.returncode:
             raise Unfit(f"the library {name} isn't proved: {ran.stdout.strip()[-400:]}")

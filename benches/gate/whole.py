@@ -49,7 +49,7 @@ def main():
             print(f"0 passed, 1 failed: {why}")
             return 1
     forget_libraries()
-    passed, failed = ran(["rt", "ci"], r"(\d+) passed, (\d+) failed")
+    passed, failed = ran([*OWN, "benches/gate/rt.py", "ci"], r"(\d+) passed, (\d+) failed")
     if not failed:
         for words in (["--selftest"], []):
             more, wrong = ran([*OWN, "benches/gate/bodies.py", *words], r"(\d+) \w+, (\d+) failed")
