@@ -193,14 +193,26 @@ def check(bodies, words):
 
 
 def path_of(body, folder):
-    """How a check is asked for the function at which a body falls: by its type, or by its module."""
+    """How a check is asked for the function at which a body falls: by its type, by its type and trait, or by its module."""
     if body.owner:
-        return f"{body.owner}::{body.function}"
+        return f"{impl_of(body, folder)}::{body.function}"
     files = [path for path, _, name in functions(folder / "src") if name == body.function]
     if len(files) != 1:
         raise Unfit(f"{body.name}: {len(files)} functions are called {body.function}")
     module = files[0].relative_to(folder / "src").with_suffix("")
     return "::".join([*(() if module.name == "lib" else module.parts), body.function])
+
+
+def impl_of(body, folder):
+    """What a check calls the impl of a body's function: the type, and of a trait's the words of both in one, as `LineWireWire`."""
+    for path, at, name in functions(folder / "src"):
+        if name == f"{body.owner}::{body.function}":
+            header = re.findall(r"^impl\b[^{]*", path.read_text(encoding="utf-8")[:at], re.M)[-1]
+            trait, _, _ = ledger.bare(header).rpartition(" for ")
+            if trait:
+                whole = header[header.index(trait.split()[-1]) : header.rindex(" for ")]
+                return body.owner + "".join(re.findall(r"\b([A-Z]\w+)(?!\w|::)", whole))
+    return body.owner
 
 
 def available():
@@ -216,7 +228,7 @@ def running():
 def is_named(body, path):
     """Whether this is how a check calls a body's function."""
     parts = path.split("::")
-    return parts[-1] == body.function and (not body.owner or (len(parts) > 1 and parts[-2] == body.owner))
+    return parts[-1] == body.function and (not body.owner or (len(parts) > 1 and parts[-2].startswith(body.owner)))
 
 
 def goals(body, said, places):
