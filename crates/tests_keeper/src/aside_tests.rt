@@ -1,12 +1,11 @@
 //! Whole files that can't be put back are set aside, and come back once they can.
 
-ghost use Rattle.njh_spoolfile.specs.Origin.{StandsAsFound};
-
+use crate::lending::{Trial, Work, kill};
 use crate::playing::{play, play_on};
-use crate::spool_files::{SpoolFiles, kill};
+use crate::spool_files::SpoolFiles;
 use njh_spoolfile::{Origin, Store};
 use njh_turns::{Depot, DepotFault};
-use sqlite::{Alter, Start, Unknown};
+use sqlite::Alter;
 use std::alloc::Global;
 use std::fmt::Write as _;
 use std::rt::HostRuntime;
@@ -49,30 +48,28 @@ const ASIDE: &str = "ACME 0, BOLT 1, !ACME 2, !ACME 3, BOLT 4";
 const BACK: &str = "ACME 0, BOLT 1, ACME 2, ACME 3, BOLT 4";
 
 /// The customers' texts of the whole files of a spool file, each with its key.
-fn rows_in<S: Alter>(alloc: Global, store: &mut Store<S>) -> Result<String, Fail> {
-    let files = store.files(alloc)?;
-    let mut rows = String::new(alloc);
-    for stored in &files {
-        if !rows.is_empty() {
-            rows.push_str(", ")?;
-        }
-        write!(rows, "{} {}", stored.file.customer, stored.file.key)?;
-    }
-    drop(files);
-    Ok(rows)
-}
+struct Rows;
 
-/// The same, of the spool file as it was left.
-fn rows_left<S: Start>(files: &SpoolFiles<'_>, start: S) -> Result<String, Fail> {
-    let mut store = files.open(start)?;
-    let rows = rows_in(files.allocator(), &mut store);
-    kill(store);
-    rows
+impl Work for Rows {
+    type Told = String;
+
+    fn work<S: Alter>(&self, alloc: Global, store: &mut Store<S>) -> Result<String, Fail> {
+        let files = store.files(alloc)?;
+        let mut rows = String::new(alloc);
+        for stored in &files {
+            if !rows.is_empty() {
+                rows.push_str(", ")?;
+            }
+            write!(rows, "{} {}", stored.file.customer, stored.file.key)?;
+        }
+        drop(files);
+        Ok(rows)
+    }
 }
 
 /// Checks that these are the rows of the spool file as it was left.
 fn check_rows(files: &SpoolFiles<'_>, wanted: &str) -> Result<(), Fail> {
-    let rows = rows_left(files, Unknown)?;
+    let rows = files.work(&Rows)?;
     if rows.as_str() != wanted {
         return Err(Fail::new(format_args!("{rows} stand there, and not {wanted}")));
     }
@@ -89,35 +86,29 @@ fn files_without_room_are_set_aside(rt: HostRuntime) -> Result<(), Fail> {
 }
 
 /// What a keeper tells of an opening: whether a file ended it, and how many it names.
-fn told_over<S: Origin + Drop>(
-    files: &SpoolFiles<'_>,
-    store: Store<S>,
-) -> (Result<(bool, usize), Fail>, Store<S>)
-    requires { StandsAsFound S.Store S.found store }
-{
-    let mut keeper = files.keeper(store);
-    let ended = match files.opening(&mut keeper) {
-        Ok(Ok(hub)) => {
-            drop(hub);
-            Ok(false)
-        }
-        Ok(Err(fault)) => Ok(fault == DepotFault::Refused),
-        Err(fail) => Err(fail),
-    };
-    let count = keeper.refused().len();
-    let store = keeper.into_store();
-    match ended {
-        Ok(is_ended) => (Ok((is_ended, count)), store),
-        Err(fail) => (Err(fail), store),
-    }
-}
+#[derive(Drop)]
+struct Opening<'a>(&'a SpoolFiles<'a>);
 
-/// The same, of the spool file as it was left.
-fn told<S: Start>(files: &SpoolFiles<'_>, start: S) -> Result<(bool, usize), Fail> {
-    let store = files.open(start)?;
-    let (told, store) = told_over(files, store);
-    kill(store);
-    told
+impl Trial for Opening<'_> {
+    type Told = (bool, usize);
+
+    fn run<S: Origin + Drop>(&self, store: Store<S>) -> Result<(bool, usize), Fail> {
+        let mut keeper = self.0.keeper(store);
+        let ended = match self.0.opening(&mut keeper) {
+            Ok(Ok(hub)) => {
+                drop(hub);
+                Ok(false)
+            }
+            Ok(Err(fault)) => Ok(fault == DepotFault::Refused),
+            Err(fail) => Err(fail),
+        };
+        let count = keeper.refused().len();
+        kill(keeper.into_store());
+        match ended {
+            Ok(is_ended) => Ok((is_ended, count)),
+            Err(fail) => Err(fail),
+        }
+    }
 }
 
 #[test]
@@ -125,11 +116,11 @@ fn a_strict_keeper_opens_nothing_beside_them(rt: HostRuntime) -> Result<(), Fail
     play(&rt, "strict", NO_ROOM)?;
     let mut files = SpoolFiles::left_by(&rt, "strict")?;
     files.take_room()?;
-    if told(&files, Unknown)? != (false, 2) {
+    if files.try_on(&Opening(&files))? != (false, 2) {
         return Err("a keeper doesn't name the two files that it sets aside".into());
     }
     files.be_strict();
-    if told(&files, Unknown)? == (true, 1) {
+    if files.try_on(&Opening(&files))? == (true, 1) {
         Ok(())
     } else {
         Err("a strict keeper opens beside files that it can't put back".into())

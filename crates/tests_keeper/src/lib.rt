@@ -9,6 +9,8 @@ mod aside_tests;
 #[cfg(test)]
 mod change_tests;
 #[cfg(test)]
+mod lending;
+#[cfg(test)]
 mod networks;
 #[cfg(test)]
 mod number_tests;

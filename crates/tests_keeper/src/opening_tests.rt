@@ -1,12 +1,11 @@
 //! Spool files that are opened, or aren't.
 
-ghost use Rattle.njh_spoolfile.specs.Origin.{StandsAsFound};
-
+use crate::lending::{Trial, Work, kill};
 use crate::playing::play;
-use crate::spool_files::{SpoolFiles, kill};
+use crate::spool_files::SpoolFiles;
 use njh_spoolfile::{Origin, Store};
 use njh_turns::{Depot, DepotFault};
-use sqlite::{Alter, Error, ErrorCode, Start, Unknown};
+use sqlite::{Alter, Error, ErrorCode};
 use std::alloc::Global;
 use std::rt::HostRuntime;
 use std::test::Fail;
@@ -28,22 +27,20 @@ fn is_damage(cause: Option<Error>) -> bool {
 }
 
 /// Adds the row of the first whole file once more, after it: two files' records have one number.
-fn add_first_again<S: Alter>(alloc: Global, store: &mut Store<S>) -> Result<(), Fail> {
-    let files = store.files(alloc)?;
-    match files.first() {
-        Some(first) => store.add_file(first.id.saturating_add(1), &first.file)?,
-        None => return Err("no file is kept".into()),
-    }
-    drop(files);
-    Ok(store.commit()?)
-}
+struct AddFirstAgain;
 
-/// Adds a row under a number that another file has.
-fn add_row<S: Start>(files: &SpoolFiles<'_>, start: S) -> Result<(), Fail> {
-    let mut store = files.open(start)?;
-    let added = add_first_again(files.allocator(), &mut store);
-    kill(store);
-    added
+impl Work for AddFirstAgain {
+    type Told = ();
+
+    fn work<S: Alter>(&self, alloc: Global, store: &mut Store<S>) -> Result<(), Fail> {
+        let files = store.files(alloc)?;
+        match files.first() {
+            Some(first) => store.add_file(first.id.saturating_add(1), &first.file)?,
+            None => return Err("no file is kept".into()),
+        }
+        drop(files);
+        Ok(store.commit()?)
+    }
 }
 
 /// Whether a depot says that its device failed.
@@ -68,41 +65,36 @@ pub(crate) struct TwoOpenings {
     pub(crate) cause: Option<Error>,
 }
 
-/// What comes of two openings.
-fn openings_over<S: Origin + Drop>(
-    files: &SpoolFiles<'_>,
-    store: Store<S>,
-) -> (Result<TwoOpenings, Fail>, Store<S>)
-    requires { StandsAsFound S.Store S.found store }
-{
-    let mut keeper = files.keeper(store);
-    let opened = match fails(files, &mut keeper) {
-        Ok(first) => match fails(files, &mut keeper) {
-            Ok(second) => Ok(TwoOpenings {
-                first,
-                second,
-                cause: keeper.cause(),
-            }),
-            Err(fail) => Err(fail),
-        },
-        Err(fail) => Err(fail),
-    };
-    (opened, keeper.into_store())
-}
+/// A keeper opens two hubs, one after the other.
+#[derive(Drop)]
+pub(crate) struct OpenTwice<'a>(pub(crate) &'a SpoolFiles<'a>);
 
-/// The same, of the spool file as it was left.
-pub(crate) fn openings<S: Start>(files: &SpoolFiles<'_>, start: S) -> Result<TwoOpenings, Fail> {
-    let store = files.open(start)?;
-    let (opened, store) = openings_over(files, store);
-    kill(store);
-    opened
+impl Trial for OpenTwice<'_> {
+    type Told = TwoOpenings;
+
+    fn run<S: Origin + Drop>(&self, store: Store<S>) -> Result<TwoOpenings, Fail> {
+        let mut keeper = self.0.keeper(store);
+        let opened = match fails(self.0, &mut keeper) {
+            Ok(first) => match fails(self.0, &mut keeper) {
+                Ok(second) => Ok(TwoOpenings {
+                    first,
+                    second,
+                    cause: keeper.cause(),
+                }),
+                Err(fail) => Err(fail),
+            },
+            Err(fail) => Err(fail),
+        };
+        kill(keeper.into_store());
+        opened
+    }
 }
 
 #[test]
 fn a_keeper_opens_one_hub(rt: HostRuntime) -> Result<(), Fail> {
     play(&rt, "one_hub", ONE_FILE)?;
     let files = SpoolFiles::left_by(&rt, "one_hub")?;
-    let opened = openings(&files, Unknown)?;
+    let opened = files.try_on(&OpenTwice(&files))?;
     if !opened.first && opened.second && opened.cause.is_none() {
         Ok(())
     } else {
@@ -114,8 +106,8 @@ fn a_keeper_opens_one_hub(rt: HostRuntime) -> Result<(), Fail> {
 fn two_files_under_one_number_are_damage(rt: HostRuntime) -> Result<(), Fail> {
     play(&rt, "one_number", ONE_FILE)?;
     let files = SpoolFiles::left_by(&rt, "one_number")?;
-    add_row(&files, Unknown)?;
-    let opened = openings(&files, Unknown)?;
+    files.work(&AddFirstAgain)?;
+    let opened = files.try_on(&OpenTwice(&files))?;
     if opened.first && opened.second && is_damage(opened.cause) {
         Ok(())
     } else {
@@ -123,18 +115,24 @@ fn two_files_under_one_number_are_damage(rt: HostRuntime) -> Result<(), Fail> {
     }
 }
 
-/// Whether a spool file that is open is refused to a second program.
-fn is_refused_beside<S: Start>(files: &SpoolFiles<'_>, start: S) -> Result<bool, Fail> {
-    let store = files.open(start)?;
-    let is_refused = files.is_in_use();
-    kill(store);
-    Ok(is_refused)
+/// A second program opens a spool file that is open: whether it is refused.
+#[derive(Drop)]
+struct OpenBeside<'a>(&'a SpoolFiles<'a>);
+
+impl Trial for OpenBeside<'_> {
+    type Told = bool;
+
+    fn run<S: Origin + Drop>(&self, store: Store<S>) -> Result<bool, Fail> {
+        let is_refused = self.0.is_in_use();
+        kill(store);
+        is_refused
+    }
 }
 
 #[test]
 fn an_open_file_is_in_use(rt: HostRuntime) -> Result<(), Fail> {
     let files = SpoolFiles::of(&rt, "in_use")?;
-    if is_refused_beside(&files, Unknown)? {
+    if files.try_on(&OpenBeside(&files))? {
         Ok(())
     } else {
         Err("a file that is open is opened again".into())

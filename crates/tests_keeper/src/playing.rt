@@ -4,20 +4,19 @@
 ghost use Rattle.std.specs.Prelude.{List, OnOk};
 ghost use Rattle.njh_hub.specs.WholeHub.{Part};
 ghost use Rattle.njh_turns.specs.Keeping.{LeadsHub};
-ghost use Rattle.njh_spoolfile.specs.Origin.{StandsAsFound};
 
+use crate::lending::{Trial, kill};
 use crate::networks::{CUSTOMERS, customer_of, line_of};
 use crate::numbered_lines::NumberedLines;
 use crate::orders::{Ordered, order_on};
 use crate::same::{check_same, listing};
-use crate::spool_files::{SpoolFiles, kill};
+use crate::spool_files::SpoolFiles;
 use njh_command::Replies;
 use njh_encode::encode_script;
 use njh_hub::Hub;
 use njh_spoolfile::{Origin, Store};
 use njh_table::LineId;
 use njh_turns::{Depot, KeepFault, Keeper};
-use sqlite::{Start, Unknown};
 use std::alloc::Global;
 use std::rt::HostRuntime;
 use std::str;
@@ -58,30 +57,28 @@ pub(crate) fn play_on(rt: &HostRuntime, name: &str, words: &str) -> Result<(), F
         } else {
             files.give_routes(!run.starts_with(WITHOUT_NICE))?;
         }
-        play_run(&files, run, Unknown)?;
+        let files = &files;
+        files.try_on(&Run { files, words: run })?;
     }
     Ok(())
 }
 
-/// Plays a run of the program, at whose end it is killed.
-fn play_run<S: Start>(files: &SpoolFiles<'_>, run: &str, start: S) -> Result<(), Fail> {
-    let store = files.open(start)?;
-    let (played, store) = play_over(files, run, store);
-    kill(store);
-    played
+/// A run of the program, at whose end it is killed.
+#[derive(Drop)]
+struct Run<'a> {
+    files: &'a SpoolFiles<'a>,
+    words: &'a str,
 }
 
-/// Plays a run over a spool file that is open, and gives that back.
-fn play_over<S: Origin + Drop>(
-    files: &SpoolFiles<'_>,
-    run: &str,
-    store: Store<S>,
-) -> (Result<(), Fail>, Store<S>)
-    requires { StandsAsFound S.Store S.found store }
-{
-    let mut keeper = files.keeper(store);
-    let played = play_kept(files, &mut keeper, run);
-    (played, keeper.into_store())
+impl Trial for Run<'_> {
+    type Told = ();
+
+    fn run<S: Origin + Drop>(&self, store: Store<S>) -> Result<(), Fail> {
+        let mut keeper = self.files.keeper(store);
+        let played = play_kept(self.files, &mut keeper, self.words);
+        kill(keeper.into_store());
+        played
+    }
 }
 
 /// Plays a run with a keeper.

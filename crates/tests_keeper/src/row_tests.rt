@@ -1,8 +1,9 @@
 //! Several records stand in a row of a spool file, and are read one after the other.
 
-use crate::spool_files::{SpoolFiles, kill};
+use crate::lending::Work;
+use crate::spool_files::SpoolFiles;
 use njh_spoolfile::{Pack, RecordRow, SEVERAL, Store, StoredRecord};
-use sqlite::{Alter, Start, Unknown};
+use sqlite::Alter;
 use std::alloc::Global;
 use std::rt::HostRuntime;
 use std::test::Fail;
@@ -96,53 +97,69 @@ fn records_of<S: Alter>(alloc: Global, store: &mut Store<S>) -> Result<Vec<Store
 }
 
 /// Whether the rows of `add_rows` are read as they were written.
-fn reads_rows<S: Start>(files: &SpoolFiles<'_>, start: S) -> Result<bool, Fail> {
-    let mut store = files.open(start)?;
-    add_rows(&mut store)?;
-    let records = records_of(files.allocator(), &mut store)?;
-    kill(store);
-    Ok(are_rows(records.as_slice()))
+struct ReadRows;
+
+impl Work for ReadRows {
+    type Told = bool;
+
+    fn work<S: Alter>(&self, alloc: Global, store: &mut Store<S>) -> Result<bool, Fail> {
+        add_rows(store)?;
+        let records = records_of(alloc, store)?;
+        Ok(are_rows(records.as_slice()))
+    }
 }
 
 /// Whether a row that was cut is read as far as it goes.
-fn reads_cut_row<S: Start>(files: &SpoolFiles<'_>, start: S) -> Result<bool, Fail> {
-    let mut store = files.open(start)?;
-    add_cut_row(&mut store)?;
-    let records = records_of(files.allocator(), &mut store)?;
-    kill(store);
-    Ok(are_cut(records.as_slice()))
+struct ReadCutRow;
+
+impl Work for ReadCutRow {
+    type Told = bool;
+
+    fn work<S: Alter>(&self, alloc: Global, store: &mut Store<S>) -> Result<bool, Fail> {
+        add_cut_row(store)?;
+        let records = records_of(alloc, store)?;
+        Ok(are_cut(records.as_slice()))
+    }
 }
 
-/// Whether the mark is set once, is there after an open, and goes.
-fn marks_once<S: Start, T: Start>(
-    files: &SpoolFiles<'_>,
-    first: S,
-    second: T,
-) -> Result<bool, Fail> {
-    let mut store = files.open(first)?;
-    let new = store.set_mark()?;
-    kill(store);
-    let mut store = files.open(second)?;
-    let again = store.set_mark()?;
-    store.clear_mark()?;
-    let cleared = store.set_mark()?;
-    kill(store);
-    Ok(!new && again && !cleared)
+/// Sets the mark: whether it was there.
+struct SetMark;
+
+impl Work for SetMark {
+    type Told = bool;
+
+    fn work<S: Alter>(&self, _alloc: Global, store: &mut Store<S>) -> Result<bool, Fail> {
+        Ok(store.set_mark()?)
+    }
+}
+
+/// Takes the mark away, and sets it again: whether it was there then.
+struct RenewMark;
+
+impl Work for RenewMark {
+    type Told = bool;
+
+    fn work<S: Alter>(&self, _alloc: Global, store: &mut Store<S>) -> Result<bool, Fail> {
+        store.clear_mark()?;
+        Ok(store.set_mark()?)
+    }
 }
 
 #[test]
 fn the_mark_is_set_once_and_taken_away(rt: HostRuntime) -> Result<(), Fail> {
     let files = SpoolFiles::of(&rt, "mark")?;
-    match marks_once(&files, Unknown, Unknown)? {
-        true => Ok(()),
-        false => Err("the mark of a spool file is not what was set".into()),
+    let is_there = files.work(&SetMark)?;
+    let stays = files.work(&SetMark)?;
+    if is_there || !stays || files.work(&RenewMark)? {
+        return Err("the mark of a spool file is not what was set".into());
     }
+    Ok(())
 }
 
 #[test]
 fn records_of_a_row_are_read_in_order(rt: HostRuntime) -> Result<(), Fail> {
     let files = SpoolFiles::of(&rt, "records_of_a_row")?;
-    match reads_rows(&files, Unknown)? {
+    match files.work(&ReadRows)? {
         true => Ok(()),
         false => Err("the records of a row are not read as they were written".into()),
     }
@@ -151,7 +168,7 @@ fn records_of_a_row_are_read_in_order(rt: HostRuntime) -> Result<(), Fail> {
 #[test]
 fn a_row_that_was_cut_has_no_such_record(rt: HostRuntime) -> Result<(), Fail> {
     let files = SpoolFiles::of(&rt, "cut_row")?;
-    match reads_cut_row(&files, Unknown)? {
+    match files.work(&ReadCutRow)? {
         true => Ok(()),
         false => Err("a row that was cut is not read as far as it goes".into()),
     }

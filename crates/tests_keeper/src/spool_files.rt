@@ -1,20 +1,16 @@
 //! The files of a test: a spool file with its log, and a copy of both as they are at some moment.
 
 ghost use Rattle.std.specs.Prelude.{IfOk};
-ghost use Rattle.sqlite.specs.Files.{file_state};
-ghost use Rattle.sqlite.specs.State.{HasCleanDisk};
-ghost use Rattle.sqlite.specs.WalFiles.{image_at};
-ghost use Rattle.njh_spoolfile.specs.Kept.{SpoolContents};
-ghost use Rattle.njh_spoolfile.specs.Origin.{IsFoundIn, StandsAsFound};
-ghost use Rattle.njh_spoolfile.specs.CommitState.{Stands};
+ghost use Rattle.njh_spoolfile.specs.Origin.{StandsAsFound};
 
+use crate::lending::{Trial, Work, Worked, lend};
 use crate::networks::{tables, with_little_room};
 use njh_hub::Hub;
 use njh_keeper::{OpenedHub, SpoolKeeper, open_from};
 use njh_spoolfile::{OpenFault, Origin, Store};
 use njh_table::Tables;
 use njh_turns::{Depot, DepotFault};
-use sqlite::{Error, ErrorCode, FileFrom, FileStore, Start, Unknown};
+use sqlite::{Alter, Error, ErrorCode, Unknown};
 use std::alloc::Global;
 use std::fs;
 use std::rt::HostRuntime;
@@ -80,23 +76,30 @@ impl<'a> SpoolFiles<'a> {
         self.rt.alloc()
     }
 
-    /// The spool file, opened or made.
-    pub(crate) fn open<S: Start>(&self, start: S) -> Result<Store<FileStore<FileFrom<S>>>, Fail>
-        ensures { IfOk result (λ store. HasCleanDisk (file_state store.conn) → (spool : SpoolContents)
-            → IsFoundIn (image_at S.Start) spool
-            → Stands (record { now = spool; kept = spool }) (file_state store.conn)) }
-    {
-        Ok(Store::open(self.rt, self.kept.as_str(), start)?)
+    /// Tries something with the spool file, which is opened or made.
+    pub(crate) fn try_on<T: Trial>(&self, trial: &T) -> Result<T::Told, Fail> {
+        lend(self.rt, self.kept.as_str(), Unknown, trial)?
+    }
+
+    /// Does some work on the spool file, which is opened or made.
+    pub(crate) fn work<W: Work>(&self, work: &W) -> Result<W::Told, Fail> {
+        let alloc = self.rt.alloc();
+        self.try_on(&Worked { alloc, work })
     }
 
     /// Whether the spool file is refused as one that is open already.
-    pub(crate) fn is_in_use(&self) -> bool {
-        match Store::open(self.rt, self.kept.as_str(), Unknown) {
-            Ok(store) => {
-                kill(store);
-                false
+    pub(crate) fn is_in_use(&self) -> Result<bool, Fail> {
+        let alloc = self.rt.alloc();
+        let work = Worked {
+            alloc,
+            work: &Nothing,
+        };
+        match lend(self.rt, self.kept.as_str(), Unknown, &work) {
+            Ok(told) => {
+                told?;
+                Ok(false)
             }
-            Err(fault) => fault == IN_USE,
+            Err(fault) => Ok(fault == IN_USE),
         }
     }
 
@@ -134,26 +137,39 @@ impl<'a> SpoolFiles<'a> {
         if fs::exists(self.rt, self.kept_log.as_str())? {
             fs::copy(self.rt, self.kept_log.as_str(), self.left_log.as_str())?;
         }
-        let mut store = Store::open(self.rt, self.left.as_str(), Unknown)?;
-        let opened = hub_in(self.rt.alloc(), self.tables.as_str(), &mut store);
-        kill(store);
-        opened
+        let alloc = self.rt.alloc();
+        let work = &HubOf(self.tables.as_str());
+        lend(
+            self.rt,
+            self.left.as_str(),
+            Unknown,
+            &Worked { alloc, work },
+        )?
     }
 }
 
-/// The hub of these tables that is opened from a spool file.
-fn hub_in(
-    alloc: Global,
-    tables: &str,
-    store: &mut Store<FileStore<FileFrom<Unknown>>>,
-) -> Result<Hub, Fail> {
-    let tables = Tables::read(alloc, tables)?;
-    let OpenedHub { hub, refused } = open_from(alloc, tables, store, false)?;
-    drop(refused);
-    Ok(hub)
+/// The hub of these tables is opened from a spool file.
+#[derive(Drop)]
+struct HubOf<'a>(&'a str);
+
+impl Work for HubOf<'_> {
+    type Told = Hub;
+
+    fn work<S: Alter>(&self, alloc: Global, store: &mut Store<S>) -> Result<Hub, Fail> {
+        let tables = Tables::read(alloc, self.0)?;
+        let OpenedHub { hub, refused } = open_from(alloc, tables, store, false)?;
+        drop(refused);
+        Ok(hub)
+    }
 }
 
-/// Lets go of a spool file as a program does that is killed.
-pub(crate) fn kill<S: Start>(store: Store<FileStore<FileFrom<S>>>) {
-    drop(store);
+/// Nothing is done to a spool file.
+struct Nothing;
+
+impl Work for Nothing {
+    type Told = ();
+
+    fn work<S: Alter>(&self, _alloc: Global, _store: &mut Store<S>) -> Result<(), Fail> {
+        Ok(())
+    }
 }
