@@ -6,6 +6,7 @@ mod copying;
 mod exporting;
 mod fault;
 mod finding;
+mod lending;
 mod listing;
 mod moving;
 mod opening;

@@ -12,6 +12,7 @@ ghost use Rattle.njh_spoolfile.specs.Steps.{Stays};
 ghost use Rattle.sqlite.specs.State.{HasCleanDisk, Survives};
 
 use crate::fault::FilesFault;
+use crate::lending::{Task, lend_last};
 use crate::listing::print_files;
 use crate::opening::SpoolFiles;
 use njh_spoolfile::{CopyFault, Store, copy_files};
@@ -130,31 +131,39 @@ pub fn copy_spool<F: SpoolFiles + AllocGlobal, S: Start, T: Start, W: Write>(
         ⊎ IsListedInPart (option_map (λ c. c.now) moved.now.customer) (W.contents out.old) (W.contents out.new)) }
     ensures silent { IfErr result (λ fault. Keeps (W.contents out.old) (W.contents out.new) ⊎ IsOfSpool fault) }
 {
-    copy_opened(rt, rt.find_spool(path, start), moved, other, out)
+    match rt.find_spool(path, start) {
+        Ok(store) => lend_last(store, CopyFrom { rt, moved, other }, out),
+        Err(fault) => Err(fault),
+    }
 }
 
-/// Copies whole files of a spool file that was opened, and drops it.
-fn copy_opened<F: SpoolFiles + AllocGlobal, A: Alter + Drop, S: Start, W: Write>(
-    rt: &F,
-    opened: Result<Store<A>, FilesFault>,
-    moved: &Move<'_>,
-    start: S,
-    out: &mut W,
-) -> Result<(), FilesFault>
-    requires { IfErr opened IsOfSpool }
-    ensures done { OnOk result (IsListed (option_map (λ c. c.now) moved.now.customer) (W.contents out.old)
-        (W.contents out.new)) }
-    ensures begun { OnErr result (Keeps (W.contents out.old) (W.contents out.new)
-        ⊎ IsListedInPart (option_map (λ c. c.now) moved.now.customer) (W.contents out.old) (W.contents out.new)) }
-    ensures silent { IfErr result (λ fault. Keeps (W.contents out.old) (W.contents out.new) ⊎ IsOfSpool fault) }
-{
-    let mut from = match opened {
-        Ok(store) => store,
-        Err(fault) => return Err(fault),
-    };
-    let done = copy_from(rt, &mut from, moved, start, out);
-    drop(from);
-    done
+/// Copies whole files of a spool file into another.
+#[derive(Drop)]
+struct CopyFrom<'a, F, S> {
+    rt: &'a F,
+    moved: &'a Move<'a>,
+    other: S,
+}
+
+impl<F: SpoolFiles + AllocGlobal, S: Start, W: Write> Task<W> for CopyFrom<'_, F, S> {
+    ghost use Rattle.std.specs.Prelude.{◌⊎◌, option_map};
+    ghost use Rattle.std.specs.Io.KnownBytes.{Keeps};
+    ghost use Rattle.njh_listing.specs.Faults.{IsOfSpool};
+    ghost use Rattle.njh_listing.specs.Listed.{IsListed, IsListedInPart};
+
+    ghost done = { λ task old new. IsListed (option_map (λ c. c.now) task.moved.now.customer) (W.contents old)
+        (W.contents new) };
+
+    ghost failed = { λ task old new fault. (Keeps (W.contents old) (W.contents new)
+        ⊎ IsListedInPart (option_map (λ c. c.now) task.moved.now.customer) (W.contents old) (W.contents new))
+        × (Keeps (W.contents old) (W.contents new) ⊎ IsOfSpool fault) };
+
+    ghost keeps = { λ task. ⊥ };
+
+    fn run<A: Alter>(self, from: &mut Store<A>, out: &mut W) -> Result<(), FilesFault> {
+        let CopyFrom { rt, moved, other } = self;
+        copy_from(rt, from, moved, other, out)
+    }
 }
 
 /// Copies whole files of a spool file into another, which is opened or made for it, and closed.

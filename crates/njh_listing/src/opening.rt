@@ -12,6 +12,7 @@ ghost use Rattle.njh_listing.specs.Taken.{is_other};
 
 use crate::copying::{copy_files, fault_of, hold, make_folder, real_path, remove_folder};
 use crate::fault::FilesFault;
+use crate::lending::{Task, lend};
 use crate::moving::close;
 use crate::unopened::{log_of, told_by_files};
 use njh_spoolfile::Store;
@@ -133,17 +134,40 @@ fn log_len(rt: &HostRuntime, path: &str) -> Option<u64> {
 
 /// Marks a spool file as one to which a log belongs, and closes it, so that it has the mark in
 /// itself. Answers whether it had it.
-fn mark<S: Start>(mut store: Store<FileStore<FileFrom<S>>>) -> Result<bool, FilesFault>
+fn mark<S: Start>(store: Store<FileStore<FileFrom<S>>>) -> Result<bool, FilesFault>
     ensures { IfErr result IsOfSpool }
 {
-    match store.set_mark() {
-        Ok(had) => match close(store) {
+    let mut had = false;
+    match lend(store, SetMark, &mut had) {
+        Ok(store) => match close(store) {
             Ok(()) => Ok(had),
             Err(fault) => Err(fault),
         },
-        Err(error) => {
-            drop(store);
-            Err(FilesFault::from(error))
+        Err(fault) => Err(fault),
+    }
+}
+
+/// Sets the mark that a log belongs to a spool file, and says whether it had it.
+#[derive(Drop)]
+struct SetMark;
+
+impl Task<bool> for SetMark {
+    ghost use Rattle.std.specs.Prelude.{⊤};
+    ghost use Rattle.njh_listing.specs.Faults.{IsOfSpool};
+
+    ghost done = { λ task old new. ⊤ };
+
+    ghost failed = { λ task old new fault. IsOfSpool fault };
+
+    ghost keeps = { λ task. ⊥ };
+
+    fn run<A: Alter>(self, store: &mut Store<A>, had: &mut bool) -> Result<(), FilesFault> {
+        match store.set_mark() {
+            Ok(marked) => {
+                *had = marked;
+                Ok(())
+            }
+            Err(error) => Err(FilesFault::from(error)),
         }
     }
 }
@@ -225,20 +249,33 @@ fn open_store<S: Start>(
 }
 
 /// A spool file that is open, if the modes of its files were set.
-fn where_set<S: Alter + Drop>(
-    store: Store<S>,
+fn where_set<S: Start>(
+    store: Store<FileStore<FileFrom<S>>>,
     set: Result<(), FilesFault>,
-) -> Result<Store<S>, FilesFault>
+) -> Result<Store<FileStore<FileFrom<S>>>, FilesFault>
     requires { IfErr set IsOfSpool }
     ensures same { IfOk result (λ kept. kept ≡ store) }
     ensures refused { IfErr result IsOfSpool }
 {
-    match set {
-        Ok(()) => Ok(store),
-        Err(fault) => {
-            drop(store);
-            Err(fault)
-        }
+    lend(store, WhereSet(set), &mut ())
+}
+
+/// Nothing is done, if this was.
+#[derive(Drop)]
+struct WhereSet(Result<(), FilesFault>);
+
+impl Task<()> for WhereSet {
+    ghost use Rattle.std.specs.Prelude.{◌≡◌, Err, ⊤};
+
+    ghost done = { λ task old new. ⊤ };
+
+    ghost failed = { λ task old new fault. task.0 ≡ Err fault };
+
+    ghost keeps = { λ task. ⊤ };
+
+    fn run<A: Alter>(self, _store: &mut Store<A>, _beside: &mut ()) -> Result<(), FilesFault> {
+        let WhereSet(set) = self;
+        set
     }
 }
 

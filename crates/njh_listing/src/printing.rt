@@ -12,6 +12,7 @@ ghost use Rattle.sqlite.specs.State.{HasCleanDisk, Survives};
 use crate::exporting::export_file;
 use crate::fault::FilesFault;
 use crate::finding::Asked;
+use crate::lending::{Task, lend_last};
 use crate::listing::list_files;
 use crate::opening::SpoolFiles;
 use njh_spoolfile::Store;
@@ -68,31 +69,36 @@ pub fn print_spool<F: SpoolFiles + AllocGlobal, S: Start, W: Write>(
         (W.contents out.old) (W.contents out.new)) }
     ensures silent { IfErr result (λ fault. Keeps (W.contents out.old) (W.contents out.new) ⊎ IsOfSpool fault) }
 {
-    print_opened(rt.alloc(), rt.find_spool(path, start), asked, out)
+    let alloc = rt.alloc();
+    match rt.find_spool(path, start) {
+        Ok(store) => lend_last(store, PrintAsked { alloc, asked }, out),
+        Err(fault) => Err(fault),
+    }
 }
 
-/// Prints what is asked for of a spool file that was opened, and drops it. It names no type of a
-/// store, since each call that does so is proved at the price of all that the type's calls
-/// promise.
-fn print_opened<S: Alter + Drop, W: Write>(
+/// Prints what is asked for of a spool file.
+#[derive(Drop)]
+struct PrintAsked<'a> {
     alloc: Global,
-    opened: Result<Store<S>, FilesFault>,
-    asked: &Asked<'_>,
-    out: &mut W,
-) -> Result<(), FilesFault>
-    requires { IfErr opened IsOfSpool }
-    ensures done { OnOk result (IsPrinted (option_map (λ c. c.now) asked.now.customer) asked.now.file asked.now.raw
-        (W.contents out.old) (W.contents out.new)) }
-    ensures begun { OnErr result (Keeps (W.contents out.old) (W.contents out.new)
-        ⊎ IsPrintedInPart (option_map (λ c. c.now) asked.now.customer) asked.now.file asked.now.raw
-        (W.contents out.old) (W.contents out.new)) }
-    ensures silent { IfErr result (λ fault. Keeps (W.contents out.old) (W.contents out.new) ⊎ IsOfSpool fault) }
-{
-    let mut store = match opened {
-        Ok(store) => store,
-        Err(fault) => return Err(fault),
-    };
-    let printed = print(alloc, &mut store, asked, out);
-    drop(store);
-    printed
+    asked: &'a Asked<'a>,
+}
+
+impl<W: Write> Task<W> for PrintAsked<'_> {
+    ghost use Rattle.std.specs.Prelude.{◌⊎◌, option_map};
+    ghost use Rattle.std.specs.Io.KnownBytes.{Keeps};
+    ghost use Rattle.njh_listing.specs.Faults.{IsOfSpool};
+    ghost use Rattle.njh_listing.specs.Printed.{IsPrinted, IsPrintedInPart};
+
+    ghost done = { λ task old new. IsPrinted (option_map (λ c. c.now) task.asked.now.customer) task.asked.now.file
+        task.asked.now.raw (W.contents old) (W.contents new) };
+
+    ghost failed = { λ task old new fault. (Keeps (W.contents old) (W.contents new)
+        ⊎ IsPrintedInPart (option_map (λ c. c.now) task.asked.now.customer) task.asked.now.file task.asked.now.raw
+        (W.contents old) (W.contents new)) × (Keeps (W.contents old) (W.contents new) ⊎ IsOfSpool fault) };
+
+    ghost keeps = { λ task. ⊥ };
+
+    fn run<A: Alter>(self, store: &mut Store<A>, out: &mut W) -> Result<(), FilesFault> {
+        print(self.alloc, store, self.asked, out)
+    }
 }
