@@ -84,20 +84,53 @@ impl Trial for Run<'_> {
 /// Plays a run with a keeper.
 fn play_kept<D: Depot>(files: &SpoolFiles<'_>, keeper: &mut D, run: &str) -> Result<(), Fail> {
     let mut hub = files.hub_of(keeper)?;
-    check_times(keeper, &hub)?;
+    let played = play_lines(files, keeper, &mut hub, run);
+    drop(hub);
+    played
+}
+
+/// Plays the lines of a run on a hub that was just opened.
+fn play_lines<D: Depot>(
+    files: &SpoolFiles<'_>,
+    keeper: &mut D,
+    hub: &mut Hub,
+    run: &str,
+) -> Result<(), Fail>
+    requires { D.says.knows keeper.old hub.old }
+{
+    check_times(keeper, hub)?;
     let mut left = u32::MAX;
     for line in run.lines() {
-        if let Some(note) = line.strip_prefix("# ") {
-            match order_on(files.allocator(), note)? {
-                Some(ordered) => play_order(keeper, &mut hub, &ordered)?,
-                None => left = take_note(files, &hub, note, left)?,
-            }
-        } else if left > 0 && !line.is_empty() {
-            left = left.saturating_sub(1);
-            play_event(files, keeper, &mut hub, line)?;
-        }
+        left = play_line(files, keeper, hub, line, left)?;
     }
-    check_kept(files, &hub, "at the end", None)
+    check_kept(files, hub, "at the end", None)
+}
+
+/// Plays a line of a run while so many blocks come, and answers how many come from now on.
+fn play_line<K: Keeper>(
+    files: &SpoolFiles<'_>,
+    keeper: &mut K,
+    hub: &mut Hub,
+    line: &str,
+    left: u32,
+) -> Result<u32, Fail>
+    requires { K.says.knows keeper.old hub.old }
+    ensures { OnOk result (K.says.knows keeper.new hub.new) }
+{
+    if let Some(note) = line.strip_prefix("# ") {
+        return match order_on(files.allocator(), note)? {
+            Some(ordered) => {
+                play_order(keeper, hub, &ordered)?;
+                Ok(left)
+            }
+            None => take_note(files, hub, note, left),
+        };
+    }
+    if left > 0 && !line.is_empty() {
+        play_event(files, keeper, hub, line)?;
+        return Ok(left.saturating_sub(1));
+    }
+    Ok(left)
 }
 
 /// A depot that opened a hub knows when each whole file of the two customers came, and of no more.
@@ -256,13 +289,26 @@ fn check_kept(
     wanted: Option<(u16, &str)>,
 ) -> Result<(), Fail> {
     let kept = files.hub_left()?;
+    let checked = check_hub(files.allocator(), &kept, hub, moment, wanted);
+    drop(kept);
+    checked
+}
+
+/// Checks the same of a hub that was opened from what is kept.
+fn check_hub(
+    alloc: Global,
+    kept: &Hub,
+    hub: &Hub,
+    moment: &str,
+    wanted: Option<(u16, &str)>,
+) -> Result<(), Fail> {
     for customer in CUSTOMERS {
-        check_same(&kept, hub, customer, moment)?;
+        check_same(kept, hub, customer, moment)?;
     }
     let Some((customer, wanted)) = wanted else {
         return Ok(());
     };
-    let found = listing(files.allocator(), &kept, customer)?;
+    let found = listing(alloc, kept, customer)?;
     if found.as_str() != wanted {
         return Err(Fail::new(format_args!("{found} is kept, and not {wanted}")));
     }

@@ -1,4 +1,4 @@
-use Rattle.tests_keeper.proofs.playing.play_kept.Given as goal
+use Rattle.tests_keeper.proofs.playing.play_lines.Given as goal
 
 -- what the keeper knows is the hub as it is
 abbrev pub invariant-loop-line : goal.invariant-loop-line
