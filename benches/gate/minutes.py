@@ -6,7 +6,7 @@
 Where the toolchain's `rt ci` keeps what passed and no words are given, it is told to keep nothing (`--anew`); older
 ones keep nothing anyway.
 
-The file minutes.txt beside this has each crate's minutes of CPU at the last measurement. After a run that did a crate's
+The file minutes.txt beside this, if it is there, has each crate's minutes of CPU at the last measurement. After a run that did a crate's
 whole work this says which crates took over a quarter more than they did then, where the run as a whole took so many
 times as long as then: machines differ. --keep writes what this run took into that file.
 
@@ -140,8 +140,12 @@ def kept():
 
 def compare(minutes, before):
     """Says which crates took over a quarter more than at the last measurement, by how the others did."""
+    if not before:
+        return
+
     def took(figures):
         return sum(figures.get(part, 0) for part in PARTS)
+
     both = [crate for crate in before if took(before[crate]) >= 0.5 and took(minutes.get(crate, {})) >= 0.5]
     if not both or len(both) < len(before) / 2:
         print("too little was done anew to compare it with the last measurement")
