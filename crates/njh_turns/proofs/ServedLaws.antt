@@ -54,7 +54,7 @@ second_of (inr b) never = b
 
 -- So many rounds, the first of which found no quiets.
 pub served_by : {W : Type 0} {says : WireSays W} {lines : List LineId} {turns : ℕ} {before : HubWires W}
-    {after : HubMoment W} → IsAttended says ⊥ lines turns (moment before.parts (no_quiets lines) before.wires) after →
+    {after : HubMoment W} → IsAttended says ⊥ ⊥ lines turns (moment before.parts (no_quiets lines) before.wires) after →
     IsServed says lines turns before (hub_wires after.parts after.wires)
 served_by {W} {says} {lines} {turns} {before} {after} a = record {
   rounds = service_rounds a.story;
@@ -87,12 +87,12 @@ turns_break {W} {says} {may_leave} {lines} {turns} {before} {after} b = record {
 -- the lines, the quiets and the number of rounds that the call was given
 pub served_so : {W : Type 0} (says : WireSays W) {served lines : List LineId} {quiets : List ℕ} {rounds turns : ℕ}
     {parts : List Part} {wires : List W} {after : HubMoment W} →
-    IsAttended says ⊥ served rounds (moment parts quiets wires) after →
+    IsAttended says ⊥ ⊥ served rounds (moment parts quiets wires) after →
     served ≡ lines → quiets ≡ no_quiets lines → rounds ≡ turns →
     IsServed says lines turns (hub_wires parts wires) (hub_wires after.parts after.wires)
 served_so {W} says {served} {lines} {quiets} {rounds} {turns} {parts} {wires} {after} a same calm many =
-    let P : List LineId → Type 0 = λ ls. IsAttended says ⊥ ls rounds (moment parts quiets wires) after in
-    let Q : List ℕ → Type 0 = λ qs. IsAttended says ⊥ lines rounds (moment parts qs wires) after in
+    let P : List LineId → Type 0 = λ ls. IsAttended says ⊥ ⊥ ls rounds (moment parts quiets wires) after in
+    let Q : List ℕ → Type 0 = λ qs. IsAttended says ⊥ ⊥ lines rounds (moment parts qs wires) after in
     let R : ℕ → Type 0 = λ n. IsServed says lines n (hub_wires parts wires) (hub_wires after.parts after.wires) in
     subst R many (served_by {before = hub_wires parts wires} (subst Q calm (subst P same a)))
 

@@ -119,9 +119,9 @@ pub record IsAt {W : Type 0} (says : WireSays W) (steers : Type 0) (lines : List
 -- what is said of it where so many of its happenings are rounds, or fewer
 pub attended_in : {W : Type 0} {says : WireSays W} {steers : Type 0} {lines : List LineId} {first now : HubMoment W}
     {story : List Happening} {turns : ℕ} → IsAt says steers lines first story now →
-    (length (service_rounds story) ≡ turns) ⊎ (steers × (length (service_rounds story) < turns)) →
-    IsAttended says steers lines turns first now
-attended_in {W} {says} {steers} {lines} {first} {now} {story} h many = record {
+    {ended : Type 0} → (length (service_rounds story) ≡ turns) ⊎ (ended × (length (service_rounds story) < turns)) →
+    IsAttended says steers ended lines turns first now
+attended_in {W} {says} {steers} {lines} {first} {now} {story} {turns} h {ended} many = record {
   story = story;
   many = many;
   each = h.each;
@@ -133,17 +133,17 @@ attended_in {W} {says} {steers} {lines} {first} {now} {story} h many = record {
 }
 
 pub attended_at : {W : Type 0} {says : WireSays W} {steers : Type 0} {lines : List LineId} {first now : HubMoment W}
-    {story : List Happening} {turns : ℕ} → IsAt says steers lines first story now →
-    length (service_rounds story) ≡ turns → IsAttended says steers lines turns first now
+    {story : List Happening} {turns : ℕ} → IsAt says steers lines first story now → {ended : Type 0} →
+    length (service_rounds story) ≡ turns → IsAttended says steers ended lines turns first now
 attended_at h many = attended_in h (inl many)
 
 -- there are at most so many
-pub rounds_within : {W : Type 0} {says : WireSays W} {steers : Type 0} {lines : List LineId} {turns : ℕ}
-    {first now : HubMoment W} (a : IsAttended says steers lines turns first now) →
+pub rounds_within : {W : Type 0} {says : WireSays W} {steers ended : Type 0} {lines : List LineId} {turns : ℕ}
+    {first now : HubMoment W} (a : IsAttended says steers ended lines turns first now) →
     length (service_rounds a.story) ≤ turns
-rounds_within {W} {says} {steers} {lines} {turns} a =
+rounds_within {W} {says} {steers} {ended} {lines} {turns} a =
     ⊎_elim (λ (w : length (service_rounds a.story) ≡ turns). omega (arith, w))
-    (λ (w : steers × (length (service_rounds a.story) < turns)). omega (arith, w.1)) a.many
+    (λ (w : ended × (length (service_rounds a.story) < turns)). omega (arith, w.1)) a.many
 
 pub at_first : {W : Type 0} (says : WireSays W) (steers : Type 0) (lines : List LineId) (first : HubMoment W) →
     ((s : W) → says.passed s s []) → IsAt says steers lines first [] first

@@ -139,6 +139,6 @@ pub record ServiceBreaks {W : Type 0} (says : WireSays W) (may_leave : List (Lis
   pub rounds : ℕ
   pub fewer : rounds < turns
   pub mid : HubMoment W
-  pub attended : IsAttended says steers lines rounds before mid
+  pub attended : IsAttended says steers ⊥ lines rounds before mid
   pub breaks : (steers × (event : Event) × GivenBreak may_leave mid.parts event after.parts
       × (after.wires ≡ mid.wires)) ⊎ RoundBreaks says may_leave lines mid after

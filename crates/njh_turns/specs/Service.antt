@@ -18,6 +18,27 @@ use Rattle.njh_turns.specs.Turns.{Turn, Placed, HubMoment, HadTurns, turn_at, qu
 use Rattle.njh_turns.specs.WireLaws.{own_wires}
 use Rattle.njh_turns.specs.Wires.{WireAct, WireSays}
 
+-- ---- an attendant in a round
+
+-- How far it came: it rests between rounds; it came before one; it was asked for new routes; then for an order. If it
+-- brought any it waits to hear what came of it.
+pub data Stage : Type 0 where
+  Rests : Stage
+  Begins : Stage
+  AskedRoutes : (brought : Option Event) → Stage
+  AskedOrder : (brought : Option Event) → Stage
+
+-- what it brought and waits to hear of
+abbrev pub brought_at : Stage → Option Event
+brought_at Rests = None
+brought_at Begins = None
+brought_at (AskedRoutes brought) = brought
+brought_at (AskedOrder brought) = brought
+
+-- it was asked for all, and waits for nothing: the turns of the round may be taken
+abbrev pub in_round : Stage
+in_round = AskedOrder None
+
 -- ---- what happens
 
 -- What happens in a service: a round of turns, or something is given to a customer, new routes or an order.
@@ -89,13 +110,13 @@ ArePossible parts lines quiets (happening ∷ story) = IsPossible parts happenin
     × ArePossible (hub_run parts (happening_events lines quiets happening)).parts lines
     (happening_quiets quiets happening) story
 
--- A service of so many rounds, or of fewer where the attendant may end it: each wire had one turn in each, in their
+-- A service of so many rounds, or of fewer where its attendant ended it: each wire had one turn in each, in their
 -- order, and nothing else passed on it; the hub was told of these turns, of new routes and orders that it could give
 -- and that the attendant may bring, and of nothing else.
-pub record IsAttended {W : Type 0} (says : WireSays W) (steers : Type 0) (lines : List LineId) (turns : ℕ)
+pub record IsAttended {W : Type 0} (says : WireSays W) (steers ended : Type 0) (lines : List LineId) (turns : ℕ)
     (before after : HubMoment W) : Type 0 where
   pub story : List Happening
-  pub many : (length (service_rounds story) ≡ turns) ⊎ (steers × (length (service_rounds story) < turns))
+  pub many : (length (service_rounds story) ≡ turns) ⊎ (ended × (length (service_rounds story) < turns))
   pub each : All (λ round. length round ≡ length lines) (service_rounds story)
   pub possible : ArePossible before.parts lines before.quiets story
   pub brought : All (IsBrought steers) story

@@ -1,11 +1,12 @@
 //! Rounds of turns: each wire of some lines has one in each.
 
-ghost use Rattle.std.specs.Prelude.{◌≡◌, ◌<◌, List, length, slice_index_or, slice_set, All, None, IsTrue};
+ghost use Rattle.std.specs.Prelude.{◌≡◌, ◌<◌, ◌↔◌, List, length, slice_index_or, slice_set, All, IsTrue};
 ghost use Rattle.std.specs.Prelude.{IfOk, OnOk, OnErr, Err};
 ghost use Rattle.njh_hub.specs.Resting.{IsResting};
 ghost use Rattle.njh_hub.specs.WholeHub.{HasLine, SameLines};
 ghost use Rattle.njh_turns.specs.Breaks.{AreWithheld, BrokenTurn, RoundBreaks, RoundStops, TurnBreaks};
 ghost use Rattle.njh_turns.specs.Keeping.{Follows, IsSettled, Keeps};
+ghost use Rattle.njh_turns.specs.Service.{in_round};
 ghost use Rattle.njh_turns.specs.Turns.{Turn, IsRound, IsTurn, no_line_id, no_quiets, quiet_after, moment, hub_wires};
 ghost use Rattle.njh_turns.specs.Wires.{hub_wire};
 
@@ -73,11 +74,12 @@ impl Rounds {
         requires same { length wires.old ≡ length self.old.lines }
         requires known { All (HasLine hub.old) self.old.lines }
         requires settled { IsSettled K.says keeper.old hub.old }
+        requires asked { A.stands attendant.old in_round }
         ensures round { let before = moment hub.old self.old.quiets wires.old in
             let after = moment hub.new self.new.quiets wires.new in
             OnOk result ((round : List Turn) × (length round ≡ length self.old.lines)
             × IsRound W.says self.old.lines before round after) }
-        ensures told { A.waits attendant.old None → A.waits attendant.new None }
+        ensures asked { A.stands attendant.new in_round }
         ensures breaks { OnErr result (RoundBreaks W.says (K.says.may_leave keeper.new) self.old.lines
             (moment hub.old self.old.quiets wires.old) (hub_wires hub.new wires.new)) }
         ensures keeps { Keeps K.says keeper.old result hub.new keeper.new }
@@ -102,11 +104,12 @@ impl Rounds {
         requires same { length wires.old ≡ length self.old.lines }
         requires known { All (HasLine hub.old) self.old.lines }
         requires follows { K.says.knows keeper.old hub.old }
+        requires asked { A.stands attendant.old in_round }
         ensures round { let before = moment hub.old self.old.quiets wires.old in
             let after = moment hub.new self.new.quiets wires.new in
             OnOk result ((round : List Turn) × (length round ≡ length self.old.lines)
             × IsRound W.says self.old.lines before round after) }
-        ensures told { A.waits attendant.old None → A.waits attendant.new None }
+        ensures asked { A.stands attendant.new in_round }
         ensures stops { OnErr result (RoundStops W.says self.old.lines
             (moment hub.old self.old.quiets wires.old) (hub_wires hub.new wires.new)) }
         ensures follows { Follows K.says keeper.old result hub.new keeper.new }
@@ -139,12 +142,13 @@ impl Rounds {
         requires within { place < length self.old.lines }
         requires known { HasLine hub.old (slice_index_or self.old.lines place no_line_id) }
         requires follows { K.says.knows keeper.old hub.old }
+        requires asked { A.stands attendant.old in_round }
         ensures turn { let id = slice_index_or self.old.lines place no_line_id in
             let quiet = slice_index_or self.old.quiets place 0 in
             OnOk result ((turn : Turn)
             × IsTurn W.says id quiet (hub_wire hub.old wire.old) turn (hub_wire hub.new wire.new)
             × (self.new.quiets ≡ slice_set self.old.quiets place (quiet_after quiet turn.heard))) }
-        ensures told { A.waits attendant.old None → A.waits attendant.new None }
+        ensures asked { A.stands attendant.new in_round }
         ensures breaks { let id = slice_index_or self.old.lines place no_line_id in
             let quiet = slice_index_or self.old.quiets place 0 in
             OnErr result ((turn : BrokenTurn)
@@ -154,24 +158,38 @@ impl Rounds {
         ensures same { self.new.lines ≡ self.old.lines }
         ensures lines { SameLines hub.old hub.new }
     {
-        let line = self.lines[place];
-        let visit = Visit {
-            at: WirePlace { line, place },
-            quiet: self.quiets[place],
-            is_prompted: prompts(attendant, place, hub, line),
-        };
+        let visit = self.visit_at(place, hub, attendant);
         match wire_turn(visit, hub, keeper, attendant, wire, &mut self.room) {
             Ok(quiets) => self.quiets[place] = quiets,
             Err(fault) => return Err(fault),
         }
         Ok(())
     }
+
+    /// The visit of the wire at this place. It is prompted if its line rests and the attendant wants
+    /// it.
+    fn visit_at<W: Wire, A: Attendant<W>>(&self, place: usize, hub: &Hub, attendant: &A) -> Visit
+        requires within { place < length self.now.lines }
+        requires known { HasLine hub.now (slice_index_or self.now.lines place no_line_id) }
+        ensures line { result.at.line ≡ slice_index_or self.now.lines place no_line_id }
+        ensures place { result.at.place ≡ place }
+        ensures quiet { result.quiet ≡ slice_index_or self.now.quiets place 0 }
+        ensures prompted { IsTrue result.is_prompted ↔ IsResting hub.now result.at.line
+            × A.wants attendant.now place hub.now }
+    {
+        let line = self.lines[place];
+        Visit {
+            at: WirePlace { line, place },
+            quiet: self.quiets[place],
+            is_prompted: prompts(attendant, place, hub, line),
+        }
+    }
 }
 
 /// Whether the wire of the line at this place is prompted: the line rests, and the attendant wants
 /// it.
 fn prompts<W: Wire, A: Attendant<W>>(attendant: &A, place: usize, hub: &Hub, line: LineId) -> bool
-    ensures resting { IsTrue result → IsResting hub.now line }
+    ensures { IsTrue result ↔ IsResting hub.now line × A.wants attendant.now place hub.now }
 {
     hub.is_resting(line) && attendant.prompts(place, hub)
 }

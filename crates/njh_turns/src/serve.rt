@@ -64,7 +64,15 @@ pub fn serve_turns<W: Wire, K: Keeper>(
 struct EveryWire;
 
 impl<W: Wire> Attendant<W> for EveryWire {
+    ghost use Rattle.std.specs.Prelude.{⊤};
+
     ghost steers = { ⊥ };
+
+    ghost ended = { λ attendant. ⊥ };
+
+    ghost visits = { λ attendant place. ⊤ };
+
+    ghost wants = { λ attendant place parts. ⊥ };
 
     fn is_over(&self) -> bool {
         false

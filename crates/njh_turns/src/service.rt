@@ -6,7 +6,8 @@ ghost use Rattle.njh_hub.specs.WholeHub.{HasLine, Part, SameLines};
 ghost use Rattle.njh_turns.specs.Breaks.{GivenBreak, ServiceBreaks};
 ghost use Rattle.njh_turns.specs.Keeping.{IsSettled, Keeps, LeadsHub, LeavesEither};
 ghost use Rattle.njh_turns.specs.Service.{AreRoutesAnswered, IsAnswered, IsAttended, WasGiven};
-ghost use Rattle.njh_turns.specs.Service.{order_event, ordered, routes_event};
+ghost use Rattle.njh_turns.specs.Service.{in_round, order_event, ordered, routes_event};
+ghost use Rattle.njh_turns.specs.Service.{AskedOrder, AskedRoutes, Begins, Rests};
 ghost use Rattle.njh_turns.specs.Turns.{moment, hub_wires};
 
 use crate::attendant::{Attendant, NewOrder, NewRoutes};
@@ -35,11 +36,12 @@ pub fn attend<W: Wire, K: Keeper, A: Attendant<W>>(
     requires same { length wires.old ≡ length rounds.old.lines }
     requires known { All (HasLine hub.old) rounds.old.lines }
     requires settled { IsSettled K.says keeper.old hub.old }
-    ensures attended { OnOk result (IsAttended W.says A.steers rounds.old.lines turns
+    requires rests { A.stands attendant.old Rests }
+    ensures attended { OnOk result (IsAttended W.says A.steers (A.ended attendant.new) rounds.old.lines turns
         (moment hub.old rounds.old.quiets wires.old) (moment hub.new rounds.new.quiets wires.new)) }
     ensures breaks { OnErr result (ServiceBreaks W.says (K.says.may_leave keeper.new) A.steers rounds.old.lines turns
         (moment hub.old rounds.old.quiets wires.old) (hub_wires hub.new wires.new)) }
-    ensures told { OnOk result (A.waits attendant.old None → A.waits attendant.new None) }
+    ensures rests { OnOk result (A.stands attendant.new Rests) }
     ensures keeps { Keeps K.says keeper.old result hub.new keeper.new }
     ensures same { rounds.new.lines ≡ rounds.old.lines }
     ensures lines { SameLines hub.old hub.new }
@@ -74,11 +76,12 @@ fn give_routes<W: Wire, K: Keeper, A: Attendant<W>>(
     attendant: &mut A,
 ) -> Result<(), KeepFault>
     requires settled { IsSettled K.says keeper.old hub.old }
+    requires asked { A.stands attendant.old Begins }
     ensures given { OnOk result ((given : Option Event) × WasGiven hub.old given hub.new × (IsSome given → A.steers)) }
     ensures breaks { OnErr result (A.steers × (event : Event)
         × GivenBreak (K.says.may_leave keeper.new) hub.old event hub.new) }
-    ensures told { OnOk result (A.waits attendant.old None → A.waits attendant.new None) }
-    ensures untold { OnErr result (A.waits attendant.old None → (event : Event) × A.waits attendant.new (Some event)) }
+    ensures heard { OnOk result (A.stands attendant.new (AskedRoutes None)) }
+    ensures unheard { OnErr result ((event : Event) × A.stands attendant.new (AskedRoutes (Some event))) }
     ensures keeps { Keeps K.says keeper.old result hub.new keeper.new }
     ensures lines { SameLines hub.old hub.new }
 {
@@ -97,11 +100,11 @@ fn give<W: Wire, K: Keeper, A: Attendant<W>>(
     new: &NewRoutes,
 ) -> Result<(), KeepFault>
     requires settled { IsSettled K.says keeper.old hub.old }
+    requires asked { A.stands attendant.old (AskedRoutes (Some (routes_event new.now))) }
     ensures given { OnOk result ((given : Option Event) × WasGiven hub.old given hub.new) }
     ensures breaks { OnErr result ((event : Event) × GivenBreak (K.says.may_leave keeper.new) hub.old event hub.new) }
-    ensures told { OnOk result (A.waits attendant.old (Some (routes_event new.now)) → A.waits attendant.new None) }
-    ensures untold { OnErr result (A.waits attendant.old (Some (routes_event new.now))
-        → A.waits attendant.new (Some (routes_event new.now))) }
+    ensures heard { OnOk result (A.stands attendant.new (AskedRoutes None)) }
+    ensures unheard { OnErr result (A.stands attendant.new (AskedRoutes (Some (routes_event new.now)))) }
     ensures keeps { Keeps K.says keeper.old result hub.new keeper.new }
     ensures lines { SameLines hub.old hub.new }
 {
@@ -144,11 +147,12 @@ fn give_order<W: Wire, K: Keeper, A: Attendant<W>>(
     attendant: &mut A,
 ) -> Result<(), KeepFault>
     requires settled { IsSettled K.says keeper.old hub.old }
+    requires asked { A.stands attendant.old (AskedRoutes None) }
     ensures given { OnOk result ((given : Option Event) × WasGiven hub.old given hub.new × (IsSome given → A.steers)) }
     ensures breaks { OnErr result (A.steers × (event : Event)
         × GivenBreak (K.says.may_leave keeper.new) hub.old event hub.new) }
-    ensures told { OnOk result (A.waits attendant.old None → A.waits attendant.new None) }
-    ensures untold { OnErr result (A.waits attendant.old None → (event : Event) × A.waits attendant.new (Some event)) }
+    ensures heard { OnOk result (A.stands attendant.new in_round) }
+    ensures unheard { OnErr result ((event : Event) × A.stands attendant.new (AskedOrder (Some event))) }
     ensures keeps { Keeps K.says keeper.old result hub.new keeper.new }
     ensures lines { SameLines hub.old hub.new }
 {
@@ -167,11 +171,11 @@ fn carry_out<W: Wire, K: Keeper, A: Attendant<W>>(
     new: &NewOrder,
 ) -> Result<(), KeepFault>
     requires settled { IsSettled K.says keeper.old hub.old }
+    requires asked { A.stands attendant.old (AskedOrder (Some (order_event new.now))) }
     ensures given { OnOk result ((given : Option Event) × WasGiven hub.old given hub.new) }
     ensures breaks { OnErr result ((event : Event) × GivenBreak (K.says.may_leave keeper.new) hub.old event hub.new) }
-    ensures told { OnOk result (A.waits attendant.old (Some (order_event new.now)) → A.waits attendant.new None) }
-    ensures untold { OnErr result (A.waits attendant.old (Some (order_event new.now))
-        → A.waits attendant.new (Some (order_event new.now))) }
+    ensures heard { OnOk result (A.stands attendant.new in_round) }
+    ensures unheard { OnErr result (A.stands attendant.new (AskedOrder (Some (order_event new.now)))) }
     ensures keeps { Keeps K.says keeper.old result hub.new keeper.new }
     ensures lines { SameLines hub.old hub.new }
 {

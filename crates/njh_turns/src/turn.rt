@@ -1,7 +1,8 @@
 //! One turn of a wire.
 
-ghost use Rattle.std.specs.Prelude.{◌≡◌, ℕ, ◌<◌, ◌≤◌, [], ◌∷◌, length, List, Option, Some, None, OnOk, OnErr};
+ghost use Rattle.std.specs.Prelude.{◌≡◌, ℕ, ◌<◌, ◌≤◌, [], ◌∷◌, length, List, Option, Some, OnOk, OnErr};
 ghost use Rattle.std.specs.Prelude.{IfOk, IsTrue};
+ghost use Rattle.njh_turns.specs.Service.{in_round};
 ghost use Rattle.std.specs.Vec.{vec_capacity};
 ghost use Rattle.njh_bisync.specs.Limits.{longest_frame};
 ghost use Rattle.njh_customer.specs.Part.{part_after_bytes, part_after_signal};
@@ -76,7 +77,7 @@ pub struct Visit {
 /// What a read answered, and the buffer that it was given: bytes that came stand at its front. So
 /// many quiets in a row came before.
 #[derive(Clone, Copy)]
-struct Answer<'a> {
+struct ReadAnswer<'a> {
     at: WirePlace,
     reading: Result<Reading, WireFault>,
     buffer: &'a [u8],
@@ -85,7 +86,7 @@ struct Answer<'a> {
 
 /// Bytes that came on a wire.
 #[derive(Clone, Copy)]
-struct Arrival<'a> {
+struct PieceAt<'a> {
     at: WirePlace,
     piece: &'a [u8],
 }
@@ -142,20 +143,21 @@ pub fn wire_turn<W: Wire, K: Keeper, A: Attendant<W>>(
     requires follows { K.says.knows keeper.old hub.old }
     requires few { visit.quiet < 10 }
     requires resting { IsTrue visit.is_prompted → IsResting hub.old visit.at.line }
+    requires asked { A.stands attendant.old in_round }
     ensures turn { IfOk result (λ quiets. (turn : Turn)
         × IsTurn W.says visit.at.line visit.quiet (hub_wire hub.old wire.old) turn (hub_wire hub.new wire.new)
         × (quiets ≡ quiet_after visit.quiet turn.heard)) }
     ensures breaks { OnErr result ((turn : BrokenTurn)
         × TurnBreaks W.says visit.at.line visit.quiet (hub_wire hub.old wire.old) turn (hub_wire hub.new wire.new)) }
     ensures follows { Follows K.says keeper.old result hub.new keeper.new }
-    ensures told { A.waits attendant.old None → A.waits attendant.new None }
+    ensures asked { A.stands attendant.new in_round }
     ensures withheld { W.says.withheld wire.old wire.new }
     ensures few { IfOk result (λ quiets. quiets < 10) }
     ensures lines { SameLines hub.old hub.new }
 {
     let buffer = room.buffer.as_mut_slice();
     let reading = wire.read(buffer, visit.is_prompted);
-    let answer = Answer {
+    let answer = ReadAnswer {
         at: visit.at,
         reading,
         buffer,
@@ -170,7 +172,7 @@ pub fn wire_turn<W: Wire, K: Keeper, A: Attendant<W>>(
 }
 
 /// The quiets in a row behind an answer.
-fn quiets_behind(answer: Answer<'_>) -> u8
+fn quiets_behind(answer: ReadAnswer<'_>) -> u8
     requires few { answer.quiet < 10 }
     ensures quiets { result ≡ quiet_after answer.entry.quiet
         (heard_of answer.entry.reading answer.entry.buffer.now) }
@@ -195,7 +197,7 @@ fn quiets_behind(answer: Answer<'_>) -> u8
 
 /// Hands the hub what a read answered.
 fn act_on<W: Wire, K: Keeper, A: Attendant<W>>(
-    answer: Answer<'_>,
+    answer: ReadAnswer<'_>,
     hub: &mut Hub,
     keeper: &mut K,
     attendant: &mut A,
@@ -207,6 +209,7 @@ fn act_on<W: Wire, K: Keeper, A: Attendant<W>>(
     requires follows { K.says.knows keeper.old hub.old }
     requires few { answer.quiet < 10 }
     requires room { longest_frame ≤ vec_capacity out.old }
+    requires asked { A.stands attendant.old in_round }
     ensures heard { let heard = heard_of answer.entry.reading answer.entry.buffer.now in
         OnOk result ((cut : Option ℕ) × IsHeard W.says (hub_wire hub.old wire.old)
         (wire_event answer.entry.at.line answer.entry.quiet heard) cut (hub_wire hub.new wire.new)) }
@@ -214,7 +217,7 @@ fn act_on<W: Wire, K: Keeper, A: Attendant<W>>(
         OnErr result ((event : Event) × (wire_event answer.entry.at.line answer.entry.quiet heard ≡ Some event)
         × (break : Break) × EventBreaks W.says (hub_wire hub.old wire.old) event break (hub_wire hub.new wire.new)) }
     ensures follows { Follows K.says keeper.old result hub.new keeper.new }
-    ensures told { A.waits attendant.old None → A.waits attendant.new None }
+    ensures asked { A.stands attendant.new in_round }
     ensures withheld { W.says.withheld wire.old wire.new }
     ensures lines { SameLines hub.old hub.new }
     ensures room { longest_frame ≤ vec_capacity out.new }
@@ -223,7 +226,7 @@ fn act_on<W: Wire, K: Keeper, A: Attendant<W>>(
     match answer.reading {
         Ok(Reading::Bytes(count)) => {
             let piece = &answer.buffer[..count];
-            pass_bytes(Arrival { at, piece }, hub, keeper, attendant, wire, out)
+            pass_bytes(PieceAt { at, piece }, hub, keeper, attendant, wire, out)
         }
         Ok(Reading::Quiet) => {
             if answer.quiet < QUIETS {
@@ -246,7 +249,7 @@ fn act_on<W: Wire, K: Keeper, A: Attendant<W>>(
 /// Hands the hub bytes of a line and writes each frame that it sends, once the keeper has followed
 /// the step. Where a write fails the line is lost.
 fn pass_bytes<W: Wire, K: Keeper, A: Attendant<W>>(
-    arrival: Arrival<'_>,
+    arrival: PieceAt<'_>,
     hub: &mut Hub,
     keeper: &mut K,
     attendant: &mut A,
@@ -256,6 +259,7 @@ fn pass_bytes<W: Wire, K: Keeper, A: Attendant<W>>(
     requires known { HasLine hub.old arrival.at.line }
     requires follows { K.says.knows keeper.old hub.old }
     requires room { longest_frame ≤ vec_capacity out.old }
+    requires asked { A.stands attendant.old in_round }
     ensures seen { OnOk result (0 < length arrival.entry.piece.now →
         A.saw attendant.new arrival.entry.at.place hub.new out.new.items) }
     ensures done { let event = Bytes arrival.entry.at.line arrival.entry.piece.now in OnOk result ((cut : Option ℕ)
@@ -263,12 +267,12 @@ fn pass_bytes<W: Wire, K: Keeper, A: Attendant<W>>(
     ensures breaks { let event = Bytes arrival.entry.at.line arrival.entry.piece.now in OnErr result ((break : Break)
         × EventBreaks W.says (hub_wire hub.old wire.old) event break (hub_wire hub.new wire.new)) }
     ensures follows { Follows K.says keeper.old result hub.new keeper.new }
-    ensures told { A.waits attendant.old None → A.waits attendant.new None }
+    ensures asked { A.stands attendant.new in_round }
     ensures withheld { W.says.withheld wire.old wire.new }
     ensures lines { SameLines hub.old hub.new }
     ensures room { longest_frame ≤ vec_capacity out.new }
 {
-    let Arrival { at, piece } = arrival;
+    let PieceAt { at, piece } = arrival;
     let mut taken = 0;
     while taken < piece.len() {
         let (_, left) = piece.split_at(taken);
@@ -299,13 +303,14 @@ fn pass_signal<W: Wire, K: Keeper, A: Attendant<W>>(
     requires known { HasLine hub.old given.at.line }
     requires follows { K.says.knows keeper.old hub.old }
     requires room { longest_frame ≤ vec_capacity out.old }
+    requires asked { A.stands attendant.old in_round }
     ensures seen { OnOk result (A.saw attendant.new given.at.place hub.new out.new.items) }
     ensures done { let event = event_by given.signal given.at.line in OnOk result ((cut : Option ℕ)
         × IsDone W.says (hub_wire hub.old wire.old) event cut (hub_wire hub.new wire.new)) }
     ensures breaks { let event = event_by given.signal given.at.line in OnErr result ((break : Break)
         × EventBreaks W.says (hub_wire hub.old wire.old) event break (hub_wire hub.new wire.new)) }
     ensures follows { Follows K.says keeper.old result hub.new keeper.new }
-    ensures told { A.waits attendant.old None → A.waits attendant.new None }
+    ensures asked { A.stands attendant.new in_round }
     ensures withheld { W.says.withheld wire.old wire.new }
     ensures lines { SameLines hub.old hub.new }
     ensures room { longest_frame ≤ vec_capacity out.new }
@@ -333,11 +338,12 @@ fn lose<W: Wire, K: Keeper, A: Attendant<W>>(
     requires known { HasLine hub.old at.line }
     requires follows { K.says.knows keeper.old hub.old }
     requires room { longest_frame ≤ vec_capacity out.old }
+    requires asked { A.stands attendant.old in_round }
     ensures step { let t = part_after_signal (part at.line.customer hub.old) at.line.number Signal.Lost in
         IsTaken hub.old at.line t.after t.frame hub.new out.new }
     ensures follows { Follows K.says keeper.old result hub.new keeper.new }
     ensures seen { OnOk result (A.saw attendant.new at.place hub.new out.new.items) }
-    ensures told { A.waits attendant.old None → A.waits attendant.new None }
+    ensures asked { A.stands attendant.new in_round }
 {
     take_signal(hub, at.line, Signal::Lost, out);
     follow(at, hub, keeper, attendant, out)
@@ -353,6 +359,7 @@ fn follow<W: Wire, K: Keeper, A: Attendant<W>>(
     frame: &[u8],
 ) -> Result<(), KeepFault>
     requires led { (before : List Part) × K.says.knows keeper.old before × LeadsHub at.line.customer before hub.now }
+    requires asked { A.stands attendant.old in_round }
     ensures known { OnOk result (K.says.knows keeper.new hub.now) }
     ensures leaves { LeavesNoMore K.says keeper.old keeper.new }
     ensures faultless { OnOk result (K.says.count keeper.new ≡ K.says.count keeper.old) }
@@ -360,7 +367,7 @@ fn follow<W: Wire, K: Keeper, A: Attendant<W>>(
     ensures counted { OnErr result (IsCounted (K.says.count keeper.old) (K.says.count keeper.new)) }
     ensures seen { OnOk result (A.saw attendant.new at.place hub.now frame.now) }
     ensures untold { OnErr result (attendant.new ≡ attendant.old) }
-    ensures told { A.waits attendant.old None → A.waits attendant.new None }
+    ensures asked { A.stands attendant.new in_round }
 {
     match keeper.follow(hub, at.line.customer) {
         Ok(()) => {}

@@ -17,13 +17,19 @@ pub struct Pause {
     pub to: u32,
 }
 
+/// No rounds.
+const NO_PAUSE: Pause = Pause {
+    place: 0,
+    from: 0,
+    to: 0,
+};
+
 /// Brings routes once and an order once, and counts what it was called for.
 #[derive(Drop)]
 pub struct MemoryAttendant {
     brought: Option<NewRoutes>,
     ordered: Option<NewOrder>,
-    waits: bool,
-    pause: Option<Pause>,
+    pause: Pause,
     prompts: bool,
     rounds: Option<u32>,
     /// How often it came before a round.
@@ -52,8 +58,7 @@ impl MemoryAttendant {
         MemoryAttendant {
             brought,
             ordered: None,
-            waits: false,
-            pause: None,
+            pause: NO_PAUSE,
             prompts: false,
             rounds: None,
             before: 0,
@@ -78,7 +83,7 @@ impl MemoryAttendant {
     /// One that brings nothing, and by which a wire has a pause.
     pub(crate) fn with_pause(pause: Pause) -> MemoryAttendant {
         let mut attendant = MemoryAttendant::new(None);
-        attendant.pause = Some(pause);
+        attendant.pause = pause;
         attendant
     }
 
@@ -98,9 +103,14 @@ impl MemoryAttendant {
 }
 
 impl Attendant<MemoryWire> for MemoryAttendant {
-    ghost use Rattle.std.specs.Prelude.{◌≡◌, is_some};
+    ghost use Rattle.std.specs.Prelude.{◌≡◌, ◌≢◌, ◌<◌, ◌≤◌, ◌⊎◌, IsTrue, Some};
 
-    ghost waits = { λ attendant event. attendant.waits ≡ is_some event };
+    ghost ended = { λ attendant. attendant.rounds ≡ Some attendant.after };
+
+    ghost visits = { λ attendant place. (place ≢ attendant.pause.place) ⊎ (attendant.before < attendant.pause.from)
+        ⊎ (attendant.pause.to ≤ attendant.before) };
+
+    ghost wants = { λ attendant place parts. IsTrue attendant.prompts };
 
     fn is_over(&self) -> bool {
         self.rounds == Some(self.after)
@@ -111,9 +121,7 @@ impl Attendant<MemoryWire> for MemoryAttendant {
     }
 
     fn new_routes(&mut self) -> Option<NewRoutes> {
-        let routes = self.brought.take();
-        self.waits = routes.is_some();
-        routes
+        self.brought.take()
     }
 
     fn routes_given(&mut self, _hub: &Hub, _new: &NewRoutes, answer: Result<(), HubFault>) {
@@ -121,13 +129,10 @@ impl Attendant<MemoryWire> for MemoryAttendant {
             Ok(()) => self.given = self.given.saturating_add(1),
             Err(fault) => self.refused = Some(fault),
         }
-        self.waits = false;
     }
 
     fn new_order(&mut self) -> Option<NewOrder> {
-        let order = self.ordered.take();
-        self.waits = order.is_some();
-        order
+        self.ordered.take()
     }
 
     fn order_done(
@@ -144,16 +149,11 @@ impl Attendant<MemoryWire> for MemoryAttendant {
         for text in replies.texts() {
             let _ = self.replies.try_extend_from_slice(text);
         }
-        self.waits = false;
     }
 
     fn is_due(&self, place: usize) -> bool {
-        match self.pause {
-            Some(pause) => {
-                place != pause.place || self.before < pause.from || pause.to <= self.before
-            }
-            None => true,
-        }
+        let pause = self.pause;
+        place != pause.place || self.before < pause.from || pause.to <= self.before
     }
 
     fn prompts(&self, _place: usize, _hub: &Hub) -> bool {

@@ -25,7 +25,7 @@ loop-turn-init g c =
       );
       lines = refl;
       same = λ d. refl;
-      told = λ waits. waits;
+      rests = c.requires.rests;
       settled = c.requires.settled;
       kept = refl;
     }
@@ -64,9 +64,7 @@ loop-turn-preserved g c =
       lines = c.take_due.ensures.same ∙ lines_is;
       same = λ d. c.take_due.ensures.lines d ∙ c.give_order.ensures.lines d ∙ c.give_routes.ensures.lines d
           ∙ c.loop-turn.invariant.same d;
-      told = λ waits. c.after.ensures.asks_none (c.in-Ok-take_due.ensures.told
-          (c.in-Ok-give_order.ensures.told (c.in-Ok.ensures.told
-          (c.before-in-loop-turn.ensures.asks_none (c.loop-turn.invariant.told waits)))));
+      rests = c.after.ensures.rests;
       settled = c.in-Ok-take_due.ensures.keeps.settled;
       kept = c.in-Ok-take_due.ensures.keeps.faultless ∙ c.in-Ok-give_order.ensures.keeps.faultless
           ∙ c.in-Ok.ensures.keeps.faultless ∙ c.loop-turn.invariant.kept;
@@ -182,10 +180,10 @@ returns-in-Err-take_due-clause-lines g c = λ d.
 pub returns-then-is_over-clause-attended : goal.returns-then-is_over-clause-attended
 returns-then-is_over-clause-attended g c =
     let so_far = c.loop-turn.invariant.story in
-    attended_in so_far.2 (inr (c.is_over.ensures c.if-is_over.true, omega (arith, so_far.1, c.loop-turn-test.true)))
+    attended_in so_far.2 (inr (c.is_over.ensures.0 c.if-is_over.true, omega (arith, so_far.1, c.loop-turn-test.true)))
 
-pub returns-then-is_over-clause-told : goal.returns-then-is_over-clause-told
-returns-then-is_over-clause-told g c = c.loop-turn.invariant.told
+pub returns-then-is_over-clause-rests : goal.returns-then-is_over-clause-rests
+returns-then-is_over-clause-rests g c = c.loop-turn.invariant.rests
 
 pub returns-then-is_over-clause-keeps : goal.returns-then-is_over-clause-keeps
 returns-then-is_over-clause-keeps g c =
@@ -231,8 +229,8 @@ returns-clause-attended g c =
     let so_far = c.loop-turn.invariant.story in
     attended_at so_far.2 (omega (arith, so_far.1))
 
-pub returns-clause-told : goal.returns-clause-told
-returns-clause-told g c = c.loop-turn.invariant.told
+pub returns-clause-rests : goal.returns-clause-rests
+returns-clause-rests g c = c.loop-turn.invariant.rests
 
 pub returns-clause-lines : goal.returns-clause-lines
 returns-clause-lines g c = c.loop-turn.invariant.same

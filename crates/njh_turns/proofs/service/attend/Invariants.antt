@@ -1,7 +1,7 @@
-use Rattle.std.proofs.Common.{◌≡◌, List, None, length}
+use Rattle.std.proofs.Common.{◌≡◌, List, length}
 use Rattle.njh_hub.specs.WholeHub.{SameLines}
 use Rattle.njh_turns.specs.Keeping.{IsSettled}
-use Rattle.njh_turns.specs.Service.{Happening, service_rounds}
+use Rattle.njh_turns.specs.Service.{Happening, Rests, service_rounds}
 use Rattle.njh_turns.specs.Turns.{moment}
 use Rattle.njh_turns.proofs.ServiceLaws.{IsAt}
 use Rattle.njh_turns.proofs.service.attend.Given as goal
@@ -14,7 +14,7 @@ invariant-loop-turn g l = record {
       (moment l.hub l.rounds.quiets l.wires);
   lines : l.rounds.lines ≡ l.fn.rounds.lines;
   same : SameLines l.fn.hub l.hub;
-  told : g.A.Attendant.waits l.fn.attendant None → g.A.Attendant.waits l.attendant None;
+  rests : g.A.Attendant.stands l.attendant Rests;
   settled : IsSettled g.K.Keeper.says l.keeper l.hub;
   kept : g.K.Keeper.says.count l.keeper ≡ g.K.Keeper.says.count l.fn.keeper;
 }

@@ -23,7 +23,7 @@ loop-taken-init g c =
       acts = subst P (sym none) (g.met.W.Wire.none c.args.wire.now);
       same = λ d. refl;
       seen = λ some. absurd (omega arith);
-      told = λ waits. waits;
+      asked = c.requires.asked;
       room = c.requires.room;
       counts = omega arith;
       withheld = g.met.W.Wire.withheld_none c.args.wire.now;
@@ -46,6 +46,7 @@ follow-requires g c = record {
     c.loop-taken.invariant.knows,
     (_, by_bytes c.args.arrival.at.line.number _ c.take_bytes-used.ensures.rests refl, c.take_bytes-used.ensures.step.hub),
   );
+  asked = c.loop-taken.invariant.asked;
 }
 
 pub loop-taken-preserved : goal.loop-taken-preserved
@@ -78,7 +79,7 @@ loop-taken-preserved g c =
       same = λ d. did.lines d ∙ c.loop-taken.invariant.same d;
       seen = λ some. subst (λ (b : List ℕ). g.A.Attendant.saw c.follow.new.attendant c.args.arrival.at.place
           c.take_bytes-used.new.hub b) c.deref.ensures.value c.in-Ok.ensures.seen;
-      told = λ waits. c.follow.ensures.told (c.loop-taken.invariant.told waits);
+      asked = c.follow.ensures.asked;
       room = did.room;
       counts = omega (arith, c.loop-taken.invariant.counts, c.in-Ok-send.ensures.counts);
       withheld = g.met.W.Wire.withheld_more c.args.wire.now c.loop-taken.wire c.send.new.wire

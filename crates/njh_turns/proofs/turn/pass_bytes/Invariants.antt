@@ -1,9 +1,10 @@
-use Rattle.std.proofs.Common.{◌≡◌, ◌<◌, ◌≤◌, ◌-◌, length, map, take, None}
+use Rattle.std.proofs.Common.{◌≡◌, ◌<◌, ◌≤◌, ◌-◌, length, map, take}
 use Rattle.std.specs.Vec.{vec_capacity}
 use Rattle.njh_bisync.specs.Limits.{longest_frame}
 use Rattle.njh_hub.specs.WholeHub.{SameLines}
 use Rattle.njh_hub.proofs.PieceLaws.{after_bytes}
 use Rattle.njh_turns.specs.Keeping.{LeavesNoMore}
+use Rattle.njh_turns.specs.Service.{in_round}
 use Rattle.njh_turns.specs.Wires.{sent_act}
 use Rattle.njh_turns.proofs.turn.pass_bytes.Given as goal
 
@@ -15,7 +16,7 @@ invariant-loop-taken g l = record {
   acts : g.W.Wire.says.passed l.fn.wire l.wire (map sent_act (after_bytes l.fn.hub l.at.line (take l.taken l.piece)).sent);
   same : SameLines l.fn.hub l.hub;
   seen : 0 < l.taken → g.A.Attendant.saw l.attendant l.at.place l.hub l.out.items;
-  told : g.A.Attendant.waits l.fn.attendant None → g.A.Attendant.waits l.attendant None;
+  asked : g.A.Attendant.stands l.attendant in_round;
   room : longest_frame ≤ vec_capacity l.out;
   counts : g.W.Wire.says.count l.fn.wire ≤ g.W.Wire.says.count l.wire;
   withheld : g.W.Wire.says.withheld l.fn.wire l.wire;

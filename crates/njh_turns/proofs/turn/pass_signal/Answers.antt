@@ -10,6 +10,7 @@ use Rattle.njh_turns.proofs.turn.pass_signal.Goals as goal
 pub follow-requires : goal.follow-requires
 follow-requires g c = record {
   led = (c.args.hub.now, c.requires.follows, (_, by_signal c.args.given.at.line.number _ refl, c.take_signal.ensures.hub));
+  asked = c.requires.asked;
 }
 
 pub returns-in-Err-clause-breaks : goal.returns-in-Err-clause-breaks

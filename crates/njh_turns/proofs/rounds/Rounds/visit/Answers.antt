@@ -22,7 +22,7 @@ loop-i-init g c =
       );
       lines = refl;
       same = λ d. refl;
-      told = λ waits. waits;
+      asked = c.requires.asked;
       withheld = λ k d. g.met.W.Wire.withheld_none (get_or c.args.wires.now k d);
       knows = c.requires.follows;
       leaves = λ left now. now;
@@ -100,7 +100,7 @@ loop-i-preserved g c =
       );
       lines = c.take_turn.ensures.same ∙ c.loop-i.invariant.lines;
       same = λ d. c.in-Ok.ensures.lines d ∙ c.loop-i.invariant.same d;
-      told = λ waits. c.in-Ok.ensures.told (c.loop-i.invariant.told waits);
+      asked = c.in-Ok.ensures.asked;
       withheld = withheld_on g.W.Wire.says g.met.W.Wire.withheld_more c.args.wires.now wires i wire new.wire
           (omega (arith, c.requires.same, within)) wire_is c.loop-i.invariant.withheld c.in-Ok.ensures.withheld;
       knows = c.in-Ok.ensures.follows.known;
@@ -134,7 +134,7 @@ loop-i-preserved-then-not-is_due g c =
       );
       lines = c.loop-i.invariant.lines;
       same = c.loop-i.invariant.same;
-      told = c.loop-i.invariant.told;
+      asked = c.loop-i.invariant.asked;
       withheld = c.loop-i.invariant.withheld;
       knows = c.loop-i.invariant.knows;
       leaves = c.loop-i.invariant.leaves;

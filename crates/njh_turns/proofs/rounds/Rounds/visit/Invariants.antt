@@ -1,7 +1,8 @@
-use Rattle.std.proofs.Common.{◌≡◌, List, None, length}
+use Rattle.std.proofs.Common.{◌≡◌, List, length}
 use Rattle.njh_hub.specs.WholeHub.{SameLines}
 use Rattle.njh_turns.specs.Breaks.{AreWithheld}
 use Rattle.njh_turns.specs.Keeping.{LeavesNoMore}
+use Rattle.njh_turns.specs.Service.{in_round}
 use Rattle.njh_turns.specs.Turns.{Turn, IsRound, moment}
 use Rattle.njh_turns.proofs.rounds.Rounds.visit.Given as goal
 
@@ -13,7 +14,7 @@ invariant-loop-i g l = record {
       (moment l.hub l.self.quiets l.wires);
   lines : l.self.lines ≡ l.fn.self.lines;
   same : SameLines l.fn.hub l.hub;
-  told : g.A.Attendant.waits l.fn.attendant None → g.A.Attendant.waits l.attendant None;
+  asked : g.A.Attendant.stands l.attendant in_round;
   withheld : AreWithheld g.W.Wire.says l.fn.wires l.wires;
   knows : g.K.Keeper.says.knows l.keeper l.hub;
   leaves : LeavesNoMore g.K.Keeper.says l.fn.keeper l.keeper;
