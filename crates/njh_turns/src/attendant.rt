@@ -35,8 +35,9 @@ pub struct NewOrder {
 /// routes and for an order, hears what came of each before it is asked on, and comes again after
 /// the wires. What it says of its stage is handed on from call to call, so none can be left out.
 pub trait Attendant<W: Wire> {
-    ghost use Rattle.std.specs.Prelude.{⊤, ℕ};
+    ghost use Rattle.std.specs.Prelude.{◌≡◌, ⊤, ℕ, Option};
     ghost use Rattle.njh_turns.specs.Service.{Stage};
+    ghost use Rattle.njh_turns.specs.declared.attendant.NewOrder.{NewOrder};
 
     /// It may bring new routes and orders. One that says nothing of it may.
     ghost steers: { Type 0 } = { ⊤ };
@@ -55,6 +56,17 @@ pub trait Attendant<W: Wire> {
     /// send.
     ghost wants: { Self → ℕ → List Part → Type 0 };
 
+    /// The order that it has to bring, if any.
+    ghost order: { Self → Option NewOrder };
+
+    /// What it did before a round, to itself and to the wires, from how they were to how they are.
+    /// One that says nothing of it may do anything.
+    ghost opens: { Self → List W → Self → List W → Type 0 } = { λ old wires new new_wires. ⊤ };
+
+    /// What it did after a round with a hub of these parts. One that says nothing of it may do
+    /// anything.
+    ghost closes: { Self → List W → List Part → Self → List W → Type 0 } = { λ old wires parts new new_wires. ⊤ };
+
     /// What it noted of the step that it was told of last: the place of its wire, the hub after it,
     /// and the frame that it sent. One that says nothing of it may have noted anything.
     ghost saw: { Self → ℕ → List Part → List ℕ → Type 0 } = { λ attendant place parts frame. ⊤ };
@@ -68,7 +80,8 @@ pub trait Attendant<W: Wire> {
         requires goes_on { ¬ ended self.old }
         requires rests { stands self.old Rests }
         ensures still { AreStill W.says.passed W.says.count wires.old wires.new }
-        ensures begins { stands self.new Begins };
+        ensures begins { stands self.new Begins }
+        ensures opened { opens self.old wires.old self.new wires.new };
 
     /// New routes, where a customer is to have some. It is asked once before each round.
     fn new_routes(&mut self) -> Option<NewRoutes>
@@ -87,7 +100,8 @@ pub trait Attendant<W: Wire> {
     fn new_order(&mut self) -> Option<NewOrder>
         requires asked { stands self.old (AskedRoutes None) }
         ensures brought { IsSome result → steers }
-        ensures asked { stands self.new (AskedOrder (option_map order_event result)) };
+        ensures asked { stands self.new (AskedOrder (option_map order_event result)) }
+        ensures order { result ≡ order self.old };
 
     /// What came of the order that it brought: the replies to it, or why `Hub::order` refused it.
     /// What the order made of the customer's files is kept then.
@@ -123,5 +137,6 @@ pub trait Attendant<W: Wire> {
     fn after(&mut self, hub: &Hub, wires: &mut [W])
         requires asked { stands self.old in_round }
         ensures still { AreStill W.says.passed W.says.count wires.old wires.new }
-        ensures rests { stands self.new Rests };
+        ensures rests { stands self.new Rests }
+        ensures closed { closes self.old wires.old hub.now self.new wires.new };
 }

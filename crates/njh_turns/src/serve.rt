@@ -64,7 +64,7 @@ pub fn serve_turns<W: Wire, K: Keeper>(
 struct EveryWire;
 
 impl<W: Wire> Attendant<W> for EveryWire {
-    ghost use Rattle.std.specs.Prelude.{⊤};
+    ghost use Rattle.std.specs.Prelude.{⊤, None};
 
     ghost steers = { ⊥ };
 
@@ -73,6 +73,8 @@ impl<W: Wire> Attendant<W> for EveryWire {
     ghost visits = { λ attendant place. ⊤ };
 
     ghost wants = { λ attendant place parts. ⊥ };
+
+    ghost order = { λ attendant. None };
 
     fn is_over(&self) -> bool {
         false

@@ -112,6 +112,8 @@ impl Attendant<MemoryWire> for MemoryAttendant {
 
     ghost wants = { λ attendant place parts. IsTrue attendant.prompts };
 
+    ghost order = { λ attendant. attendant.ordered };
+
     fn is_over(&self) -> bool {
         self.rounds == Some(self.after)
     }
