@@ -6,12 +6,12 @@ use Rattle.njh_spool.specs.CustomerSpool.{WholeFile}
 use Rattle.njh_table.specs.TableFile.{customer_at}
 use Rattle.njh_hub.specs.WholeHub.{Part, part}
 use Rattle.njh_answer.specs.Answers.{ordered, shows}
-use Rattle.njh_answer.specs.Arrivals.{seen_of}
+use Rattle.njh_arrivals.specs.Arrivals.{seen_of}
 use Rattle.njh_answer.specs.Files.{files_data, files_page}
 use Rattle.njh_answer.specs.Laws.{AnswersAreOfTheCustomer, NoFileIsPassedOver, PagesTellAll}
 use Rattle.njh_answer.specs.Lines.{lines_data}
 use Rattle.njh_answer.specs.Owners.{owner_for}
-use Rattle.njh_answer.specs.declared.arrivals.Arrival.{Arrival}
+use Rattle.njh_arrivals.specs.declared.arrivals.FileArrival.{FileArrival}
 
 -- so many from a place, and those behind them
 parts-joined : (xs : List WholeFile) (first end : ℕ) → first ≤ end
@@ -48,7 +48,7 @@ pub answers_are_of_the_customer : AnswersAreOfTheCustomer
 answers_are_of_the_customer c parts others same = record {
   of_files = λ from tables service lines seen any orders next alike.
       ap (λ (p : Part). shows (files_data (customer_at tables c) p (seen_of c seen) from)) same
-      ∙ ap (λ (row : List Arrival). shows (files_data (customer_at tables c) (part c others) row from)) alike;
+      ∙ ap (λ (row : List FileArrival). shows (files_data (customer_at tables c) (part c others) row from)) alike;
   of_lines = λ from tables service views seen orders next.
       ap (λ (p : Part). shows (lines_data (customer_at tables c) c p views from)) same;
   of_orders = λ owner text tables service lines seen orders_known next.

@@ -1,5 +1,4 @@
 pub mod AnswerLaws
-pub mod ArrivalLaws
 pub mod OwnerLaws
 pub mod Summing
 pub mod TableBounds

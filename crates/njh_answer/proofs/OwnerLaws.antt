@@ -6,8 +6,8 @@ use Rattle.std.specs.List.{AllByRecursion, fold}
 use Rattle.std.specs.Prelude.{Result, Ok, Err, is_ok}
 use Rattle.njh_ebcdic.specs.Users.{User}
 use Rattle.njh_hub.specs.Files.{said_owner}
-use Rattle.njh_request.specs.declared.refusal.Refusal.{Refusal}
-use Rattle.njh_request.specs.declared.refusal.Refusal.TheVariants as refusal
+use Rattle.njh_request.specs.declared.refusal.RequestRefusal.{RequestRefusal}
+use Rattle.njh_request.specs.declared.refusal.RequestRefusal.TheVariants as refusal
 use Rattle.njh_spool.specs.CustomerSpool.{WholeFile}
 use Rattle.njh_answer.specs.Laws.{OwnersOwnAll}
 use Rattle.njh_answer.specs.Owners.{IsOwnedBy, files_called, is_same_user, owner_by}
@@ -16,7 +16,7 @@ abbrev owner-of : WholeFile → User
 owner-of f = said_owner f.records
 
 -- the user in a result, or another
-abbrev owner-in : User → Result User Refusal → User
+abbrev owner-in : User → Result User RequestRefusal → User
 owner-in other (Ok user) = user
 owner-in other (Err refused) = other
 

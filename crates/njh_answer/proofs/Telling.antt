@@ -24,8 +24,8 @@ use Rattle.njh_customer.specs.Customer.{no_customer_line}
 use Rattle.njh_hub.specs.Views.{hub_line}
 use Rattle.njh_hub.specs.WholeHub.{HasLine, Part, no_entry, no_part, part}
 use Rattle.njh_table.specs.declared.LineId.{LineId}
-use Rattle.njh_request.specs.declared.refusal.Refusal.{Refusal}
-use Rattle.njh_request.specs.declared.refusal.Refusal.TheVariants as refusal
+use Rattle.njh_request.specs.declared.refusal.RequestRefusal.{RequestRefusal}
+use Rattle.njh_request.specs.declared.refusal.RequestRefusal.TheVariants as refusal
 use Rattle.njh_answer.specs.Customers.{customer_data, no_tally, tally_of, tally_with}
 use Rattle.njh_answer.specs.Files.{line_by_route}
 use Rattle.njh_answer.specs.Lines.{line_told, line_where}
@@ -92,7 +92,7 @@ tally_more s index there =
           (get_or s.whole index no_file ∷ []),
     ) refl
 
-owner-case : (b : Bool) (o : Result User Refusal) (f : WholeFile)
+owner-case : (b : Bool) (o : Result User RequestRefusal) (f : WholeFile)
     → fold owner_by o (map (λ (x : WholeFile). said_owner x.records) (cond b (f ∷ []) []))
     ≡ cond b (owner_by o (said_owner f.records)) o
 owner-case true o f = refl

@@ -7,17 +7,17 @@ use Rattle.njh_ebcdic.specs.Users.{User}
 use Rattle.njh_table.specs.TableFile.{TableFile, customer_at}
 use Rattle.njh_hub.specs.WholeHub.{Part, part}
 use Rattle.njh_request.specs.Refusals.{sentence_of, status_of}
-use Rattle.njh_request.specs.declared.refusal.Refusal.{Refusal}
+use Rattle.njh_request.specs.declared.refusal.RequestRefusal.{RequestRefusal}
 use Rattle.njh_request.specs.declared.request.Request.{Request}
 use Rattle.njh_request.specs.declared.request.Request.TheVariants as request
-use Rattle.njh_answer.specs.Arrivals.{Seen, seen_of}
+use Rattle.njh_arrivals.specs.Arrivals.{Seen, seen_of}
 use Rattle.njh_answer.specs.Customers.{customers_data}
 use Rattle.njh_answer.specs.Files.{files_data}
 use Rattle.njh_answer.specs.Lines.{lines_data}
 use Rattle.njh_answer.specs.Orders.{is_numbered, outcome_told}
 use Rattle.njh_answer.specs.Owners.{owner_for}
 use Rattle.njh_answer.specs.Status.{status_data}
-use Rattle.njh_answer.specs.declared.answering.Answer.{Answer}
+use Rattle.njh_answer.specs.declared.answering.RequestAnswer.{RequestAnswer}
 use Rattle.njh_answer.specs.declared.answering.Deed.{Deed}
 use Rattle.njh_answer.specs.declared.answering.Deed.TheVariants as deed
 use Rattle.njh_answer.specs.declared.orders.OrderRecord.{OrderRecord}
@@ -29,7 +29,7 @@ pub record Told : Type 0 where
   pub json : Data
   pub deed : Deed
 
-abbrev pub told_of : Answer → Told
+abbrev pub told_of : RequestAnswer → Told
 told_of answer = record { status = answer.status; json = view answer.value; deed = answer.deed }
 
 -- something is told, and nothing ordered
@@ -37,13 +37,13 @@ abbrev pub shows : Data → Told
 shows d = record { status = 200; json = d; deed = deed.Nothing }
 
 -- {"error":"there is nothing at this path"}
-abbrev pub refusal_data : Refusal → Data
+abbrev pub refusal_data : RequestRefusal → Data
 refusal_data r = object (member (codes "error") (string (sentence_of r)) no_members)
 
-abbrev pub refuses : Refusal → Told
+abbrev pub refuses : RequestRefusal → Told
 refuses r = record { status = status_of r; json = refusal_data r; deed = deed.Refused r }
 
-abbrev pub shows_or_refuses : Result Data Refusal → Told
+abbrev pub shows_or_refuses : Result Data RequestRefusal → Told
 shows_or_refuses (Ok d) = shows d
 shows_or_refuses (Err r) = refuses r
 
@@ -59,7 +59,7 @@ takes n what = record { status = 202; json = takes_data n; deed = what }
 abbrev pub obeys : Deed → Told
 obeys what = record { status = 202; json = object no_members; deed = what }
 
-abbrev pub ordered : ℕ → Result User Refusal → List ℕ → ℕ → Told
+abbrev pub ordered : ℕ → Result User RequestRefusal → List ℕ → ℕ → Told
 ordered c (Ok owner) text n = takes n (deed.Command c owner text)
 ordered c (Err r) text n = refuses r
 

@@ -18,11 +18,11 @@ use Rattle.njh_hub.specs.Files.{said_destination}
 use Rattle.njh_hub.specs.Views.{file_summary}
 use Rattle.njh_hub.specs.WholeHub.{Part}
 use Rattle.njh_hub.specs.declared.file_summary.FileSummaryView.{FileSummaryView}
-use Rattle.njh_answer.specs.Arrivals.{moment_in}
+use Rattle.njh_arrivals.specs.Arrivals.{moment_in}
 use Rattle.njh_answer.specs.Fields.{file_name_text, name_text, user_data}
 use Rattle.njh_answer.specs.Lines.{moment_data}
 use Rattle.njh_answer.specs.Pages.{next_data, page_of, told}
-use Rattle.njh_answer.specs.declared.arrivals.Arrival.{Arrival}
+use Rattle.njh_arrivals.specs.declared.arrivals.FileArrival.{FileArrival}
 use Rattle.njh_answer.specs.declared.page.Page.{Page}
 
 -- how many files an answer has at most
@@ -76,7 +76,7 @@ file_data f came line = object (
     (member (codes "state") (string (state_text f.state)) no_members)))))))))
 
 -- a file of the customer whose lines, entry and arrivals these are
-abbrev pub file_entry : List NamedLine → CustomerEntry → List Arrival → WholeFile → Data
+abbrev pub file_entry : List NamedLine → CustomerEntry → List FileArrival → WholeFile → Data
 file_entry lines entry seen f =
     file_data (file_summary f) (moment_in f.number seen) (line_to lines entry (said_destination f.kind f.records).node)
 
@@ -95,11 +95,11 @@ abbrev pub told_from : ℕ → CustomerSpool → List WholeFile
 told_from from s = told (files_page from s) s.whole
 
 -- the files of an answer, of the customer whose part of the hub and whose arrivals these are
-abbrev pub files_told_from : List NamedLine → Part → List Arrival → ℕ → List Data
+abbrev pub files_told_from : List NamedLine → Part → List FileArrival → ℕ → List Data
 files_told_from lines p seen from = map (file_entry lines p.customer.entry seen) (told_from from p.customer.spool)
 
 -- {"customer":"ACME","files":[..],"next":228}
-abbrev pub files_data : NamedCustomer → Part → List Arrival → ℕ → Data
+abbrev pub files_data : NamedCustomer → Part → List FileArrival → ℕ → Data
 files_data named p seen from = let s = p.customer.spool in object (
     member (codes "customer") (string (name_text named.name))
     (member (codes "files") (array (items_of (files_told_from named.lines p seen from)))

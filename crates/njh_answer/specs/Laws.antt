@@ -1,15 +1,14 @@
 -- What holds of answers, whoever computes them.
-use Rattle.std.specs.Prelude.{◌≡◌, ◌≢◌, ℕ, ◌+◌, ◌≤◌, ◌<◌, List, ◌++◌, length, drop, Option, Some, Ok}
+use Rattle.std.specs.Prelude.{◌≡◌, ℕ, ◌+◌, ◌≤◌, ◌<◌, List, ◌++◌, length, drop, Option, Ok}
 use Rattle.std.specs.List.{AllByRecursion}
 use Rattle.njh_ebcdic.specs.Users.{User}
 use Rattle.njh_header.specs.FileNames.{FileName}
 use Rattle.njh_spool.specs.CustomerSpool.{CustomerSpool, WholeFile}
-use Rattle.njh_table.specs.Limits.{max_files}
 use Rattle.njh_table.specs.TableFile.{TableFile}
 use Rattle.njh_hub.specs.WholeHub.{Part, part}
 use Rattle.njh_request.specs.declared.request.Request.TheVariants as request
 use Rattle.njh_answer.specs.Answers.{answer_of}
-use Rattle.njh_answer.specs.Arrivals.{Seen, moment_of, noted, seen_of}
+use Rattle.njh_arrivals.specs.Arrivals.{Seen, seen_of}
 use Rattle.njh_answer.specs.Files.{files_left, files_page, told_from}
 use Rattle.njh_answer.specs.Owners.{IsOwnedBy, files_called, owner_of_files}
 use Rattle.njh_answer.specs.declared.orders.OrderRecord.{OrderRecord}
@@ -46,19 +45,6 @@ abbrev pub OwnersOwnAll : Type 0
 OwnersOwnAll =
     (name : FileName) (files : List WholeFile) (owner : User) → owner_of_files name files ≡ Ok owner
     → (0 < length (files_called name files)) × AllByRecursion (IsOwnedBy owner) (files_called name files)
-
--- The moment at which a file of customer c came is told of it. Of all other customers' files what was told before is
--- told, and so of its own others while there is room.
-pub record IsNoted (c file moment : ℕ) (seen : Seen) : Type 0 where
-  pub of_it : c < length seen → moment_of c file (noted c file moment seen) ≡ Some moment
-  pub of_others : (other any : ℕ) → other ≢ c
-      → moment_of other any (noted c file moment seen) ≡ moment_of other any seen
-  pub of_its_others : (other : ℕ) → other ≢ file → length (seen_of c seen) < max_files → c < length seen
-      → moment_of c other (noted c file moment seen) ≡ moment_of c other seen
-  pub of_nobody : length seen ≤ c → noted c file moment seen ≡ seen
-
-abbrev pub NotedIsTold : Type 0
-NotedIsTold = (c file moment : ℕ) (seen : Seen) → IsNoted c file moment seen
 
 -- What is told of a customer's files and lines, and in whose name a command of its is taken, is by its own part of the
 -- hub, and of its files by its own arrivals: as on any other hub on which they stand alike.

@@ -7,5 +7,4 @@ pub mod Owners
 pub mod Orders
 pub mod Status
 pub mod Answers
-pub mod Arrivals
 pub mod Laws

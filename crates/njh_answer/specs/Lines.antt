@@ -25,8 +25,8 @@ use Rattle.njh_hub.specs.declared.session_view.SessionView.{SessionView}
 use Rattle.njh_answer.specs.Fields.{file_name_text, name_text}
 use Rattle.njh_answer.specs.Pages.{next_data, page_of}
 use Rattle.njh_answer.specs.declared.page.Page.{Page}
-use Rattle.njh_answer.specs.declared.views.LineState.{LineState}
-use Rattle.njh_answer.specs.declared.views.LineState.TheVariants.{Started, Draining, Stopped}
+use Rattle.njh_request.specs.declared.request.LineState.{LineState}
+use Rattle.njh_request.specs.declared.request.LineState.TheVariants.{Started, Draining, Stopped}
 use Rattle.njh_answer.specs.declared.views.LineView.{LineView}
 
 -- how many lines an answer has at most

@@ -5,14 +5,14 @@ use Rattle.serde_json.specs.Data.{Data, number, unsigned, string, array, object,
 use Rattle.serde_json.specs.View.{items_of, view}
 use Rattle.serde_json.specs.declared.value.Value.{Value}
 use Rattle.njh_ebcdic.specs.Characters.{shown_text}
-use Rattle.njh_request.specs.declared.refusal.Refusal.{Refusal}
-use Rattle.njh_request.specs.declared.refusal.Refusal.TheVariants as refusal
+use Rattle.njh_request.specs.declared.refusal.RequestRefusal.{RequestRefusal}
+use Rattle.njh_request.specs.declared.refusal.RequestRefusal.TheVariants as refusal
 use Rattle.njh_answer.specs.Fields.{name_text}
 use Rattle.njh_answer.specs.declared.orders.OrderRecord.{OrderRecord}
 use Rattle.njh_answer.specs.declared.orders.Outcome.{Outcome}
 use Rattle.njh_answer.specs.declared.orders.Outcome.TheVariants.{Waits, Done, NotKept, NoWay}
 
-abbrev pub viewed : Result Value Refusal → Result Data Refusal
+abbrev pub viewed : Result Value RequestRefusal → Result Data RequestRefusal
 viewed (Ok value) = Ok (view value)
 viewed (Err r) = Err r
 
@@ -29,18 +29,18 @@ done_data order replies = object (
     (member (codes "order") (number (unsigned order.number))
     (member (codes "replies") (array (items_of (map reply_data replies))) no_members)))
 
-abbrev pub told_by : OrderRecord → Outcome → Result Data Refusal
+abbrev pub told_by : OrderRecord → Outcome → Result Data RequestRefusal
 told_by order Waits = Err refusal.OrderWaits
 told_by order (Done replies) = Ok (done_data order replies.items)
 told_by order NotKept = Err refusal.NotKept
 told_by order NoWay = Err refusal.NoWay
 
-abbrev pub order_told : OrderRecord → Result Data Refusal
+abbrev pub order_told : OrderRecord → Result Data RequestRefusal
 order_told order = told_by order order.outcome
 
 abbrev pub is_numbered : ℕ → OrderRecord → Bool
 is_numbered n order = order.number == n
 
-abbrev pub outcome_told : Option OrderRecord → Result Data Refusal
+abbrev pub outcome_told : Option OrderRecord → Result Data RequestRefusal
 outcome_told None = Err refusal.NoOrder
 outcome_told (Some order) = order_told order

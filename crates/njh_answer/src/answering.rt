@@ -7,7 +7,6 @@ ghost use Rattle.njh_answer.specs.Answers.{answer_of, obeys, ordered, refusal_da
 ghost use Rattle.njh_answer.specs.Answers.{takes, takes_data, told_of};
 ghost use Rattle.njh_answer.specs.Orders.{viewed};
 
-use crate::arrivals::Arrivals;
 use crate::customers::customers_value;
 use crate::files::files_value;
 use crate::lines::lines_value;
@@ -15,9 +14,10 @@ use crate::orders::{OrderRecord, outcome_value};
 use crate::owners::owner_for;
 use crate::status::status_value;
 use crate::views::{LineView, ServiceView};
+use njh_arrivals::Arrivals;
 use njh_header::User;
 use njh_hub::Hub;
-use njh_request::{LineWish, Moment, Refusal, Request, Text};
+use njh_request::{EndMoment, LineWish, Request, RequestRefusal, Text};
 use njh_table::{LineId, Tables};
 use serde_json::{Value, json};
 use std::alloc::{AllocError, Global};
@@ -28,7 +28,7 @@ pub enum Deed {
     /// Nothing.
     Nothing,
     /// Nothing: the request was refused so.
-    Refused(Refusal),
+    Refused(RequestRefusal),
     /// That a command is carried out for a customer, in this user's name.
     Command(u16, User, Text),
     /// That a user of a customer's is told this.
@@ -36,12 +36,12 @@ pub enum Deed {
     /// That a line is so.
     Line(LineId, LineWish),
     /// That the service ends.
-    Stop(Moment),
+    Stop(EndMoment),
 }
 
 /// What is answered: a status of HTTP and JSON, and what is to be done.
 #[derive(Drop)]
-pub struct Answer {
+pub struct RequestAnswer {
     /// The status.
     pub status: u16,
     /// The body.
@@ -74,7 +74,7 @@ pub fn answer_request(
     alloc: Global,
     request: Request,
     views: &Views<'_>,
-) -> Result<Answer, AllocError>
+) -> Result<RequestAnswer, AllocError>
     requires { IsRequestOf views.now.tables.now request }
     ensures { IfOk result (λ answer. told_of answer ≡ answer_of request views.now.hub.now views.now.tables.now
         views.now.service.now views.now.lines.now views.now.arrivals.now views.now.orders.now views.now.next) }
@@ -117,10 +117,10 @@ pub fn answer_request(
 }
 
 /// Something is told, and nothing ordered.
-fn shows(value: Value) -> Answer
+fn shows(value: Value) -> RequestAnswer
     ensures { told_of result ≡ shows (view value) }
 {
-    Answer {
+    RequestAnswer {
         status: 200,
         value,
         deed: Deed::Nothing,
@@ -128,7 +128,10 @@ fn shows(value: Value) -> Answer
 }
 
 /// Something is told, or why it isn't.
-fn shows_or_refuses(alloc: Global, told: Result<Value, Refusal>) -> Result<Answer, AllocError>
+fn shows_or_refuses(
+    alloc: Global,
+    told: Result<Value, RequestRefusal>,
+) -> Result<RequestAnswer, AllocError>
     ensures { IfOk result (λ answer. told_of answer ≡ shows_or_refuses (viewed told)) }
 {
     match told {
@@ -138,18 +141,18 @@ fn shows_or_refuses(alloc: Global, told: Result<Value, Refusal>) -> Result<Answe
 }
 
 /// Why nothing is done.
-pub fn refuses(alloc: Global, refusal: Refusal) -> Result<Answer, AllocError>
+pub fn refuses(alloc: Global, refusal: RequestRefusal) -> Result<RequestAnswer, AllocError>
     ensures { IfOk result (λ answer. told_of answer ≡ refuses refusal) }
 {
     let value = refusal_value(alloc, refusal)?;
-    Ok(Answer {
+    Ok(RequestAnswer {
         status: refusal.status(),
         value,
         deed: Deed::Refused(refusal),
     })
 }
 
-fn refusal_value(alloc: Global, refusal: Refusal) -> Result<Value, AllocError>
+fn refusal_value(alloc: Global, refusal: RequestRefusal) -> Result<Value, AllocError>
     ensures { IfOk result (λ value. view value ≡ refusal_data refusal) }
 {
     json!(in alloc; {"error": refusal.sentence()})
@@ -159,10 +162,10 @@ fn refusal_value(alloc: Global, refusal: Refusal) -> Result<Value, AllocError>
 fn ordered(
     alloc: Global,
     customer: u16,
-    owner: Result<User, Refusal>,
+    owner: Result<User, RequestRefusal>,
     text: Text,
     number: u64,
-) -> Result<Answer, AllocError>
+) -> Result<RequestAnswer, AllocError>
     ensures { IfOk result (λ answer. told_of answer ≡ ordered customer owner text number) }
 {
     match owner {
@@ -172,11 +175,11 @@ fn ordered(
 }
 
 /// An order is taken under a number.
-fn takes(alloc: Global, number: u64, deed: Deed) -> Result<Answer, AllocError>
+fn takes(alloc: Global, number: u64, deed: Deed) -> Result<RequestAnswer, AllocError>
     ensures { IfOk result (λ answer. told_of answer ≡ takes number deed) }
 {
     let value = takes_value(alloc, number)?;
-    Ok(Answer {
+    Ok(RequestAnswer {
         status: 202,
         value,
         deed,
@@ -190,11 +193,11 @@ fn takes_value(alloc: Global, number: u64) -> Result<Value, AllocError>
 }
 
 /// What is ordered has no outcome of its own.
-fn obeys(alloc: Global, deed: Deed) -> Result<Answer, AllocError>
+fn obeys(alloc: Global, deed: Deed) -> Result<RequestAnswer, AllocError>
     ensures { IfOk result (λ answer. told_of answer ≡ obeys deed) }
 {
     let value = json!(in alloc; {})?;
-    Ok(Answer {
+    Ok(RequestAnswer {
         status: 202,
         value,
         deed,

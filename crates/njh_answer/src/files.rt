@@ -6,15 +6,15 @@ ghost use Rattle.njh_command.specs.Files.{file_at};
 ghost use Rattle.njh_hub.specs.WholeHub.{part};
 ghost use Rattle.njh_table.specs.Entries.{route_of};
 ghost use Rattle.njh_table.specs.TableFile.{customer_at};
-ghost use Rattle.njh_answer.specs.Arrivals.{seen_of};
+ghost use Rattle.njh_arrivals.specs.Arrivals.{seen_of};
 ghost use Rattle.njh_answer.specs.Files.{file_data, file_entry, files_data, kind_text, line_by_route, line_to};
 ghost use Rattle.njh_answer.specs.Files.{state_text, text_data};
 ghost use Rattle.njh_answer.specs.Pages.{told};
 
-use crate::arrivals::Arrivals;
 use crate::fields::{file_name_text, name_text, user_value};
 use crate::lines::moment_value;
 use crate::page::Page;
+use njh_arrivals::Arrivals;
 use njh_ebcdic::{FIELD, Name};
 use njh_hub::{FileSummaryView, Hub};
 use njh_record::Kind;

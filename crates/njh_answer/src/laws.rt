@@ -1,6 +1,6 @@
 //! Laws of the definitions: what holds of answers, whoever computes them.
 
-ghost use Rattle.njh_answer.specs.Laws.{AnswersAreOfTheCustomer, NoFileIsPassedOver, NotedIsTold, OwnersOwnAll};
+ghost use Rattle.njh_answer.specs.Laws.{AnswersAreOfTheCustomer, NoFileIsPassedOver, OwnersOwnAll};
 ghost use Rattle.njh_answer.specs.Laws.{PagesTellAll};
 
 /// The files of an answer, and those behind it, are all from its place on.
@@ -18,11 +18,6 @@ pub fn no_file_is_passed_over()
 /// says, of which there is one at least.
 pub fn owners_own_all()
     ensures { OwnersOwnAll }
-{}
-
-/// The moment at which a file came is told of it, and of other files what was told before.
-pub fn noted_is_told()
-    ensures { NotedIsTold }
 {}
 
 /// What is told of a customer is by its own part of the hub and its own arrivals alone.

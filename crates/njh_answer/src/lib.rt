@@ -2,7 +2,6 @@
 #![tactic(auto)]
 
 mod answering;
-mod arrivals;
 mod customers;
 mod fields;
 mod files;
@@ -14,11 +13,9 @@ mod page;
 mod status;
 mod views;
 
-pub use answering::{Answer, Deed, Views, answer_request, refuses};
-pub use arrivals::Arrivals;
+pub use answering::{Deed, RequestAnswer, Views, answer_request, refuses};
 pub use laws::{
-    answers_are_of_the_customer, no_file_is_passed_over, noted_is_told, owners_own_all,
-    pages_tell_all,
+    answers_are_of_the_customer, no_file_is_passed_over, owners_own_all, pages_tell_all,
 };
 pub use orders::{OrderRecord, Outcome};
-pub use views::{LineState, LineView, ServiceView};
+pub use views::{LineView, ServiceView};

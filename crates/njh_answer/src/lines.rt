@@ -14,9 +14,10 @@ ghost use Rattle.njh_answer.specs.Lines.{served_data, session_data, session_wher
 
 use crate::fields::{file_name_text, name_text};
 use crate::page::Page;
-use crate::views::{LineState, LineView};
+use crate::views::LineView;
 use njh_hub::{Hub, SessionView};
 use njh_line::Phase;
+use njh_request::LineState;
 use njh_spool::FileId;
 use njh_stream::{Receiver, Sender};
 use njh_table::{LineId, NamedLine, Role, Tables};

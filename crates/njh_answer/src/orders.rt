@@ -7,7 +7,7 @@ ghost use Rattle.njh_answer.specs.Orders.{viewed};
 
 use crate::fields::name_text;
 use njh_ebcdic::{Name, text_of};
-use njh_request::{Refusal, Text};
+use njh_request::{RequestRefusal, Text};
 use serde_json::{Value, json};
 use std::alloc::{AllocError, Global};
 
@@ -40,12 +40,12 @@ pub(crate) fn outcome_value(
     alloc: Global,
     orders: &[OrderRecord],
     number: u64,
-) -> Result<Result<Value, Refusal>, AllocError>
+) -> Result<Result<Value, RequestRefusal>, AllocError>
     ensures { IfOk result (λ told. viewed told ≡ outcome_told (find (is_numbered number) orders.now)) }
 {
     match order_numbered(orders, number) {
         Some(order) => told_value(alloc, order),
-        None => Ok(Err(Refusal::NoOrder)),
+        None => Ok(Err(RequestRefusal::NoOrder)),
     }
 }
 
@@ -57,13 +57,16 @@ fn order_numbered(orders: &[OrderRecord], number: u64) -> Option<&OrderRecord>
 }
 
 /// What came of an order.
-fn told_value(alloc: Global, order: &OrderRecord) -> Result<Result<Value, Refusal>, AllocError>
+fn told_value(
+    alloc: Global,
+    order: &OrderRecord,
+) -> Result<Result<Value, RequestRefusal>, AllocError>
     ensures { IfOk result (λ told. viewed told ≡ order_told order.now) }
 {
     match &order.outcome {
-        Outcome::Waits => Ok(Err(Refusal::OrderWaits)),
-        Outcome::NoWay => Ok(Err(Refusal::NoWay)),
-        Outcome::NotKept => Ok(Err(Refusal::NotKept)),
+        Outcome::Waits => Ok(Err(RequestRefusal::OrderWaits)),
+        Outcome::NoWay => Ok(Err(RequestRefusal::NoWay)),
+        Outcome::NotKept => Ok(Err(RequestRefusal::NotKept)),
         Outcome::Done(replies) => {
             let value = done_value(alloc, order, replies)?;
             Ok(Ok(value))

@@ -9,7 +9,7 @@ ghost use Rattle.njh_answer.specs.Owners.{owner_of_files};
 use njh_command::Command;
 use njh_header::{FileName, User};
 use njh_hub::Hub;
-use njh_request::{Refusal, Text};
+use njh_request::{RequestRefusal, Text};
 
 /// In whose name a command is carried out: in that of the user who is given, or else of the owner of
 /// the files that it names, if they have one owner.
@@ -18,12 +18,12 @@ pub(crate) fn owner_for(
     customer: u16,
     owner: Option<User>,
     text: &Text,
-) -> Result<User, Refusal>
+) -> Result<User, RequestRefusal>
     ensures { result ≡ owner_for owner text.now (part customer hub.now).customer.spool.whole }
 {
     match Command::read(text.bytes()) {
         Ok(command) => owner_of_command(hub, customer, owner, command),
-        Err(_) => Err(Refusal::NotACommand),
+        Err(_) => Err(RequestRefusal::NotACommand),
     }
 }
 
@@ -32,14 +32,14 @@ fn owner_of_command(
     customer: u16,
     owner: Option<User>,
     command: Command,
-) -> Result<User, Refusal>
+) -> Result<User, RequestRefusal>
     ensures { result ≡ owner_of_command owner command (part customer hub.now).customer.spool.whole }
 {
     match owner {
         Some(owner) => Ok(owner),
         None => match file_of(command) {
             Some(name) => owner_of_files(hub, customer, name),
-            None => Err(Refusal::NoOwner),
+            None => Err(RequestRefusal::NoOwner),
         },
     }
 }
@@ -59,10 +59,10 @@ fn file_of(command: Command) -> Option<FileName>
 
 /// The owner of the files of a name, if they have one owner.
 #[tactic(auto, using(crate::proofs::Telling::owner_more))]
-fn owner_of_files(hub: &Hub, customer: u16, name: FileName) -> Result<User, Refusal>
+fn owner_of_files(hub: &Hub, customer: u16, name: FileName) -> Result<User, RequestRefusal>
     ensures { result ≡ owner_of_files name (part customer hub.now).customer.spool.whole }
 {
-    let mut owner = Err(Refusal::NoFile);
+    let mut owner = Err(RequestRefusal::NoFile);
     for index in 0..hub.file_count(customer) {
         let file = hub.summary_at(customer, index);
         if is_file_called(name, file.name) {
@@ -73,13 +73,13 @@ fn owner_of_files(hub: &Hub, customer: u16, name: FileName) -> Result<User, Refu
 }
 
 /// The owner of files and of one more.
-fn owner_by(owner: Result<User, Refusal>, next: User) -> Result<User, Refusal>
+fn owner_by(owner: Result<User, RequestRefusal>, next: User) -> Result<User, RequestRefusal>
     ensures { result ≡ owner_by owner next }
 {
     match owner {
-        Err(Refusal::NoFile) => Ok(next),
+        Err(RequestRefusal::NoFile) => Ok(next),
         Ok(first) if is_same_user(first, next) => Ok(first),
-        _ => Err(Refusal::SeveralOwners),
+        _ => Err(RequestRefusal::SeveralOwners),
     }
 }
 

@@ -1,17 +1,7 @@
 //! What the service knows that the hub doesn't.
 
+use njh_request::LineState;
 use njh_table::LineId;
-
-/// How a line is served.
-#[derive(Clone, Copy, Debug, PartialEq, Eq)]
-pub enum LineState {
-    /// It has connections, as its tables say.
-    Started,
-    /// It is stopped once no file is on its streams.
-    Draining,
-    /// Its connection ended, and it lets none in.
-    Stopped,
-}
 
 /// What the service knows of a line. Moments are seconds since the beginning of 1970.
 #[derive(Drop)]

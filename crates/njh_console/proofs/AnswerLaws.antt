@@ -6,8 +6,8 @@ use Rattle.njh_ebcdic.specs.Users.{User}
 use Rattle.njh_table.specs.TableFile.{TableFile}
 use Rattle.njh_request.specs.Named.{IsRequestOf}
 use Rattle.njh_request.specs.Refusals.{status_of}
-use Rattle.njh_request.specs.declared.refusal.Refusal.{Refusal}
-use Rattle.njh_request.specs.declared.refusal.Refusal.TheVariants as refusal
+use Rattle.njh_request.specs.declared.refusal.RequestRefusal.{RequestRefusal}
+use Rattle.njh_request.specs.declared.refusal.RequestRefusal.TheVariants as refusal
 use Rattle.njh_request.specs.declared.request.Request as asked
 use Rattle.njh_request.specs.declared.request.Request.TheVariants as request
 use Rattle.njh_answer.specs.Answers.{answer_of, ordered, refuses, shows_or_refuses}
@@ -15,7 +15,7 @@ use Rattle.njh_console.specs.Acts.{IsSound}
 use Rattle.njh_console.specs.Orders.{TakenOrders}
 use Rattle.njh_console.specs.Scenes.{Scene}
 
-refusal-status : (r : Refusal) → IsStatusCode (status_of r)
+refusal-status : (r : RequestRefusal) → IsStatusCode (status_of r)
 refusal-status refusal.NoResource = (omega arith, omega arith)
 refusal-status refusal.BadMethod = (omega arith, omega arith)
 refusal-status refusal.BadPlace = (omega arith, omega arith)
@@ -34,14 +34,14 @@ refusal-status refusal.OrderWaits = (omega arith, omega arith)
 refusal-status refusal.NotKept = (omega arith, omega arith)
 refusal-status refusal.TooLong = (omega arith, omega arith)
 
-pub refused : (tables : TableFile) (r : Refusal) → IsSound tables (refuses r)
+pub refused : (tables : TableFile) (r : RequestRefusal) → IsSound tables (refuses r)
 refused tables r = record { status_known = refusal-status r; deed_known = tt }
 
-shown : (tables : TableFile) (told : Result Data Refusal) → IsSound tables (shows_or_refuses told)
+shown : (tables : TableFile) (told : Result Data RequestRefusal) → IsSound tables (shows_or_refuses told)
 shown tables (Ok d) = record { status_known = (omega arith, omega arith); deed_known = tt }
 shown tables (Err r) = refused tables r
 
-order-taken : (tables : TableFile) (c : ℕ) (owner : Result User Refusal) (text : List ℕ) (n : ℕ)
+order-taken : (tables : TableFile) (c : ℕ) (owner : Result User RequestRefusal) (text : List ℕ) (n : ℕ)
     → c < length tables.customers → IsSound tables (ordered c owner text n)
 order-taken tables c (Ok owner) text n there = record { status_known = (omega arith, omega arith); deed_known = there }
 order-taken tables c (Err r) text n there = refused tables r

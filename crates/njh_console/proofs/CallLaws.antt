@@ -1,7 +1,7 @@
 -- The calls of a round, one after another.
 use Rattle.std.proofs.Common.{◌≡◌, ◌⊎◌, Bool, true, false, List, [], ◌∷◌, ap, subst, ◌∙◌, inl, inr, refl, ⊎_elim}
 use Rattle.http_server.specs.Exchange.{Call, Chain}
-use Rattle.njh_request.specs.declared.refusal.Refusal.TheVariants.{OrderWaits}
+use Rattle.njh_request.specs.declared.refusal.RequestRefusal.TheVariants.{OrderWaits}
 use Rattle.njh_answer.specs.Answers.{Told, refuses}
 use Rattle.njh_console.specs.Acts.{taken_by}
 use Rattle.njh_console.specs.Desks.{DeskState, new_desk, taken_when, told_at, told_when, IsServed}

@@ -5,7 +5,7 @@ use Rattle.http_server.specs.declared.response.Response.{Response}
 use Rattle.http_server.specs.Response.{IsResponse}
 use Rattle.json.specs.Print.{escape_byte}
 use Rattle.serde_json.specs.Written.{compact_text}
-use Rattle.njh_request.specs.declared.refusal.Refusal.TheVariants.{OrderWaits, TooLong}
+use Rattle.njh_request.specs.declared.refusal.RequestRefusal.TheVariants.{OrderWaits, TooLong}
 use Rattle.njh_answer.specs.Answers.{refusal_data, Told}
 use Rattle.njh_console.specs.Rounds.{IsTextOf, IsToldBy, IsTooLong}
 use Rattle.njh_console.specs.code.Pages.{IsPageOf}

@@ -2,7 +2,7 @@
 use Rattle.std.specs.Prelude.{◌≡◌, ℕ, Bool, true, false, List}
 use Rattle.http.specs.declared.request.Request.{Request}
 use Rattle.http_server.specs.declared.response.Response.{Response}
-use Rattle.njh_request.specs.declared.refusal.Refusal.TheVariants.{OrderWaits}
+use Rattle.njh_request.specs.declared.refusal.RequestRefusal.TheVariants.{OrderWaits}
 use Rattle.njh_answer.specs.Answers.{Told, refuses}
 use Rattle.njh_console.specs.Acts.{taken_by}
 use Rattle.njh_console.specs.Orders.{TakenOrders}

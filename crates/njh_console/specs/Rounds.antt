@@ -10,8 +10,8 @@ use Rattle.http_server.specs.declared.response.Response.{Response}
 use Rattle.http_server.specs.Exchange.{Call}
 use Rattle.http_server.specs.Response.{fields_of}
 use Rattle.njh_request.specs.Requests.{request_of}
-use Rattle.njh_request.specs.declared.refusal.Refusal.{Refusal}
-use Rattle.njh_request.specs.declared.refusal.Refusal.TheVariants.{OrderWaits, TooLong}
+use Rattle.njh_request.specs.declared.refusal.RequestRefusal.{RequestRefusal}
+use Rattle.njh_request.specs.declared.refusal.RequestRefusal.TheVariants.{OrderWaits, TooLong}
 use Rattle.njh_request.specs.declared.request.Request as asked
 use Rattle.njh_answer.specs.Answers.{Told, answer_of, refuses}
 use Rattle.njh_console.specs.Acts.{is_order, taken_by}
@@ -21,11 +21,11 @@ use Rattle.njh_console.specs.declared.act.Taken.{Taken}
 use Rattle.njh_console.specs.declared.act.Taken.TheVariants.{Nothing}
 
 -- what a request of HTTP asks for
-abbrev pub asked_by : Scene → Request (List ℕ) → Result asked.Request Refusal
+abbrev pub asked_by : Scene → Request (List ℕ) → Result asked.Request RequestRefusal
 asked_by s r =
     request_of s.tables (head_of r).method (uri_path (head_of r).uri) (uri_query (head_of r).uri) (body_of r)
 
-abbrev pub reply_to : Scene → TakenOrders → Result asked.Request Refusal → Told
+abbrev pub reply_to : Scene → TakenOrders → Result asked.Request RequestRefusal → Told
 reply_to s o (Ok what) = answer_of what s.parts s.tables s.service s.lines s.arrivals o.records o.next
 reply_to s o (Err why) = refuses why
 

@@ -3,7 +3,7 @@
 use Rattle.std.specs.Prelude.{List}
 use Rattle.njh_table.specs.TableFile.{TableFile}
 use Rattle.njh_hub.specs.WholeHub.{Part}
-use Rattle.njh_answer.specs.Arrivals.{Seen}
+use Rattle.njh_arrivals.specs.Arrivals.{Seen}
 use Rattle.njh_answer.specs.declared.views.LineView.{LineView}
 use Rattle.njh_answer.specs.declared.views.ServiceView.{ServiceView}
 

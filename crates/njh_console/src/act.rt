@@ -1,7 +1,7 @@
 //! What is ordered.
 
 use njh_ebcdic::Name;
-use njh_request::{LineWish, Moment, Refusal};
+use njh_request::{EndMoment, LineWish, RequestRefusal};
 use njh_table::LineId;
 use njh_turns::NewOrder;
 
@@ -11,9 +11,9 @@ pub enum Act {
     /// A line is to be so.
     Line(LineId, LineWish),
     /// The service is to end.
-    Stop(Moment),
+    Stop(EndMoment),
     /// A request was refused so: the log tells it.
-    Refused(Refusal),
+    Refused(RequestRefusal),
 }
 
 /// What was ordered in a round.

@@ -16,9 +16,9 @@ use crate::situation::Situation;
 use bytes::Bytes;
 use http::Request;
 use http_server::{Response, Service};
-use njh_answer::{Answer, Deed, answer_request, refuses};
+use njh_answer::{Deed, RequestAnswer, answer_request, refuses};
 use njh_customer::{GivenOrder, OrderText};
-use njh_request::{Refusal, Text};
+use njh_request::{RequestRefusal, Text};
 use njh_table::Tables;
 use njh_turns::NewOrder;
 use std::alloc::{AllocError, Global};
@@ -81,7 +81,7 @@ impl<'a> Desk<'a> {
     fn read(
         &self,
         request: &Request<Bytes>,
-    ) -> Result<Result<njh_request::Request, Refusal>, AllocError>
+    ) -> Result<Result<njh_request::Request, RequestRefusal>, AllocError>
         ensures read { IfOk result (λ read. read ≡ asked_by self.now.scene request.now) }
         ensures there { IfOk result (IsReadOf self.now.scene.tables) }
     {
@@ -94,7 +94,10 @@ impl<'a> Desk<'a> {
 
     /// What is answered to what was asked for.
     #[tactic(auto, using(crate::proofs::AnswerLaws::answered, crate::proofs::AnswerLaws::refused))]
-    fn reply(&self, asked: Result<njh_request::Request, Refusal>) -> Result<Answer, AllocError>
+    fn reply(
+        &self,
+        asked: Result<njh_request::Request, RequestRefusal>,
+    ) -> Result<RequestAnswer, AllocError>
         requires there { IsReadOf self.now.scene.tables asked }
         ensures told { IfOk result (λ answer. told_of answer ≡ reply_to self.now.scene self.now.orders asked) }
         ensures sound { IfOk result (λ answer. IsSound self.now.scene.tables (told_of answer)) }
@@ -111,7 +114,7 @@ impl<'a> Desk<'a> {
     }
 
     /// What is answered to a request.
-    fn answer(&self, request: &Request<Bytes>) -> Result<Answer, AllocError>
+    fn answer(&self, request: &Request<Bytes>) -> Result<RequestAnswer, AllocError>
         ensures told { IfOk result (λ answer. told_of answer
             ≡ reply_to self.now.scene self.now.orders (asked_by self.now.scene request.now)) }
         ensures sound { IfOk result (λ answer. IsSound self.now.scene.tables (told_of answer)) }
@@ -122,17 +125,17 @@ impl<'a> Desk<'a> {
 
     /// The same, but no order is taken while one waits, and nothing behind the round's first request.
     #[tactic(auto, using(crate::proofs::AnswerLaws::refused))]
-    fn answer_in_turn(&self, request: &Request<Bytes>) -> Result<Answer, AllocError>
+    fn answer_in_turn(&self, request: &Request<Bytes>) -> Result<RequestAnswer, AllocError>
         ensures told { IfOk result (λ answer. told_of answer ≡ told_at self.now request.now) }
         ensures sound { IfOk result (λ answer. IsSound self.now.scene.tables (told_of answer)) }
     {
         if self.is_done {
-            return refuses(self.alloc, Refusal::OrderWaits);
+            return refuses(self.alloc, RequestRefusal::OrderWaits);
         }
         let answer = self.answer(request)?;
         if self.book.waits() && is_order(&answer.deed) {
             drop(answer);
-            return refuses(self.alloc, Refusal::OrderWaits);
+            return refuses(self.alloc, RequestRefusal::OrderWaits);
         }
         Ok(answer)
     }

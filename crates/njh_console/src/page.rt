@@ -3,7 +3,7 @@
 ghost use Rattle.std.specs.Prelude.{◌≡◌, [], ◌∷◌, codes, IfOk, OnOk};
 ghost use Rattle.http.specs.StatusCode.{IsStatusCode};
 ghost use Rattle.http_server.specs.Response.{IsBlank, IsResponse};
-ghost use Rattle.njh_request.specs.declared.refusal.Refusal.TheVariants as refusal;
+ghost use Rattle.njh_request.specs.declared.refusal.RequestRefusal.TheVariants as refusal;
 ghost use Rattle.njh_answer.specs.Answers.{refuses, told_of};
 ghost use Rattle.njh_console.specs.code.Pages.{IsPageFor, IsPageOf};
 
@@ -11,8 +11,8 @@ use bytes::BufMut;
 use http::StatusCode;
 use http::header::{CONTENT_TYPE, HeaderValue};
 use http_server::Response;
-use njh_answer::{Answer, Deed, refuses};
-use njh_request::Refusal;
+use njh_answer::{Deed, RequestAnswer, refuses};
+use njh_request::RequestRefusal;
 use std::alloc::{AllocError, Global};
 
 /// An answer has at most so many bytes.
@@ -29,10 +29,10 @@ pub(crate) struct Page {
 
 /// An answer as it is written; one that would be too long is refused. Out of memory is the only
 /// failure.
-pub(crate) fn page_of(alloc: Global, answer: Answer) -> Result<Page, AllocError>
+pub(crate) fn page_of(alloc: Global, answer: RequestAnswer) -> Result<Page, AllocError>
     ensures { IfOk result (λ page. IsPageFor (told_of answer) page) }
 {
-    let Answer {
+    let RequestAnswer {
         status,
         value,
         deed,
@@ -48,11 +48,11 @@ pub(crate) fn page_of(alloc: Global, answer: Answer) -> Result<Page, AllocError>
 fn too_long(alloc: Global) -> Result<Page, AllocError>
     ensures { IfOk result (λ page. IsPageOf (refuses refusal.TooLong) page) }
 {
-    let Answer {
+    let RequestAnswer {
         status,
         value,
         deed,
-    } = refuses(alloc, Refusal::TooLong)?;
+    } = refuses(alloc, RequestRefusal::TooLong)?;
     let text = value.to_string(alloc)?;
     Ok(Page { status, text, deed })
 }

@@ -2,7 +2,8 @@
 
 ghost use Rattle.std.specs.Prelude.{◌≡◌};
 
-use njh_answer::{Arrivals, LineView, OrderRecord, ServiceView, Views};
+use njh_answer::{LineView, OrderRecord, ServiceView, Views};
+use njh_arrivals::Arrivals;
 use njh_hub::Hub;
 use njh_table::Tables;
 use std::marker::Model;

@@ -15,7 +15,7 @@ use Rattle.njh_request.specs.Bodies.{data_in, user_at}
 use Rattle.njh_request.specs.Fields.{field_of_text, text_of_characters}
 use Rattle.njh_request.specs.Paths.{customer_named}
 use Rattle.njh_request.specs.Requests.{Read, message_by, moment_by, order_by}
-use Rattle.njh_request.specs.declared.refusal.Refusal.TheVariants.{NoResource}
+use Rattle.njh_request.specs.declared.refusal.RequestRefusal.TheVariants.{NoResource}
 use Rattle.njh_request.specs.declared.request.LineWish.{LineWish}
 use Rattle.njh_request.specs.declared.request.LineWish.TheVariants as wish
 use Rattle.njh_request.specs.declared.request.Request.TheVariants as request

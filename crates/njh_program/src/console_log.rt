@@ -3,7 +3,7 @@
 ghost use Rattle.std.specs.Prelude.{IfErr};
 ghost use Rattle.njh_program.specs.ProgramOutcome.{IsOfDevices};
 
-use njh_service::{Heading, Log};
+use njh_log::{Heading, Log};
 use njh_sockets::{ConsoleFault, MioNetwork, utc_milliseconds};
 use njh_subcommands::Failure;
 use std::fmt;

@@ -2,9 +2,10 @@
 
 ghost use Rattle.std.specs.Prelude.{◌<◌, ◌↔◌, IfErr, IsSome};
 ghost use Rattle.njh_program.specs.ProgramOutcome.{IsOfDevices};
-ghost use Rattle.njh_service.specs.Handles.{handles_needed};
+ghost use Rattle.njh_sites.specs.Handles.{handles_needed};
 
-use njh_service::{Endpoint, Heading, Log, endpoints_of, handles_needed};
+use njh_log::{Heading, Log};
+use njh_sites::{Endpoint, endpoints_of, handles_needed};
 use njh_sockets::utc_milliseconds;
 use njh_subcommands::{Failure, table_bytes};
 use njh_table::Tables;

@@ -12,9 +12,11 @@ use crate::start_log::log_failure;
 use crate::table_source::TableFileSource;
 use njh_arguments::VERSION;
 use njh_console::Console;
-use njh_service::{
-    Bureau, Exchange, Heading, Listening, Log, Revision, ServeFault, TableSource, serve,
-};
+use njh_lines::Exchange;
+use njh_log::{Heading, Log};
+use njh_revision::{Revision, TableSource};
+use njh_service::{Bureau, ServeFault, serve};
+use njh_sites::Listening;
 use njh_sockets::{MioNetwork, utc_milliseconds};
 use njh_subcommands::{Failure, tables_twice};
 use njh_table::Tables;
@@ -139,8 +141,8 @@ fn bureau_on<N: Network + Drop, L: Write + Drop, S: TableSource + Drop>(
 {
     match Console::new(alloc) {
         Ok(console) => {
-            let exchange = Exchange::new(alloc, VERSION, network, log, revision);
-            Ok(Bureau::new(alloc, exchange, console))
+            let exchange = Exchange::new(alloc, network, log);
+            Ok(Bureau::new(alloc, VERSION, exchange, revision, console))
         }
         Err(_) => {
             drop(network);

@@ -1,7 +1,7 @@
 //! What the log says of a spool file that isn't opened, or fails.
 
 use njh_listing::FilesFault;
-use njh_service::{Heading, Log};
+use njh_log::{Heading, Log};
 use njh_sockets::utc_milliseconds;
 use njh_subcommands::Failure;
 use sqlite::Error;

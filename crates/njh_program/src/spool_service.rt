@@ -14,7 +14,7 @@ use crate::spool_log::{log_cause, log_unopened};
 use crate::start_log::log_failure;
 use njh_keeper::SpoolKeeper;
 use njh_listing::{FilesFault, SpoolFiles};
-use njh_service::{Heading, Log};
+use njh_log::{Heading, Log};
 use njh_sockets::utc_milliseconds;
 use njh_spoolfile::{Origin, Store};
 use njh_subcommands::{Failure, tables_of};

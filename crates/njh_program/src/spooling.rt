@@ -11,7 +11,7 @@ ghost use Rattle.njh_subcommands.specs.TableBytes.{AreRefused};
 use crate::service::Options;
 use crate::spool_service::serve_spool_file;
 use njh_listing::{Asked, FilesFault, Move, SpoolFiles, copy_spool, print_spool};
-use njh_service::Log;
+use njh_log::Log;
 use njh_subcommands::Failure;
 use sqlite::Unknown;
 use std::io::Write;

@@ -1,7 +1,7 @@
 //! What the log says of a table file from which no lines are served.
 
 use njh_check::fault_text;
-use njh_service::{Heading, Log};
+use njh_log::{Heading, Log};
 use njh_sockets::utc_milliseconds;
 use njh_subcommands::{Failure, table_bytes};
 use std::fmt;

@@ -5,7 +5,7 @@ ghost use Rattle.njh_subcommands.specs.TableBytes.{AreGivenWithin, max_changed_b
 
 use njh_check::fault_text;
 use njh_io::{ReadFault, read_text};
-use njh_service::TableSource;
+use njh_revision::TableSource;
 use njh_subcommands::tables_in;
 use njh_table::{TableFault, Tables};
 use std::alloc::Global;

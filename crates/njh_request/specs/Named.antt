@@ -4,7 +4,7 @@ use Rattle.njh_table.specs.TableFile.{TableFile, HasLine}
 use Rattle.njh_request.specs.declared.resource.Resource.{Resource}
 use Rattle.njh_request.specs.declared.resource.Resource.TheVariants.{Status, Customers, Lines, Files, Orders}
 use Rattle.njh_request.specs.declared.resource.Resource.TheVariants.{Messages, Outcome, Line, Stop}
-use Rattle.njh_request.specs.declared.refusal.Refusal.{Refusal}
+use Rattle.njh_request.specs.declared.refusal.RequestRefusal.{RequestRefusal}
 use Rattle.njh_request.specs.declared.request.Request.{Request}
 use Rattle.njh_request.specs.declared.request.Request.TheVariants as request
 
@@ -35,6 +35,6 @@ IsRequestOf tables (request.Outcome n) = ⊤
 IsRequestOf tables (request.Line id wish) = HasLine tables id
 IsRequestOf tables (request.Stop moment) = ⊤
 
-abbrev pub IsReadOf : TableFile → Result Request Refusal → Type 0
+abbrev pub IsReadOf : TableFile → Result Request RequestRefusal → Type 0
 IsReadOf tables (Ok r) = IsRequestOf tables r
 IsReadOf tables (Err refusal) = ⊤

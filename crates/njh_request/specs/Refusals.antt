@@ -1,12 +1,12 @@
 -- What an operator is told of a refusal: a status of HTTP, and a sentence.
 use Rattle.std.specs.Prelude.{ℕ, List, codes}
-use Rattle.njh_request.specs.declared.refusal.Refusal.{Refusal}
-use Rattle.njh_request.specs.declared.refusal.Refusal.TheVariants.{NoResource, BadMethod, BadPlace, NotJson, BadText}
-use Rattle.njh_request.specs.declared.refusal.Refusal.TheVariants.{BadUser, NotACommand, NoOwner, BadState, BadMoment}
-use Rattle.njh_request.specs.declared.refusal.Refusal.TheVariants.{NoFile, NoOrder, NoWay, SeveralOwners}
-use Rattle.njh_request.specs.declared.refusal.Refusal.TheVariants.{OrderWaits, NotKept, TooLong}
+use Rattle.njh_request.specs.declared.refusal.RequestRefusal.{RequestRefusal}
+use Rattle.njh_request.specs.declared.refusal.RequestRefusal.TheVariants.{NoResource, BadMethod, BadPlace, NotJson, BadText}
+use Rattle.njh_request.specs.declared.refusal.RequestRefusal.TheVariants.{BadUser, NotACommand, NoOwner, BadState, BadMoment}
+use Rattle.njh_request.specs.declared.refusal.RequestRefusal.TheVariants.{NoFile, NoOrder, NoWay, SeveralOwners}
+use Rattle.njh_request.specs.declared.refusal.RequestRefusal.TheVariants.{OrderWaits, NotKept, TooLong}
 
-abbrev pub status_of : Refusal → ℕ
+abbrev pub status_of : RequestRefusal → ℕ
 status_of NoResource = 404
 status_of BadMethod = 400
 status_of BadPlace = 400
@@ -25,7 +25,7 @@ status_of OrderWaits = 409
 status_of NotKept = 500
 status_of TooLong = 500
 
-abbrev pub sentence_of : Refusal → List ℕ
+abbrev pub sentence_of : RequestRefusal → List ℕ
 sentence_of NoResource = codes "there is nothing at this path"
 sentence_of BadMethod = codes "this isn't asked by this method"
 sentence_of BadPlace = codes "the place to go on from is written from=NUMBER"

@@ -6,13 +6,13 @@ use Rattle.njh_table.specs.declared.LineId.{LineId}
 use Rattle.njh_table.specs.TableFile.{TableFile}
 use Rattle.njh_request.specs.Bodies.{data_in, owner_in, string_in, text_in, user_member, waits_in}
 use Rattle.njh_request.specs.Paths.{place_in, resource_at}
-use Rattle.njh_request.specs.declared.refusal.Refusal.{Refusal}
-use Rattle.njh_request.specs.declared.refusal.Refusal.TheVariants.{NoResource, BadMethod, BadPlace, NotJson, BadText}
-use Rattle.njh_request.specs.declared.refusal.Refusal.TheVariants.{BadUser, BadState, BadMoment}
+use Rattle.njh_request.specs.declared.refusal.RequestRefusal.{RequestRefusal}
+use Rattle.njh_request.specs.declared.refusal.RequestRefusal.TheVariants.{NoResource, BadMethod, BadPlace, NotJson, BadText}
+use Rattle.njh_request.specs.declared.refusal.RequestRefusal.TheVariants.{BadUser, BadState, BadMoment}
 use Rattle.njh_request.specs.declared.request.LineWish.{LineWish}
 use Rattle.njh_request.specs.declared.request.LineWish.TheVariants as wish
-use Rattle.njh_request.specs.declared.request.Moment.{Moment}
-use Rattle.njh_request.specs.declared.request.Moment.TheVariants as moment
+use Rattle.njh_request.specs.declared.request.EndMoment.{EndMoment}
+use Rattle.njh_request.specs.declared.request.EndMoment.TheVariants as moment
 use Rattle.njh_request.specs.declared.request.Request.{Request}
 use Rattle.njh_request.specs.declared.request.Request.TheVariants as request
 use Rattle.njh_request.specs.declared.resource.Resource.{Resource}
@@ -20,7 +20,7 @@ use Rattle.njh_request.specs.declared.resource.Resource.TheVariants as resource
 
 -- what is asked for, or why it is refused
 abbrev pub Read : Type 0
-Read = Result Request Refusal
+Read = Result Request RequestRefusal
 
 -- ---- methods
 
@@ -63,11 +63,11 @@ abbrev pub message_in : ℕ → Data → Read
 message_in c d = message_by c (user_member (codes "to") d) (text_in (codes "text") d)
 
 -- at once, or once nothing is on the streams
-abbrev pub moment_by : Bool → Moment
+abbrev pub moment_by : Bool → EndMoment
 moment_by false = moment.AtOnce
 moment_by true = moment.WhenIdle
 
-abbrev pub wish_of_text : List ℕ → Moment → Option LineWish
+abbrev pub wish_of_text : List ℕ → EndMoment → Option LineWish
 wish_of_text text when =
     cond (bytes_eq text (codes "started")) (Some wish.Started)
     (cond (bytes_eq text (codes "stopped")) (Some (wish.Stopped when)) None)

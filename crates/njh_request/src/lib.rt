@@ -10,7 +10,7 @@ mod resource;
 mod text;
 mod users;
 
-pub use refusal::Refusal;
-pub use request::{LineWish, Moment, Request};
+pub use refusal::RequestRefusal;
+pub use request::{EndMoment, LineState, LineWish, Request};
 pub use resource::Resource;
 pub use text::Text;

@@ -5,7 +5,7 @@ ghost use Rattle.njh_request.specs.Refusals.{sentence_of, status_of};
 
 /// Why nothing is done of what a request asks for.
 #[derive(Clone, Copy, Debug, PartialEq, Eq)]
-pub enum Refusal {
+pub enum RequestRefusal {
     /// The path names nothing.
     NoResource,
     /// The resource isn't asked by this method.
@@ -42,15 +42,18 @@ pub enum Refusal {
     TooLong,
 }
 
-impl Refusal {
+impl RequestRefusal {
     /// The status of HTTP.
     pub fn status(self) -> u16
         ensures { result ≡ status_of self }
     {
         match self {
-            Refusal::NoResource | Refusal::NoFile | Refusal::NoOrder | Refusal::NoWay => NOT_FOUND,
-            Refusal::SeveralOwners | Refusal::OrderWaits => CONFLICT,
-            Refusal::NotKept | Refusal::TooLong => SERVER_FAULT,
+            RequestRefusal::NoResource
+            | RequestRefusal::NoFile
+            | RequestRefusal::NoOrder
+            | RequestRefusal::NoWay => NOT_FOUND,
+            RequestRefusal::SeveralOwners | RequestRefusal::OrderWaits => CONFLICT,
+            RequestRefusal::NotKept | RequestRefusal::TooLong => SERVER_FAULT,
             _ => BAD_REQUEST,
         }
     }
@@ -60,26 +63,26 @@ impl Refusal {
         ensures { result.now ≡ sentence_of self }
     {
         match self {
-            Refusal::NoResource => "there is nothing at this path",
-            Refusal::BadMethod => "this isn't asked by this method",
-            Refusal::BadPlace => "the place to go on from is written from=NUMBER",
-            Refusal::NotJson => "the body isn't an object of JSON",
-            Refusal::BadText =>
+            RequestRefusal::NoResource => "there is nothing at this path",
+            RequestRefusal::BadMethod => "this isn't asked by this method",
+            RequestRefusal::BadPlace => "the place to go on from is written from=NUMBER",
+            RequestRefusal::NotJson => "the body isn't an object of JSON",
+            RequestRefusal::BadText =>
                 "a text of at most 148 characters is missing, or has one without a byte",
-            Refusal::BadUser => "a user is written {\"node\": NODE, \"user\": USER}",
-            Refusal::NotACommand =>
+            RequestRefusal::BadUser => "a user is written {\"node\": NODE, \"user\": USER}",
+            RequestRefusal::NotACommand =>
                 "a command is HOLD, RELEASE or CANCEL and a file, REROUTE, a file and a node, or LIST",
-            Refusal::NoOwner => "LIST is for the files of an owner",
-            Refusal::BadState => "the state of a line is started or stopped",
-            Refusal::BadMoment => "when_idle is true or false",
-            Refusal::NoFile => "the customer has no file of this name",
-            Refusal::NoOrder => "no order of this number is remembered",
-            Refusal::NoWay => "no line leads to this node",
-            Refusal::SeveralOwners => "files of this name have several owners: give one",
-            Refusal::OrderWaits => "the order hasn't been carried out yet",
-            Refusal::NotKept =>
+            RequestRefusal::NoOwner => "LIST is for the files of an owner",
+            RequestRefusal::BadState => "the state of a line is started or stopped",
+            RequestRefusal::BadMoment => "when_idle is true or false",
+            RequestRefusal::NoFile => "the customer has no file of this name",
+            RequestRefusal::NoOrder => "no order of this number is remembered",
+            RequestRefusal::NoWay => "no line leads to this node",
+            RequestRefusal::SeveralOwners => "files of this name have several owners: give one",
+            RequestRefusal::OrderWaits => "the order hasn't been carried out yet",
+            RequestRefusal::NotKept =>
                 "the order was carried out, but there was no memory for its replies",
-            Refusal::TooLong => "the answer has more than 65536 bytes",
+            RequestRefusal::TooLong => "the answer has more than 65536 bytes",
         }
     }
 }

@@ -12,7 +12,7 @@ ghost use Rattle.njh_request.specs.Requests.{request_of, stop_by, wish_of_text};
 
 use crate::bodies::{owner_in, string_in, text_in, user_member, value_in, waits_in};
 use crate::numbers::place_in;
-use crate::refusal::Refusal;
+use crate::refusal::RequestRefusal;
 use crate::resource::Resource;
 use crate::text::Text;
 use njh_header::User;
@@ -22,7 +22,7 @@ use std::alloc::{AllocError, Global};
 
 /// When something ends.
 #[derive(Clone, Copy, Debug, PartialEq, Eq)]
-pub enum Moment {
+pub enum EndMoment {
     /// At once.
     AtOnce,
     /// Once no file is on the streams.
@@ -35,7 +35,18 @@ pub enum LineWish {
     /// It has connections, as its tables say.
     Started,
     /// Its connection ends then, and it lets none in.
-    Stopped(Moment),
+    Stopped(EndMoment),
+}
+
+/// How a line is served.
+#[derive(Clone, Copy, Debug, PartialEq, Eq)]
+pub enum LineState {
+    /// It has connections, as its tables say.
+    Started,
+    /// It is stopped once no file is on its streams.
+    Draining,
+    /// Its connection ended, and it lets none in.
+    Stopped,
 }
 
 /// What is asked for. Customers are given by their numbers.
@@ -59,7 +70,7 @@ pub enum Request {
     /// That a line is so.
     Line(LineId, LineWish),
     /// That the service ends.
-    Stop(Moment),
+    Stop(EndMoment),
 }
 
 impl Request {
@@ -72,14 +83,14 @@ impl Request {
         path: &str,
         query: Option<&str>,
         body: &[u8],
-    ) -> Result<Result<Request, Refusal>, AllocError>
+    ) -> Result<Result<Request, RequestRefusal>, AllocError>
         ensures read { IfOk result (λ read. read
             ≡ request_of tables.now method.now path.now (option_map (λ q. q.now) query.entry) body.now) }
         ensures there { IfOk result (IsReadOf tables.now) }
     {
         match Resource::at(alloc, tables, path)? {
             Some(resource) => asked(alloc, resource, method, query, body),
-            None => Ok(Err(Refusal::NoResource)),
+            None => Ok(Err(RequestRefusal::NoResource)),
         }
     }
 }
@@ -91,7 +102,7 @@ fn asked(
     method: &str,
     query: Option<&str>,
     body: &[u8],
-) -> Result<Result<Request, Refusal>, AllocError>
+) -> Result<Result<Request, RequestRefusal>, AllocError>
     ensures read { IfOk result (λ read. read
         ≡ asked resource method.now (option_map (λ q. q.now) query.entry) body.now) }
     ensures there { (tables : TableFile) → IsResourceOf tables resource → IfOk result (IsReadOf tables) }
@@ -110,40 +121,40 @@ fn asked(
 }
 
 /// What is read, if it is asked by GET.
-fn by_get(method: &str, read: Result<Request, Refusal>) -> Result<Request, Refusal>
+fn by_get(method: &str, read: Result<Request, RequestRefusal>) -> Result<Request, RequestRefusal>
     ensures { result ≡ by_method (codes "GET") method.now read }
 {
     if method == "GET" {
         read
     } else {
-        Err(Refusal::BadMethod)
+        Err(RequestRefusal::BadMethod)
     }
 }
 
-fn customers_from(from: Option<u64>) -> Result<Request, Refusal>
+fn customers_from(from: Option<u64>) -> Result<Request, RequestRefusal>
     ensures { result ≡ customers_from from }
 {
     match from {
         Some(from) => Ok(Request::Customers(from)),
-        None => Err(Refusal::BadPlace),
+        None => Err(RequestRefusal::BadPlace),
     }
 }
 
-fn lines_from(customer: u16, from: Option<u64>) -> Result<Request, Refusal>
+fn lines_from(customer: u16, from: Option<u64>) -> Result<Request, RequestRefusal>
     ensures { result ≡ lines_from customer from }
 {
     match from {
         Some(from) => Ok(Request::Lines(customer, from)),
-        None => Err(Refusal::BadPlace),
+        None => Err(RequestRefusal::BadPlace),
     }
 }
 
-fn files_from(customer: u16, from: Option<u64>) -> Result<Request, Refusal>
+fn files_from(customer: u16, from: Option<u64>) -> Result<Request, RequestRefusal>
     ensures { result ≡ files_from customer from }
 {
     match from {
         Some(from) => Ok(Request::Files(customer, from)),
-        None => Err(Refusal::BadPlace),
+        None => Err(RequestRefusal::BadPlace),
     }
 }
 
@@ -154,17 +165,17 @@ fn by_body(
     method: &str,
     wanted: &str,
     body: &[u8],
-) -> Result<Result<Request, Refusal>, AllocError>
+) -> Result<Result<Request, RequestRefusal>, AllocError>
     ensures read { IfOk result (λ read. read
         ≡ by_method wanted.now method.now (body_asks resource (data_in body.now))) }
     ensures there { (tables : TableFile) → IsResourceOf tables resource → IfOk result (IsReadOf tables) }
 {
     if method != wanted {
-        return Ok(Err(Refusal::BadMethod));
+        return Ok(Err(RequestRefusal::BadMethod));
     }
     match value_in(alloc, body)? {
         Some(value) => object_asks(alloc, resource, &value),
-        None => Ok(Err(Refusal::NotJson)),
+        None => Ok(Err(RequestRefusal::NotJson)),
     }
 }
 
@@ -173,7 +184,7 @@ fn object_asks(
     alloc: Global,
     resource: Resource,
     value: &Value,
-) -> Result<Result<Request, Refusal>, AllocError>
+) -> Result<Result<Request, RequestRefusal>, AllocError>
     ensures read { IfOk result (λ read. read ≡ object_asks resource (view value.now)) }
     ensures there { (tables : TableFile) → IsResourceOf tables resource → IfOk result (IsReadOf tables) }
 {
@@ -182,7 +193,7 @@ fn object_asks(
         Resource::Messages(customer) => message_in(alloc, customer, value),
         Resource::Line(line) => Ok(line_in(line, value)),
         Resource::Stop => Ok(stop_by(waits_in(value))),
-        _ => Ok(Err(Refusal::BadMethod)),
+        _ => Ok(Err(RequestRefusal::BadMethod)),
     }
 }
 
@@ -191,7 +202,7 @@ fn order_in(
     alloc: Global,
     customer: u16,
     value: &Value,
-) -> Result<Result<Request, Refusal>, AllocError>
+) -> Result<Result<Request, RequestRefusal>, AllocError>
     ensures read { IfOk result (λ read. read ≡ order_in customer (view value.now)) }
     ensures there { (tables : TableFile) → HasCustomer tables customer → IfOk result (IsReadOf tables) }
 {
@@ -204,13 +215,13 @@ fn order_by(
     customer: u16,
     text: Option<Text>,
     owner: Option<Option<User>>,
-) -> Result<Request, Refusal>
+) -> Result<Request, RequestRefusal>
     ensures read { result ≡ order_by customer text owner }
     ensures there { (tables : TableFile) → HasCustomer tables customer → IsReadOf tables result }
 {
     match (text, owner) {
-        (None, _) => Err(Refusal::BadText),
-        (Some(_), None) => Err(Refusal::BadUser),
+        (None, _) => Err(RequestRefusal::BadText),
+        (Some(_), None) => Err(RequestRefusal::BadUser),
         (Some(text), Some(owner)) => Ok(Request::Order(customer, owner, text)),
     }
 }
@@ -220,7 +231,7 @@ fn message_in(
     alloc: Global,
     customer: u16,
     value: &Value,
-) -> Result<Result<Request, Refusal>, AllocError>
+) -> Result<Result<Request, RequestRefusal>, AllocError>
     ensures read { IfOk result (λ read. read ≡ message_in customer (view value.now)) }
     ensures there { (tables : TableFile) → HasCustomer tables customer → IfOk result (IsReadOf tables) }
 {
@@ -229,42 +240,46 @@ fn message_in(
     Ok(message_by(customer, whom, text))
 }
 
-fn message_by(customer: u16, whom: Option<User>, text: Option<Text>) -> Result<Request, Refusal>
+fn message_by(
+    customer: u16,
+    whom: Option<User>,
+    text: Option<Text>,
+) -> Result<Request, RequestRefusal>
     ensures read { result ≡ message_by customer whom text }
     ensures there { (tables : TableFile) → HasCustomer tables customer → IsReadOf tables result }
 {
     match (whom, text) {
-        (None, _) => Err(Refusal::BadUser),
-        (Some(_), None) => Err(Refusal::BadText),
+        (None, _) => Err(RequestRefusal::BadUser),
+        (Some(_), None) => Err(RequestRefusal::BadText),
         (Some(whom), Some(text)) => Ok(Request::Message(customer, whom, text)),
     }
 }
 
 /// How a line is to be, as an object says it.
-fn line_in(line: LineId, value: &Value) -> Result<Request, Refusal>
+fn line_in(line: LineId, value: &Value) -> Result<Request, RequestRefusal>
     ensures read { result ≡ line_in line (view value.now) }
     ensures there { (tables : TableFile) → HasLine tables line → IsReadOf tables result }
 {
     let Some(waits) = waits_in(value) else {
-        return Err(Refusal::BadMoment);
+        return Err(RequestRefusal::BadMoment);
     };
     match string_in(value, "state") {
         Some(text) => line_by(line, wish_of_text(text, moment_by(waits))),
-        None => Err(Refusal::BadState),
+        None => Err(RequestRefusal::BadState),
     }
 }
 
-fn line_by(line: LineId, wish: Option<LineWish>) -> Result<Request, Refusal>
+fn line_by(line: LineId, wish: Option<LineWish>) -> Result<Request, RequestRefusal>
     ensures read { result ≡ line_by line wish }
     ensures there { (tables : TableFile) → HasLine tables line → IsReadOf tables result }
 {
     match wish {
         Some(wish) => Ok(Request::Line(line, wish)),
-        None => Err(Refusal::BadState),
+        None => Err(RequestRefusal::BadState),
     }
 }
 
-fn wish_of_text(text: &str, moment: Moment) -> Option<LineWish>
+fn wish_of_text(text: &str, moment: EndMoment) -> Option<LineWish>
     ensures { result ≡ wish_of_text text.now moment }
 {
     if text == "started" {
@@ -276,22 +291,22 @@ fn wish_of_text(text: &str, moment: Moment) -> Option<LineWish>
     }
 }
 
-fn stop_by(waits: Option<bool>) -> Result<Request, Refusal>
+fn stop_by(waits: Option<bool>) -> Result<Request, RequestRefusal>
     ensures read { result ≡ stop_by waits }
     ensures there { (tables : TableFile) → IsReadOf tables result }
 {
     match waits {
         Some(waits) => Ok(Request::Stop(moment_by(waits))),
-        None => Err(Refusal::BadMoment),
+        None => Err(RequestRefusal::BadMoment),
     }
 }
 
-fn moment_by(waits: bool) -> Moment
+fn moment_by(waits: bool) -> EndMoment
     ensures { result ≡ moment_by waits }
 {
     if waits {
-        Moment::WhenIdle
+        EndMoment::WhenIdle
     } else {
-        Moment::AtOnce
+        EndMoment::AtOnce
     }
 }

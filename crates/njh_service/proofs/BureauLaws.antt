@@ -5,24 +5,26 @@ use Rattle.std.proofs.lemmas.List.{map-append}
 use Rattle.std.specs.Prelude.{Bool, false, Option, None, slice_get, if◌then◌else◌, ◌&&◌}
 use Rattle.std.specs.Option.{option_map}
 use Rattle.std.specs.declared.net.socket_addr.SocketAddr.{SocketAddr}
-use Rattle.njh_answer.specs.declared.views.LineState.TheVariants.{Stopped}
+use Rattle.njh_request.specs.declared.request.LineState.TheVariants.{Stopped}
 use Rattle.njh_answer.specs.declared.views.LineView.{LineView}
 use Rattle.njh_console.specs.Consoles.{ConsoleState}
 use Rattle.njh_console.specs.declared.act.Act.{Act}
 use Rattle.njh_console.specs.declared.act.Act.TheVariants as act
 use Rattle.njh_hub.specs.WholeHub.{Part}
-use Rattle.njh_turns.specs.Service.{order_event, ordered, routes_event}
+use Rattle.njh_console.specs.Orders.{given_of, with_order_given, TakenOrders}
+use Rattle.njh_turns.specs.Service.{order_event, ordered, AskedOrder}
 use Rattle.njh_turns.specs.declared.attendant.NewOrder.{NewOrder}
-use Rattle.njh_turns.specs.declared.attendant.NewRoutes.{NewRoutes}
-use Rattle.njh_request.specs.declared.request.Moment.{Moment}
-use Rattle.njh_service.specs.Bureaus.{lines_told, order_in, post_told, stop_after, view_told}
-use Rattle.njh_service.specs.Bureaus.{Attended, IsAsked, IsObeyed, ToldLine}
-use Rattle.njh_service.specs.LineStates.{is_draining, is_free, line_settled, line_wished, with_state, AreMade}
-use Rattle.njh_service.specs.LineStates.{NoneDrains}
-use Rattle.njh_service.specs.Watching.{served_line, ServedLine, Watched}
-use Rattle.njh_service.specs.declared.post.Post.{Post}
-use Rattle.njh_service.specs.declared.steps.Steps.{Steps}
-use Rattle.njh_service.proofs.OpenedLaws.{made_more}
+use Rattle.njh_request.specs.declared.request.EndMoment.{EndMoment}
+use Rattle.njh_service.specs.Bureaus.{lines_told, post_told, stop_after, view_told}
+use Rattle.njh_service.specs.Bureaus.{Attended, AwaitsAnswer, IsAsked, IsObeyed, ToldLine}
+use Rattle.njh_sight.specs.Streams.{is_free}
+use Rattle.njh_lines.specs.LineStates.{is_draining, line_settled, line_wished, with_state, AreMade}
+use Rattle.njh_lines.specs.LineStates.{NoneDrains}
+use Rattle.njh_revision.specs.Revisions.{KnownTables}
+use Rattle.njh_lines.specs.Watching.{served_line, ServedLine, Watched}
+use Rattle.njh_lines.specs.declared.post.Post.{Post}
+use Rattle.njh_sight.specs.declared.steps.Steps.{Steps}
+use Rattle.njh_sites.proofs.OpenedLaws.{made_more}
 
 settled_same : (parts : List Part) (line : ServedLine) → is_draining line.state ≡ false
     → line ≡ line_settled parts line
@@ -41,16 +43,13 @@ pub none_settled : (parts : List Part) (lines : List ServedLine) → NoneDrains 
 none_settled parts lines none place =
     settled_where parts (slice_get lines place) (λ line found. none place line found)
 
--- an order that is brought is the one in its event
-pub order_in_its_event : (brought : Option NewOrder)
-    → order_in (option_map order_event brought) ≡ option_map ordered brought
-order_in_its_event None = refl
-order_in_its_event (Some new) = refl
-
--- in the event of new routes is none
-pub routes_are_no_order : (brought : Option NewRoutes) → order_in (option_map routes_event brought) ≡ None
-routes_are_no_order None = refl
-routes_are_no_order (Some new) = refl
+-- an order that is brought is the one that was given
+pub awaits_what_was_given : (brought : Option NewOrder) (orders new : TakenOrders) → brought ≡ orders.waiting →
+    new ≡ with_order_given orders → AwaitsAnswer (AskedOrder (option_map order_event brought)) new
+awaits_what_was_given None orders new is given = tt
+awaits_what_was_given (Some order) orders new is given =
+    let Given : Option NewOrder → Type 0 = λ waiting. given_of waiting orders.given ≡ Some (ordered order) in
+    ap (λ (o : TakenOrders). o.given) given ∙ subst Given is refl
 
 -- what is told of posts is what is told of their lines, with what was noted of the steps on them
 posts_told : {L C : Type 0} (address_of : L → SocketAddr) (posts : List (Post L C))
@@ -84,12 +83,13 @@ pub none_drain : (old new : Watched) → new ≡ old → NoneDrains old.lines �
 none_drain old new same none = subst (λ (w : Watched). NoneDrains w.lines) (sym same) none
 
 -- what was asked of the same lines and the same console
-pub asked_as : {V : Type 0} (parts : List Part) (seen own : Watched) (before console after : ConsoleState V)
-    (what : Option Act) → seen ≡ own → before ≡ console → IsAsked parts seen before after what
-    → IsAsked parts own console after what
-asked_as {V} parts seen own before console after what same is asked =
-    subst (λ (w : Watched). IsAsked parts w console after what) same
-    (subst (λ (k : ConsoleState V). IsAsked parts seen k after what) is asked)
+pub asked_as : {V : Type 0} (parts : List Part) (known tables : Option KnownTables) (seen own : Watched)
+    (before console after : ConsoleState V) (what : Option Act) → known ≡ tables → seen ≡ own → before ≡ console
+    → IsAsked parts known seen before after what → IsAsked parts tables own console after what
+asked_as {V} parts known tables seen own before console after what by same is asked =
+    subst (λ (t : Option KnownTables). IsAsked parts t own console after what) by
+    (subst (λ (w : Watched). IsAsked parts known w console after what) same
+    (subst (λ (k : ConsoleState V). IsAsked parts known seen k after what) is asked))
 
 -- what is obeyed behind an answer that changed nothing
 pub obeyed_after : {V : Type 0} (what : Option Act) (old between new : Attended V) → between.exchange ≡ old.exchange
@@ -100,7 +100,7 @@ obeyed_after (Some (act.Line id wish)) old between new same stop obeyed = (
   obeyed.1 ∙ stop,
 )
 obeyed_after (Some (act.Stop moment)) old between new same stop obeyed =
-    (obeyed.0 ∙ same, obeyed.1 ∙ ap (λ (was : Option Moment). stop_after was moment) stop)
+    (obeyed.0 ∙ same, obeyed.1 ∙ ap (λ (was : Option EndMoment). stop_after was moment) stop)
 obeyed_after (Some (act.Refused refusal)) old between new same stop obeyed = (obeyed.0 ∙ same, obeyed.1 ∙ stop)
 
 -- the same of a service of which the lines and the end are those of another

@@ -1,16 +1,15 @@
--- Tables' lines with sockets, and the lines of a hub that was opened on these tables.
-use Rattle.std.proofs.Common.{◌≡◌, ℕ, zero, suc, ◌+◌, ◌<◌, List, [], ◌∷◌, ◌++◌, length, map, get_or, take, Option, refl}
+-- The lines of a hub that was opened on tables.
+use Rattle.std.proofs.Common.{◌≡◌, ℕ, zero, suc, ◌<◌, List, [], ◌∷◌, length, map, get_or, refl}
 use Rattle.std.proofs.Common.{sym, ap, subst, ◌∙◌, arith}
 use Rattle.std.specs.Prelude.{All}
-use Rattle.std.specs.List.{filter_map, cons_option}
-use Rattle.std.proofs.lemmas.List.{length-map, take_more}
-use Rattle.std.proofs.lemmas.List.Elements.{filter_map-append, All-map}
+use Rattle.std.proofs.lemmas.List.{length-map}
+use Rattle.std.proofs.lemmas.List.Elements.{All-map}
 use Rattle.njh_table.specs.declared.LineId.{LineId}
 use Rattle.njh_table.specs.TableFile.{TableFile, NamedLine, no_customer, customer_at, entry_of, HasLine}
 use Rattle.njh_hub.specs.Parts.{entries_of}
 use Rattle.njh_hub.specs.WholeHub.{Part, part_at_open}
 use Rattle.njh_hub.specs.WholeHub as hub
-use Rattle.njh_service.specs.declared.endpoints.Endpoint.{Endpoint}
+use Rattle.njh_sites.specs.declared.endpoints.Endpoint.{Endpoint}
 
 get_or-map_default : {X Y : Type 0} (f : X → Y) (xs : List X) (k : ℕ) (d : X)
     → get_or (map f xs) k (f d) ≡ f (get_or xs k d)
@@ -51,12 +50,3 @@ pub opened_lines : (parts : List Part) (endpoints : List Endpoint) (lines : List
 opened_lines parts endpoints lines same known =
     subst (λ (ls : List LineId). All (hub.HasLine parts) ls) (sym same)
     (All-map (hub.HasLine parts) (λ (endpoint : Endpoint). endpoint.line) endpoints known)
-
--- what a function gives of one item more
-pub filter_map_more : {X Y : Type 0} (h : X → Option Y) (xs : List X) (n : ℕ) (x : X)
-    → n < length xs → x ≡ get_or xs n x
-    → filter_map h (take (n + 1) xs) ≡ filter_map h (take n xs) ++ cons_option (h x) []
-filter_map_more {X} h xs n x within at =
-    let front : take (n + 1) xs ≡ take n xs ++ x ∷ [] =
-    take_more xs n x within ∙ ap (λ (y : X). take n xs ++ y ∷ []) (sym at) in
-    rw (front, filter_map-append) refl

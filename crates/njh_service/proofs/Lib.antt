@@ -1,14 +1,4 @@
-mod PostLaws
-mod AlikeLaws
 mod BureauLaws
 mod EndpointLaws
-mod OpenedLaws
-mod StateLaws
-mod StillLaws
-mod LineLaws
-mod LoggingLaws
-mod WatchLaws
-mod RoundLaws
-mod GroupLaws
 mod ServedLaws
 mod ServiceLaws

@@ -3,43 +3,25 @@ use Rattle.std.proofs.Common.{◌≡◌, ℕ, ◌+◌, ◌<◌, ◌≤◌, List,
 use Rattle.std.proofs.Common.{append_assoc, arith, subst, ⊎_elim}
 use Rattle.std.proofs.lemmas.Bool.{cases_lt}
 use Rattle.std.proofs.lemmas.List.{drop-drop, get_or-drop, get_or_default, length-append, length-map, map-append}
+use Rattle.std.proofs.lemmas.List.{take_more}
 use Rattle.std.proofs.Math.ListN.{get_or-append, get_or-map}
 use Rattle.std.proofs.Math.Seq.{get_or-append_seam}
 use Rattle.std.specs.declared.net.ip_addr.IpAddr.{IpAddr}
 use Rattle.std.specs.declared.net.socket_addr.SocketAddr.{SocketAddr}
 use Rattle.njh_table.specs.declared.LineId.{LineId}
 use Rattle.njh_wire.specs.Standing.{first_standing, Standing}
-use Rattle.njh_service.specs.Opened.{site_kept, site_on, site_opened}
+use Rattle.njh_sites.specs.Opened.{site_on, site_opened}
 use Rattle.njh_service.specs.Serving.{ArePlaced}
-use Rattle.njh_service.specs.Watching.{served_line, served_on, ServedLine}
-use Rattle.njh_service.specs.declared.door.Door.{Door}
-use Rattle.njh_service.specs.declared.endpoints.Endpoint.{Endpoint}
-use Rattle.njh_answer.specs.declared.views.LineState.{LineState}
-use Rattle.njh_answer.specs.declared.views.LineState.TheVariants.{Started}
-use Rattle.njh_service.specs.declared.post.Post.{Post}
-use Rattle.njh_service.specs.declared.site.Site.{Site}
-use Rattle.njh_service.proofs.AlikeLaws.{map_more}
+use Rattle.njh_lines.specs.Watching.{served_on, ServedLine}
+use Rattle.njh_sites.specs.declared.door.Door.{Door}
+use Rattle.njh_sites.specs.declared.endpoints.Endpoint.{Endpoint}
+use Rattle.njh_request.specs.declared.request.LineState.TheVariants.{Started}
+use Rattle.njh_sites.specs.declared.site.Site.{Site}
 
--- a post more
-pub post_added : {L C : Type 0} (address_of : L → SocketAddr) (posts new_posts : List (Post L C)) (post : Post L C)
-    (lines : List ServedLine) (id : LineId) (site : Site (Door L) SocketAddr)
-    → new_posts ≡ posts ++ post ∷ [] → map (served_line address_of) posts ≡ lines → post.line ≡ id
-    → site_kept address_of post.site ≡ site_opened address_of site → post.state ≡ Started
-    → map (served_line address_of) new_posts
-    ≡ lines ++ record { id = id; site = site_opened address_of site; state = Started } ∷ []
-post_added {L} {C} address_of posts new_posts post lines id site added seen line own started =
-    let On : LineId → ServedLine = λ name.
-    record { id = name; site = site_kept address_of post.site; state = post.state } in
-    let At : Site (IpAddr × ℕ) SocketAddr → ServedLine = λ its.
-    record { id = id; site = its; state = post.state } in
-    let As : LineState → ServedLine = λ state.
-    record { id = id; site = site_opened address_of site; state = state } in
-    let same : served_line address_of post ≡ record { id = id; site = site_opened address_of site; state = Started } =
-    ap On line ∙ (ap At own ∙ ap As started) in
-    ap (map (served_line address_of)) added
-    ∙ (map-append (served_line address_of) posts (post ∷ [])
-    ∙ (ap (λ (xs : List ServedLine). xs ++ served_line address_of post ∷ []) seen
-    ∙ ap (λ (x : ServedLine). lines ++ x ∷ []) same))
+-- what a function gives of one item more
+map_more : {X Y : Type 0} (f : X → Y) (xs : List X) (n : ℕ) (d : X) → n < length xs
+    → map f (take (n + 1) xs) ≡ map f (take n xs) ++ f (get_or xs n d) ∷ []
+map_more f xs n d within = ap (map f) (take_more xs n d within) ∙ map-append f (take n xs) (get_or xs n d ∷ [])
 
 -- there are as many sites as endpoints
 pub as_many : {L : Type 0} (address_of : L → SocketAddr) (address : IpAddr) (es : List Endpoint)

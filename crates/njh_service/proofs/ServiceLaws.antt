@@ -3,9 +3,9 @@ use Rattle.std.proofs.Common.{◌≡◌, List, subst, sym}
 use Rattle.std.specs.Prelude.{Result, Ok, Err, IfOk}
 use Rattle.njh_hub.specs.WholeHub.{Part}
 use Rattle.njh_turns.specs.Turns.{no_quiets}
-use Rattle.njh_service.specs.declared.endpoints.Endpoint.{Endpoint}
-use Rattle.njh_service.specs.Endpoints.{lines_of}
-use Rattle.njh_service.specs.Opened.{IsApart}
+use Rattle.njh_sites.specs.declared.endpoints.Endpoint.{Endpoint}
+use Rattle.njh_sites.specs.Endpoints.{lines_of}
+use Rattle.njh_sites.specs.Opened.{IsApart}
 use Rattle.njh_service.specs.Serving.{IsOpenedOn, Served}
 
 -- what is so of the depot and the hub is so of the service's

@@ -10,9 +10,9 @@ use Rattle.njh_turns.specs.Service.{Happening, ArePossible, IsAttended, service_
 use Rattle.njh_turns.specs.Turns.{hub_wires, moment, no_quiets}
 use Rattle.njh_turns.specs.Wires.{WireSays}
 use Rattle.njh_wire.specs.Standing.{Standing}
-use Rattle.njh_service.specs.declared.endpoints.Endpoint.{Endpoint}
-use Rattle.njh_service.specs.Endpoints.{endpoints_of, lines_of}
-use Rattle.njh_service.specs.Opened.{IsApart}
+use Rattle.njh_sites.specs.declared.endpoints.Endpoint.{Endpoint}
+use Rattle.njh_sites.specs.Endpoints.{endpoints_of, lines_of}
+use Rattle.njh_sites.specs.Opened.{IsApart}
 
 -- A hub with its depot, the lines of it that are served, the quiets in a row on each, their wires, and their attendant.
 pub record Served (W A D : Type 0) : Type 0 where
@@ -28,11 +28,11 @@ abbrev pub turn_count : Option ℕ → ℕ
 turn_count None = 18446744073709551615
 turn_count (Some turns) = turns
 
--- So many turns of the lines were taken, or fewer where the attendant may end the service, each line on its own wire,
--- and the hub was told of these, of new routes, of orders and of nothing else.
-pub record HasServed {W A D : Type 0} (says : WireSays W) (steers : Type 0) (turns : ℕ)
+-- So many turns of the lines were taken, or fewer where the attendant ended the service, each line on its own wire, and
+-- the hub was told of these, of new routes, of orders and of nothing else.
+pub record HasServed {W A D : Type 0} (says : WireSays W) (steers : Type 0) (ended : A → Type 0) (turns : ℕ)
     (old new : Served W A D) : Type 0 where
-  pub attended : IsAttended says steers old.lines turns (moment old.hub old.quiets old.wires)
+  pub attended : IsAttended says steers (ended new.attendant) old.lines turns (moment old.hub old.quiets old.wires)
       (moment new.hub new.quiets new.wires)
   pub lines : new.lines ≡ old.lines
 

@@ -3,24 +3,42 @@
 ghost use Rattle.std.specs.Prelude.{◌≡◌};
 
 use crate::bureau::Bureau;
-use crate::table_source::TableSource;
+use crate::revising::{revise, tell_routes};
 use njh_command::Replies;
 use njh_hub::{Hub, HubFault};
+use njh_revision::TableSource;
 use njh_turns::{Attendant, NewOrder, NewRoutes};
 use njh_wire::{LineWire, Network};
 use std::io::Write;
 
 impl<N: Network + Drop, L: Write + Drop, S: TableSource + Drop> Attendant<LineWire<N::Connection>>
     for Bureau<N, L, S> {
-    ghost use Rattle.std.specs.Prelude.{◌≡◌};
-    ghost use Rattle.njh_service.specs.Bureaus.{order_in};
-    ghost use Rattle.njh_service.specs.Steps.{HasNoted};
+    ghost use Rattle.std.specs.Prelude.{IsTrue};
+    ghost use Rattle.njh_lines.specs.Attention.{watch_at};
+    ghost use Rattle.njh_lines.specs.Watching.{HasNoted, IsToBePrompted};
+    ghost use Rattle.njh_service.specs.Bureaus.{AwaitsAnswer, IsClosed, IsOpenedBy};
 
     // It noted the session of the line at a place as the step left it, and the frame that it sent.
     ghost saw = { λ bureau place parts frame. HasNoted bureau.exchange place parts frame };
 
-    // It waits to hear of the order that its console gave.
-    ghost waits = { λ bureau event. bureau.console.orders.given ≡ order_in event };
+    // An order that it brought is the one that its console gave.
+    ghost stands = { λ bureau stage. AwaitsAnswer stage bureau.console.orders };
+
+    // It ended what the operator ended.
+    ghost ended = { λ bureau. IsTrue bureau.is_over };
+
+    // Wires of lines that are looked at are visited.
+    ghost visits = { λ bureau place. IsTrue (watch_at bureau.exchange.watches place).is_due };
+
+    // As its exchange prompts.
+    ghost wants = { λ bureau place parts. IsToBePrompted bureau.exchange place parts };
+
+    // The order that waits at its console.
+    ghost order = { λ bureau. bureau.console.orders.waiting };
+
+    ghost opens = { λ old wires new new_wires. IsOpenedBy old wires new new_wires };
+
+    ghost closes = { λ old wires parts new new_wires. IsClosed parts old new };
 
     /// The operator may end it.
     fn is_over(&self) -> bool {
@@ -31,17 +49,16 @@ impl<N: Network + Drop, L: Write + Drop, S: TableSource + Drop> Attendant<LineWi
         self.begin_round(wires);
     }
 
-    #[tactic(auto, using(crate::proofs::BureauLaws::routes_are_no_order))]
     fn new_routes(&mut self) -> Option<NewRoutes> {
-        self.exchange.revise()
+        revise(&mut self.revision, &mut self.exchange)
     }
 
     fn routes_given(&mut self, _hub: &Hub, new: &NewRoutes, answer: Result<(), HubFault>) {
-        self.exchange.tell_routes(new.customer, answer);
+        tell_routes(&mut self.revision, &mut self.exchange, new.customer, answer);
     }
 
-    /// What the operator ordered in the round before.
-    #[tactic(auto, using(crate::proofs::BureauLaws::order_in_its_event))]
+    /// What the operator ordered in the round before: the order that waits.
+    #[tactic(auto, using(crate::proofs::BureauLaws::awaits_what_was_given))]
     fn new_order(&mut self) -> Option<NewOrder> {
         self.console.order()
     }
@@ -69,8 +86,6 @@ impl<N: Network + Drop, L: Write + Drop, S: TableSource + Drop> Attendant<LineWi
     }
 
     fn after(&mut self, hub: &Hub, wires: &mut [LineWire<N::Connection>]) {
-        self.exchange.tell_unrouted(hub);
-        self.end_round(hub, wires);
-        self.serve_console(hub, wires);
+        self.close_round(hub, wires);
     }
 }

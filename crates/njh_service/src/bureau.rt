@@ -5,26 +5,30 @@ ghost use Rattle.njh_turns.specs.Service.{AreStill};
 ghost use Rattle.njh_wire.specs.Tally.{IsTallied};
 ghost use Rattle.njh_table.specs.TableFile.{HasLine};
 ghost use Rattle.njh_console.specs.Orders.{IsOrderDone};
+ghost use Rattle.njh_sites.specs.Endpoints.{endpoints_of};
+ghost use Rattle.njh_sites.specs.Opened.{IsApart};
+ghost use Rattle.njh_lines.specs.LineStates.{line_settled, AreMade};
+ghost use Rattle.njh_lines.specs.Watching.{served_on, HasNoted};
 ghost use Rattle.njh_service.specs.Bureaus.{lines_told, stop_after, view_told, IsAsked, IsConsoleServed};
-ghost use Rattle.njh_service.specs.Bureaus.{IsObeyed, IsOver};
-ghost use Rattle.njh_service.specs.Endpoints.{endpoints_of};
-ghost use Rattle.njh_service.specs.LineStates.{line_settled, AreMade};
-ghost use Rattle.njh_service.specs.Opened.{IsApart};
-ghost use Rattle.njh_service.specs.Steps.{HasNoted};
-ghost use Rattle.njh_service.specs.Watching.{served_on};
+ghost use Rattle.njh_service.specs.Bureaus.{IsClosed, IsObeyed, IsOpenedBy, IsOver};
 
-use crate::endpoints::Endpoint;
-use crate::entry::LogEvent;
-use crate::exchange::Exchange;
 use crate::fault::ServeFault;
-use crate::log::Log;
-use crate::opening::Listening;
-use crate::table_source::TableSource;
+use crate::faults::faults;
+use crate::open_lines::open_lines;
+use crate::opened::tell_opened;
+use crate::operator::{tell_astray, tell_refusal};
+use crate::revising::tell_unrouted;
+use crate::ready::{Version, tell_ready, version_of};
+use crate::viewing::line_views;
 use njh_answer::{LineView, ServiceView};
 use njh_command::Replies;
 use njh_console::{Act, Console, SEATS, Situation};
 use njh_hub::{Hub, HubFault};
-use njh_request::Moment;
+use njh_lines::Exchange;
+use njh_log::{Log, LogEvent, Place};
+use njh_request::EndMoment;
+use njh_revision::{Revision, TableSource};
+use njh_sites::{Endpoint, Listening};
 use njh_table::Tables;
 use njh_turns::{Depot, NewOrder};
 use njh_wire::{LineWire, Network};
@@ -37,14 +41,20 @@ use std::marker::Model;
 #[derive(Drop)]
 pub struct Bureau<N: Network + Drop, L: Write + Drop, S: TableSource + Drop> {
     alloc: Global,
-    pub(crate) exchange: Exchange<N, L, S>,
+    /// The version of the program, as the log tells it.
+    version: Version,
+    pub(crate) exchange: Exchange<N, L>,
+    /// The tables, and where new ones come from.
+    pub(crate) revision: Revision<S>,
     pub(crate) console: Console<N::Visitor>,
     /// Whether a line may be one that is to be stopped once no file is on its streams.
     drains: bool,
     /// When the service is to end, if that was ordered.
-    stop: Option<Moment>,
+    stop: Option<EndMoment>,
     /// Whether it ends now.
     is_over: bool,
+    /// How many files that were kept couldn't be put back at the start.
+    aside: usize,
     /// Since when there is a service, in milliseconds since the beginning of 1970.
     since: i64,
 }
@@ -52,12 +62,13 @@ pub struct Bureau<N: Network + Drop, L: Write + Drop, S: TableSource + Drop> {
 impl<N: Network + Drop, L: Write + Drop, S: TableSource + Drop> Model for Bureau<N, L, S> {
     ghost use Rattle.std.specs.Prelude.{◌≡◌, false};
     ghost use Rattle.njh_service.specs.Bureaus.{Attended};
-    ghost use Rattle.njh_service.specs.LineStates.{NoneDrains};
+    ghost use Rattle.njh_lines.specs.LineStates.{NoneDrains};
 
     ghost Value = { Attended N.Visitor };
 
     ghost view = { λ bureau. record {
       exchange = bureau.exchange;
+      tables = bureau.revision;
       console = bureau.console;
       drains = bureau.drains;
       stop = bureau.stop;
@@ -68,24 +79,31 @@ impl<N: Network + Drop, L: Write + Drop, S: TableSource + Drop> Model for Bureau
 }
 
 impl<N: Network + Drop, L: Write + Drop, S: TableSource + Drop> Bureau<N, L, S> {
-    /// One of these lines and this console. Nobody has ordered anything of it.
+    /// One of this version of the program, of these lines and tables, and this console. Nobody has
+    /// ordered anything of it.
     pub fn new(
         alloc: Global,
-        mut exchange: Exchange<N, L, S>,
+        version: &str,
+        mut exchange: Exchange<N, L>,
+        revision: Revision<S>,
         console: Console<N::Visitor>,
     ) -> Bureau<N, L, S>
         ensures exchange { result.exchange ≡ exchange }
+        ensures tables { result.tables ≡ revision }
         ensures console { result.console ≡ console }
         ensures stop { result.stop ≡ None }
     {
         let since = exchange.utc();
         Bureau {
             alloc,
+            version: version_of(version),
             exchange,
+            revision,
             console,
             drains: true,
             stop: None,
             is_over: false,
+            aside: 0,
             since,
         }
     }
@@ -94,14 +112,16 @@ impl<N: Network + Drop, L: Write + Drop, S: TableSource + Drop> Bureau<N, L, S> 
     pub(crate) fn into_log(self) -> Log<L> {
         let Bureau {
             exchange,
+            revision,
             console,
             ..
         } = self;
+        drop(revision);
         drop(console);
         exchange.into_log()
     }
 
-    /// Opens the sockets of the lines of tables, as `Exchange::open_lines` does.
+    /// Opens the sockets of the lines of tables, as `open_lines` does.
     pub(crate) fn open_lines(
         &mut self,
         alloc: Global,
@@ -116,7 +136,7 @@ impl<N: Network + Drop, L: Write + Drop, S: TableSource + Drop> Bureau<N, L, S> 
             ≡ self.old.exchange.lines ++ map (served_on listening.address) endpoints.items) }
     {
         self.drains = true;
-        self.exchange.open_lines(alloc, tables, listening, needed)
+        open_lines(&mut self.exchange, alloc, tables, listening, needed)
     }
 
     /// Knows of each file that a depot opened a hub with when it came, as far as the depot does.
@@ -132,14 +152,14 @@ impl<N: Network + Drop, L: Write + Drop, S: TableSource + Drop> Bureau<N, L, S> 
     pub(crate) fn tell_opened<D: Depot>(&mut self, depot: &D)
         ensures { self.new ≡ self.old }
     {
-        self.exchange.tell_opened(depot);
+        self.aside = tell_opened(&mut self.exchange, depot);
     }
 
     /// Tells that so many lines of a hub of so many customers are served.
     pub(crate) fn tell_ready(&mut self, customers: usize, lines: usize, hub: &Hub)
         ensures { self.new ≡ self.old }
     {
-        self.exchange.tell_ready(customers, lines, hub);
+        tell_ready(&mut self.exchange, self.version, customers, lines, hub);
     }
 
     /// Whether the service ends now.
@@ -153,9 +173,7 @@ impl<N: Network + Drop, L: Write + Drop, S: TableSource + Drop> Bureau<N, L, S> 
     /// that is. Visitors are let in, and what they sent is read.
     pub(crate) fn begin_round(&mut self, wires: &mut [LineWire<N::Connection>])
         ensures still { AreStill IsTallied (λ wire. wire.failures) wires.old wires.new }
-        ensures lines { self.new.exchange.lines ≡ self.old.exchange.lines }
-        ensures orders { self.new.console.orders ≡ self.old.console.orders }
-        ensures stop { self.new.stop ≡ self.old.stop }
+        ensures opened { IsOpenedBy self.old wires.old self.new wires.new }
     {
         let until = self.moment();
         self.exchange.begin_round(until, wires);
@@ -166,7 +184,7 @@ impl<N: Network + Drop, L: Write + Drop, S: TableSource + Drop> Bureau<N, L, S> 
     fn moment(&self) -> u64 {
         let now = self.exchange.now();
         match self.stop {
-            Some(Moment::AtOnce) => now,
+            Some(EndMoment::AtOnce) => now,
             _ => self.console.moment(now),
         }
     }
@@ -174,6 +192,7 @@ impl<N: Network + Drop, L: Write + Drop, S: TableSource + Drop> Bureau<N, L, S> 
     /// Lets visitors in while there are seats, and reads what each sent.
     fn receive(&mut self)
         ensures exchange { self.new.exchange ≡ self.old.exchange }
+        ensures tables { self.new.tables ≡ self.old.tables }
         ensures orders { self.new.console.orders ≡ self.old.console.orders }
         ensures stop { self.new.stop ≡ self.old.stop }
     {
@@ -189,10 +208,11 @@ impl<N: Network + Drop, L: Write + Drop, S: TableSource + Drop> Bureau<N, L, S> 
     /// whether one came in.
     fn let_in(&mut self) -> bool
         ensures exchange { self.new.exchange ≡ self.old.exchange }
+        ensures tables { self.new.tables ≡ self.old.tables }
         ensures orders { self.new.console.orders ≡ self.old.console.orders }
         ensures stop { self.new.stop ≡ self.old.stop }
     {
-        if self.console.is_full() || self.exchange.tables().is_none() {
+        if self.console.is_full() || self.revision.tables().is_none() {
             return false;
         }
         match self.exchange.visitor() {
@@ -223,12 +243,23 @@ impl<N: Network + Drop, L: Write + Drop, S: TableSource + Drop> Bureau<N, L, S> 
         replies: &Replies,
     )
         ensures exchange { self.new.exchange ≡ self.old.exchange }
+        ensures tables { self.new.tables ≡ self.old.tables }
         ensures done { IsOrderDone answer replies.now self.old.console.orders self.new.console.orders }
         ensures given { self.new.console.orders.given ≡ None }
         ensures stop { self.new.stop ≡ self.old.stop }
     {
         self.exchange.note_order(new, answer, replies);
         self.console.order_done(answer, replies);
+    }
+
+    /// Comes after a round: tells which files have no route, ends the round, and serves the console.
+    pub(crate) fn close_round(&mut self, hub: &Hub, wires: &mut [LineWire<N::Connection>])
+        ensures still { AreStill IsTallied (λ wire. wire.failures) wires.old wires.new }
+        ensures closed { IsClosed hub.now self.old self.new }
+    {
+        tell_unrouted(&mut self.revision, &mut self.exchange, hub);
+        self.end_round(hub, wires);
+        self.serve_console(hub, wires);
     }
 
     /// Ends a round as `Exchange::end_round` does. Lines that are to be stopped once no file is on
@@ -263,8 +294,8 @@ impl<N: Network + Drop, L: Write + Drop, S: TableSource + Drop> Bureau<N, L, S> 
     {
         match self.stop {
             None => false,
-            Some(Moment::AtOnce) => true,
-            Some(Moment::WhenIdle) => self.exchange.are_free(hub),
+            Some(EndMoment::AtOnce) => true,
+            Some(EndMoment::WhenIdle) => self.exchange.are_free(hub),
         }
     }
 
@@ -279,20 +310,26 @@ impl<N: Network + Drop, L: Write + Drop, S: TableSource + Drop> Bureau<N, L, S> 
         let act = self.answer(hub, wires);
         self.obey(act);
         let astray = self.console.tend(now);
-        self.exchange.tell_astray(astray);
+        tell_astray(&mut self.exchange, astray);
     }
 
     /// Answers at most one request of a visitor, if there is one, and memory for what is to be told.
     fn answer(&mut self, hub: &Hub, wires: &[LineWire<N::Connection>]) -> Option<Act>
         ensures same { IsObeyed None self.old self.new }
-        ensures asked { IsAsked hub.now self.old.exchange self.old.console self.new.console result }
+        ensures asked { IsAsked hub.now self.old.tables self.old.exchange self.old.console self.new.console result }
         ensures given { self.new.console.orders.given ≡ self.old.console.orders.given }
+        ensures tables { self.new.tables ≡ self.old.tables }
         ensures over { self.new.is_over ≡ self.old.is_over }
     {
         if !self.console.has_request() {
             return None;
         }
-        match self.exchange.line_views(self.alloc, wires) {
+        match line_views(
+            self.alloc,
+            &mut self.exchange,
+            self.revision.tables(),
+            wires,
+        ) {
             Ok(lines) => self.answer_with(hub, wires, &lines),
             Err(_) => None,
         }
@@ -308,8 +345,9 @@ impl<N: Network + Drop, L: Write + Drop, S: TableSource + Drop> Bureau<N, L, S> 
     ) -> Option<Act>
         requires { map view_told lines.now ≡ lines_told self.old.exchange.lines self.old.exchange.steps }
         ensures same { IsObeyed None self.old self.new }
-        ensures asked { IsAsked hub.now self.old.exchange self.old.console self.new.console result }
+        ensures asked { IsAsked hub.now self.old.tables self.old.exchange self.old.console self.new.console result }
         ensures given { self.new.console.orders.given ≡ self.old.console.orders.given }
+        ensures tables { self.new.tables ≡ self.old.tables }
         ensures over { self.new.is_over ≡ self.old.is_over }
     {
         match self.service_view(hub, wires) {
@@ -326,23 +364,38 @@ impl<N: Network + Drop, L: Write + Drop, S: TableSource + Drop> Bureau<N, L, S> 
         wires: &[LineWire<N::Connection>],
     ) -> Result<ServiceView, AllocError> {
         let alloc = self.alloc;
-        let mut view = self.exchange.service_view(alloc, self.since, hub, wires)?;
+        let version = self.version;
+        let version = format!(in alloc; "{version}")?;
+        let mut faults = faults(
+            alloc,
+            &self.exchange,
+            &self.revision,
+            self.aside,
+            hub,
+            wires,
+        )?;
         if let Some(moment) = self.stop {
             let event = LogEvent::ServiceEnds(moment);
-            view.faults.push(format!(in alloc; "{event}")?)?;
+            faults.push(format!(in alloc; "{event}")?)?;
         }
-        Ok(view)
+        Ok(ServiceView {
+            version,
+            since: u64::try_from(self.since / 1000).unwrap_or(0),
+            file_bytes: self.revision.spool_bytes(),
+            faults,
+        })
     }
 
     /// Answers at most one request of a visitor.
     fn answer_by(&mut self, hub: &Hub, service: &ServiceView, lines: &[LineView]) -> Option<Act>
         requires { map view_told lines.now ≡ lines_told self.old.exchange.lines self.old.exchange.steps }
         ensures same { IsObeyed None self.old self.new }
-        ensures asked { IsAsked hub.now self.old.exchange self.old.console self.new.console result }
+        ensures asked { IsAsked hub.now self.old.tables self.old.exchange self.old.console self.new.console result }
         ensures given { self.new.console.orders.given ≡ self.old.console.orders.given }
+        ensures tables { self.new.tables ≡ self.old.tables }
         ensures over { self.new.is_over ≡ self.old.is_over }
     {
-        let Some(tables) = self.exchange.tables() else {
+        let Some(tables) = self.revision.tables() else {
             return None;
         };
         let arrivals = self.exchange.arrivals();
@@ -354,6 +407,7 @@ impl<N: Network + Drop, L: Write + Drop, S: TableSource + Drop> Bureau<N, L, S> 
     fn obey(&mut self, act: Option<Act>)
         ensures obeyed { IsObeyed act self.old self.new }
         ensures console { self.new.console ≡ self.old.console }
+        ensures tables { self.new.tables ≡ self.old.tables }
         ensures over { self.new.is_over ≡ self.old.is_over }
     {
         match act {
@@ -363,20 +417,21 @@ impl<N: Network + Drop, L: Write + Drop, S: TableSource + Drop> Bureau<N, L, S> 
                 self.exchange.wish(id, wish);
             }
             Some(Act::Stop(moment)) => {
-                self.exchange.tell_stop(moment);
+                self.exchange
+                    .tell(Place::Hub, LogEvent::ServiceEnds(moment));
                 self.stop = Some(stop_after(self.stop, moment));
             }
-            Some(Act::Refused(refusal)) => self.exchange.tell_refusal(refusal),
+            Some(Act::Refused(refusal)) => tell_refusal(&mut self.exchange, refusal),
         }
     }
 }
 
 /// When the service is to end, once this was ordered.
-fn stop_after(stop: Option<Moment>, moment: Moment) -> Moment
+fn stop_after(stop: Option<EndMoment>, moment: EndMoment) -> EndMoment
     ensures { Some result ≡ stop_after stop moment }
 {
     match stop {
-        Some(Moment::AtOnce) => Moment::AtOnce,
+        Some(EndMoment::AtOnce) => EndMoment::AtOnce,
         _ => moment,
     }
 }

@@ -2,13 +2,11 @@
 
 ghost use Rattle.std.specs.Prelude.{◌≡◌};
 
-use crate::customers::CUSTOMERS;
-use crate::exchange::Exchange;
-use crate::heading::Place;
-use crate::severity::Severity;
-use crate::table_source::TableSource;
 use arrayvec::ArrayString;
 use njh_hub::Hub;
+use njh_lines::Exchange;
+use njh_log::{Place, Severity};
+use njh_sight::CUSTOMERS;
 use njh_wire::Network;
 use std::fmt;
 use std::io::Write;
@@ -26,27 +24,32 @@ pub(crate) fn version_of(text: &str) -> Version {
 /// What is served: by which version of the program, of how many customers, how many lines, and how
 /// many whole files there are.
 #[derive(Clone, Copy, Debug, Drop)]
-pub(crate) struct Ready {
+struct Ready {
     version: Version,
     customers: usize,
     lines: usize,
     files: u64,
 }
 
-impl<N: Network + Drop, L: Write + Drop, S: TableSource + Drop> Exchange<N, L, S> {
-    /// Tells that so many lines of a hub of so many customers are served.
-    pub(crate) fn tell_ready(&mut self, customers: usize, lines: usize, hub: &Hub)
-        ensures { self.new ≡ self.old }
-    {
-        self.desk.customers.count_all(hub);
-        let ready = Ready {
-            version: self.version,
-            customers,
-            lines,
-            files: files_of(hub),
-        };
-        self.desk.write(Severity::Information, Place::Hub, &ready);
-    }
+/// Tells that so many lines of a hub of so many customers are served, by this version of the
+/// program.
+pub(crate) fn tell_ready<N: Network + Drop, L: Write + Drop>(
+    exchange: &mut Exchange<N, L>,
+    version: Version,
+    customers: usize,
+    lines: usize,
+    hub: &Hub,
+)
+    ensures { exchange.new ≡ exchange.old }
+{
+    exchange.count_files(hub);
+    let ready = Ready {
+        version,
+        customers,
+        lines,
+        files: files_of(hub),
+    };
+    exchange.write(Severity::Information, Place::Hub, &ready);
 }
 
 /// How many whole files the customers of a hub have.

@@ -3,12 +3,13 @@
 ghost use Rattle.std.specs.Prelude.{◌≡◌, length, All, IfErr, IfOk, OnOk, OnErr, Err};
 ghost use Rattle.njh_hub.specs.WholeHub.{HasLine};
 ghost use Rattle.njh_turns.specs.Keeping.{IsSettled, Keeps};
+ghost use Rattle.njh_turns.specs.Service.{Rests};
 ghost use Rattle.njh_turns.specs.Turns.{no_quiets};
-ghost use Rattle.njh_service.specs.Endpoints.{lines_of};
+ghost use Rattle.njh_sites.specs.Endpoints.{lines_of};
 ghost use Rattle.njh_service.specs.Serving.{HasServed, IsBrokenOff, turn_count};
 
-use crate::endpoints::Endpoint;
 use njh_hub::{Hub, HubFault};
+use njh_sites::Endpoint;
 use njh_table::LineId;
 use njh_turns::{Attendant, KeepFault, Keeper, Rounds, Wire, attend};
 use std::alloc::{AllocError, Global};
@@ -51,7 +52,9 @@ impl<W: Wire + Drop, A: Attendant<W> + Drop, D: Keeper + Drop> Service<W, A, D> 
     /// after that, and nothing can be run again, since what the hub has isn't settled then.
     pub fn run(&mut self, turns: Option<u32>) -> Result<(), KeepFault>
         requires settled { IsSettled D.says self.old.depot self.old.hub }
-        ensures served { OnOk result (HasServed W.says A.steers (turn_count turns) self.old self.new) }
+        requires rests { A.stands self.old.attendant Rests }
+        ensures served { OnOk result (HasServed W.says A.steers A.ended (turn_count turns) self.old self.new) }
+        ensures rests { OnOk result (A.stands self.new.attendant Rests) }
         ensures breaks { OnErr result (IsBrokenOff W.says (D.says.may_leave self.new.depot) A.steers (turn_count turns)
             self.old self.new) }
         ensures keeps { Keeps D.says self.old.depot result self.new.hub self.new.depot }

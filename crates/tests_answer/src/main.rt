@@ -3,14 +3,15 @@
 #![tactic(auto)]
 
 use njh_answer::{
-    Answer, Arrivals, Deed, LineState, LineView, OrderRecord, Outcome, ServiceView, Views,
-    answer_request, refuses,
+    Deed, LineView, OrderRecord, Outcome, RequestAnswer, ServiceView, Views, answer_request,
+    refuses,
 };
+use njh_arrivals::Arrivals;
 use njh_command::Replies;
 use njh_ebcdic::Name;
 use njh_header::User;
 use njh_hub::{GivenOrder, Hub, OrderText};
-use njh_request::{Request, Text};
+use njh_request::{LineState, Request, Text};
 use njh_table::{LineId, Tables};
 use std::alloc::{AllocError, Global};
 use std::io;
@@ -213,7 +214,7 @@ fn deed_text(deed: &Deed) -> &'static str {
     }
 }
 
-fn answer(alloc: Global, line: &str, views: &Views<'_>) -> Result<Answer, AllocError> {
+fn answer(alloc: Global, line: &str, views: &Views<'_>) -> Result<RequestAnswer, AllocError> {
     let (method, rest) = line.split_once(' ').unwrap_or((line, ""));
     let (target, body) = rest.split_once(' ').unwrap_or((rest, ""));
     let (path, query) = match target.split_once('?') {

@@ -1,11 +1,12 @@
 //! A hub with its console.
 
 use crate::pipe::{Pipe, Pipes, Visit};
-use njh_answer::{Arrivals, ServiceView};
+use njh_answer::ServiceView;
+use njh_arrivals::Arrivals;
 use njh_command::Replies;
 use njh_console::{Act, Console, Situation};
 use njh_hub::Hub;
-use njh_request::{LineWish, Moment};
+use njh_request::{EndMoment, LineWish};
 use njh_table::{LineId, Tables};
 use std::alloc::Global;
 use std::fmt::Write;
@@ -190,10 +191,10 @@ fn show(alloc: Global, number: usize, pipe: &Pipe, seen: &mut String) -> io::Res
 fn act_text(act: Act) -> &'static str {
     match act {
         Act::Line(_, LineWish::Started) => "a line starts",
-        Act::Line(_, LineWish::Stopped(Moment::AtOnce)) => "a line stops",
-        Act::Line(_, LineWish::Stopped(Moment::WhenIdle)) => "a line drains",
-        Act::Stop(Moment::AtOnce) => "the service stops",
-        Act::Stop(Moment::WhenIdle) => "the service stops when idle",
+        Act::Line(_, LineWish::Stopped(EndMoment::AtOnce)) => "a line stops",
+        Act::Line(_, LineWish::Stopped(EndMoment::WhenIdle)) => "a line drains",
+        Act::Stop(EndMoment::AtOnce) => "the service stops",
+        Act::Stop(EndMoment::WhenIdle) => "the service stops when idle",
         Act::Refused(why) => why.sentence(),
     }
 }

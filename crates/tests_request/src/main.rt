@@ -3,7 +3,7 @@
 #![tactic(auto)]
 
 use njh_header::User;
-use njh_request::{LineWish, Moment, Refusal, Request, Text};
+use njh_request::{EndMoment, LineWish, Request, RequestRefusal, Text};
 use njh_table::Tables;
 use std::alloc::{AllocError, Global};
 use std::io;
@@ -55,10 +55,10 @@ block = 1024
 streams = 4
 "#;
 
-fn moment_text(moment: Moment) -> &'static str {
+fn moment_text(moment: EndMoment) -> &'static str {
     match moment {
-        Moment::AtOnce => "at once",
-        Moment::WhenIdle => "when idle",
+        EndMoment::AtOnce => "at once",
+        EndMoment::WhenIdle => "when idle",
     }
 }
 
@@ -110,7 +110,7 @@ fn order_text(alloc: Global, customer: u16, user: &str, text: &Text) -> Result<S
     format!(in alloc; "of {customer}, {user}: {bytes}")
 }
 
-fn refusal_text(alloc: Global, refusal: Refusal) -> Result<String, AllocError> {
+fn refusal_text(alloc: Global, refusal: RequestRefusal) -> Result<String, AllocError> {
     let status = refusal.status();
     let sentence = refusal.sentence();
     format!(in alloc; "{status} {sentence}")
@@ -131,14 +131,14 @@ fn told(alloc: Global, tables: &Tables, line: &str) -> Result<String, AllocError
 }
 
 /// The refusals that no request has by itself.
-const LATER: [Refusal; 7] = [
-    Refusal::NoFile,
-    Refusal::NoOrder,
-    Refusal::NoWay,
-    Refusal::SeveralOwners,
-    Refusal::OrderWaits,
-    Refusal::NotKept,
-    Refusal::TooLong,
+const LATER: [RequestRefusal; 7] = [
+    RequestRefusal::NoFile,
+    RequestRefusal::NoOrder,
+    RequestRefusal::NoWay,
+    RequestRefusal::SeveralOwners,
+    RequestRefusal::OrderWaits,
+    RequestRefusal::NotKept,
+    RequestRefusal::TooLong,
 ];
 
 fn main(rt: HostRuntime) -> io::Result<()> {

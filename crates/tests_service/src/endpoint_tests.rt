@@ -1,6 +1,6 @@
 //! Which lines of tables are served, and how many handles they need.
 
-use njh_service::{Endpoint, Site, endpoints_of, handles_needed};
+use njh_sites::{Endpoint, Site, endpoints_of, handles_needed};
 use njh_table::{LineId, Tables};
 use std::alloc::Global;
 use std::process::Abort;

@@ -4,7 +4,9 @@
 use crate::joint::Joint;
 use crate::joint_network::{JointLog, JointNetwork};
 use crate::serving::{Player, Rounds, serve};
-use njh_service::{Exchange, Log, LogStyle, Revision};
+use njh_lines::Exchange;
+use njh_log::{Log, LogStyle};
+use njh_revision::Revision;
 use njh_table::Tables;
 use std::alloc::{AllocError, Global};
 use std::net::{IpAddr, Ipv4Addr};
@@ -162,9 +164,10 @@ fn serve_one<P: Player>(
     let tables = tables_of(alloc, number, case)?;
     let network = JointNetwork { joint, end: number };
     let log = Log::new(Some(JointLog { joint, end: number }), LogStyle::PLAIN);
-    let exchange = Exchange::new(alloc, "9.9", network, log, Revision::none(alloc));
+    let exchange = Exchange::new(alloc, network, log);
     let address = IpAddr::V4(Ipv4Addr::new(10, 0, 0, 1));
-    serve(alloc, tables, exchange, address, player)
+    let revision = Revision::none(alloc);
+    serve(alloc, tables, exchange, revision, address, player)
 }
 
 /// Plays on the first hub: serves the second one beside it.

@@ -4,7 +4,7 @@ use crate::listening_tests::{CONTACT, TABLES};
 use crate::play::{play, play_whole};
 use crate::world::{Act, Ports, at};
 use njh_ebcdic::Name;
-use njh_service::{Heading, Log, LogStyle, Place, Severity};
+use njh_log::{Heading, Log, LogStyle, Place, Severity};
 use std::test::Fail;
 
 /// Lines of which the writer takes nothing are counted, and the next line tells how many.

@@ -2,7 +2,9 @@
 
 use crate::serving::{Player, Rounds, serve};
 use mio::net::TcpStream;
-use njh_service::{Exchange, Log, LogStyle, Revision};
+use njh_lines::Exchange;
+use njh_log::{Log, LogStyle};
+use njh_revision::Revision;
 use njh_sockets::MioNetwork;
 use njh_table::Tables;
 use std::io;
@@ -48,12 +50,13 @@ fn closes_stalls_and_connects_again(rt: HostRuntime) -> Result<(), Fail> {
     let tables = Tables::read(rt.alloc(), TABLES)?;
     let log = Log::new(Some(io::sink()), LogStyle::PLAIN);
     let network = MioNetwork::new(&rt)?;
-    let exchange = Exchange::new(rt.alloc(), "9.9", network, log, Revision::none(rt.alloc()));
+    let exchange = Exchange::new(rt.alloc(), network, log);
     let address = IpAddr::V4(Ipv4Addr::LOCALHOST);
     serve(
         rt.alloc(),
         tables,
         exchange,
+        Revision::none(rt.alloc()),
         address,
         &mut Peers { rt: &rt },
     )

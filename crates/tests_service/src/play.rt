@@ -4,7 +4,9 @@ use crate::memory_log::MemoryLog;
 use crate::memory_network::MemoryNetwork;
 use crate::serving::{Player, Rounds, is_refused, serve};
 use crate::world::{Happens, World};
-use njh_service::{Exchange, Log, LogStyle, NoSource, Revision};
+use njh_lines::Exchange;
+use njh_log::{Log, LogStyle};
+use njh_revision::{NoSource, Revision};
 use njh_table::Tables;
 use std::alloc::Global;
 use std::io::Write;
@@ -101,16 +103,14 @@ pub(crate) fn end_at<R: Abort>(
     Ok(())
 }
 
-/// An attendant in a world, which tells of these tables, and whose log has such lines.
+/// An exchange in a world, whose log has such lines.
 fn exchange_in<'a>(
     alloc: Global,
     world: &'a World<'a>,
-    tables: &str,
     style: LogStyle,
-) -> Result<Exchange<MemoryNetwork<'a>, MemoryLog<'a>, NoSource>, Fail> {
-    let revision = Revision::new(alloc, Tables::read(alloc, tables)?, NoSource)?;
+) -> Exchange<MemoryNetwork<'a>, MemoryLog<'a>> {
     let log = Log::new(Some(MemoryLog { world }), style);
-    Ok(Exchange::new(alloc, "9.9", MemoryNetwork { world }, log, revision))
+    Exchange::new(alloc, MemoryNetwork { world }, log)
 }
 
 /// Asks for a service of these tables that has to listen on each port, and compares what is seen if
@@ -133,8 +133,9 @@ pub(crate) fn refuse<R: Abort>(
 /// Whether lines of tables aren't served in a world if each has to listen on its port.
 fn is_refused_in<'a>(alloc: Global, world: &'a World<'a>, tables: &str) -> Result<bool, Fail> {
     let own = Tables::read(alloc, tables)?;
-    let exchange = exchange_in(alloc, world, tables, LogStyle::PLAIN)?;
-    is_refused(alloc, own, exchange, hub_address())
+    let revision = Revision::new(alloc, Tables::read(alloc, tables)?, NoSource)?;
+    let exchange = exchange_in(alloc, world, LogStyle::PLAIN);
+    is_refused(alloc, own, exchange, revision, hub_address())
 }
 
 /// Serves the lines of tables in a world up to a moment.
@@ -146,11 +147,13 @@ fn play_in<'a>(
     style: LogStyle,
 ) -> Result<(), Fail> {
     let own = Tables::read(alloc, tables)?;
-    let exchange = exchange_in(alloc, world, tables, style)?;
+    let revision = Revision::new(alloc, Tables::read(alloc, tables)?, NoSource)?;
+    let exchange = exchange_in(alloc, world, style);
     serve(
         alloc,
         own,
         exchange,
+        revision,
         hub_address(),
         &mut Until { world, end },
     )

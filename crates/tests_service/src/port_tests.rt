@@ -3,7 +3,7 @@
 use crate::listening_tests::{CONTACT, TABLES};
 use crate::play::{play_whole, refuse};
 use crate::world::{Act, Ports, at};
-use njh_service::LogStyle;
+use njh_log::LogStyle;
 use std::test::Fail;
 
 /// A port is tried each ten seconds. The log tells when it can't be listened on, when that has

@@ -5,7 +5,9 @@ use crate::memory_network::MemoryNetwork;
 use crate::play::{Until, after_start, hub_address};
 use crate::serving::serve;
 use crate::world::World;
-use njh_service::{Exchange, Log, LogStyle, Revision, TableSource};
+use njh_lines::Exchange;
+use njh_log::{Log, LogStyle};
+use njh_revision::{Revision, TableSource};
 use njh_table::{TableFault, Tables};
 use std::alloc::Global;
 use std::test::Fail;
@@ -219,11 +221,12 @@ fn change_in<'a>(
     let revision = Revision::new(alloc, Tables::read(alloc, before)?, source)?;
     let tables = Tables::read(alloc, before)?;
     let log = Log::new(Some(MemoryLog { world }), LogStyle::PLAIN);
-    let exchange = Exchange::new(alloc, "9.9", MemoryNetwork { world }, log, revision);
+    let exchange = Exchange::new(alloc, MemoryNetwork { world }, log);
     serve(
         alloc,
         tables,
         exchange,
+        revision,
         hub_address(),
         &mut Until { world, end: 3_900 },
     )

@@ -3,9 +3,10 @@
 //! has a lifetime.
 
 use njh_console::Console;
-use njh_service::{
-    Bureau, Exchange, Listening, NoSource, ServeFault, Service, TableSource, service_on,
-};
+use njh_lines::Exchange;
+use njh_revision::{NoSource, Revision, TableSource};
+use njh_service::{Bureau, ServeFault, Service, service_on};
+use njh_sites::Listening;
 use njh_table::Tables;
 use njh_turns::{Attendant, KeepsNothing, Wire};
 use njh_wire::Network;
@@ -36,11 +37,12 @@ pub trait Player {
 pub(crate) fn serve<N: Network + Drop, L: Write + Drop, S: TableSource + Drop, P: Player>(
     alloc: Global,
     tables: Tables,
-    exchange: Exchange<N, L, S>,
+    exchange: Exchange<N, L>,
+    revision: Revision<S>,
     address: IpAddr,
     player: &mut P,
 ) -> Result<(), Fail> {
-    let bureau = Bureau::new(alloc, exchange, Console::new(alloc)?);
+    let bureau = Bureau::new(alloc, "9.9", exchange, revision, Console::new(alloc)?);
     let listening = Listening {
         address,
         strict: false,
@@ -58,10 +60,11 @@ pub(crate) fn serve<N: Network + Drop, L: Write + Drop, S: TableSource + Drop, P
 pub(crate) fn is_refused<N: Network + Drop, L: Write + Drop>(
     alloc: Global,
     tables: Tables,
-    exchange: Exchange<N, L, NoSource>,
+    exchange: Exchange<N, L>,
+    revision: Revision<NoSource>,
     address: IpAddr,
 ) -> Result<bool, Fail> {
-    let bureau = Bureau::new(alloc, exchange, Console::new(alloc)?);
+    let bureau = Bureau::new(alloc, "9.9", exchange, revision, Console::new(alloc)?);
     let listening = Listening {
         address,
         strict: true,

@@ -1,6 +1,6 @@
 use Rattle.std.proofs.Common.{◌∙◌, sym, arith}
 use Rattle.njh_hub.specs.WholeHub.{part}
-use Rattle.njh_answer.specs.Arrivals.{seen_of}
+use Rattle.njh_arrivals.specs.Arrivals.{seen_of}
 use Rattle.njh_answer.specs.Files.{file_entry}
 use Rattle.njh_answer.proofs.Telling.{files_more, value_more}
 use Rattle.njh_answer.proofs.files.file_values.Goals as goal

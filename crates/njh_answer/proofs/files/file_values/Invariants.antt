@@ -1,7 +1,7 @@
 use Rattle.std.proofs.Common.{◌≡◌, ◌-◌, map, take, drop}
 use Rattle.serde_json.specs.View.{view}
 use Rattle.njh_hub.specs.WholeHub.{part}
-use Rattle.njh_answer.specs.Arrivals.{seen_of}
+use Rattle.njh_arrivals.specs.Arrivals.{seen_of}
 use Rattle.njh_answer.specs.Files.{file_entry}
 use Rattle.njh_answer.proofs.files.file_values.Given as goal
 

@@ -1,7 +1,7 @@
 use Rattle.std.proofs.Common.{ap, subst}
 use Rattle.std.specs.Prelude.{string_bytes}
 use Rattle.serde_json.specs.Data.{Data}
-use Rattle.njh_request.specs.declared.refusal.Refusal.TheVariants.{TooLong}
+use Rattle.njh_request.specs.declared.refusal.RequestRefusal.TheVariants.{TooLong}
 use Rattle.njh_answer.specs.Answers.{refusal_data, Told}
 use Rattle.njh_console.specs.Rounds.{IsTextOf}
 use Rattle.njh_console.proofs.PageLaws.{too_long_fits}

@@ -1,10 +1,10 @@
 use Rattle.std.proofs.Common.{◌++◌, ◌∙◌, ap, map, subst, List}
 use Rattle.std.specs.Prelude.{IfOk}
 use Rattle.std.proofs.lemmas.Result.{IfOk-weaker}
-use Rattle.njh_service.specs.declared.endpoints.Endpoint.{Endpoint}
+use Rattle.njh_sites.specs.declared.endpoints.Endpoint.{Endpoint}
 use Rattle.njh_service.specs.Bureaus.{Attended}
 use Rattle.njh_service.specs.Serving.{IsOpenedOn}
-use Rattle.njh_service.specs.Watching.{served_on, ServedLine}
+use Rattle.njh_lines.specs.Watching.{served_on, ServedLine}
 use Rattle.njh_service.proofs.serving.service_on.Goals as goal
 
 -- the endpoints that were opened are those of the tables

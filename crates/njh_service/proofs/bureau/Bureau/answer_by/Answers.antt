@@ -3,7 +3,7 @@ use Rattle.std.specs.Prelude.{Option}
 use Rattle.njh_console.specs.Consoles.{ConsoleState, IsRoundServed}
 use Rattle.njh_table.specs.TableFile.{TableFile}
 use Rattle.njh_service.specs.Bureaus.{view_told, Attended}
-use Rattle.njh_service.specs.Revisions.{opened_tables}
+use Rattle.njh_revision.specs.Revisions.{opened_tables}
 use Rattle.njh_service.proofs.bureau.Bureau.answer_by.Goals as goal
 
 -- what is told of is what is
@@ -11,7 +11,7 @@ pub returns-clause-asked : goal.returns-clause-asked
 returns-clause-asked g c =
     let V : Type 0 = g.row.N-Visitor.Denot in
     let scene = c.new-situation.result in
-    let Tables : Attended V → Option TableFile = λ seen. opened_tables seen.exchange.tables in
+    let Tables : Attended V → Option TableFile = λ seen. opened_tables seen.tables in
     let Own : Attended V → ConsoleState V = λ seen. seen.console in
     let Seen = λ (seen : Attended V). seen.exchange.arrivals in
     let served = subst (λ (before : ConsoleState V). IsRoundServed scene before c.serve.new.self c.serve.result)

@@ -1,7 +1,7 @@
 use Rattle.std.proofs.Common.{◌∙◌, List, ap, subst, sym}
 use Rattle.njh_service.specs.Bureaus.{Attended}
-use Rattle.njh_service.specs.LineStates.{NoneDrains}
-use Rattle.njh_service.specs.Watching.{ServedLine}
+use Rattle.njh_lines.specs.LineStates.{NoneDrains}
+use Rattle.njh_lines.specs.Watching.{ServedLine}
 use Rattle.njh_service.proofs.bureau.Bureau.follow.Goals as goal
 
 -- no line drains that didn't

@@ -1,6 +1,6 @@
 use Rattle.std.proofs.Common.{List, ap, subst, sym}
-use Rattle.njh_service.specs.LineStates.{NoneDrains}
-use Rattle.njh_service.specs.Watching.{ServedLine, Watched}
+use Rattle.njh_lines.specs.LineStates.{NoneDrains}
+use Rattle.njh_lines.specs.Watching.{ServedLine, Watched}
 use Rattle.njh_service.proofs.bureau.Bureau.know_arrivals.Goals as goal
 
 -- no line drains that didn't

@@ -2,7 +2,7 @@ use Rattle.std.proofs.Common.{◌++◌, ◌∙◌, List, ap, map, sym}
 use Rattle.std.proofs.lemmas.Bool.{false≢true}
 use Rattle.std.proofs.lemmas.Result.{IfOk-weaker}
 use Rattle.njh_service.specs.Bureaus.{Attended}
-use Rattle.njh_service.specs.Watching.{served_on, ServedLine}
+use Rattle.njh_lines.specs.Watching.{served_on, ServedLine}
 use Rattle.njh_service.proofs.bureau.Bureau.open_lines.Goals as goal
 
 -- one that drains is looked for

@@ -2,16 +2,17 @@ use Rattle.std.proofs.Common.{◌∙◌, ℕ, ap, subst}
 use Rattle.std.specs.Prelude.{Bool, Option}
 use Rattle.njh_console.specs.Consoles.{AreTended, ConsoleState}
 use Rattle.njh_console.specs.Orders.{TakenOrders}
-use Rattle.njh_request.specs.declared.request.Moment.{Moment}
+use Rattle.njh_request.specs.declared.request.EndMoment.{EndMoment}
 use Rattle.njh_service.specs.Bureaus.{Attended}
-use Rattle.njh_service.specs.Watching.{Watched}
+use Rattle.njh_revision.specs.Revisions.{KnownTables}
+use Rattle.njh_lines.specs.Watching.{Watched}
 use Rattle.njh_service.proofs.BureauLaws.{none_drain, obeyed_after, obeyed_as}
 use Rattle.njh_service.proofs.bureau.Bureau.serve_console.Goals as goal
 
 -- no line drains that didn't
 pub invariant_of-self : goal.invariant_of-self
 invariant_of-self g c =
-    λ is. none_drain c.self-2.inside.exchange c.tell_astray.new.self c.tell_astray.ensures (c.self-2.invariant is)
+    λ is. none_drain c.self-2.inside.exchange c.tell_astray.new.exchange c.tell_astray.ensures (c.self-2.invariant is)
 
 -- one visitor at most was answered, and each was written to
 pub returns-clause-served : goal.returns-clause-served
@@ -21,8 +22,9 @@ returns-clause-served g c =
     let next = c.obey.new.self in
     let what = c.answer-act.result in
     let Seen : Attended V → Watched = λ seen. seen.exchange in
-    let Stop : Attended V → Option Moment = λ seen. seen.stop in
+    let Stop : Attended V → Option EndMoment = λ seen. seen.stop in
     let Own : Attended V → ConsoleState V = λ seen. seen.console in
+    let Tables : Attended V → Option KnownTables = λ seen. seen.tables in
     let Now : Attended V → ℕ = λ seen. seen.exchange.now in
     let Orders : ConsoleState V → TakenOrders = λ console. console.orders in
     let console = ap Own c.self-2.view_is ∙ c.obey.ensures.console in record {
@@ -39,6 +41,7 @@ returns-clause-served g c =
           (subst (λ (before : ConsoleState V). AreTended c.now-now.result before.seats c.tend-astray.new.self.seats
           c.tend-astray.result) console c.tend-astray.ensures.seats);
       orders = c.tend-astray.ensures.orders ∙ ap Orders console;
+      tables = ap Tables c.self-2.view_is ∙ (c.obey.ensures.tables ∙ c.answer-act.ensures.tables);
     }
 
 pub returns-clause-given : goal.returns-clause-given

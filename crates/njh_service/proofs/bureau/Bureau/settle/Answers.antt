@@ -1,7 +1,7 @@
 use Rattle.std.proofs.Common.{List, ap, subst}
 use Rattle.njh_service.specs.Bureaus.{Attended}
-use Rattle.njh_service.specs.LineStates.{line_settled, AreMade}
-use Rattle.njh_service.specs.Watching.{ServedLine}
+use Rattle.njh_lines.specs.LineStates.{line_settled, AreMade}
+use Rattle.njh_lines.specs.Watching.{ServedLine}
 use Rattle.njh_service.proofs.BureauLaws.{none_settled}
 use Rattle.njh_service.proofs.bureau.Bureau.settle.Goals as goal
 

@@ -1,6 +1,6 @@
 use Rattle.std.proofs.Common.{length, sym, ap, ◌∙◌}
 use Rattle.std.proofs.lemmas.List.{length-map}
-use Rattle.njh_service.specs.declared.endpoints.Endpoint.{Endpoint}
+use Rattle.njh_sites.specs.declared.endpoints.Endpoint.{Endpoint}
 use Rattle.njh_service.proofs.EndpointLaws.{opened_lines}
 use Rattle.njh_service.proofs.service.Service.new.Goals as goal
 

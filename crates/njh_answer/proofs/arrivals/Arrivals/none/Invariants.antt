@@ -1,5 +1,0 @@
-use Rattle.std.proofs.Common.{◌≡◌, [], replicate, vec_capacity}
-use Rattle.njh_answer.proofs.arrivals.Arrivals.none.Given as goal
-
-abbrev pub invariant-loop-done : goal.invariant-loop-done
-invariant-loop-done l = (l.rows.items ≡ replicate l._done []) × (vec_capacity l.rows ≡ l.customers)

@@ -1,0 +1,6 @@
+mod GroupLaws
+pub mod PostLaws
+mod RoundLaws
+mod StateLaws
+mod StillLaws
+mod WatchLaws

@@ -1,0 +1,62 @@
+use Rattle.std.proofs.Common.{ℕ, ◌<◌, subst, refl, sym, ap, ◌∙◌}
+use Rattle.std.proofs.lemmas.Bool.{false≢true}
+use Rattle.njh_hub.specs.Quiets.{quiet_on}
+use Rattle.njh_hub.specs.Views.{HasGivenUp, hub_line, line_view}
+use Rattle.njh_hub.specs.declared.session_view.SessionView.{SessionView}
+use Rattle.njh_hub.specs.WholeHub.{HasLine}
+use Rattle.njh_sight.specs.Sessions.{HasRefusedMore}
+use Rattle.njh_lines.specs.Watching.{served_line, ServedLine, Watched}
+use Rattle.njh_lines.specs.declared.post.Post.{Post}
+use Rattle.njh_lines.proofs.PostLaws.{lines_stay, line_there, post_there, served_stays}
+use Rattle.njh_lines.proofs.exchange.Exchange.apply_session.Goals as goal
+
+pub returns-clause-lines : goal.returns-clause-lines
+returns-clause-lines g c =
+    lines_stay
+    (λ (post : Post g.row.N-Listener.Denot g.row.N-Connection.Denot). served_line g.N.Network.address_of post)
+    c.self.inside.posts.items
+    c.args.self.now.lines c.args.place c.in-Some.post.now c.apply_session.new.post
+    (ap (λ (seen : Watched). seen.lines) c.self.view_is) c.in-Some.ensures.value
+    (served_stays g.N.Network.address_of c.in-Some.post.now c.apply_session.new.post c.apply_session.ensures.line
+    c.apply_session.ensures.site c.apply_session.ensures.state)
+
+pub returns-clause-kept : goal.returns-clause-kept
+returns-clause-kept g c = λ line seen found noted there alive fits.
+    let Within : ℕ → Type 0 = λ many. c.args.place < many in
+    let IsThere : ServedLine → Type 0 = λ own. HasLine c.args.hub.now own.id in
+    let IsAlive : ServedLine → Type 0 = λ own. ¬ HasGivenUp c.args.hub.now own.id in
+    let session : ServedLine → SessionView = λ own. line_view (hub_line own.id c.args.hub.now).state in
+    let post = c.in-Some.post.now in
+    let low = subst Within c.self.inside.posts.ok.0 (c.in-Some.ensures.variant.0 refl) in
+    let own = line_there
+    (λ (x : Post g.row.N-Listener.Denot g.row.N-Connection.Denot). served_line g.N.Network.address_of x)
+    c.self.inside.posts.items c.args.self.now.lines c.args.place post line
+    (ap (λ (w : Watched). w.lines) c.self.view_is) low c.in-Some.ensures.value found in
+    let had = line_there (λ (x : Post g.row.N-Listener.Denot g.row.N-Connection.Denot). x.label.refusals)
+    c.self.inside.posts.items c.args.self.now.refusals c.args.place post seen
+    (ap (λ (w : Watched). w.refusals) c.self.view_is) low c.in-Some.ensures.value noted in
+    c.apply_session.ensures.kept (subst IsThere own there) (subst IsAlive own alive)
+    (subst (λ (its : ServedLine). ¬ HasRefusedMore post.label.refusals (session its)) own
+    (subst (λ (n : ℕ). ¬ HasRefusedMore n (session line)) had fits))
+
+pub returns-clause-quiet : goal.returns-clause-quiet
+returns-clause-quiet g c = λ line found there.
+    let Within : ℕ → Type 0 = λ many. c.args.place < many in
+    let IsThere : ServedLine → Type 0 = λ own. HasLine c.args.hub.now own.id in
+    let quiet : ServedLine → ℕ = λ own. quiet_on own.id c.args.hub.now in
+    let own = line_there
+    (λ (post : Post g.row.N-Listener.Denot g.row.N-Connection.Denot). served_line g.N.Network.address_of post)
+    c.self.inside.posts.items c.args.self.now.lines c.args.place c.in-Some.post.now line
+    (ap (λ (seen : Watched). seen.lines) c.self.view_is)
+    (subst Within c.self.inside.posts.ok.0 (c.in-Some.ensures.variant.0 refl)) c.in-Some.ensures.value found in
+    c.apply_session.ensures.quiet (subst IsThere own there) ∙ ap quiet (sym own)
+
+-- no line is where no post is
+pub returns-in_default-clause-quiet : goal.returns-in_default-clause-quiet
+returns-in_default-clause-quiet g c = λ line found there.
+    let Within : ℕ → Type 0 = λ many. c.args.place < many in
+    let within = post_there
+    (λ (post : Post g.row.N-Listener.Denot g.row.N-Connection.Denot). served_line g.N.Network.address_of post)
+    c.self.inside.posts.items c.args.self.now.lines c.args.place line
+    (ap (λ (seen : Watched). seen.lines) c.self.view_is) found in
+    absurd (false≢true (c.in_default.ensures.variant.1 (subst Within (sym c.self.inside.posts.ok.0) within)))

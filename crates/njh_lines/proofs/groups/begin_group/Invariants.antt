@@ -1,0 +1,15 @@
+use Rattle.std.specs.Prelude.{◌≡◌, ◌≤◌}
+use Rattle.njh_turns.specs.Service.{AreStill}
+use Rattle.njh_wire.specs.Tally.{IsTallied}
+use Rattle.njh_lines.specs.Watching.{HaveBegun}
+use Rattle.njh_lines.proofs.groups.begin_group.Given as goal
+
+-- nothing passed on a wire, none failed less often, the lines are the same, and those so far have begun
+abbrev pub invariant-loop-place : goal.invariant-loop-place
+invariant-loop-place g l = record {
+  still : AreStill IsTallied (λ wire. wire.failures) l.fn.wires l.wires;
+  lines : l.exchange.lines ≡ l.fn.exchange.lines;
+  now : l.exchange.now ≡ l.fn.exchange.now;
+  begun : HaveBegun l.fn.exchange.now l.initial.place l.place l.fn.exchange.ready l.exchange.ready l.fn.exchange.watches l.exchange.watches;
+  before : l.place ≤ l.end;
+}

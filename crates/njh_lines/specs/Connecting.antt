@@ -1,0 +1,67 @@
+-- When a line takes a connection, and when it is looked for one again.
+use Rattle.std.specs.Prelude.{◌≡◌, ℕ, ◌⊎◌, ◌+◌, ◌-◌, ◌<◌, [], Bool, true, false, nat_le, min, if◌then◌else◌, IsSome, IsTrue}
+use Rattle.njh_hub.specs.declared.session_view.SessionView.{SessionView}
+use Rattle.njh_wire.specs.Readings.{IsOpen}
+use Rattle.njh_wire.specs.Standing.{Standing}
+use Rattle.njh_sites.specs.Admitting.{kept_until}
+use Rattle.njh_sight.specs.Sessions.{is_up, no_session_since}
+use Rattle.njh_sight.specs.declared.label.Label.{Label}
+use Rattle.njh_wire.specs.declared.end.ConnectionEnd.{ConnectionEnd}
+use Rattle.njh_wire.specs.declared.end.ConnectionEnd.TheVariants as ends
+use Rattle.njh_log.specs.declared.entry.ConnectionFailure.TheVariants as failures
+use Rattle.njh_log.specs.declared.entry.LogEvent.{LogEvent}
+use Rattle.njh_log.specs.declared.entry.LogEvent.TheVariants as events
+
+-- ---- who is taken
+
+-- somebody is connected, or takes the place of one who is gone
+abbrev pub IsConnected : {C : Type 0} → Standing C → Type 0
+IsConnected wire = IsSome wire.connection ⊎ IsSome wire.next
+
+-- a line was in a session, and still has its connection: this ends if that session gave up
+abbrev pub IsInSession : {C : Type 0} → (in_session : Bool) → Standing C → Type 0
+IsInSession in_session wire = IsTrue in_session × IsConnected wire
+
+-- the hub is still to hear of something on a wire: something may be there to read, or an end is to be told
+abbrev pub IsReady : {C : Type 0} → Standing C → Type 0
+IsReady wire = (wire.waiting ≡ []) × (IsSome wire.parting ⊎ IsOpen wire)
+
+-- for how long nothing came
+abbrev pub silence_of : {C : Type 0} → Standing C → ℕ
+silence_of wire = wire.clock - wire.heard
+
+-- A connection keeps its line while its session is up, and for ten seconds without one: since it came, or since its
+-- session ended. What comes on it meanwhile is nothing to that.
+abbrev pub KeepsLine : {C : Type 0} → Standing C → Label → (now : ℕ) → Type 0
+KeepsLine wire label now = IsConnected wire × (IsTrue label.up ⊎ (now - label.no_session_since < 10000))
+
+-- A line on which a sign-on was refused takes no connection for a second.
+abbrev pub IsBarred : Label → (now : ℕ) → Type 0
+IsBarred label now = now < label.barred_until
+
+-- when it is looked at once its session was seen: as before, but ten seconds after this ended if that comes first
+abbrev pub moment_behind : (was_up is_up : Bool) → (since moment : ℕ) → ℕ
+moment_behind false is_up since moment = moment
+moment_behind true is_up since moment = min moment (kept_until is_up since)
+
+-- when its listener is looked at once its session was seen so
+abbrev pub moment_seen : Label → SessionView → (now moment : ℕ) → ℕ
+moment_seen label session now moment =
+    let since = no_session_since label.no_session_since label.up (is_up session.phase) now in
+    moment_behind label.up (is_up session.phase) since moment
+
+-- ---- what is told
+
+-- a new connection is told, unless one was told in the second before
+abbrev pub told_connected : Label → (now : ℕ) → Label
+told_connected label now = if nat_le label.again now
+    then record label { connected = true; again = min (now + 1000) 18446744073709551615 }
+    else record label { connected = false }
+
+-- its end, which came early if the peer ended it while a session was on its way up
+abbrev pub end_event : (is_early : Bool) → ConnectionEnd → LogEvent
+end_event is_early ends.Ended = if is_early then events.ClosedEarly else events.Closed
+end_event is_early ends.Closed = events.Closed
+end_event is_early ends.Failed = events.Failed failures.Broken
+end_event is_early ends.Stalled = events.Failed failures.Stalled
+end_event is_early ends.Replaced = events.Failed failures.Replaced

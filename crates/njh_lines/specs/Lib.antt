@@ -1,0 +1,5 @@
+pub mod Attention
+pub mod Connecting
+pub mod LineStates
+pub mod Watching
+pub mod Wrong

@@ -1,0 +1,35 @@
+-- What is wrong now with a line, as the log tells it: the first of these that is so. It isn't started; its port can't
+-- be listened on, or its last dial failed; no session is up, and the last sign-on on it was refused, or its connection
+-- is without a session for ten seconds.
+use Rattle.std.specs.Prelude.{ℕ, Bool, if◌then◌else◌, Option, Some, None}
+use Rattle.njh_request.specs.declared.request.LineState.{LineState}
+use Rattle.njh_request.specs.declared.request.LineState.TheVariants.{Started, Draining, Stopped}
+use Rattle.njh_hub.specs.declared.session_view.SessionView.{SessionView}
+use Rattle.njh_sight.specs.Awaiting.{wrong_session}
+use Rattle.njh_sites.specs.declared.dial.Dial.{Dial}
+use Rattle.njh_sites.specs.declared.door.Door.{Door}
+use Rattle.njh_sites.specs.declared.door.Door.TheVariants.{Open, Shut}
+use Rattle.njh_log.specs.declared.entry.LogEvent.{LogEvent}
+use Rattle.njh_log.specs.declared.entry.LogEvent.TheVariants as events
+use Rattle.njh_lines.specs.declared.post.Post.{Post}
+use Rattle.njh_sites.specs.declared.site.Site.{Site}
+use Rattle.njh_sites.specs.declared.site.Site.TheVariants.{Listens, Dials}
+
+abbrev pub wrong_state : LineState → Option LogEvent
+wrong_state Started = None
+wrong_state Draining = Some events.LineDrains
+wrong_state Stopped = Some events.LineStopped
+
+abbrev pub wrong_site : {L C : Type 0} → Site (Door L) (Dial C) → Option LogEvent
+wrong_site (Listens (Open listener)) = None
+wrong_site (Listens (Shut address cause again)) = Some (events.ListenFailed address cause)
+wrong_site (Dials dial) = if dial.has_failed then Some (events.DialFailed dial.address) else None
+
+-- the first, or else the other
+abbrev pub first_wrong : Option LogEvent → Option LogEvent → Option LogEvent
+first_wrong (Some event) other = Some event
+first_wrong None other = other
+
+abbrev pub wrong_on : {L C : Type 0} → Post L C → SessionView → (is_connected : Bool) → (now : ℕ) → Option LogEvent
+wrong_on post session is_connected now = first_wrong (wrong_state post.state)
+    (first_wrong (wrong_site post.site) (wrong_session post.label session is_connected now))

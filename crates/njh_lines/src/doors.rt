@@ -1,0 +1,63 @@
+//! What is done with the door of a line that has a port.
+
+ghost use Rattle.std.specs.Prelude.{◌≡◌, ◌≢◌, ◌≤◌, None, IsSome};
+ghost use Rattle.njh_wire.specs.Tally.{tally};
+ghost use Rattle.njh_log.specs.Logging.{IsLogged};
+ghost use Rattle.njh_sites.specs.Doors.{cause_in, door_address, to_try, IsLookedAtAgain, IsTried};
+
+use crate::connecting::admit;
+use crate::surroundings::Surroundings;
+use njh_sight::Label;
+use njh_sites::{Door, try_again};
+use njh_wire::{LineWire, Network};
+use std::io::Write;
+
+/// Tries the port of a line again if nothing listens there and the time for that came, and
+/// takes a connection that waits if something does. Answers when the door is to be looked at
+/// again.
+pub(crate) fn keep_door<N: Network + Drop, L: Write + Drop>(
+    surroundings: &mut Surroundings<N, L>,
+    place: usize,
+    door: &mut Door<N::Listener>,
+    label: &mut Label,
+    wire: &mut LineWire<N::Connection>,
+) -> u64
+    ensures counts { wire.old.failures ≤ wire.new.failures }
+    ensures tally { tally wire.new ≡ tally wire.old }
+    ensures clock { wire.new.clock ≡ wire.old.clock }
+    ensures now { surroundings.new.now ≡ surroundings.old.now }
+    ensures address { door_address N.address_of door.new ≡ door_address N.address_of door.old }
+    ensures tried { IsSome (to_try door.old surroundings.old.now) → IsTried surroundings.old.now door.new }
+    ensures shut { IsLookedAtAgain door.new result }
+    ensures waits { to_try door.old surroundings.old.now ≡ None → IsSome (cause_in door.old) →
+        (door.new ≡ door.old) × (wire.new ≡ wire.old) }
+{
+    try_door(surroundings, place, door, label);
+    match door {
+        Door::Open(listener) => admit(surroundings, listener, label, wire),
+        Door::Shut { again, .. } => *again,
+    }
+}
+
+/// Tries the port of a line again if the time for that came, and tells what became of it, unless it
+/// is as before.
+pub(crate) fn try_door<N: Network + Drop, L: Write + Drop>(
+    surroundings: &mut Surroundings<N, L>,
+    place: usize,
+    door: &mut Door<N::Listener>,
+    label: &Label,
+)
+    ensures address { door_address N.address_of door.new ≡ door_address N.address_of door.old }
+    ensures tried { IsSome (to_try door.old surroundings.old.now) → IsTried surroundings.old.now door.new }
+    ensures waits { to_try door.old surroundings.old.now ≡ None → door.new ≡ door.old }
+    ensures now { surroundings.new.now ≡ surroundings.old.now }
+    ensures logged { cause_in door.new ≢ cause_in door.old → IsSome surroundings.old.log.writer →
+        IsLogged L.contents surroundings.old.log surroundings.new.log }
+    ensures silent { cause_in door.new ≡ cause_in door.old → surroundings.new.log ≡ surroundings.old.log }
+{
+    let now = surroundings.now;
+    match try_again(&mut surroundings.network, place, now, door) {
+        Some(event) => surroundings.tell(label, event),
+        None => {}
+    }
+}

@@ -1,0 +1,472 @@
+//! What is done with the lines of a service between their turns.
+
+ghost use Rattle.std.specs.Prelude.{◌≡◌, ◌≢◌, ℕ, ◌+◌, ◌*◌, ◌<◌, ◌≤◌, ◌↔◌, ◌∷◌, ◌++◌, [], length, map, min, false};
+ghost use Rattle.std.specs.Prelude.{slice_get, IfOk, IsTrue, OnErr, OnOk, Some};
+ghost use Rattle.njh_turns.specs.Service.{AreStill};
+ghost use Rattle.njh_hub.specs.Quiets.{quiet_on};
+ghost use Rattle.njh_hub.specs.Views.{HasGivenUp, hub_line, line_view};
+ghost use Rattle.njh_hub.specs.WholeHub.{HasLine};
+ghost use Rattle.njh_wire.specs.Tally.{tally, IsTallied};
+ghost use Rattle.njh_request.specs.declared.request.LineState.TheVariants.{Started, Stopped};
+ghost use Rattle.njh_arrivals.specs.Arrivals.{none_seen};
+ghost use Rattle.njh_sites.specs.Opened.{site_on, site_opened, IsApart};
+ghost use Rattle.njh_sight.specs.Sessions.{HasRefusedMore};
+ghost use Rattle.njh_sight.specs.Steps.{steps_after};
+ghost use Rattle.njh_sight.specs.declared.steps.Steps.{Steps};
+ghost use Rattle.njh_lines.specs.Attention.{at_once, mark_at, watch_at, IsDue, IsInGroup};
+ghost use Rattle.njh_lines.specs.Connecting.{IsConnected};
+ghost use Rattle.njh_lines.specs.LineStates.{line_settled, line_wished, AreFree, AreMade, NoneDrains};
+ghost use Rattle.njh_lines.specs.Watching.{served_line, HasBegun, HasNoted, HaveBegun, IsRoundBegun, IsToBePrompted};
+ghost use Rattle.njh_lines.specs.Watching.{ServedLine};
+ghost use Rattle.njh_lines.specs.declared.attention.Watch.{Watch};
+
+use crate::attention::{AT_ONCE, NOTHING, Watch, add_to_groups, call_group, wait_of};
+use crate::groups::{begin_groups, end_group};
+use crate::line_state::is_draining;
+use crate::post::Post;
+use crate::sessions::follow;
+use crate::states::{settle_at, wish_at};
+use crate::surroundings::Surroundings;
+use crate::telling::{note_kept, tell_order};
+use crate::visiting::{apply_session, begin};
+use crate::waking::wake;
+use njh_arrivals::Arrivals;
+use njh_command::Replies;
+use njh_hub::{Hub, HubFault};
+use njh_log::{Log, LogEvent, Place, Severity};
+use njh_request::LineWish;
+use njh_sight::{Customers, Label, LineNames, is_free};
+use njh_sites::{Door, Endpoint, ListenFault, Listening, Site, open};
+use njh_table::{LineId, Tables};
+use njh_turns::{Depot, NewOrder};
+use njh_wire::{LineWire, Network, Readiness};
+use std::alloc::{AllocError, Global};
+use std::fmt;
+use std::io::Write;
+use std::marker::Model;
+use std::net::SocketAddr;
+
+/// What is done between the turns of a service's lines: it waits for the network, accepts, dials,
+/// ends connections, lets out what waits, and writes the log.
+#[derive(Drop)]
+pub struct Exchange<N: Network + Drop, L: Write + Drop> {
+    pub(crate) surroundings: Surroundings<N, L>,
+    pub(crate) posts: Vec<Post<N::Listener, N::Connection>>,
+    pub(crate) ready: Vec<Readiness>,
+    pub(crate) watches: Vec<Watch>,
+    /// When a line of each group wants to be looked at first.
+    pub(crate) groups: Vec<Watch>,
+    /// When the first line wants to be looked at next.
+    pub(crate) next: u64,
+    /// When files came.
+    arrivals: Arrivals,
+}
+
+impl<N: Network + Drop, L: Write + Drop> Model for Exchange<N, L> {
+    ghost use Rattle.std.specs.Prelude.{length, map};
+    ghost use Rattle.njh_lines.specs.Watching.{served_line, AreGrouped, Watched};
+
+    ghost Value = { Watched };
+
+    ghost view = { λ exchange. record {
+      lines = map (served_line N.address_of) exchange.posts.items;
+      noted = map (λ post. post.traffic) exchange.posts.items;
+      steps = map (λ post. post.steps) exchange.posts.items;
+      refusals = map (λ post. post.label.refusals) exchange.posts.items;
+      ready = exchange.ready.items;
+      watches = exchange.watches.items;
+      next = exchange.next;
+      now = exchange.surroundings.now;
+      arrivals = exchange.arrivals;
+    } };
+
+    ghost invariant = { λ exchange. AreGrouped (length exchange.posts.items) exchange.ready.items exchange.watches.items
+        exchange.groups.items exchange.next };
+}
+
+impl<N: Network + Drop, L: Write + Drop> Exchange<N, L> {
+    /// One on this network and with this log, which serves no line yet.
+    pub fn new(alloc: Global, network: N, log: Log<L>) -> Exchange<N, L>
+        ensures { result.lines ≡ [] }
+    {
+        Exchange {
+            surroundings: Surroundings {
+                network,
+                log,
+                now: 0,
+                customers: Customers::none(),
+                commands: 0,
+            },
+            posts: Vec::new(alloc),
+            ready: Vec::new(alloc),
+            watches: Vec::new(alloc),
+            groups: Vec::new(alloc),
+            next: 0,
+            arrivals: Arrivals::empty(alloc),
+        }
+    }
+
+    /// Its log, where it attends no more.
+    pub fn into_log(self) -> Log<L> {
+        let Exchange {
+            surroundings,
+            posts,
+            ready,
+            watches,
+            groups,
+            arrivals,
+            ..
+        } = self;
+        drop(posts);
+        drop(ready);
+        drop(watches);
+        drop(groups);
+        drop(arrivals);
+        surroundings.into_log()
+    }
+
+    /// The lines that are served.
+    pub fn posts(&self) -> &[Post<N::Listener, N::Connection>]
+        ensures lines { map (served_line N.address_of) result.now ≡ self.now.lines }
+        ensures steps { map (λ post. post.steps) result.now ≡ self.now.steps }
+    {
+        &self.posts
+    }
+
+    /// When files came.
+    pub fn arrivals(&self) -> &Arrivals
+        ensures { result.now ≡ self.now.arrivals }
+    {
+        &self.arrivals
+    }
+
+    /// The time on the service's clock, as the last round began.
+    pub fn now(&self) -> u64
+        ensures { result ≡ self.now.now }
+    {
+        self.surroundings.now
+    }
+
+    /// Milliseconds since the beginning of 1970.
+    pub fn utc(&mut self) -> i64
+        ensures { self.new ≡ self.old }
+    {
+        self.surroundings.network.utc()
+    }
+
+    /// A visitor of the console that waits to be let in.
+    pub fn visitor(&mut self) -> Option<N::Visitor>
+        ensures { self.new ≡ self.old }
+    {
+        self.surroundings.network.visitor()
+    }
+
+    /// Opens the sockets of lines, as `njh_sites::open` does.
+    pub fn open(
+        &mut self,
+        alloc: Global,
+        listening: Listening,
+        endpoints: &[Endpoint],
+    ) -> Result<Vec<Site<Door<N::Listener>, SocketAddr>>, ListenFault>
+        ensures same { self.new ≡ self.old }
+        ensures opened { IfOk result (λ sites. map (site_opened N.address_of) sites.items
+            ≡ map (λ endpoint. site_on listening.address endpoint.site) endpoints.now) }
+        ensures apart { OnOk result (IsApart endpoints.now) }
+    {
+        let now = self.surroundings.network.now();
+        open(
+            alloc,
+            &mut self.surroundings.network,
+            listening,
+            now,
+            endpoints,
+        )
+    }
+
+    /// Tells what happened somewhere.
+    pub fn tell(&mut self, place: Place, event: LogEvent)
+        ensures { self.new ≡ self.old }
+    {
+        self.surroundings.tell_at(place, event);
+    }
+
+    /// Writes a line of the log, with the time.
+    pub fn write<T: fmt::Display>(&mut self, severity: Severity, place: Place, text: &T)
+        ensures { self.new ≡ self.old }
+    {
+        self.surroundings.write(severity, place, text);
+    }
+
+    /// How many lines of the log were dropped, of which no line told yet.
+    pub fn dropped(&self) -> u64 {
+        self.surroundings.log.dropped()
+    }
+
+    /// What is kept of each customer.
+    pub fn customers(&self) -> &Customers {
+        &self.surroundings.customers
+    }
+
+    /// Something came, or didn't, that may give the lines of this customer something to send.
+    pub fn mark_if(&mut self, customer: u16, has_come: bool)
+        ensures { self.new ≡ self.old }
+    {
+        self.surroundings.customers.mark_if(customer, has_come);
+    }
+
+    /// Knows the customers of tables by their names, which the log has, and of none of them when a
+    /// file came. Out of memory is the only refusal.
+    pub fn know_customers(&mut self, alloc: Global, tables: &Tables) -> Result<(), AllocError>
+        ensures lines { self.new.lines ≡ self.old.lines }
+        ensures none { OnOk result (self.new.arrivals ≡ none_seen (length tables.now.customers)) }
+    {
+        self.surroundings.customers.know(tables);
+        self.arrivals = Arrivals::none(alloc, tables.customers().len())?;
+        Ok(())
+    }
+
+    /// Counts the files of each customer, so that those which are there haven't come since.
+    pub fn count_files(&mut self, hub: &Hub)
+        ensures { self.new ≡ self.old }
+    {
+        self.surroundings.customers.count_all(hub);
+    }
+
+    /// Knows of each file that a depot opened a hub with when it came, as far as the depot does.
+    pub fn know_arrivals<D: Depot>(&mut self, depot: &D, hub: &Hub)
+        ensures { self.new ≡ record self.old { arrivals = self.new.arrivals } }
+    {
+        note_kept(&mut self.arrivals, depot, hub);
+    }
+
+    /// Tells what came of an order. By it the lines of the customer may have something to send.
+    pub fn note_order(&mut self, new: &NewOrder, answer: Result<(), HubFault>, replies: &Replies)
+        ensures { self.new ≡ self.old }
+    {
+        self.surroundings
+            .customers
+            .mark_if(new.customer, answer.is_ok());
+        tell_order(&mut self.surroundings, new, answer, replies);
+    }
+
+    /// Serves a further line. Out of memory is the only refusal.
+    pub fn add(
+        &mut self,
+        id: LineId,
+        names: &LineNames<'_>,
+        site: Site<Door<N::Listener>, SocketAddr>,
+    ) -> Result<(), AllocError>
+        ensures added { OnOk result (self.new.lines
+            ≡ self.old.lines ++ record { id = id; site = site_opened N.address_of site; state = Started } ∷ []) }
+        ensures watched { OnOk result (self.new.watches ≡ self.old.watches ++ at_once ∷ []) }
+        ensures err { OnErr result (self.new ≡ self.old) }
+    {
+        let label = Label::of(names);
+        self.surroundings
+            .customers
+            .add(id.customer, self.posts.len());
+        self.posts.reserve(1)?;
+        self.ready.reserve(1)?;
+        self.watches.reserve(1)?;
+        add_to_groups(&mut self.groups, self.posts.len())?;
+        self.ready.push_reserved(NOTHING);
+        self.watches.push_reserved(AT_ONCE);
+        self.posts.push_reserved(Post::new(id, label, site));
+        self.next = 0;
+        Ok(())
+    }
+
+    /// The operator wants the line of this id to be served so.
+    pub fn wish(&mut self, id: LineId, wish: LineWish)
+        ensures { AreMade (line_wished id wish) self.old.lines self.new.lines }
+    {
+        for place in 0..self.posts.len() {
+            wish_at(self, place, id, wish);
+        }
+    }
+
+    /// Lines that are to be stopped once no file is on their streams are stopped if none is.
+    /// Answers whether one is still to be.
+    pub fn settle(&mut self, hub: &Hub) -> bool
+        ensures settled { AreMade (line_settled hub.now) self.old.lines self.new.lines }
+        ensures drains { result ≡ false → NoneDrains self.new.lines }
+    {
+        let mut drains = false;
+        for place in 0..self.posts.len() {
+            let state = settle_at(self, place, hub);
+            drains = drains | is_draining(state);
+        }
+        drains
+    }
+
+    /// Whether no file is on the streams of any line.
+    pub fn are_free(&self, hub: &Hub) -> bool
+        ensures { IsTrue result ↔ AreFree hub.now self.now.lines }
+    {
+        for place in 0..self.posts.len() {
+            if !is_free(self.posts[place].line, hub) {
+                return false;
+            }
+        }
+        true
+    }
+
+    /// Waits until a line is ready or due, until this moment at most, and looks at each that is.
+    pub fn begin_round(&mut self, until: u64, wires: &mut [LineWire<N::Connection>])
+        ensures still { AreStill IsTallied (λ wire. wire.failures) wires.old wires.new }
+        ensures lines { self.new.lines ≡ self.old.lines }
+        ensures begun { IsRoundBegun (min (length self.old.lines) (length wires.old)) self.old self.new }
+    {
+        self.wait(until);
+        begin_groups(self, wires);
+    }
+
+    /// Waits until something of a line is ready, or one wants to be looked at, until this moment at
+    /// most.
+    fn wait(&mut self, until: u64)
+        ensures lines { self.new.lines ≡ self.old.lines }
+        ensures watches { self.new.watches ≡ self.old.watches }
+    {
+        self.surroundings.now = self.surroundings.network.now();
+        let wait = wait_of(self.surroundings.now, self.next.min(until));
+        wait_on(&mut self.surroundings.network, wait, &mut self.ready);
+        self.surroundings.now = self.surroundings.network.now();
+    }
+
+    /// Looks at a line if something is ready or its moment came, and sets its wire's clock then.
+    pub(crate) fn begin(&mut self, place: usize, wire: &mut LineWire<N::Connection>)
+        ensures counts { wire.old.failures ≤ wire.new.failures }
+        ensures tally { tally wire.new ≡ tally wire.old }
+        ensures lines { self.new.lines ≡ self.old.lines }
+        ensures now { self.new.now ≡ self.old.now }
+        ensures begun { HaveBegun self.old.now place (place + 1) self.old.ready self.new.ready self.old.watches
+            self.new.watches }
+        ensures stopped { (line : ServedLine) → slice_get self.old.lines place ≡ Some line → line.state ≡ Stopped →
+            IsDue (mark_at self.old.ready place) (watch_at self.old.watches place).moment self.old.now →
+            ¬ IsConnected wire.new }
+    {
+        if self.posts.len() <= place {
+            return;
+        }
+        let post = &mut self.posts[place];
+        let ready = &mut self.ready[place];
+        let watch = &mut self.watches[place];
+        begin(&mut self.surroundings, place, post, ready, watch, wire);
+    }
+
+    /// Whether a line is looked at in this round.
+    pub fn is_due(&self, place: usize) -> bool
+        ensures { IsTrue result ↔ IsTrue (watch_at self.now.watches place).is_due }
+    {
+        match self.watches.get(place) {
+            Some(watch) => watch.is_due,
+            None => true,
+        }
+    }
+
+    /// Whether the line at this place, if it rests, is prompted in this round.
+    pub fn prompts(&self, place: usize, hub: &Hub) -> bool
+        ensures { IsTrue result ↔ IsToBePrompted self.now place hub.now }
+    {
+        let Some(post) = self.posts.get(place) else {
+            return true;
+        };
+        post.traffic.prompts(hub, post.line, self.surroundings.now)
+    }
+
+    /// Notes what a step on the line at this place left, which sent this frame.
+    pub fn follow(&mut self, place: usize, hub: &Hub, frame: &[u8])
+        ensures lines { self.new.lines ≡ self.old.lines }
+        ensures watches { self.new.watches ≡ self.old.watches }
+        ensures noted { HasNoted self.new place hub.now frame.now }
+        ensures counted { (line : ServedLine) → (was now : Steps) → slice_get self.old.lines place ≡ Some line →
+            slice_get self.old.steps place ≡ Some was → slice_get self.new.steps place ≡ Some now →
+            HasLine hub.now line.id →
+            now ≡ steps_after was (line_view (hub_line line.id hub.now).state) frame.now }
+    {
+        let Some(post) = self.posts.get_mut(place) else {
+            return;
+        };
+        follow(&mut self.surroundings, post, hub, frame, &mut self.arrivals);
+    }
+
+    /// Of each line that was looked at, which are all that had a turn, lets out what waits, ends a
+    /// connection whose session gave up, and tells what changed. Then has those lines looked at in
+    /// the next round to which others of their customers gave something to send.
+    pub fn end_round(&mut self, hub: &Hub, wires: &mut [LineWire<N::Connection>])
+        ensures still { AreStill IsTallied (λ wire. wire.failures) wires.old wires.new }
+        ensures lines { self.new.lines ≡ self.old.lines }
+        ensures waits { (place : ℕ) → place < length self.new.lines →
+            self.new.next ≤ (watch_at self.new.watches place).moment }
+    {
+        let mut next = u64::MAX;
+        for group in 0..self.groups.len() {
+            let moment = end_group(self, group, hub, wires);
+            next = next.min(moment);
+        }
+        self.next = next;
+        wake(self, hub);
+    }
+
+    /// Lets out what waits on a line that was looked at, and does what its session asks for.
+    pub(crate) fn end(&mut self, place: usize, hub: &Hub, wire: &mut LineWire<N::Connection>)
+        ensures counts { wire.old.failures ≤ wire.new.failures }
+        ensures tally { tally wire.new ≡ tally wire.old }
+        ensures lines { self.new.lines ≡ self.old.lines }
+        ensures others { (other : ℕ) → other ≢ place →
+            watch_at self.new.watches other ≡ watch_at self.old.watches other }
+    {
+        if !self.is_due(place) {
+            return;
+        }
+        if wire.waits_to_send() {
+            wire.flush();
+        }
+        let moment = self.apply_session(place, hub, wire);
+        self.rest(place, moment);
+    }
+
+    /// A line that was looked at is looked at next at this moment, and its group then or before.
+    fn rest(&mut self, place: usize, moment: u64)
+        ensures lines { self.new.lines ≡ self.old.lines }
+        ensures rests { place < length self.old.lines →
+            watch_at self.new.watches place ≡ record { moment = moment; is_due = false } }
+        ensures others { (other : ℕ) → other ≢ place →
+            watch_at self.new.watches other ≡ watch_at self.old.watches other }
+    {
+        if self.watches.len() <= place {
+            return;
+        }
+        self.watches[place] = Watch::until(moment);
+        call_group(&mut self.groups, place, moment);
+        self.next = self.next.min(moment);
+    }
+
+    /// Does what a line's session asks for: its connection stays, unless its own session gave up or
+    /// refused a sign-on, and its next quiet lasts as long as its own session says. Answers when it
+    /// wants to be looked at.
+    fn apply_session(&mut self, place: usize, hub: &Hub, wire: &mut LineWire<N::Connection>) -> u64
+        ensures counts { wire.old.failures ≤ wire.new.failures }
+        ensures tally { tally wire.new ≡ tally wire.old }
+        ensures lines { self.new.lines ≡ self.old.lines }
+        ensures watches { self.new.watches ≡ self.old.watches }
+        ensures kept { (line : ServedLine) → (seen : ℕ) → slice_get self.old.lines place ≡ Some line →
+            slice_get self.old.refusals place ≡ Some seen → HasLine hub.now line.id → ¬ HasGivenUp hub.now line.id →
+            ¬ HasRefusedMore seen (line_view (hub_line line.id hub.now).state) →
+            wire.new.connection ≡ wire.old.connection }
+        ensures quiet { (line : ServedLine) → slice_get self.old.lines place ≡ Some line → HasLine hub.now line.id →
+            wire.new.quiet ≡ quiet_on line.id hub.now }
+    {
+        let Some(post) = self.posts.get_mut(place) else {
+            return u64::MAX;
+        };
+        apply_session(&mut self.surroundings, post, hub, wire)
+    }
+}
+
+/// Waits so many milliseconds at most, and marks what is ready of each line.
+fn wait_on<N: Network>(network: &mut N, milliseconds: u64, ready: &mut Vec<Readiness>)
+    ensures { length ready.new.items ≡ length ready.old.items }
+{
+    let _waited = network.wait(milliseconds, ready).is_ok();
+}

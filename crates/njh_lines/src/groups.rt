@@ -1,0 +1,127 @@
+//! Groups of lines: one in which nothing is ready or due costs a round one look.
+
+ghost use Rattle.std.specs.Prelude.{◌≡◌, ℕ, ◌+◌, ◌*◌, ◌<◌, ◌≤◌, ◌↔◌, length, min, IsTrue};
+ghost use Rattle.njh_turns.specs.Service.{AreStill};
+ghost use Rattle.njh_wire.specs.Tally.{IsTallied};
+ghost use Rattle.njh_lines.specs.Attention.{mark_at, watch_at, IsAnyMarked, IsInGroup};
+ghost use Rattle.njh_lines.specs.Watching.{HasBegun, HaveBegun};
+
+use crate::attention::{AT_ONCE, Watch, first_moment, is_any_marked, places_of};
+use crate::exchange::Exchange;
+use njh_hub::Hub;
+use njh_wire::{LineWire, Network};
+use std::io::Write;
+
+/// Looks at each line of which something is ready, or whose moment came.
+pub(crate) fn begin_groups<N: Network + Drop, L: Write + Drop>(
+    exchange: &mut Exchange<N, L>,
+    wires: &mut [LineWire<N::Connection>],
+)
+    ensures still { AreStill IsTallied (λ wire. wire.failures) wires.old wires.new }
+    ensures lines { exchange.new.lines ≡ exchange.old.lines }
+    ensures now { exchange.new.now ≡ exchange.old.now }
+    ensures begun { (place : ℕ) → place < min (length exchange.old.lines) (length wires.old) →
+        HasBegun exchange.old.now (mark_at exchange.old.ready place) (mark_at exchange.new.ready place)
+        (watch_at exchange.old.watches place) (watch_at exchange.new.watches place) }
+{
+    for group in 0..exchange.groups.len() {
+        begin_group(exchange, group, wires);
+    }
+}
+
+/// Looks at the lines of a group, if something of one is ready or the moment of one came.
+fn begin_group<N: Network + Drop, L: Write + Drop>(
+    exchange: &mut Exchange<N, L>,
+    group: usize,
+    wires: &mut [LineWire<N::Connection>],
+)
+    ensures still { AreStill IsTallied (λ wire. wire.failures) wires.old wires.new }
+    ensures lines { exchange.new.lines ≡ exchange.old.lines }
+    ensures now { exchange.new.now ≡ exchange.old.now }
+    ensures begun { HaveBegun exchange.old.now (min (16 * group) (length wires.old))
+        (min (16 * group + 16) (length wires.old)) exchange.old.ready exchange.new.ready exchange.old.watches
+        exchange.new.watches }
+{
+    if !wakes(exchange, group) {
+        return;
+    }
+    let (first, end) = places_of(group, wires.len());
+    for place in first..end {
+        exchange.begin(place, &mut wires[place]);
+    }
+}
+
+/// Ends a group's round, if one of its lines was looked at. Answers when one wants to be next.
+pub(crate) fn end_group<N: Network + Drop, L: Write + Drop>(
+    exchange: &mut Exchange<N, L>,
+    group: usize,
+    hub: &Hub,
+    wires: &mut [LineWire<N::Connection>],
+) -> u64
+    ensures still { AreStill IsTallied (λ wire. wire.failures) wires.old wires.new }
+    ensures lines { exchange.new.lines ≡ exchange.old.lines }
+    ensures first { (place : ℕ) → IsInGroup place group → place < length exchange.new.lines →
+        result ≤ (watch_at exchange.new.watches place).moment }
+    ensures others { (place : ℕ) → ¬ IsInGroup place group →
+        watch_at exchange.new.watches place ≡ watch_at exchange.old.watches place }
+{
+    let watch = watch_of(exchange, group);
+    if !watch.is_due {
+        return watch.moment;
+    }
+    let (first, end) = places_of(group, wires.len());
+    for place in first..end {
+        exchange.end(place, hub, &mut wires[place]);
+    }
+    rest_group(exchange, group)
+}
+
+/// Whether something of a group's lines is ready, or the moment of one came.
+fn wakes<N: Network + Drop, L: Write + Drop>(exchange: &mut Exchange<N, L>, group: usize) -> bool
+    ensures same { exchange.new ≡ exchange.old }
+    ensures idle { ¬ IsTrue result → (place : ℕ) → IsInGroup place group → HasBegun exchange.old.now
+        (mark_at exchange.old.ready place) (mark_at exchange.old.ready place) (watch_at exchange.old.watches place)
+        (watch_at exchange.old.watches place) }
+{
+    let is_ready = is_ready(exchange, group);
+    if exchange.groups.len() <= group {
+        return true;
+    }
+    exchange.groups[group].begin(is_ready, exchange.surroundings.now)
+}
+
+/// Whether something of a group's lines is ready.
+fn is_ready<N: Network + Drop, L: Write + Drop>(exchange: &Exchange<N, L>, group: usize) -> bool
+    ensures { IsTrue result ↔ IsAnyMarked exchange.now.ready (16 * group) (16 * group + 16) }
+{
+    let (first, end) = places_of(group, exchange.ready.len());
+    is_any_marked(&exchange.ready, first, end)
+}
+
+/// When a group is looked at.
+fn watch_of<N: Network + Drop, L: Write + Drop>(exchange: &Exchange<N, L>, group: usize) -> Watch
+    ensures first { (place : ℕ) → IsInGroup place group → place < length exchange.now.lines →
+        result.moment ≤ (watch_at exchange.now.watches place).moment }
+{
+    if exchange.groups.len() <= group {
+        return AT_ONCE;
+    }
+    exchange.groups[group]
+}
+
+/// A group is looked at next when the first of its lines wants to be. Answers when.
+fn rest_group<N: Network + Drop, L: Write + Drop>(
+    exchange: &mut Exchange<N, L>,
+    group: usize,
+) -> u64
+    ensures same { exchange.new ≡ exchange.old }
+    ensures first { (place : ℕ) → IsInGroup place group → place < length exchange.new.lines →
+        result ≤ (watch_at exchange.new.watches place).moment }
+{
+    let (first, end) = places_of(group, exchange.watches.len());
+    let moment = first_moment(&exchange.watches, first, end);
+    if group < exchange.groups.len() {
+        exchange.groups[group] = Watch::until(moment);
+    }
+    moment
+}

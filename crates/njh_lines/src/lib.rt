@@ -1,0 +1,22 @@
+//! A line is looked at no later than its moment; its site and its session decide its connection.
+#![tactic(auto)]
+
+mod attention;
+mod connecting;
+mod doors;
+mod exchange;
+mod groups;
+mod line_state;
+mod post;
+mod sessions;
+mod states;
+mod stopping;
+mod surroundings;
+mod telling;
+mod visiting;
+mod waking;
+mod wrong;
+
+pub use exchange::Exchange;
+pub use post::Post;
+pub use wrong::wrong_on;

@@ -1,0 +1,156 @@
+//! A line that is served, as the attendant sees it.
+
+ghost use Rattle.std.specs.Prelude.{◌≡◌};
+ghost use Rattle.std.specs.declared.net.socket_addr.SocketAddr.{SocketAddr};
+ghost use Rattle.njh_request.specs.declared.request.LineState.TheVariants.{Started};
+ghost use Rattle.njh_sites.specs.Dialling.{moment_of_loss};
+ghost use Rattle.njh_sites.specs.Opened.{site_kept, site_opened};
+ghost use Rattle.njh_sight.specs.Sessions.{after_session, after_step};
+ghost use Rattle.njh_lines.specs.Connecting.{moment_behind, moment_seen};
+ghost use Rattle.njh_lines.specs.LineStates.{change_event};
+
+use crate::line_state::change_event;
+use njh_hub::SessionView;
+use njh_log::{DownCause, LogEvent};
+use njh_request::LineState;
+use njh_sight::{Label, Steps, Streams, Traffic};
+use njh_sites::{Dial, Door, Site, kept_until};
+use njh_table::LineId;
+use std::net::SocketAddr;
+
+/// A line that is served.
+#[derive(Drop)]
+pub struct Post<Li: Drop, C: Drop> {
+    /// When its site is to be looked at, on the service's clock; `u64::MAX` if nobody waits there.
+    pub moment: u64,
+    /// Whether its wire had a connection, or an end to tell, when it was last looked at.
+    pub linked: bool,
+    /// Which line it is.
+    pub line: LineId,
+    /// How it is served.
+    pub state: LineState,
+    /// Its door, or its dials.
+    pub site: Site<Door<Li>, Dial<C>>,
+    /// What the log calls it, and what it told of it.
+    pub label: Label,
+    /// What its streams were about after the last step on it.
+    pub streams: Streams,
+    /// What was noted of it at that step, and counted.
+    pub steps: Steps,
+    /// What was noted of it as it was last looked at.
+    pub traffic: Traffic,
+}
+
+impl<Li: Drop, C: Drop> Post<Li, C> {
+    /// A line on which nothing happened yet.
+    pub(crate) fn new(id: LineId, label: Label, site: Site<Door<Li>, SocketAddr>) -> Post<Li, C>
+        ensures line { result.line ≡ id }
+        ensures state { result.state ≡ Started }
+        ensures site { (address_of : Li → SocketAddr)
+            → site_kept address_of result.site ≡ site_opened address_of site }
+    {
+        Post {
+            moment: 0,
+            linked: false,
+            line: id,
+            state: LineState::Started,
+            site: match site {
+                Site::Listens(door) => Site::Listens(door),
+                Site::Dials(address) => Site::Dials(Dial::new(address)),
+            },
+            label,
+            streams: Streams::idle(),
+            steps: Steps::none(),
+            traffic: Traffic::none(),
+        }
+    }
+
+    /// Its session was seen so; if it is down, it ended so. If it was up before, the site is looked
+    /// at ten seconds later, if not before: another connection may wait there.
+    pub(crate) fn see(&mut self, session: SessionView, end: DownCause, now: u64)
+        ensures { self.new ≡ record self.old {
+          label = after_session self.old.label session end now;
+          moment = moment_seen self.old.label session now self.old.moment;
+        } }
+    {
+        let was_up = self.label.up;
+        self.label.see(session, end, now);
+        self.wait(was_up);
+    }
+
+    /// A step left its session so; if it is down, it ended so. Its site is looked at as if it was
+    /// seen so.
+    pub(crate) fn follow(&mut self, session: SessionView, end: DownCause, now: u64)
+        ensures { self.new ≡ record self.old {
+          label = after_step self.old.label session end now;
+          moment = moment_seen self.old.label session now self.old.moment;
+        } }
+    {
+        let was_up = self.label.up;
+        self.label.follow(session, end, now);
+        self.wait(was_up);
+    }
+
+    /// If its session was up before, its site is looked at ten seconds after that ended, if not
+    /// before.
+    fn wait(&mut self, was_up: bool)
+        ensures { self.new ≡ record self.old {
+          moment =
+              moment_behind was_up self.old.label.up self.old.label.no_session_since self.old.moment;
+        } }
+    {
+        if was_up {
+            let until = kept_until(self.label.up, self.label.no_session_since);
+            self.moment = self.moment.min(until);
+        }
+    }
+
+    /// It is served so from now on. If it wasn't before, it is looked at at this moment, and what is
+    /// told of the change is answered.
+    pub(crate) fn set_state(&mut self, state: LineState, now: u64) -> Option<LogEvent>
+        ensures line { self.new.line ≡ self.old.line }
+        ensures site { (address_of : Li → SocketAddr)
+            → site_kept address_of self.new.site ≡ site_kept address_of self.old.site }
+        ensures state { self.new.state ≡ state }
+        ensures told { result ≡ change_event self.old.state state }
+    {
+        let event = change_event(self.state, state);
+        self.state = state;
+        if event.is_some() {
+            self.moment = now;
+            self.resume(now);
+        }
+        event
+    }
+
+    /// If it is dialled and may have a connection, and none is under way, the next dial comes now.
+    fn resume(&mut self, now: u64)
+        ensures line { self.new.line ≡ self.old.line }
+        ensures state { self.new.state ≡ self.old.state }
+        ensures site { (address_of : Li → SocketAddr)
+            → site_kept address_of self.new.site ≡ site_kept address_of self.old.site }
+    {
+        match &mut self.site {
+            Site::Listens(_) => {}
+            Site::Dials(dial) => dial.resume(now),
+        }
+    }
+
+    /// The line has no connection any more.
+    pub(crate) fn lose(&mut self, now: u64)
+        ensures line { self.new.line ≡ self.old.line }
+        ensures state { self.new.state ≡ self.old.state }
+        ensures site { (address_of : Li → SocketAddr)
+            → site_kept address_of self.new.site ≡ site_kept address_of self.old.site }
+        ensures moment { self.new.moment ≡ moment_of_loss self.old.site self.old.moment now }
+        ensures label { self.new.label ≡ self.old.label }
+    {
+        match &mut self.site {
+            Site::Listens(_) => self.moment = self.moment.min(now),
+            Site::Dials(dial) => {
+                dial.lose(now);
+                self.moment = dial.moment();
+            }
+        }
+    }
+}

@@ -1,0 +1,246 @@
+//! What the attendant sees of a line's session, and tells of it.
+
+ghost use Rattle.std.specs.Prelude.{◌≡◌, ◌≤◌, ◌↔◌, ◌⊎◌, None, IsSome, IfSome, IsTrue};
+ghost use Rattle.njh_hub.specs.Views.{HasGivenUp, hub_line, line_view};
+ghost use Rattle.njh_hub.specs.WholeHub.{HasLine};
+ghost use Rattle.njh_wire.specs.Standing.{after_close};
+ghost use Rattle.njh_wire.specs.Tally.{tally};
+ghost use Rattle.njh_log.specs.Logging.{IsLogged};
+ghost use Rattle.njh_sites.specs.Dialling.{moment_of_loss};
+ghost use Rattle.njh_sites.specs.Opened.{site_kept};
+ghost use Rattle.njh_sight.specs.Awaiting.{awaits_again, told_awaited};
+ghost use Rattle.njh_sight.specs.News.{after_telling, told_now, IsTold};
+ghost use Rattle.njh_sight.specs.Sessions.{after_step, barred_until, news_seen, session_end, tries_end, HasRefused};
+ghost use Rattle.njh_sight.specs.Steps.{steps_after};
+ghost use Rattle.njh_lines.specs.Connecting.{moment_seen, silence_of, IsConnected, IsInSession, IsReady};
+
+use crate::connecting::tell_end;
+use crate::post::Post;
+use crate::surroundings::Surroundings;
+use crate::telling::{tell_commands, tell_files};
+use njh_arrivals::Arrivals;
+use njh_hub::{Hub, SessionView};
+use njh_log::DownCause;
+use njh_sight::{
+    Label, awaited_event, awaits_again, refusal_event, session_end, session_of, tries_end,
+};
+use njh_table::LineId;
+use njh_wire::{Connection, ConnectionEnd, LineWire, Network};
+use std::io::Write;
+
+/// For how long a line takes no connection on which a sign-on was refused, in milliseconds.
+const BARRED: u64 = 1_000;
+
+/// Looks at a line on which something came.
+pub(crate) fn look<N: Network + Drop, L: Write + Drop>(
+    surroundings: &mut Surroundings<N, L>,
+    post: &mut Post<N::Listener, N::Connection>,
+    hub: &Hub,
+    wire: &mut LineWire<N::Connection>,
+)
+    ensures counts { wire.old.failures ≤ wire.new.failures }
+    ensures tally { tally wire.new ≡ tally wire.old }
+    ensures line { post.new.line ≡ post.old.line }
+    ensures site { site_kept N.address_of post.new.site ≡ site_kept N.address_of post.old.site }
+    ensures state { post.new.state ≡ post.old.state }
+    ensures moment { HasLine hub.now post.old.line →
+        let session = line_view (hub_line post.old.line hub.now).state in
+        let moment = moment_seen post.old.label session surroundings.old.now post.old.moment in
+        (post.new.moment ≡ moment) ⊎ (post.new.moment ≡ moment_of_loss post.old.site moment surroundings.old.now) }
+    ensures told { IsTold post.new.label.news surroundings.old.now }
+    ensures ends { HasLine hub.now post.old.line →
+        ¬ (IsInSession post.old.label.in_session wire.old × HasGivenUp hub.now post.old.line) →
+        let session = line_view (hub_line post.old.line hub.now).state in
+        post.new.label.news ≡ news_seen post.old.label session None surroundings.old.now }
+    ensures tries { HasLine hub.now post.old.line → IsInSession post.old.label.in_session wire.old →
+        HasGivenUp hub.now post.old.line →
+        let session = line_view (hub_line post.old.line hub.now).state in
+        let tries = tries_end post.old.label.tries_since (silence_of wire.old) surroundings.old.now wire.old.last_bytes in
+        post.new.label.news ≡ news_seen post.old.label session (Some tries) surroundings.old.now }
+    ensures kept { HasLine hub.now post.old.line → ¬ HasGivenUp hub.now post.old.line →
+        ¬ HasRefused post.old.label (line_view (hub_line post.old.line hub.now).state) →
+        wire.new.connection ≡ wire.old.connection }
+    ensures refused { HasLine hub.now post.old.line →
+        HasRefused post.old.label (line_view (hub_line post.old.line hub.now).state) → ¬ IsConnected wire.new }
+    ensures ended { IsInSession post.old.label.in_session wire.old → HasGivenUp hub.now post.old.line →
+        ¬ IsConnected wire.new }
+{
+    let now = surroundings.now;
+    let session = session_of(hub, post.line);
+    let gave_up = end_tries(surroundings, post.line, &post.label, hub, wire);
+    let is_refused = end_refused(surroundings, &mut post.label, &session, wire);
+    let end = heard_end(wire, gave_up.is_some() || is_refused);
+    let is_early = post.label.in_session && !post.label.up;
+    post.see(session, session_end(gave_up, session.last_end), now);
+    tell_sessions(surroundings, &mut post.label, now);
+    tell_awaited(surroundings, &mut post.label, &session, wire.is_connected());
+    if let Some(end) = end {
+        tell_end(surroundings, &mut post.label, end, is_early);
+        post.lose(now);
+    }
+}
+
+/// Notes what a step on a line left, which sent this frame: tells what became of its files and
+/// which commands were carried out, and keeps what is to be told of its session. That one gave
+/// up is seen at the end of the turn, by what came last.
+pub(crate) fn follow<N: Network + Drop, L: Write + Drop>(
+    surroundings: &mut Surroundings<N, L>,
+    post: &mut Post<N::Listener, N::Connection>,
+    hub: &Hub,
+    frame: &[u8],
+    arrivals: &mut Arrivals,
+)
+    ensures line { post.new.line ≡ post.old.line }
+    ensures site { site_kept N.address_of post.new.site ≡ site_kept N.address_of post.old.site }
+    ensures state { post.new.state ≡ post.old.state }
+    ensures traffic { post.new.traffic ≡ post.old.traffic }
+    ensures steps { HasLine hub.now post.old.line →
+        let session = line_view (hub_line post.old.line hub.now).state in
+        post.new.steps ≡ steps_after post.old.steps session frame.now }
+    ensures session { HasLine hub.now post.old.line → ¬ HasGivenUp hub.now post.old.line →
+        let session = line_view (hub_line post.old.line hub.now).state in
+        (post.new.label ≡ after_step post.old.label session (session_end None session.last_end) surroundings.old.now)
+        × (post.new.moment ≡ moment_seen post.old.label session surroundings.old.now post.old.moment) }
+    ensures gave_up { HasGivenUp hub.now post.old.line → post.new.label ≡ post.old.label }
+{
+    let session = session_of(hub, post.line);
+    post.steps.note(&session, frame);
+    if !hub.has_given_up(post.line) {
+        post.follow(
+            session,
+            session_end(None, session.last_end),
+            surroundings.now,
+        );
+    }
+    tell_files(
+        surroundings,
+        post.line,
+        &post.label,
+        &mut post.streams,
+        hub,
+        arrivals,
+    );
+    tell_commands(surroundings, &post.label, hub);
+}
+
+/// Ends the connection of a line that was in a session which gave up. Answers how that ended.
+/// Without a connection it ended by its loss.
+fn end_tries<N: Network + Drop, L: Write + Drop>(
+    surroundings: &Surroundings<N, L>,
+    id: LineId,
+    label: &Label,
+    hub: &Hub,
+    wire: &mut LineWire<N::Connection>,
+) -> Option<DownCause>
+    ensures gave_up { IsSome result ↔ (IsInSession label.now.in_session wire.old × HasGivenUp hub.now id) }
+    ensures why { IfSome result (λ end.
+        end ≡ tries_end label.now.tries_since (silence_of wire.old) surroundings.entry.now.now wire.old.last_bytes) }
+    ensures counts { wire.old.failures ≤ wire.new.failures }
+    ensures tally { tally wire.new ≡ tally wire.old }
+    ensures closed { IsSome result → wire.new ≡ after_close wire.old }
+    ensures kept { result ≡ None → wire.new ≡ wire.old }
+{
+    if label.in_session && wire.is_connected() && hub.has_given_up(id) {
+        wire.close();
+        let silent = wire.silent_for();
+        Some(tries_end(
+            label.tries_since,
+            silent,
+            surroundings.now,
+            wire.last_bytes(),
+        ))
+    } else {
+        None
+    }
+}
+
+/// Ends the connection of a line on which a sign-on was refused since its session was seen last,
+/// tells of it, and has the line take none for a second. Answers whether one was.
+fn end_refused<N: Network + Drop, L: Write + Drop>(
+    surroundings: &mut Surroundings<N, L>,
+    label: &mut Label,
+    session: &SessionView,
+    wire: &mut LineWire<N::Connection>,
+) -> bool
+    ensures refused { IsTrue result ↔ HasRefused label.old session.now }
+    ensures barred { IsTrue result → label.new ≡ record label.old { barred_until = barred_until surroundings.old.now } }
+    ensures closed { IsTrue result → wire.new ≡ after_close wire.old }
+    ensures logged { IsTrue result → IsSome surroundings.old.log.writer → IsLogged L.contents surroundings.old.log surroundings.new.log }
+    ensures kept { ¬ IsTrue result → (wire.new ≡ wire.old) × ((label.new ≡ label.old) × (surroundings.new ≡ surroundings.old)) }
+    ensures now { surroundings.new.now ≡ surroundings.old.now }
+    ensures counts { wire.old.failures ≤ wire.new.failures }
+    ensures tally { tally wire.new ≡ tally wire.old }
+{
+    if !label.has_refused(session) {
+        return false;
+    }
+    wire.close();
+    label.barred_until = surroundings.now.saturating_add(BARRED);
+    surroundings.tell(label, refusal_event(session.last_refusal));
+    true
+}
+
+/// Tells of a line's sessions what is to be told now, if anything is.
+pub(crate) fn tell_sessions<N: Network + Drop, L: Write + Drop>(
+    surroundings: &mut Surroundings<N, L>,
+    label: &mut Label,
+    now: u64,
+)
+    ensures told { label.new ≡ record label.old { news = after_telling label.old.news now } }
+    ensures now { surroundings.new.now ≡ surroundings.old.now }
+    ensures silent { told_now label.old.news now ≡ None → surroundings.new ≡ surroundings.old }
+    ensures logged { IsSome (told_now label.old.news now) → IsSome surroundings.old.log.writer →
+        IsLogged L.contents surroundings.old.log surroundings.new.log }
+{
+    match label.news.take(now) {
+        Some(event) => surroundings.tell(label, event),
+        None => {}
+    }
+}
+
+/// Tells what is due on a line that has a connection without a session, if it is to be told
+/// now.
+fn tell_awaited<N: Network + Drop, L: Write + Drop>(
+    surroundings: &mut Surroundings<N, L>,
+    label: &mut Label,
+    session: &SessionView,
+    is_connected: bool,
+)
+    ensures now { surroundings.new.now ≡ surroundings.old.now }
+    ensures news { label.new.news ≡ label.old.news }
+    ensures told { IsSome (told_awaited label.old session.now is_connected surroundings.old.now) →
+        label.new ≡ record label.old { awaits_again = awaits_again surroundings.old.now } }
+    ensures silent { told_awaited label.old session.now is_connected surroundings.old.now ≡ None →
+        (label.new ≡ label.old) × (surroundings.new ≡ surroundings.old) }
+    ensures logged { IsSome (told_awaited label.old session.now is_connected surroundings.old.now) →
+        IsSome surroundings.old.log.writer → IsLogged L.contents surroundings.old.log surroundings.new.log }
+{
+    match awaited_event(label, session, is_connected, surroundings.now) {
+        Some(event) => {
+            label.awaits_again = awaits_again(surroundings.now);
+            surroundings.tell(label, event);
+        }
+        None => {}
+    }
+}
+
+/// Why a connection ended, once the hub has heard of it. It need not hear of one that was ended as
+/// its session gave up, or as a sign-on was refused.
+fn heard_end<C: Connection + Drop>(wire: &mut LineWire<C>, gave_up: bool) -> Option<ConnectionEnd>
+    ensures counts { wire.old.failures ≤ wire.new.failures }
+    ensures tally { tally wire.new ≡ tally wire.old }
+    ensures kept { wire.new.connection ≡ wire.old.connection }
+    ensures connected { IsConnected wire.old → (result ≡ None) × (wire.new ≡ wire.old) }
+    ensures waits { ¬ IsTrue gave_up → IsReady wire.old → (result ≡ None) × (wire.new ≡ wire.old) }
+    ensures heard { ¬ IsConnected wire.old → (IsTrue gave_up ⊎ ¬ IsReady wire.old) →
+        (result ≡ wire.old.end) × (wire.new ≡ record wire.old { end = None }) }
+{
+    if wire.is_connected() {
+        return None;
+    }
+    // The next read is to tell the hub.
+    if wire.is_ready() && !gave_up {
+        return None;
+    }
+    wire.take_end()
+}

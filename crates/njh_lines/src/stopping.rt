@@ -1,0 +1,87 @@
+//! What is done with a line that is stopped.
+
+ghost use Rattle.std.specs.Prelude.{◌≡◌, ◌≤◌};
+ghost use Rattle.njh_wire.specs.Tally.{tally};
+ghost use Rattle.njh_lines.specs.Connecting.{IsConnected};
+ghost use Rattle.njh_sites.specs.Doors.{door_address, IsLookedAtAgain};
+ghost use Rattle.njh_sites.specs.Opened.{site_kept};
+
+use crate::doors::try_door;
+use crate::post::Post;
+use crate::surroundings::Surroundings;
+use njh_sight::Label;
+use njh_sites::{Admission, Door, Site, listens_again};
+use njh_wire::{LineWire, Network, Readiness};
+use std::io::Write;
+
+/// Keeps a line stopped: its connection ends, a peer that waits to be accepted is let go, and
+/// nobody is dialled.
+pub(crate) fn hold<N: Network + Drop, L: Write + Drop>(
+    surroundings: &mut Surroundings<N, L>,
+    place: usize,
+    post: &mut Post<N::Listener, N::Connection>,
+    wire: &mut LineWire<N::Connection>,
+    mark: Readiness,
+)
+    ensures counts { wire.old.failures ≤ wire.new.failures }
+    ensures tally { tally wire.new ≡ tally wire.old }
+    ensures clock { wire.new.clock ≡ wire.old.clock }
+    ensures line { post.new.line ≡ post.old.line }
+    ensures site { site_kept N.address_of post.new.site ≡ site_kept N.address_of post.old.site }
+    ensures state { post.new.state ≡ post.old.state }
+    ensures ended { ¬ IsConnected wire.new }
+    ensures now { surroundings.new.now ≡ surroundings.old.now }
+{
+    wire.close();
+    match &mut post.site {
+        Site::Listens(door) => {
+            if mark.listener || post.moment <= surroundings.now {
+                post.moment = turn_away(surroundings, place, door, &post.label);
+            }
+        }
+        Site::Dials(dial) => {
+            dial.halt();
+            post.moment = u64::MAX;
+        }
+    }
+}
+
+/// Lets go a peer that waits to be accepted. A port on which nothing listens is tried again if
+/// the time for that came. Answers when the door is to be looked at again.
+fn turn_away<N: Network + Drop, L: Write + Drop>(
+    surroundings: &mut Surroundings<N, L>,
+    place: usize,
+    door: &mut Door<N::Listener>,
+    label: &Label,
+) -> u64
+    ensures now { surroundings.new.now ≡ surroundings.old.now }
+    ensures address { door_address N.address_of door.new ≡ door_address N.address_of door.old }
+    ensures shut { IsLookedAtAgain door.new result }
+{
+    try_door(surroundings, place, door, label);
+    match door {
+        Door::Open(listener) => {
+            let admission = let_go(surroundings, listener);
+            listens_again(admission, surroundings.now)
+        }
+        Door::Shut { again, .. } => *again,
+    }
+}
+
+/// Accepts a peer that waits, if there is one, and ends its connection.
+fn let_go<N: Network + Drop, L: Write + Drop>(
+    surroundings: &mut Surroundings<N, L>,
+    listener: &mut N::Listener,
+) -> Admission
+    ensures now { surroundings.new.now ≡ surroundings.old.now }
+    ensures address { N.address_of listener.new ≡ N.address_of listener.old }
+{
+    match surroundings.network.accept(listener) {
+        Ok(Some((connection, _address))) => {
+            drop(connection);
+            Admission::Taken
+        }
+        Ok(None) => Admission::NobodyWaits,
+        Err(_) => Admission::NotTaken,
+    }
+}

@@ -1,0 +1,4 @@
+pub mod Logging
+pub mod Objects
+pub mod Severities
+pub mod code

@@ -1,0 +1,319 @@
+//! What the log tells.
+
+use crate::awaited::Awaited;
+use crate::last_frame::LastFrame;
+use crate::listen_cause::ListenCause;
+use crate::notice_line::NoticeLine;
+use crate::reasons::{EndText, RefusalText};
+use crate::route_news::RouteNews;
+use njh_block::Stream;
+use njh_ebcdic::{Name, text_of};
+use njh_header::{Destination, FileName, User};
+use njh_hub::{FileSummaryView, HubFault};
+use njh_line::Refusal;
+use njh_record::Kind;
+use njh_request::{EndMoment, RequestRefusal};
+use std::fmt;
+use std::net::SocketAddr;
+
+/// A blank in EBCDIC.
+const BLANK: u8 = 0x40;
+
+/// Something that an operator wants to know.
+#[derive(Clone, Copy, Drop)]
+pub enum LogEvent {
+    /// A peer connected from this address.
+    ConnectedFrom(SocketAddr),
+    /// The hub connected to this address.
+    ConnectedTo(SocketAddr),
+    /// The port of this address can't be listened on, for this cause.
+    ListenFailed(SocketAddr, ListenCause),
+    /// The port of this address is listened on: from the start on, or now that it can be.
+    Listening(SocketAddr),
+    /// This address is dialled.
+    Dials(SocketAddr),
+    /// The peer ended the connection, or the hub did after the tries.
+    Closed,
+    /// The peer ended it while a session was on its way up, as if it refused the hub's sign-on.
+    ClosedEarly,
+    /// The connection failed.
+    Failed(ConnectionFailure),
+    /// Nobody could be connected to at this address.
+    DialFailed(SocketAddr),
+    /// A connection that waits could not be taken.
+    AcceptFailed,
+    /// A sign-on was refused, for this reason: it doesn't fit, or none came where one was due.
+    SignOnRefused(Refusal),
+    /// A connection is without a session for ten seconds, or for a minute more, and this is due.
+    NoSession(Awaited),
+    /// The session went up or down.
+    SessionChanged(SessionChange),
+    /// It did both, so many times in all, and this was the last.
+    SessionsChanged(SessionChange, u64),
+    /// A file came whole, and waits.
+    FileIn(FileLine),
+    /// A file came whole, and is held.
+    FileHeld(FileLine),
+    /// A file went out whole.
+    FileOut(FileLine),
+    /// The peer refused a file, which stays with the hub.
+    FileRefused(FileLine),
+    /// The hub refused a file that was coming in on this stream, and told this to its owner, if it
+    /// has one.
+    ComingRefused(Stream, Option<NoticeLine>),
+    /// A file that was coming in on this stream isn't kept: its peer gave it up, its session ended,
+    /// or the hub refused it, had nobody to tell, and its rest came at once.
+    ComingCutOff(Stream),
+    /// A file came whole on this stream, and left in the same step.
+    FileLeft(Stream),
+    /// So many blocks of its quota are used.
+    NearQuota(u32, u32),
+    /// It has so many whole files, of those that it may have.
+    NearFiles(u32, u32),
+    /// It was given new routes.
+    NewRoutes,
+    /// New tables have another route for a node of it.
+    Route(RouteNews),
+    /// Further nodes have another, or stand elsewhere among many.
+    MoreRoutes,
+    /// So many of its files are held whose nodes have no route by its new ones.
+    Unrouted(u32),
+    /// Its new routes were refused.
+    RoutesRefused(HubFault),
+    /// The operator started the line.
+    LineStarted,
+    /// It is stopped once no file is on its streams.
+    LineDrains,
+    /// It is stopped: its connection ends, and it lets none in.
+    LineStopped,
+    /// The operator ends the service, at this moment.
+    ServiceEnds(EndMoment),
+    /// A request at the console was refused.
+    RequestRefused(RequestRefusal),
+    /// So many visitors of the console sent what is no request of HTTP.
+    NoRequest(usize),
+}
+
+/// Why a connection failed.
+#[derive(Clone, Copy, Debug, Drop, PartialEq, Eq)]
+pub enum ConnectionFailure {
+    /// A read or a write failed: the connection was reset, or more was to be sent than had room to
+    /// wait.
+    Broken,
+    /// The peer didn't take its bytes within a second.
+    Stalled,
+    /// Another connection took its place.
+    Replaced,
+}
+
+/// A change of a line's session.
+#[derive(Clone, Copy, Drop)]
+pub enum SessionChange {
+    /// It is up with this node.
+    Up(Name),
+    /// It is down.
+    Down(DownCause),
+}
+
+/// Why a session is down.
+#[derive(Clone, Copy, Debug, Drop, PartialEq, Eq)]
+pub enum DownCause {
+    /// Nothing came after the first of five tries in a row.
+    NoAnswer,
+    /// Five tries in a row were made, and this came last.
+    Tries(LastFrame),
+    /// Its line says that it ended so.
+    Ended(njh_line::SessionEnd),
+}
+
+/// What is told of a file.
+#[derive(Clone, Copy, Drop)]
+pub struct FileLine {
+    /// What it is called.
+    pub name: FileName,
+    /// Whose it is.
+    pub owner: User,
+    /// Where it goes.
+    pub destination: Destination,
+    /// How many records it has.
+    pub records: u32,
+    /// How many blocks it takes.
+    pub blocks: u32,
+}
+
+impl fmt::Display for LogEvent {
+    fn fmt<W: fmt::Write>(&self, f: &mut fmt::Formatter<W>) -> fmt::Result {
+        match self {
+            LogEvent::ConnectedFrom(address) => write!(f, "connected from {address}"),
+            LogEvent::ConnectedTo(address) => write!(f, "connected to {address}"),
+            LogEvent::ListenFailed(address, cause) => write!(
+                f,
+                "can't listen on {address}: {cause}"
+            ),
+            LogEvent::Listening(address) => write!(f, "listens on {address}"),
+            LogEvent::Dials(address) => write!(f, "dials {address}"),
+            LogEvent::Closed => write!(f, "closed"),
+            LogEvent::ClosedEarly => write!(f, "closed before a session was up"),
+            LogEvent::Failed(failure) => write!(f, "failed: {failure}"),
+            LogEvent::DialFailed(address) => write!(f, "no connection to {address}"),
+            LogEvent::AcceptFailed => write!(f, "a connection could not be taken"),
+            LogEvent::SignOnRefused(refusal) => {
+                write!(f, "sign-on refused: {}", RefusalText(*refusal))
+            }
+            LogEvent::NoSession(due) => write!(f, "{due}"),
+            LogEvent::SessionChanged(change) => write!(f, "{change}"),
+            LogEvent::SessionsChanged(change, count) => {
+                write!(f, "{change}, the last of {count} changes")
+            }
+            LogEvent::FileIn(file) => write!(f, "file in: {file}"),
+            LogEvent::FileHeld(file) => write!(f, "file held: {file}"),
+            LogEvent::FileOut(file) => write!(f, "file out: {file}"),
+            LogEvent::FileRefused(file) => write!(f, "file refused: {file}"),
+            LogEvent::ComingRefused(stream, None) => write!(
+                f,
+                "file in refused: {}",
+                StreamName(*stream)
+            ),
+            LogEvent::ComingRefused(stream, Some(notice)) => write!(
+                f,
+                "file in refused: {}, {}",
+                StreamName(*stream),
+                notice
+            ),
+            LogEvent::ComingCutOff(stream) => write!(f, "file in cut off: {}", StreamName(*stream)),
+            LogEvent::FileLeft(stream) => {
+                write!(f, "file in and gone at once: {}", StreamName(*stream))
+            }
+            LogEvent::NearQuota(used, quota) => write!(f, "{used} of {quota} blocks are used"),
+            LogEvent::NearFiles(files, most) => write!(f, "{files} of {most} files are there"),
+            LogEvent::NewRoutes => write!(f, "new routes"),
+            LogEvent::Route(news) => write!(f, "{news}"),
+            LogEvent::MoreRoutes => write!(f, "further routes differ"),
+            LogEvent::Unrouted(files) => {
+                write!(f, "{files} files are held, since their nodes have no route")
+            }
+            LogEvent::RoutesRefused(fault) => write!(f, "new routes refused: {fault}"),
+            LogEvent::LineStarted => f.write_str("started"),
+            LogEvent::LineDrains => f.write_str("is stopped once no file is on its streams"),
+            LogEvent::LineStopped => f.write_str("stopped"),
+            LogEvent::ServiceEnds(EndMoment::AtOnce) => f.write_str(
+                "the operator ends the service",
+            ),
+            LogEvent::ServiceEnds(EndMoment::WhenIdle) => {
+                f.write_str("the operator ends the service once no file is on a stream")
+            }
+            LogEvent::RequestRefused(refusal) => {
+                write!(f, "request refused: {}", refusal.sentence())
+            }
+            LogEvent::NoRequest(1) => f.write_str("a request was no HTTP"),
+            LogEvent::NoRequest(visitors) => write!(f, "{visitors} requests were no HTTP"),
+        }
+    }
+}
+
+impl fmt::Display for ConnectionFailure {
+    fn fmt<W: fmt::Write>(&self, f: &mut fmt::Formatter<W>) -> fmt::Result {
+        f.write_str(match self {
+            ConnectionFailure::Broken => "a read or a write failed",
+            ConnectionFailure::Stalled => "the peer did not take its bytes within a second",
+            ConnectionFailure::Replaced => "replaced by another connection",
+        })
+    }
+}
+
+impl fmt::Display for SessionChange {
+    fn fmt<W: fmt::Write>(&self, f: &mut fmt::Formatter<W>) -> fmt::Result {
+        match self {
+            SessionChange::Up(node) => write!(f, "session up with {node}"),
+            SessionChange::Down(end) => write!(f, "session down: {end}"),
+        }
+    }
+}
+
+impl fmt::Display for DownCause {
+    fn fmt<W: fmt::Write>(&self, f: &mut fmt::Formatter<W>) -> fmt::Result {
+        match self {
+            DownCause::NoAnswer => f.write_str("no answer after five tries"),
+            DownCause::Tries(last) => write!(f, "five tries in a row, {last} came last"),
+            DownCause::Ended(end) => write!(f, "{}", EndText(*end)),
+        }
+    }
+}
+
+impl fmt::Display for FileLine {
+    fn fmt<W: fmt::Write>(&self, f: &mut fmt::Formatter<W>) -> fmt::Result {
+        self.write_name(f)?;
+        self.write_owner(f)?;
+        self.write_destination(f)?;
+        write!(f, ", {} records, {} blocks", self.records, self.blocks)
+    }
+}
+
+/// A stream, shown as SYSIN 1 to SYSOUT 4.
+#[derive(Clone, Copy, Drop)]
+struct StreamName(Stream);
+
+impl fmt::Display for StreamName {
+    fn fmt<W: fmt::Write>(&self, f: &mut fmt::Formatter<W>) -> fmt::Result {
+        let kind = match self.0.kind() {
+            Kind::In => "SYSIN",
+            Kind::Out => "SYSOUT",
+        };
+        let number = self.0.number().saturating_add(1);
+        write!(f, "{kind} {number}")
+    }
+}
+
+impl FileLine {
+    /// What is told of this file.
+    pub fn of(file: &FileSummaryView) -> FileLine {
+        FileLine {
+            name: file.name,
+            owner: file.owner,
+            destination: file.destination,
+            records: file.records,
+            blocks: file.blocks,
+        }
+    }
+
+    /// Writes what it is called.
+    fn write_name<W: fmt::Write>(&self, f: &mut fmt::Formatter<W>) -> fmt::Result {
+        write!(f, "{}.{}", self.name.node, self.name.number)
+    }
+
+    /// Writes whose it is.
+    fn write_owner<W: fmt::Write>(&self, f: &mut fmt::Formatter<W>) -> fmt::Result {
+        f.write_str(" of ")?;
+        write!(f, "{}", self.owner.node)?;
+        write_user(f, &self.owner.user)
+    }
+
+    /// Writes where it goes.
+    fn write_destination<W: fmt::Write>(&self, f: &mut fmt::Formatter<W>) -> fmt::Result {
+        f.write_str(" for ")?;
+        write_field(f, &self.destination.node)?;
+        write_user(f, &self.destination.user)
+    }
+}
+
+/// Writes a user after the node, if there is one.
+pub(crate) fn write_user<W: fmt::Write>(f: &mut fmt::Formatter<W>, user: &[u8]) -> fmt::Result {
+    match user.first() {
+        Some(&BLANK) => Ok(()),
+        _ => {
+            f.write_str(".")?;
+            write_field(f, user)
+        }
+    }
+}
+
+/// Writes the characters of a field, up to its first blank.
+fn write_field<W: fmt::Write>(f: &mut fmt::Formatter<W>, field: &[u8]) -> fmt::Result {
+    for byte in field {
+        if *byte == BLANK {
+            return Ok(());
+        }
+        f.write_char(text_of(*byte))?;
+    }
+    Ok(())
+}

@@ -1,0 +1,60 @@
+//! What came of a look at a source of tables.
+
+use crate::difference::Difference;
+use njh_log::{LineText, Severity};
+use njh_table::Tables;
+use std::fmt;
+use std::fmt::Write as _;
+
+/// What came of a look at a source that changed.
+#[derive(Drop)]
+pub enum SourceOutcome<F: Drop> {
+    /// It gives no tables.
+    Refused(F),
+    /// Nobody can be given other routes, since this differs first.
+    Differs(Difference),
+    /// No routes differ.
+    Same,
+    /// Routes differ from those of the tables that were taken before, if any were. Its own are taken
+    /// in their place.
+    Taken(Option<Tables>),
+}
+
+impl<F: fmt::Display + Drop> SourceOutcome<F> {
+    /// How grave it is.
+    pub fn severity(&self) -> Severity {
+        match self {
+            SourceOutcome::Refused(_) => Severity::Error,
+            SourceOutcome::Differs(_) => Severity::Warning,
+            SourceOutcome::Same => Severity::Information,
+            SourceOutcome::Taken(_) => Severity::Information,
+        }
+    }
+}
+
+impl<F: fmt::Display + Drop> fmt::Display for SourceOutcome<F> {
+    fn fmt<W: fmt::Write>(&self, f: &mut fmt::Formatter<W>) -> fmt::Result {
+        match self {
+            SourceOutcome::Refused(fault) => write!(f, "table file: {fault}; nothing changes"),
+            SourceOutcome::Differs(difference) => write!(
+                f,
+                "table file: {difference}; nothing changes"
+            ),
+            SourceOutcome::Same => write!(f, "table file: no new routes"),
+            SourceOutcome::Taken(_) => write!(f, "table file: new routes"),
+        }
+    }
+}
+
+/// What is told of tables that weren't taken.
+pub(crate) fn fault_in<F: fmt::Display + Drop>(outcome: &SourceOutcome<F>) -> Option<LineText> {
+    let mut text = LineText::new();
+    match outcome {
+        SourceOutcome::Refused(_) => {}
+        SourceOutcome::Differs(_) => {}
+        SourceOutcome::Same => return None,
+        SourceOutcome::Taken(_) => return None,
+    }
+    let _whole = write!(text, "{outcome}").is_ok();
+    Some(text)
+}

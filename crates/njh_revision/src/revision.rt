@@ -1,0 +1,285 @@
+//! New tables for a hub that runs.
+
+ghost use Rattle.std.specs.Prelude.{◌≡◌, ◌⊎◌, option_map, Some, None, IfSome, IfOk};
+ghost use Rattle.njh_revision.specs.Giving.{IsPassedOver};
+ghost use Rattle.njh_revision.specs.Revisions.{opened_tables, AreKept, IsGiven};
+
+use crate::customer_routes::routes_of;
+use crate::difference::{customers_difference, size_difference};
+use crate::known::Known;
+use crate::outcome::{SourceOutcome, fault_in};
+use crate::route_changes::RouteChanges;
+use crate::route_states::{RouteState, first_waiting, is_apart, mark, state_given, will_wait};
+use crate::table_source::{NoSource, TableSource};
+use njh_ebcdic::Name;
+use njh_hub::{FileSummaryView, GivenRoutes, Hub};
+use njh_log::LineText;
+use njh_spool::State;
+use njh_table::{NamedCustomer, Route, Tables};
+use njh_turns::NewRoutes;
+use std::alloc::{AllocError, Global};
+use std::marker::Model;
+
+/// How often the source is looked at, in milliseconds.
+const SECOND: u64 = 1_000;
+
+/// The tables of a hub that runs, and their source. From new tables each customer is given its
+/// routes whose entry is that of the hub in all else, one customer after the other. Tables in which
+/// there is no such customer with other routes are passed over.
+#[derive(Drop)]
+pub struct Revision<S: TableSource + Drop> {
+    alloc: Global,
+    source: S,
+    known: Option<Known>,
+    /// Of each customer, whether it has its routes.
+    route_states: Vec<RouteState>,
+    /// The customers before this one don't wait.
+    next: usize,
+    /// When the source is looked at next.
+    moment: u64,
+    /// What the log told of tables that weren't taken when the source was looked at last.
+    fault: Option<LineText>,
+    /// The customer that was given new routes of late, if one was.
+    rerouted: Option<u16>,
+}
+
+impl<S: TableSource + Drop> Model for Revision<S> {
+    ghost use Rattle.std.specs.Prelude.{Option};
+    ghost use Rattle.njh_revision.specs.Revisions.{KnownTables};
+
+    ghost Value = { Option KnownTables };
+
+    ghost view = { λ r. r.known };
+}
+
+impl Revision<NoSource> {
+    /// No new tables, ever.
+    pub fn none(alloc: Global) -> Revision<NoSource>
+        ensures { result ≡ None }
+    {
+        Revision {
+            alloc,
+            source: NoSource,
+            known: None,
+            route_states: Vec::new(alloc),
+            next: 0,
+            moment: 0,
+            fault: None,
+            rerouted: None,
+        }
+    }
+}
+
+impl<S: TableSource + Drop> Revision<S> {
+    /// The tables that a hub was opened with, and where new ones come from. Out of memory is the
+    /// only refusal.
+    pub fn new(alloc: Global, tables: Tables, source: S) -> Result<Revision<S>, AllocError>
+        ensures { IfOk result (λ revision. revision ≡ Some (record { opened = tables; last = tables })) }
+    {
+        let mut route_states = Vec::new(alloc);
+        for _customer in tables.customers() {
+            route_states.push(RouteState::Has)?;
+        }
+        Ok(Revision {
+            alloc,
+            source,
+            known: Some(Known::new(tables)),
+            route_states,
+            next: 0,
+            moment: 0,
+            fault: None,
+            rerouted: None,
+        })
+    }
+
+    /// The tables that the hub was opened with.
+    pub fn tables(&self) -> Option<&Tables>
+        ensures { option_map (λ tables. tables.now) result ≡ opened_tables self.now }
+    {
+        match &self.known {
+            Some(known) => Some(&known.opened),
+            None => None,
+        }
+    }
+
+    /// How many bytes the file has that keeps the hub's files, if there is one.
+    pub fn spool_bytes(&self) -> Option<u64> {
+        self.source.spool_bytes()
+    }
+
+    /// What the log told of tables that weren't taken when the source was looked at last; nothing if
+    /// they were.
+    pub fn fault(&self) -> Option<&LineText> {
+        self.fault.as_ref()
+    }
+
+    /// What the tables that were just taken bring the customers, by those that were taken before, if
+    /// any were.
+    pub fn changes<'a>(&'a self, before: &'a Option<Tables>) -> Option<RouteChanges<'a>> {
+        match &self.known {
+            Some(known) => Some(RouteChanges::of(known, before)),
+            None => None,
+        }
+    }
+
+    /// Looks at the source, once a second on this clock, and takes its tables if a customer can be
+    /// given other routes by them.
+    pub fn look(&mut self, now: u64) -> Option<SourceOutcome<S::Fault>>
+        ensures { AreKept self.old self.new }
+    {
+        if now < self.moment {
+            return None;
+        }
+        self.moment = now.saturating_add(SECOND);
+        let outcome = match self.source.changed()? {
+            Ok(tables) => self.take(tables)?,
+            Err(fault) => SourceOutcome::Refused(fault),
+        };
+        self.fault = fault_in(&outcome);
+        Some(outcome)
+    }
+
+    /// Takes new tables, if a customer can be given other routes by them or nothing differs.
+    fn take(&mut self, tables: Tables) -> Option<SourceOutcome<S::Fault>>
+        ensures kept { AreKept self.old self.new }
+        ensures taken { IfSome self.old (λ old.
+            IsPassedOver result ⊎ (self.new ≡ Some (record old { last = tables }))) }
+        ensures passed { IsPassedOver result → self.new ≡ self.old }
+    {
+        let known = self.known.as_mut()?;
+        match size_difference(&known.opened, &tables) {
+            Some(difference) => return Some(SourceOutcome::Differs(difference)),
+            None => {}
+        }
+        let differ = will_wait(&self.route_states, known, &tables);
+        if !differ {
+            match customers_difference(known.opened.customers(), tables.customers()) {
+                Some(difference) => return Some(SourceOutcome::Differs(difference)),
+                None => {}
+            }
+        }
+        mark(&mut self.route_states, known, &tables);
+        self.next = 0;
+        let before = known.take(tables);
+        if differ {
+            Some(SourceOutcome::Taken(before))
+        } else {
+            drop(before);
+            Some(SourceOutcome::Same)
+        }
+    }
+
+    /// The routes of the next customer that waits for some. If there is no memory for them, the
+    /// customer's number.
+    pub fn next_routes(&mut self) -> Option<Result<NewRoutes, u16>>
+        ensures routes { IfSome result (λ given. IfOk given (λ new.
+            IfSome self.new (IsGiven new.customer new.routes))) }
+        ensures kept { self.new ≡ self.old }
+    {
+        let customer = self.next_customer()?;
+        let Some(answer) = routes_in(self.alloc, &self.known, customer) else {
+            self.set_state(customer, RouteState::Apart);
+            return None;
+        };
+        match answer {
+            Ok(routes) => Some(Ok(NewRoutes { customer, routes })),
+            Err(_) => Some(Err(customer)),
+        }
+    }
+
+    /// The next customer that waits for routes.
+    fn next_customer(&mut self) -> Option<u16>
+        ensures { self.new ≡ self.old }
+    {
+        let Some(place) = first_waiting(&self.route_states, self.next) else {
+            self.next = self.route_states.len();
+            return None;
+        };
+        self.next = place;
+        u16::try_from(place).ok()
+    }
+
+    /// The name of the customer that was given new routes since this was asked last, if one was, and
+    /// how many of its whole files are held whose nodes have no route by the tables that were last
+    /// taken.
+    pub fn unrouted(&mut self, hub: &Hub) -> Option<(Name, u32)>
+        ensures { self.new ≡ self.old }
+    {
+        let customer = self.rerouted?;
+        self.rerouted = None;
+        let known = self.known.as_ref()?;
+        let entry = known.last().customers().get(usize::from(customer))?;
+        Some((entry.name(), unrouted_files(customer, entry, hub)))
+    }
+
+    /// Why a customer hasn't the routes of the tables that were last taken, if it can't have them.
+    pub fn why_behind(&self, customer: u16) -> Option<&'static str> {
+        match self.route_states.get(usize::from(customer))? {
+            RouteState::Has => None,
+            RouteState::Waits => None,
+            RouteState::Lacks => Some("its new routes were refused"),
+            RouteState::Apart => {
+                Some("more than its routes differs in the table file; its routes stay")
+            }
+        }
+    }
+
+    /// Notes whether a customer has its routes now. Answers its name.
+    pub fn note_routes(&mut self, customer: u16, given: bool) -> Option<Name>
+        ensures { self.new ≡ self.old }
+    {
+        self.set_state(customer, state_given(given));
+        let entry = self.tables()?.customers().get(usize::from(customer))?;
+        let name = entry.name();
+        self.rerouted = Some(customer);
+        Some(name)
+    }
+
+    /// Notes how a customer is.
+    fn set_state(&mut self, customer: u16, state: RouteState)
+        ensures { self.new ≡ self.old }
+    {
+        match self.route_states.get_mut(usize::from(customer)) {
+            Some(kept) => *kept = state,
+            None => {}
+        }
+    }
+}
+
+/// How many whole files of a customer are held whose nodes have no route by its entry.
+fn unrouted_files(customer: u16, entry: &NamedCustomer, hub: &Hub) -> u32 {
+    let mut files = 0u32;
+    for index in 0..hub.file_count(customer) {
+        if is_unrouted(&hub.summary_at(customer, index), entry) {
+            files = files.saturating_add(1);
+        }
+    }
+    files
+}
+
+/// Whether a file is held and its node has no route by its customer's entry.
+fn is_unrouted(file: &FileSummaryView, entry: &NamedCustomer) -> bool {
+    if file.state != State::Held {
+        return false;
+    }
+    match Name::of_field(&file.destination.node) {
+        Ok(node) => entry.route(node) == Route::Unknown,
+        Err(_) => false,
+    }
+}
+
+/// The routes of a customer by the tables that were taken last, if its entry there is that of the
+/// hub in all else.
+fn routes_in(
+    alloc: Global,
+    known: &Option<Known>,
+    customer: u16,
+) -> Option<Result<GivenRoutes, AllocError>>
+    ensures { IfSome result (λ given. IfOk given (λ routes. IfSome known.now (IsGiven customer routes))) }
+{
+    let known = known.as_ref()?;
+    if is_apart(customer, &known.opened, known.last()) {
+        return None;
+    }
+    Some(routes_of(alloc, known.last(), customer))
+}

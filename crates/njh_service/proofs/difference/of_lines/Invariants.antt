@@ -1,7 +1,0 @@
-use Rattle.std.proofs.Common.{◌≡◌, map, take}
-use Rattle.njh_service.specs.Revisions.{without_mark}
-use Rattle.njh_service.proofs.difference.of_lines.Given as goal
-
--- the lines so far are alike
-abbrev pub invariant-loop-place : goal.invariant-loop-place
-invariant-loop-place l = map without_mark (take l.place l.others) ≡ map without_mark (take l.place l.lines)

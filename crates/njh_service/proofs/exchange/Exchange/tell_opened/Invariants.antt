@@ -1,6 +1,0 @@
-use Rattle.std.specs.Prelude.{◌≡◌}
-use Rattle.njh_service.proofs.exchange.Exchange.tell_opened.Given as goal
-
--- what is said of the attendant stays
-abbrev pub invariant-loop-number : goal.invariant-loop-number
-invariant-loop-number g l = l.self ≡ l.fn.self

@@ -1,9 +1,0 @@
-use Rattle.std.proofs.Common.{sym, subst}
-use Rattle.njh_service.specs.Logging.{Logging, IsLogged}
-use Rattle.njh_service.proofs.log.Log.write.Goals as goal
-
--- it is counted once
-pub returns-then-not-tell-clause-logged : goal.returns-then-not-tell-clause-logged
-returns-then-not-tell-clause-logged g c = λ some.
-    let P : Logging g.row.L.Denot → Type 0 = λ new. IsLogged g.L.Write.contents c.args.self.now new in
-    subst P (sym c.count.ensures) c.if-not-tell.ensures.dropped

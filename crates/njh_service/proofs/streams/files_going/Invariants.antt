@@ -1,7 +1,0 @@
-use Rattle.std.specs.Prelude.{◌≡◌, ℕ, ◌<◌, None, get_or}
-use Rattle.njh_service.specs.Telling.{going_at}
-use Rattle.njh_service.proofs.streams.files_going.Given as goal
-
--- each before this place is that of its stream
-abbrev pub invariant-loop-place : goal.invariant-loop-place
-invariant-loop-place l = (p : ℕ) → p < l.place → get_or l.files p None ≡ going_at l.senders p

@@ -1,3 +1,0 @@
--- What only bodies and proofs speak of.
-pub mod Logs
-pub mod Streams

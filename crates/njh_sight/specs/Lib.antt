@@ -1,0 +1,9 @@
+pub mod Awaiting
+pub mod News
+pub mod Prompting
+pub mod Sessions
+pub mod Steps
+pub mod Streams
+pub mod Telling
+pub mod Waking
+pub mod code

@@ -1,0 +1,31 @@
+-- When a customer's lines are looked at because something came that may give one of them something to send: at once, or
+-- after a pause, so that all these looks take an eighth of the time at most. One costs what its lines and files do.
+use Rattle.std.specs.Prelude.{ℕ, ◌+◌, ◌-◌, ◌*◌, ◌/◌, Bool, true, false, ◌&&◌, ◌==◌, nat_le, nat_lt, min, if◌then◌else◌}
+use Rattle.njh_sight.specs.declared.customers.Row.{Row}
+
+-- a line without files costs as much as sixteen files, and a customer has 12,500 in a millisecond
+abbrev pub pause_for : ℕ → ℕ → ℕ
+pause_for lines files = min (lines * (16 + files)) 18446744073709551615 / 12500
+
+abbrev pub marked : Row → Row
+marked row = record row { has_moved = true }
+
+abbrev pub is_wanted : Row → ℕ → Bool
+is_wanted row now = row.has_moved && nat_le row.again now
+
+-- they were looked at, and the customer has so many whole files
+abbrev pub looked : Row → ℕ → ℕ → Row
+looked row now files = record row {
+  has_moved = false;
+  again = min (now + pause_for (row.end - row.first) files) 18446744073709551615;
+}
+
+-- they are looked at again at this moment too, if there is one
+abbrev pub looked_again : Row → ℕ → Row
+looked_again row moment = if moment == 18446744073709551615 then row else record row {
+  has_moved = true;
+  again = if nat_lt row.again moment then moment else row.again;
+}
+
+abbrev pub look_moment : Row → ℕ
+look_moment row = if row.has_moved then row.again else 18446744073709551615

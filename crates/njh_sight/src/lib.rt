@@ -1,0 +1,27 @@
+//! What was seen and noted of a line's session, of its steps, streams and files, of its traffic, and
+//! of customers.
+#![tactic(auto)]
+
+mod awaiting;
+mod busy;
+mod customers;
+mod ending;
+mod files;
+mod label;
+mod news;
+mod seeing;
+mod steps;
+mod streams;
+mod traffic;
+
+pub use awaiting::{awaited_event, awaits_again, wrong_session};
+pub use busy::is_free;
+pub use customers::{CUSTOMERS, Came, Customers, Row};
+pub use ending::{refusal_event, session_end, tries_end};
+pub use files::{arrival, event_of_gone, loss_on, summary_of};
+pub use label::{Label, LineNames};
+pub use news::{News, Untold};
+pub use seeing::{session_of, sight_of};
+pub use steps::{SentFrame, Steps};
+pub use streams::{STREAMS, Streams, ended, files_coming, files_going, first_gone, near_after};
+pub use traffic::{Sight, Traffic};

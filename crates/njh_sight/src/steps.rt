@@ -1,0 +1,123 @@
+//! What is noted of a line at each step on it, and counted.
+
+ghost use Rattle.std.specs.Prelude.{◌≡◌};
+ghost use Rattle.njh_sight.specs.Steps.{byte_at, count_after, is_nak, is_repeat, is_text, sent_frame, steps_after};
+
+use crate::ending::is_up;
+use njh_hub::SessionView;
+
+/// NAK (IBM GA27-3004).
+const NAK: u8 = 0x3D;
+
+/// DLE, the first byte of a text.
+const DLE: u8 = 0x10;
+
+/// STX, the second one.
+const STX: u8 = 0x02;
+
+/// What the hub sent at a step.
+#[derive(Clone, Copy, Debug, Drop, PartialEq, Eq)]
+pub enum SentFrame {
+    /// No frame.
+    Nothing,
+    /// A NAK.
+    Nak,
+    /// A text.
+    Text,
+    /// Another frame.
+    Other,
+}
+
+/// What was noted of a line at the last step on it, and counted over all.
+#[derive(Clone, Copy, Drop)]
+pub struct Steps {
+    /// Whether its session was up then.
+    pub is_up: bool,
+    /// The count of the hub's next block then, modulo 16.
+    pub next_count: u8,
+    /// What the hub sent.
+    pub sent: SentFrame,
+    /// How many NAKs the hub sent; the count stays at the greatest `u64`.
+    pub naks: u64,
+    /// How many blocks it sent again; likewise.
+    pub repeats: u64,
+}
+
+impl Steps {
+    /// Those of a line on which there was none.
+    pub fn none() -> Steps {
+        Steps {
+            is_up: false,
+            next_count: 0,
+            sent: SentFrame::Nothing,
+            naks: 0,
+            repeats: 0,
+        }
+    }
+
+    /// A step left the session so, and the hub sent this frame, which is empty if it sent none.
+    pub fn note(&mut self, session: &SessionView, frame: &[u8])
+        ensures { self.new ≡ steps_after self.old session.now frame.now }
+    {
+        let sent = sent_frame(frame);
+        let is_repeat = self.is_repeat(session, sent);
+        *self = Steps {
+            is_up: is_up(session.phase),
+            next_count: session.next_count,
+            sent,
+            naks: count_after(self.naks, is_nak(sent)),
+            repeats: count_after(self.repeats, is_repeat),
+        };
+    }
+
+    /// Whether a block was sent again.
+    fn is_repeat(&self, session: &SessionView, sent: SentFrame) -> bool
+        ensures { result ≡ is_repeat self.now session.now sent }
+    {
+        is_text(sent)
+            && ((self.is_up && is_up(session.phase)) && self.next_count == session.next_count)
+    }
+}
+
+/// One more, where there is one.
+fn count_after(count: u64, more: bool) -> u64
+    ensures { result ≡ count_after count more }
+{
+    count.saturating_add(u64::from(more))
+}
+
+/// What a frame is that the hub sent.
+fn sent_frame(frame: &[u8]) -> SentFrame
+    ensures { result ≡ sent_frame frame.now }
+{
+    if frame.len() == 0 {
+        SentFrame::Nothing
+    } else if frame.len() == 1 && byte_at(frame, 0) == NAK {
+        SentFrame::Nak
+    } else if byte_at(frame, 0) == DLE && byte_at(frame, 1) == STX {
+        SentFrame::Text
+    } else {
+        SentFrame::Other
+    }
+}
+
+fn byte_at(frame: &[u8], place: usize) -> u8
+    ensures { result ≡ byte_at frame.now place }
+{
+    match frame.get(place) {
+        Some(byte) => *byte,
+        None => 0,
+    }
+}
+
+fn is_nak(sent: SentFrame) -> bool
+    ensures { result ≡ is_nak sent }
+{
+    matches!(sent, SentFrame::Nak)
+}
+
+fn is_text(sent: SentFrame) -> bool
+    ensures { result ≡ is_text sent }
+{
+    matches!(sent, SentFrame::Text)
+}

@@ -1,0 +1,2 @@
+mod EndpointLaws
+pub mod OpenedLaws

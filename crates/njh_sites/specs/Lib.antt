@@ -1,0 +1,6 @@
+pub mod Admitting
+pub mod Dialling
+pub mod Doors
+pub mod Endpoints
+pub mod Handles
+pub mod Opened

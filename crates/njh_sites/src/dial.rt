@@ -1,0 +1,172 @@
+//! When a line is dialled.
+
+ghost use Rattle.std.specs.Prelude.{◌≡◌, ◌↔◌, IsTrue, IsSome, true, false};
+ghost use Rattle.njh_sites.specs.Dialling.{connection_in, dial_moment, failed, given_up_at, next_dial, pause_after};
+ghost use Rattle.njh_sites.specs.Dialling.{resumed, IsToCome};
+ghost use Rattle.njh_sites.specs.declared.dial.DialState.TheVariants.{Connected, Dialling, Resting};
+
+use njh_wire::Network;
+use std::io;
+use std::net::SocketAddr;
+
+/// How long after a connection that was made, or after a first failure, the next dial comes, in
+/// milliseconds.
+const SOON: u64 = 1_000;
+
+/// How long after a further failure it comes.
+const LATER: u64 = 10_000;
+
+/// How long a dial may take.
+const PATIENCE: u64 = 10_000;
+
+/// The dials of a line: each is a connection that isn't made yet.
+#[derive(Drop)]
+pub struct Dial<C: Drop> {
+    /// Where to.
+    pub address: SocketAddr,
+    /// What becomes of the dial.
+    pub state: DialState<C>,
+    /// Whether a dial failed since the last connection was made.
+    pub has_failed: bool,
+}
+
+/// What becomes of a dial.
+#[derive(Drop)]
+pub enum DialState<C: Drop> {
+    /// The next comes at this moment.
+    Resting(u64),
+    /// This connection isn't made yet, and is given up at this moment.
+    Dialling(C, u64),
+    /// The line has a connection.
+    Connected,
+}
+
+impl<C: Drop> Dial<C> {
+    /// Dials to an address, of which the first comes at once.
+    pub fn new(address: SocketAddr) -> Dial<C>
+        ensures { result ≡ record { address = address; state = Resting 0; has_failed = false } }
+    {
+        Dial {
+            address,
+            state: DialState::Resting(0),
+            has_failed: false,
+        }
+    }
+
+    /// Where to.
+    pub fn address(&self) -> SocketAddr
+        ensures { result ≡ self.now.address }
+    {
+        self.address
+    }
+
+    /// Whether a dial failed since the last connection was made.
+    pub fn has_failed(&self) -> bool
+        ensures { result ≡ self.now.has_failed }
+    {
+        self.has_failed
+    }
+
+    /// When it wants to be looked at.
+    pub fn moment(&self) -> u64
+        ensures { result ≡ dial_moment self.now.state }
+    {
+        match &self.state {
+            DialState::Resting(moment) => *moment,
+            DialState::Dialling(_, moment) => *moment,
+            DialState::Connected => u64::MAX,
+        }
+    }
+
+    /// Whether a dial is to come now.
+    pub fn is_to_come(&self, now: u64) -> bool
+        ensures { IsTrue result ↔ IsToCome self.now.state now }
+    {
+        match &self.state {
+            DialState::Resting(moment) => *moment <= now,
+            DialState::Dialling(_, _) => false,
+            DialState::Connected => false,
+        }
+    }
+
+    /// What the network says of the connection that isn't made yet, if there is one.
+    pub fn ask<N: Network<Connection = C>>(&mut self, network: &mut N) -> Option<io::Result<bool>>
+        ensures asked { IsSome result ↔ IsSome (connection_in self.old.state) }
+        ensures address { self.new.address ≡ self.old.address }
+    {
+        match &mut self.state {
+            DialState::Resting(_) => None,
+            DialState::Dialling(connection, _) => Some(network.is_connected(connection)),
+            DialState::Connected => None,
+        }
+    }
+
+    /// A dial has begun.
+    pub fn begin(&mut self, connection: C, now: u64)
+        ensures { self.new ≡ record self.old { state = Dialling connection (given_up_at now) } }
+    {
+        self.state = DialState::Dialling(connection, now.saturating_add(PATIENCE));
+    }
+
+    /// A dial failed.
+    pub fn fail(&mut self, now: u64)
+        ensures { self.new ≡ failed self.old now }
+    {
+        self.rest(now);
+        self.has_failed = true;
+    }
+
+    /// The connection was made. Answers it.
+    pub fn take(&mut self) -> Option<C>
+        ensures connection { result ≡ connection_in self.old.state }
+        ensures taken { self.new ≡ record self.old { state = Connected; has_failed = false } }
+    {
+        let mut state = DialState::Connected;
+        std::mem::swap(&mut state, &mut self.state);
+        self.has_failed = false;
+        match state {
+            DialState::Resting(_) => None,
+            DialState::Dialling(connection, _) => Some(connection),
+            DialState::Connected => None,
+        }
+    }
+
+    /// The line has no connection any more.
+    pub fn lose(&mut self, now: u64)
+        ensures { self.new ≡ record self.old { state = Resting (next_dial self.old.has_failed now) } }
+    {
+        self.rest(now);
+    }
+
+    /// Nobody is dialled. A dial that is under way is given up.
+    pub fn halt(&mut self)
+        ensures { self.new ≡ record self.old { state = Resting 18446744073709551615 } }
+    {
+        self.state = DialState::Resting(u64::MAX);
+    }
+
+    /// The next dial comes now, if none is under way and the line has no connection.
+    pub fn resume(&mut self, now: u64)
+        ensures { self.new ≡ resumed self.old now }
+    {
+        match &mut self.state {
+            DialState::Resting(moment) => *moment = now,
+            DialState::Dialling(_, _) => {}
+            DialState::Connected => {}
+        }
+    }
+
+    /// The next dial comes after the pause.
+    fn rest(&mut self, now: u64)
+        ensures { self.new ≡ record self.old { state = Resting (next_dial self.old.has_failed now) } }
+    {
+        self.state = DialState::Resting(now.saturating_add(pause_after(self.has_failed)));
+    }
+}
+
+/// For how long no dial comes.
+fn pause_after(has_failed: bool) -> u64
+    ensures { result ≡ pause_after has_failed }
+{
+    if has_failed { LATER } else { SOON }
+}
