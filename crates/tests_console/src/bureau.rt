@@ -1,5 +1,6 @@
 //! A hub with its console.
 
+use crate::asked::{hub_of, tables_of};
 use crate::pipe::{Pipe, Pipes, Visit};
 use njh_answer::ServiceView;
 use njh_arrivals::Arrivals;
@@ -7,7 +8,7 @@ use njh_command::Replies;
 use njh_console::{Act, Console, Situation};
 use njh_hub::Hub;
 use njh_request::{EndMoment, LineWish};
-use njh_table::{LineId, Tables};
+use njh_table::Tables;
 use std::alloc::Global;
 use std::fmt::Write;
 use std::io;
@@ -39,22 +40,6 @@ node = "METZ"
 line = "a2"
 "#;
 
-/// Contact, the sign-on of LYON, a request of SYSOUT 1, and job 42 of ANNA, which is for METZ.
-const PIECES: [&str; 4] = [
-    "012d",
-    "1002a08fcff0c929d3e8d6d540404040010000000000000400404040404040404040404040404040400000000000001026",
-    "1002808fcf909900001026",
-    concat!(
-        "1002818fcf",
-        "99c0c20064a300c160a300c12ab200ccd7c1e8d9d6d3d340c1d5d5c184b800c4d3e8d6d584c4c1d5d5c184c4d4c5e3e98c00",
-        "99e0c20018a300c7140000d4c5e3e984c4d7c1e4d38400",
-        "9980c605c8c5d3d3d600",
-        "99d0c40004000000",
-        "99800000",
-        "001026"
-    ),
-];
-
 /// A line of rounds is no longer than this.
 const ROUNDS: usize = 200;
 
@@ -80,8 +65,8 @@ impl<'a> Bureau<'a> {
         Ok(Bureau {
             alloc,
             pipes,
-            hub: hub(alloc)?,
-            tables: tables(alloc)?,
+            hub: hub_of(alloc, TABLES)?,
+            tables: tables_of(alloc, TABLES)?,
             service: ServiceView {
                 version: String::from_str(alloc, "0.9")?,
                 since: 1790650000,
@@ -197,35 +182,4 @@ fn act_text(act: Act) -> &'static str {
         Act::Stop(EndMoment::WhenIdle) => "the service stops when idle",
         Act::Refused(why) => why.sentence(),
     }
-}
-
-fn bad() -> io::Error {
-    io::Error::from(io::ErrorKind::InvalidData)
-}
-
-fn tables(alloc: Global) -> io::Result<Tables> {
-    match Tables::read(alloc, TABLES) {
-        Ok(tables) => Ok(tables),
-        Err(_) => Err(bad()),
-    }
-}
-
-fn hub(alloc: Global) -> io::Result<Hub> {
-    let mut hub = match Hub::open(alloc, tables(alloc)?) {
-        Ok(hub) => hub,
-        Err(_) => return Err(bad()),
-    };
-    let line = LineId {
-        customer: 0,
-        number: 0,
-    };
-    let mut out = Vec::new(alloc);
-    for digits in PIECES {
-        let piece = match hex::decode(alloc, digits) {
-            Ok(piece) => piece,
-            Err(_) => return Err(bad()),
-        };
-        let _taken = hub.take(line, &piece, &mut out).is_ok();
-    }
-    Ok(hub)
 }

@@ -1,7 +1,7 @@
-//! Tries what requests ask for: of each line of the input, a method, a path and a body, it prints
-//! what is read, or the status and the sentence of the refusal.
-#![tactic(auto)]
+//! What requests ask for: of each line, a method, a path and a body, what is read, or the status and
+//! the sentence of the refusal.
 
+use crate::asked::{request_of, tables_of};
 use njh_header::User;
 use njh_request::{EndMoment, LineWish, Request, RequestRefusal, Text};
 use njh_table::Tables;
@@ -116,15 +116,9 @@ fn refusal_text(alloc: Global, refusal: RequestRefusal) -> Result<String, AllocE
     format!(in alloc; "{status} {sentence}")
 }
 
-/// What a line of the input asks for.
+/// What a line asks for.
 fn told(alloc: Global, tables: &Tables, line: &str) -> Result<String, AllocError> {
-    let (method, rest) = line.split_once(' ').unwrap_or((line, ""));
-    let (target, body) = rest.split_once(' ').unwrap_or((rest, ""));
-    let (path, query) = match target.split_once('?') {
-        Some((path, query)) => (path, Some(query)),
-        None => (target, None),
-    };
-    match Request::read(alloc, tables, method, path, query, body.as_bytes())? {
+    match request_of(alloc, tables, line)? {
         Ok(request) => request_text(alloc, &request),
         Err(refusal) => refusal_text(alloc, refusal),
     }
@@ -141,19 +135,19 @@ const LATER: [RequestRefusal; 7] = [
     RequestRefusal::TooLong,
 ];
 
-fn main(rt: HostRuntime) -> io::Result<()> {
-    let alloc = rt.alloc();
-    let tables = match Tables::read(alloc, TABLES) {
-        Ok(tables) => tables,
-        Err(_) => return Err(io::Error::from(io::ErrorKind::InvalidData)),
-    };
-    let text = io::read_to_string(alloc, rt.stdin())?;
-    for line in text.as_str().lines() {
-        let told = told(alloc, &tables, line)?;
+/// Tries each line, and says those.
+pub(crate) fn try_each<R: Print + AllocGlobal>(rt: &R, lines: &str) -> io::Result<()> {
+    let tables = tables_of(rt.alloc(), TABLES)?;
+    for line in lines.lines() {
+        let told = told(rt.alloc(), &tables, line)?;
         println!(rt; "{line}\n  {told}")?;
     }
+    say_later(rt)
+}
+
+fn say_later<R: Print + AllocGlobal>(rt: &R) -> io::Result<()> {
     for refusal in LATER {
-        let told = refusal_text(alloc, refusal)?;
+        let told = refusal_text(rt.alloc(), refusal)?;
         println!(rt; "  {told}")?;
     }
     Ok(())

@@ -1,20 +1,17 @@
-//! Tries commands to a console whose answers are stored: of each command it prints the requests that
-//! were sent, and what is told of the answers.
-#![tactic(auto)]
+//! Commands to a console whose answers are stored: of each command the requests that were sent, and
+//! what is told of the answers.
 
-mod answers;
-mod stored;
-
-use crate::answers::{CUSTOMERS, FILES, LAST_FILES, LINES, REPLIES, STATUS, TAKEN, WAITS};
 use crate::stored::Stored;
+use crate::stored_answers::{CUSTOMERS, FILES, LAST_FILES, LINES, REPLIES, STATUS, TAKEN, WAITS};
 use njh_arguments::{Change, ConsoleCommand, FileState, Owner};
 use njh_ctl::Talk;
 use std::io;
 
-fn main(rt: HostRuntime) -> io::Result<()> {
-    lists(&rt)?;
-    orders(&rt)?;
-    refusals(&rt)
+/// Tries each.
+pub(crate) fn try_each<R: Print + AllocGlobal>(rt: &R) -> io::Result<()> {
+    lists(rt)?;
+    orders(rt)?;
+    refusals(rt)
 }
 
 /// Lists of a hub.

@@ -1,7 +1,7 @@
-//! Tries what the console answers: for each line of the input, a method, a path and a body, the
-//! status, the body, and what is ordered.
-#![tactic(auto)]
+//! What the console answers: for each line, a method, a path and a body, the status, the body, and
+//! what is ordered.
 
+use crate::asked::{bad, hub_of, request_of, tables_of};
 use njh_answer::{
     Deed, LineView, OrderRecord, Outcome, RequestAnswer, ServiceView, Views, answer_request,
     refuses,
@@ -11,7 +11,7 @@ use njh_command::Replies;
 use njh_ebcdic::Name;
 use njh_header::User;
 use njh_hub::{GivenOrder, Hub, OrderText};
-use njh_request::{LineState, Request, Text};
+use njh_request::{LineState, Text};
 use njh_table::{LineId, Tables};
 use std::alloc::{AllocError, Global};
 use std::io;
@@ -54,55 +54,12 @@ block = 1024
 streams = 4
 "#;
 
-/// Contact, the sign-on of LYON, a request of SYSOUT 1, and job 42 of ANNA to PAUL at METZ.
-const PIECES: [&str; 4] = [
-    "012d",
-    "1002a08fcff0c929d3e8d6d540404040010000000000000400404040404040404040404040404040400000000000001026",
-    "1002808fcf909900001026",
-    concat!(
-        "1002818fcf",
-        "99c0c20064a300c160a300c12ab200ccd7c1e8d9d6d3d340c1d5d5c184b800c4d3e8d6d584c4c1d5d5c184c4d4c5e3e98c00",
-        "99e0c20018a300c7140000d4c5e3e984c4d7c1e4d38400",
-        "9980c605c8c5d3d3d600",
-        "99d0c40004000000",
-        "99800000",
-        "001026"
-    ),
-];
-
 /// `HI`.
 const HI: &[u8] = &[0xc8, 0xc9];
 
-fn bad() -> io::Error {
-    io::Error::from(io::ErrorKind::InvalidData)
-}
-
-fn tables(alloc: Global) -> io::Result<Tables> {
-    match Tables::read(alloc, TABLES) {
-        Ok(tables) => Ok(tables),
-        Err(_) => Err(bad()),
-    }
-}
-
 /// A hub that has a file of ANNA's at LYON, and a message for LYON that waits.
 fn hub(alloc: Global) -> io::Result<Hub> {
-    let tables = tables(alloc)?;
-    let mut hub = match Hub::open(alloc, tables) {
-        Ok(hub) => hub,
-        Err(_) => return Err(bad()),
-    };
-    let line = LineId {
-        customer: 0,
-        number: 0,
-    };
-    let mut out = Vec::new(alloc);
-    for digits in PIECES {
-        let piece = match hex::decode(alloc, digits) {
-            Ok(piece) => piece,
-            Err(_) => return Err(bad()),
-        };
-        let _taken = hub.take(line, &piece, &mut out).is_ok();
-    }
+    let mut hub = hub_of(alloc, TABLES)?;
     give_message(alloc, &mut hub)?;
     Ok(hub)
 }
@@ -215,13 +172,7 @@ fn deed_text(deed: &Deed) -> &'static str {
 }
 
 fn answer(alloc: Global, line: &str, views: &Views<'_>) -> Result<RequestAnswer, AllocError> {
-    let (method, rest) = line.split_once(' ').unwrap_or((line, ""));
-    let (target, body) = rest.split_once(' ').unwrap_or((rest, ""));
-    let (path, query) = match target.split_once('?') {
-        Some((path, query)) => (path, Some(query)),
-        None => (target, None),
-    };
-    match Request::read(alloc, views.tables, method, path, query, body.as_bytes())? {
+    match request_of(alloc, views.tables, line)? {
         Ok(request) => answer_request(alloc, request, views),
         Err(refusal) => refuses(alloc, refusal),
     }
@@ -266,12 +217,10 @@ fn told_by(alloc: Global, text: &str, hub: &Hub, tables: &Tables) -> Result<Stri
     told_lines(alloc, text, &views)
 }
 
-fn main(rt: HostRuntime) -> io::Result<()> {
-    let alloc = rt.alloc();
-    let text = io::read_to_string(alloc, rt.stdin())?;
-    let tables = tables(alloc)?;
-    let hub = hub(alloc)?;
-    let told = told_by(alloc, text.as_str(), &hub, &tables)?;
-    print!(rt; "{told}")?;
-    Ok(())
+/// Tries each line.
+pub(crate) fn try_each<R: Print + AllocGlobal>(rt: &R, lines: &str) -> io::Result<()> {
+    let tables = tables_of(rt.alloc(), TABLES)?;
+    let hub = hub(rt.alloc())?;
+    let told = told_by(rt.alloc(), lines, &hub, &tables)?;
+    print!(rt; "{told}")
 }
