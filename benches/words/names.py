@@ -12,7 +12,7 @@ import sys
 from imports import wrong_imports
 
 ROOT = pathlib.Path(__file__).resolve().parents[2]
-KINDS = {".rt", ".antt", ".edit", ".toml", ".py", ".sh", ".c", ".txt"}
+KINDS = {".rt", ".antt", ".edit", ".toml", ".py", ".sh", ".c", ".txt", ".cases"}
 WORD = re.compile(r"[A-Za-z_][\w-]*")
 CLAUSES = re.compile(r"`([\w:]+)`: ((?:`\w+`(?:, | and )?)+)")
 CONTRACT = re.compile(r"\bfn (\w+)(.*?)(?=\bfn \w+|\Z)", re.S)

@@ -3,6 +3,8 @@
 
 ghost use Rattle.std.specs.Prelude.{◌≤◌, length};
 
+use crate::world::copy_rest;
+use njh_wire::Readiness;
 use std::alloc::Global;
 use std::cell::{Cell, RefCell};
 
@@ -10,8 +12,10 @@ use std::cell::{Cell, RefCell};
 /// together.
 const AHEAD: u64 = 3;
 
-/// The place of the line that joins the hubs, at both ends.
-pub const JOINED: usize = 0;
+/// The place of the line that joins the hubs, at both ends, and of the further line.
+const JOINED: usize = 0;
+
+const FURTHER: usize = 1;
 
 /// How a text begins.
 const TEXT: &[u8] = b"\x10\x02";
@@ -53,41 +57,31 @@ impl End {
     }
 }
 
-/// What is ready of a hub's lines, once each.
-#[derive(Clone, Copy)]
-pub struct Ready {
-    /// The line between the hubs has something to read.
-    pub reads: bool,
-    /// Somebody waits there to be accepted.
-    pub waits: bool,
-    /// A dial there was made.
-    pub made: bool,
-    /// The peer waits to be accepted on the further line, and has sent all that it sends.
-    pub peer: bool,
-}
-
 /// The line between two hubs, their clock, and the peer.
 #[derive(Drop)]
-pub struct Joint {
+pub struct Joint<'a> {
     now: Cell<u64>,
     /// Whether something moved since that was last asked.
     moves: Cell<bool>,
     first: End,
     second: End,
-    /// What the peer is to send, and whether the hub wasn't told of it yet.
-    script: Cell<&'static [u8]>,
+    /// What the peer sends once it is connected, and how much of that was read.
+    script: &'a [u8],
+    read: Cell<usize>,
+    /// Whether the peer is to be accepted, and the hub wasn't told of it yet.
     peer: Cell<bool>,
 }
 
-impl Joint {
-    /// Nobody has dialled.
-    pub(crate) fn new(alloc: Global) -> Joint {
+impl<'a> Joint<'a> {
+    /// Nobody has dialled. The peer will send this.
+    pub(crate) fn new(alloc: Global, script: &'a [u8]) -> Joint<'a> {
         Joint {
             now: Cell::new(0),
             moves: Cell::new(false),
             first: End::new(alloc),
             second: End::new(alloc),
-            script: Cell::new(&[]),
+            script,
+            read: Cell::new(0),
             peer: Cell::new(false),
         }
     }
@@ -121,15 +115,17 @@ impl Joint {
         self.now.get()
     }
 
-    /// A hub waits so many milliseconds at most. Answers what is ready.
-    pub(crate) fn wait(&self, number: usize, milliseconds: u64) -> Ready {
+    /// A hub waits so many milliseconds at most. Marks what is ready.
+    pub(crate) fn wait(&self, number: usize, milliseconds: u64, ready: &mut [Readiness]) {
         let end = self.end(number);
         end.until.set(self.now.get().saturating_add(milliseconds));
-        Ready {
-            reads: end.reads.replace(false),
-            waits: end.waits.get(),
-            made: end.made.replace(false),
-            peer: number == 0 && self.peer.get(),
+        if let Some(joined) = ready.get_mut(JOINED) {
+            joined.reads = end.reads.replace(false) || joined.reads;
+            joined.listener = end.waits.get() || joined.listener;
+            joined.writes = end.made.replace(false) || joined.writes;
+        }
+        if let Some(further) = ready.get_mut(FURTHER) {
+            further.listener = (number == 0 && self.peer.get()) || further.listener;
         }
     }
 
@@ -143,6 +139,13 @@ impl Joint {
         self.now.set(self.now.get().max(next));
     }
 
+    /// Whether a hub's wait is over: its time has passed, or something is ready.
+    pub(crate) fn is_awake(&self, number: usize) -> bool {
+        let end = self.end(number);
+        let is_ready = end.reads.get() || end.waits.get() || end.made.get();
+        is_ready || (number == 0 && self.peer.get()) || end.until.get() <= self.now.get()
+    }
+
     /// A hub dials the other.
     pub(crate) fn dial(&self, number: usize) {
         self.moves.set(true);
@@ -150,22 +153,18 @@ impl Joint {
         self.other(number).waits.set(true);
     }
 
-    /// Whether somebody waited to be accepted on the line between the hubs, and now doesn't any
-    /// more.
-    pub(crate) fn accept(&self, number: usize) -> bool {
+    /// Whether somebody waited to be accepted on the line at a place, and now doesn't any more.
+    pub(crate) fn accept(&self, number: usize, place: usize) -> bool {
         self.moves.set(true);
-        self.end(number).waits.replace(false)
+        if place == JOINED {
+            self.end(number).waits.replace(false)
+        } else {
+            self.peer.replace(false)
+        }
     }
 
-    /// Whether the peer waited to be accepted.
-    pub(crate) fn accept_peer(&self) -> bool {
-        self.moves.set(true);
-        self.peer.replace(false)
-    }
-
-    /// The peer connects to the first hub's further line, and sends this.
-    pub(crate) fn play(&self, script: &'static [u8]) {
-        self.script.set(script);
+    /// The peer connects to the first hub's further line, and sends.
+    pub(crate) fn play(&self) {
         self.peer.set(true);
         self.moves.set(true);
     }
@@ -175,8 +174,11 @@ impl Joint {
         self.end(number).loses.set(true);
     }
 
-    /// Frames of a hub on the line between them.
-    pub(crate) fn send(&self, number: usize, bytes: &[u8]) {
+    /// Frames of a hub on the line at a place.
+    pub(crate) fn send(&self, number: usize, place: usize, bytes: &[u8]) {
+        if place != JOINED {
+            return;
+        }
         self.moves.set(true);
         let end = self.end(number);
         end.frames.set(end.frames.get().saturating_add(1));
@@ -193,28 +195,36 @@ impl Joint {
         }
     }
 
-    /// Reads what came for a hub, and answers how many bytes.
-    pub fn read(&self, number: usize, into: &mut [u8]) -> usize
+    /// Reads what came for a hub on the line at a place, and answers how many bytes.
+    pub fn read(&self, number: usize, place: usize, into: &mut [u8]) -> usize
         ensures { result ≤ length into.new }
     {
-        let Ok(mut coming) = self.end(number).coming.try_borrow_mut() else {
-            return 0;
+        let count = if place == JOINED {
+            self.read_joined(number, into)
+        } else {
+            self.read_peer(into)
         };
-        let count = take_front(&mut coming, into);
         self.moves.set(self.moves.get() || count > 0);
         count
     }
 
-    /// Reads what the peer sent, and answers how many bytes.
-    pub fn read_peer(&self, into: &mut [u8]) -> usize
+    /// Reads what came of the other hub.
+    fn read_joined(&self, number: usize, into: &mut [u8]) -> usize
         ensures { result ≤ length into.new }
     {
-        let script = self.script.get();
-        let count = script.len().min(into.len());
-        let (front, rest) = script.split_at(count);
-        into[..count].copy_from_slice(front);
-        self.script.set(rest);
-        self.moves.set(self.moves.get() || count > 0);
+        match self.end(number).coming.try_borrow_mut() {
+            Ok(mut coming) => take_front(&mut coming, into),
+            Err(_) => 0,
+        }
+    }
+
+    /// Reads what the peer sent.
+    fn read_peer(&self, into: &mut [u8]) -> usize
+        ensures { result ≤ length into.new }
+    {
+        let read = self.read.get();
+        let count = copy_rest(self.script, read, into);
+        self.read.set(read.saturating_add(count));
         count
     }
 

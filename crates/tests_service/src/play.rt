@@ -1,18 +1,18 @@
-//! Plays what happens on a service of its own.
+//! Plays the cases of a file, each on a service of its own, and says of each whether what is seen
+//! is what it wants.
 
-use crate::memory_log::MemoryLog;
-use crate::memory_network::MemoryNetwork;
-use crate::serving::{Player, Rounds, is_refused, serve};
-use crate::world::{Happens, World};
+use crate::case::{Case, End};
+use crate::network::{SceneLog, SceneNetwork, SceneTables};
+use crate::scene::Scene;
+use crate::serving::{Plan, Player, Rounds, serve, tables_of};
+use crate::world::World;
 use njh_lines::Exchange;
 use njh_log::{Log, LogStyle};
-use njh_revision::{NoSource, Revision};
-use njh_table::Tables;
+use njh_revision::Revision;
+use njh_sites::Listening;
 use std::alloc::Global;
-use std::io::Write;
 use std::net::{IpAddr, Ipv4Addr};
-use std::process::Abort;
-use std::test::Fail;
+use std::{fs, io};
 
 /// How many rounds a second of a service may take, if each of its lines is due ten times and
 /// something happens fifty times.
@@ -21,165 +21,151 @@ const ROUNDS: u64 = 100;
 /// How long all that is seen is looked at, in milliseconds.
 const WHOLE: u64 = 31_900;
 
+/// How much longer a service is looked at that is to have ended.
+const MORE: u64 = 5_000;
+
 /// Where the hub listens.
-pub(crate) fn hub_address() -> IpAddr {
-    IpAddr::V4(Ipv4Addr::new(10, 0, 0, 100))
-}
+const ADDRESS: [u8; 4] = [10, 0, 0, 100];
 
-/// Plays what happens up to a moment on a service of these tables, and compares what is seen once
-/// the lines are served.
-pub(crate) fn play<R: Abort>(
-    rt: &R,
-    alloc: Global,
-    tables: &str,
-    acts: &[Happens],
-    end: u64,
-    wanted: &str,
-) -> Result<(), Fail> {
-    let seen = seen_of(rt, alloc, tables, acts, end, LogStyle::PLAIN)?;
-    assert_eq!(rt;
-        after_start(str::from_utf8(&seen).unwrap_or("no text")),
-        wanted
-    );
+/// Plays each case of a file.
+pub(crate) fn play_file(rt: &HostRuntime, texts: &str, file: &str) -> io::Result<()> {
+    let cases = fs::read_to_string(rt, file)?;
+    let mut name = "";
+    let mut case = Case::new(rt.alloc());
+    for row in cases.as_str().lines() {
+        if let Some(found) = row.strip_prefix("case ") {
+            name = found;
+        } else if !row.is_empty() {
+            if !case.read(rt, texts, row)? {
+                println!(rt; "{name}: no act, and no end: {row}")?;
+            }
+        } else if !name.is_empty() {
+            try_case(rt, name, &case)?;
+            name = "";
+            case = Case::new(rt.alloc());
+        }
+    }
+    if !name.is_empty() {
+        try_case(rt, name, &case)?;
+    }
     Ok(())
 }
 
-/// The same of all that is seen in 31.9 seconds, by a log whose lines are written so.
-pub(crate) fn play_whole<R: Abort>(
-    rt: &R,
-    alloc: Global,
-    tables: &str,
-    acts: &[Happens],
-    style: LogStyle,
-    wanted: &str,
-) -> Result<(), Fail> {
-    let seen = seen_of(rt, alloc, tables, acts, WHOLE, style)?;
-    assert_eq!(rt; str::from_utf8(&seen).unwrap_or("no text"), wanted);
-    Ok(())
+/// Plays a case, and says what came of it.
+fn try_case(rt: &HostRuntime, name: &str, case: &Case) -> io::Result<()> {
+    let alloc = rt.alloc();
+    let world = World::new(alloc, &case.acts, case.shows);
+    let is_served = play_in(alloc, &world, case)?;
+    let now = world.now();
+    let bytes = world.into_seen();
+    if !has_come(case.end, is_served, now) {
+        return println!(rt; "{name} is at {now}, and its lines are served: {is_served}");
+    }
+    let seen = str::from_utf8(&bytes).unwrap_or("no text");
+    let wanted = str::from_utf8(&case.wanted).unwrap_or("no wanted text");
+    compare(rt, name, seen_of(case.end, seen), wanted)
 }
 
-/// What is seen up to a moment on a service of these tables.
-fn seen_of<R: Abort>(
-    rt: &R,
-    alloc: Global,
-    tables: &str,
-    acts: &[Happens],
-    end: u64,
-    style: LogStyle,
-) -> Result<Vec<u8>, Fail> {
-    let world = World::new(alloc, acts);
-    play_in(alloc, &world, tables, end, style)?;
-    assert!(rt; world.now() >= end, "it spins at {}", world.now());
-    Ok(world.into_seen())
+/// Whether a case came to its end: whether its lines are served, and what time it is then.
+fn has_come(end: Option<End>, is_served: bool, now: u64) -> bool {
+    match end {
+        Some(End::Until(end)) => is_served && end <= now,
+        Some(End::Ends(end)) => is_served && now == end,
+        Some(End::Whole(_)) => is_served && WHOLE <= now,
+        Some(End::Refused) => !is_served,
+        None => false,
+    }
+}
+
+/// What is compared of all that was seen.
+fn seen_of(end: Option<End>, seen: &str) -> &str {
+    match end {
+        Some(End::Whole(_)) => seen,
+        Some(End::Refused) => seen,
+        _ => after_start(seen),
+    }
 }
 
 /// What comes after the line that says that the lines are served.
-pub(crate) fn after_start(seen: &str) -> &str {
+fn after_start(seen: &str) -> &str {
     match seen.split_once(" 0 files\n") {
         Some((_, after)) => after,
         None => "not ready",
     }
 }
 
-/// Plays what happens on a service of these tables until it ends of itself at a moment, and compares
-/// what is seen once the lines are served.
-pub(crate) fn end_at<R: Abort>(
-    rt: &R,
-    alloc: Global,
-    tables: &str,
-    acts: &[Happens],
-    moment: u64,
-    wanted: &str,
-) -> Result<(), Fail> {
-    let world = World::new(alloc, acts);
-    let end = moment.saturating_add(5_000);
-    play_in(alloc, &world, tables, end, LogStyle::PLAIN)?;
-    assert_eq!(rt; world.now(), moment);
-    let seen = world.into_seen();
-    assert_eq!(rt;
-        after_start(str::from_utf8(&seen).unwrap_or("no text")),
-        wanted
-    );
-    Ok(())
+/// Says whether what was seen is what is wanted, or the first line that isn't.
+fn compare(rt: &HostRuntime, name: &str, seen: &str, wanted: &str) -> io::Result<()> {
+    if seen == wanted {
+        return println!(rt; "ok {name}");
+    }
+    let mut lines = seen.lines();
+    for line in wanted.lines() {
+        let found = lines.next().unwrap_or("nothing more");
+        if found != line {
+            return println!(rt; "{name} wants: {line}\n{name} sees: {found}");
+        }
+    }
+    println!(rt; "{name} sees: {}", lines.next().unwrap_or("nothing more"))
 }
 
-/// An exchange in a world, whose log has such lines.
-fn exchange_in<'a>(
-    alloc: Global,
-    world: &'a World<'a>,
-    style: LogStyle,
-) -> Exchange<MemoryNetwork<'a>, MemoryLog<'a>> {
-    let log = Log::new(Some(MemoryLog { world }), style);
-    Exchange::new(alloc, MemoryNetwork { world }, log)
-}
-
-/// Asks for a service of these tables that has to listen on each port, and compares what is seen if
-/// it is refused.
-pub(crate) fn refuse<R: Abort>(
-    rt: &R,
-    alloc: Global,
-    tables: &str,
-    acts: &[Happens],
-    wanted: &str,
-) -> Result<(), Fail> {
-    let world = World::new(alloc, acts);
-    let is_refused = is_refused_in(alloc, &world, tables)?;
-    assert!(rt; is_refused, "lines are served");
-    let seen = world.into_seen();
-    assert_eq!(rt; str::from_utf8(&seen).unwrap_or("no text"), wanted);
-    Ok(())
-}
-
-/// Whether lines of tables aren't served in a world if each has to listen on its port.
-fn is_refused_in<'a>(alloc: Global, world: &'a World<'a>, tables: &str) -> Result<bool, Fail> {
-    let own = Tables::read(alloc, tables)?;
-    let revision = Revision::new(alloc, Tables::read(alloc, tables)?, NoSource)?;
-    let exchange = exchange_in(alloc, world, LogStyle::PLAIN);
-    is_refused(alloc, own, exchange, revision, hub_address())
-}
-
-/// Serves the lines of tables in a world up to a moment.
-fn play_in<'a>(
-    alloc: Global,
-    world: &'a World<'a>,
-    tables: &str,
-    end: u64,
-    style: LogStyle,
-) -> Result<(), Fail> {
-    let own = Tables::read(alloc, tables)?;
-    let revision = Revision::new(alloc, Tables::read(alloc, tables)?, NoSource)?;
-    let exchange = exchange_in(alloc, world, style);
-    serve(
+/// Serves the lines of a case in a world up to its end. Answers whether they are served.
+fn play_in<'a>(alloc: Global, world: &'a World<'a>, case: &Case) -> io::Result<bool> {
+    let (end, style, strict) = match case.end {
+        Some(End::Until(end)) => (end, LogStyle::PLAIN, false),
+        Some(End::Ends(end)) => (end.saturating_add(MORE), LogStyle::PLAIN, false),
+        Some(End::Whole(style)) => (WHOLE, style, false),
+        Some(End::Refused) => (0, LogStyle::PLAIN, true),
+        None => return Ok(false),
+    };
+    let listening = Listening {
+        address: IpAddr::V4(Ipv4Addr::from(ADDRESS)),
+        strict,
+    };
+    let plan = plan_in(
         alloc,
-        own,
-        exchange,
-        revision,
-        hub_address(),
-        &mut Until { world, end },
-    )
+        Scene::World(world),
+        case.tables.as_str(),
+        style,
+        listening,
+    )?;
+    serve(alloc, plan, &mut Until { world, end })
+}
+
+/// A service in a scene, of the lines of these tables, whose log has such lines.
+pub(crate) fn plan_in<'a>(
+    alloc: Global,
+    scene: Scene<'a>,
+    tables: &str,
+    style: LogStyle,
+    listening: Listening,
+) -> io::Result<Plan<SceneNetwork<'a>, SceneLog<'a>, SceneTables<'a>>> {
+    let known = tables_of(alloc, tables)?;
+    let log = Log::new(Some(SceneLog { scene }), style);
+    Ok(Plan {
+        tables: tables_of(alloc, tables)?,
+        exchange: Exchange::new(alloc, SceneNetwork { scene }, log),
+        revision: Revision::new(alloc, known, SceneTables { alloc, scene })?,
+        listening,
+    })
 }
 
 /// Plays what happens in a world up to a moment.
 #[derive(Drop)]
-pub(crate) struct Until<'a> {
-    pub(crate) world: &'a World<'a>,
-    pub(crate) end: u64,
+struct Until<'a> {
+    world: &'a World<'a>,
+    end: u64,
 }
 
 impl Player for Until<'_> {
     /// Rounds up to the moment, but no more than there may be.
-    fn play<H: Rounds>(&mut self, hub: &mut H) -> Result<(), Fail> {
+    fn play<H: Rounds>(&mut self, hub: &mut H) -> io::Result<bool> {
         for _ in 0..self.end.saturating_mul(ROUNDS) / 1000 {
             if self.world.now() >= self.end {
-                return Ok(());
+                break;
             }
             hub.round();
         }
-        Ok(())
+        Ok(true)
     }
-}
-
-/// Adds a moment and a text.
-pub(crate) fn add_text(wanted: &mut Vec<u8>, moment: u64, text: &str) {
-    let _kept = write!(*wanted, "{moment}{text}").is_ok();
 }

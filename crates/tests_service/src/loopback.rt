@@ -1,34 +1,21 @@
 //! A service over sockets of this machine, turn by turn beside its peers.
 
-use crate::serving::{Player, Rounds, serve};
+use crate::serving::{Plan, Player, Rounds, serve, tables_of};
 use mio::net::TcpStream;
 use njh_lines::Exchange;
 use njh_log::{Log, LogStyle};
 use njh_revision::Revision;
+use njh_sites::Listening;
 use njh_sockets::MioNetwork;
-use njh_table::Tables;
 use std::io;
 use std::io::{ErrorKind, Read, Write};
 use std::net::{IpAddr, Ipv4Addr, Net, SocketAddr};
-use std::process::Abort;
-use std::test::Fail;
+use std::rt::Clock;
 
-/// A line of each of two customers.
-const TABLES: &str = r#"
-capacity = 200
-[[customer]]
-name = "ACME"
-hub = "BUREAU"
-quota = 100
-files = 8
-line = [{ name = "a1", node = "LYON", role = "answer", block = 1024, streams = 4, port = 27521 }]
-[[customer]]
-name = "BOLT"
-hub = "BUREAU"
-quota = 100
-files = 8
-line = [{ name = "b1", node = "LYON", role = "answer", block = 1024, streams = 4, port = 27522 }]
-"#;
+/// The ports of the two lines.
+const FIRST: u16 = 27_521;
+
+const OTHER: u16 = 27_522;
 
 const CONTACT: &[u8] = b"\x01\x2d";
 
@@ -44,67 +31,86 @@ const TURNS: u32 = 100;
 const MANY: u32 = 1_000_000;
 
 /// One line's peer closes, connects again, takes no answer until it is dropped, and connects again.
-/// All the while the other line's peer is answered.
-#[test]
-fn closes_stalls_and_connects_again(rt: HostRuntime) -> Result<(), Fail> {
-    let tables = Tables::read(rt.alloc(), TABLES)?;
+/// All the while the other line's peer is answered. Says what of it isn't so.
+pub(crate) fn play<R: Net + Clock + Print + AllocGlobal>(rt: &R, tables: &str) -> io::Result<()> {
+    let alloc = rt.alloc();
+    let network = MioNetwork::new(rt)?;
+    let tables = tables_of(alloc, tables)?;
     let log = Log::new(Some(io::sink()), LogStyle::PLAIN);
-    let network = MioNetwork::new(&rt)?;
-    let exchange = Exchange::new(rt.alloc(), network, log);
-    let address = IpAddr::V4(Ipv4Addr::LOCALHOST);
-    serve(
-        rt.alloc(),
+    let plan = Plan {
         tables,
-        exchange,
-        Revision::none(rt.alloc()),
-        address,
-        &mut Peers { rt: &rt },
-    )
+        exchange: Exchange::new(alloc, network, log),
+        revision: Revision::none(alloc),
+        listening: Listening {
+            address: IpAddr::V4(Ipv4Addr::LOCALHOST),
+            strict: false,
+        },
+    };
+    let mut peers = Peers {
+        rt,
+        wrong: Some("lines are not served"),
+    };
+    serve(alloc, plan, &mut peers)?;
+    match peers.wrong {
+        None => println!(rt; "ok closes_stalls_and_connects_again"),
+        Some(wrong) => println!(rt; "closes_stalls_and_connects_again: {wrong}"),
+    }
 }
 
 /// Plays the peers, on sockets of this machine.
 #[derive(Drop)]
 struct Peers<'a, R> {
     rt: &'a R,
+    /// What isn't as it is to be.
+    wrong: Option<&'static str>,
 }
 
-impl<R: Net + Abort> Player for Peers<'_, R> {
-    fn play<H: Rounds>(&mut self, hub: &mut H) -> Result<(), Fail> {
-        try_lines(self.rt, hub)
+impl<R: Net> Player for Peers<'_, R> {
+    fn play<H: Rounds>(&mut self, hub: &mut H) -> io::Result<bool> {
+        self.wrong = try_lines(self.rt, hub)?;
+        Ok(true)
     }
 }
 
-/// All that is tried, in its order.
-fn try_lines<H: Rounds, R: Net + Abort>(rt: &R, hub: &mut H) -> Result<(), Fail> {
-    assert!(rt; is_refused(rt, hub)?, "127.0.0.2");
-    let mut other = connect(rt, 1, 27522)?;
-    assert!(rt; is_answered(hub, &mut other)?, "the other line");
-    assert!(rt; comes_and_goes(rt, hub)?, "the first peer");
-    assert!(rt; is_answered(hub, &mut other)?, "the other line, then");
-    assert!(rt; stalls(rt, hub, &mut other)?, "a peer that stalls");
-    assert!(rt; comes_and_goes(rt, hub)?, "the next peer");
-    Ok(())
+/// All that is tried, in its order. What isn't as it is to be.
+fn try_lines<H: Rounds, R: Net>(rt: &R, hub: &mut H) -> io::Result<Option<&'static str>> {
+    if !is_refused(rt, hub)? {
+        return Ok(Some("127.0.0.2 isn't refused"));
+    }
+    let mut other = connect(rt, 1, OTHER)?;
+    if !is_answered(hub, &mut other)? {
+        return Ok(Some("the other line"));
+    }
+    if !comes_and_goes(rt, hub)? {
+        return Ok(Some("the first peer"));
+    }
+    if !is_answered(hub, &mut other)? {
+        return Ok(Some("the other line, then"));
+    }
+    if !stalls(rt, hub, &mut other)? {
+        return Ok(Some("a peer that stalls"));
+    }
+    if !comes_and_goes(rt, hub)? {
+        return Ok(Some("the next peer"));
+    }
+    Ok(None)
 }
 
 /// A connection to an address of this machine that is begun.
 fn connect<R: Net>(rt: &R, last: u8, port: u16) -> io::Result<TcpStream> {
-    TcpStream::connect(rt, address_of(last, port))
-}
-
-/// An address of this machine.
-fn address_of(last: u8, port: u16) -> SocketAddr {
-    SocketAddr::new(Ipv4Addr::new(127, 0, 0, last).into(), port)
+    let address = SocketAddr::new(Ipv4Addr::new(127, 0, 0, last).into(), port);
+    TcpStream::connect(rt, address)
 }
 
 /// A peer of the first line makes contact, and closes. Says whether it was answered.
 fn comes_and_goes<H: Rounds, R: Net>(rt: &R, hub: &mut H) -> io::Result<bool> {
-    let mut peer = connect(rt, 1, 27521)?;
+    let mut peer = connect(rt, 1, FIRST)?;
     is_answered(hub, &mut peer)
 }
 
 /// Whether nobody listens at another address of this machine.
 fn is_refused<H: Rounds, R: Net>(rt: &R, hub: &mut H) -> io::Result<bool> {
-    let peer = match connect(rt, 2, 27521) {
+    let peer = match connect(rt, 2, FIRST) {
         Ok(peer) => peer,
         Err(error) => return Ok(error.kind() == ErrorKind::ConnectionRefused),
     };
@@ -165,7 +171,7 @@ fn is_early(kind: ErrorKind) -> bool {
 /// A peer of the first line sends contacts and reads no answer. Says whether it was dropped, and
 /// the other line's peer answered all the while.
 fn stalls<H: Rounds, R: Net>(rt: &R, hub: &mut H, other: &mut TcpStream) -> io::Result<bool> {
-    let mut peer = connect(rt, 1, 27521)?;
+    let mut peer = connect(rt, 1, FIRST)?;
     let flood = [[0x01, 0x2d]; FLOOD];
     for _ in 0..MANY {
         if is_taken(&mut peer, flood.as_flattened()).is_err() {

@@ -6,8 +6,10 @@ use njh_wire::{Connection, Network};
 use std::io;
 use std::io::{ErrorKind, Read};
 use std::net::{Ipv4Addr, Net, SocketAddr};
-use std::process::Abort;
-use std::test::Fail;
+use std::rt::Clock;
+
+/// The port that is listened on.
+const PORT: u16 = 27_523;
 
 /// How many bytes a connection is given at once.
 const PIECE: usize = 65_536;
@@ -17,12 +19,11 @@ const MANY: u32 = 1_000_000;
 
 /// A connection whose peer reads nothing takes a part of what it is given in the end, and says how
 /// much: once it is gone its peer reads as many bytes as it said, and no more.
-#[test]
-fn tells_how_much_it_took(rt: HostRuntime) -> Result<(), Fail> {
-    let mut network = MioNetwork::new(&rt)?;
-    let address = SocketAddr::new(Ipv4Addr::LOCALHOST.into(), 27523);
+pub(crate) fn play<R: Net + Clock + Print + AllocGlobal>(rt: &R) -> io::Result<()> {
+    let mut network = MioNetwork::new(rt)?;
+    let address = SocketAddr::new(Ipv4Addr::LOCALHOST.into(), PORT);
     let mut listener = network.listen(address, 0)?;
-    let mut peer = TcpStream::connect(&rt, address)?;
+    let mut peer = TcpStream::connect(rt, address)?;
     let mut taken = None;
     for _ in 0..MANY {
         if let Some((mut connection, _)) = network.accept(&mut listener)? {
@@ -31,12 +32,12 @@ fn tells_how_much_it_took(rt: HostRuntime) -> Result<(), Fail> {
             break;
         }
     }
-    let Some(taken) = taken else {
-        assert!(rt; false, "nothing was taken in part");
-        return Ok(());
-    };
-    assert_eq!(rt; read_all(&mut peer)?, taken);
-    Ok(())
+    let came = read_all(&mut peer)?;
+    match taken {
+        Some(taken) if taken == came => println!(rt; "ok tells_how_much_it_took"),
+        Some(taken) => println!(rt; "tells_how_much_it_took: {taken} taken, {came} came"),
+        None => println!(rt; "tells_how_much_it_took: nothing was taken in part"),
+    }
 }
 
 /// Gives a connection bytes until it takes fewer than it is given. Answers how many it took in all;
