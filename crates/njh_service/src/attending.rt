@@ -78,7 +78,7 @@ impl<N: Network + Drop, L: Write + Drop, S: TableSource + Drop> Attendant<LineWi
     }
 
     fn prompts(&self, place: usize, hub: &Hub) -> bool {
-        self.exchange.prompts(place, hub)
+        self.prompts(place, hub)
     }
 
     fn stepped(&mut self, place: usize, hub: &Hub, frame: &[u8]) {

@@ -8,7 +8,7 @@ ghost use Rattle.njh_console.specs.Orders.{IsOrderDone};
 ghost use Rattle.njh_sites.specs.Endpoints.{endpoints_of};
 ghost use Rattle.njh_sites.specs.Opened.{IsApart};
 ghost use Rattle.njh_lines.specs.LineStates.{line_settled, AreMade};
-ghost use Rattle.njh_lines.specs.Watching.{served_on, HasNoted};
+ghost use Rattle.njh_lines.specs.Watching.{served_on, HasNoted, IsToBePrompted};
 ghost use Rattle.njh_service.specs.Bureaus.{lines_told, stop_after, view_told, IsAsked, IsConsoleServed};
 ghost use Rattle.njh_service.specs.Bureaus.{IsClosed, IsObeyed, IsOpenedBy, IsOver};
 
@@ -17,8 +17,8 @@ use crate::faults::faults;
 use crate::open_lines::open_lines;
 use crate::opened::tell_opened;
 use crate::operator::{tell_astray, tell_refusal};
-use crate::revising::tell_unrouted;
 use crate::ready::{Version, tell_ready, version_of};
+use crate::revising::tell_unrouted;
 use crate::viewing::line_views;
 use njh_answer::{LineView, ServiceView};
 use njh_command::Replies;
@@ -222,6 +222,13 @@ impl<N: Network + Drop, L: Write + Drop, S: TableSource + Drop> Bureau<N, L, S> 
             }
             None => false,
         }
+    }
+
+    /// Whether the line at this place, if it rests, is prompted in this round.
+    pub(crate) fn prompts(&self, place: usize, hub: &Hub) -> bool
+        ensures { IsTrue result ↔ IsToBePrompted self.now.exchange place hub.now }
+    {
+        self.exchange.prompts(place, hub)
     }
 
     /// Notes what a step on the line at this place left, which sent this frame.
