@@ -4,3 +4,4 @@ mod RoundLaws
 mod StateLaws
 mod StillLaws
 mod WatchLaws
+mod WireLaws

@@ -62,7 +62,7 @@ one_begun now place r w mark new_mark watch new_watch in_r in_w mark_is watch_is
       let On : Watch → Watch → Type 0 = λ a b. HasBegun now mark new_mark a b in
       let done : HasBegun now mark new_mark watch new_watch = record {
         due = due.1;
-        only = λ looked. inl (due.0 looked);
+        only = due.0;
         unmarked = unmarked;
         moment = moment;
       } in
@@ -98,20 +98,20 @@ past_begun now place r w past_r past_w =
     subst Of (sym (get_or_past r place nothing past_r))
     (subst On (sym (get_or_past w place at_once past_w)) record {
       due = λ due. refl;
-      only = λ looked. inr refl;
+      only = λ looked. inr (omega arith);
       unmarked = λ marked. is_unmarked marked;
       moment = refl;
     }) where
       is_unmarked : IsMarked nothing → ⊥
       is_unmarked marked = ⊎_elim false≢true (⊎_elim false≢true false≢true) marked
 
--- a line of which nothing is ready, and whose moment is to come
+-- a line of which nothing is ready, whose moment is to come, and that isn't looked at from before
 pub idle_begun : (now : ℕ) (mark : Readiness) (watch : Watch) → ¬ IsMarked mark → now < watch.moment
-    → HasBegun now mark mark watch watch
-idle_begun now mark watch unmarked later = record {
+    → ¬ IsTrue watch.is_due → HasBegun now mark mark watch watch
+idle_begun now mark watch unmarked later waits = record {
   due = λ due. absurd (⊎_elim unmarked (λ (came : watch.moment ≤ now).
       let none : ⊥ = omega (arith, later, came) in none) due);
-  only = λ looked. inr looked;
+  only = λ looked. absurd (waits looked);
   unmarked = unmarked;
   moment = refl;
 }

@@ -56,6 +56,14 @@ watch_at watches place = get_or watches place at_once
 abbrev pub IsInGroup : (place group : ℕ) → Type 0
 IsInGroup place group = (16 * group ≤ place) × (place < 16 * group + 16)
 
+-- a line is looked at, from the first of these places on, up to the other
+pub record IsAnyDue (watches : List Watch) (first end : ℕ) : Type 0 where
+  pub place : ℕ
+  pub from : first ≤ place
+  pub before : place < end
+  pub within : place < length watches
+  pub due : IsTrue (watch_at watches place).is_due
+
 -- When the first of these lines wants to be looked at: none of them wants that before, and one wants it then, unless
 -- none wants it ever.
 pub record IsFirstMoment (watches : List Watch) (first end moment : ℕ) : Type 0 where

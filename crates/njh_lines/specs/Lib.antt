@@ -2,4 +2,5 @@ pub mod Attention
 pub mod Connecting
 pub mod LineStates
 pub mod Watching
+pub mod Wires
 pub mod Wrong

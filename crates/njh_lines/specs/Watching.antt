@@ -63,11 +63,11 @@ IsToBePrompted seen place parts = (line : ServedLine) (noted : Traffic) → slic
 
 -- ---- what a round looks at
 
--- A line is looked at if something of it is ready or its moment came, and not else, unless it was before. No mark of
--- it stays, and its moment is what it was.
+-- A line is looked at if something of it is ready or its moment came, and not else. No mark of it stays, and its moment
+-- is what it was.
 pub record HasBegun (now : ℕ) (mark new_mark : Readiness) (watch new_watch : Watch) : Type 0 where
   pub due : IsDue mark watch.moment now → IsTrue new_watch.is_due
-  pub only : IsTrue new_watch.is_due → IsDue mark watch.moment now ⊎ IsTrue watch.is_due
+  pub only : IsTrue new_watch.is_due → IsDue mark watch.moment now
   pub unmarked : ¬ IsMarked new_mark
   pub moment : new_watch.moment ≡ watch.moment
 
@@ -89,7 +89,7 @@ pub record IsRoundBegun (lines : ℕ) (old new : Watched) : Type 0 where
 -- ---- until when it waits
 
 -- Each of so many lines has its mark and its watch, and is in a group. No group wants to be looked at later than one of
--- its lines does, and the attendant doesn't wait for longer.
+-- its lines does, and the attendant doesn't wait for longer. A group is looked at in this round if one of its lines is.
 pub record AreGrouped (lines : ℕ) (ready : List Readiness) (watches groups : List Watch) (next : ℕ) : Type 0 where
   pub many_marks : length ready ≡ lines
   pub many_watches : length watches ≡ lines
@@ -97,3 +97,5 @@ pub record AreGrouped (lines : ℕ) (ready : List Readiness) (watches groups : L
   pub covered : (group place : ℕ) → IsInGroup place group → place < lines
       → (watch_at groups group).moment ≤ (watch_at watches place).moment
   pub waits : (place : ℕ) → place < lines → next ≤ (watch_at watches place).moment
+  pub due : (group place : ℕ) → IsInGroup place group → place < lines → IsTrue (watch_at watches place).is_due
+      → IsTrue (watch_at groups group).is_due

@@ -1,7 +1,8 @@
 //! How long the attendant waits, and what it looks at then.
 
-ghost use Rattle.std.specs.Prelude.{◌≡◌, ◌↔◌, ◌<◌, ◌≤◌, ◌+◌, ◌*◌, ℕ, length, min, false, IsTrue, OnErr, OnOk};
-ghost use Rattle.njh_lines.specs.Attention.{IsAnyMarked, IsInGroup, IsFirstMoment, IsMarked, IsWanted};
+ghost use Rattle.std.specs.Prelude.{◌≡◌, ◌↔◌, ◌⊎◌, ◌<◌, ◌≤◌, ◌+◌, ◌*◌, ℕ, length, min, false};
+ghost use Rattle.std.specs.Prelude.{IsTrue, OnErr, OnOk};
+ghost use Rattle.njh_lines.specs.Attention.{IsAnyDue, IsAnyMarked, IsInGroup, IsFirstMoment, IsMarked, IsWanted};
 ghost use Rattle.njh_lines.specs.Attention.{wait_of, watch_at};
 
 use njh_wire::Readiness;
@@ -60,6 +61,23 @@ impl Watch {
         self.is_due
     }
 
+    /// Whether a group is gone through as a round begins: it is looked at, something of a line is
+    /// ready, or its moment came.
+    pub(crate) fn wakes(&self, is_ready: bool, now: u64) -> bool
+        ensures { IsTrue result ↔ (IsTrue self.now.is_due ⊎ IsWanted is_ready self.now.moment now) }
+    {
+        self.is_due || (is_ready || self.moment <= now)
+    }
+
+    /// It is looked at in this round, if it is so, or was before.
+    pub(crate) fn look(&mut self, is_due: bool)
+        ensures moment { self.new.moment ≡ self.old.moment }
+        ensures stays { IsTrue self.old.is_due → IsTrue self.new.is_due }
+        ensures due { IsTrue is_due → IsTrue self.new.is_due }
+    {
+        self.is_due = self.is_due || is_due;
+    }
+
     /// It wants to be looked at at this moment, if not before.
     pub(crate) fn call(&mut self, moment: u64)
         ensures { self.new ≡ record self.old { moment = min self.old.moment moment } }
@@ -81,6 +99,18 @@ pub(crate) fn is_any_marked(ready: &[Readiness], first: usize, end: usize) -> bo
 {
     for place in first..end.min(ready.len()) {
         if is_marked(ready[place]) {
+            return true;
+        }
+    }
+    false
+}
+
+/// Whether a line is looked at, from the first of these places on, up to the other.
+pub(crate) fn is_any_due(watches: &[Watch], first: usize, end: usize) -> bool
+    ensures { IsTrue result ↔ IsAnyDue watches.now first end }
+{
+    for place in first..end.min(watches.len()) {
+        if watches[place].is_due {
             return true;
         }
     }
@@ -112,7 +142,10 @@ pub(crate) fn places_of(group: usize, many: usize) -> (usize, usize)
 /// only refusal.
 pub(crate) fn add_to_groups(groups: &mut Vec<Watch>, place: usize) -> Result<(), AllocError>
     ensures lowers { (group : ℕ) → (watch_at groups.new.items group).moment ≤ (watch_at groups.old.items group).moment }
+    ensures stays { (group : ℕ) → IsTrue (watch_at groups.old.items group).is_due →
+        IsTrue (watch_at groups.new.items group).is_due }
     ensures calls { OnOk result ((group : ℕ) → IsInGroup place group → (watch_at groups.new.items group).moment ≡ 0) }
+    ensures due { OnOk result ((group : ℕ) → IsInGroup place group → IsTrue (watch_at groups.new.items group).is_due) }
     ensures room { place ≤ 16 * length groups.old.items → OnOk result (place < 16 * length groups.new.items) }
     ensures err { OnErr result (groups.new.items ≡ groups.old.items) }
 {
@@ -120,6 +153,7 @@ pub(crate) fn add_to_groups(groups: &mut Vec<Watch>, place: usize) -> Result<(),
         groups.push(AT_ONCE)?;
     }
     call_group(groups, place, 0);
+    look_at_group(groups, place, true);
     Ok(())
 }
 
@@ -128,10 +162,28 @@ pub(crate) fn call_group(groups: &mut Vec<Watch>, place: usize, moment: u64)
     ensures many { length groups.new.items ≡ length groups.old.items }
     ensures lowers { (group : ℕ) → (watch_at groups.new.items group).moment ≤ (watch_at groups.old.items group).moment }
     ensures calls { (group : ℕ) → IsInGroup place group → (watch_at groups.new.items group).moment ≤ moment }
+    ensures stays { (group : ℕ) → IsTrue (watch_at groups.old.items group).is_due →
+        IsTrue (watch_at groups.new.items group).is_due }
 {
     let group = place / GROUP;
     if group < groups.len() {
         groups[group].call(moment);
+    }
+}
+
+/// The group of the line at this place is looked at in this round if the line is.
+pub(crate) fn look_at_group(groups: &mut Vec<Watch>, place: usize, is_due: bool)
+    ensures many { length groups.new.items ≡ length groups.old.items }
+    ensures moments { (group : ℕ) → (watch_at groups.new.items group).moment
+        ≡ (watch_at groups.old.items group).moment }
+    ensures stays { (group : ℕ) → IsTrue (watch_at groups.old.items group).is_due →
+        IsTrue (watch_at groups.new.items group).is_due }
+    ensures due { (group : ℕ) → IsInGroup place group → IsTrue is_due →
+        IsTrue (watch_at groups.new.items group).is_due }
+{
+    let group = place / GROUP;
+    if group < groups.len() {
+        groups[group].look(is_due);
     }
 }
 

@@ -18,9 +18,12 @@ ghost use Rattle.njh_lines.specs.Connecting.{IsConnected};
 ghost use Rattle.njh_lines.specs.LineStates.{line_settled, line_wished, AreFree, AreMade, NoneDrains};
 ghost use Rattle.njh_lines.specs.Watching.{served_line, HasBegun, HasNoted, HaveBegun, IsRoundBegun, IsToBePrompted};
 ghost use Rattle.njh_lines.specs.Watching.{ServedLine};
+ghost use Rattle.njh_lines.specs.Wires.{AreHeld, AreLetOut, IsLeft, IsLetOut};
 ghost use Rattle.njh_lines.specs.declared.attention.Watch.{Watch};
 
-use crate::attention::{AT_ONCE, NOTHING, Watch, add_to_groups, call_group, wait_of};
+use crate::attention::{
+    AT_ONCE, NOTHING, Watch, add_to_groups, call_group, look_at_group, wait_of,
+};
 use crate::groups::{begin_groups, end_group};
 use crate::line_state::is_draining;
 use crate::post::Post;
@@ -316,6 +319,7 @@ impl<N: Network + Drop, L: Write + Drop> Exchange<N, L> {
         ensures still { AreStill IsTallied (λ wire. wire.failures) wires.old wires.new }
         ensures lines { self.new.lines ≡ self.old.lines }
         ensures begun { IsRoundBegun (min (length self.old.lines) (length wires.old)) self.old self.new }
+        ensures held { AreHeld 0 (length wires.old) self.old.lines self.new.watches wires.old wires.new }
     {
         self.wait(until);
         begin_groups(self, wires);
@@ -352,6 +356,7 @@ impl<N: Network + Drop, L: Write + Drop> Exchange<N, L> {
         let ready = &mut self.ready[place];
         let watch = &mut self.watches[place];
         begin(&mut self.surroundings, place, post, ready, watch, wire);
+        look_at_group(&mut self.groups, place, watch.is_due);
     }
 
     /// Whether a line is looked at in this round.
@@ -398,6 +403,8 @@ impl<N: Network + Drop, L: Write + Drop> Exchange<N, L> {
         ensures lines { self.new.lines ≡ self.old.lines }
         ensures waits { (place : ℕ) → place < length self.new.lines →
             self.new.next ≤ (watch_at self.new.watches place).moment }
+        ensures out { AreLetOut N.Connection.moved (length self.old.lines) 0 (length wires.old) self.old.watches
+            wires.old wires.new }
     {
         let mut next = u64::MAX;
         for group in 0..self.groups.len() {
@@ -415,13 +422,13 @@ impl<N: Network + Drop, L: Write + Drop> Exchange<N, L> {
         ensures lines { self.new.lines ≡ self.old.lines }
         ensures others { (other : ℕ) → other ≢ place →
             watch_at self.new.watches other ≡ watch_at self.old.watches other }
+        ensures out { IsTrue (watch_at self.old.watches place).is_due →
+            IsLetOut N.Connection.moved wire.old wire.new }
     {
         if !self.is_due(place) {
             return;
         }
-        if wire.waits_to_send() {
-            wire.flush();
-        }
+        wire.flush();
         let moment = self.apply_session(place, hub, wire);
         self.rest(place, moment);
     }
@@ -454,6 +461,7 @@ impl<N: Network + Drop, L: Write + Drop> Exchange<N, L> {
             slice_get self.old.refusals place ≡ Some seen → HasLine hub.now line.id → ¬ HasGivenUp hub.now line.id →
             ¬ HasRefusedMore seen (line_view (hub_line line.id hub.now).state) →
             wire.new.connection ≡ wire.old.connection }
+        ensures left { IsLeft wire.old wire.new }
         ensures quiet { (line : ServedLine) → slice_get self.old.lines place ≡ Some line → HasLine hub.now line.id →
             wire.new.quiet ≡ quiet_on line.id hub.now }
     {

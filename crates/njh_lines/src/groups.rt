@@ -5,8 +5,9 @@ ghost use Rattle.njh_turns.specs.Service.{AreStill};
 ghost use Rattle.njh_wire.specs.Tally.{IsTallied};
 ghost use Rattle.njh_lines.specs.Attention.{mark_at, watch_at, IsAnyMarked, IsInGroup};
 ghost use Rattle.njh_lines.specs.Watching.{HasBegun, HaveBegun};
+ghost use Rattle.njh_lines.specs.Wires.{AreHeld, AreLetOut};
 
-use crate::attention::{AT_ONCE, Watch, first_moment, is_any_marked, places_of};
+use crate::attention::{AT_ONCE, Watch, first_moment, is_any_due, is_any_marked, places_of};
 use crate::exchange::Exchange;
 use njh_hub::Hub;
 use njh_wire::{LineWire, Network};
@@ -23,6 +24,7 @@ pub(crate) fn begin_groups<N: Network + Drop, L: Write + Drop>(
     ensures begun { (place : ℕ) → place < min (length exchange.old.lines) (length wires.old) →
         HasBegun exchange.old.now (mark_at exchange.old.ready place) (mark_at exchange.new.ready place)
         (watch_at exchange.old.watches place) (watch_at exchange.new.watches place) }
+    ensures held { AreHeld 0 (length wires.old) exchange.old.lines exchange.new.watches wires.old wires.new }
 {
     for group in 0..exchange.groups.len() {
         begin_group(exchange, group, wires);
@@ -41,6 +43,7 @@ fn begin_group<N: Network + Drop, L: Write + Drop>(
     ensures begun { HaveBegun exchange.old.now (min (16 * group) (length wires.old))
         (min (16 * group + 16) (length wires.old)) exchange.old.ready exchange.new.ready exchange.old.watches
         exchange.new.watches }
+    ensures held { AreHeld (16 * group) (16 * group + 16) exchange.old.lines exchange.new.watches wires.old wires.new }
 {
     if !wakes(exchange, group) {
         return;
@@ -64,6 +67,8 @@ pub(crate) fn end_group<N: Network + Drop, L: Write + Drop>(
         result ≤ (watch_at exchange.new.watches place).moment }
     ensures others { (place : ℕ) → ¬ IsInGroup place group →
         watch_at exchange.new.watches place ≡ watch_at exchange.old.watches place }
+    ensures out { AreLetOut N.Connection.moved (length exchange.old.lines) (16 * group) (16 * group + 16)
+        exchange.old.watches wires.old wires.new }
 {
     let watch = watch_of(exchange, group);
     if !watch.is_due {
@@ -76,18 +81,20 @@ pub(crate) fn end_group<N: Network + Drop, L: Write + Drop>(
     rest_group(exchange, group)
 }
 
-/// Whether something of a group's lines is ready, or the moment of one came.
-fn wakes<N: Network + Drop, L: Write + Drop>(exchange: &mut Exchange<N, L>, group: usize) -> bool
-    ensures same { exchange.new ≡ exchange.old }
-    ensures idle { ¬ IsTrue result → (place : ℕ) → IsInGroup place group → HasBegun exchange.old.now
-        (mark_at exchange.old.ready place) (mark_at exchange.old.ready place) (watch_at exchange.old.watches place)
-        (watch_at exchange.old.watches place) }
+/// Whether the lines of a group are gone through: something of one is ready, the moment of one
+/// came, or one is looked at from before.
+fn wakes<N: Network + Drop, L: Write + Drop>(exchange: &Exchange<N, L>, group: usize) -> bool
+    ensures idle { ¬ IsTrue result → (place : ℕ) → IsInGroup place group → HasBegun exchange.now.now
+        (mark_at exchange.now.ready place) (mark_at exchange.now.ready place) (watch_at exchange.now.watches place)
+        (watch_at exchange.now.watches place) }
+    ensures none { ¬ IsTrue result → (place : ℕ) → IsInGroup place group → place < length exchange.now.lines →
+        ¬ IsTrue (watch_at exchange.now.watches place).is_due }
 {
     let is_ready = is_ready(exchange, group);
     if exchange.groups.len() <= group {
         return true;
     }
-    exchange.groups[group].begin(is_ready, exchange.surroundings.now)
+    exchange.groups[group].wakes(is_ready, exchange.surroundings.now)
 }
 
 /// Whether something of a group's lines is ready.
@@ -102,6 +109,8 @@ fn is_ready<N: Network + Drop, L: Write + Drop>(exchange: &Exchange<N, L>, group
 fn watch_of<N: Network + Drop, L: Write + Drop>(exchange: &Exchange<N, L>, group: usize) -> Watch
     ensures first { (place : ℕ) → IsInGroup place group → place < length exchange.now.lines →
         result.moment ≤ (watch_at exchange.now.watches place).moment }
+    ensures due { (place : ℕ) → IsInGroup place group → place < length exchange.now.lines →
+        IsTrue (watch_at exchange.now.watches place).is_due → IsTrue result.is_due }
 {
     if exchange.groups.len() <= group {
         return AT_ONCE;
@@ -120,8 +129,9 @@ fn rest_group<N: Network + Drop, L: Write + Drop>(
 {
     let (first, end) = places_of(group, exchange.watches.len());
     let moment = first_moment(&exchange.watches, first, end);
+    let is_due = is_any_due(&exchange.watches, first, end);
     if group < exchange.groups.len() {
-        exchange.groups[group] = Watch::until(moment);
+        exchange.groups[group] = Watch { moment, is_due };
     }
     moment
 }

@@ -12,6 +12,7 @@ ghost use Rattle.njh_sight.specs.Awaiting.{awaits_again, told_awaited};
 ghost use Rattle.njh_sight.specs.News.{after_telling, told_now, IsTold};
 ghost use Rattle.njh_sight.specs.Sessions.{after_step, barred_until, news_seen, session_end, tries_end, HasRefused};
 ghost use Rattle.njh_sight.specs.Steps.{steps_after};
+ghost use Rattle.njh_lines.specs.Wires.{IsLeft};
 ghost use Rattle.njh_lines.specs.Connecting.{moment_seen, silence_of, IsConnected, IsInSession, IsReady};
 
 use crate::connecting::tell_end;
@@ -60,6 +61,7 @@ pub(crate) fn look<N: Network + Drop, L: Write + Drop>(
     ensures kept { HasLine hub.now post.old.line → ¬ HasGivenUp hub.now post.old.line →
         ¬ HasRefused post.old.label (line_view (hub_line post.old.line hub.now).state) →
         wire.new.connection ≡ wire.old.connection }
+    ensures left { IsLeft wire.old wire.new }
     ensures refused { HasLine hub.now post.old.line →
         HasRefused post.old.label (line_view (hub_line post.old.line hub.now).state) → ¬ IsConnected wire.new }
     ensures ended { IsInSession post.old.label.in_session wire.old → HasGivenUp hub.now post.old.line →
@@ -138,6 +140,7 @@ fn end_tries<N: Network + Drop, L: Write + Drop>(
     ensures counts { wire.old.failures ≤ wire.new.failures }
     ensures tally { tally wire.new ≡ tally wire.old }
     ensures closed { IsSome result → wire.new ≡ after_close wire.old }
+    ensures left { IsLeft wire.old wire.new }
     ensures kept { result ≡ None → wire.new ≡ wire.old }
 {
     if label.in_session && wire.is_connected() && hub.has_given_up(id) {
@@ -165,6 +168,7 @@ fn end_refused<N: Network + Drop, L: Write + Drop>(
     ensures refused { IsTrue result ↔ HasRefused label.old session.now }
     ensures barred { IsTrue result → label.new ≡ record label.old { barred_until = barred_until surroundings.old.now } }
     ensures closed { IsTrue result → wire.new ≡ after_close wire.old }
+    ensures left { IsLeft wire.old wire.new }
     ensures logged { IsTrue result → IsSome surroundings.old.log.writer → IsLogged L.contents surroundings.old.log surroundings.new.log }
     ensures kept { ¬ IsTrue result → (wire.new ≡ wire.old) × ((label.new ≡ label.old) × (surroundings.new ≡ surroundings.old)) }
     ensures now { surroundings.new.now ≡ surroundings.old.now }
@@ -230,6 +234,7 @@ fn heard_end<C: Connection + Drop>(wire: &mut LineWire<C>, gave_up: bool) -> Opt
     ensures counts { wire.old.failures ≤ wire.new.failures }
     ensures tally { tally wire.new ≡ tally wire.old }
     ensures kept { wire.new.connection ≡ wire.old.connection }
+    ensures left { IsLeft wire.old wire.new }
     ensures connected { IsConnected wire.old → (result ≡ None) × (wire.new ≡ wire.old) }
     ensures waits { ¬ IsTrue gave_up → IsReady wire.old → (result ≡ None) × (wire.new ≡ wire.old) }
     ensures heard { ¬ IsConnected wire.old → (IsTrue gave_up ⊎ ¬ IsReady wire.old) →

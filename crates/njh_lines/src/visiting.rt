@@ -12,6 +12,7 @@ ghost use Rattle.njh_sight.specs.News.{news_moment, IsTold};
 ghost use Rattle.njh_sites.specs.Opened.{site_kept};
 ghost use Rattle.njh_sight.specs.Sessions.{HasRefused};
 ghost use Rattle.njh_lines.specs.Connecting.{IsReady};
+ghost use Rattle.njh_lines.specs.Wires.{IsLeft};
 ghost use Rattle.njh_request.specs.declared.request.LineState.TheVariants.{Stopped};
 
 use crate::attention::{NOTHING, Watch, is_marked};
@@ -147,6 +148,7 @@ pub(crate) fn apply_session<N: Network + Drop, L: Write + Drop>(
     ensures kept { HasLine hub.now post.old.line → ¬ HasGivenUp hub.now post.old.line →
         ¬ HasRefused post.old.label (line_view (hub_line post.old.line hub.now).state) →
         wire.new.connection ≡ wire.old.connection }
+    ensures left { IsLeft wire.old wire.new }
     ensures quiet { HasLine hub.now post.old.line → wire.new.quiet ≡ quiet_on post.old.line hub.now }
 {
     let now = surroundings.now;
@@ -180,6 +182,7 @@ fn visit<N: Network + Drop, L: Write + Drop>(
     ensures kept { HasLine hub.now post.old.line → ¬ HasGivenUp hub.now post.old.line →
         ¬ HasRefused post.old.label (line_view (hub_line post.old.line hub.now).state) →
         wire.new.connection ≡ wire.old.connection }
+    ensures left { IsLeft wire.old wire.new }
 {
     let now = surroundings.now;
     let begun = wire.begun();
@@ -210,6 +213,7 @@ fn set_quiet<C: Connection + Drop>(id: LineId, hub: &Hub, wire: &mut LineWire<C>
     ensures counts { wire.old.failures ≤ wire.new.failures }
     ensures tally { tally wire.new ≡ tally wire.old }
     ensures kept { wire.new.connection ≡ wire.old.connection }
+    ensures left { IsLeft wire.old wire.new }
 {
     if let Ok(session) = hub.session(id) {
         wire.set_quiet(session.quiet_time());

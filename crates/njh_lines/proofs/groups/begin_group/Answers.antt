@@ -1,9 +1,10 @@
-use Rattle.std.proofs.Common.{◌≡◌, ℕ, ◌+◌, ◌*◌, get_or, length, min, ap, ◌∙◌, sym, subst, arith, refl}
-use Rattle.std.specs.Prelude.{IsTrue}
+use Rattle.std.proofs.Common.{◌≡◌, ℕ, ◌+◌, ◌*◌, List, get_or, length, min, ap, ◌∙◌, sym, subst, arith, refl, inl}
+use Rattle.std.specs.Prelude.{slice_get, IsTrue}
 use Rattle.std.proofs.lemmas.Bool.{false≢true}
-use Rattle.njh_lines.specs.Watching.{HaveBegun, Watched}
+use Rattle.njh_lines.specs.Watching.{HaveBegun, ServedLine}
 use Rattle.njh_lines.proofs.RoundLaws.{begun_after, none_begun}
 use Rattle.njh_lines.proofs.StillLaws.{still_same, still_more}
+use Rattle.njh_lines.proofs.WireLaws.{group_held, held_after, idle_held, none_held, one_held}
 use Rattle.njh_lines.proofs.groups.begin_group.Goals as goal
 
 pub returns-then-not-wakes-clause-still : goal.returns-then-not-wakes-clause-still
@@ -12,32 +13,33 @@ returns-then-not-wakes-clause-still g c =
 
 -- nothing was to be done
 pub returns-then-not-wakes-clause-begun : goal.returns-then-not-wakes-clause-begun
-returns-then-not-wakes-clause-begun g c =
-    let many = length c.args.wires.now in
-    let P : Watched → Type 0 = λ seen.
-    HaveBegun c.args.exchange.now.now (min (16 * c.args.group) many) (min (16 * c.args.group + 16) many)
-    c.args.exchange.now.ready seen.ready c.args.exchange.now.watches seen.watches in
-    subst P (sym c.wakes.ensures.same) record {
-      each = λ p from before. c.wakes.ensures.idle
-          (λ (wakes : IsTrue c.wakes.result). false≢true (sym c.if-not-wakes.true ∙ wakes)) p
-          (omega (arith, from, before), omega (arith, from, before));
-      same_mark = λ p other. refl;
-      same_watch = λ p other. refl;
-    }
+returns-then-not-wakes-clause-begun g c = record {
+  each = λ p from before. c.wakes.ensures.idle
+      (λ (wakes : IsTrue c.wakes.result). false≢true (sym c.if-not-wakes.true ∙ wakes)) p
+      (omega (arith, from, before), omega (arith, from, before));
+  same_mark = λ p other. refl;
+  same_watch = λ p other. refl;
+}
+
+pub returns-then-not-wakes-clause-held : goal.returns-then-not-wakes-clause-held
+returns-then-not-wakes-clause-held g c =
+    idle_held (16 * c.args.group) (16 * c.args.group + 16) c.args.exchange.now.lines c.args.exchange.now.watches
+    c.args.wires.now
+    (λ p from before line. c.wakes.ensures.none
+    (λ (wakes : IsTrue c.wakes.result). false≢true (sym c.if-not-wakes.true ∙ wakes)) p (from, before) line)
 
 pub loop-place-init : goal.loop-place-init
 loop-place-init g c =
-    let same = c.wakes.ensures.same in
     let first = c.places_of-first.ensures.first in
-    let end = c.places_of-first.ensures.end in
-    let P : Watched → Type 0 = λ seen. HaveBegun c.args.exchange.now.now c.places_of-first.result.0
-    c.places_of-first.result.0 c.args.exchange.now.ready seen.ready c.args.exchange.now.watches seen.watches in record {
+    let end = c.places_of-first.ensures.end in record {
       still = still_same c.args.wires.now;
-      lines = ap (λ (seen : Watched). seen.lines) same;
-      now = ap (λ (seen : Watched). seen.now) same;
-      begun = subst P (sym same) (none_begun c.args.exchange.now.now c.places_of-first.result.0 c.args.exchange.now.ready
-          c.args.exchange.now.watches);
+      lines = refl;
+      now = refl;
+      begun = none_begun c.args.exchange.now.now c.places_of-first.result.0 c.args.exchange.now.ready
+          c.args.exchange.now.watches;
       before = omega (arith, first, end);
+      held = none_held c.places_of-first.result.0 c.args.exchange.now.lines c.args.exchange.now.watches
+          c.args.wires.now;
     }
 
 pub loop-place-preserved : goal.loop-place-preserved
@@ -57,7 +59,32 @@ loop-place-preserved g c =
           (omega (arith, c.loop-place.auto.place)) (omega arith) c.loop-place.invariant.begun
           (subst P now c.begin.ensures.begun);
       before = omega (arith, c.loop-place-test.true);
+      held = held_after _ c.loop-place.place (c.loop-place.place + 1)
+          c.args.exchange.now.lines c.args.exchange.now.lines c.loop-place.exchange.watches
+          c.begin.new.self.watches c.args.wires.now c.loop-place.wires _
+          (omega (arith, c.loop-place.auto.place)) (omega arith) refl c.loop-place.auto.wires
+          (λ p earlier. c.begin.ensures.begun.same_watch p (inl earlier)) c.loop-place.invariant.held
+          (one_held c.loop-place.place c.args.exchange.now.lines c.begin.new.self.watches c.loop-place.wires
+          c.begin.new.wire (omega (arith, c.loop-place-test.true, c.loop-place.auto.wires))
+          (λ line found stopped due. c.begin.ensures.stopped line
+          (ap (λ (lines : List ServedLine). slice_get lines c.loop-place.place) c.loop-place.invariant.lines ∙ found)
+          stopped
+          ((c.begin.ensures.begun.each c.loop-place.place (omega arith) (omega arith)).only due)));
     }
+
+pub returns-clause-held : goal.returns-clause-held
+returns-clause-held g c =
+    let last : c.loop-place.place ≡ min (16 * c.args.group + 16) (length c.args.wires.now) =
+    omega (
+      arith,
+      c.loop-place-test.false,
+      c.loop-place.invariant.before,
+      c.places_of-first.ensures.end,
+      c.loop-place.auto.wires,
+    ) in
+    group_held c.args.group c.places_of-first.result.0 c.loop-place.place c.args.exchange.now.lines
+    c.loop-place.exchange.watches c.args.wires.now c.loop-place.wires c.places_of-first.ensures.first last
+    c.loop-place.auto.wires c.loop-place.invariant.held
 
 -- all lines of the group have begun
 pub returns-clause-begun : goal.returns-clause-begun

@@ -1,24 +1,24 @@
-use Rattle.std.proofs.Common.{◌≡◌, length, ap, arith}
+use Rattle.std.proofs.Common.{length, arith}
 use Rattle.std.proofs.lemmas.List.{length-map}
-use Rattle.njh_lines.specs.declared.attention.Watch.{Watch}
 use Rattle.njh_lines.specs.Watching.{served_line}
 use Rattle.njh_lines.specs.declared.post.Post.{Post}
-use Rattle.njh_lines.proofs.GroupLaws.{first_of_group, group_rests}
+use Rattle.njh_lines.proofs.GroupLaws.{due_of_group, first_of_group, group_rests}
 use Rattle.njh_lines.proofs.groups.rest_group.Goals as goal
 
--- it is looked at when the first of its lines wants to be
+-- it is looked at when the first of its lines wants to be, and in this round if one of them is
 pub invariant_of-exchange : goal.invariant_of-exchange
 invariant_of-exchange g c =
-    let moment : c.until.result.moment ≡ c.first_moment-moment.result =
-    ap (λ (w : Watch). w.moment) c.until.ensures in
     group_rests _ c.exchange.inside.ready.items c.exchange.inside.watches.items c.exchange.inside.groups.items c.exchange.inside.next
-    c.args.group c.until.result (omega (arith, c.if-group-len.true))
-    (λ place within before.
-    let first = first_of_group _ c.exchange.inside.watches.items c.deref.result.now c.args.group _ _ _
+    c.args.group record { moment = c.first_moment-moment.result; is_due = c.is_any_due-is_due.result }
+    (omega (arith, c.if-group-len.true))
+    (λ place within before. first_of_group _ c.exchange.inside.watches.items c.deref.result.now c.args.group _ _ _
     c.first_moment-moment.result c.deref.ensures.value c.places_of-first.ensures.first c.places_of-first.ensures.end
     (omega (arith, c.exchange.invariant.many_watches)) c.exchange.invariant.many_watches c.first_moment-moment.ensures place
-    within before in
-    omega (arith, first, moment)) c.exchange.invariant
+    within before)
+    (λ place within before due. due_of_group _ c.exchange.inside.watches.items c.deref-2.result.now c.args.group _ _ _
+    c.is_any_due-is_due.result c.deref-2.ensures.value c.places_of-first.ensures.first c.places_of-first.ensures.end
+    (omega (arith, c.exchange.invariant.many_watches)) c.exchange.invariant.many_watches c.is_any_due-is_due.ensures place
+    within before due) c.exchange.invariant
 
 pub returns-then-group-len-clause-first : goal.returns-then-group-len-clause-first
 returns-then-group-len-clause-first g c = λ place within before.

@@ -30,6 +30,8 @@ invariant_of-self-2 g c =
     (omega (arith, here, c.in_ok-add_to_groups.ensures.room (omega (arith, here, c.self.invariant.many_groups))))
     c.add_to_groups.ensures.lowers
     (λ group within. c.in_ok-add_to_groups.ensures.calls group (subst (In group) (sym here) within))
+    c.add_to_groups.ensures.stays
+    (λ group within. c.in_ok-add_to_groups.ensures.due group (subst (In group) (sym here) within))
     c.self.invariant)
 
 -- the line at its site

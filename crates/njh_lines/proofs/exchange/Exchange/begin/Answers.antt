@@ -21,9 +21,10 @@ pub invariant_of-self : goal.invariant_of-self
 invariant_of-self g c =
     let posts = c.self.inside.posts.items in
     begun_more (length posts) c.self.inside.ready.items c.self.inside.watches.items c.self.inside.groups.items
-    c.self.inside.next _ c.args.place c.begin.new.ready c.index_mut-watch.result.now c.begin.new.watch
+    _ c.self.inside.next _ c.args.place c.begin.new.ready c.index_mut-watch.result.now c.begin.new.watch
     (length-set posts c.args.place c.begin.new.post) (omega (arith, c.if-len-place.false))
-    c.index_mut-watch.ensures.value c.begin.ensures.moment c.self.invariant
+    c.index_mut-watch.ensures.value c.begin.ensures.moment c.look_at_group.ensures.many c.look_at_group.ensures.moments
+    c.look_at_group.ensures.stays c.look_at_group.ensures.due c.self.invariant
 
 pub returns-clause-begun : goal.returns-clause-begun
 returns-clause-begun g c =

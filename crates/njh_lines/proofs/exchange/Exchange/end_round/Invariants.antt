@@ -2,13 +2,17 @@ use Rattle.std.specs.Prelude.{◌≡◌, ℕ, ◌*◌, ◌<◌, ◌≤◌, lengt
 use Rattle.njh_turns.specs.Service.{AreStill}
 use Rattle.njh_wire.specs.Tally.{IsTallied}
 use Rattle.njh_lines.specs.Attention.{watch_at}
+use Rattle.njh_lines.specs.Wires.{AreLetOut}
 use Rattle.njh_lines.proofs.exchange.Exchange.end_round.Given as goal
 
--- nothing passed on a wire, none failed less often, the lines are the same, and none so far wants to be
--- looked at before the next moment
+-- nothing passed on a wire, none failed less often, the lines are the same, none so far wants to be looked at before the
+-- next moment, what waited on those so far went out, and the watches of those to come are the same
 abbrev pub invariant-loop-group : goal.invariant-loop-group
 invariant-loop-group g l = record {
   still : AreStill IsTallied (λ wire. wire.failures) l.fn.wires l.wires;
   lines : l.self.lines ≡ l.fn.self.lines;
   waits : (p : ℕ) → p < 16 * l.group → p < length l.self.lines → l.next ≤ (watch_at l.self.watches p).moment;
+  out : AreLetOut g.N.Connection.Connection.moved (length l.fn.self.lines) 0 (16 * l.group) l.fn.self.watches l.fn.wires
+      l.wires;
+  later : (p : ℕ) → 16 * l.group ≤ p → watch_at l.self.watches p ≡ watch_at l.fn.self.watches p;
 }

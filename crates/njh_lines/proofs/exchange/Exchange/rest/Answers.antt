@@ -1,4 +1,5 @@
-use Rattle.std.proofs.Common.{◌≡◌, ap, arith}
+use Rattle.std.proofs.Common.{◌≡◌, ◌∙◌, ap, arith, sym}
+use Rattle.std.proofs.lemmas.Bool.{false≢true}
 use Rattle.njh_lines.specs.declared.attention.Watch.{Watch}
 use Rattle.njh_lines.proofs.GroupLaws.{line_more}
 use Rattle.njh_lines.proofs.exchange.Exchange.rest.Goals as goal
@@ -12,4 +13,5 @@ invariant_of-self g c =
     c.args.place c.until.result (omega (arith, c.if-len-place.false, c.self.invariant.many_watches))
     c.call_group.ensures.many (omega (arith, c.min-self-inside.ensures))
     (omega (arith, c.min-self-inside.ensures, moment)) c.call_group.ensures.lowers
-    (λ group within. let called = calls group within in omega (arith, called, moment)) c.self.invariant
+    (λ group within. let called = calls group within in omega (arith, called, moment)) c.call_group.ensures.stays
+    (λ group within due. absurd (false≢true (sym (ap (λ (w : Watch). w.is_due) c.until.ensures) ∙ due))) c.self.invariant
