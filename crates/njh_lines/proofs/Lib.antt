@@ -1,3 +1,4 @@
+mod CallLaws
 mod GroupLaws
 pub mod PostLaws
 mod RoundLaws

@@ -52,6 +52,15 @@ at_once = record { moment = 0; is_due = true }
 abbrev pub watch_at : List Watch → (place : ℕ) → Watch
 watch_at watches place = get_or watches place at_once
 
+-- a line is called: it is looked at at this moment, if not before
+abbrev pub called : (now : ℕ) → Watch → Watch
+called now watch = record watch { moment = min watch.moment now }
+
+-- Some of these lines were called, and of the others nothing changed.
+abbrev pub AreCalled : (now : ℕ) → (watches new_watches : List Watch) → Type 0
+AreCalled now watches new_watches = (place : ℕ) → (watch_at new_watches place ≡ watch_at watches place)
+    ⊎ (watch_at new_watches place ≡ called now (watch_at watches place))
+
 -- a group is sixteen lines in a row
 abbrev pub IsInGroup : (place group : ℕ) → Type 0
 IsInGroup place group = (16 * group ≤ place) × (place < 16 * group + 16)

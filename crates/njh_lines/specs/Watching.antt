@@ -1,5 +1,5 @@
 -- What is seen of the attendant, and what a round of it looks at.
-use Rattle.std.specs.Prelude.{◌≡◌, ℕ, ◌*◌, ◌<◌, ◌≤◌, ◌⊎◌, IsTrue, List, length, Some, slice_get}
+use Rattle.std.specs.Prelude.{◌≡◌, ℕ, ◌*◌, ◌<◌, ◌≤◌, ◌⊎◌, ◌&&◌, IsTrue, List, length, Some, slice_get}
 use Rattle.std.specs.declared.net.ip_addr.IpAddr.{IpAddr}
 use Rattle.std.specs.declared.net.socket_addr.SocketAddr.{SocketAddr}
 use Rattle.njh_hub.specs.Views.{hub_line, line_view}
@@ -15,7 +15,8 @@ use Rattle.njh_request.specs.declared.request.LineState.{LineState}
 use Rattle.njh_request.specs.declared.request.LineState.TheVariants.{Started}
 use Rattle.njh_lines.specs.declared.post.Post.{Post}
 use Rattle.njh_sites.specs.declared.site.Site.{Site}
-use Rattle.njh_sight.specs.Prompting.{IsPrompted}
+use Rattle.njh_hub.specs.Resting.{HasNext}
+use Rattle.njh_sight.specs.Prompting.{may_prompt, IsPrompted}
 use Rattle.njh_sight.specs.Steps.{IsNoted}
 use Rattle.njh_sight.specs.declared.steps.Steps.{Steps}
 use Rattle.njh_sight.specs.declared.traffic.Traffic.{Traffic}
@@ -60,6 +61,16 @@ HasNoted seen place parts frame = (line : ServedLine) (noted : Steps) → slice_
 abbrev pub IsToBePrompted : Watched → ℕ → List Part → Type 0
 IsToBePrompted seen place parts = (line : ServedLine) (noted : Traffic) → slice_get seen.lines place ≡ Some line
     → slice_get seen.noted place ≡ Some noted → IsPrompted noted parts line.id seen.now
+
+-- The line at a place is this customer's, rests, doesn't owe for too many blocks, and has something to send.
+pub record IsToBeWoken (seen : Watched) (place customer : ℕ) (parts : List Part) : Type 0 where
+  pub line : ServedLine
+  pub noted : Traffic
+  pub there : slice_get seen.lines place ≡ Some line
+  pub known : slice_get seen.noted place ≡ Some noted
+  pub own : line.id.customer ≡ customer
+  pub may : IsTrue (noted.seen.rests && may_prompt noted seen.now)
+  pub has : HasNext parts line.id
 
 -- ---- what a round looks at
 

@@ -1,12 +1,17 @@
 //! Lines to which other lines of their customers gave something to send.
 
 ghost use Rattle.std.specs.Prelude.{◌≡◌, ℕ, ◌<◌, ◌≤◌, length};
-ghost use Rattle.njh_lines.specs.Attention.{watch_at};
+ghost use Rattle.std.specs.Prelude.{◌&&◌, IsTrue};
+ghost use Rattle.njh_hub.specs.Resting.{HasNext};
+ghost use Rattle.njh_sight.specs.Prompting.{may_prompt};
+ghost use Rattle.njh_lines.specs.Attention.{watch_at, AreCalled};
+ghost use Rattle.njh_lines.specs.Watching.{IsToBeWoken};
 
 use crate::attention::call_group;
 use crate::exchange::Exchange;
 use njh_hub::Hub;
-use njh_sight::{CUSTOMERS, Row};
+use njh_sight::{CUSTOMERS, Row, Traffic};
+use njh_table::LineId;
 use njh_wire::Network;
 use std::io::Write;
 
@@ -52,15 +57,36 @@ fn wake_row<N: Network + Drop, L: Write + Drop>(
     hub: &Hub,
 ) -> u64
     ensures lines { exchange.new.lines ≡ exchange.old.lines }
+    ensures woken { (place : ℕ) → row.first ≤ place → place < row.end →
+        IsToBeWoken exchange.old place row.customer hub.now →
+        (watch_at exchange.new.watches place).moment ≤ exchange.old.now }
 {
     let mut held = u64::MAX;
     for place in row.first..row.end {
-        if is_wanted(exchange, place, row.customer, hub) {
-            call(exchange, place);
-        }
+        wake_at(exchange, place, row.customer, hub);
         held = held.min(held_until(exchange, place));
     }
     held
+}
+
+/// Has the line at this place looked at in the next round, if it is this customer's, rests and has
+/// something to send.
+fn wake_at<N: Network + Drop, L: Write + Drop>(
+    exchange: &mut Exchange<N, L>,
+    place: usize,
+    customer: u16,
+    hub: &Hub,
+)
+    ensures lines { exchange.new.lines ≡ exchange.old.lines }
+    ensures noted { exchange.new.noted ≡ exchange.old.noted }
+    ensures now { exchange.new.now ≡ exchange.old.now }
+    ensures calls { AreCalled exchange.old.now exchange.old.watches exchange.new.watches }
+    ensures woken { IsToBeWoken exchange.old place customer hub.now →
+        (watch_at exchange.new.watches place).moment ≤ exchange.old.now }
+{
+    if is_wanted(exchange, place, customer, hub) {
+        call(exchange, place);
+    }
 }
 
 /// Until when the line at this place isn't asked for what it has to send.
@@ -78,19 +104,37 @@ fn is_wanted<N: Network + Drop, L: Write + Drop>(
     place: usize,
     customer: u16,
     hub: &Hub,
-) -> bool {
-    match exchange.posts.get(place) {
-        Some(post) => post.line.customer == customer
-            && post
-                .traffic
-                .wakes(hub, post.line, exchange.surroundings.now),
-        None => false,
-    }
+) -> bool
+    ensures { IsToBeWoken exchange.now place customer hub.now → IsTrue result }
+{
+    let Some(post) = exchange.posts.get(place) else {
+        return false;
+    };
+    wakes(
+        &post.traffic,
+        hub,
+        post.line,
+        customer,
+        exchange.surroundings.now,
+    )
+}
+
+/// Whether a line is this customer's, and is to be visited at once.
+fn wakes(traffic: &Traffic, hub: &Hub, line: LineId, customer: u16, now: u64) -> bool
+    ensures { line.customer ≡ customer → IsTrue (traffic.now.seen.rests && may_prompt traffic.now now) →
+        HasNext hub.now line → IsTrue result }
+{
+    line.customer == customer && traffic.wakes(hub, line, now)
 }
 
 /// A line is looked at in the next round, which doesn't wait.
 pub(crate) fn call<N: Network + Drop, L: Write + Drop>(exchange: &mut Exchange<N, L>, place: usize)
     ensures lines { exchange.new.lines ≡ exchange.old.lines }
+    ensures noted { exchange.new.noted ≡ exchange.old.noted }
+    ensures now { exchange.new.now ≡ exchange.old.now }
+    ensures calls { AreCalled exchange.old.now exchange.old.watches exchange.new.watches }
+    ensures called { place < length exchange.old.lines →
+        (watch_at exchange.new.watches place).moment ≤ exchange.old.now }
 {
     let now = exchange.surroundings.now;
     if exchange.watches.len() <= place {

@@ -1,4 +1,9 @@
-use Rattle.std.proofs.Common.{arith}
+use Rattle.std.proofs.Common.{◌≡◌, ◌≤◌, length, set, ap, sym, subst, ◌∙◌, arith}
+use Rattle.std.proofs.lemmas.List.{length-map}
+use Rattle.njh_lines.specs.Attention.{watch_at, AreCalled}
+use Rattle.njh_lines.specs.Watching.{served_line, Watched}
+use Rattle.njh_lines.specs.declared.post.Post.{Post}
+use Rattle.njh_lines.proofs.CallLaws.{one_called, one_early}
 use Rattle.njh_lines.proofs.GroupLaws.{line_called}
 use Rattle.njh_lines.proofs.waking.call.Goals as goal
 
@@ -11,3 +16,27 @@ invariant_of-exchange g c =
     c.call.ensures c.call_group.ensures.many c.min-exchange-inside.ensures
     c.call_group.ensures.lowers c.call_group.ensures.calls
     c.call_group.ensures.stays c.exchange.invariant
+
+pub returns-clause-calls : goal.returns-clause-calls
+returns-clause-calls g c =
+    let Calls : Watched → Type 0 = λ seen. AreCalled seen.now seen.watches
+    (set c.exchange.inside.watches.items c.args.place c.call.new.self) in
+    subst Calls c.exchange.view_is (one_called c.exchange.inside.surroundings.now c.exchange.inside.watches.items
+    c.args.place c.index_mut.result.now c.call.new.self (omega (arith, c.if-len-place.false))
+    c.index_mut.ensures.value c.call.ensures)
+
+pub returns-clause-called : goal.returns-clause-called
+returns-clause-called g c = λ there.
+    let Early : Watched → Type 0 = λ seen.
+    (watch_at (set c.exchange.inside.watches.items c.args.place c.call.new.self) c.args.place).moment ≤ seen.now in
+    subst Early c.exchange.view_is (one_early c.exchange.inside.surroundings.now c.exchange.inside.watches.items
+    c.args.place c.index_mut.result.now c.call.new.self (omega (arith, c.if-len-place.false)) c.call.ensures)
+
+-- each line has its watch
+pub returns-then-len-place-clause-called : goal.returns-then-len-place-clause-called
+returns-then-len-place-clause-called g c = λ there.
+    let lines : length c.args.exchange.now.lines ≡ length c.exchange.inside.posts.items =
+    sym (ap (λ (seen : Watched). length seen.lines) c.exchange.view_is)
+    ∙ length-map c.exchange.inside.posts.items
+    (λ (post : Post g.row.N-Listener.Denot g.row.N-Connection.Denot). served_line g.N.Network.address_of post) in
+    let none : ⊥ = omega (arith, there, lines, c.exchange.invariant.many_watches, c.if-len-place.true) in absurd none

@@ -1,6 +1,14 @@
-use Rattle.std.specs.Prelude.{◌≡◌}
+use Rattle.std.specs.Prelude.{◌≡◌, ℕ, ◌<◌, ◌≤◌}
+use Rattle.njh_lines.specs.Attention.{watch_at}
+use Rattle.njh_lines.specs.Watching.{IsToBeWoken}
 use Rattle.njh_lines.proofs.waking.wake_row.Given as goal
 
--- the lines are the same
+-- the lines are the same, and of those so far each that is to be woken is looked at at this moment, if not before
 abbrev pub invariant-loop-place : goal.invariant-loop-place
-invariant-loop-place g l = l.exchange.lines ≡ l.fn.exchange.lines
+invariant-loop-place g l = record {
+  lines : l.exchange.lines ≡ l.fn.exchange.lines;
+  noted : l.exchange.noted ≡ l.fn.exchange.noted;
+  now : l.exchange.now ≡ l.fn.exchange.now;
+  woken : (p : ℕ) → l.fn.row.first ≤ p → p < l.place → IsToBeWoken l.fn.exchange p l.fn.row.customer l.hub
+      → (watch_at l.exchange.watches p).moment ≤ l.fn.exchange.now;
+}
