@@ -1,4 +1,5 @@
-//! The whole of the program, over any files and streams.
+//! The whole of the program, on this machine and over any streams. What it calls is for any runtime;
+//! that this machine has one is proved here, once for all programs that call it.
 
 ghost use Rattle.std.specs.Prelude.{◌≡◌, ◌≤◌, ◌⊎◌, map, Err, IfErr, OnOk, OnErr};
 ghost use Rattle.std.specs.Io.KnownBytes.{Keeps};
@@ -10,15 +11,13 @@ ghost use Rattle.njh_subcommands.specs.Status.{status_after, ComesFirst};
 
 use crate::refusals::show_or_refuse;
 use crate::requests::carry_out_request;
-use crate::spooling::Spooling;
 use crate::standard_error::StandardError;
 use njh_arguments::{not_utf8, request_of};
 use njh_subcommands::Failure;
 use std::convert::AsStr;
 use std::io::{BufWriter, ErrorKind, Read, Write};
-use std::net::Net;
 use std::process::ExitCode;
-use std::rt::{Clock, Env, Files};
+use std::rt::{Env, HostRuntime};
 use std::{env, io};
 
 /// How many bytes are written at once, at most: 64 kB.
@@ -26,10 +25,7 @@ const WRITTEN_AT_ONCE: usize = 65_536;
 
 /// Runs the program, and answers the status to end with. Why it failed, if it did, goes to
 /// `errors`.
-pub fn run<R: Env + Files + Spooling + Net + Clock + Input + Print + AllocGlobal, E: Print>(
-    rt: &R,
-    errors: &E,
-) -> ExitCode
+pub fn run<E: Print>(rt: &HostRuntime, errors: &E) -> ExitCode
     ensures { exit_status result ≤ 2 }
 {
     end(outcome_of(rt, errors), errors)
@@ -51,10 +47,7 @@ pub fn end<E: Print>(outcome: Result<(), Failure>, errors: &E) -> ExitCode
 
 /// Does what the program's own arguments ask for, over its own streams. The log of a service goes
 /// to `errors`.
-fn outcome_of<R: Env + Files + Spooling + Net + Clock + Input + Print + AllocGlobal, E: Print>(
-    rt: &R,
-    errors: &E,
-) -> Result<(), Failure> {
+fn outcome_of<E: Print>(rt: &HostRuntime, errors: &E) -> Result<(), Failure> {
     let arguments = arguments_of(rt)?;
     let mut out = BufWriter::with_capacity(rt.alloc(), WRITTEN_AT_ONCE, io::writer(rt))?;
     let log = StandardError::new(errors);
@@ -101,14 +94,8 @@ fn arguments_of<R: Env + AllocGlobal>(rt: &R) -> Result<Vec<String>, Failure> {
 /// script. The log of a service goes to `log`, each line behind its priority if it is for a journal.
 /// `script` is what the program is given to read: a script, for `decode` a trace, for `encode` lines
 /// in words.
-pub fn carry_out<
-    F: Files + Spooling + Net + Clock + AllocGlobal,
-    S: AsStr,
-    R: Read,
-    W: Write,
-    L: Write + Drop,
->(
-    rt: &F,
+pub fn carry_out<S: AsStr, R: Read, W: Write, L: Write + Drop>(
+    rt: &HostRuntime,
     arguments: &[S],
     script: &mut R,
     out: &mut W,

@@ -3,22 +3,19 @@
 //! own arguments, whose tables are refused, and ends as the program ends then.
 #![tactic(auto)]
 
-use njh_program::{Failure, Spooling, carry_out};
+use njh_program::{Failure, carry_out};
 use std::alloc::Global;
-use std::fs::File;
 use std::io;
-use std::net::{Net, TcpListener, TcpStream};
 use std::process::ExitCode;
-use std::rt::{Clock, Env, Files};
 use tests_trials::{Log, Program, Run, try_all};
 
-/// The whole program, over these files and sockets.
+/// The whole program, on this machine.
 #[derive(Drop)]
-struct WholeProgram<'a, R> {
-    rt: &'a R,
+struct WholeProgram<'a> {
+    rt: &'a HostRuntime,
 }
 
-impl<R: Files + Spooling + Net + Clock + AllocGlobal> Program for WholeProgram<'_, R> {
+impl Program for WholeProgram<'_> {
     fn run(&self, words: &[&str], run: &mut Run<'_>) -> io::Result<u8> {
         let log = Log {
             bytes: &mut run.logged,
@@ -45,24 +42,9 @@ fn keep_failure(alloc: Global, failure: &Failure, run: &mut Run<'_>) -> io::Resu
     Ok(())
 }
 
-/// Tries all, and then is the program itself.
-fn play<
-    R: Env
-        + Files<File = File>
-        + Spooling
-        + Net<Listener = TcpListener, Stream = TcpStream>
-        + Clock
-        + Input
-        + Print
-        + AllocGlobal,
-    E: Print,
->(rt: &R, errors: &E) -> ExitCode {
-    match try_all(rt, &WholeProgram { rt }) {
-        Ok(()) => njh_program::run(rt, errors),
-        Err(error) => njh_program::end(Err(Failure::from(error)), errors),
-    }
-}
-
 fn main(rt: HostRuntime) -> ExitCode {
-    play(&rt, &rt.stdout())
+    match try_all(&rt, &WholeProgram { rt: &rt }) {
+        Ok(()) => njh_program::run(&rt, &rt.stdout()),
+        Err(error) => njh_program::end(Err(Failure::from(error)), &rt.stdout()),
+    }
 }
