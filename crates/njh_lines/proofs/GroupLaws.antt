@@ -9,7 +9,8 @@ use Rattle.njh_wire.specs.declared.network.Readiness.{Readiness}
 use Rattle.njh_lines.specs.declared.attention.Watch.{Watch}
 use Rattle.njh_lines.specs.Attention.{at_once, mark_at, nothing, watch_at, IsAnyDue, IsAnyMarked, IsFirstMoment, IsInGroup}
 use Rattle.njh_lines.specs.Attention.{IsWanted}
-use Rattle.njh_lines.specs.Watching.{AreGrouped, HasBegun}
+use Rattle.njh_lines.specs.Watching.{AreGrouped, HasBegun, IsGroupsMoment}
+use Rattle.njh_lines.proofs.MomentLaws.{group_called, group_grows, group_stays}
 use Rattle.njh_lines.proofs.RoundLaws.{idle_begun, past_begun}
 
 -- a group is looked at when the first of its lines wants to be
@@ -17,8 +18,8 @@ pub group_rests : (n : ℕ) (r : List Readiness) (w g : List Watch) (next : ℕ)
     → at < length g
     → ((place : ℕ) → IsInGroup place at → place < n → new.moment ≤ (watch_at w place).moment)
     → ((place : ℕ) → IsInGroup place at → place < n → IsTrue (watch_at w place).is_due → IsTrue new.is_due)
-    → AreGrouped n r w g next → AreGrouped n r w (set g at new) next
-group_rests n r w g next at new there first dues fit = record {
+    → IsGroupsMoment n w at new → AreGrouped n r w g next → AreGrouped n r w (set g at new) next
+group_rests n r w g next at new there first dues wanted fit = record {
   many_marks = fit.many_marks;
   many_watches = fit.many_watches;
   many_groups = omega (arith, fit.many_groups, length-set g at new);
@@ -48,6 +49,15 @@ group_rests n r w g next at new there first dues fit = record {
       ap (λ (x : Watch). x.is_due) (get_or-set_other g at group new at_once other)
       ∙ fit.due group place within before its)
       (cases_eq group at);
+  wanted = λ group. ⊎_elim
+      (λ (here : group ≡ at).
+      let Of : ℕ → Type 0 = λ k. IsGroupsMoment n w k (watch_at (set g at new) k) in
+      let At : Watch → Type 0 = λ watch. IsGroupsMoment n w at watch in
+      subst Of (sym here) (subst At (sym (get_or-set_same g at new at_once there)) wanted))
+      (λ (other : group ≢ at).
+      let At : Watch → Type 0 = λ watch. IsGroupsMoment n w group watch in
+      subst At (sym (get_or-set_other g at group new at_once other)) (fit.wanted group))
+      (cases_eq group at);
 }
 
 -- a line is looked at at another moment, its group then or before, and the attendant waits no longer
@@ -57,8 +67,10 @@ pub line_more : (n : ℕ) (r : List Readiness) (w g new_g : List Watch) (next ne
     → ((group : ℕ) → IsInGroup at group → (watch_at new_g group).moment ≤ new.moment)
     → ((group : ℕ) → IsTrue (watch_at g group).is_due → IsTrue (watch_at new_g group).is_due)
     → ((group : ℕ) → IsInGroup at group → IsTrue new.is_due → IsTrue (watch_at new_g group).is_due)
+    → ((group : ℕ) → IsGroupsMoment n w group (watch_at g group)
+    → IsGroupsMoment n (set w at new) group (watch_at new_g group))
     → AreGrouped n r w g next → AreGrouped n r (set w at new) new_g new_next
-line_more n r w g new_g next new_next at new there many sooner early lowers calls stays looks fit =
+line_more n r w g new_g next new_next at new there many sooner early lowers calls stays looks wants fit =
     let many_is = fit.many_watches in record {
       many_marks = fit.many_marks;
       many_watches = length-set w at new ∙ fit.many_watches;
@@ -102,6 +114,7 @@ line_more n r w g new_g next new_next at new there many sooner early lowers call
           ap (λ (x : Watch). x.is_due) (get_or-set_other w at place new at_once other) in
           stays group (fit.due group place within before (sym old ∙ its)))
           (cases_eq place at);
+      wanted = λ group. wants group (fit.wanted group);
     }
 
 -- other marks
@@ -114,6 +127,7 @@ other_marks n r new_r w g next marks fit = record {
   covered = fit.covered;
   waits = fit.waits;
   due = fit.due;
+  wanted = fit.wanted;
 }
 
 -- it waits until another moment, which isn't behind that of a line
@@ -127,6 +141,7 @@ waits_until n r w g next new_next first fit = record {
   covered = fit.covered;
   waits = first;
   due = fit.due;
+  wanted = fit.wanted;
 }
 
 -- it waits no longer
@@ -143,8 +158,9 @@ pub one_line_more : (n : ℕ) (r new_r : List Readiness) (w new_w g new_g : List
     → ((group : ℕ) → IsInGroup n group → (watch_at new_g group).moment ≡ 0)
     → ((group : ℕ) → IsTrue (watch_at g group).is_due → IsTrue (watch_at new_g group).is_due)
     → ((group : ℕ) → IsInGroup n group → IsTrue (watch_at new_g group).is_due)
+    → ((group : ℕ) → ¬ IsInGroup n group → (watch_at new_g group).moment ≡ (watch_at g group).moment)
     → AreGrouped n r w g next → AreGrouped (n + 1) new_r new_w new_g 0
-one_line_more n r new_r w new_w g new_g next marks watches room lowers calls stays looks fit =
+one_line_more n r new_r w new_w g new_g next marks watches room lowers calls stays looks others fit =
     let many : length new_w ≡ length w + 1 = ap length watches ∙ length-append w (at_once ∷ []) in
     let many_marks : length new_r ≡ length r + 1 = ap length marks ∙ length-append r (nothing ∷ []) in record {
       many_marks = omega (arith, many_marks, fit.many_marks);
@@ -178,6 +194,11 @@ one_line_more n r new_r w new_w g new_g next marks watches room lowers calls sta
           let In : ℕ → Type 0 = λ k. IsInGroup k group in
           looks group (subst In here within))
           (cases_lt place n);
+      wanted = λ group. group_grows n w new_w g new_g
+          (λ place old. ap (λ (xs : List Watch). (watch_at xs place).moment) watches
+          ∙ ap (λ (x : Watch). x.moment)
+          (get_or_append_left w (at_once ∷ []) at_once place (omega (arith, old, fit.many_watches)))) looks others
+          stays group (fit.wanted group);
     }
 
 -- a line is looked at at this moment, if not before
@@ -185,10 +206,11 @@ pub line_called : (n : ℕ) (r : List Readiness) (w g new_g : List Watch) (next 
     (was new : Watch) → at < n → was ≡ get_or w at was → new ≡ record was { moment = min was.moment now }
     → length new_g ≡ length g → new_next ≡ min next now
     → ((group : ℕ) → (watch_at new_g group).moment ≤ (watch_at g group).moment)
-    → ((group : ℕ) → IsInGroup at group → (watch_at new_g group).moment ≤ now)
+    → ((group : ℕ) → IsInGroup at group → (watch_at new_g group).moment ≡ min (watch_at g group).moment now)
+    → ((group : ℕ) → ¬ IsInGroup at group → (watch_at new_g group).moment ≡ (watch_at g group).moment)
     → ((group : ℕ) → IsTrue (watch_at g group).is_due → IsTrue (watch_at new_g group).is_due)
     → AreGrouped n r w g next → AreGrouped n r (set w at new) new_g new_next
-line_called n r w g new_g next new_next at now was new there read new_is many next_is lowers calls stays fit =
+line_called n r w g new_g next new_next at now was new there read new_is many next_is lowers calls others stays fit =
     let same : was ≡ watch_at w at = get_or_read w at was (omega (arith, there, fit.many_watches)) read at_once in
     let old : was.moment ≡ (watch_at w at).moment = ap (λ (x : Watch). x.moment) same in
     let is : new.moment ≡ min was.moment now = ap (λ (x : Watch). x.moment) new_is in
@@ -205,6 +227,8 @@ line_called n r w g new_g next new_next at now was new there read new_is many ne
     let due : (watch_at w at).is_due ≡ new.is_due =
     ap (λ (x : Watch). x.is_due) (sym same) ∙ sym (ap (λ (x : Watch). x.is_due) new_is) in
     stays group (fit.due group at within there (due ∙ its)))
+    (group_called n w g new_g at now was new there (omega (arith, there, fit.many_watches)) same new_is
+    (λ group within. let early = fit.covered group at within there in omega (arith, early, old)) calls others stays)
     fit
 
 -- the first of the lines of a group
@@ -289,4 +313,7 @@ begun_more n r w g new_g next many at mark was new many_is there read same group
     let moment = moments group in
     let early = fit.covered group at within there in
     omega (arith, moment, early, same, old))
-    stays looks (other_marks n r (set r at mark) w g next (length-set r at mark) fit))
+    stays looks
+    (group_stays n w g new_g at was new (omega (arith, there, fit.many_watches))
+    (get_or_read w at was (omega (arith, there, fit.many_watches)) read at_once) same moments stays)
+    (other_marks n r (set r at mark) w g next (length-set r at mark) fit))

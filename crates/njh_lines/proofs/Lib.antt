@@ -1,6 +1,8 @@
 mod CallLaws
 mod GroupLaws
+mod MomentLaws
 pub mod PostLaws
+mod RestLaws
 mod RoundLaws
 mod StateLaws
 mod StillLaws

@@ -1,5 +1,5 @@
 -- The lines of posts.
-use Rattle.std.proofs.Common.{◌≡◌, ℕ, ◌<◌, List, length, map, set, get_or, Some, refl, sym, ap, subst, ◌∙◌, arith}
+use Rattle.std.proofs.Common.{◌≡◌, ◌≢◌, ℕ, ◌<◌, List, length, map, set, get_or, Some, refl, sym, ap, subst, ◌∙◌, arith}
 use Rattle.std.specs.Prelude.{option_map, slice_get}
 use Rattle.std.proofs.lemmas.List.{get_or-set_same, length-map, length-set}
 use Rattle.std.proofs.lemmas.Option.{slice_get-get_or, slice_get-map, slice_get_read, slice_get_within, same_Some}
@@ -12,6 +12,7 @@ use Rattle.njh_sites.specs.Opened.{site_kept}
 use Rattle.njh_lines.specs.Watching.{served_line, ServedLine}
 use Rattle.njh_request.specs.declared.request.LineState.{LineState}
 use Rattle.njh_lines.specs.declared.post.Post.{Post}
+use Rattle.njh_lines.proofs.StateLaws.{set_other}
 use Rattle.njh_sites.specs.declared.site.Site.{Site}
 use Rattle.std.proofs.Math.Seq.{map-set_same}
 use Rattle.std.specs.Prelude.{[], ◌∷◌, ◌++◌}
@@ -89,6 +90,15 @@ pub seen_there : {P L : Type 0} (line_of : P → L) (posts : List P) (place : �
 seen_there line_of posts place new line there found =
     line_there line_of (set posts place new) (map line_of (set posts place new)) place new line refl
     (omega (arith, there, length-set posts place new)) (sym (get_or-set_same posts place new new there)) found
+
+-- of the others nothing changed
+pub others_noted : {P L : Type 0} (line_of : P → L) (posts : List P) (lines : List L) (place other : ℕ) (new : P)
+    → map line_of posts ≡ lines → other ≢ place
+    → slice_get (map line_of (set posts place new)) other ≡ slice_get lines other
+others_noted {P} {L} line_of posts lines place other new seen apart =
+    slice_get-map line_of (set posts place new) other
+    ∙ (ap (option_map line_of) (set_other posts place other new apart)
+    ∙ (sym (slice_get-map line_of posts other) ∙ ap (λ (ls : List L). slice_get ls other) seen))
 
 -- a post more
 pub post_added : {L C : Type 0} (address_of : L → SocketAddr) (posts new_posts : List (Post L C)) (post : Post L C)

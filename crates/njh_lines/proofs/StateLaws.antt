@@ -15,7 +15,7 @@ set_at xs k x there =
     slice_get-get_or (set xs k x) k x (omega (arith, there, length-set xs k x))
     ∙ ap Some (get_or-set_same xs k x x there)
 
-set_other : {X : Type 0} (xs : List X) (k other : ℕ) (x : X) → other ≢ k
+pub set_other : {X : Type 0} (xs : List X) (k other : ℕ) (x : X) → other ≢ k
     → slice_get (set xs k x) other ≡ slice_get xs other
 set_other {X} xs k other x apart = ⊎_elim
     (λ (there : other < length xs).

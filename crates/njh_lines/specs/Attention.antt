@@ -81,6 +81,11 @@ pub record IsFirstMoment (watches : List Watch) (first end moment : ℕ) : Type 
   pub wanted : (moment ≡ 18446744073709551615) ⊎ ((place : ℕ) × (first ≤ place) × (place < end)
       × ((watch_at watches place).moment ≡ moment))
 
+-- One of the lines at these places wants to be looked at at this moment, unless none wants it ever.
+abbrev pub IsMomentOf : (among : ℕ → Type 0) → List Watch → (moment : ℕ) → Type 0
+IsMomentOf among watches moment = (moment ≡ 18446744073709551615)
+    ⊎ ((place : ℕ) × (among place) × ((watch_at watches place).moment ≡ moment))
+
 -- ---- when it looks again
 
 -- the first of three moments

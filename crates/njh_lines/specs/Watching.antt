@@ -6,7 +6,7 @@ use Rattle.njh_hub.specs.Views.{hub_line, line_view}
 use Rattle.njh_hub.specs.WholeHub.{HasLine, Part}
 use Rattle.njh_table.specs.declared.LineId.{LineId}
 use Rattle.njh_wire.specs.declared.network.Readiness.{Readiness}
-use Rattle.njh_lines.specs.Attention.{IsDue, IsInGroup, IsMarked, mark_at, watch_at}
+use Rattle.njh_lines.specs.Attention.{IsDue, IsInGroup, IsMarked, IsMomentOf, mark_at, watch_at}
 use Rattle.njh_sites.specs.Opened.{site_kept, site_on}
 use Rattle.njh_lines.specs.declared.attention.Watch.{Watch}
 use Rattle.njh_sites.specs.declared.endpoints.Endpoint.{Endpoint}
@@ -16,8 +16,10 @@ use Rattle.njh_request.specs.declared.request.LineState.TheVariants.{Started}
 use Rattle.njh_lines.specs.declared.post.Post.{Post}
 use Rattle.njh_sites.specs.declared.site.Site.{Site}
 use Rattle.njh_hub.specs.Resting.{HasNext}
+use Rattle.njh_sight.specs.News.{news_moment}
 use Rattle.njh_sight.specs.Prompting.{may_prompt, IsPrompted}
 use Rattle.njh_sight.specs.Steps.{IsNoted}
+use Rattle.njh_sight.specs.declared.customers.Row.{Row}
 use Rattle.njh_sight.specs.declared.steps.Steps.{Steps}
 use Rattle.njh_sight.specs.declared.traffic.Traffic.{Traffic}
 
@@ -37,16 +39,27 @@ abbrev pub served_on : IpAddr → Endpoint → ServedLine
 served_on address endpoint =
     record { id = endpoint.line; site = site_on address endpoint.site; state = Started }
 
+-- What is noted of a line: its traffic, when its site is to be looked at, and when something is to be told of it.
+pub record Noted : Type 0 where
+  pub traffic : Traffic
+  pub site : ℕ
+  pub tells : ℕ
+
+abbrev pub noted_of : {L C : Type 0} → Post L C → Noted
+noted_of post = record { traffic = post.traffic; site = post.moment; tells = news_moment post.label.news }
+
 -- What is seen of the attendant: the lines that it serves, by their places, what it noted of each, and of the steps
 -- on it, how many sign-ons were refused on each as its session was seen last, what is ready of each, when each is
--- looked at, until when it waits, the time, and when files came.
+-- looked at, where the lines of each customer are and when they are looked at for what came, until when it waits, the
+-- time, and when files came.
 pub record Watched : Type 0 where
   pub lines : List ServedLine
-  pub noted : List Traffic
+  pub noted : List Noted
   pub steps : List Steps
   pub refusals : List ℕ
   pub ready : List Readiness
   pub watches : List Watch
+  pub customers : List Row
   pub next : ℕ
   pub now : ℕ
   pub arrivals : Seen
@@ -59,17 +72,17 @@ HasNoted seen place parts frame = (line : ServedLine) (noted : Steps) → slice_
 
 -- The line at a place, if there is one, is to be asked for what it has to send, if it rests.
 abbrev pub IsToBePrompted : Watched → ℕ → List Part → Type 0
-IsToBePrompted seen place parts = (line : ServedLine) (noted : Traffic) → slice_get seen.lines place ≡ Some line
-    → slice_get seen.noted place ≡ Some noted → IsPrompted noted parts line.id seen.now
+IsToBePrompted seen place parts = (line : ServedLine) (noted : Noted) → slice_get seen.lines place ≡ Some line
+    → slice_get seen.noted place ≡ Some noted → IsPrompted noted.traffic parts line.id seen.now
 
 -- The line at a place is this customer's, rests, doesn't owe for too many blocks, and has something to send.
 pub record IsToBeWoken (seen : Watched) (place customer : ℕ) (parts : List Part) : Type 0 where
   pub line : ServedLine
-  pub noted : Traffic
+  pub noted : Noted
   pub there : slice_get seen.lines place ≡ Some line
   pub known : slice_get seen.noted place ≡ Some noted
   pub own : line.id.customer ≡ customer
-  pub may : IsTrue (noted.seen.rests && may_prompt noted seen.now)
+  pub may : IsTrue (noted.traffic.seen.rests && may_prompt noted.traffic seen.now)
   pub has : HasNext parts line.id
 
 -- ---- what a round looks at
@@ -99,8 +112,15 @@ pub record IsRoundBegun (lines : ℕ) (old new : Watched) : Type 0 where
 
 -- ---- until when it waits
 
+-- One of the lines of a group wants to be looked at when the group does, unless none wants it ever, or the group is
+-- looked at in this round.
+abbrev pub IsGroupsMoment : (lines : ℕ) → (watches : List Watch) → (group : ℕ) → Watch → Type 0
+IsGroupsMoment lines watches group watch =
+    IsTrue watch.is_due ⊎ IsMomentOf (λ place. IsInGroup place group × (place < lines)) watches watch.moment
+
 -- Each of so many lines has its mark and its watch, and is in a group. No group wants to be looked at later than one of
--- its lines does, and the attendant doesn't wait for longer. A group is looked at in this round if one of its lines is.
+-- its lines does, and the attendant doesn't wait for longer. A group is looked at in this round if one of its lines is;
+-- else it wants to be when one of them does.
 pub record AreGrouped (lines : ℕ) (ready : List Readiness) (watches groups : List Watch) (next : ℕ) : Type 0 where
   pub many_marks : length ready ≡ lines
   pub many_watches : length watches ≡ lines
@@ -110,3 +130,4 @@ pub record AreGrouped (lines : ℕ) (ready : List Readiness) (watches groups : L
   pub waits : (place : ℕ) → place < lines → next ≤ (watch_at watches place).moment
   pub due : (group place : ℕ) → IsInGroup place group → place < lines → IsTrue (watch_at watches place).is_due
       → IsTrue (watch_at groups group).is_due
+  pub wanted : (group : ℕ) → IsGroupsMoment lines watches group (watch_at groups group)

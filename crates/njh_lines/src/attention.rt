@@ -147,6 +147,8 @@ pub(crate) fn add_to_groups(groups: &mut Vec<Watch>, place: usize) -> Result<(),
     ensures calls { OnOk result ((group : ℕ) → IsInGroup place group → (watch_at groups.new.items group).moment ≡ 0) }
     ensures due { OnOk result ((group : ℕ) → IsInGroup place group → IsTrue (watch_at groups.new.items group).is_due) }
     ensures room { place ≤ 16 * length groups.old.items → OnOk result (place < 16 * length groups.new.items) }
+    ensures others { OnOk result ((group : ℕ) → ¬ IsInGroup place group →
+        (watch_at groups.new.items group).moment ≡ (watch_at groups.old.items group).moment) }
     ensures err { OnErr result (groups.new.items ≡ groups.old.items) }
 {
     if place % GROUP == 0 {
@@ -161,7 +163,10 @@ pub(crate) fn add_to_groups(groups: &mut Vec<Watch>, place: usize) -> Result<(),
 pub(crate) fn call_group(groups: &mut Vec<Watch>, place: usize, moment: u64)
     ensures many { length groups.new.items ≡ length groups.old.items }
     ensures lowers { (group : ℕ) → (watch_at groups.new.items group).moment ≤ (watch_at groups.old.items group).moment }
-    ensures calls { (group : ℕ) → IsInGroup place group → (watch_at groups.new.items group).moment ≤ moment }
+    ensures calls { (group : ℕ) → IsInGroup place group → (watch_at groups.new.items group).moment
+        ≡ min (watch_at groups.old.items group).moment moment }
+    ensures others { (group : ℕ) → ¬ IsInGroup place group → (watch_at groups.new.items group).moment
+        ≡ (watch_at groups.old.items group).moment }
     ensures stays { (group : ℕ) → IsTrue (watch_at groups.old.items group).is_due →
         IsTrue (watch_at groups.new.items group).is_due }
 {

@@ -31,6 +31,7 @@ pub(crate) fn admit<N: Network + Drop, L: Write + Drop>(
     ensures tally { tally wire.new ≡ tally wire.old }
     ensures clock { wire.new.clock ≡ wire.old.clock }
     ensures now { surroundings.new.now ≡ surroundings.old.now }
+    ensures customers { surroundings.new.customers ≡ surroundings.old.customers }
     ensures address { N.address_of listener.new ≡ N.address_of listener.old }
     ensures barred { IsBarred label.old surroundings.old.now → (wire.new ≡ wire.old) × ((label.new ≡ label.old)
         × (result ≡ label.old.barred_until)) }
@@ -63,6 +64,7 @@ fn accept<N: Network + Drop, L: Write + Drop>(
     ensures tally { tally wire.new ≡ tally wire.old }
     ensures clock { wire.new.clock ≡ wire.old.clock }
     ensures now { surroundings.new.now ≡ surroundings.old.now }
+    ensures customers { surroundings.new.customers ≡ surroundings.old.customers }
     ensures address { N.address_of listener.new ≡ N.address_of listener.old }
     ensures same { (result ≡ Admission.Taken) ⊎ (wire.new ≡ wire.old) }
 {
@@ -101,6 +103,7 @@ fn connect<N: Network + Drop, L: Write + Drop>(
     ensures tally { tally wire.new ≡ tally wire.old }
     ensures clock { wire.new.clock ≡ wire.old.clock }
     ensures now { surroundings.new.now ≡ surroundings.old.now }
+    ensures customers { surroundings.new.customers ≡ surroundings.old.customers }
     ensures taken { N.Connection.place_of connection ≡ wire.old.place →
         wire.new ≡ record (after_admission connection (after_displacement wire.old)) { end = None } }
     ensures came { N.Connection.place_of connection ≡ wire.old.place →
@@ -133,6 +136,7 @@ pub(crate) fn drive<N: Network + Drop, L: Write + Drop>(
     ensures tally { tally wire.new ≡ tally wire.old }
     ensures clock { wire.new.clock ≡ wire.old.clock }
     ensures now { surroundings.new.now ≡ surroundings.old.now }
+    ensures customers { surroundings.new.customers ≡ surroundings.old.customers }
     ensures address { dial.new.address ≡ dial.old.address }
     ensures begun { IsToCome dial.old.state surroundings.old.now → (dial_moment dial.new.state ≡ given_up_at surroundings.old.now)
         ⊎ (dial_moment dial.new.state ≡ next_dial dial.old.has_failed surroundings.old.now) }
@@ -175,6 +179,7 @@ fn give_up<N: Network + Drop, L: Write + Drop>(
 )
     ensures failed { dial.new ≡ failed dial.old surroundings.old.now }
     ensures now { surroundings.new.now ≡ surroundings.old.now }
+    ensures customers { surroundings.new.customers ≡ surroundings.old.customers }
     ensures logged { IsSome surroundings.old.log.writer → IsLogged L.contents surroundings.old.log surroundings.new.log }
 {
     dial.fail(surroundings.now);
@@ -189,6 +194,7 @@ fn tell_connected<N: Network + Drop, L: Write + Drop>(
 )
     ensures told { label.new ≡ told_connected label.old surroundings.old.now }
     ensures now { surroundings.new.now ≡ surroundings.old.now }
+    ensures customers { surroundings.new.customers ≡ surroundings.old.customers }
     ensures logged { label.old.again ≤ surroundings.old.now → IsSome surroundings.old.log.writer →
         IsLogged L.contents surroundings.old.log surroundings.new.log }
     ensures silent { surroundings.old.now < label.old.again → surroundings.new ≡ surroundings.old }
@@ -211,6 +217,7 @@ pub(crate) fn tell_end<N: Network + Drop, L: Write + Drop>(
 )
     ensures told { label.new ≡ record label.old { connected = false } }
     ensures now { surroundings.new.now ≡ surroundings.old.now }
+    ensures customers { surroundings.new.customers ≡ surroundings.old.customers }
     ensures logged { IsTrue label.old.connected → IsSome surroundings.old.log.writer →
         IsLogged L.contents surroundings.old.log surroundings.new.log }
     ensures silent { ¬ IsTrue label.old.connected → surroundings.new ≡ surroundings.old }

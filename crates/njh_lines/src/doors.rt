@@ -26,6 +26,7 @@ pub(crate) fn keep_door<N: Network + Drop, L: Write + Drop>(
     ensures tally { tally wire.new ≡ tally wire.old }
     ensures clock { wire.new.clock ≡ wire.old.clock }
     ensures now { surroundings.new.now ≡ surroundings.old.now }
+    ensures customers { surroundings.new.customers ≡ surroundings.old.customers }
     ensures address { door_address N.address_of door.new ≡ door_address N.address_of door.old }
     ensures tried { IsSome (to_try door.old surroundings.old.now) → IsTried surroundings.old.now door.new }
     ensures shut { IsLookedAtAgain door.new result }
@@ -51,6 +52,7 @@ pub(crate) fn try_door<N: Network + Drop, L: Write + Drop>(
     ensures tried { IsSome (to_try door.old surroundings.old.now) → IsTried surroundings.old.now door.new }
     ensures waits { to_try door.old surroundings.old.now ≡ None → door.new ≡ door.old }
     ensures now { surroundings.new.now ≡ surroundings.old.now }
+    ensures customers { surroundings.new.customers ≡ surroundings.old.customers }
     ensures logged { cause_in door.new ≢ cause_in door.old → IsSome surroundings.old.log.writer →
         IsLogged L.contents surroundings.old.log surroundings.new.log }
     ensures silent { cause_in door.new ≡ cause_in door.old → surroundings.new.log ≡ surroundings.old.log }

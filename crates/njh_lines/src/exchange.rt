@@ -1,7 +1,7 @@
 //! What is done with the lines of a service between their turns.
 
 ghost use Rattle.std.specs.Prelude.{◌≡◌, ◌≢◌, ℕ, ◌+◌, ◌*◌, ◌<◌, ◌≤◌, ◌↔◌, ◌∷◌, ◌++◌, [], length, map, min, false};
-ghost use Rattle.std.specs.Prelude.{slice_get, IfOk, IsTrue, OnErr, OnOk, Some};
+ghost use Rattle.std.specs.Prelude.{is_ok, slice_get, IfOk, IsTrue, OnErr, OnOk, Some};
 ghost use Rattle.njh_turns.specs.Service.{AreStill};
 ghost use Rattle.njh_hub.specs.Quiets.{quiet_on};
 ghost use Rattle.njh_hub.specs.Views.{HasGivenUp, hub_line, line_view};
@@ -12,12 +12,14 @@ ghost use Rattle.njh_arrivals.specs.Arrivals.{none_seen};
 ghost use Rattle.njh_sites.specs.Opened.{site_on, site_opened, IsApart};
 ghost use Rattle.njh_sight.specs.Sessions.{HasRefusedMore};
 ghost use Rattle.njh_sight.specs.Steps.{steps_after};
+ghost use Rattle.njh_sight.specs.Waking.{marked, with_line, IsRowMade};
 ghost use Rattle.njh_sight.specs.declared.steps.Steps.{Steps};
 ghost use Rattle.njh_lines.specs.Attention.{at_once, mark_at, watch_at, IsDue, IsInGroup};
 ghost use Rattle.njh_lines.specs.Connecting.{IsConnected};
 ghost use Rattle.njh_lines.specs.LineStates.{line_settled, line_wished, AreFree, AreMade, NoneDrains};
+ghost use Rattle.njh_lines.specs.Resting.{HasRested, HaveEnded, IsNextLook, IsSameAt, WaitsForFirst};
 ghost use Rattle.njh_lines.specs.Watching.{served_line, HasBegun, HasNoted, HaveBegun, IsRoundBegun, IsToBePrompted};
-ghost use Rattle.njh_lines.specs.Watching.{ServedLine};
+ghost use Rattle.njh_lines.specs.Watching.{Noted, ServedLine};
 ghost use Rattle.njh_lines.specs.Wires.{AreHeld, AreLetOut, IsLeft, IsLetOut};
 ghost use Rattle.njh_lines.specs.declared.attention.Watch.{Watch};
 
@@ -67,17 +69,18 @@ pub struct Exchange<N: Network + Drop, L: Write + Drop> {
 
 impl<N: Network + Drop, L: Write + Drop> Model for Exchange<N, L> {
     ghost use Rattle.std.specs.Prelude.{length, map};
-    ghost use Rattle.njh_lines.specs.Watching.{served_line, AreGrouped, Watched};
+    ghost use Rattle.njh_lines.specs.Watching.{noted_of, served_line, AreGrouped, Watched};
 
     ghost Value = { Watched };
 
     ghost view = { λ exchange. record {
       lines = map (served_line N.address_of) exchange.posts.items;
-      noted = map (λ post. post.traffic) exchange.posts.items;
+      noted = map (λ post. noted_of post) exchange.posts.items;
       steps = map (λ post. post.steps) exchange.posts.items;
       refusals = map (λ post. post.label.refusals) exchange.posts.items;
       ready = exchange.ready.items;
       watches = exchange.watches.items;
+      customers = exchange.surroundings.customers;
       next = exchange.next;
       now = exchange.surroundings.now;
       arrivals = exchange.arrivals;
@@ -212,7 +215,9 @@ impl<N: Network + Drop, L: Write + Drop> Exchange<N, L> {
 
     /// Something came, or didn't, that may give the lines of this customer something to send.
     pub fn mark_if(&mut self, customer: u16, has_come: bool)
-        ensures { self.new ≡ self.old }
+        ensures marks { IsTrue has_come → IsRowMade customer marked self.old.customers self.new.customers }
+        ensures none { ¬ IsTrue has_come → self.new.customers ≡ self.old.customers }
+        ensures same { self.new ≡ record self.old { customers = self.new.customers } }
     {
         self.surroundings.customers.mark_if(customer, has_come);
     }
@@ -244,7 +249,10 @@ impl<N: Network + Drop, L: Write + Drop> Exchange<N, L> {
 
     /// Tells what came of an order. By it the lines of the customer may have something to send.
     pub fn note_order(&mut self, new: &NewOrder, answer: Result<(), HubFault>, replies: &Replies)
-        ensures { self.new ≡ self.old }
+        ensures marks { IsTrue (is_ok answer) →
+            IsRowMade new.now.customer marked self.old.customers self.new.customers }
+        ensures none { ¬ IsTrue (is_ok answer) → self.new.customers ≡ self.old.customers }
+        ensures same { self.new ≡ record self.old { customers = self.new.customers } }
     {
         self.surroundings
             .customers
@@ -262,16 +270,18 @@ impl<N: Network + Drop, L: Write + Drop> Exchange<N, L> {
         ensures added { OnOk result (self.new.lines
             ≡ self.old.lines ++ record { id = id; site = site_opened N.address_of site; state = Started } ∷ []) }
         ensures watched { OnOk result (self.new.watches ≡ self.old.watches ++ at_once ∷ []) }
+        ensures row { OnOk result (IsRowMade id.customer (with_line id.customer (length self.old.lines))
+            self.old.customers self.new.customers) }
         ensures err { OnErr result (self.new ≡ self.old) }
     {
         let label = Label::of(names);
-        self.surroundings
-            .customers
-            .add(id.customer, self.posts.len());
         self.posts.reserve(1)?;
         self.ready.reserve(1)?;
         self.watches.reserve(1)?;
         add_to_groups(&mut self.groups, self.posts.len())?;
+        self.surroundings
+            .customers
+            .add(id.customer, self.posts.len());
         self.ready.push_reserved(NOTHING);
         self.watches.push_reserved(AT_ONCE);
         self.posts.push_reserved(Post::new(id, label, site));
@@ -320,6 +330,7 @@ impl<N: Network + Drop, L: Write + Drop> Exchange<N, L> {
         ensures lines { self.new.lines ≡ self.old.lines }
         ensures begun { IsRoundBegun (min (length self.old.lines) (length wires.old)) self.old self.new }
         ensures held { AreHeld 0 (length wires.old) self.old.lines self.new.watches wires.old wires.new }
+        ensures customers { self.new.customers ≡ self.old.customers }
     {
         self.wait(until);
         begin_groups(self, wires);
@@ -330,6 +341,7 @@ impl<N: Network + Drop, L: Write + Drop> Exchange<N, L> {
     fn wait(&mut self, until: u64)
         ensures lines { self.new.lines ≡ self.old.lines }
         ensures watches { self.new.watches ≡ self.old.watches }
+        ensures customers { self.new.customers ≡ self.old.customers }
     {
         self.surroundings.now = self.surroundings.network.now();
         let wait = wait_of(self.surroundings.now, self.next.min(until));
@@ -343,6 +355,7 @@ impl<N: Network + Drop, L: Write + Drop> Exchange<N, L> {
         ensures tally { tally wire.new ≡ tally wire.old }
         ensures lines { self.new.lines ≡ self.old.lines }
         ensures now { self.new.now ≡ self.old.now }
+        ensures customers { self.new.customers ≡ self.old.customers }
         ensures begun { HaveBegun self.old.now place (place + 1) self.old.ready self.new.ready self.old.watches
             self.new.watches }
         ensures stopped { (line : ServedLine) → slice_get self.old.lines place ≡ Some line → line.state ≡ Stopped →
@@ -383,6 +396,7 @@ impl<N: Network + Drop, L: Write + Drop> Exchange<N, L> {
     pub fn follow(&mut self, place: usize, hub: &Hub, frame: &[u8])
         ensures lines { self.new.lines ≡ self.old.lines }
         ensures watches { self.new.watches ≡ self.old.watches }
+        ensures customers { self.new.customers ≡ self.old.customers }
         ensures noted { HasNoted self.new place hub.now frame.now }
         ensures counted { (line : ServedLine) → (was now : Steps) → slice_get self.old.lines place ≡ Some line →
             slice_get self.old.steps place ≡ Some was → slice_get self.new.steps place ≡ Some now →
@@ -401,8 +415,9 @@ impl<N: Network + Drop, L: Write + Drop> Exchange<N, L> {
     pub fn end_round(&mut self, hub: &Hub, wires: &mut [LineWire<N::Connection>])
         ensures still { AreStill IsTallied (λ wire. wire.failures) wires.old wires.new }
         ensures lines { self.new.lines ≡ self.old.lines }
-        ensures waits { (place : ℕ) → place < length self.new.lines →
-            self.new.next ≤ (watch_at self.new.watches place).moment }
+        ensures now { self.new.now ≡ self.old.now }
+        ensures waits { WaitsForFirst self.new }
+        ensures ended { HaveEnded self.old self.new hub.now wires.new }
         ensures out { AreLetOut N.Connection.moved (length self.old.lines) 0 (length wires.old) self.old.watches
             wires.old wires.new }
     {
@@ -420,8 +435,11 @@ impl<N: Network + Drop, L: Write + Drop> Exchange<N, L> {
         ensures counts { wire.old.failures ≤ wire.new.failures }
         ensures tally { tally wire.new ≡ tally wire.old }
         ensures lines { self.new.lines ≡ self.old.lines }
-        ensures others { (other : ℕ) → other ≢ place →
-            watch_at self.new.watches other ≡ watch_at self.old.watches other }
+        ensures now { self.new.now ≡ self.old.now }
+        ensures rests { IsTrue (watch_at self.old.watches place).is_due → place < length self.old.lines →
+            HasRested self.new place wire.new (watch_at self.new.watches place) }
+        ensures idle { ¬ IsTrue (watch_at self.old.watches place).is_due → IsSameAt place self.old self.new }
+        ensures others { (other : ℕ) → other ≢ place → IsSameAt other self.old self.new }
         ensures out { IsTrue (watch_at self.old.watches place).is_due →
             IsLetOut N.Connection.moved wire.old wire.new }
     {
@@ -435,7 +453,11 @@ impl<N: Network + Drop, L: Write + Drop> Exchange<N, L> {
 
     /// A line that was looked at is looked at next at this moment, and its group then or before.
     fn rest(&mut self, place: usize, moment: u64)
+        requires { IsTrue (watch_at self.old.watches place).is_due }
         ensures lines { self.new.lines ≡ self.old.lines }
+        ensures noted { self.new.noted ≡ self.old.noted }
+        ensures customers { self.new.customers ≡ self.old.customers }
+        ensures now { self.new.now ≡ self.old.now }
         ensures rests { place < length self.old.lines →
             watch_at self.new.watches place ≡ record { moment = moment; is_due = false } }
         ensures others { (other : ℕ) → other ≢ place →
@@ -457,6 +479,11 @@ impl<N: Network + Drop, L: Write + Drop> Exchange<N, L> {
         ensures tally { tally wire.new ≡ tally wire.old }
         ensures lines { self.new.lines ≡ self.old.lines }
         ensures watches { self.new.watches ≡ self.old.watches }
+        ensures now { self.new.now ≡ self.old.now }
+        ensures asks { (noted : Noted) → slice_get self.new.noted place ≡ Some noted →
+            IsNextLook wire.new noted self.old.now result }
+        ensures others { (other : ℕ) → other ≢ place →
+            slice_get self.new.noted other ≡ slice_get self.old.noted other }
         ensures kept { (line : ServedLine) → (seen : ℕ) → slice_get self.old.lines place ≡ Some line →
             slice_get self.old.refusals place ≡ Some seen → HasLine hub.now line.id → ¬ HasGivenUp hub.now line.id →
             ¬ HasRefusedMore seen (line_view (hub_line line.id hub.now).state) →

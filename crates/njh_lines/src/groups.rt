@@ -4,6 +4,7 @@ ghost use Rattle.std.specs.Prelude.{◌≡◌, ℕ, ◌+◌, ◌*◌, ◌<◌, �
 ghost use Rattle.njh_turns.specs.Service.{AreStill};
 ghost use Rattle.njh_wire.specs.Tally.{IsTallied};
 ghost use Rattle.njh_lines.specs.Attention.{mark_at, watch_at, IsAnyMarked, IsInGroup};
+ghost use Rattle.njh_lines.specs.Resting.{HaveRested, IsMomentIn};
 ghost use Rattle.njh_lines.specs.Watching.{HasBegun, HaveBegun};
 ghost use Rattle.njh_lines.specs.Wires.{AreHeld, AreLetOut};
 
@@ -21,6 +22,7 @@ pub(crate) fn begin_groups<N: Network + Drop, L: Write + Drop>(
     ensures still { AreStill IsTallied (λ wire. wire.failures) wires.old wires.new }
     ensures lines { exchange.new.lines ≡ exchange.old.lines }
     ensures now { exchange.new.now ≡ exchange.old.now }
+    ensures customers { exchange.new.customers ≡ exchange.old.customers }
     ensures begun { (place : ℕ) → place < min (length exchange.old.lines) (length wires.old) →
         HasBegun exchange.old.now (mark_at exchange.old.ready place) (mark_at exchange.new.ready place)
         (watch_at exchange.old.watches place) (watch_at exchange.new.watches place) }
@@ -40,6 +42,7 @@ fn begin_group<N: Network + Drop, L: Write + Drop>(
     ensures still { AreStill IsTallied (λ wire. wire.failures) wires.old wires.new }
     ensures lines { exchange.new.lines ≡ exchange.old.lines }
     ensures now { exchange.new.now ≡ exchange.old.now }
+    ensures customers { exchange.new.customers ≡ exchange.old.customers }
     ensures begun { HaveBegun exchange.old.now (min (16 * group) (length wires.old))
         (min (16 * group + 16) (length wires.old)) exchange.old.ready exchange.new.ready exchange.old.watches
         exchange.new.watches }
@@ -63,10 +66,11 @@ pub(crate) fn end_group<N: Network + Drop, L: Write + Drop>(
 ) -> u64
     ensures still { AreStill IsTallied (λ wire. wire.failures) wires.old wires.new }
     ensures lines { exchange.new.lines ≡ exchange.old.lines }
+    ensures now { exchange.new.now ≡ exchange.old.now }
     ensures first { (place : ℕ) → IsInGroup place group → place < length exchange.new.lines →
         result ≤ (watch_at exchange.new.watches place).moment }
-    ensures others { (place : ℕ) → ¬ IsInGroup place group →
-        watch_at exchange.new.watches place ≡ watch_at exchange.old.watches place }
+    ensures wanted { IsMomentIn group exchange.new result }
+    ensures rested { HaveRested (16 * group) (16 * group + 16) exchange.old exchange.new wires.new }
     ensures out { AreLetOut N.Connection.moved (length exchange.old.lines) (16 * group) (16 * group + 16)
         exchange.old.watches wires.old wires.new }
 {
@@ -111,6 +115,7 @@ fn watch_of<N: Network + Drop, L: Write + Drop>(exchange: &Exchange<N, L>, group
         result.moment ≤ (watch_at exchange.now.watches place).moment }
     ensures due { (place : ℕ) → IsInGroup place group → place < length exchange.now.lines →
         IsTrue (watch_at exchange.now.watches place).is_due → IsTrue result.is_due }
+    ensures wanted { ¬ IsTrue result.is_due → IsMomentIn group exchange.now result.moment }
 {
     if exchange.groups.len() <= group {
         return AT_ONCE;
@@ -126,6 +131,7 @@ fn rest_group<N: Network + Drop, L: Write + Drop>(
     ensures same { exchange.new ≡ exchange.old }
     ensures first { (place : ℕ) → IsInGroup place group → place < length exchange.new.lines →
         result ≤ (watch_at exchange.new.watches place).moment }
+    ensures wanted { IsMomentIn group exchange.new result }
 {
     let (first, end) = places_of(group, exchange.watches.len());
     let moment = first_moment(&exchange.watches, first, end);

@@ -44,6 +44,7 @@ pub(crate) fn look<N: Network + Drop, L: Write + Drop>(
     ensures line { post.new.line ≡ post.old.line }
     ensures site { site_kept N.address_of post.new.site ≡ site_kept N.address_of post.old.site }
     ensures state { post.new.state ≡ post.old.state }
+    ensures now { surroundings.new.now ≡ surroundings.old.now }
     ensures moment { HasLine hub.now post.old.line →
         let session = line_view (hub_line post.old.line hub.now).state in
         let moment = moment_seen post.old.label session surroundings.old.now post.old.moment in
@@ -96,6 +97,8 @@ pub(crate) fn follow<N: Network + Drop, L: Write + Drop>(
     ensures site { site_kept N.address_of post.new.site ≡ site_kept N.address_of post.old.site }
     ensures state { post.new.state ≡ post.old.state }
     ensures traffic { post.new.traffic ≡ post.old.traffic }
+    ensures now { surroundings.new.now ≡ surroundings.old.now }
+    ensures customers { surroundings.new.customers ≡ surroundings.old.customers }
     ensures steps { HasLine hub.now post.old.line →
         let session = line_view (hub_line post.old.line hub.now).state in
         post.new.steps ≡ steps_after post.old.steps session frame.now }

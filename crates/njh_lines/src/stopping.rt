@@ -31,6 +31,7 @@ pub(crate) fn hold<N: Network + Drop, L: Write + Drop>(
     ensures state { post.new.state ≡ post.old.state }
     ensures ended { ¬ IsConnected wire.new }
     ensures now { surroundings.new.now ≡ surroundings.old.now }
+    ensures customers { surroundings.new.customers ≡ surroundings.old.customers }
 {
     wire.close();
     match &mut post.site {
@@ -55,6 +56,7 @@ fn turn_away<N: Network + Drop, L: Write + Drop>(
     label: &Label,
 ) -> u64
     ensures now { surroundings.new.now ≡ surroundings.old.now }
+    ensures customers { surroundings.new.customers ≡ surroundings.old.customers }
     ensures address { door_address N.address_of door.new ≡ door_address N.address_of door.old }
     ensures shut { IsLookedAtAgain door.new result }
 {
@@ -74,6 +76,7 @@ fn let_go<N: Network + Drop, L: Write + Drop>(
     listener: &mut N::Listener,
 ) -> Admission
     ensures now { surroundings.new.now ≡ surroundings.old.now }
+    ensures customers { surroundings.new.customers ≡ surroundings.old.customers }
     ensures address { N.address_of listener.new ≡ N.address_of listener.old }
 {
     match surroundings.network.accept(listener) {

@@ -41,6 +41,7 @@ impl<N: Network + Drop, L: Write + Drop> Surroundings<N, L> {
     /// Tells of a line.
     pub(crate) fn tell(&mut self, label: &Label, event: LogEvent)
         ensures now { self.new.now ≡ self.old.now }
+        ensures customers { self.new.customers ≡ self.old.customers }
         ensures logged { IsSome self.old.log.writer → IsLogged L.contents self.old.log self.new.log }
     {
         self.tell_at(Place::Line(label.customer, label.line), event);
@@ -49,6 +50,7 @@ impl<N: Network + Drop, L: Write + Drop> Surroundings<N, L> {
     /// Tells of a customer.
     pub(crate) fn tell_of(&mut self, customer: Name, event: LogEvent)
         ensures now { self.new.now ≡ self.old.now }
+        ensures customers { self.new.customers ≡ self.old.customers }
         ensures logged { IsSome self.old.log.writer → IsLogged L.contents self.old.log self.new.log }
     {
         self.tell_at(Place::Customer(customer), event);
@@ -57,6 +59,7 @@ impl<N: Network + Drop, L: Write + Drop> Surroundings<N, L> {
     /// Tells what happened somewhere.
     pub(crate) fn tell_at(&mut self, place: Place, event: LogEvent)
         ensures now { self.new.now ≡ self.old.now }
+        ensures customers { self.new.customers ≡ self.old.customers }
         ensures logged { IsSome self.old.log.writer → IsLogged L.contents self.old.log self.new.log }
     {
         let milliseconds = self.network.utc();
@@ -66,6 +69,7 @@ impl<N: Network + Drop, L: Write + Drop> Surroundings<N, L> {
     /// Writes a line of the log, with the time.
     pub(crate) fn write<T: fmt::Display>(&mut self, severity: Severity, place: Place, text: &T)
         ensures now { self.new.now ≡ self.old.now }
+        ensures customers { self.new.customers ≡ self.old.customers }
         ensures logged { IsSome self.old.log.writer → IsLogged L.contents self.old.log self.new.log }
     {
         let heading = Heading {

@@ -28,7 +28,10 @@ pub(crate) fn tell_files<N: Network + Drop, L: Write + Drop>(
     streams: &mut Streams,
     hub: &Hub,
     arrivals: &mut Arrivals,
-) {
+)
+    ensures now { surroundings.new.now ≡ surroundings.old.now }
+    ensures customers { surroundings.new.customers ≡ surroundings.old.customers }
+{
     tell_coming(surroundings, id, label, streams, hub, arrivals);
     tell_going(surroundings, id, label, streams, hub);
     tell_quota(surroundings, id.customer, label, hub);
@@ -43,7 +46,10 @@ fn tell_coming<N: Network + Drop, L: Write + Drop>(
     streams: &mut Streams,
     hub: &Hub,
     arrivals: &mut Arrivals,
-) {
+)
+    ensures now { surroundings.new.now ≡ surroundings.old.now }
+    ensures customers { surroundings.new.customers ≡ surroundings.old.customers }
+{
     let came = surroundings.customers.count_files(id.customer, hub);
     if came.are_there {
         tell_newest(surroundings, id.customer, label, came.files, hub, arrivals);
@@ -76,7 +82,10 @@ fn tell_newest<N: Network + Drop, L: Write + Drop>(
     files: u32,
     hub: &Hub,
     arrivals: &mut Arrivals,
-) {
+)
+    ensures now { surroundings.new.now ≡ surroundings.old.now }
+    ensures customers { surroundings.new.customers ≡ surroundings.old.customers }
+{
     let count = hub.file_count(customer);
     for index in count.saturating_sub(files)..count {
         let file = hub.number_at(customer, index);
@@ -97,6 +106,8 @@ fn tell_ended<N: Network + Drop, L: Write + Drop>(
     arrivals: &mut Arrivals,
 )
     requires { ended.place < 8 }
+    ensures now { surroundings.new.now ≡ surroundings.old.now }
+    ensures customers { surroundings.new.customers ≡ surroundings.old.customers }
 {
     let Ended { id, place, file } = ended;
     match hub.file_summary(id.customer, file) {
@@ -117,7 +128,10 @@ fn tell_ended<N: Network + Drop, L: Write + Drop>(
 }
 
 /// The time, in seconds since the beginning of 1970.
-fn seconds<N: Network + Drop, L: Write + Drop>(surroundings: &mut Surroundings<N, L>) -> u64 {
+fn seconds<N: Network + Drop, L: Write + Drop>(surroundings: &mut Surroundings<N, L>) -> u64
+    ensures now { surroundings.new.now ≡ surroundings.old.now }
+    ensures customers { surroundings.new.customers ≡ surroundings.old.customers }
+{
     u64::try_from(surroundings.network.utc() / 1000).unwrap_or(0)
 }
 
@@ -128,7 +142,10 @@ fn tell_going<N: Network + Drop, L: Write + Drop>(
     label: &Label,
     streams: &mut Streams,
     hub: &Hub,
-) {
+)
+    ensures now { surroundings.new.now ≡ surroundings.old.now }
+    ensures customers { surroundings.new.customers ≡ surroundings.old.customers }
+{
     let Ok(senders) = hub.senders(id) else {
         return;
     };
@@ -149,7 +166,10 @@ fn tell_gone<N: Network + Drop, L: Write + Drop>(
     streams: &mut Streams,
     now: &[Option<FileId>; STREAMS],
     hub: &Hub,
-) {
+)
+    ensures now { surroundings.new.now ≡ surroundings.old.now }
+    ensures customers { surroundings.new.customers ≡ surroundings.old.customers }
+{
     for _ in 0..STREAMS {
         let Some(place) = first_gone(&streams.going, now) else {
             break;
@@ -174,7 +194,10 @@ fn tell_file_count<N: Network + Drop, L: Write + Drop>(
     customer: u16,
     label: &Label,
     hub: &Hub,
-) {
+)
+    ensures now { surroundings.new.now ≡ surroundings.old.now }
+    ensures customers { surroundings.new.customers ≡ surroundings.old.customers }
+{
     let files = hub.file_count(customer);
     match surroundings
         .customers
@@ -193,7 +216,10 @@ fn tell_quota<N: Network + Drop, L: Write + Drop>(
     customer: u16,
     label: &Label,
     hub: &Hub,
-) {
+)
+    ensures now { surroundings.new.now ≡ surroundings.old.now }
+    ensures customers { surroundings.new.customers ≡ surroundings.old.customers }
+{
     let (Ok(used), Ok(quota)) = (hub.used(customer), hub.quota(customer)) else {
         return;
     };
@@ -219,7 +245,10 @@ pub(crate) fn tell_commands<N: Network + Drop, L: Write + Drop>(
     surroundings: &mut Surroundings<N, L>,
     label: &Label,
     hub: &Hub,
-) {
+)
+    ensures now { surroundings.new.now ≡ surroundings.old.now }
+    ensures customers { surroundings.new.customers ≡ surroundings.old.customers }
+{
     let last = hub.last_command();
     let commands = last.count().saturating_sub(surroundings.commands);
     surroundings.commands = last.count();
@@ -246,6 +275,7 @@ pub(crate) fn tell_order<N: Network + Drop, L: Write + Drop>(
     replies: &Replies,
 )
     ensures now { surroundings.new.now ≡ surroundings.old.now }
+    ensures customers { surroundings.new.customers ≡ surroundings.old.customers }
     ensures logged { IsSome surroundings.old.log.writer → IsLogged L.contents surroundings.old.log surroundings.new.log }
 {
     let severity = if answer.is_ok() {

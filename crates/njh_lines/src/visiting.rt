@@ -1,6 +1,6 @@
 //! What the attendant does with one line.
 
-ghost use Rattle.std.specs.Prelude.{◌≡◌, ◌<◌, ◌≤◌, ◌↔◌, [], length, IsSome, IsTrue};
+ghost use Rattle.std.specs.Prelude.{◌≡◌, ◌<◌, ◌≤◌, ◌↔◌, [], length, None, IsSome, IsTrue};
 ghost use Rattle.njh_hub.specs.Quiets.{quiet_on};
 ghost use Rattle.njh_hub.specs.Views.{HasGivenUp, hub_line, line_view};
 ghost use Rattle.njh_hub.specs.WholeHub.{HasLine};
@@ -12,7 +12,10 @@ ghost use Rattle.njh_sight.specs.News.{news_moment, IsTold};
 ghost use Rattle.njh_sites.specs.Opened.{site_kept};
 ghost use Rattle.njh_sight.specs.Sessions.{HasRefused};
 ghost use Rattle.njh_lines.specs.Connecting.{IsReady};
+ghost use Rattle.njh_lines.specs.Resting.{IsMarkedFor, IsNextLook};
+ghost use Rattle.njh_lines.specs.Watching.{noted_of};
 ghost use Rattle.njh_lines.specs.Wires.{IsLeft};
+ghost use Rattle.njh_sight.specs.Prompting.{noted};
 ghost use Rattle.njh_request.specs.declared.request.LineState.TheVariants.{Stopped};
 
 use crate::attention::{NOTHING, Watch, is_marked};
@@ -55,6 +58,7 @@ pub(crate) fn begin<N: Network + Drop, L: Write + Drop>(
     ensures state { post.new.state ≡ post.old.state }
     ensures stopped { post.old.state ≡ Stopped → IsTrue watch.new.is_due → ¬ IsConnected wire.new }
     ensures now { surroundings.new.now ≡ surroundings.old.now }
+    ensures customers { surroundings.new.customers ≡ surroundings.old.customers }
 {
     let mark = *ready;
     let is_ready = is_marked(mark);
@@ -84,6 +88,7 @@ pub(crate) fn attend<N: Network + Drop, L: Write + Drop>(
     ensures state { post.new.state ≡ post.old.state }
     ensures stopped { post.old.state ≡ Stopped → ¬ IsConnected wire.new }
     ensures now { surroundings.new.now ≡ surroundings.old.now }
+    ensures customers { surroundings.new.customers ≡ surroundings.old.customers }
 {
     if is_stopped(post.state) {
         hold(surroundings, place, post, wire, mark);
@@ -109,6 +114,7 @@ fn look_for_peer<N: Network + Drop, L: Write + Drop>(
     ensures site { site_kept N.address_of post.new.site ≡ site_kept N.address_of post.old.site }
     ensures state { post.new.state ≡ post.old.state }
     ensures now { surroundings.new.now ≡ surroundings.old.now }
+    ensures customers { surroundings.new.customers ≡ surroundings.old.customers }
 {
     if mark.reads {
         wire.mark_readable();
@@ -143,6 +149,8 @@ pub(crate) fn apply_session<N: Network + Drop, L: Write + Drop>(
     ensures line { post.new.line ≡ post.old.line }
     ensures site { site_kept N.address_of post.new.site ≡ site_kept N.address_of post.old.site }
     ensures state { post.new.state ≡ post.old.state }
+    ensures now { surroundings.new.now ≡ surroundings.old.now }
+    ensures asks { IsNextLook wire.new (noted_of post.new) surroundings.old.now result }
     ensures told { IsTold post.new.label.news surroundings.old.now }
     ensures tells { result ≤ news_moment post.new.label.news }
     ensures kept { HasLine hub.now post.old.line → ¬ HasGivenUp hub.now post.old.line →
@@ -178,6 +186,7 @@ fn visit<N: Network + Drop, L: Write + Drop>(
     ensures line { post.new.line ≡ post.old.line }
     ensures site { site_kept N.address_of post.new.site ≡ site_kept N.address_of post.old.site }
     ensures state { post.new.state ≡ post.old.state }
+    ensures now { surroundings.new.now ≡ surroundings.old.now }
     ensures told { IsTold post.new.label.news surroundings.old.now }
     ensures kept { HasLine hub.now post.old.line → ¬ HasGivenUp hub.now post.old.line →
         ¬ HasRefused post.old.label (line_view (hub_line post.old.line hub.now).state) →
@@ -201,7 +210,12 @@ fn note_sight<N: Network + Drop, L: Write + Drop>(
     id: LineId,
     traffic: &mut Traffic,
     sight: Sight,
-) {
+)
+    ensures noted { traffic.new ≡ noted traffic.old sight surroundings.old.now }
+    ensures now { surroundings.new.now ≡ surroundings.old.now }
+    ensures marks { IsMarkedFor id.customer traffic.old.seen sight surroundings.old.customers
+        surroundings.new.customers }
+{
     if traffic.note(sight, surroundings.now) {
         surroundings.customers.mark(id.customer);
     }
@@ -227,6 +241,8 @@ fn next_look<C: Connection + Drop>(wire: &LineWire<C>, moment: u64, soon: u64, n
     ensures ready { IsReady wire.now → result ≡ now }
     ensures rests { wire.now.waiting ≡ [] → ¬ IsReady wire.now → IsSome wire.now.connection →
         result ≡ first_of (due wire.now) moment soon }
+    ensures alone { wire.now.waiting ≡ [] → ¬ IsReady wire.now → wire.now.connection ≡ None →
+        result ≡ first_of 18446744073709551615 moment soon }
 {
     if wire.waits_to_send() {
         let again = now.saturating_add(AGAIN);

@@ -1,10 +1,11 @@
 //! Lines to which other lines of their customers gave something to send.
 
-ghost use Rattle.std.specs.Prelude.{◌≡◌, ℕ, ◌<◌, ◌≤◌, length};
-ghost use Rattle.std.specs.Prelude.{◌&&◌, IsTrue};
+ghost use Rattle.std.specs.Prelude.{◌≡◌, ◌≢◌, ◌↔◌, ℕ, ◌<◌, ◌≤◌, length};
+ghost use Rattle.std.specs.Prelude.{◌&&◌, slice_get, IsTrue};
 ghost use Rattle.njh_hub.specs.Resting.{HasNext};
 ghost use Rattle.njh_sight.specs.Prompting.{may_prompt};
 ghost use Rattle.njh_lines.specs.Attention.{watch_at, AreCalled};
+ghost use Rattle.njh_lines.specs.Resting.{AreServedBy, AreWoken, IsLinesMoment, IsServedBy, WaitsForFirst};
 ghost use Rattle.njh_lines.specs.Watching.{IsToBeWoken};
 
 use crate::attention::call_group;
@@ -20,8 +21,11 @@ use std::io::Write;
 /// and files waits a while between two such looks, so that others don't wait for them.
 pub(crate) fn wake<N: Network + Drop, L: Write + Drop>(exchange: &mut Exchange<N, L>, hub: &Hub)
     ensures lines { exchange.new.lines ≡ exchange.old.lines }
-    ensures waits { (place : ℕ) → place < length exchange.new.lines →
-        exchange.new.next ≤ (watch_at exchange.new.watches place).moment }
+    ensures noted { exchange.new.noted ≡ exchange.old.noted }
+    ensures now { exchange.new.now ≡ exchange.old.now }
+    ensures calls { AreWoken exchange.old hub.now exchange.new.watches }
+    ensures waits { IsLinesMoment exchange.old exchange.old.next → WaitsForFirst exchange.new }
+    ensures woken { AreServedBy exchange.old hub.now 64 exchange.new.watches }
 {
     for customer in 0..CUSTOMERS {
         wake_customer(exchange, customer, hub);
@@ -37,6 +41,13 @@ fn wake_customer<N: Network + Drop, L: Write + Drop>(
     hub: &Hub,
 )
     ensures lines { exchange.new.lines ≡ exchange.old.lines }
+    ensures noted { exchange.new.noted ≡ exchange.old.noted }
+    ensures now { exchange.new.now ≡ exchange.old.now }
+    ensures calls { AreWoken exchange.old hub.now exchange.new.watches }
+    ensures waits { IsLinesMoment exchange.old exchange.old.next → IsLinesMoment exchange.new exchange.new.next }
+    ensures woken { IsServedBy exchange.old hub.now customer exchange.new.watches }
+    ensures others { (other : ℕ) → other ≢ customer →
+        slice_get exchange.new.customers other ≡ slice_get exchange.old.customers other }
 {
     let now = exchange.surroundings.now;
     let Some(row) = exchange.surroundings.customers.wanted(customer, now) else {
@@ -57,6 +68,11 @@ fn wake_row<N: Network + Drop, L: Write + Drop>(
     hub: &Hub,
 ) -> u64
     ensures lines { exchange.new.lines ≡ exchange.old.lines }
+    ensures noted { exchange.new.noted ≡ exchange.old.noted }
+    ensures customers { exchange.new.customers ≡ exchange.old.customers }
+    ensures now { exchange.new.now ≡ exchange.old.now }
+    ensures calls { AreWoken exchange.old hub.now exchange.new.watches }
+    ensures waits { IsLinesMoment exchange.old exchange.old.next → IsLinesMoment exchange.new exchange.new.next }
     ensures woken { (place : ℕ) → row.first ≤ place → place < row.end →
         IsToBeWoken exchange.old place row.customer hub.now →
         (watch_at exchange.new.watches place).moment ≤ exchange.old.now }
@@ -80,7 +96,9 @@ fn wake_at<N: Network + Drop, L: Write + Drop>(
     ensures lines { exchange.new.lines ≡ exchange.old.lines }
     ensures noted { exchange.new.noted ≡ exchange.old.noted }
     ensures now { exchange.new.now ≡ exchange.old.now }
-    ensures calls { AreCalled exchange.old.now exchange.old.watches exchange.new.watches }
+    ensures customers { exchange.new.customers ≡ exchange.old.customers }
+    ensures calls { AreWoken exchange.old hub.now exchange.new.watches }
+    ensures waits { IsLinesMoment exchange.old exchange.old.next → IsLinesMoment exchange.new exchange.new.next }
     ensures woken { IsToBeWoken exchange.old place customer hub.now →
         (watch_at exchange.new.watches place).moment ≤ exchange.old.now }
 {
@@ -105,7 +123,7 @@ fn is_wanted<N: Network + Drop, L: Write + Drop>(
     customer: u16,
     hub: &Hub,
 ) -> bool
-    ensures { IsToBeWoken exchange.now place customer hub.now → IsTrue result }
+    ensures { IsTrue result ↔ IsToBeWoken exchange.now place customer hub.now }
 {
     let Some(post) = exchange.posts.get(place) else {
         return false;
@@ -121,8 +139,8 @@ fn is_wanted<N: Network + Drop, L: Write + Drop>(
 
 /// Whether a line is this customer's, and is to be visited at once.
 fn wakes(traffic: &Traffic, hub: &Hub, line: LineId, customer: u16, now: u64) -> bool
-    ensures { line.customer ≡ customer → IsTrue (traffic.now.seen.rests && may_prompt traffic.now now) →
-        HasNext hub.now line → IsTrue result }
+    ensures { IsTrue result ↔ ((line.customer ≡ customer)
+        × (IsTrue (traffic.now.seen.rests && may_prompt traffic.now now) × HasNext hub.now line)) }
 {
     line.customer == customer && traffic.wakes(hub, line, now)
 }
@@ -132,7 +150,11 @@ pub(crate) fn call<N: Network + Drop, L: Write + Drop>(exchange: &mut Exchange<N
     ensures lines { exchange.new.lines ≡ exchange.old.lines }
     ensures noted { exchange.new.noted ≡ exchange.old.noted }
     ensures now { exchange.new.now ≡ exchange.old.now }
+    ensures customers { exchange.new.customers ≡ exchange.old.customers }
     ensures calls { AreCalled exchange.old.now exchange.old.watches exchange.new.watches }
+    ensures others { (other : ℕ) → other ≢ place →
+        watch_at exchange.new.watches other ≡ watch_at exchange.old.watches other }
+    ensures waits { IsLinesMoment exchange.old exchange.old.next → IsLinesMoment exchange.new exchange.new.next }
     ensures called { place < length exchange.old.lines →
         (watch_at exchange.new.watches place).moment ≤ exchange.old.now }
 {

@@ -1,12 +1,13 @@
 //! The attendant of a service: its lines, and the operator's console.
 
-ghost use Rattle.std.specs.Prelude.{◌≡◌, ◌++◌, ◌↔◌, map, All, IfOk, IsTrue, None, Some};
+ghost use Rattle.std.specs.Prelude.{◌≡◌, ◌++◌, ◌↔◌, is_ok, map, All, IfOk, IsTrue, None, Some};
 ghost use Rattle.njh_turns.specs.Service.{AreStill};
 ghost use Rattle.njh_wire.specs.Tally.{IsTallied};
 ghost use Rattle.njh_table.specs.TableFile.{HasLine};
 ghost use Rattle.njh_console.specs.Orders.{IsOrderDone};
 ghost use Rattle.njh_sites.specs.Endpoints.{endpoints_of};
 ghost use Rattle.njh_sites.specs.Opened.{IsApart};
+ghost use Rattle.njh_sight.specs.Waking.{marked, IsRowMade};
 ghost use Rattle.njh_lines.specs.LineStates.{line_settled, AreMade};
 ghost use Rattle.njh_lines.specs.Watching.{served_on, HasNoted, IsToBePrompted};
 ghost use Rattle.njh_service.specs.Bureaus.{lines_told, stop_after, view_told, IsAsked, IsConsoleServed};
@@ -249,7 +250,10 @@ impl<N: Network + Drop, L: Write + Drop, S: TableSource + Drop> Bureau<N, L, S> 
         answer: Result<(), HubFault>,
         replies: &Replies,
     )
-        ensures exchange { self.new.exchange ≡ self.old.exchange }
+        ensures exchange { self.new.exchange ≡ record self.old.exchange { customers = self.new.exchange.customers } }
+        ensures marks { IsTrue (is_ok answer) →
+            IsRowMade new.now.customer marked self.old.exchange.customers self.new.exchange.customers }
+        ensures none { ¬ IsTrue (is_ok answer) → self.new.exchange.customers ≡ self.old.exchange.customers }
         ensures tables { self.new.tables ≡ self.old.tables }
         ensures done { IsOrderDone answer replies.now self.old.console.orders self.new.console.orders }
         ensures given { self.new.console.orders.given ≡ None }

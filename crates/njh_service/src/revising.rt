@@ -1,6 +1,7 @@
 //! New routes, and what the log tells of them.
 
-ghost use Rattle.std.specs.Prelude.{◌≡◌, IfSome};
+ghost use Rattle.std.specs.Prelude.{◌≡◌, is_ok, IfSome, IsTrue};
+ghost use Rattle.njh_sight.specs.Waking.{marked, IsRowMade};
 ghost use Rattle.njh_revision.specs.Revisions.{AreKept, IsGiven};
 
 use njh_hub::{Hub, HubFault};
@@ -89,7 +90,9 @@ pub(crate) fn tell_routes<N: Network + Drop, L: Write + Drop, S: TableSource + D
     customer: u16,
     answer: Result<(), HubFault>,
 )
-    ensures same { exchange.new ≡ exchange.old }
+    ensures same { exchange.new ≡ record exchange.old { customers = exchange.new.customers } }
+    ensures marks { IsTrue (is_ok answer) → IsRowMade customer marked exchange.old.customers exchange.new.customers }
+    ensures none { ¬ IsTrue (is_ok answer) → exchange.new.customers ≡ exchange.old.customers }
     ensures tables { revision.new ≡ revision.old }
 {
     exchange.mark_if(customer, answer.is_ok());

@@ -1,13 +1,16 @@
 //! What the attendant keeps of each customer.
 
-ghost use Rattle.std.specs.Prelude.{◌≡◌};
+ghost use Rattle.std.specs.Prelude.{◌≡◌, None, Some, slice_get, IfSome, IsTrue};
 ghost use Rattle.njh_sight.specs.Telling.{came_between};
-ghost use Rattle.njh_sight.specs.Waking.{is_wanted, look_moment, looked, looked_again, marked, pause_for};
+ghost use Rattle.njh_sight.specs.Waking.{is_wanted, look_moment, looked, looked_again, marked, pause_for, with_line};
+ghost use Rattle.njh_sight.specs.Waking.{IsFirstLook, IsRowMade};
+ghost use Rattle.njh_sight.specs.declared.customers.Row.{Row};
 
 use crate::streams::has_come_near;
 use njh_ebcdic::Name;
 use njh_hub::Hub;
 use njh_table::Tables;
+use std::marker::Model;
 
 /// How many customers a hub has at most.
 pub const CUSTOMERS: usize = 64;
@@ -33,6 +36,17 @@ pub struct Customers {
     files: [FileCount; CUSTOMERS],
     /// Where its lines are.
     rows: [Row; CUSTOMERS],
+}
+
+impl Model for Customers {
+    ghost use Rattle.std.specs.Prelude.{◌≡◌, List, length};
+    ghost use Rattle.njh_sight.specs.declared.customers.Row.{Row};
+
+    ghost Value = { List Row };
+
+    ghost view = { λ customers. customers.rows };
+
+    ghost invariant = { λ customers. length customers.rows ≡ 64 };
 }
 
 /// How many whole files a customer has, and how many have come so far.
@@ -105,6 +119,17 @@ impl Row {
         again: 0,
     };
 
+    /// The customer's next line is at this place.
+    fn add(&mut self, customer: u16, place: usize)
+        ensures { self.new ≡ with_line customer place self.old }
+    {
+        if self.end == 0 {
+            self.customer = customer;
+            self.first = place;
+        }
+        self.end = place.saturating_add(1);
+    }
+
     /// Something came that may give one of the lines something to send.
     fn mark(&mut self)
         ensures { self.new ≡ marked self.old }
@@ -172,7 +197,9 @@ impl Customers {
     }
 
     /// The customers are those of these tables.
-    pub fn know(&mut self, tables: &Tables) {
+    pub fn know(&mut self, tables: &Tables)
+        ensures { self.new ≡ self.old }
+    {
         let customers = tables.customers();
         for place in 0..CUSTOMERS {
             if let Some(customer) = customers.get(place) {
@@ -183,14 +210,18 @@ impl Customers {
     }
 
     /// Counts the files of each customer, so that those which are there haven't come since.
-    pub fn count_all(&mut self, hub: &Hub) {
+    pub fn count_all(&mut self, hub: &Hub)
+        ensures { self.new ≡ self.old }
+    {
         for customer in 0..CUSTOMERS {
             let _there = self.count_files(customer as u16, hub);
         }
     }
 
     /// Counts a customer's files. Answers how many came since they were counted last.
-    pub fn count_files(&mut self, customer: u16, hub: &Hub) -> Came {
+    pub fn count_files(&mut self, customer: u16, hub: &Hub) -> Came
+        ensures { self.new ≡ self.old }
+    {
         let now = FileCount::of(hub, customer);
         match self.files.get_mut(usize::from(customer)) {
             Some(files) => {
@@ -219,7 +250,9 @@ impl Customers {
     }
 
     /// Whether a customer that uses so many blocks of its quota has come near it.
-    pub fn has_come_near_quota(&mut self, customer: u16, used: u32, quota: u32) -> bool {
+    pub fn has_come_near_quota(&mut self, customer: u16, used: u32, quota: u32) -> bool
+        ensures { self.new ≡ self.old }
+    {
         match self.near.get_mut(usize::from(customer)) {
             Some(near) => has_come_near(near, used, quota),
             None => false,
@@ -228,7 +261,9 @@ impl Customers {
 
     /// Whether a customer that has so many whole files has come near the number that it may have.
     /// Answers that number if so.
-    pub fn has_come_near_files(&mut self, customer: usize, files: u32) -> Option<u32> {
+    pub fn has_come_near_files(&mut self, customer: usize, files: u32) -> Option<u32>
+        ensures { self.new ≡ self.old }
+    {
         let most = *self.most_files.get(customer)?;
         let near = self.near_files.get_mut(customer)?;
         if most > 0 && has_come_near(near, files, most) {
@@ -239,32 +274,41 @@ impl Customers {
     }
 
     /// A customer's next line is at this place.
-    pub fn add(&mut self, customer: u16, place: usize) {
-        if let Some(row) = self.rows.get_mut(usize::from(customer)) {
-            if row.end == 0 {
-                row.customer = customer;
-                row.first = place;
-            }
-            row.end = place.saturating_add(1);
+    pub fn add(&mut self, customer: u16, place: usize)
+        ensures { IsRowMade customer (with_line customer place) self.old self.new }
+    {
+        let own = usize::from(customer);
+        if own < CUSTOMERS {
+            self.rows[own].add(customer, place);
         }
     }
 
     /// Marks a customer if something came that may give one of its lines something to send.
-    pub fn mark_if(&mut self, customer: u16, has_come: bool) {
+    pub fn mark_if(&mut self, customer: u16, has_come: bool)
+        ensures marks { IsTrue has_come → IsRowMade customer marked self.old self.new }
+        ensures same { ¬ IsTrue has_come → self.new ≡ self.old }
+    {
         if has_come {
             self.mark(customer);
         }
     }
 
     /// Something came that may give one of this customer's lines something to send.
-    pub fn mark(&mut self, customer: u16) {
-        if let Some(row) = self.rows.get_mut(usize::from(customer)) {
-            row.mark();
+    pub fn mark(&mut self, customer: u16)
+        ensures { IsRowMade customer marked self.old self.new }
+    {
+        let own = usize::from(customer);
+        if own < CUSTOMERS {
+            self.rows[own].mark();
         }
     }
 
     /// A customer's lines, if they are to be looked at now.
-    pub fn wanted(&self, customer: usize, now: u64) -> Option<Row> {
+    pub fn wanted(&self, customer: usize, now: u64) -> Option<Row>
+        ensures found { IfSome result (λ row. (slice_get self.now customer ≡ Some row) × IsTrue (is_wanted row now)) }
+        ensures none { result ≡ None → (row : Row) → slice_get self.now customer ≡ Some row →
+            ¬ IsTrue (is_wanted row now) }
+    {
         match self.rows.get(customer) {
             Some(row) if row.is_wanted(now) => Some(*row),
             _ => None,
@@ -272,22 +316,28 @@ impl Customers {
     }
 
     /// A customer's lines are looked at now, and it has so many whole files.
-    pub fn look(&mut self, customer: usize, now: u64, files: u32) {
-        if let Some(row) = self.rows.get_mut(customer) {
-            row.look(now, files);
+    pub fn look(&mut self, customer: usize, now: u64, files: u32)
+        ensures { IsRowMade customer (λ row. looked row now files) self.old self.new }
+    {
+        if customer < CUSTOMERS {
+            self.rows[customer].look(now, files);
         }
     }
 
     /// A customer's lines are looked at again at this moment too; `u64::MAX` if nothing asks for
     /// that.
-    pub fn look_again(&mut self, customer: usize, moment: u64) {
-        if let Some(row) = self.rows.get_mut(customer) {
-            row.look_again(moment);
+    pub fn look_again(&mut self, customer: usize, moment: u64)
+        ensures { IsRowMade customer (λ row. looked_again row moment) self.old self.new }
+    {
+        if customer < CUSTOMERS {
+            self.rows[customer].look_again(moment);
         }
     }
 
     /// When the lines of some customer are to be looked at; `u64::MAX` if nothing came.
-    pub fn moment(&self) -> u64 {
+    pub fn moment(&self) -> u64
+        ensures { IsFirstLook self.now result }
+    {
         let mut moment = u64::MAX;
         for row in &self.rows {
             moment = moment.min(row.moment());

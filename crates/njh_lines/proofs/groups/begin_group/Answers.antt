@@ -35,6 +35,7 @@ loop-place-init g c =
       still = still_same c.args.wires.now;
       lines = refl;
       now = refl;
+      customers = refl;
       begun = none_begun c.args.exchange.now.now c.places_of-first.result.0 c.args.exchange.now.ready
           c.args.exchange.now.watches;
       before = omega (arith, first, end);
@@ -55,6 +56,7 @@ loop-place-preserved g c =
           (sym c.begin.ensures.tally) c.begin.ensures.counts c.loop-place.invariant.still;
       lines = c.begin.ensures.lines ∙ c.loop-place.invariant.lines;
       now = c.begin.ensures.now ∙ now;
+      customers = c.begin.ensures.customers ∙ c.loop-place.invariant.customers;
       begun = begun_after c.args.exchange.now.now _ c.loop-place.place _ _ _ _ _ _ _
           (omega (arith, c.loop-place.auto.place)) (omega arith) c.loop-place.invariant.begun
           (subst P now c.begin.ensures.begun);

@@ -11,6 +11,7 @@ invariant-loop-place g l = record {
   still : AreStill IsTallied (λ wire. wire.failures) l.fn.wires l.wires;
   lines : l.exchange.lines ≡ l.fn.exchange.lines;
   now : l.exchange.now ≡ l.fn.exchange.now;
+  customers : l.exchange.customers ≡ l.fn.exchange.customers;
   begun : HaveBegun l.fn.exchange.now l.initial.place l.place l.fn.exchange.ready l.exchange.ready l.fn.exchange.watches l.exchange.watches;
   before : l.place ≤ l.end;
   held : AreHeld l.initial.place l.place l.fn.exchange.lines l.exchange.watches l.fn.wires l.wires;

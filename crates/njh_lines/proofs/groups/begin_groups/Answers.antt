@@ -15,6 +15,7 @@ loop-group-init g c = record {
   still = still_same c.args.wires.now;
   lines = refl;
   now = refl;
+  customers = refl;
   begun = let none : 0 ≡ min (16 * 0) (length c.args.wires.now) = omega arith in
       let P : ℕ → Type 0 = λ end. HaveBegun c.args.exchange.now.now 0 end c.args.exchange.now.ready c.args.exchange.now.ready
       c.args.exchange.now.watches c.args.exchange.now.watches in
@@ -45,6 +46,7 @@ loop-group-preserved g c =
           c.begin_group.new.wires (sym wires) c.loop-group.invariant.still c.begin_group.ensures.still;
       lines = c.begin_group.ensures.lines ∙ c.loop-group.invariant.lines;
       now = c.begin_group.ensures.now ∙ now;
+      customers = c.begin_group.ensures.customers ∙ c.loop-group.invariant.customers;
       begun = begun_after c.args.exchange.now.now 0 _ _ _ _ _ _ _ _ (omega arith) (omega arith)
           c.loop-group.invariant.begun more;
       held = held_after 0 (16 * c.loop-group.group) (16 * (c.loop-group.group + 1)) c.args.exchange.now.lines

@@ -11,6 +11,7 @@ invariant-loop-group g l = record {
   still : AreStill IsTallied (λ wire. wire.failures) l.fn.wires l.wires;
   lines : l.exchange.lines ≡ l.fn.exchange.lines;
   now : l.exchange.now ≡ l.fn.exchange.now;
+  customers : l.exchange.customers ≡ l.fn.exchange.customers;
   begun : HaveBegun l.fn.exchange.now 0 (min (16 * l.group) (length l.fn.wires)) l.fn.exchange.ready l.exchange.ready
       l.fn.exchange.watches l.exchange.watches;
   held : AreHeld 0 (16 * l.group) l.fn.exchange.lines l.exchange.watches l.fn.wires l.wires;

@@ -1,13 +1,15 @@
-use Rattle.std.proofs.Common.{ℕ, ◌<◌, subst, refl, sym, ap, ◌∙◌}
+use Rattle.std.proofs.Common.{ℕ, ◌<◌, map, subst, refl, sym, ap, ◌∙◌}
+use Rattle.std.specs.Prelude.{slice_get}
 use Rattle.std.proofs.lemmas.Bool.{false≢true}
 use Rattle.njh_hub.specs.Quiets.{quiet_on}
 use Rattle.njh_hub.specs.Views.{HasGivenUp, hub_line, line_view}
 use Rattle.njh_hub.specs.declared.session_view.SessionView.{SessionView}
 use Rattle.njh_hub.specs.WholeHub.{HasLine}
 use Rattle.njh_sight.specs.Sessions.{HasRefusedMore}
-use Rattle.njh_lines.specs.Watching.{served_line, ServedLine, Watched}
+use Rattle.njh_lines.specs.Resting.{IsNextLook}
+use Rattle.njh_lines.specs.Watching.{noted_of, served_line, Noted, ServedLine, Watched}
 use Rattle.njh_lines.specs.declared.post.Post.{Post}
-use Rattle.njh_lines.proofs.PostLaws.{lines_stay, line_there, post_there, served_stays}
+use Rattle.njh_lines.proofs.PostLaws.{lines_stay, line_there, others_noted, post_there, seen_there, served_stays}
 use Rattle.njh_lines.proofs.exchange.Exchange.apply_session.Goals as goal
 
 pub returns-clause-lines : goal.returns-clause-lines
@@ -60,3 +62,35 @@ returns-in_default-clause-quiet g c = λ line found there.
     c.self.inside.posts.items c.args.self.now.lines c.args.place line
     (ap (λ (seen : Watched). seen.lines) c.self.view_is) found in
     absurd (false≢true (c.in_default.ensures.variant.1 (subst Within (sym c.self.inside.posts.ok.0) within)))
+
+-- what is noted of it there is that of its post
+pub returns-clause-asks : goal.returns-clause-asks
+returns-clause-asks g c = λ own found.
+    let P : Type 0 = Post g.row.N-Listener.Denot g.row.N-Connection.Denot in
+    let Within : ℕ → Type 0 = λ many. c.args.place < many in
+    let low = subst Within c.self.inside.posts.ok.0 (c.in-Some.ensures.variant.0 refl) in
+    let is = seen_there (λ (post : P). noted_of post) c.self.inside.posts.items c.args.place c.apply_session.new.post
+    own low found in
+    let time = ap (λ (w : Watched). w.now) c.self.view_is in
+    let Asks : Noted → ℕ → Type 0 = λ noted now. IsNextLook c.apply_session.new.wire noted now c.apply_session.result in
+    subst (λ (n : ℕ). Asks own n) time
+    (subst (λ (noted : Noted). Asks noted c.self.inside.surroundings.now) (sym is) c.apply_session.ensures.asks)
+
+pub returns-in_default-clause-asks : goal.returns-in_default-clause-asks
+returns-in_default-clause-asks g c = λ own found.
+    let Within : ℕ → Type 0 = λ many. c.args.place < many in
+    let P : Type 0 = Post g.row.N-Listener.Denot g.row.N-Connection.Denot in
+    let Note : P → Noted = λ post. noted_of post in
+    let within = post_there Note c.self.inside.posts.items (map Note c.self.inside.posts.items) c.args.place own refl
+    found in
+    absurd (false≢true (c.in_default.ensures.variant.1 (subst Within (sym c.self.inside.posts.ok.0) within)))
+
+pub returns-clause-others : goal.returns-clause-others
+returns-clause-others g c = λ other apart.
+    let P : Type 0 = Post g.row.N-Listener.Denot g.row.N-Connection.Denot in
+    others_noted (λ (post : P). noted_of post) c.self.inside.posts.items c.args.self.now.noted c.args.place other
+    c.apply_session.new.post (ap (λ (seen : Watched). seen.noted) c.self.view_is) apart
+
+pub returns-in_default-clause-others : goal.returns-in_default-clause-others
+returns-in_default-clause-others g c = λ other apart.
+    ap (λ (seen : Watched). slice_get seen.noted other) c.self.view_is

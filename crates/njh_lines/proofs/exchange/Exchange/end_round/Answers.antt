@@ -1,11 +1,15 @@
-use Rattle.std.proofs.Common.{◌≡◌, ℕ, ◌+◌, ◌*◌, ◌<◌, ◌≤◌, length, ap, ◌∙◌, sym, subst, arith, refl, ⊎_elim}
+use Rattle.std.proofs.Common.{◌≡◌, ℕ, ◌+◌, ◌*◌, ◌<◌, ◌≤◌, length, ap, ◌∙◌, sym, subst, arith, refl, inl, inr, ⊎_elim}
 use Rattle.std.proofs.lemmas.Bool.{cases_lt}
 use Rattle.std.proofs.lemmas.List.{length-map}
 use Rattle.njh_lines.specs.Attention.{watch_at}
 use Rattle.njh_lines.specs.Watching.{served_line, Watched}
 use Rattle.njh_lines.specs.declared.attention.Watch.{Watch}
 use Rattle.njh_lines.specs.declared.post.Post.{Post}
+use Rattle.njh_lines.specs.Resting.{HaveRested, IsLinesMoment}
+use Rattle.njh_lines.proofs.CallLaws.{all_woken}
 use Rattle.njh_lines.proofs.GroupLaws.{waits_until}
+use Rattle.njh_lines.proofs.MomentLaws.{first_among, moment_among}
+use Rattle.njh_lines.proofs.RestLaws.{ended_so, none_rested, rested_after}
 use Rattle.njh_lines.proofs.StillLaws.{still_after, still_same}
 use Rattle.njh_lines.specs.Wires.{AreLetOut}
 use Rattle.njh_lines.proofs.WireLaws.{all_let_out, let_out_after, none_let_out}
@@ -17,7 +21,9 @@ loop-group-init g c = record {
   lines = refl;
   waits = λ p before within. let none : ⊥ = omega (arith, before) in absurd none;
   out = none_let_out _ (length c.args.self.now.lines) 0 c.args.self.now.watches c.args.wires.now;
-  later = λ p from. refl;
+  now = refl;
+  rested = none_rested 0 c.args.self.now c.args.wires.now;
+  wanted = inl refl;
 }
 
 pub loop-group-preserved : goal.loop-group-preserved
@@ -28,8 +34,7 @@ loop-group-preserved g c = record {
   lines = c.end_group-moment.ensures.lines ∙ c.loop-group.invariant.lines;
   waits = λ p before within. ⊎_elim
       (λ (earlier : p < 16 * c.loop-group.group).
-      let same = ap (λ (w : Watch). w.moment) (c.end_group-moment.ensures.others p
-      (λ its. let none : ⊥ = omega (arith, its.0, earlier) in none)) in
+      let same = ap (λ (w : Watch). w.moment) (c.end_group-moment.ensures.rested.others p (inl earlier)).watch in
       let old = c.loop-group.invariant.waits p earlier
       (omega (arith, within, ap length c.end_group-moment.ensures.lines)) in
       omega (arith, same, old, c.min-next.ensures))
@@ -43,13 +48,31 @@ loop-group-preserved g c = record {
       (16 * c.loop-group.group) last c.loop-group.self.watches c.loop-group.wires c.end_group-moment.new.wires in
       let_out_after _ (length c.args.self.now.lines) 0 (16 * c.loop-group.group) (16 * (c.loop-group.group + 1))
       c.args.self.now.watches c.loop-group.self.watches c.args.wires.now c.loop-group.wires
-      c.end_group-moment.new.wires (omega arith) (omega arith) c.loop-group.auto.wires c.loop-group.invariant.later
+      c.end_group-moment.new.wires (omega arith) (omega arith) c.loop-group.auto.wires
+      (λ p from. (c.loop-group.invariant.rested.others p (inr from)).watch)
       c.loop-group.invariant.out
       (subst (Of (length c.args.self.now.lines)) next
       (subst (λ (n : ℕ). Of n (16 * c.loop-group.group + 16)) many c.end_group-moment.ensures.out));
-  later = λ p from. c.end_group-moment.ensures.others p
-      (λ its. let none : ⊥ = omega (arith, its.1, from) in none)
-      ∙ c.loop-group.invariant.later p (omega (arith, from));
+  now = c.end_group-moment.ensures.now ∙ c.loop-group.invariant.now;
+  rested = let next : 16 * c.loop-group.group + 16 ≡ 16 * (c.loop-group.group + 1) = omega arith in
+      let Of : ℕ → Type 0 = λ last. HaveRested (16 * c.loop-group.group) last c.loop-group.self
+      c.end_group-moment.new.exchange c.end_group-moment.new.wires in
+      rested_after 0 (16 * c.loop-group.group) (16 * (c.loop-group.group + 1)) c.args.self.now c.loop-group.self
+      c.end_group-moment.new.exchange c.loop-group.wires c.end_group-moment.new.wires (omega arith) (omega arith)
+      (ap length c.loop-group.invariant.lines) c.end_group-moment.ensures.now c.end_group-moment.auto.wires
+      (λ p d before. c.end_group-moment.ensures.out.same p d (inl before)) c.loop-group.invariant.rested
+      (subst Of next c.end_group-moment.ensures.rested);
+  wanted = let lines = ap length c.end_group-moment.ensures.lines in
+      first_among (λ p. (p < 16 * c.loop-group.group) × (p < length c.loop-group.self.lines)) _ _
+      c.end_group-moment.new.exchange.watches c.loop-group.next c.end_group-moment.result c.min-next.result
+      c.min-next.ensures
+      (λ p its. (omega (arith, its.0), omega (arith, its.1, lines)))
+      (λ p its. let within = its.0 in (omega (arith, within.1), its.1))
+      (moment_among _ _ c.loop-group.self.watches c.end_group-moment.new.exchange.watches c.loop-group.next
+      (λ p its. its)
+      (λ p its. ap (λ (w : Watch). w.moment) (c.end_group-moment.ensures.rested.others p (inl its.0)).watch)
+      c.loop-group.invariant.wanted)
+      c.end_group-moment.ensures.wanted;
 }
 
 -- the next moment isn't behind that of a line
@@ -81,3 +104,36 @@ returns-clause-out g c =
     all_let_out _ (length c.args.self.now.lines) (16 * c.loop-group.group) c.args.self.now.watches c.args.wires.now
     c.loop-group.wires (omega (arith, many, c.self.invariant.many_groups, c.loop-group-test.false))
     c.loop-group.auto.wires c.loop-group.invariant.out
+
+pub returns-clause-now : goal.returns-clause-now
+returns-clause-now g c =
+    c.wake.ensures.now ∙ (ap (λ (seen : Watched). seen.now) c.self-2.view_is ∙ c.loop-group.invariant.now)
+
+-- until the first of the moments
+pub returns-clause-waits : goal.returns-clause-waits
+returns-clause-waits g c =
+    let First : Watched → Type 0 = λ seen. IsLinesMoment seen c.loop-group.next in
+    c.wake.ensures.waits (subst First (sym c.self-2.view_is)
+    (moment_among _ (λ p. p < length c.loop-group.self.lines) c.loop-group.self.watches c.loop-group.self.watches
+    c.loop-group.next (λ p its. its.1) (λ p its. refl) c.loop-group.invariant.wanted))
+
+-- those that were looked at rest, and those are woken that are to be
+pub returns-clause-ended : goal.returns-clause-ended
+returns-clause-ended g c = λ place d there line.
+    let mid = c.loop-group.self in
+    let new = c.wake.new.exchange in
+    let many : length c.self.inside.posts.items ≡ length c.args.self.now.lines =
+    sym (length-map c.self.inside.posts.items (λ (post : Post g.row.N-Listener.Denot g.row.N-Connection.Denot).
+    served_line g.N.Network.address_of post))
+    ∙ ap (λ (seen : Watched). length seen.lines) c.self.view_is in
+    let lines = ap (λ (seen : Watched). seen.lines) c.self-2.view_is in
+    let noted = ap (λ (seen : Watched). seen.noted) c.self-2.view_is in
+    let time = ap (λ (seen : Watched). seen.now) c.self-2.view_is in
+    let watches = ap (λ (seen : Watched). seen.watches) c.self-2.view_is in
+    ended_so (16 * c.loop-group.group) place d c.args.self.now mid new c.args.hub.now c.loop-group.wires
+    c.loop-group.invariant.rested
+    (omega (arith, line, many, c.self.invariant.many_groups, c.loop-group-test.false))
+    (omega (arith, there, c.loop-group.auto.wires)) line (c.wake.ensures.lines ∙ lines)
+    (c.wake.ensures.noted ∙ noted) (c.wake.ensures.now ∙ time)
+    (all_woken _ mid c.args.hub.now new.watches (sym lines) (sym noted) (sym time) (sym watches)
+    c.wake.ensures.calls)

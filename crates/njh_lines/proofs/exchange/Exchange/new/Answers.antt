@@ -1,4 +1,6 @@
-use Rattle.std.proofs.Common.{◌≡◌, ◌∙◌, ap, arith, length, sym}
+use Rattle.std.proofs.Common.{◌≡◌, ◌∙◌, List, ap, arith, inl, length, sym}
+use Rattle.njh_lines.specs.Attention.{watch_at}
+use Rattle.njh_lines.specs.declared.attention.Watch.{Watch}
 use Rattle.njh_lines.proofs.exchange.Exchange.new.Goals as goal
 
 -- no line is there
@@ -11,4 +13,5 @@ invariant_of-result g c =
       covered = λ group place within before. let no : ⊥ = omega (arith, before, none) in absurd no;
       waits = λ place before. let no : ⊥ = omega (arith, before, none) in absurd no;
       due = λ group place within before its. let no : ⊥ = omega (arith, before, none) in absurd no;
+      wanted = λ group. inl (ap (λ (groups : List Watch). (watch_at groups group).is_due) c.new-4.ensures.items);
     }

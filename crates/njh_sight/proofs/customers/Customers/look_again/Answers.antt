@@ -1,0 +1,15 @@
+use Rattle.std.proofs.Common.{arith, refl}
+use Rattle.njh_sight.specs.Waking.{looked_again}
+use Rattle.njh_sight.specs.declared.customers.Row.{Row}
+use Rattle.njh_sight.proofs.RowLaws.{no_row, row_made}
+use Rattle.njh_sight.proofs.customers.Customers.look_again.Goals as goal
+
+pub returns-then-customer-lt-CUSTOMERS : goal.returns-then-customer-lt-CUSTOMERS
+returns-then-customer-lt-CUSTOMERS c =
+    row_made c.args.customer c.args.customer (λ (row : Row). looked_again row c.args.moment) c.self.inside.rows
+    c.args.self.now c.look_again.new.self _ refl c.self.view_is (omega arith) c.look_again.ensures
+
+pub returns-else-customer-lt-CUSTOMERS : goal.returns-else-customer-lt-CUSTOMERS
+returns-else-customer-lt-CUSTOMERS c =
+    no_row c.args.customer c.args.customer (λ (row : Row). looked_again row c.args.moment) c.self.inside.rows
+    c.args.self.now refl c.self.view_is (omega (arith, c.self.invariant))
