@@ -1,4 +1,9 @@
 mod BodyText
+mod NameLaws
 mod Numerals
 mod Paths
 mod ReadBack
+mod ReplyLaws
+mod RowLaws
+mod SessionLaws
+mod WrittenUpTo

@@ -1,10 +1,10 @@
 //! What an answer holds.
 
-ghost use Rattle.std.specs.Prelude.{◌≡◌, Some, None, Err, IfErr, IfOk};
+ghost use Rattle.std.specs.Prelude.{◌≡◌, Some, None, IfErr, IfOk};
 ghost use Rattle.serde_json.specs.Read.{read};
 ghost use Rattle.serde_json.specs.View.{items_view, view};
 ghost use Rattle.njh_request.specs.Bodies.{string_in};
-ghost use Rattle.njh_ctl.specs.Answers.{count_in, json_in, list_in, next_by, next_in};
+ghost use Rattle.njh_ctl.specs.Answers.{IsNoValue, count_in, json_in, list_in, next_by, next_in};
 
 use crate::fault::CtlFault;
 use serde_json::Value;
@@ -14,7 +14,7 @@ use std::str;
 /// The JSON that a body is.
 pub(crate) fn value_in(alloc: Global, body: &[u8]) -> Result<Value, CtlFault>
     ensures understood { IfOk result (λ value. json_in body.now ≡ Some (view value)) }
-    ensures refused { result ≡ Err CtlFault.NotUnderstood → json_in body.now ≡ None }
+    ensures refused { IfErr result (IsNoValue (json_in body.now)) }
 {
     match str::from_utf8(body) {
         Ok(text) => value_of_text(alloc, text),
@@ -25,7 +25,7 @@ pub(crate) fn value_in(alloc: Global, body: &[u8]) -> Result<Value, CtlFault>
 /// The JSON that a text is.
 fn value_of_text(alloc: Global, text: &str) -> Result<Value, CtlFault>
     ensures understood { IfOk result (λ value. read text.now ≡ Some (view value)) }
-    ensures refused { result ≡ Err CtlFault.NotUnderstood → read text.now ≡ None }
+    ensures refused { IfErr result (IsNoValue (read text.now)) }
 {
     match Value::from_str(alloc, text) {
         Ok(value) => Ok(value),

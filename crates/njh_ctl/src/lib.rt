@@ -4,7 +4,10 @@
 mod answers;
 mod bodies;
 mod fault;
+mod names;
+mod parted_list;
 mod question;
+mod reply;
 mod request_text;
 mod session;
 mod shown;

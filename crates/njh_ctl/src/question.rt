@@ -73,3 +73,16 @@ pub(crate) fn change_word(change: Change) -> &'static str
         Change::Cancel => "CANCEL",
     }
 }
+
+/// A customer's files of a name.
+pub(crate) fn files_of<'a>(customer: &'a str, name: &'a str, owner: Option<Owner<'a>>) -> Files<'a>
+    ensures customer { result.customer ≡ customer.entry }
+    ensures name { result.name ≡ name.entry }
+    ensures owner { result.owner ≡ owner.entry }
+{
+    Files {
+        customer,
+        name,
+        owner,
+    }
+}

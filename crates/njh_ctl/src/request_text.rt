@@ -5,6 +5,7 @@ ghost use Rattle.std.specs.Str.{is_utf8};
 ghost use Rattle.percent_encoding.specs.Percent.{percent_decode};
 ghost use Rattle.njh_table.specs.TableFile.{TableFile};
 ghost use Rattle.njh_request.specs.Requests.{request_of};
+ghost use Rattle.njh_ctl.specs.Exchanges.{Puts, request_view, text_of};
 ghost use Rattle.njh_ctl.specs.Questions.{customer_path, from_text, is_askable, is_path_byte, is_word};
 ghost use Rattle.njh_ctl.specs.Questions.{line_path, meant, order_path, path_of, query_of};
 
@@ -30,8 +31,9 @@ impl RequestText {
     /// What is asked, as the console reads it. Out of memory is the only refusal.
     pub fn of(alloc: Global, question: &Question<'_>) -> Result<RequestText, AllocError>
         requires { is_askable question.now ≡ true }
-        ensures { IfOk result (λ r. (tables : TableFile) → request_of tables r.method.now (string_bytes r.path)
+        ensures meant { IfOk result (λ r. (tables : TableFile) → request_of tables r.method.now (string_bytes r.path)
             (option_map string_bytes r.query) (string_bytes r.body) ≡ meant tables question.now) }
+        ensures puts { IfOk result (λ r. Puts (text_of question.now) (request_view r)) }
     {
         let plain = path_of(alloc, question)?;
         let path = escaped(alloc, plain.as_str())?;

@@ -1,5 +1,17 @@
 //! What is told of answers, for people.
 
+ghost use Rattle.std.specs.Prelude.{◌≡◌, IfErr, IfOk, None, OnOk, Some, codes, map, string_bytes};
+ghost use Rattle.std.specs.Result.{IsOkAnd};
+ghost use Rattle.std.specs.Option.{option_map};
+ghost use Rattle.serde_json.specs.Find.{get};
+ghost use Rattle.serde_json.specs.View.{view};
+ghost use Rattle.njh_ctl.specs.Answers.{count_in};
+ghost use Rattle.njh_ctl.specs.Shown.{Adds, AreFaults, AreRepliesShown, AreUsers, Grows, IsCustomerRow, IsFault};
+ghost use Rattle.njh_ctl.specs.Shown.{IsFileRow, IsFileTold, IsReply, IsSince, IsStatusShown, IsSums, IsTally};
+ghost use Rattle.njh_ctl.specs.Shown.{IsUser, IsWay, LooksFor, Rows, bytes_text, is_as_wanted, is_wanted, state_text};
+ghost use Rattle.njh_ctl.specs.Shown.{wanted_by};
+ghost use Rattle.njh_ctl.specs.Talks.{IsPlain};
+
 use crate::answers::{count_in, list_in, text_in};
 use crate::fault::CtlFault;
 use jiff::Timestamp;
@@ -25,7 +37,10 @@ pub(crate) struct Filter<'a> {
 }
 
 /// Tells how the hub is.
-pub(crate) fn show_status(alloc: Global, value: &Value, out: &mut String) -> Result<(), CtlFault> {
+pub(crate) fn show_status(alloc: Global, value: &Value, out: &mut String) -> Result<(), CtlFault>
+    ensures shown { OnOk result (Adds (IsStatusShown (view value.now)) out.old out.new) }
+    ensures fault { IfErr result IsPlain }
+{
     let version = text_in(value, "version")?;
     let since = moment_text(alloc, count_in(value, "since")?)?;
     let since = since.as_str();
@@ -36,7 +51,10 @@ pub(crate) fn show_status(alloc: Global, value: &Value, out: &mut String) -> Res
 }
 
 /// Tells what all customers have together.
-fn show_sums(alloc: Global, value: &Value, out: &mut String) -> Result<(), CtlFault> {
+fn show_sums(alloc: Global, value: &Value, out: &mut String) -> Result<(), CtlFault>
+    ensures shown { OnOk result (Adds (IsSums (view value.now)) out.old out.new) }
+    ensures fault { IfErr result IsPlain }
+{
     let customers = count_in(value, "customers")?;
     let files = count_in(value, "files")?;
     let lines = member(value, "lines")?;
@@ -56,7 +74,10 @@ fn show_sums(alloc: Global, value: &Value, out: &mut String) -> Result<(), CtlFa
 }
 
 /// Tells how large the spool file is, where that is known.
-fn show_bytes(alloc: Global, value: &Value, out: &mut String) -> Result<(), CtlFault> {
+fn show_bytes(alloc: Global, value: &Value, out: &mut String) -> Result<(), CtlFault>
+    ensures shown { OnOk result (Grows (bytes_text (count_in (codes "file_bytes") (view value.now))) out.old out.new) }
+    ensures fault { IfErr result IsPlain }
+{
     match value.get("file_bytes").and_then(Value::as_u64) {
         Some(bytes) => add(out, format!(in alloc; "spool file {bytes} bytes\n")),
         None => Ok(()),
@@ -64,17 +85,27 @@ fn show_bytes(alloc: Global, value: &Value, out: &mut String) -> Result<(), CtlF
 }
 
 /// Tells what is wrong now.
-fn show_faults(alloc: Global, faults: &[Value], out: &mut String) -> Result<(), CtlFault> {
+fn show_faults(alloc: Global, faults: &[Value], out: &mut String) -> Result<(), CtlFault>
+    ensures shown { OnOk result (Adds (AreFaults (map view faults.now)) out.old out.new) }
+    ensures fault { IfErr result IsPlain }
+{
     if faults.is_empty() {
         return add(out, String::from_str(alloc, "nothing is wrong\n"));
     }
     for fault in faults {
-        let Some(fault) = fault.as_str() else {
-            return Err(CtlFault::NotUnderstood);
-        };
-        add(out, format!(in alloc; "wrong: {fault}\n"))?;
+        show_fault(alloc, fault, out)?;
     }
     Ok(())
+}
+
+fn show_fault(alloc: Global, fault: &Value, out: &mut String) -> Result<(), CtlFault>
+    ensures shown { OnOk result (Adds (IsFault (view fault.now)) out.old out.new) }
+    ensures fault { IfErr result IsPlain }
+{
+    match fault.as_str() {
+        Some(fault) => add(out, format!(in alloc; "wrong: {fault}\n")),
+        None => Err(CtlFault::NotUnderstood),
+    }
 }
 
 /// Tells of customers.
@@ -82,14 +113,20 @@ pub(crate) fn show_customers(
     alloc: Global,
     customers: &[Value],
     out: &mut String,
-) -> Result<(), CtlFault> {
+) -> Result<(), CtlFault>
+    ensures shown { OnOk result (Adds (Rows IsCustomerRow (map view customers.now)) out.old out.new) }
+    ensures fault { IfErr result IsPlain }
+{
     for customer in customers {
         show_customer(alloc, customer, out)?;
     }
     Ok(())
 }
 
-fn show_customer(alloc: Global, customer: &Value, out: &mut String) -> Result<(), CtlFault> {
+fn show_customer(alloc: Global, customer: &Value, out: &mut String) -> Result<(), CtlFault>
+    ensures shown { OnOk result (Adds (IsCustomerRow (view customer.now)) out.old out.new) }
+    ensures fault { IfErr result IsPlain }
+{
     let name = text_in(customer, "name")?;
     let quota = count_in(customer, "quota")?;
     let used = count_in(customer, "blocks")?;
@@ -100,7 +137,10 @@ fn show_customer(alloc: Global, customer: &Value, out: &mut String) -> Result<()
 }
 
 /// Tells how many files are in each state.
-fn show_tally(alloc: Global, files: &Value, out: &mut String) -> Result<(), CtlFault> {
+fn show_tally(alloc: Global, files: &Value, out: &mut String) -> Result<(), CtlFault>
+    ensures shown { OnOk result (Adds (IsTally (view files.now)) out.old out.new) }
+    ensures fault { IfErr result IsPlain }
+{
     let ready = count_in(files, "ready")?;
     let held = count_in(files, "held")?;
     let refused = count_in(files, "refused")?;
@@ -118,30 +158,63 @@ pub(crate) fn show_files(
     files: &[Value],
     filter: Filter<'_>,
     out: &mut String,
-) -> Result<(), CtlFault> {
+) -> Result<(), CtlFault>
+    ensures shown { OnOk result (Adds (Rows (IsFileTold (wanted_by filter.entry) customer.now) (map view files.now))
+        out.old out.new) }
+    ensures fault { IfErr result IsPlain }
+{
     for file in files {
-        if is_looked_for(file, filter)? {
-            show_file(alloc, customer, file, out)?;
-        }
+        show_wanted(alloc, customer, file, filter, out)?;
+    }
+    Ok(())
+}
+
+/// Tells of a file if it is looked for.
+fn show_wanted(
+    alloc: Global,
+    customer: &str,
+    file: &Value,
+    filter: Filter<'_>,
+    out: &mut String,
+) -> Result<(), CtlFault>
+    ensures shown { OnOk result (Adds (IsFileTold (wanted_by filter.entry) customer.now (view file.now)) out.old
+        out.new) }
+    ensures fault { IfErr result IsPlain }
+{
+    if is_looked_for(file, filter)? {
+        return show_file(alloc, customer, file, out);
     }
     Ok(())
 }
 
 /// Whether a file is looked for.
-fn is_looked_for(file: &Value, filter: Filter<'_>) -> Result<bool, CtlFault> {
+fn is_looked_for(file: &Value, filter: Filter<'_>) -> Result<bool, CtlFault>
+    ensures looked { IfOk result (LooksFor (wanted_by filter.entry) (view file.now)) }
+    ensures fault { IfErr result IsPlain }
+{
     let state = text_in(file, "state")?;
     let node = text_in(member(file, "destination")?, "node")?;
-    Ok(is_of_node(node, filter.node) && is_in_state(state, filter.state))
+    Ok(is_wanted(filter, state, node))
 }
 
-fn is_of_node(node: &str, wanted: Option<&str>) -> bool {
+fn is_wanted(filter: Filter<'_>, state: &str, node: &str) -> bool
+    ensures { result ≡ is_wanted (wanted_by filter.entry) state.now node.now }
+{
+    is_of_node(node, filter.node) && is_in_state(state, filter.state)
+}
+
+fn is_of_node(node: &str, wanted: Option<&str>) -> bool
+    ensures { result ≡ is_as_wanted node.now (option_map (λ node. node.now) wanted.entry) }
+{
     match wanted {
         Some(wanted) => node == wanted,
         None => true,
     }
 }
 
-fn is_in_state(state: &str, wanted: Option<FileState>) -> bool {
+fn is_in_state(state: &str, wanted: Option<FileState>) -> bool
+    ensures { result ≡ is_as_wanted state.now (option_map state_text wanted) }
+{
     match wanted {
         Some(FileState::Ready) => state == "READY",
         Some(FileState::Held) => state == "HELD",
@@ -151,12 +224,10 @@ fn is_in_state(state: &str, wanted: Option<FileState>) -> bool {
     }
 }
 
-fn show_file(
-    alloc: Global,
-    customer: &str,
-    file: &Value,
-    out: &mut String,
-) -> Result<(), CtlFault> {
+fn show_file(alloc: Global, customer: &str, file: &Value, out: &mut String) -> Result<(), CtlFault>
+    ensures shown { OnOk result (Adds (IsFileRow customer.now (view file.now)) out.old out.new) }
+    ensures fault { IfErr result IsPlain }
+{
     let name = text_in(file, "name")?;
     let kind = text_in(file, "kind")?;
     let state = text_in(file, "state")?;
@@ -178,7 +249,10 @@ fn show_file(
 
 /// Tells since when a file is there, if that is known, and by which line it goes, if one leads to
 /// its node.
-fn show_way(alloc: Global, file: &Value, out: &mut String) -> Result<(), CtlFault> {
+fn show_way(alloc: Global, file: &Value, out: &mut String) -> Result<(), CtlFault>
+    ensures shown { OnOk result (Adds (IsWay (view file.now)) out.old out.new) }
+    ensures fault { IfErr result IsPlain }
+{
     let since = came_text(alloc, file)?;
     let since = since.as_str();
     let line = file
@@ -188,7 +262,10 @@ fn show_way(alloc: Global, file: &Value, out: &mut String) -> Result<(), CtlFaul
     add(out, format!(in alloc; "{since:<20} {line:<8} "))
 }
 
-fn came_text(alloc: Global, file: &Value) -> Result<String, CtlFault> {
+fn came_text(alloc: Global, file: &Value) -> Result<String, CtlFault>
+    ensures since { IfOk result (λ since. IsSince (count_in (codes "came") (view file.now)) (string_bytes since)) }
+    ensures fault { IfErr result IsPlain }
+{
     match file.get("came").and_then(Value::as_u64) {
         Some(moment) => moment_text(alloc, moment),
         None => Ok(String::from_str(alloc, "-")?),
@@ -201,7 +278,10 @@ fn show_users(
     owner: &Value,
     destination: &Value,
     out: &mut String,
-) -> Result<(), CtlFault> {
+) -> Result<(), CtlFault>
+    ensures shown { OnOk result (Adds (AreUsers (view owner.now) (view destination.now)) out.old out.new) }
+    ensures fault { IfErr result IsPlain }
+{
     let owner = user_text(alloc, owner)?;
     let owner = owner.as_str();
     let destination = user_text(alloc, destination)?;
@@ -210,7 +290,10 @@ fn show_users(
 }
 
 /// A user at a node, as `LYON.ANNA`; a node alone where there is no user.
-fn user_text(alloc: Global, user: &Value) -> Result<String, CtlFault> {
+fn user_text(alloc: Global, user: &Value) -> Result<String, CtlFault>
+    ensures user { IfOk result (λ text. IsUser (view user.now) (string_bytes text)) }
+    ensures fault { IfErr result IsPlain }
+{
     let node = text_in(user, "node")?;
     let name = text_in(user, "user")?;
     if name.is_empty() {
@@ -220,18 +303,38 @@ fn user_text(alloc: Global, user: &Value) -> Result<String, CtlFault> {
 }
 
 /// Tells what an order answered.
-pub(crate) fn show_replies(alloc: Global, value: &Value, out: &mut String) -> Result<(), CtlFault> {
-    for reply in list_in(value, "replies")? {
-        let Some(reply) = reply.as_str() else {
-            return Err(CtlFault::NotUnderstood);
-        };
-        add(out, format!(in alloc; "{reply}\n"))?;
+pub(crate) fn show_replies(alloc: Global, value: &Value, out: &mut String) -> Result<(), CtlFault>
+    ensures shown { OnOk result (Adds (AreRepliesShown (view value.now)) out.old out.new) }
+    ensures fault { IfErr result IsPlain }
+{
+    show_each_reply(alloc, list_in(value, "replies")?, out)
+}
+
+fn show_each_reply(alloc: Global, replies: &[Value], out: &mut String) -> Result<(), CtlFault>
+    ensures shown { OnOk result (Adds (Rows IsReply (map view replies.now)) out.old out.new) }
+    ensures fault { IfErr result IsPlain }
+{
+    for reply in replies {
+        show_reply(alloc, reply, out)?;
     }
     Ok(())
 }
 
+fn show_reply(alloc: Global, reply: &Value, out: &mut String) -> Result<(), CtlFault>
+    ensures shown { OnOk result (Adds (IsReply (view reply.now)) out.old out.new) }
+    ensures fault { IfErr result IsPlain }
+{
+    match reply.as_str() {
+        Some(reply) => add(out, format!(in alloc; "{reply}\n")),
+        None => Err(CtlFault::NotUnderstood),
+    }
+}
+
 /// A member, which has to be there.
-pub(crate) fn member<'a>(value: &'a Value, key: &str) -> Result<&'a Value, CtlFault> {
+pub(crate) fn member<'a>(value: &'a Value, key: &str) -> Result<&'a Value, CtlFault>
+    ensures found { IfOk result (λ found. get key.now (view value.now) ≡ Some (view found.now)) }
+    ensures fault { IfErr result (λ fault. (fault ≡ CtlFault.NotUnderstood) × (get key.now (view value.now) ≡ None)) }
+{
     match value.get(key) {
         Some(member) => Ok(member),
         None => Err(CtlFault::NotUnderstood),
@@ -239,7 +342,9 @@ pub(crate) fn member<'a>(value: &'a Value, key: &str) -> Result<&'a Value, CtlFa
 }
 
 /// Seconds since 1970, as a date and a time in UTC.
-pub(crate) fn moment_text(alloc: Global, seconds: u64) -> Result<String, CtlFault> {
+pub(crate) fn moment_text(alloc: Global, seconds: u64) -> Result<String, CtlFault>
+    ensures fault { IfErr result IsPlain }
+{
     match i64::try_from(seconds) {
         Ok(second) => match Timestamp::from_second(second) {
             Ok(time) => Ok(format!(in alloc; "{time}")?),
@@ -250,7 +355,10 @@ pub(crate) fn moment_text(alloc: Global, seconds: u64) -> Result<String, CtlFaul
 }
 
 /// Adds a text, unless memory was refused for it.
-pub(crate) fn add(out: &mut String, text: Result<String, AllocError>) -> Result<(), CtlFault> {
+pub(crate) fn add(out: &mut String, text: Result<String, AllocError>) -> Result<(), CtlFault>
+    ensures added { OnOk result (IsOkAnd text (λ text. Grows (string_bytes text) out.old out.new)) }
+    ensures fault { IfErr result IsPlain }
+{
     let text = text?;
     out.push_str(text.as_str())?;
     Ok(())

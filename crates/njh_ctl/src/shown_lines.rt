@@ -1,5 +1,12 @@
 //! What is told of lines, for people.
 
+ghost use Rattle.std.specs.Prelude.{◌≡◌, IfErr, IfOk, OnOk, map, string_bytes};
+ghost use Rattle.serde_json.specs.View.{view};
+ghost use Rattle.njh_ctl.specs.Questions.{Text};
+ghost use Rattle.njh_ctl.specs.Shown.{Adds, Grows, Rows};
+ghost use Rattle.njh_ctl.specs.ShownLines.{AreLineNames, IsAny, IsLineRow};
+ghost use Rattle.njh_ctl.specs.Talks.{IsPlain};
+
 use crate::answers::{count_in, list_in, text_in};
 use crate::fault::CtlFault;
 use crate::shown::{add, member, moment_text};
@@ -16,29 +23,46 @@ pub(crate) fn show_lines(
     customer: &str,
     lines: &[Value],
     out: &mut String,
-) -> Result<(), CtlFault> {
+) -> Result<(), CtlFault>
+    ensures shown { OnOk result (Adds (Rows (IsLineRow customer.now) (map view lines.now)) out.old out.new) }
+    ensures fault { IfErr result IsPlain }
+{
     for line in lines {
         show_line(alloc, customer, line, out)?;
-        show_messages(alloc, line, out)?;
-        show_streams(alloc, line, out)?;
     }
     Ok(())
 }
 
-/// Tells of a line and its session.
-fn show_line(
-    alloc: Global,
-    customer: &str,
-    line: &Value,
-    out: &mut String,
-) -> Result<(), CtlFault> {
+/// Tells of a line, its session, its messages and its streams.
+fn show_line(alloc: Global, customer: &str, line: &Value, out: &mut String) -> Result<(), CtlFault>
+    ensures shown { OnOk result (Adds (IsLineRow customer.now (view line.now)) out.old out.new) }
+    ensures fault { IfErr result IsPlain }
+{
+    show_names(alloc, customer, line, out)?;
+    show_served(alloc, line, out)?;
+    show_messages(alloc, line, out)?;
+    show_streams(alloc, line, out)
+}
+
+/// Tells what a line is called and is.
+fn show_names(alloc: Global, customer: &str, line: &Value, out: &mut String) -> Result<(), CtlFault>
+    ensures shown { OnOk result (Adds (AreLineNames customer.now (view line.now)) out.old out.new) }
+    ensures fault { IfErr result IsPlain }
+{
     let name = text_in(line, "name")?;
     let node = text_in(line, "node")?;
     let role = text_in(line, "role")?;
     add(
         out,
         format!(in alloc; "{customer:<8} {name:<8} {node:<8} {role:<7} "),
-    )?;
+    )
+}
+
+/// Tells of a line's session and connection, if the line is served.
+fn show_served(alloc: Global, line: &Value, out: &mut String) -> Result<(), CtlFault>
+    ensures shown { OnOk result (Adds IsAny out.old out.new) }
+    ensures fault { IfErr result IsPlain }
+{
     let served = member(line, "served")?;
     let session = member(line, "session")?;
     if served.is_null() {
@@ -53,7 +77,10 @@ fn show_session(
     served: &Value,
     session: &Value,
     out: &mut String,
-) -> Result<(), CtlFault> {
+) -> Result<(), CtlFault>
+    ensures shown { OnOk result (Adds IsAny out.old out.new) }
+    ensures fault { IfErr result IsPlain }
+{
     let state = text_in(served, "state")?;
     let site = text_in(served, "site")?;
     let phase = text_in(session, "phase")?;
@@ -68,7 +95,9 @@ fn show_session(
 }
 
 /// Since when the session is up, or else there is a connection, if one of the two is so.
-fn since_text(alloc: Global, served: &Value) -> Result<String, CtlFault> {
+fn since_text(alloc: Global, served: &Value) -> Result<String, CtlFault>
+    ensures fault { IfErr result IsPlain }
+{
     match served.get("up").and_then(Value::as_u64) {
         Some(moment) => moment_text(alloc, moment),
         None => match served.get("connected").and_then(Value::as_u64) {
@@ -84,24 +113,46 @@ fn show_troubles(
     served: &Value,
     session: &Value,
     out: &mut String,
-) -> Result<(), CtlFault> {
-    let last = text_in(served, "last_end")?;
-    if !last.is_empty() {
-        add(out, format!(in alloc; "  last end: {last}\n"))?;
-    }
-    let refusals = count_in(session, "refusals")?;
-    let tries = count_in(session, "tries")?;
-    if refusals > 0 || tries > 0 {
-        add(
-            out,
-            format!(in alloc; "  tries {tries}, refusals {refusals}\n"),
-        )?;
-    }
+) -> Result<(), CtlFault>
+    ensures shown { OnOk result (Adds IsAny out.old out.new) }
+    ensures fault { IfErr result IsPlain }
+{
+    show_last_end(alloc, served, out)?;
+    show_tries(alloc, session, out)?;
     show_repeats(alloc, served, out)
 }
 
+fn show_last_end(alloc: Global, served: &Value, out: &mut String) -> Result<(), CtlFault>
+    ensures shown { OnOk result (Adds IsAny out.old out.new) }
+    ensures fault { IfErr result IsPlain }
+{
+    let last = text_in(served, "last_end")?;
+    if last.is_empty() {
+        return Ok(());
+    }
+    add(out, format!(in alloc; "  last end: {last}\n"))
+}
+
+fn show_tries(alloc: Global, session: &Value, out: &mut String) -> Result<(), CtlFault>
+    ensures shown { OnOk result (Adds IsAny out.old out.new) }
+    ensures fault { IfErr result IsPlain }
+{
+    let refusals = count_in(session, "refusals")?;
+    let tries = count_in(session, "tries")?;
+    if refusals == 0 && tries == 0 {
+        return Ok(());
+    }
+    add(
+        out,
+        format!(in alloc; "  tries {tries}, refusals {refusals}\n"),
+    )
+}
+
 /// Tells how many NAKs and how many blocks again were sent, if any were.
-fn show_repeats(alloc: Global, served: &Value, out: &mut String) -> Result<(), CtlFault> {
+fn show_repeats(alloc: Global, served: &Value, out: &mut String) -> Result<(), CtlFault>
+    ensures shown { OnOk result (Adds IsAny out.old out.new) }
+    ensures fault { IfErr result IsPlain }
+{
     let naks = count_in(served, "naks")?;
     let repeats = count_in(served, "repeats")?;
     if naks > 0 || repeats > 0 {
@@ -111,7 +162,10 @@ fn show_repeats(alloc: Global, served: &Value, out: &mut String) -> Result<(), C
 }
 
 /// Tells how many nodal messages wait, if any do.
-fn show_messages(alloc: Global, line: &Value, out: &mut String) -> Result<(), CtlFault> {
+fn show_messages(alloc: Global, line: &Value, out: &mut String) -> Result<(), CtlFault>
+    ensures shown { OnOk result (Adds IsAny out.old out.new) }
+    ensures fault { IfErr result IsPlain }
+{
     match line.get("messages").and_then(Value::as_u64) {
         None | Some(0) => Ok(()),
         Some(1) => add(out, String::from_str(alloc, "  1 message waits\n")),
@@ -120,26 +174,36 @@ fn show_messages(alloc: Global, line: &Value, out: &mut String) -> Result<(), Ct
 }
 
 /// Tells what comes and goes on a line's streams.
-fn show_streams(alloc: Global, line: &Value, out: &mut String) -> Result<(), CtlFault> {
-    let mut place = 0;
-    for stream in list_in(line, "from_hub")? {
-        show_sender(alloc, stream_name(place), stream, out)?;
-        place = next_place(place);
-    }
-    place = 0;
-    for stream in list_in(line, "to_hub")? {
-        show_receiver(alloc, stream_name(place), stream, out)?;
-        place = next_place(place);
+fn show_streams(alloc: Global, line: &Value, out: &mut String) -> Result<(), CtlFault>
+    ensures shown { OnOk result (Adds IsAny out.old out.new) }
+    ensures fault { IfErr result IsPlain }
+{
+    show_senders(alloc, list_in(line, "from_hub")?, out)?;
+    show_receivers(alloc, list_in(line, "to_hub")?, out)
+}
+
+fn show_senders(alloc: Global, streams: &[Value], out: &mut String) -> Result<(), CtlFault>
+    ensures shown { OnOk result (Adds IsAny out.old out.new) }
+    ensures fault { IfErr result IsPlain }
+{
+    for place in 0..streams.len() {
+        show_sender(alloc, stream_name(place), &streams[place], out)?;
     }
     Ok(())
 }
 
-fn next_place(place: u64) -> u64 {
-    place.saturating_add(1)
+fn show_receivers(alloc: Global, streams: &[Value], out: &mut String) -> Result<(), CtlFault>
+    ensures shown { OnOk result (Adds IsAny out.old out.new) }
+    ensures fault { IfErr result IsPlain }
+{
+    for place in 0..streams.len() {
+        show_receiver(alloc, stream_name(place), &streams[place], out)?;
+    }
+    Ok(())
 }
 
 /// What a stream is called, by its place in an answer, as the log calls it.
-fn stream_name(place: u64) -> &'static str {
+fn stream_name(place: usize) -> &'static str {
     match place {
         0 => "SYSIN 1",
         1 => "SYSIN 2",
@@ -154,12 +218,10 @@ fn stream_name(place: u64) -> &'static str {
 }
 
 /// Tells what goes on a stream, if something does.
-fn show_sender(
-    alloc: Global,
-    name: &str,
-    stream: &Value,
-    out: &mut String,
-) -> Result<(), CtlFault> {
+fn show_sender(alloc: Global, name: &str, stream: &Value, out: &mut String) -> Result<(), CtlFault>
+    ensures shown { OnOk result (Adds IsAny out.old out.new) }
+    ensures fault { IfErr result IsPlain }
+{
     if stream.is_null() {
         return Ok(());
     }
@@ -184,7 +246,10 @@ fn show_receiver(
     name: &str,
     stream: &Value,
     out: &mut String,
-) -> Result<(), CtlFault> {
+) -> Result<(), CtlFault>
+    ensures shown { OnOk result (Adds IsAny out.old out.new) }
+    ensures fault { IfErr result IsPlain }
+{
     if stream.is_null() {
         return Ok(());
     }

@@ -14,6 +14,6 @@ returns-in-Ok-clause-refused c =
     rw (text, ← c.in-Ok.ensures.cases.0) c.value_of_text.ensures.refused
 
 pub returns-in-Err-clause-refused : goal.returns-in-Err-clause-refused
-returns-in-Err-clause-refused c is =
+returns-in-Err-clause-refused c =
     let broken = false_from_ne_true _ (λ text. c.in-Err.ensures.cases.0 (IsUtf8-from_is_utf8 c.args.body.now text)) in
     rw broken refl

@@ -1,0 +1,7 @@
+use Rattle.std.proofs.Common.{map, take}
+use Rattle.std.specs.Prelude.{string_bytes}
+use Rattle.njh_ctl.specs.Talks.{ForEach, LinesListed}
+use Rattle.njh_ctl.proofs.talk.Talk.lines_of_all.Given as goal
+
+abbrev pub invariant-loop-name : goal.invariant-loop-name
+invariant-loop-name g l = ForEach LinesListed l.fn.self (map string_bytes (take l.name-index l.names)) l.self
