@@ -1,5 +1,8 @@
 //! What is asked: a line of the input, the tables that it names, and a hub with a file.
 
+ghost use Rattle.std.specs.Prelude.{IfOk};
+ghost use Rattle.njh_request.specs.Named.{IsReadOf};
+
 use njh_hub::Hub;
 use njh_request::{Request, RequestRefusal};
 use njh_table::{LineId, Tables};
@@ -56,12 +59,14 @@ pub(crate) fn hub_of(alloc: Global, text: &str) -> io::Result<Hub> {
     Ok(hub)
 }
 
-/// What a line asks for: it has a method, a path and a body.
+/// What a line asks for, of what the tables name: it has a method, a path and a body.
 pub(crate) fn request_of(
     alloc: Global,
     tables: &Tables,
     line: &str,
-) -> Result<Result<Request, RequestRefusal>, AllocError> {
+) -> Result<Result<Request, RequestRefusal>, AllocError>
+    ensures { IfOk result (IsReadOf tables.now) }
+{
     let (method, rest) = line.split_once(' ').unwrap_or((line, ""));
     let (target, body) = rest.split_once(' ').unwrap_or((rest, ""));
     let (path, query) = match target.split_once('?') {
