@@ -1,8 +1,8 @@
 //! The cases of a file.
 //!
-//! A case begins with `case NAME` and ends with an empty line. Rows behind a `#` say what it
-//! shows. `tables FILE` names its tables, and `shows` what is seen beside what the hub sends,
-//! dials, logs and answers (`closes`, `waits`, `looks`). Then come its acts: the moment in
+//! A case begins with `case NAME`, and an empty line stands between two. Rows behind a `#` say
+//! what it shows. `tables FILE` names its tables, and `shows` what is seen beside what the hub
+//! sends, dials, logs and answers (`closes`, `waits`, `looks`). Then come its acts: the moment in
 //! milliseconds, the number of the peer whose act it is, what is done (`deed_of`), and with what.
 //! Bytes are hex digits or names of `texts.txt` behind an `@`; `visits` is followed by a method,
 //! a path and a body, `table` by the file of the new tables. A `+` behind the moment says that

@@ -6,9 +6,9 @@
 //! hub sends by that, and how many texts each hub sends in all, or `any`.
 
 use crate::joint::Joint;
-use crate::play::plan_in;
+use crate::play::serve_in;
 use crate::scene::Scene;
-use crate::serving::{Player, Rounds, serve};
+use crate::serving::{Plan, Player, Rounds};
 use crate::texts::bytes_of;
 use njh_log::LogStyle;
 use njh_sites::Listening;
@@ -173,9 +173,13 @@ fn serve_one<P: Player>(
         address: IpAddr::V4(Ipv4Addr::new(10, 0, 0, 1)),
         strict: false,
     };
-    let scene = Scene::Joint(joint, number);
-    let plan = plan_in(alloc, scene, text.as_str(), LogStyle::PLAIN, listening)?;
-    serve(alloc, plan, player)
+    let plan = Plan {
+        alloc,
+        tables: text.as_str(),
+        listening,
+        style: LogStyle::PLAIN,
+    };
+    serve_in(Scene::Joint(joint, number), plan, player)
 }
 
 /// Plays on the first hub: serves the second one beside it.

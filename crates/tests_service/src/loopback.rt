@@ -1,10 +1,9 @@
 //! A service over sockets of this machine, turn by turn beside its peers.
 
-use crate::serving::{Plan, Player, Rounds, serve, tables_of};
+use crate::serving::{Plan, Player, Rounds, serve};
 use mio::net::TcpStream;
-use njh_lines::Exchange;
-use njh_log::{Log, LogStyle};
-use njh_revision::Revision;
+use njh_log::LogStyle;
+use njh_revision::NoSource;
 use njh_sites::Listening;
 use njh_sockets::MioNetwork;
 use std::io;
@@ -33,24 +32,21 @@ const MANY: u32 = 1_000_000;
 /// One line's peer closes, connects again, takes no answer until it is dropped, and connects again.
 /// All the while the other line's peer is answered. Says what of it isn't so.
 pub(crate) fn play<R: Net + Clock + Print + AllocGlobal>(rt: &R, tables: &str) -> io::Result<()> {
-    let alloc = rt.alloc();
     let network = MioNetwork::new(rt)?;
-    let tables = tables_of(alloc, tables)?;
-    let log = Log::new(Some(io::sink()), LogStyle::PLAIN);
     let plan = Plan {
+        alloc: rt.alloc(),
         tables,
-        exchange: Exchange::new(alloc, network, log),
-        revision: Revision::none(alloc),
         listening: Listening {
             address: IpAddr::V4(Ipv4Addr::LOCALHOST),
             strict: false,
         },
+        style: LogStyle::PLAIN,
     };
     let mut peers = Peers {
         rt,
         wrong: Some("lines are not served"),
     };
-    serve(alloc, plan, &mut peers)?;
+    serve(plan, network, io::sink(), NoSource, &mut peers)?;
     match peers.wrong {
         None => println!(rt; "ok closes_stalls_and_connects_again"),
         Some(wrong) => println!(rt; "closes_stalls_and_connects_again: {wrong}"),

@@ -4,11 +4,9 @@
 use crate::case::{Case, End};
 use crate::network::{SceneLog, SceneNetwork, SceneTables};
 use crate::scene::Scene;
-use crate::serving::{Plan, Player, Rounds, serve, tables_of};
+use crate::serving::{Plan, Player, Rounds, serve};
 use crate::world::World;
-use njh_lines::Exchange;
-use njh_log::{Log, LogStyle};
-use njh_revision::Revision;
+use njh_log::LogStyle;
 use njh_sites::Listening;
 use std::alloc::Global;
 use std::net::{IpAddr, Ipv4Addr};
@@ -30,25 +28,25 @@ const ADDRESS: [u8; 4] = [10, 0, 0, 100];
 /// Plays each case of a file.
 pub(crate) fn play_file(rt: &HostRuntime, texts: &str, file: &str) -> io::Result<()> {
     let cases = fs::read_to_string(rt, file)?;
-    let mut name = "";
-    let mut case = Case::new(rt.alloc());
-    for row in cases.as_str().lines() {
-        if let Some(found) = row.strip_prefix("case ") {
-            name = found;
-        } else if !row.is_empty() {
-            if !case.read(rt, texts, row)? {
-                println!(rt; "{name}: no act, and no end: {row}")?;
-            }
-        } else if !name.is_empty() {
-            try_case(rt, name, &case)?;
-            name = "";
-            case = Case::new(rt.alloc());
-        }
-    }
-    if !name.is_empty() {
-        try_case(rt, name, &case)?;
+    for rows in cases.as_str().split("\n\n") {
+        play_case(rt, texts, rows)?;
     }
     Ok(())
+}
+
+/// Plays the case of some rows.
+fn play_case(rt: &HostRuntime, texts: &str, rows: &str) -> io::Result<()> {
+    let (first, rest) = rows.split_once('\n').unwrap_or((rows, ""));
+    let Some(name) = first.strip_prefix("case ") else {
+        return println!(rt; "no name of a case: {first}");
+    };
+    let mut case = Case::new(rt.alloc());
+    for row in rest.lines() {
+        if !case.read(rt, texts, row)? {
+            println!(rt; "{name}: no act, and no end: {row}")?;
+        }
+    }
+    try_case(rt, name, &case)
 }
 
 /// Plays a case, and says what came of it.
@@ -122,32 +120,29 @@ fn play_in<'a>(alloc: Global, world: &'a World<'a>, case: &Case) -> io::Result<b
         address: IpAddr::V4(Ipv4Addr::from(ADDRESS)),
         strict,
     };
-    let plan = plan_in(
+    let plan = Plan {
         alloc,
-        Scene::World(world),
-        case.tables.as_str(),
-        style,
+        tables: case.tables.as_str(),
         listening,
-    )?;
-    serve(alloc, plan, &mut Until { world, end })
+        style,
+    };
+    serve_in(Scene::World(world), plan, &mut Until { world, end })
 }
 
-/// A service in a scene, of the lines of these tables, whose log has such lines.
-pub(crate) fn plan_in<'a>(
-    alloc: Global,
-    scene: Scene<'a>,
-    tables: &str,
-    style: LogStyle,
-    listening: Listening,
-) -> io::Result<Plan<SceneNetwork<'a>, SceneLog<'a>, SceneTables<'a>>> {
-    let known = tables_of(alloc, tables)?;
-    let log = Log::new(Some(SceneLog { scene }), style);
-    Ok(Plan {
-        tables: tables_of(alloc, tables)?,
-        exchange: Exchange::new(alloc, SceneNetwork { scene }, log),
-        revision: Revision::new(alloc, known, SceneTables { alloc, scene })?,
-        listening,
-    })
+/// Serves lines in a scene while somebody plays. Answers whether they are served.
+pub(crate) fn serve_in<P: Player>(
+    scene: Scene<'_>,
+    plan: Plan<'_>,
+    player: &mut P,
+) -> io::Result<bool> {
+    let alloc = plan.alloc;
+    serve(
+        plan,
+        SceneNetwork { scene },
+        SceneLog { scene },
+        SceneTables { alloc, scene },
+        player,
+    )
 }
 
 /// Plays what happens in a world up to a moment.

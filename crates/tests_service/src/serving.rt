@@ -1,15 +1,16 @@
 //! A service that is made, lent and dropped in one place, over whatever network: nothing else
-//! names its type, nor that of its bureau, whose console the borrow checker doesn't cover where
+//! names its type, nor those of what it is made of, which the borrow checker doesn't cover where
 //! the network has a lifetime.
 
 use njh_console::Console;
 use njh_lines::Exchange;
+use njh_log::{Log, LogStyle};
 use njh_revision::{Revision, TableSource};
 use njh_service::{Bureau, ServeFault, Service, service_on};
 use njh_sites::Listening;
 use njh_table::Tables;
-use njh_turns::{Attendant, KeepsNothing, Wire};
-use njh_wire::Network;
+use njh_turns::KeepsNothing;
+use njh_wire::{LineWire, Network};
 use std::alloc::Global;
 use std::io;
 use std::io::{ErrorKind, Write};
@@ -20,7 +21,8 @@ pub trait Rounds {
     fn round(&mut self);
 }
 
-impl<W: Wire + Drop, A: Attendant<W> + Drop> Rounds for Service<W, A, KeepsNothing> {
+impl<N: Network + Drop, L: Write + Drop, S: TableSource + Drop> Rounds
+    for Service<LineWire<N::Connection>, Bureau<N, L, S>, KeepsNothing> {
     fn round(&mut self) {
         let _ran = self.run(Some(1));
     }
@@ -32,33 +34,37 @@ pub trait Player {
     fn play<H: Rounds>(&mut self, hub: &mut H) -> io::Result<bool>;
 }
 
-/// What a service is made of.
-#[derive(Drop)]
-pub struct Plan<N: Network + Drop, L: Write + Drop, S: TableSource + Drop> {
-    /// Whose lines are served.
-    pub tables: Tables,
-    pub exchange: Exchange<N, L>,
-    pub revision: Revision<S>,
-    /// How the lines listen.
+/// What is served, and how.
+#[derive(Clone, Copy)]
+pub struct Plan<'a> {
+    pub alloc: Global,
+    /// The tables whose lines are served.
+    pub tables: &'a str,
+    /// How these listen.
     pub listening: Listening,
+    /// How the lines of the log are written.
+    pub style: LogStyle,
 }
 
-/// Serves lines while somebody plays. Answers whether they are served: not if one of them can't
-/// listen that has to.
+/// Serves lines on a network, with a log and a source of new tables, while somebody plays. Answers
+/// whether they are served: not if one of them can't listen that has to.
 pub(crate) fn serve<N: Network + Drop, L: Write + Drop, S: TableSource + Drop, P: Player>(
-    alloc: Global,
-    plan: Plan<N, L, S>,
+    plan: Plan<'_>,
+    network: N,
+    log: L,
+    source: S,
     player: &mut P,
 ) -> io::Result<bool> {
-    let console = Console::new(alloc)?;
-    let Plan {
+    let tables = tables_of(plan.alloc, plan.tables)?;
+    let bureau = bureau_of(plan, network, log, source)?;
+    match service_on(
+        plan.alloc,
+        KeepsNothing,
         tables,
-        exchange,
-        revision,
-        listening,
-    } = plan;
-    let bureau = Bureau::new(alloc, "9.9", exchange, revision, console);
-    match service_on(alloc, KeepsNothing, tables, bureau, listening, true) {
+        bureau,
+        plan.listening,
+        true,
+    ) {
         Ok(mut service) => player.play(&mut service),
         Err((fault, _, bureau)) => {
             drop(bureau);
@@ -68,6 +74,21 @@ pub(crate) fn serve<N: Network + Drop, L: Write + Drop, S: TableSource + Drop, P
             }
         }
     }
+}
+
+/// An attendant that serves no line yet, with a console that nobody visits.
+fn bureau_of<N: Network + Drop, L: Write + Drop, S: TableSource + Drop>(
+    plan: Plan<'_>,
+    network: N,
+    log: L,
+    source: S,
+) -> io::Result<Bureau<N, L, S>> {
+    let alloc = plan.alloc;
+    let known = tables_of(alloc, plan.tables)?;
+    let revision = Revision::new(alloc, known, source)?;
+    let console = Console::new(alloc)?;
+    let exchange = Exchange::new(alloc, network, Log::new(Some(log), plan.style));
+    Ok(Bureau::new(alloc, "9.9", exchange, revision, console))
 }
 
 /// The tables that a text has.
