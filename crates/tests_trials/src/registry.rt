@@ -54,13 +54,19 @@ impl<'a> Entry<'a> {
     /// The words of the command line, of which the first is the name.
     pub fn words(&self, alloc: Global) -> Result<Vec<&'a str>, AllocError> {
         let mut words = Vec::new(alloc);
+        self.add_words(&mut words)?;
+        Ok(words)
+    }
+
+    /// Adds the words of the command line.
+    fn add_words(&self, words: &mut Vec<&'a str>) -> Result<(), AllocError> {
         words.push(self.name)?;
         for word in self.with.split(' ') {
             if !word.is_empty() {
                 words.push(word)?;
             }
         }
-        Ok(words)
+        Ok(())
     }
 
     /// What else is asked of the run: what stands behind these words in its part of `how`, if they

@@ -18,12 +18,10 @@ const MODE_BITS: u32 = 0o777;
 
 /// The spool file that the words of a command line name.
 pub fn named_in<'a>(words: &[&'a str]) -> io::Result<&'a str> {
-    let mut is_next = false;
-    for word in words {
-        if is_next {
-            return Ok(word);
+    for place in 1..words.len() {
+        if words[place - 1] == "--spool" {
+            return Ok(words[place]);
         }
-        is_next = *word == "--spool";
     }
     Err(io::Error::from(ErrorKind::InvalidInput))
 }

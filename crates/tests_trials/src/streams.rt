@@ -11,7 +11,7 @@ use std::io::{ErrorKind, Read, Write};
 const PIECE: usize = 64;
 
 /// What one call of a stream does.
-#[derive(Clone, Copy, PartialEq)]
+#[derive(Clone, Copy)]
 pub enum Mishap {
     /// It fails.
     Fails,
@@ -41,6 +41,14 @@ impl Calls {
             had: 0,
             bad,
             mishap,
+        }
+    }
+
+    /// Whether the one that goes amiss fails.
+    pub(crate) fn fails(&self) -> bool {
+        match self.mishap {
+            Mishap::Fails => true,
+            Mishap::FallsShort | Mishap::IsInterrupted => false,
         }
     }
 
