@@ -11,19 +11,6 @@ use crate::serve_options::Unasked;
 use clap::{Arg, ArgMatches, Command};
 use std::alloc::{AllocError, Global};
 
-/// What the help of `check` ends with.
-const CHECK_EXAMPLE: &str =
-    "Of tables it prints customers, lines, routes and quotas, or the first fault and where it is, as
-  K3 BadValue: customer 2 (BOLT), line 1 (b1), block: 100 isn't 300 to 4096
-Of a script it prints the number of its events, or the first bad line and why it is one, as
-  line 3: no line b9
-With both it looks at the tables first: of a fault in them it prints that alone, and else of the
-script. A script without tables is checked by the built-in tables.
-
-Examples:
-  njehub check --tables tables.toml
-  njehub check --tables tables.toml --script script";
-
 /// What the options of `check` ask for.
 pub(crate) fn checked_in<'a>(options: &ArgMatches<'a>) -> Result<Request<'a>, Unasked<'a>>
     ensures asked { IfOk result (AsksFor (codes "check", rows_of (found_of options.now))) }
@@ -60,6 +47,20 @@ pub(crate) fn check_command<'a>(alloc: Global) -> Result<Command<'a>, AllocError
     with_option(checking, script_option(alloc))
 }
 
+/// What the help of `check` ends with.
+fn check_example<'a>() -> &'a str {
+    "Of tables it prints customers, lines, routes and quotas, or the first fault and where it is, as
+  K3 BadValue: customer 2 (BOLT), line 1 (b1), block: 100 isn't 300 to 4096
+Of a script it prints the number of its events, or the first bad line and why it is one, as
+  line 3: no line b9
+With both it looks at the tables first: of a fault in them it prints that alone, and else of the
+script. A script without tables is checked by the built-in tables.
+
+Examples:
+  njehub check --tables tables.toml
+  njehub check --tables tables.toml --script script"
+}
+
 /// `check` without its options.
 fn bare_check<'a>(alloc: Global) -> Command<'a>
     ensures app { app_of result ≡ new_app (codes "check") }
@@ -69,7 +70,7 @@ fn bare_check<'a>(alloc: Global) -> Command<'a>
         alloc,
         "check",
         "Says what a table file has or its first fault, or whether a script is right",
-        CHECK_EXAMPLE,
+        check_example(),
     )
 }
 

@@ -1,6 +1,6 @@
 //! The words of an operator's command.
 
-ghost use Rattle.std.specs.Prelude.{◌≡◌, map, option_map, Some};
+ghost use Rattle.std.specs.Prelude.{◌≡◌, is_some, map, not, option_map, Some};
 ghost use Rattle.njh_arguments.specs.Commands.{changed, command_alone, command_in, command_of_one, command_of_two};
 ghost use Rattle.njh_arguments.specs.Commands.{given_of, is_filter, is_owned, is_plain, is_timed, listed, owner_by};
 ghost use Rattle.njh_arguments.specs.Commands.{owner_of_text, plain, rerouted, shut_down, state_by, state_of_text, stopped};
@@ -232,21 +232,31 @@ fn is_plain(given: CommandOptions<'_>) -> bool
 fn is_timed(given: CommandOptions<'_>) -> bool
     ensures { result ≡ is_timed (given_of given.entry) }
 {
-    given.owner.is_none() && given.node.is_none() && given.state.is_none()
+    is_absent(given.owner) && is_absent(given.node) && is_absent(given.state)
 }
 
 /// Whether at most `--node` and `--state` stand beside the words.
 fn is_filter(given: CommandOptions<'_>) -> bool
     ensures { result ≡ is_filter (given_of given.entry) }
 {
-    given.owner.is_none() && !given.when_idle
+    is_absent(given.owner) && !given.when_idle
 }
 
 /// Whether at most `--owner` stands beside the words.
 fn is_owned(given: CommandOptions<'_>) -> bool
     ensures { result ≡ is_owned (given_of given.entry) }
 {
-    given.node.is_none() && given.state.is_none() && !given.when_idle
+    is_absent(given.node) && is_absent(given.state) && !given.when_idle
+}
+
+/// Whether an option isn't given.
+fn is_absent(text: Option<&str>) -> bool
+    ensures { result ≡ not (is_some (option_map (λ t. t.now) text.entry)) }
+{
+    match text {
+        Some(_) => false,
+        None => true,
+    }
 }
 
 /// The state that is named, if one is; none where what is named is no state.

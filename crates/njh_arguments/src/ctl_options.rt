@@ -14,32 +14,6 @@ use crate::serve_options::Unasked;
 use clap::{Arg, ArgAction, ArgMatches, Command};
 use std::alloc::{AllocError, Global};
 
-/// What the help of `ctl` ends with.
-const CTL_EXAMPLE: &str = "Commands:
-  status                          How the hub is, and what is wrong now, in one line each
-  customers                       Quota and blocks in use, and files by state, a customer a line
-  lines [CUSTOMER]                How lines are: their sites, connections, sessions and streams
-  files [CUSTOMER]                The files, of all owners; --node N and --state S choose
-  hold CUSTOMER FILE              Holds the owner's files of this name, as LYON.42
-  release CUSTOMER FILE           Lets them go on
-  cancel CUSTOMER FILE            Removes them
-  reroute CUSTOMER FILE NODE      Sends them to another node
-  tell CUSTOMER NODE USER TEXT    Tells a user something
-  stop LINE [--when-idle]         Ends the line's connection, and lets none in
-  start LINE                      Lets it have connections again
-  shutdown [--when-idle]          Ends the service, with status 0
-
-PATH is that of serve --console. hold, release, cancel and reroute want --owner NODE.USER only if
-files of this name have several owners. What the hub refuses is told on standard error, with status
-1; a console that isn't there ends with status 2.
-
-Examples:
-  njehub ctl --console /run/njehub/console status
-  njehub ctl --console /run/njehub/console files ACME --state held
-  njehub ctl --console /run/njehub/console hold ACME LYON.42
-  njehub ctl --console /run/njehub/console tell ACME LYON ANNA SOON
-  njehub ctl --console /run/njehub/console stop a1 --when-idle";
-
 /// What the options of `ctl` ask for.
 pub(crate) fn controlled_in<'a>(options: &ArgMatches<'a>) -> Result<Request<'a>, Unasked<'a>>
     ensures asked { IfOk result (AsksFor (codes "ctl", rows_of (found_of options.now))) }
@@ -146,6 +120,34 @@ fn connecting_command<'a>(alloc: Global) -> Result<Command<'a>, AllocError>
     with_option(connecting, json)
 }
 
+/// What the help of `ctl` ends with.
+fn ctl_example<'a>() -> &'a str {
+    "Commands:
+  status                          How the hub is, and what is wrong now, in one line each
+  customers                       Quota and blocks in use, and files by state, a customer a line
+  lines [CUSTOMER]                How lines are: their sites, connections, sessions and streams
+  files [CUSTOMER]                The files, of all owners; --node N and --state S choose
+  hold CUSTOMER FILE              Holds the owner's files of this name, as LYON.42
+  release CUSTOMER FILE           Lets them go on
+  cancel CUSTOMER FILE            Removes them
+  reroute CUSTOMER FILE NODE      Sends them to another node
+  tell CUSTOMER NODE USER TEXT    Tells a user something
+  stop LINE [--when-idle]         Ends the line's connection, and lets none in
+  start LINE                      Lets it have connections again
+  shutdown [--when-idle]          Ends the service, with status 0
+
+PATH is that of serve --console. hold, release, cancel and reroute want --owner NODE.USER only if
+files of this name have several owners. What the hub refuses is told on standard error, with status
+1; a console that isn't there ends with status 2.
+
+Examples:
+  njehub ctl --console /run/njehub/console status
+  njehub ctl --console /run/njehub/console files ACME --state held
+  njehub ctl --console /run/njehub/console hold ACME LYON.42
+  njehub ctl --console /run/njehub/console tell ACME LYON ANNA SOON
+  njehub ctl --console /run/njehub/console stop a1 --when-idle"
+}
+
 /// `ctl` without its options.
 fn bare_ctl<'a>(alloc: Global) -> Command<'a>
     ensures app { app_of result ≡ new_app (codes "ctl") }
@@ -155,7 +157,7 @@ fn bare_ctl<'a>(alloc: Global) -> Command<'a>
         alloc,
         "ctl",
         "Asks a hub that runs how it is, or gives it an order, by its console",
-        CTL_EXAMPLE,
+        ctl_example(),
     )
 }
 

@@ -16,19 +16,6 @@ use clap::builder::ValueParser;
 use clap::{Arg, ArgAction, ArgMatches, Command};
 use std::alloc::{AllocError, Global};
 
-/// What the help of `files` ends with.
-const FILES_EXAMPLE: &str =
-    "It prints a line for each whole file: the customers in the order of their first files, and each
-customer's in their order of arrival. It reads a spool file that no hub has open, and leaves it as
-it is. With --into it copies a customer's files, with --compact all or a customer's, and then
-prints a line for each of them there.
-
-Examples:
-  njehub files --spool hub.spool --customer ACME
-  njehub files --spool hub.spool --customer ACME --export LYON.42 > listing
-  njehub files --spool hub.spool --customer ACME --into other.spool
-  njehub files --spool hub.spool --compact small.spool";
-
 /// What the help says of `--number`.
 const NUMBER_HELP: &str =
     "With --export: the number of its line in what files prints of all files, or of the \
@@ -153,6 +140,20 @@ fn listing_command<'a>(alloc: Global) -> Result<Command<'a>, AllocError>
     with_option(listing, customer_option(alloc))
 }
 
+/// What the help of `files` ends with.
+fn files_example<'a>() -> &'a str {
+    "It prints a line for each whole file: the customers in the order of their first files, and each
+customer's in their order of arrival. It reads a spool file that no hub has open, and leaves it as
+it is. With --into it copies a customer's files, with --compact all or a customer's, and then
+prints a line for each of them there.
+
+Examples:
+  njehub files --spool hub.spool --customer ACME
+  njehub files --spool hub.spool --customer ACME --export LYON.42 > listing
+  njehub files --spool hub.spool --customer ACME --into other.spool
+  njehub files --spool hub.spool --compact small.spool"
+}
+
 /// `files` without its options.
 fn bare_files<'a>(alloc: Global) -> Command<'a>
     ensures app { app_of result ≡ new_app (codes "files") }
@@ -162,7 +163,7 @@ fn bare_files<'a>(alloc: Global) -> Command<'a>
         alloc,
         "files",
         "Prints the whole files that a spool file holds, or a file's records",
-        FILES_EXAMPLE,
+        files_example(),
     )
 }
 

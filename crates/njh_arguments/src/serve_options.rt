@@ -18,14 +18,6 @@ use clap::{Arg, ArgAction, ArgMatches, Command};
 use std::alloc::{AllocError, Global};
 use std::net::IpAddr;
 
-/// What the help of `serve` ends with.
-const SERVE_EXAMPLE: &str =
-    "It looks at the table file once a second for routes that changed, and writes its log to
-standard error.
-
-Example:
-  njehub serve --tables tables.toml 2>> njehub.log";
-
 /// Why a parse asks for nothing.
 #[derive(Clone, Copy)]
 pub(crate) enum Unasked<'a> {
@@ -167,6 +159,15 @@ fn bounded_command<'a>(alloc: Global) -> Result<Command<'a>, AllocError>
     with_option(bounded, turns_option(alloc))
 }
 
+/// What the help of `serve` ends with.
+fn serve_example<'a>() -> &'a str {
+    "It looks at the table file once a second for routes that changed, and writes its log to
+standard error.
+
+Example:
+  njehub serve --tables tables.toml 2>> njehub.log"
+}
+
 /// `serve` without its options.
 fn bare_serve<'a>(alloc: Global) -> Command<'a>
     ensures app { app_of result ≡ new_app (codes "serve") }
@@ -176,7 +177,7 @@ fn bare_serve<'a>(alloc: Global) -> Command<'a>
         alloc,
         "serve",
         "Serves the lines that have a port or a peer on sockets of this machine, until it is ended",
-        SERVE_EXAMPLE,
+        serve_example(),
     )
 }
 
