@@ -32,10 +32,11 @@ def framed(text):
     return b"\x10\x02" + text.replace(b"\x10", b"\x10\x10") + b"\x10\x26"
 
 
-def sign_on(srcb, node, block=BLOCK):
-    """The frame of a sign-on as node, with a block size: C9 of who makes contact, D1 of who answers."""
+def sign_on(srcb, node, block=BLOCK, password=""):
+    """The frame of a sign-on as node, with a block size and a line password: C9 of who makes contact, D1 of who
+    answers."""
     record = bytes([GENERAL, srcb, 0x29]) + field(node) + b"\x01" + bytes(6) + struct.pack(">H", block)
-    return framed(b"\xa0\x8f\xcf" + record + b"\x40" * 16 + bytes(5) + b"\x00")
+    return framed(b"\xa0\x8f\xcf" + record + field(password) + b"\x40" * 8 + bytes(5) + b"\x00")
 
 
 def spelled(record):

@@ -98,6 +98,14 @@ class Hub:
     def runs(self):
         return self.process.poll() is None
 
+    def serves(self, patience=20):
+        """Waits until its lines listen, and nobody has connected."""
+        end = time.monotonic() + patience
+        while not any("ready: " in line for line in self.log()):
+            if time.monotonic() > end or not self.runs():
+                raise TimeoutError(f"the program isn't ready: {self.log()}")
+            time.sleep(0.02)
+
     def log(self):
         """What the program has printed, line by line."""
         return self.told.read_text(errors="replace").splitlines()
@@ -115,7 +123,7 @@ def seconds_used(pid):
         return (int(times[11]) + int(times[12])) / os.sysconf("SC_CLK_TCK")
 
 
-def connected(port, timeout=20, source=None, patience=20, **options):
+def connected(port, timeout=20, source=None, patience=20, to="127.0.0.1", **options):
     """A connection to a line, as soon as the program listens, which is tried for so many seconds."""
     end = time.monotonic() + patience
     while True:
@@ -126,7 +134,7 @@ def connected(port, timeout=20, source=None, patience=20, **options):
             peer.settimeout(timeout)
             if source:
                 peer.bind((source, 0))
-            peer.connect(("127.0.0.1", port))
+            peer.connect((to, port))
             peer.setsockopt(socket.IPPROTO_TCP, socket.TCP_NODELAY, 1)
             return peer
         except ConnectionRefusedError:

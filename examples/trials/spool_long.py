@@ -77,8 +77,8 @@ QUOTA, FILLED = 65000, 8000
 class Waiting:
     """A pair of lines of another customer, and its answers once it has ended."""
 
-    def __init__(self, load, places, seconds, core):
-        words = [load, str(seconds), str(len(CARDS) + 3), "3000"]
+    def __init__(self, load, places, seconds, core, rest=3000):
+        words = [load, str(seconds), str(len(CARDS) + 3), str(rest)]
         pipes = {"stdin": subprocess.PIPE, "stdout": subprocess.PIPE}
         self.process = subprocess.Popen(words, text=True, preexec_fn=on_core(core), **pipes)
         self.process.stdin.write(pair_of(*places, cards=CARDS))
