@@ -1,4 +1,5 @@
 pub mod MovedLaws
+pub mod OneFrameLaws
 pub mod WithheldLaws
 pub mod PromptLaws
 pub mod TallyLaws

@@ -1,6 +1,7 @@
 -- What two calls of a connection moved together.
-use Rattle.std.proofs.Common.{◌≡◌, ℕ, ◌+◌, List, [], ◌++◌, length, take, subst, sym, ◌∙◌}
-use Rattle.std.proofs.lemmas.List.{append-nil}
+use Rattle.std.proofs.Common.{◌≡◌, ℕ, ◌+◌, ◌<◌, List, [], ◌∷◌, ◌++◌, length, take, subst, sym, ◌∙◌}
+use Rattle.std.specs.Prelude.{slice_set}
+use Rattle.std.proofs.lemmas.List.{append-nil, take_more_set}
 use Rattle.std.proofs.Math.Seq.{take-append_seam, take-append-add}
 
 -- what moves after some bytes came and some went
@@ -30,3 +31,19 @@ moved_none {S = S} moved more a b c old front rest count many is first then =
     let At : ℕ → Type 0 = λ k. moved a c (take k (front ++ rest)) [] in
     let whole : Moved (front ++ []) = more a b c front [] [] [] (subst Front (sym is) first) then in
     subst At many (subst Moved (append-nil front ∙ sym (take-append_seam front rest)) whole)
+
+-- bytes that stand at the front, and then one behind them
+pub moved_one : {S : Type 0} (moved : S → S → List ℕ → List ℕ → Type 0) → More moved → (a b c : S)
+    (into : List ℕ) (count byte : ℕ) → count < length into → moved a b (take count into) []
+    → moved b c (byte ∷ []) [] → moved a c (take (count + 1) (slice_set into count byte)) []
+moved_one {S = S} moved more a b c into count byte within first then =
+    let Moved : List ℕ → Type 0 = λ bytes. moved a c bytes [] in
+    subst Moved (sym (take_more_set into count byte within))
+    (more a b c (take count into) (byte ∷ []) [] [] first then)
+
+-- and then none
+pub moved_stop : {S : Type 0} (moved : S → S → List ℕ → List ℕ → Type 0) → More moved → (a b c : S)
+    (bytes : List ℕ) → moved a b bytes [] → moved b c [] [] → moved a c bytes []
+moved_stop {S = S} moved more a b c bytes first then =
+    let Moved : List ℕ → Type 0 = λ came. moved a c came [] in
+    subst Moved (append-nil bytes) (more a b c bytes [] [] [] first then)

@@ -1,5 +1,5 @@
 -- What one call of a connection moved.
-use Rattle.std.specs.Prelude.{ℕ, ◌<◌, ◌≤◌, List, [], take, Result, Ok, Err, ⊤}
+use Rattle.std.specs.Prelude.{ℕ, ◌<◌, ◌≤◌, List, [], ◌∷◌, take, Result, Ok, Err, ⊤}
 use Rattle.njh_wire.specs.declared.connection.ConnectionRead.{ConnectionRead}
 use Rattle.njh_wire.specs.declared.connection.ConnectionRead.TheVariants.{Bytes, Nothing, Ended}
 use Rattle.njh_wire.specs.declared.connection.ConnectionFault.{ConnectionFault}
@@ -12,6 +12,11 @@ bytes_given (Ok (Bytes n)) buffer = take n buffer
 bytes_given (Ok Nothing) buffer = []
 bytes_given (Ok Ended) buffer = []
 bytes_given (Err fault) buffer = []
+
+-- the byte that was read, if one was
+abbrev pub byte_given : Result ℕ Stop → List ℕ
+byte_given (Ok byte) = byte ∷ []
+byte_given (Err stop) = []
 
 -- at least one byte came, and no more than there was room for
 abbrev pub IsReceived : ℕ → ConnectionRead → Type 0

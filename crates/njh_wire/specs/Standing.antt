@@ -25,6 +25,8 @@ pub record Standing (C : Type 0) : Type 0 where
   pub since : ℕ
   -- whether something may be there to read
   pub readable : Bool
+  -- whether a session is up on the connection, as it was told last
+  pub up : Bool
   -- the time now, since when the line is silent or was last quiet or prompted, and after how long that is a quiet
   pub clock : ℕ
   pub begun : ℕ
@@ -53,6 +55,7 @@ first_standing place = record {
   waiting = [];
   since = 0;
   readable = false;
+  up = false;
   clock = 0;
   begun = 0;
   quiet = 100;
@@ -64,7 +67,7 @@ first_standing place = record {
   went = 0;
 }
 
--- A connection, or none, is there anew: nothing waits, and its silence begins now.
+-- A connection, or none, is there anew: nothing waits, no session is up on it, and its silence begins now.
 abbrev pub with_connection : {C : Type 0} → Option C → Standing C → Standing C
 with_connection connection s = record s {
   connection = connection;
@@ -72,6 +75,7 @@ with_connection connection s = record s {
   parting = None;
   waiting = [];
   readable = true;
+  up = false;
   begun = s.clock;
   heard = s.clock;
 }

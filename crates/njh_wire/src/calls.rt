@@ -1,12 +1,18 @@
 //! Calls of a connection that may be there.
 
-ghost use Rattle.std.specs.Prelude.{◌≡◌, ◌≢◌, ◌≤◌, [], length, take, IsSome, IfOk};
+ghost use Rattle.std.specs.Prelude.{◌≡◌, ◌≢◌, ◌<◌, ◌≤◌, [], length, take, IsSome, IsTrue, IfErr, IfOk};
 ghost use Rattle.std.specs.Option.{option_map};
+ghost use Rattle.njh_wire.specs.Moved.{byte_given};
+ghost use Rattle.njh_wire.specs.OneFrame.{IsStrange};
 ghost use Rattle.njh_wire.specs.Readings.{Sends};
 ghost use Rattle.njh_wire.specs.declared.end.Stop.TheVariants.{Full};
 
 use crate::connection::{Connection, ConnectionFault, ConnectionRead};
 use crate::end::Stop;
+use crate::frame_end::may_end;
+
+/// How many bytes a read holds at most on a connection without a session.
+const STRANGERS_ROOM: usize = 256;
 
 /// Reads a connection until the buffer is full or nothing more comes, and answers how many bytes
 /// came and why no more.
@@ -30,20 +36,67 @@ fn receive_all<C: Connection>(connection: &mut C, into: &mut [u8]) -> (usize, St
     (count, Stop::Full)
 }
 
-/// Reads a connection that is there.
+/// Reads one byte of a connection, or answers why none comes.
+fn receive_byte<C: Connection>(connection: &mut C) -> Result<u8, Stop>
+    ensures moved { C.moved connection.old connection.new (byte_given result) [] }
+    ensures stops { IfErr result (λ stop. (stop ≢ Full) × C.stops connection.new stop) }
+    ensures place { C.place_of connection.new ≡ C.place_of connection.old }
+{
+    let mut byte = [0];
+    match connection.receive(&mut byte) {
+        Ok(ConnectionRead::Bytes(_)) => Ok(byte[0]),
+        Ok(ConnectionRead::Nothing) => Err(Stop::Dry),
+        Ok(ConnectionRead::Ended) => Err(Stop::Ended),
+        Err(_) => Err(Stop::Failed),
+    }
+}
+
+/// Reads a connection up to the first byte that may end a frame, and a few bytes at most. What
+/// stands behind that byte isn't read.
+fn receive_one<C: Connection>(connection: &mut C, into: &mut [u8]) -> (usize, Stop)
+    requires { 0 < length into.old }
+    ensures moved { C.moved connection.old connection.new (take result.0 into.new) [] }
+    ensures within { result.0 ≤ length into.new }
+    ensures strange { IsStrange (take result.0 into.new) }
+    ensures some { result.1 ≡ Full → 0 < result.0 }
+    ensures stops { result.1 ≢ Full → C.stops connection.new result.1 }
+    ensures place { C.place_of connection.new ≡ C.place_of connection.old }
+{
+    let room = into.len().min(STRANGERS_ROOM);
+    let mut count = 0;
+    while count < room {
+        match receive_byte(connection) {
+            Ok(byte) => {
+                into[count] = byte;
+                count += 1;
+                if may_end(byte) {
+                    return (count, Stop::Full);
+                }
+            }
+            Err(stop) => return (count, stop),
+        }
+    }
+    (count, Stop::Full)
+}
+
+/// Reads a connection that is there, on which a session is up or isn't.
 pub(crate) fn receive_on<C: Connection + Drop>(
     connection: &mut Option<C>,
+    is_up: bool,
     into: &mut [u8],
 ) -> (usize, Stop)
-    requires { IsSome connection.old }
+    requires connected { IsSome connection.old }
+    requires room { 0 < length into.old }
+    ensures strange { ¬ IsTrue is_up → IsStrange (take result.0 into.new) }
     ensures moved { (before after : C) × (connection.old ≡ Some before) × (connection.new ≡ Some after) ×
         C.moved before after (take result.0 into.new) [] × (result.1 ≢ Full → C.stops after result.1) }
     ensures within { result.0 ≤ length into.new }
-    ensures full { result.1 ≡ Full → result.0 ≡ length into.new }
+    ensures some { result.1 ≡ Full → 0 < result.0 }
     ensures place { option_map C.place_of connection.new ≡ option_map C.place_of connection.old }
 {
     match connection {
-        Some(connection) => receive_all(connection, into),
+        Some(connection) if is_up => receive_all(connection, into),
+        Some(connection) => receive_one(connection, into),
         None => unreachable!(),
     }
 }

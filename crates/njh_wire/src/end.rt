@@ -27,7 +27,7 @@ pub enum Parting {
 /// Why no more bytes were received.
 #[derive(Clone, Copy, Debug, PartialEq, Eq)]
 pub enum Stop {
-    /// The buffer is full.
+    /// The buffer is full, or no more was asked for.
     Full,
     /// Nothing more is there now.
     Dry,

@@ -10,6 +10,7 @@ ghost use Rattle.njh_wire.specs.Standing.{due};
 ghost use Rattle.njh_wire.specs.Standing.{after_displacement, after_admission, after_close};
 ghost use Rattle.std.specs.Option.{option_map};
 ghost use Rattle.njh_wire.specs.Places.{IsAt, IsOwn};
+ghost use Rattle.njh_wire.specs.OneFrame.{IsStrangersReading};
 ghost use Rattle.njh_wire.specs.Readings.{IsOpen, IsWait, IsRead, IsWritten, IsFlushed};
 ghost use Rattle.njh_wire.specs.Withheld.{IsWithheld};
 
@@ -44,6 +45,7 @@ pub struct LineWire<C: Connection + Drop> {
     waiting: Outbox,
     since: u64,
     readable: bool,
+    up: bool,
     clock: u64,
     silence: Silence,
     end: Option<ConnectionEnd>,
@@ -65,6 +67,7 @@ impl<C: Connection + Drop> Model for LineWire<C> {
       waiting = wire.waiting;
       since = wire.since;
       readable = wire.readable;
+      up = wire.up;
       clock = wire.clock;
       begun = wire.silence.begun;
       quiet = wire.silence.quiet;
@@ -94,6 +97,7 @@ impl<C: Connection + Drop> LineWire<C> {
             waiting: Outbox::new(alloc)?,
             since: 0,
             readable: false,
+            up: false,
             clock: 0,
             silence: Silence {
                 begun: 0,
@@ -132,6 +136,14 @@ impl<C: Connection + Drop> LineWire<C> {
         ensures { self.new ≡ record self.old { quiet = milliseconds } }
     {
         self.silence.quiet = milliseconds;
+    }
+
+    /// Whether a session is up on its connection. At first, and on each new connection, none is.
+    /// Where none is a read ends with the first byte that may end a frame.
+    pub fn set_up(&mut self, is_up: bool)
+        ensures { self.new ≡ record self.old { up = is_up } }
+    {
+        self.up = is_up;
     }
 
     /// Something may be there to read.
@@ -260,6 +272,7 @@ impl<C: Connection + Drop> LineWire<C> {
         self.parting = None;
         self.waiting.clear();
         self.readable = true;
+        self.up = false;
         self.silence.begun = self.clock;
         self.silence.heard = self.clock;
     }
@@ -344,6 +357,7 @@ impl<C: Connection + Drop> Wire for LineWire<C> {
         ensures waits { 0 < length self.old.waiting → IsWait self.old result self.new }
         ensures reads { self.old.waiting ≡ [] →
             IsRead C.moved C.stops self.old is_prompted result into.new self.new }
+        ensures strange { ¬ IsTrue self.old.up → IfOk result (IsStrangersReading into.new) }
         ensures within { IfOk result (IsReading (length into.new)) }
         ensures counts { self.old.failures ≤ self.new.failures }
         ensures counted { OnErr result (IsCounted self.old.failures self.new.failures) }

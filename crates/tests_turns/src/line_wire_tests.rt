@@ -88,6 +88,40 @@ fn prompts(rt: HostRuntime) -> Result<(), Fail> {
     play(&rt, rt.alloc(), "prompts", &steps)
 }
 
+/// Of a peer without a session a read gives bytes up to the first that may end a frame: ETX, ETB,
+/// ENQ, EOT, NAK, and the second byte of an ACK0. Once a session is up it gives all that came, and on
+/// the next connection it doesn't again.
+#[test]
+fn strangers_are_read_a_frame_at_a_time(rt: HostRuntime) -> Result<(), Fail> {
+    let steps = [
+        Step::Connect(0),
+        Step::Gives(0, 0),
+        Step::Comes(0, 90),
+        bytes(4),
+        Step::Is(true, false),
+        bytes(35),
+        bytes(7),
+        bytes(10),
+        bytes(6),
+        bytes(28),
+        PENDING,
+        Step::Gives(0, 0x6F),
+        Step::Comes(0, 3),
+        Step::Prompt(Ok(Reading::Bytes(2))),
+        bytes(1),
+        Step::Up,
+        Step::Gives(0, 0),
+        Step::Comes(0, 90),
+        bytes(90),
+        Step::Connect(1),
+        CLOSED,
+        Step::Gives(1, 0),
+        Step::Comes(1, 90),
+        bytes(4),
+    ];
+    play(&rt, rt.alloc(), "strangers", &steps)
+}
+
 #[test]
 fn ten_quiets_take_a_second(rt: HostRuntime) -> Result<(), Fail> {
     let steps = [

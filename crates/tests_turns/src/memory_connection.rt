@@ -6,8 +6,8 @@ ghost use Rattle.njh_wire.specs.Moved.{IsReceived};
 use njh_wire::{Connection, ConnectionFault, ConnectionRead};
 use std::cell::Cell;
 
-/// The other end of a connection. All bytes count up from 0, modulo 256, so that one that is lost
-/// or comes too early shows.
+/// The other end of a connection. The bytes that it takes count up from 0, modulo 256, so that one
+/// that is lost or comes too early shows. Those that it gives count up too.
 #[derive(Drop)]
 pub struct Peer {
     /// How many bytes are there to read, and whether then the end is.
@@ -21,7 +21,8 @@ pub struct Peer {
     pub sends: Cell<usize>,
     /// Whether a byte was another than the next.
     pub mixed: Cell<bool>,
-    given: Cell<u8>,
+    /// The next byte that it gives. At first it is one with which no frame ends.
+    pub given: Cell<u8>,
     expected: Cell<u8>,
 }
 
@@ -36,7 +37,7 @@ impl Peer {
             taken: Cell::new(0),
             sends: Cell::new(0),
             mixed: Cell::new(false),
-            given: Cell::new(0),
+            given: Cell::new(128),
             expected: Cell::new(0),
         }
     }

@@ -16,6 +16,10 @@ pub enum Step {
     Connect(usize),
     /// So many bytes come of a peer, and the wire is told.
     Comes(usize, usize),
+    /// The next byte of a peer is this one.
+    Gives(usize, u8),
+    /// A session is up on the connection.
+    Up,
     /// A peer sends no more, and the wire is told.
     Ends(usize),
     /// A peer is gone, and the wire is told.
@@ -85,6 +89,8 @@ impl<'a> Player<'a> {
                 peer(rt, self.peers, at).coming.set(count);
                 self.wire.mark_readable();
             }
+            Step::Gives(at, byte) => peer(rt, self.peers, at).given.set(byte),
+            Step::Up => self.wire.set_up(true),
             Step::Ends(at) => {
                 peer(rt, self.peers, at).ended.set(true);
                 self.wire.mark_readable();

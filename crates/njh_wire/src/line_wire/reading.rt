@@ -1,8 +1,9 @@
 //! What a wire of a line answers at a read.
 
-ghost use Rattle.std.specs.Prelude.{◌≡◌, ◌<◌, ◌≤◌, length, take, IfOk, OnErr};
+ghost use Rattle.std.specs.Prelude.{◌≡◌, ◌<◌, ◌≤◌, length, take, IfOk, IsTrue, OnErr};
 ghost use Rattle.njh_hub.specs.Sent.{IsCounted};
 ghost use Rattle.njh_turns.specs.Wires.{IsReading};
+ghost use Rattle.njh_wire.specs.OneFrame.{IsStrange, IsStrangersReading};
 ghost use Rattle.njh_wire.specs.Standing.{after_stop, last_bytes_after, hearing};
 ghost use Rattle.njh_wire.specs.Readings.{IsSilence, IsAnswer, IsOpen, IsWait, IsRead, Receives};
 
@@ -35,6 +36,7 @@ impl<C: Connection + Drop> LineWire<C> {
     ) -> Result<Reading, WireFault>
         requires { 0 < length into.old }
         ensures read { IsRead C.moved C.stops self.old is_prompted result into.new self.new }
+        ensures strange { ¬ IsTrue self.old.up → IfOk result (IsStrangersReading into.new) }
         ensures within { IfOk result (IsReading (length into.new)) }
         ensures counts { self.old.failures ≤ self.new.failures }
         ensures counted { OnErr result (IsCounted self.old.failures self.new.failures) }
@@ -92,9 +94,10 @@ impl<C: Connection + Drop> LineWire<C> {
         requires open { IsOpen self.old }
         requires room { 0 < length into.old }
         ensures received { Receives C.moved C.stops self.old (take result into.new) self.new }
+        ensures strange { ¬ IsTrue self.old.up → IsStrange (take result into.new) }
         ensures within { result ≤ length into.new }
     {
-        let (count, stop) = receive_on(&mut self.connection, into);
+        let (count, stop) = receive_on(&mut self.connection, self.up, into);
         self.stop(stop);
         count
     }
