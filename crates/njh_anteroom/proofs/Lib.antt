@@ -1,0 +1,3 @@
+pub mod NumberLaws
+pub mod MemoryLaws
+pub mod QueueLaws

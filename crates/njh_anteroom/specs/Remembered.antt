@@ -1,0 +1,100 @@
+-- What is remembered of addresses. Moments and pauses are milliseconds.
+use Rattle.std.specs.Prelude.{◌≡◌, ℕ, ◌+◌, ◌-◌, ◌*◌, ◌≤◌, ◌==◌, ◌||◌, Bool, true, false, not, List, [], ◌∷◌, ◌++◌, length}
+use Rattle.std.specs.Prelude.{drop, filter, find, map, min, max, nat_lt, cond, if◌then◌else◌, Option, Some, None}
+use Rattle.std.specs.List.{list_any}
+use Rattle.std.specs.Option.{option_map_or}
+use Rattle.std.specs.declared.net.ip_addr.IpAddr.{IpAddr}
+use Rattle.njh_anteroom.specs.Addresses.{are_distinct, is_loopback, number_of}
+use Rattle.njh_anteroom.specs.declared.remembered.Remembered.{Remembered}
+
+abbrev pub new_remembered : IpAddr → Remembered
+new_remembered address = record { address = address; refusals = 0; refused = None; pause = 0; until = 0 }
+
+-- of the address with this number
+abbrev pub is_of : ℕ → Remembered → Bool
+is_of number r = number_of r.address == number
+
+abbrev pub remembered_of : ℕ → List Remembered → Option Remembered
+remembered_of number all = find (is_of number) all
+
+-- ---- who is blemished
+
+-- there is such a moment, in the last minute
+abbrev pub is_recent : ℕ → Option ℕ → Bool
+is_recent now None = false
+is_recent now (Some moment) = nat_lt (now - moment) 60000
+
+-- a sign-on was refused in the last minute, or the pause still runs
+abbrev pub has_blemish : ℕ → Remembered → Bool
+has_blemish now r = is_recent now r.refused || nat_lt now r.until
+
+-- the address with this number
+abbrev pub is_blemished : ℕ → List Remembered → ℕ → Bool
+is_blemished now all number = option_map_or (has_blemish now) (remembered_of number all) false
+
+-- until when its pause runs
+abbrev pub until_of : List Remembered → ℕ → ℕ
+until_of all number = option_map_or (λ r. r.until) (remembered_of number all) 0
+
+-- ---- what happens to it
+
+-- The first pause is a second, and each is twice the one before, up to a minute. A second again behind one that ended a
+-- minute ago, or if a session came up since.
+abbrev pub pause_after : ℕ → Remembered → ℕ
+pause_after now r = if nat_lt (now - r.until) 60000 then min (max (2 * r.pause) 1000) 60000 else 1000
+
+-- a connection ended without a session
+abbrev pub after_end : (was_refused : Bool) → (now : ℕ) → Remembered → Remembered
+after_end was_refused now r = record {
+  address = r.address;
+  refusals = if was_refused then min (r.refusals + 1) 18446744073709551615 else r.refusals;
+  refused = if was_refused then Some now else r.refused;
+  pause = pause_after now r;
+  until = min (now + pause_after now r) 18446744073709551615;
+}
+
+-- a session came up
+abbrev pub after_session : Remembered → Remembered
+after_session r = record r { pause = 0; until = 0 }
+
+-- ---- who is remembered
+
+abbrev pub without : ℕ → List Remembered → List Remembered
+without number all = filter (λ r. not (is_of number r)) all
+
+-- of 64 the one that was noted longest ago goes
+abbrev pub with_room : List Remembered → List Remembered
+with_room all = cond (nat_lt (length all) 64) all (drop 1 all)
+
+-- this is remembered, behind all others, in place of what was remembered of its address
+abbrev pub noted : Remembered → List Remembered → List Remembered
+noted r all = with_room (without (number_of r.address) all) ++ r ∷ []
+
+-- what is remembered of it, or nothing yet
+abbrev pub remembered_or_new : IpAddr → Option Remembered → Remembered
+remembered_or_new address None = new_remembered address
+remembered_or_new address (Some r) = r
+
+-- A connection of an address ended without a session. Nothing is remembered of loopback.
+abbrev pub ended : IpAddr → (was_refused : Bool) → (now : ℕ) → List Remembered → List Remembered
+ended address was_refused now all = cond (is_loopback (number_of address)) all
+    (noted (after_end was_refused now (remembered_or_new address (remembered_of (number_of address) all))) all)
+
+abbrev pub rested : Option Remembered → List Remembered → List Remembered
+rested None all = all
+rested (Some r) all = noted (after_session r) all
+
+-- an address had a session
+abbrev pub with_session : IpAddr → List Remembered → List Remembered
+with_session address all = rested (remembered_of (number_of address) all) all
+
+-- ---- what always holds
+
+abbrev pub numbers_of : List Remembered → List ℕ
+numbers_of all = map (λ r. number_of r.address) all
+
+-- at most 64 are remembered, each address once, and loopback never
+pub record IsMemory (all : List Remembered) : Type 0 where
+  pub few : length all ≤ 64
+  pub distinct : are_distinct (numbers_of all) ≡ true
+  pub no_loopback : list_any is_loopback (numbers_of all) ≡ false

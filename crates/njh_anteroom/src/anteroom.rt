@@ -1,0 +1,176 @@
+//! The anteroom of a line that listens.
+
+ghost use Rattle.std.specs.Prelude.{◌≡◌, ◌≢◌, ◌<◌, ◌≤◌, All, IfOk, IfSome, IsSome, false, length, true};
+ghost use Rattle.std.specs.Net.Socket.{socket_ip};
+ghost use Rattle.njh_anteroom.specs.Addresses.{number_of};
+ghost use Rattle.njh_anteroom.specs.Next.{displacement, entry_of, first_moment, guest_at, has_blemished, last_place};
+ghost use Rattle.njh_anteroom.specs.Next.{next_place, without_place};
+ghost use Rattle.njh_anteroom.specs.Remembered.{ended, is_blemished, with_session, IsMemory};
+ghost use Rattle.njh_anteroom.specs.Rooms.{empty_room};
+ghost use Rattle.njh_anteroom.specs.Waiting.{seated, IsQueue};
+ghost use Rattle.njh_anteroom.specs.code.Seats.{Fits, IsFree};
+
+use crate::entry::Entry;
+use crate::guest::Guest;
+use crate::memory::Memory;
+use crate::queue::Queue;
+use crate::remembered::Remembered;
+use std::alloc::{AllocError, Global};
+use std::marker::Model;
+use std::net::{IpAddr, SocketAddr};
+
+/// The anteroom of a line that listens. At most eight connections wait, in the order in which they
+/// came; of up to 64 addresses it is remembered what came of their connections. All its memory is
+/// taken at once.
+#[derive(Drop)]
+pub struct Anteroom<C: Drop> {
+    queue: Queue<C>,
+    memory: Memory,
+}
+
+impl<C: Drop> Model for Anteroom<C> {
+    ghost use Rattle.njh_anteroom.specs.Rooms.{Room};
+
+    ghost Value = { Room C };
+
+    ghost view = { λ room. record { waiting = room.queue; remembered = room.memory } };
+}
+
+impl<C: Drop> Anteroom<C> {
+    ghost use Rattle.std.specs.Prelude.{[]};
+
+    /// Nobody waits, and nothing is remembered. Out of memory is the only refusal.
+    pub fn new(alloc: Global) -> Result<Anteroom<C>, AllocError>
+        ensures { IfOk result (λ room. room ≡ empty_room) }
+    {
+        Ok(Anteroom {
+            queue: Queue::new(alloc)?,
+            memory: Memory::new(alloc)?,
+        })
+    }
+
+    /// Who waits, in the order in which they came.
+    pub fn waiting(&self) -> &[Guest<C>]
+        ensures waiting { result.now ≡ self.now.waiting }
+        ensures queue { IsQueue self.now.waiting }
+    {
+        self.queue.all()
+    }
+
+    /// What is remembered of addresses, what was noted last behind all else.
+    pub fn remembered(&self) -> &[Remembered]
+        ensures remembered { result.now ≡ self.now.remembered }
+        ensures memory { IsMemory self.now.remembered }
+    {
+        self.memory.all()
+    }
+
+    /// A connection comes from an address. Answers what becomes of it: `may_grow` says whether one
+    /// more may be kept.
+    pub fn come(&mut self, connection: C, address: SocketAddr, now: u64, may_grow: bool) -> Entry
+        ensures entry { result ≡ entry_of (number_of (socket_ip address)) now may_grow self.old.remembered self.old.waiting }
+        ensures waiting { self.new.waiting
+            ≡ seated result (record { connection = connection; address = address; since = now }) self.old.waiting }
+        ensures remembered { self.new.remembered ≡ self.old.remembered }
+
+        // Nobody is turned away while there is room, and nobody unblemished while a blemished one waits.
+        ensures room { may_grow ≡ true → length self.old.waiting < 8 → result ≢ Entry.TurnedAway }
+        ensures welcome { is_blemished now self.old.remembered (number_of (socket_ip address)) ≡ false
+            → result ≡ Entry.TurnedAway
+            → All (λ guest. has_blemished now self.old.remembered guest ≡ false) self.old.waiting }
+    {
+        let guest = Guest {
+            connection,
+            address,
+            since: now,
+        };
+        let entry = self.entry_of(guest.number(), now, may_grow);
+        self.queue.seat(entry, guest);
+        entry
+    }
+
+    /// What becomes of a connection from the address with this number.
+    fn entry_of(&self, number: u128, now: u64, may_grow: bool) -> Entry
+        ensures entry { result ≡ entry_of number now may_grow self.now.remembered self.now.waiting }
+        ensures fits { Fits result number self.now.waiting }
+    {
+        match self.queue.place_of(number) {
+            Some(place) => Entry::Renewed(place),
+            None => {
+                if may_grow && self.queue.has_room() {
+                    Entry::Added
+                } else {
+                    self.displacement(number, now)
+                }
+            }
+        }
+    }
+
+    /// Whether one from the address with this number takes the place of another.
+    fn displacement(&self, number: u128, now: u64) -> Entry
+        ensures entry { result ≡ displacement (is_blemished now self.now.remembered number)
+            (last_place (has_blemished now self.now.remembered) self.now.waiting) }
+        ensures fits { IsFree number self.now.waiting → Fits result number self.now.waiting }
+    {
+        if self.memory.is_blemished(number, now) {
+            return Entry::TurnedAway;
+        }
+        match self.queue.last_blemished(&self.memory, now) {
+            Some(place) => Entry::Displaced(place),
+            None => Entry::TurnedAway,
+        }
+    }
+
+    /// Takes out whom the line is to be given: the first whose address is unblemished; if there is
+    /// none, the first whose pause is over.
+    pub fn next(&mut self, now: u64) -> Option<Guest<C>>
+        ensures guest { result ≡ guest_at (next_place now self.old.remembered self.old.waiting) self.old.waiting }
+        ensures waiting { self.new.waiting
+            ≡ without_place (next_place now self.old.remembered self.old.waiting) self.old.waiting }
+        ensures remembered { self.new.remembered ≡ self.old.remembered }
+
+        // No stranger before the right peer, and nobody waits beyond the first moment.
+        ensures first { IfSome result (λ one. has_blemished now self.old.remembered one ≡ true
+            → All (λ guest. has_blemished now self.old.remembered guest ≡ true) self.old.waiting) }
+        ensures due { IsSome result → first_moment self.old.remembered self.old.waiting ≤ now }
+        ensures in_time { first_moment self.old.remembered self.old.waiting ≤ now → now < 18446744073709551615
+            → IsSome result }
+    {
+        match self.queue.next_place(&self.memory, now) {
+            Some(place) => Some(self.queue.take(place)),
+            None => None,
+        }
+    }
+
+    /// The first moment at which `next` takes one out, if nothing else happens; `u64::MAX` if nobody
+    /// waits.
+    pub fn next_at(&self) -> u64
+        ensures { result ≡ first_moment self.now.remembered self.now.waiting }
+    {
+        self.queue.first_moment(&self.memory)
+    }
+
+    /// A connection of an address ended without a session, or since its sign-on was refused.
+    pub fn end_without_session(&mut self, address: IpAddr, was_refused: bool, now: u64)
+        ensures remembered { self.new.remembered ≡ ended address was_refused now self.old.remembered }
+        ensures waiting { self.new.waiting ≡ self.old.waiting }
+    {
+        self.memory.end(address, was_refused, now);
+    }
+
+    /// An address had a session: its next pause is the shortest again.
+    pub fn session(&mut self, address: IpAddr)
+        ensures remembered { self.new.remembered ≡ with_session address self.old.remembered }
+        ensures waiting { self.new.waiting ≡ self.old.waiting }
+    {
+        self.memory.session(address);
+    }
+
+    /// Drops all who wait.
+    pub fn close_all(&mut self)
+        ensures waiting { self.new.waiting ≡ [] }
+        ensures remembered { self.new.remembered ≡ self.old.remembered }
+    {
+        self.queue.clear();
+    }
+}
