@@ -96,7 +96,8 @@ found_stranger n (r ∷ all) one found none =
 
 -- ---- looking for it
 
-seen_case : (r : Remembered) (rest : Option Remembered) (b t : Bool) → b ≡ t → cond b (Some r) rest ≡ cond t (Some r) rest
+seen_case : (r : Remembered) (rest : Option Remembered) (b t : Bool) → b ≡ t
+    → cond b (Some r) rest ≡ cond t (Some r) rest
 seen_case r rest b t same = ap (λ (u : Bool). cond u (Some r) rest) same
 
 -- what is found from a place on

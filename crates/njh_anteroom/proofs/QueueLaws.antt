@@ -1,18 +1,22 @@
 -- Who waits, and who is next.
 use Rattle.std.proofs.Common.{◌≡◌, ◌∙◌, ℕ, ◌<◌, ◌≤◌, ◌+◌, zero, suc, Bool, true, false, cond, not, eqb, ltb, leb, min}
 use Rattle.std.proofs.Common.{List, [], ◌∷◌, ◌++◌, map, length, get_or, take, set, filter, remove, position, fold, All}
-use Rattle.std.proofs.Common.{ap, sym, refl, subst, arith, ◌||◌, ◌&&◌, inl, inr, Option, Some, None, option_map, IfSome, slice_get}
+use Rattle.std.proofs.Common.{ap, sym, refl, subst, arith, ◌||◌, ◌&&◌, inl, inr, Option, Some, None, option_map}
+use Rattle.std.proofs.Common.{IfSome, slice_get}
 use Rattle.std.specs.List.{list_any, position_or_len}
 use Rattle.std.specs.Option.{option_or, option_map_or}
-use Rattle.std.proofs.lemmas.Bool.{and_from, both_ways, eqb-true, false_from_ne_true, le-leb, leb-false, leb-true, lt-ltb}
+use Rattle.std.proofs.lemmas.Bool.{and_from, both_ways, eqb-true, false_from_ne_true, le-leb, leb-false, leb-true}
+use Rattle.std.proofs.lemmas.Bool.{lt-ltb}
 use Rattle.std.proofs.lemmas.Bool.{ltb-false, not-false, not-true, or_cases, or_left, or_parts, or_right}
-use Rattle.std.proofs.lemmas.List.{append-nil, map-append, map-set, set-get_or, length-append, length-set, length-take-le, get_or-map, take_more}
+use Rattle.std.proofs.lemmas.List.{append-nil, map-append, map-set, set-get_or, length-append, length-set}
+use Rattle.std.proofs.lemmas.List.{length-take-le, get_or-map, take_more}
 use Rattle.std.proofs.lemmas.List.Elements.{filter-append}
 use Rattle.std.proofs.lemmas.List.Folds.{list_any_at}
 use Rattle.std.proofs.lemmas.List.Quantifiers.{position-Some}
 use Rattle.std.proofs.lemmas.Option.{get_or_from_slice_get}
 use Rattle.njh_anteroom.specs.Addresses.{are_distinct, is_among, is_loopback}
-use Rattle.njh_anteroom.specs.Next.{displacement, entry_at, entry_of, first_moment, has_blemished, has_paused, last_place, next_place}
+use Rattle.njh_anteroom.specs.Next.{displacement, entry_at, entry_of, first_moment, has_blemished, has_paused}
+use Rattle.njh_anteroom.specs.Next.{last_place, next_place}
 use Rattle.njh_anteroom.specs.Remembered.{has_blemish, is_blemished, is_recent, remembered_of, until_of}
 use Rattle.njh_anteroom.specs.Waiting.{is_from, number_in, numbers_in, place_of, IsQueue}
 use Rattle.njh_anteroom.specs.code.Seats.{IsFree}
@@ -61,7 +65,8 @@ passes_at p xs i one at is =
 
 all_fail : {X : Type 0} (p : X → Bool) (xs : List X) → list_any p xs ≡ false → All (λ x. p x ≡ false) xs
 all_fail p xs none k d there =
-    false_from_ne_true (p (get_or xs k d)) (λ passes. both_ways (list_any p xs) none (list_any_at p xs k d there passes))
+    false_from_ne_true (p (get_or xs k d)) (λ passes.
+    both_ways (list_any p xs) none (list_any_at p xs k d there passes))
 
 -- ---- one from an address that waits takes its place
 
@@ -83,11 +88,13 @@ pub free_where_none : {C : Type 0} (n : ℕ) (waiting : List (Guest C)) → posi
 free_where_none n waiting none = map_any number_in n waiting ∙ none_there (is_from n) waiting none
 
 pub queue_renewed : {C : Type 0} (waiting : List (Guest C)) (place : ℕ) (guest : Guest C) → IsQueue waiting
-    → get_or (numbers_in waiting) place (number_in guest) ≡ number_in guest → IsQueue (set waiting place guest)
+    → get_or (numbers_in waiting) place (number_in guest) ≡ number_in guest
+    → IsQueue (set waiting place guest)
 queue_renewed waiting place guest q same =
     let numbers : numbers_in (set waiting place guest) ≡ numbers_in waiting =
     map-set number_in waiting place guest
-    ∙ (ap (set (numbers_in waiting) place) (sym same) ∙ set-get_or (numbers_in waiting) place (number_in guest)) in record {
+    ∙ (ap (set (numbers_in waiting) place) (sym same)
+    ∙ set-get_or (numbers_in waiting) place (number_in guest)) in record {
       few = omega (arith, length-set waiting place guest, q.few);
       distinct = ap (λ (ns : List ℕ). are_distinct (filter (λ n. not (is_loopback n)) ns)) numbers ∙ q.distinct;
     }
@@ -106,7 +113,8 @@ queue_added waiting guest q room free =
     let test : ℕ → Bool = λ m. not (is_loopback m) in
     let numbers : filter test (numbers_in (waiting ++ guest ∷ []))
     ≡ filter test (numbers_in waiting) ++ filter test (n ∷ []) =
-    ap (filter test) (map-append number_in waiting (guest ∷ [])) ∙ filter-append test (numbers_in waiting) (n ∷ []) in record {
+    ap (filter test) (map-append number_in waiting (guest ∷ []))
+    ∙ filter-append test (numbers_in waiting) (n ∷ []) in record {
       few = omega (arith, length-append waiting (guest ∷ []));
       distinct = ap are_distinct numbers
           ∙ added_case n (filter test (numbers_in waiting)) (is_loopback n) q.distinct
@@ -266,7 +274,8 @@ pub first_law : {C : Type 0} (now : ℕ) (all : List Remembered) (waiting : List
     → Some place ≡ next_place now all waiting → slice_get waiting place ≡ Some one
     → has_blemished now all one ≡ true → All (λ guest. has_blemished now all guest ≡ true) waiting
 first_law now all waiting place one next is stained =
-    first_case now all waiting place one (position (λ guest. not (has_blemished now all guest)) waiting) refl next is stained
+    first_case now all waiting place one (position (λ guest. not (has_blemished now all guest)) waiting) refl
+    next is stained
 
 due_case : {C : Type 0} (now : ℕ) (all : List Remembered) (waiting : List (Guest C)) (place : ℕ) (o : Option ℕ)
     → position (λ guest. not (has_blemished now all guest)) waiting ≡ o

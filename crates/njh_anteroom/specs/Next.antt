@@ -1,5 +1,6 @@
 -- Whom the line is to be given, and what becomes of a connection that comes.
-use Rattle.std.specs.Prelude.{ℕ, suc, ◌&&◌, Bool, true, false, not, List, [], ◌∷◌, length, position, fold, min, nat_le, nat_lt}
+use Rattle.std.specs.Prelude.{ℕ, suc, ◌&&◌, Bool, true, false, not, List, [], ◌∷◌, length, position, fold, min, nat_le}
+use Rattle.std.specs.Prelude.{nat_lt}
 use Rattle.std.specs.Prelude.{cond, remove, slice_get, Option, Some, None}
 use Rattle.std.specs.Option.{option_or, option_and_then, option_map}
 use Rattle.njh_anteroom.specs.Waiting.{number_in, place_of}

@@ -1,5 +1,6 @@
 -- Who waits, in the order in which they came.
-use Rattle.std.specs.Prelude.{◌≡◌, ℕ, ◌≤◌, ◌==◌, Bool, true, not, List, [], ◌∷◌, ◌++◌, length, filter, map, position, remove}
+use Rattle.std.specs.Prelude.{◌≡◌, ℕ, ◌≤◌, ◌==◌, Bool, true, not, List, [], ◌∷◌, ◌++◌, length, filter, map, position}
+use Rattle.std.specs.Prelude.{remove}
 use Rattle.std.specs.Prelude.{slice_set, cond, Option, None}
 use Rattle.std.specs.Net.Socket.{socket_ip}
 use Rattle.njh_anteroom.specs.Addresses.{are_distinct, is_loopback, number_of}

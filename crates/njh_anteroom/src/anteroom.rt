@@ -68,7 +68,8 @@ impl<C: Drop> Anteroom<C> {
     /// A connection comes from an address. Answers what becomes of it: `may_grow` says whether one
     /// more may be kept.
     pub fn come(&mut self, connection: C, address: SocketAddr, now: u64, may_grow: bool) -> Entry
-        ensures entry { result ≡ entry_of (number_of (socket_ip address)) now may_grow self.old.remembered self.old.waiting }
+        ensures entry { result
+            ≡ entry_of (number_of (socket_ip address)) now may_grow self.old.remembered self.old.waiting }
         ensures waiting { self.new.waiting
             ≡ seated result (record { connection = connection; address = address; since = now }) self.old.waiting }
         ensures remembered { self.new.remembered ≡ self.old.remembered }

@@ -1,7 +1,8 @@
 //! What is remembered of an address.
 
 ghost use Rattle.std.specs.Prelude.{◌≡◌};
-ghost use Rattle.njh_anteroom.specs.Remembered.{after_end, after_session, has_blemish, is_of, is_recent, new_remembered};
+ghost use Rattle.njh_anteroom.specs.Remembered.{after_end, after_session, has_blemish, is_of, is_recent};
+ghost use Rattle.njh_anteroom.specs.Remembered.{new_remembered};
 ghost use Rattle.njh_anteroom.specs.Remembered.{pause_after};
 
 use crate::address::number_of;

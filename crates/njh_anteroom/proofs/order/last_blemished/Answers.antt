@@ -15,8 +15,10 @@ loop-place-preserved g c =
       | then-is_blemished w ↦ w.last-is ∙ sym (ap (λ (b : Bool). cond b (Some place) last) w.if-is_blemished.true)
       | else-is_blemished w ↦ w.last-is ∙ sym (ap (λ (b : Bool). cond b (Some place) last) w.if-is_blemished.false)
     ] in
-    last_step (has_blemished {C = g.row.C.Denot} c.args.now c.args.memory.now) c.args.guests.now place c.index-guests-place.result
-    last c.if-is_blemished.last c.is_blemished.result c.loop-place-test.true c.index-guests-place.is c.loop-place.invariant
+    last_step (has_blemished {C = g.row.C.Denot} c.args.now c.args.memory.now) c.args.guests.now place
+    c.index-guests-place.result
+    last c.if-is_blemished.last c.is_blemished.result c.loop-place-test.true c.index-guests-place.is
+    c.loop-place.invariant
     (c.is_blemished.ensures ∙ ap (is_blemished c.args.now c.args.memory.now) c.number.ensures) step
 
 pub returns-clause-last : goal.returns-clause-last

@@ -15,4 +15,5 @@ returns-in-Some-clause-due g c =
 pub returns-in-None-clause-in_time : goal.returns-in-None-clause-in_time
 returns-in-None-clause-in_time g c =
     rw (← c.self.view_is)
-    (λ due late. absurd (in_time_law c.args.now c.self.inside.memory c.self.inside.queue c.in-None.ensures.place due late))
+    (λ due late. absurd (in_time_law c.args.now c.self.inside.memory c.self.inside.queue
+    c.in-None.ensures.place due late))

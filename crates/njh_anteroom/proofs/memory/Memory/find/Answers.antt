@@ -8,4 +8,5 @@ pub returns-clause-no_loopback : goal.returns-clause-no_loopback
 returns-clause-no_loopback c =
     if_some_is c.found.result
     (λ r is. found_stranger c.args.number c.self.inside.seen.items r
-    (ap (remembered_of c.args.number) (sym c.deref.ensures.value) ∙ (sym c.found.ensures ∙ is)) c.self.invariant.0.no_loopback)
+    (ap (remembered_of c.args.number) (sym c.deref.ensures.value) ∙ (sym c.found.ensures ∙ is))
+    c.self.invariant.0.no_loopback)

@@ -20,5 +20,6 @@ returns-in-None-clause-place g c =
     ∙ (ap (position (has_paused {C = g.row.C.Denot} c.args.now memory)) c.deref-in-None.ensures.value
     ∙ (ap (λ (o : Option ℕ). option_or o (position (has_paused {C = g.row.C.Denot} c.args.now memory) guests))
     (c.in-None.ensures
-    ∙ ap (position (λ (guest : Guest g.row.C.Denot). not (has_blemished c.args.now memory guest))) c.deref.ensures.value)
+    ∙ ap (position (λ (guest : Guest g.row.C.Denot). not (has_blemished c.args.now memory guest)))
+    c.deref.ensures.value)
     ∙ ap (next_place {C = g.row.C.Denot} c.args.now memory) c.self.view_is))

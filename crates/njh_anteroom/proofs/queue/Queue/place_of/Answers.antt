@@ -8,8 +8,10 @@ use Rattle.njh_anteroom.proofs.queue.Queue.place_of.Goals as goal
 pub returns-else-is_loopback-clause-place : goal.returns-else-is_loopback-clause-place
 returns-else-is_loopback-clause-place g c =
     let stranger : is_loopback c.args.number ≡ false = sym c.is_loopback.ensures ∙ c.if-is_loopback.false in
-    found_in (is_from {C = g.row.C.Denot} c.args.number) _ _ _ _ c.place_from.ensures c.deref.ensures.value c.self.view_is
-    ∙ sym (ap (λ (b : Bool). cond b None (position (is_from {C = g.row.C.Denot} c.args.number) c.args.self.now)) stranger)
+    found_in (is_from {C = g.row.C.Denot} c.args.number) _ _ _ _ c.place_from.ensures c.deref.ensures.value
+    c.self.view_is
+    ∙ sym (ap (λ (b : Bool). cond b None (position (is_from {C = g.row.C.Denot} c.args.number) c.args.self.now))
+    stranger)
 
 pub returns-else-is_loopback-clause-fits : goal.returns-else-is_loopback-clause-fits
 returns-else-is_loopback-clause-fits g c =
