@@ -29,6 +29,7 @@ abbrev pub severity_of : LogEvent → Severity
 severity_of (events.ListenFailed address cause) = Error
 severity_of events.AcceptFailed = Error
 severity_of (events.RoutesRefused fault) = Error
+severity_of (events.SpoolAstray faults) = Error
 severity_of events.ClosedEarly = Warning
 severity_of (events.Failed failure) = Warning
 severity_of (events.DialFailed address) = Warning

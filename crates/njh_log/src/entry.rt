@@ -11,6 +11,7 @@ use njh_ebcdic::{Name, text_of};
 use njh_header::{Destination, FileName, User};
 use njh_hub::{FileSummaryView, HubFault};
 use njh_line::Refusal;
+use njh_presence::SpoolFaults;
 use njh_record::Kind;
 use njh_request::{EndMoment, RequestRefusal};
 use std::fmt;
@@ -92,6 +93,10 @@ pub enum LogEvent {
     RequestRefused(RequestRefusal),
     /// So many visitors of the console sent what is no request of HTTP.
     NoRequest(usize),
+    /// What is open of the spool file and its log isn't what stands at their paths, for this.
+    SpoolAstray(SpoolFaults),
+    /// It is again.
+    SpoolBack,
 }
 
 /// Why a connection failed.
@@ -207,6 +212,11 @@ impl fmt::Display for LogEvent {
             }
             LogEvent::NoRequest(1) => f.write_str("a request was no HTTP"),
             LogEvent::NoRequest(visitors) => write!(f, "{visitors} requests were no HTTP"),
+            LogEvent::SpoolAstray(faults) => write!(
+                f,
+                "spool file: {faults}; the hub goes on with what it has open"
+            ),
+            LogEvent::SpoolBack => f.write_str("spool file: it and its log are there again"),
         }
     }
 }

@@ -48,6 +48,7 @@ pub(crate) fn severity_of(event: &LogEvent) -> Severity
         LogEvent::ListenFailed(_, _) => Severity::Error,
         LogEvent::AcceptFailed => Severity::Error,
         LogEvent::RoutesRefused(_) => Severity::Error,
+        LogEvent::SpoolAstray(_) => Severity::Error,
         LogEvent::ClosedEarly => Severity::Warning,
         LogEvent::Failed(_) => Severity::Warning,
         LogEvent::DialFailed(_) => Severity::Warning,

@@ -10,6 +10,7 @@ mod refusals;
 mod requests;
 mod service;
 mod spool_log;
+mod spool_paths;
 mod spool_service;
 mod spooling;
 mod standard_error;

@@ -93,7 +93,10 @@ fn tables_and_revision<'a, F: Files + AllocGlobal>(
     ensures refused { IfErr result (AreRefused (Some path.now)) }
 {
     // Before the tables are read, so that no change is missed.
-    let source = TableFileSource::new(rt, path, spool);
+    let source = match TableFileSource::new(rt, path, spool) {
+        Ok(source) => source,
+        Err(_) => return Err(Failure::Memory),
+    };
     match tables_twice(rt, path) {
         Ok((tables, known)) => match Revision::new(rt.alloc(), known, source) {
             Ok(revision) => Ok((tables, revision)),

@@ -3,12 +3,14 @@
 ghost use Rattle.std.specs.Prelude.{◌≡◌, ◌≤◌, vec_len, IfOk, IfSome};
 ghost use Rattle.njh_subcommands.specs.TableBytes.{AreGivenWithin, max_changed_bytes};
 
+use crate::spool_paths::SpoolPaths;
 use njh_check::fault_text;
 use njh_io::{ReadFault, read_text};
+use njh_presence::SpoolSeen;
 use njh_revision::TableSource;
 use njh_subcommands::tables_in;
 use njh_table::{TableFault, Tables};
-use std::alloc::Global;
+use std::alloc::{AllocError, Global};
 use std::fs;
 use std::fs::File;
 use std::io::ErrorKind;
@@ -54,30 +56,41 @@ struct Stamp {
 pub struct TableFileSource<'a, R: Files + AllocGlobal> {
     rt: &'a R,
     path: &'a str,
-    spool: Option<&'a str>,
-    seen: Option<Stamp>,
+    /// Where the hub's files are kept, if they are.
+    spool: Option<SpoolPaths<'a>>,
+    stamp: Option<Stamp>,
 }
 
 impl<'a, R: Files + AllocGlobal> TableFileSource<'a, R> {
     /// The file as it is now. It is to be made before the tables are first read, so that no change
-    /// is missed.
-    /// The hub's files are kept in the file `spool`, if they are kept.
-    pub(crate) fn new(rt: &'a R, path: &'a str, spool: Option<&'a str>) -> TableFileSource<'a, R> {
-        TableFileSource {
+    /// is missed. The hub's files are kept in the file `spool`, which is open, if they are kept. Out
+    /// of memory is the only refusal.
+    pub(crate) fn new(
+        rt: &'a R,
+        path: &'a str,
+        spool: Option<&'a str>,
+    ) -> Result<TableFileSource<'a, R>, AllocError> {
+        let spool = match spool {
+            Some(file) => Some(SpoolPaths::new(rt, file)?),
+            None => None,
+        };
+        Ok(TableFileSource {
             rt,
             path,
             spool,
-            seen: stamp_of(rt, path),
-        }
+            stamp: stamp_of(rt, path),
+        })
     }
 }
 
 impl<R: Files + AllocGlobal> TableSource for TableFileSource<'_, R> {
     type Fault = ChangeFault;
 
-    fn spool_bytes(&self) -> Option<u64> {
-        let metadata = fs::metadata(self.rt, self.spool?).ok()?;
-        Some(metadata.len())
+    fn seen(&self) -> Option<SpoolSeen> {
+        match &self.spool {
+            Some(paths) => Some(paths.seen(self.rt)),
+            None => None,
+        }
     }
 
     /// The tables of the file, or why it gives none, if it isn't as it was at the last look.
@@ -87,10 +100,10 @@ impl<R: Files + AllocGlobal> TableSource for TableFileSource<'_, R> {
         ensures { IfSome result (λ read. IfOk read (AreGivenWithin max_changed_bytes)) }
     {
         let stamp = stamp_of(self.rt, self.path);
-        if self.seen == stamp {
+        if self.stamp == stamp {
             return None;
         }
-        self.seen = stamp;
+        self.stamp = stamp;
         match stamp {
             Some(_) => Some(changed_tables(self.rt, self.path)),
             None => Some(Err(ChangeFault::Gone)),

@@ -14,6 +14,7 @@ use crate::table_source::{NoSource, TableSource};
 use njh_ebcdic::Name;
 use njh_hub::{FileSummaryView, GivenRoutes, Hub};
 use njh_log::LineText;
+use njh_presence::SpoolSeen;
 use njh_spool::State;
 use njh_table::{NamedCustomer, Route, Tables};
 use njh_turns::NewRoutes;
@@ -102,9 +103,9 @@ impl<S: TableSource + Drop> Revision<S> {
         }
     }
 
-    /// How many bytes the file has that keeps the hub's files, if there is one.
-    pub fn spool_bytes(&self) -> Option<u64> {
-        self.source.spool_bytes()
+    /// What stands at the paths of the spool file and of its log, if the hub's files are kept.
+    pub fn seen(&self) -> Option<SpoolSeen> {
+        self.source.seen()
     }
 
     /// What the log told of tables that weren't taken when the source was looked at last; nothing if

@@ -1,2 +1,3 @@
 pub mod Bureaus
+pub mod Presences
 pub mod Serving

@@ -18,6 +18,7 @@ use crate::faults::faults;
 use crate::open_lines::open_lines;
 use crate::opened::tell_opened;
 use crate::operator::{tell_astray, tell_refusal};
+use crate::presence::{look_at_spool, presence_of, spool_fault};
 use crate::ready::{Version, tell_ready, version_of};
 use crate::revising::tell_unrouted;
 use crate::viewing::line_views;
@@ -27,6 +28,7 @@ use njh_console::{Act, Console, SEATS, Situation};
 use njh_hub::{Hub, HubFault};
 use njh_lines::Exchange;
 use njh_log::{Log, LogEvent, Place};
+use njh_presence::{Presence, SpoolSeen};
 use njh_request::EndMoment;
 use njh_revision::{Revision, TableSource};
 use njh_sites::{Endpoint, Listening};
@@ -47,6 +49,8 @@ pub struct Bureau<N: Network + Drop, L: Write + Drop, S: TableSource + Drop> {
     pub(crate) exchange: Exchange<N, L>,
     /// The tables, and where new ones come from.
     pub(crate) revision: Revision<S>,
+    /// What is known of the spool file, if the hub's files are kept.
+    presence: Option<Presence>,
     pub(crate) console: Console<N::Visitor>,
     /// Whether a line may be one that is to be stopped once no file is on its streams.
     drains: bool,
@@ -95,11 +99,13 @@ impl<N: Network + Drop, L: Write + Drop, S: TableSource + Drop> Bureau<N, L, S> 
         ensures stop { result.stop ≡ None }
     {
         let since = exchange.utc();
+        let presence = presence_of(revision.seen());
         Bureau {
             alloc,
             version: version_of(version),
             exchange,
             revision,
+            presence,
             console,
             drains: true,
             stop: None,
@@ -263,12 +269,14 @@ impl<N: Network + Drop, L: Write + Drop, S: TableSource + Drop> Bureau<N, L, S> 
         self.console.order_done(answer, replies);
     }
 
-    /// Comes after a round: tells which files have no route, ends the round, and serves the console.
+    /// Comes after a round: tells which files have no route, and what is wrong with the spool file,
+    /// ends the round, and serves the console.
     pub(crate) fn close_round(&mut self, hub: &Hub, wires: &mut [LineWire<N::Connection>])
         ensures still { AreStill IsTallied (λ wire. wire.failures) wires.old wires.new }
         ensures closed { IsClosed hub.now self.old self.new }
     {
         tell_unrouted(&mut self.revision, &mut self.exchange, hub);
+        look_at_spool(&mut self.presence, &self.revision, &mut self.exchange);
         self.end_round(hub, wires);
         self.serve_console(hub, wires);
     }
@@ -385,6 +393,9 @@ impl<N: Network + Drop, L: Write + Drop, S: TableSource + Drop> Bureau<N, L, S> 
             hub,
             wires,
         )?;
+        if let Some(event) = spool_fault(&self.presence) {
+            faults.push(format!(in alloc; "{event}")?)?;
+        }
         if let Some(moment) = self.stop {
             let event = LogEvent::ServiceEnds(moment);
             faults.push(format!(in alloc; "{event}")?)?;
@@ -392,7 +403,7 @@ impl<N: Network + Drop, L: Write + Drop, S: TableSource + Drop> Bureau<N, L, S> 
         Ok(ServiceView {
             version,
             since: u64::try_from(self.since / 1000).unwrap_or(0),
-            file_bytes: self.revision.spool_bytes(),
+            file_bytes: bytes_of(self.revision.seen()),
             faults,
         })
     }
@@ -435,6 +446,11 @@ impl<N: Network + Drop, L: Write + Drop, S: TableSource + Drop> Bureau<N, L, S> 
             Some(Act::Refused(refusal)) => tell_refusal(&mut self.exchange, refusal),
         }
     }
+}
+
+/// How many bytes the spool file has, if there is one.
+fn bytes_of(seen: Option<SpoolSeen>) -> Option<u64> {
+    Some(seen?.file?.size)
 }
 
 /// When the service is to end, once this was ordered.

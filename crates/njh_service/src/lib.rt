@@ -10,6 +10,7 @@ mod line_clock;
 mod open_lines;
 mod opened;
 mod operator;
+mod presence;
 mod ready;
 mod revising;
 mod service;

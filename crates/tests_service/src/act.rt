@@ -1,5 +1,7 @@
 //! What peers, visitors and the operator do in a case, and when.
 
+use njh_presence::{Seen, SpoolSeen};
+
 /// What becomes of a dial.
 #[derive(Clone, Copy, PartialEq, Eq)]
 pub enum Answer {
@@ -49,6 +51,8 @@ pub enum Deed {
     Visits,
     /// From now on the act's bytes are the table file.
     Changes,
+    /// From now on this stands at the paths of the spool file and of its log.
+    Stands(SpoolSeen),
 }
 
 /// An act of a case.
@@ -87,6 +91,29 @@ fn ports_of(word: &str) -> Option<Ports> {
     }
 }
 
+/// What stands at the paths of the spool file and of its log, by its words.
+fn stands_in(words: &str) -> Option<SpoolSeen> {
+    let (file, log) = words.split_once(' ')?;
+    Some(SpoolSeen {
+        file: seen_in(file)?,
+        log: seen_in(log)?,
+    })
+}
+
+/// What stands at a path: nothing, by the word `none`, or a file, as `DEVICE:INODE:SIZE`.
+fn seen_in(word: &str) -> Option<Option<Seen>> {
+    if word == "none" {
+        return Some(None);
+    }
+    let (device, rest) = word.split_once(':')?;
+    let (inode, size) = rest.split_once(':')?;
+    Some(Some(Seen {
+        device: device.parse::<u64>().ok()?,
+        inode: inode.parse::<u64>().ok()?,
+        size: size.parse::<u64>().ok()?,
+    }))
+}
+
 /// A deed, by its word and what stands behind that.
 pub(crate) fn deed_of(word: &str, rest: &str) -> Option<Deed> {
     match word {
@@ -101,6 +128,7 @@ pub(crate) fn deed_of(word: &str, rest: &str) -> Option<Deed> {
         "ports" => Some(Deed::Listening(ports_of(rest)?)),
         "visits" => Some(Deed::Visits),
         "table" => Some(Deed::Changes),
+        "spool" => Some(Deed::Stands(stands_in(rest)?)),
         _ => None,
     }
 }

@@ -5,7 +5,8 @@
 //! sends, dials, logs and answers (`closes`, `waits`, `looks`). Then come its acts: the moment in
 //! milliseconds, the number of the peer whose act it is, what is done (`deed_of`), and with what.
 //! Bytes are hex digits or names of `texts.txt` behind an `@`; `visits` is followed by a method,
-//! a path and a body, `table` by the file of the new tables. A `+` behind the moment says that
+//! a path and a body, `table` by the file of the new tables, `spool` by what stands at the paths
+//! of the spool file and of its log (`stands_in`). A `+` behind the moment says that
 //! the act isn't seen by the wait that sees the one before it. `FIRST..LAST/STEP` in place of a
 //! moment stands for many.
 //!

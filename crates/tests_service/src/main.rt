@@ -26,7 +26,7 @@ mod world;
 use std::{fs, io};
 
 /// The files of cases.
-const FILES: [&str; 12] = [
+const FILES: [&str; 13] = [
     "listening.cases",
     "dialling.cases",
     "groups.cases",
@@ -37,6 +37,7 @@ const FILES: [&str; 12] = [
     "sessions.cases",
     "states.cases",
     "wrong.cases",
+    "spool.cases",
     "console.cases",
     "moments.cases",
 ];

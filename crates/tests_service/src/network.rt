@@ -5,6 +5,7 @@ ghost use Rattle.std.specs.Io.{ReadsAtMost, WritesAtMost};
 
 use crate::act::{Answer, Ports};
 use crate::scene::Scene;
+use njh_presence::SpoolSeen;
 use njh_revision::TableSource;
 use njh_table::{TableFault, Tables};
 use njh_wire::{Connection, ConnectionFault, ConnectionRead, Network, Readiness};
@@ -224,8 +225,8 @@ impl Write for SceneLog<'_> {
 impl TableSource for SceneTables<'_> {
     type Fault = TableFault;
 
-    fn spool_bytes(&self) -> Option<u64> {
-        None
+    fn seen(&self) -> Option<SpoolSeen> {
+        self.scene.stands()
     }
 
     fn changed(&mut self) -> Option<Result<Tables, TableFault>> {

@@ -123,7 +123,8 @@ impl Peer {
             Deed::Resets => self.broken.set(true),
             Deed::Deafens => self.deaf.set(true),
             Deed::Answers(answer) => self.answer.set(answer),
-            Deed::LogTakes(_) | Deed::Listening(_) | Deed::Visits | Deed::Changes => {}
+            Deed::LogTakes(_) | Deed::Listening(_) | Deed::Visits => {}
+            Deed::Changes | Deed::Stands(_) => {}
         }
     }
 

@@ -5,6 +5,7 @@ ghost use Rattle.std.specs.Prelude.{◌≤◌, length};
 use crate::act::{Answer, Ports};
 use crate::joint::Joint;
 use crate::world::World;
+use njh_presence::SpoolSeen;
 use njh_wire::Readiness;
 use std::net::{Ipv4Addr, SocketAddr};
 
@@ -151,6 +152,14 @@ impl<'a> Scene<'a> {
     pub(crate) fn look(self) -> Option<&'a [u8]> {
         match self {
             Scene::World(world) => world.look(),
+            Scene::Joint(_, _) => None,
+        }
+    }
+
+    /// What stands at the paths of the spool file and of its log, if there is one.
+    pub(crate) fn stands(self) -> Option<SpoolSeen> {
+        match self {
+            Scene::World(world) => world.stands(),
             Scene::Joint(_, _) => None,
         }
     }

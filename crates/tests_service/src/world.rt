@@ -5,6 +5,7 @@ ghost use Rattle.std.specs.Prelude.{◌≤◌, length};
 use crate::act::{Act, Answer, Deed, Ports};
 use crate::peer::Peer;
 use crate::seen::{Seen, Shows};
+use njh_presence::SpoolSeen;
 use njh_wire::Readiness;
 use std::alloc::Global;
 use std::cell::Cell;
@@ -46,6 +47,8 @@ pub struct World<'a> {
     visit: Cell<Option<usize>>,
     /// The act that changed the table file, if that wasn't looked at since.
     change: Cell<Option<usize>>,
+    /// What stands at the paths of the spool file and of its log, if there is one.
+    stands: Cell<Option<SpoolSeen>>,
     seen: Seen,
 }
 
@@ -71,6 +74,7 @@ impl<'a> World<'a> {
             listening: Cell::new(Ports::Free),
             visit: Cell::new(None),
             change: Cell::new(None),
+            stands: Cell::new(None),
             seen: Seen::new(alloc),
         }
     }
@@ -186,6 +190,7 @@ impl<'a> World<'a> {
             Deed::Listening(ports) => self.listening.set(ports),
             Deed::Visits => self.visit.set(Some(number)),
             Deed::Changes => self.change.set(Some(number)),
+            Deed::Stands(seen) => self.stands.set(Some(seen)),
             _ => {}
         }
         let peer = self.peers.get(act.peer)?;
@@ -287,6 +292,20 @@ impl<'a> World<'a> {
                 .add_plain(self.now.get(), "looks at the table file");
         }
         Some(self.bytes_of(self.change.take()?))
+    }
+
+    /// What stands at the paths of the spool file and of its log, if there is one: from the first
+    /// act on, if that says so.
+    pub(crate) fn stands(&self) -> Option<SpoolSeen> {
+        match self.acts.get(self.next.get()) {
+            Some(next) if next.at <= self.now.get() => {
+                if let Deed::Stands(seen) = next.deed {
+                    self.stands.set(Some(seen));
+                }
+            }
+            _ => {}
+        }
+        self.stands.get()
     }
 
     /// The hub writes this to its log. Answers how many bytes are taken.
