@@ -1,14 +1,15 @@
 -- What is remembered of addresses.
 use Rattle.std.proofs.Common.{◌≡◌, ◌∙◌, ℕ, ◌<◌, ◌≤◌, ◌+◌, Bool, true, false, cond, not, eqb, ltb, List, [], ◌∷◌, ◌++◌}
-use Rattle.std.proofs.Common.{ap, sym, refl, subst, arith, filter, get_or, length, drop, Option, Some, None}
+use Rattle.std.proofs.Common.{ap, sym, refl, subst, arith, filter, get_or, length, drop, remove, Option, Some, None}
 use Rattle.std.specs.List.{list_any}
 use Rattle.std.proofs.lemmas.Bool.{or_from, or_parts}
 use Rattle.std.proofs.lemmas.List.{at_drop_more, drop_all, length-append, map-append}
 use Rattle.std.proofs.lemmas.List.Folds.{list_any-append}
 use Rattle.njh_anteroom.specs.Addresses.{are_distinct, is_among, is_loopback, number_of}
-use Rattle.njh_anteroom.specs.Remembered.{is_of, numbers_of, remembered_of, with_room, without, IsMemory}
+use Rattle.njh_anteroom.specs.Remembered.{first_to_go, is_of, numbers_of, remembered_of, with_room, without, IsMemory}
 use Rattle.njh_anteroom.specs.declared.remembered.Remembered.{Remembered}
-use Rattle.njh_anteroom.proofs.NumberLaws.{any_filter, distinct_filter, distinct_push, none_left}
+use Rattle.njh_anteroom.proofs.NumberLaws.{any_filter, any_remove, distinct_filter, distinct_less, distinct_push}
+use Rattle.njh_anteroom.proofs.NumberLaws.{length_remove, map_remove, none_left}
 
 -- ---- all but one address
 
@@ -47,18 +48,25 @@ memory_filtered n all kept is m = subst IsMemory (sym is) (memory_without n all 
 
 -- ---- one more
 
-none_behind : (n : ℕ) (all : List Remembered) → is_among n (numbers_of all) ≡ false
-    → is_among n (numbers_of (drop 1 all)) ≡ false
-none_behind n [] none = refl
-none_behind n (r ∷ all) none = (or_parts (eqb (number_of r.address) n) (is_among n (numbers_of all)) none).1
+numbers_removed : (all : List Remembered) (i : ℕ) → numbers_of (remove all i) ≡ remove (numbers_of all) i
+numbers_removed all i = map_remove (λ (r : Remembered). number_of r.address) all i
 
-none_with_room : (n : ℕ) (all : List Remembered) (b : Bool) → is_among n (numbers_of all) ≡ false
-    → is_among n (numbers_of (cond b all (drop 1 all))) ≡ false
-none_with_room n all true none = none
-none_with_room n all false none = none_behind n all none
+pub memory_removed : (all : List Remembered) (i : ℕ) → IsMemory all → IsMemory (remove all i)
+memory_removed all i m = record {
+  few = let less = length_remove all i in omega (arith, m.few);
+  distinct = ap are_distinct (numbers_removed all i) ∙ distinct_less (numbers_of all) i m.distinct;
+  no_loopback = ap (list_any is_loopback) (numbers_removed all i)
+      ∙ any_remove is_loopback (numbers_of all) i m.no_loopback;
+}
+
+none_with_room : (n : ℕ) (all : List Remembered) (i : ℕ) (b : Bool) → is_among n (numbers_of all) ≡ false
+    → is_among n (numbers_of (cond b all (remove all i))) ≡ false
+none_with_room n all i true none = none
+none_with_room n all i false none =
+    ap (is_among n) (numbers_removed all i) ∙ any_remove (λ m. eqb m n) (numbers_of all) i none
 
 none_of_it : (n : ℕ) (all : List Remembered) → is_among n (numbers_of (with_room (without n all))) ≡ false
-none_of_it n all = none_with_room n (without n all) (ltb (length (without n all)) 64)
+none_of_it n all = none_with_room n (without n all) (first_to_go (without n all)) (ltb (length (without n all)) 64)
     (ap (is_among n) (numbers_without n all) ∙ none_left n (numbers_of all))
 
 pub memory_noted : (r : Remembered) (all kept items : List Remembered)

@@ -1,6 +1,6 @@
 -- Numbers of addresses, each there once.
 use Rattle.std.proofs.Common.{◌≡◌, ◌∙◌, ℕ, zero, suc, Bool, true, false, cond, not, eqb, ◌||◌, List, [], ◌∷◌, ◌++◌}
-use Rattle.std.proofs.Common.{ap, sym, refl, filter, remove}
+use Rattle.std.proofs.Common.{ap, sym, refl, filter, remove, map, length, arith, ◌≤◌}
 use Rattle.std.specs.List.{list_any}
 use Rattle.std.proofs.lemmas.Bool.{and_parts, and_from, or_parts, or_from, not-true, eqb-false, ne_eqb}
 use Rattle.std.proofs.lemmas.List.Folds.{list_any-append}
@@ -92,6 +92,29 @@ distinct_remove p (n ∷ ns) zero all = rest_case n (filter p ns) (p n) all
 distinct_remove p (n ∷ ns) (suc i) all =
     distinct_less_case n (filter p ns) (filter p (remove ns i)) (p n)
     (any_filter_remove (λ other. eqb other n) p ns i) (distinct_remove p ns i) all
+
+filter_all : (ns : List ℕ) → filter (λ n. true) ns ≡ ns
+filter_all [] = refl
+filter_all (n ∷ ns) = ap (λ (rest : List ℕ). n ∷ rest) (filter_all ns)
+
+pub distinct_less : (ns : List ℕ) (i : ℕ) → are_distinct ns ≡ true → are_distinct (remove ns i) ≡ true
+distinct_less ns i all =
+    sym (ap are_distinct (filter_all (remove ns i)))
+    ∙ distinct_remove (λ n. true) ns i (ap are_distinct (filter_all ns) ∙ all)
+
+-- ---- one of anything removed
+
+pub map_remove : {X Y : Type 0} (f : X → Y) (xs : List X) (i : ℕ) → map f (remove xs i) ≡ remove (map f xs) i
+map_remove f [] zero = refl
+map_remove f [] (suc i) = refl
+map_remove f (x ∷ xs) zero = refl
+map_remove {Y = Y} f (x ∷ xs) (suc i) = ap (λ (ys : List Y). f x ∷ ys) (map_remove f xs i)
+
+pub length_remove : {X : Type 0} (xs : List X) (i : ℕ) → length (remove xs i) ≤ length xs
+length_remove [] zero = omega arith
+length_remove [] (suc i) = omega arith
+length_remove (x ∷ xs) zero = omega arith
+length_remove (x ∷ xs) (suc i) = let rest = length_remove xs i in omega arith
 
 -- ---- one more
 

@@ -2,12 +2,11 @@
 use Rattle.std.proofs.Common.{◌≡◌, ◌∙◌, ℕ, ◌<◌, ◌≤◌, ◌+◌, zero, suc, Bool, true, false, cond, not, eqb, ltb, leb, min}
 use Rattle.std.proofs.Common.{List, [], ◌∷◌, ◌++◌, map, length, get_or, take, set, filter, remove, position, fold, All}
 use Rattle.std.proofs.Common.{ap, sym, refl, subst, arith, ◌||◌, ◌&&◌, inl, inr, Option, Some, None, option_map}
-use Rattle.std.proofs.Common.{IfSome, slice_get}
+use Rattle.std.proofs.Common.{IfSome, max, slice_get}
 use Rattle.std.specs.List.{list_any, position_or_len}
 use Rattle.std.specs.Option.{option_or, option_map_or}
-use Rattle.std.proofs.lemmas.Bool.{and_from, both_ways, eqb-true, false_from_ne_true, le-leb, leb-false, leb-true}
-use Rattle.std.proofs.lemmas.Bool.{lt-ltb}
-use Rattle.std.proofs.lemmas.Bool.{ltb-false, not-false, not-true, or_cases, or_left, or_parts, or_right}
+use Rattle.std.proofs.lemmas.Bool.{and_from, both_ways, eqb-false, eqb-true, false_from_ne_true, le-leb, leb-false}
+use Rattle.std.proofs.lemmas.Bool.{leb-true, lt-ltb, ltb-false, ltb-true, or_cases, or_left, or_parts, or_right}
 use Rattle.std.proofs.lemmas.List.{append-nil, map-append, map-set, set-get_or, length-append, length-set}
 use Rattle.std.proofs.lemmas.List.{length-take-le, get_or-map, take_more}
 use Rattle.std.proofs.lemmas.List.Elements.{filter-append}
@@ -15,16 +14,17 @@ use Rattle.std.proofs.lemmas.List.Folds.{list_any_at}
 use Rattle.std.proofs.lemmas.List.Quantifiers.{position-Some}
 use Rattle.std.proofs.lemmas.Option.{get_or_from_slice_get}
 use Rattle.njh_anteroom.specs.Addresses.{are_distinct, is_among, is_loopback}
-use Rattle.njh_anteroom.specs.Next.{displacement, entry_at, entry_of, first_moment, has_blemished, has_paused}
-use Rattle.njh_anteroom.specs.Next.{last_place, next_place}
-use Rattle.njh_anteroom.specs.Remembered.{has_blemish, is_blemished, is_recent, remembered_of, until_of}
+use Rattle.njh_anteroom.specs.Next.{displaced, displacement, entry_at, entry_of, first_moment, greatest_rank}
+use Rattle.njh_anteroom.specs.Next.{has_paused, has_rank, last_of_greatest, last_place, next_place, rank_in}
+use Rattle.njh_anteroom.specs.Remembered.{has_blemish, is_recent, rank_at, rank_of, remembered_of, until_of}
 use Rattle.njh_anteroom.specs.Waiting.{is_from, number_in, numbers_in, place_of, IsQueue}
 use Rattle.njh_anteroom.specs.code.Seats.{IsFree}
 use Rattle.njh_anteroom.specs.declared.entry.Entry.{Entry}
 use Rattle.njh_anteroom.specs.declared.entry.Entry.TheVariants.{Added, TurnedAway}
 use Rattle.njh_anteroom.specs.declared.guest.Guest.{Guest}
 use Rattle.njh_anteroom.specs.declared.remembered.Remembered.{Remembered}
-use Rattle.njh_anteroom.proofs.NumberLaws.{any_filter, any_remove, distinct_push, distinct_remove}
+use Rattle.njh_anteroom.proofs.NumberLaws.{any_filter, any_remove, distinct_push, distinct_remove, length_remove}
+use Rattle.njh_anteroom.proofs.NumberLaws.{map_remove}
 
 -- ---- a first place
 
@@ -123,18 +123,6 @@ queue_added waiting guest q room free =
 
 -- ---- one less
 
-map_remove : {X Y : Type 0} (f : X → Y) (xs : List X) (i : ℕ) → map f (remove xs i) ≡ remove (map f xs) i
-map_remove f [] zero = refl
-map_remove f [] (suc i) = refl
-map_remove f (x ∷ xs) zero = refl
-map_remove {Y = Y} f (x ∷ xs) (suc i) = ap (λ (ys : List Y). f x ∷ ys) (map_remove f xs i)
-
-length_remove : {X : Type 0} (xs : List X) (i : ℕ) → length (remove xs i) ≤ length xs
-length_remove [] zero = omega arith
-length_remove [] (suc i) = omega arith
-length_remove (x ∷ xs) zero = omega arith
-length_remove (x ∷ xs) (suc i) = let rest = length_remove xs i in omega arith
-
 pub queue_removed : {C : Type 0} (waiting : List (Guest C)) (i : ℕ) → IsQueue waiting → IsQueue (remove waiting i)
 queue_removed waiting i q = record {
   few = let less = length_remove waiting i in omega (arith, q.few);
@@ -187,14 +175,11 @@ no_last_case None true none = cc
 no_last_case None false none = (refl, refl)
 no_last_case (Some k) b none = cc
 
+-- no last place, nobody
 no_last : {X : Type 0} (test : X → Bool) (xs : List X) → last_place test xs ≡ None → list_any test xs ≡ false
 no_last test [] none = refl
 no_last test (x ∷ xs) none =
     let parts = no_last_case (last_place test xs) (test x) none in rw parts.1 (no_last test xs parts.0)
-
--- no last place, nobody
-pub none_last : {X : Type 0} (test : X → Bool) (xs : List X) → last_place test xs ≡ None → All (λ x. test x ≡ false) xs
-none_last test xs none = all_fail test xs (no_last test xs none)
 
 pub last_step : {X : Type 0} (test : X → Bool) (xs : List X) (n : ℕ) (x : X) (last after : Option ℕ) (b : Bool)
     → n < length xs → x ≡ get_or xs n x → last ≡ last_place test (take n xs) → b ≡ test x
@@ -241,56 +226,96 @@ any_weaker p q goes (x ∷ xs) some =
       | inr later ↦ or_right (q x) (list_any q xs) (any_weaker p q goes xs later)
     ]
 
--- ---- who is next
+-- ---- ranks
 
-paused_case : (now : ℕ) (o : Option Remembered) → option_map_or (has_blemish now) o false ≡ false
-    → leb (option_map_or (λ r. r.until) o 0) now ≡ true
-paused_case now None clean = le-leb 0 now (omega arith)
-paused_case now (Some r) clean =
-    let parts = or_parts (is_recent now r.refused) (ltb now r.until) clean in
+rank_case : (b s : Bool) → cond b 2 (cond s 0 1) ≤ 2
+rank_case true s = omega arith
+rank_case false true = omega arith
+rank_case false false = omega arith
+
+no_more_ranks : (now : ℕ) (o : Option Remembered) → option_map_or (rank_at now) o 1 ≤ 2
+no_more_ranks now None = omega arith
+no_more_ranks now (Some r) = rank_case (has_blemish now r) r.had_session
+
+clean_case : (now : ℕ) (r : Remembered) (b : Bool) → has_blemish now r ≡ b → cond b 2 (cond r.had_session 0 1) < 2
+    → leb r.until now ≡ true
+clean_case now r true is low = absurd (omega arith)
+clean_case now r false is low =
+    let parts = or_parts (is_recent now r.refused) (ltb now r.until) is in
     le-leb r.until now (ltb-false now r.until parts.1)
 
--- an unblemished one's pause is over
-has_paused_clean : {C : Type 0} (now : ℕ) (all : List Remembered) (guest : Guest C)
-    → not (has_blemished now all guest) ≡ true → has_paused now all guest ≡ true
-has_paused_clean now all guest clean =
-    paused_case now (remembered_of (number_in guest) all) (not-true (has_blemished now all guest) clean)
+paused_case : (now : ℕ) (o : Option Remembered) → option_map_or (rank_at now) o 1 < 2
+    → leb (option_map_or (λ r. r.until) o 0) now ≡ true
+paused_case now None low = le-leb 0 now (omega arith)
+paused_case now (Some r) low = clean_case now r (has_blemish now r) refl low
+
+-- the pause of one who is known or new is over
+has_paused_clean : {C : Type 0} (rank now : ℕ) (all : List Remembered) (guest : Guest C) → rank < 2
+    → has_rank rank now all guest ≡ true → has_paused now all guest ≡ true
+has_paused_clean rank now all guest low has =
+    let is : rank_in now all guest ≡ rank = eqb-true (rank_in now all guest) rank has in
+    paused_case now (remembered_of (number_in guest) all) (omega (arith, is))
+
+none_of_rank : {C : Type 0} (rank now : ℕ) (all : List Remembered) (waiting : List (Guest C))
+    → position (has_rank rank now all) waiting ≡ None → All (λ guest. rank_in now all guest ≡ rank → ⊥) waiting
+none_of_rank rank now all waiting none k d there =
+    eqb-false (rank_in now all (get_or waiting k d)) rank
+    (all_fail (has_rank rank now all) waiting (none_there (has_rank rank now all) waiting none) k d there)
+
+rank_at_place : {C : Type 0} (rank now : ℕ) (all : List Remembered) (waiting : List (Guest C)) (place : ℕ)
+    (one : Guest C) → position (has_rank rank now all) waiting ≡ Some place → slice_get waiting place ≡ Some one
+    → rank_in now all one ≡ rank
+rank_at_place rank now all waiting place one at is =
+    eqb-true (rank_in now all one) rank (passes_at (has_rank rank now all) waiting place one at is)
+
+-- ---- who is next
 
 first_case : {C : Type 0} (now : ℕ) (all : List Remembered) (waiting : List (Guest C)) (place : ℕ) (one : Guest C)
-    (o : Option ℕ) → position (λ guest. not (has_blemished now all guest)) waiting ≡ o
-    → Some place ≡ option_or o (position (has_paused now all) waiting) → slice_get waiting place ≡ Some one
-    → has_blemished now all one ≡ true → All (λ guest. has_blemished now all guest ≡ true) waiting
-first_case now all waiting place one None first next is stained =
-    λ k d there. not-false (has_blemished now all (get_or waiting k d))
-    (all_fail (λ guest. not (has_blemished now all guest)) waiting
-    (none_there (λ guest. not (has_blemished now all guest)) waiting first) k d there)
-first_case now all waiting place one (Some i) first next is stained =
+    (o p : Option ℕ) → position (has_rank 0 now all) waiting ≡ o → position (has_rank 1 now all) waiting ≡ p
+    → Some place ≡ option_or (option_or o p) (position (has_paused now all) waiting)
+    → slice_get waiting place ≡ Some one → All (λ guest. rank_in now all one ≤ rank_in now all guest) waiting
+first_case now all waiting place one None None first second next is =
+    λ k d there.
+    let most = no_more_ranks now (remembered_of (number_in one) all) in
+    let not_known = none_of_rank 0 now all waiting first k d there in
+    let not_new = none_of_rank 1 now all waiting second k d there in omega (arith, most, not_known, not_new)
+first_case now all waiting place one None (Some i) first second next is =
+    λ k d there.
     let same : Some i ≡ Some place = cc in
-    let clean = passes_at (λ guest. not (has_blemished now all guest)) waiting place one (first ∙ same) is in
-    absurd (both_ways (has_blemished now all one) (not-true (has_blemished now all one) clean) stained)
+    let one_is = rank_at_place 1 now all waiting place one (second ∙ same) is in
+    let not_known = none_of_rank 0 now all waiting first k d there in omega (arith, one_is, not_known)
+first_case now all waiting place one (Some i) p first second next is =
+    λ k d there.
+    let same : Some i ≡ Some place = cc in
+    let one_is = rank_at_place 0 now all waiting place one (first ∙ same) is in omega (arith, one_is)
 
--- if a blemished one is next all are
+-- nobody of a lesser rank waits than who is next
 pub first_law : {C : Type 0} (now : ℕ) (all : List Remembered) (waiting : List (Guest C)) (place : ℕ) (one : Guest C)
     → Some place ≡ next_place now all waiting → slice_get waiting place ≡ Some one
-    → has_blemished now all one ≡ true → All (λ guest. has_blemished now all guest ≡ true) waiting
-first_law now all waiting place one next is stained =
-    first_case now all waiting place one (position (λ guest. not (has_blemished now all guest)) waiting) refl
-    next is stained
+    → All (λ guest. rank_in now all one ≤ rank_in now all guest) waiting
+first_law now all waiting place one next is =
+    first_case now all waiting place one (position (has_rank 0 now all) waiting) (position (has_rank 1 now all) waiting)
+    refl refl next is
 
-due_case : {C : Type 0} (now : ℕ) (all : List Remembered) (waiting : List (Guest C)) (place : ℕ) (o : Option ℕ)
-    → position (λ guest. not (has_blemished now all guest)) waiting ≡ o
-    → Some place ≡ option_or o (position (has_paused now all) waiting) → list_any (has_paused now all) waiting ≡ true
-due_case now all waiting place None first next = some_there (has_paused now all) waiting place (sym next)
-due_case now all waiting place (Some i) first next =
-    any_weaker (λ guest. not (has_blemished now all guest)) (has_paused now all) (has_paused_clean now all) waiting
-    (some_there (λ guest. not (has_blemished now all guest)) waiting i first)
+due_case : {C : Type 0} (now : ℕ) (all : List Remembered) (waiting : List (Guest C)) (place : ℕ) (o p : Option ℕ)
+    → position (has_rank 0 now all) waiting ≡ o → position (has_rank 1 now all) waiting ≡ p
+    → Some place ≡ option_or (option_or o p) (position (has_paused now all) waiting)
+    → list_any (has_paused now all) waiting ≡ true
+due_case now all waiting place None None first second next = some_there (has_paused now all) waiting place (sym next)
+due_case now all waiting place None (Some i) first second next =
+    any_weaker (has_rank 1 now all) (has_paused now all) (λ guest. has_paused_clean 1 now all guest (omega arith))
+    waiting (some_there (has_rank 1 now all) waiting i second)
+due_case now all waiting place (Some i) p first second next =
+    any_weaker (has_rank 0 now all) (has_paused now all) (λ guest. has_paused_clean 0 now all guest (omega arith))
+    waiting (some_there (has_rank 0 now all) waiting i first)
 
 -- nobody is next before the first moment
 pub due_law : {C : Type 0} (now : ℕ) (all : List Remembered) (waiting : List (Guest C)) (place : ℕ)
     → Some place ≡ next_place now all waiting → first_moment all waiting ≤ now
 due_law now all waiting place next =
     least_below (λ guest. until_of all (number_in guest)) now 18446744073709551615 waiting
-    (due_case now all waiting place (position (λ guest. not (has_blemished now all guest)) waiting) refl next)
+    (due_case now all waiting place (position (has_rank 0 now all) waiting) (position (has_rank 1 now all) waiting)
+    refl refl next)
 
 no_second : {X : Type 0} (o p : Option X) → None ≡ option_or o p → p ≡ None
 no_second None p none = sym none
@@ -302,8 +327,37 @@ pub in_time_law : {C : Type 0} (now : ℕ) (all : List Remembered) (waiting : Li
 in_time_law now all waiting none due late =
     let after = least_above (λ guest. until_of all (number_in guest)) now 18446744073709551615 waiting late
     (none_there (has_paused now all) waiting
-    (no_second (position (λ guest. not (has_blemished now all guest)) waiting) (position (has_paused now all) waiting)
-    none)) in omega arith
+    (no_second (option_or (position (has_rank 0 now all) waiting) (position (has_rank 1 now all) waiting))
+    (position (has_paused now all) waiting) none)) in omega arith
+
+-- ---- the greatest rank
+
+greatest_from : {X : Type 0} (f : X → ℕ) (m : ℕ) (xs : List X) → m ≤ fold (λ greatest x. max greatest (f x)) m xs
+greatest_from f m [] = omega arith
+greatest_from f m (x ∷ xs) = let rest = greatest_from f (max m (f x)) xs in omega arith
+
+greatest_bounds : {X : Type 0} (f : X → ℕ) (m : ℕ) (xs : List X) (k : ℕ) (d : X) → k < length xs
+    → f (get_or xs k d) ≤ fold (λ greatest x. max greatest (f x)) m xs
+greatest_bounds f m [] k d there = absurd (omega arith)
+greatest_bounds f m (x ∷ xs) zero d there = let rest = greatest_from f (max m (f x)) xs in omega arith
+greatest_bounds f m (x ∷ xs) (suc k) d there = greatest_bounds f (max m (f x)) xs k d (omega arith)
+
+reached_case : {X : Type 0} (f : X → ℕ) (m g : ℕ) (x : X) (xs : List X) (b : Bool) → eqb (f x) g ≡ b
+    → max m (f x) ≤ g → m < g → (max m (f x) < g → list_any (λ y. eqb (f y) g) xs ≡ true)
+    → list_any (λ y. eqb (f y) g) (x ∷ xs) ≡ true
+reached_case f m g x xs true is most more rest = or_left (eqb (f x) g) (list_any (λ y. eqb (f y) g) xs) is
+reached_case f m g x xs false is most more rest =
+    let differs = eqb-false (f x) g is in
+    or_right (eqb (f x) g) (list_any (λ y. eqb (f y) g) xs) (rest (omega (arith, differs)))
+
+-- if it is above the start somebody has it
+greatest_reached : {X : Type 0} (f : X → ℕ) (m g : ℕ) (xs : List X) → fold (λ greatest x. max greatest (f x)) m xs ≡ g
+    → m < g → list_any (λ y. eqb (f y) g) xs ≡ true
+greatest_reached f m g [] is more = absurd (omega arith)
+greatest_reached f m g (x ∷ xs) is more =
+    let most = greatest_from f (max m (f x)) xs in
+    reached_case f m g x xs (eqb (f x) g) refl (omega (arith, is, most)) more
+    (greatest_reached f (max m (f x)) g xs is)
 
 -- ---- who is turned away
 
@@ -316,24 +370,37 @@ pub room_law : {C : Type 0} (number now : ℕ) (may_grow : Bool) (all : List Rem
     → may_grow ≡ true → length waiting < 8 → entry_of number now may_grow all waiting ≡ TurnedAway → ⊥
 room_law number now may_grow all waiting may few gone =
     room_case (place_of number waiting) (may_grow && ltb (length waiting) 8)
-    (displacement (is_blemished now all number) (last_place (has_blemished now all) waiting))
+    (displacement (rank_of now all number) now all waiting)
     (and_from may_grow (ltb (length waiting) 8) may (lt-ltb (length waiting) 8 few)) gone
 
-welcome_case : (o : Option ℕ) (t b : Bool) (last : Option ℕ) → b ≡ false
-    → entry_at o (cond t Added (displacement b last)) ≡ TurnedAway → last ≡ None
-welcome_case (Some place) t b last clean gone = cc
-welcome_case None true b last clean gone = cc
-welcome_case None false true last clean gone = cc
-welcome_case None false false None clean gone = refl
-welcome_case None false false (Some place) clean gone = cc
+welcome_case : (o : Option ℕ) (t less : Bool) (last : Option ℕ) → less ≡ true
+    → entry_at o (cond t Added (cond less (displaced last) TurnedAway)) ≡ TurnedAway → last ≡ None
+welcome_case (Some place) t less last is gone = cc
+welcome_case None true less last is gone = cc
+welcome_case None false false last is gone = cc
+welcome_case None false true None is gone = refl
+welcome_case None false true (Some place) is gone = cc
 
+not_above : {C : Type 0} (rank now : ℕ) (all : List Remembered) (waiting : List (Guest C))
+    → rank < greatest_rank now all waiting → last_of_greatest now all waiting ≡ None → ⊥
+not_above rank now all waiting less none =
+    let greatest = greatest_rank now all waiting in
+    both_ways (list_any (has_rank greatest now all) waiting) (no_last (has_rank greatest now all) waiting none)
+    (greatest_reached (rank_in now all) 0 greatest waiting refl (omega arith))
+
+-- nobody of a greater rank waits than who is turned away
 pub welcome_law : {C : Type 0} (number now : ℕ) (may_grow : Bool) (all : List Remembered) (waiting : List (Guest C))
-    → is_blemished now all number ≡ false → entry_of number now may_grow all waiting ≡ TurnedAway
-    → All (λ guest. has_blemished now all guest ≡ false) waiting
-welcome_law number now may_grow all waiting clean gone =
-    none_last (has_blemished now all) waiting
-    (welcome_case (place_of number waiting) (may_grow && ltb (length waiting) 8) (is_blemished now all number)
-    (last_place (has_blemished now all) waiting) clean gone)
+    → entry_of number now may_grow all waiting ≡ TurnedAway
+    → All (λ guest. rank_in now all guest ≤ rank_of now all number) waiting
+welcome_law number now may_grow all waiting gone k d there =
+    let rank = rank_of now all number in
+    let greatest = greatest_rank now all waiting in
+    let not_less : ltb rank greatest ≡ false = false_from_ne_true (ltb rank greatest) (λ less.
+    not_above rank now all waiting (ltb-true rank greatest less)
+    (welcome_case (place_of number waiting) (may_grow && ltb (length waiting) 8) (ltb rank greatest)
+    (last_of_greatest now all waiting) less gone)) in
+    let above = ltb-false rank greatest not_less in
+    let below = greatest_bounds (rank_in now all) 0 waiting k d there in omega (arith, above, below)
 
 -- ---- the same list under other names
 

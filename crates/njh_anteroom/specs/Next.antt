@@ -1,18 +1,22 @@
 -- Whom the line is to be given, and what becomes of a connection that comes.
-use Rattle.std.specs.Prelude.{ℕ, suc, ◌&&◌, Bool, true, false, not, List, [], ◌∷◌, length, position, fold, min, nat_le}
+use Rattle.std.specs.Prelude.{ℕ, suc, ◌==◌, ◌&&◌, Bool, List, [], ◌∷◌, length, position, fold, min, max, nat_le}
 use Rattle.std.specs.Prelude.{nat_lt}
 use Rattle.std.specs.Prelude.{cond, remove, slice_get, Option, Some, None}
 use Rattle.std.specs.Option.{option_or, option_and_then, option_map}
 use Rattle.njh_anteroom.specs.Waiting.{number_in, place_of}
-use Rattle.njh_anteroom.specs.Remembered.{is_blemished, until_of}
+use Rattle.njh_anteroom.specs.Remembered.{rank_of, until_of}
 use Rattle.njh_anteroom.specs.declared.entry.Entry.{Entry}
 use Rattle.njh_anteroom.specs.declared.entry.Entry.TheVariants.{Renewed, Added, Displaced, TurnedAway}
 use Rattle.njh_anteroom.specs.declared.guest.Guest.{Guest}
 use Rattle.njh_anteroom.specs.declared.remembered.Remembered.{Remembered}
 
--- the address of one who waits is blemished
-abbrev pub has_blemished : {C : Type 0} → ℕ → List Remembered → Guest C → Bool
-has_blemished now remembered guest = is_blemished now remembered (number_in guest)
+-- the rank of its address
+abbrev pub rank_in : {C : Type 0} → ℕ → List Remembered → Guest C → ℕ
+rank_in now remembered guest = rank_of now remembered (number_in guest)
+
+-- whether it is this one
+abbrev pub has_rank : {C : Type 0} → (rank : ℕ) → ℕ → List Remembered → Guest C → Bool
+has_rank rank now remembered guest = rank_in now remembered guest == rank
 
 -- its pause is over
 abbrev pub has_paused : {C : Type 0} → ℕ → List Remembered → Guest C → Bool
@@ -20,10 +24,11 @@ has_paused now remembered guest = nat_le (until_of remembered (number_in guest))
 
 -- ---- who is next
 
--- The place of the first who is unblemished; if there is none, of the first whose pause is over.
+-- The place of the first who is known; if there is none, of the first who is new; if there is none either, all are
+-- blemished, and it is that of the first whose pause is over.
 abbrev pub next_place : {C : Type 0} → ℕ → List Remembered → List (Guest C) → Option ℕ
 next_place now remembered waiting = option_or
-    (position (λ guest. not (has_blemished now remembered guest)) waiting)
+    (option_or (position (has_rank 0 now remembered) waiting) (position (has_rank 1 now remembered) waiting))
     (position (has_paused now remembered) waiting)
 
 -- who stands there
@@ -47,11 +52,25 @@ abbrev pub last_place : {X : Type 0} → (X → Bool) → List X → Option ℕ
 last_place test [] = None
 last_place test (x ∷ xs) = option_or (option_map suc (last_place test xs)) (cond (test x) (Some 0) None)
 
--- One who is unblemished takes the place of the last blemished who waits; all others are turned away.
-abbrev pub displacement : (is_blemished : Bool) → (last_blemished : Option ℕ) → Entry
-displacement true last = TurnedAway
-displacement false None = TurnedAway
-displacement false (Some place) = Displaced place
+-- the greatest rank of those who wait; 0 if nobody does
+abbrev pub greatest_rank : {C : Type 0} → ℕ → List Remembered → List (Guest C) → ℕ
+greatest_rank now remembered waiting = fold (λ greatest guest. max greatest (rank_in now remembered guest)) 0 waiting
+
+-- the place of the last who has it
+abbrev pub last_of_greatest : {C : Type 0} → ℕ → List Remembered → List (Guest C) → Option ℕ
+last_of_greatest now remembered waiting =
+    last_place (has_rank (greatest_rank now remembered waiting) now remembered) waiting
+
+abbrev pub displaced : Option ℕ → Entry
+displaced None = TurnedAway
+displaced (Some place) = Displaced place
+
+-- One of a rank that is less than the greatest takes the place of the last who has that; all others are turned away.
+abbrev pub displacement : {C : Type 0} → (rank : ℕ) → ℕ → List Remembered → List (Guest C) → Entry
+displacement rank now remembered waiting =
+    cond (nat_lt rank (greatest_rank now remembered waiting))
+    (displaced (last_of_greatest now remembered waiting))
+    TurnedAway
 
 -- where a connection of its address waits already it takes that place
 abbrev pub entry_at : Option ℕ → (otherwise : Entry) → Entry
@@ -64,4 +83,4 @@ entry_of number now may_grow remembered waiting =
     entry_at (place_of number waiting)
     (cond (may_grow && nat_lt (length waiting) 8)
     Added
-    (displacement (is_blemished now remembered number) (last_place (has_blemished now remembered) waiting)))
+    (displacement (rank_of now remembered number) now remembered waiting))

@@ -1,7 +1,8 @@
 -- What is remembered of addresses. Moments and pauses are milliseconds.
 use Rattle.std.specs.Prelude.{◌≡◌, ℕ, ◌+◌, ◌-◌, ◌*◌, ◌≤◌, ◌==◌, ◌||◌, Bool, true, false, not, List, [], ◌∷◌, ◌++◌}
 use Rattle.std.specs.Prelude.{length}
-use Rattle.std.specs.Prelude.{drop, filter, find, map, min, max, nat_lt, cond, if◌then◌else◌, Option, Some, None}
+use Rattle.std.specs.Prelude.{filter, find, map, min, max, nat_lt, cond, if◌then◌else◌, Option, Some, None, position}
+use Rattle.std.specs.Prelude.{remove, unwrap_or}
 use Rattle.std.specs.List.{list_any}
 use Rattle.std.specs.Option.{option_map_or}
 use Rattle.std.specs.declared.net.ip_addr.IpAddr.{IpAddr}
@@ -9,7 +10,14 @@ use Rattle.njh_anteroom.specs.Addresses.{are_distinct, is_loopback, number_of}
 use Rattle.njh_anteroom.specs.declared.remembered.Remembered.{Remembered}
 
 abbrev pub new_remembered : IpAddr → Remembered
-new_remembered address = record { address = address; refusals = 0; refused = None; pause = 0; until = 0 }
+new_remembered address = record {
+  address = address;
+  had_session = false;
+  refusals = 0;
+  refused = None;
+  pause = 0;
+  until = 0;
+}
 
 -- of the address with this number
 abbrev pub is_of : ℕ → Remembered → Bool
@@ -18,7 +26,7 @@ is_of number r = number_of r.address == number
 abbrev pub remembered_of : ℕ → List Remembered → Option Remembered
 remembered_of number all = find (is_of number) all
 
--- ---- who is blemished
+-- ---- the rank of an address
 
 -- there is such a moment, in the last minute
 abbrev pub is_recent : ℕ → Option ℕ → Bool
@@ -29,9 +37,13 @@ is_recent now (Some moment) = nat_lt (now - moment) 60000
 abbrev pub has_blemish : ℕ → Remembered → Bool
 has_blemish now r = is_recent now r.refused || nat_lt now r.until
 
--- the address with this number
-abbrev pub is_blemished : ℕ → List Remembered → ℕ → Bool
-is_blemished now all number = option_map_or (has_blemish now) (remembered_of number all) false
+-- 0, known: a session was up on a connection of it; 1, new: no session is known; 2, blemished, whatever was before
+abbrev pub rank_at : ℕ → Remembered → ℕ
+rank_at now r = cond (has_blemish now r) 2 (cond r.had_session 0 1)
+
+-- The rank of the address with this number. One of which nothing is remembered is new.
+abbrev pub rank_of : ℕ → List Remembered → ℕ → ℕ
+rank_of now all number = option_map_or (rank_at now) (remembered_of number all) 1
 
 -- until when its pause runs
 abbrev pub until_of : List Remembered → ℕ → ℕ
@@ -48,6 +60,7 @@ pause_after now r = if nat_lt (now - r.until) 60000 then min (max (2 * r.pause) 
 abbrev pub after_end : (was_refused : Bool) → (now : ℕ) → Remembered → Remembered
 after_end was_refused now r = record {
   address = r.address;
+  had_session = r.had_session;
   refusals = if was_refused then min (r.refusals + 1) 18446744073709551615 else r.refusals;
   refused = if was_refused then Some now else r.refused;
   pause = pause_after now r;
@@ -56,16 +69,20 @@ after_end was_refused now r = record {
 
 -- a session came up
 abbrev pub after_session : Remembered → Remembered
-after_session r = record r { pause = 0; until = 0 }
+after_session r = record r { had_session = true; pause = 0; until = 0 }
 
 -- ---- who is remembered
 
 abbrev pub without : ℕ → List Remembered → List Remembered
 without number all = filter (λ r. not (is_of number r)) all
 
--- of 64 the one that was noted longest ago goes
+-- the place of the one that was noted longest ago among those without a session, and among all if each had one
+abbrev pub first_to_go : List Remembered → ℕ
+first_to_go all = unwrap_or (position (λ r. not r.had_session) all) 0
+
+-- of 64 that one goes
 abbrev pub with_room : List Remembered → List Remembered
-with_room all = cond (nat_lt (length all) 64) all (drop 1 all)
+with_room all = cond (nat_lt (length all) 64) all (remove all (first_to_go all))
 
 -- this is remembered, behind all others, in place of what was remembered of its address
 abbrev pub noted : Remembered → List Remembered → List Remembered
@@ -81,13 +98,10 @@ abbrev pub ended : IpAddr → (was_refused : Bool) → (now : ℕ) → List Reme
 ended address was_refused now all = cond (is_loopback (number_of address)) all
     (noted (after_end was_refused now (remembered_or_new address (remembered_of (number_of address) all))) all)
 
-abbrev pub rested : Option Remembered → List Remembered → List Remembered
-rested None all = all
-rested (Some r) all = noted (after_session r) all
-
--- an address had a session
+-- A session came up on a connection of an address. Nothing is remembered of loopback.
 abbrev pub with_session : IpAddr → List Remembered → List Remembered
-with_session address all = rested (remembered_of (number_of address) all) all
+with_session address all = cond (is_loopback (number_of address)) all
+    (noted (after_session (remembered_or_new address (remembered_of (number_of address) all))) all)
 
 -- ---- what always holds
 

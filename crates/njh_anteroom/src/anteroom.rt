@@ -1,11 +1,11 @@
 //! The anteroom of a line that listens.
 
-ghost use Rattle.std.specs.Prelude.{◌≡◌, ◌≢◌, ◌<◌, ◌≤◌, All, IfOk, IfSome, IsSome, false, length, true};
+ghost use Rattle.std.specs.Prelude.{◌≡◌, ◌≢◌, ◌<◌, ◌≤◌, All, IfOk, IfSome, IsSome, length, true};
 ghost use Rattle.std.specs.Net.Socket.{socket_ip};
 ghost use Rattle.njh_anteroom.specs.Addresses.{number_of};
-ghost use Rattle.njh_anteroom.specs.Next.{displacement, entry_of, first_moment, guest_at, has_blemished, last_place};
-ghost use Rattle.njh_anteroom.specs.Next.{next_place, without_place};
-ghost use Rattle.njh_anteroom.specs.Remembered.{ended, is_blemished, with_session, IsMemory};
+ghost use Rattle.njh_anteroom.specs.Next.{displacement, entry_of, first_moment, guest_at, next_place, rank_in};
+ghost use Rattle.njh_anteroom.specs.Next.{without_place};
+ghost use Rattle.njh_anteroom.specs.Remembered.{ended, rank_of, with_session, IsMemory};
 ghost use Rattle.njh_anteroom.specs.Rooms.{empty_room};
 ghost use Rattle.njh_anteroom.specs.Waiting.{seated, IsQueue};
 ghost use Rattle.njh_anteroom.specs.code.Seats.{Fits, IsFree};
@@ -20,8 +20,10 @@ use std::marker::Model;
 use std::net::{IpAddr, SocketAddr};
 
 /// The anteroom of a line that listens. At most eight connections wait, in the order in which they
-/// came; of up to 64 addresses it is remembered what came of their connections. All its memory is
-/// taken at once.
+/// came; of up to 64 addresses it is remembered what came of their connections. By that an address
+/// is known, if a session was up on a connection of it, or new; or, whatever was before, blemished,
+/// if a sign-on was refused in the last minute or its pause still runs. All its memory is taken at
+/// once.
 #[derive(Drop)]
 pub struct Anteroom<C: Drop> {
     queue: Queue<C>,
@@ -74,11 +76,10 @@ impl<C: Drop> Anteroom<C> {
             ≡ seated result (record { connection = connection; address = address; since = now }) self.old.waiting }
         ensures remembered { self.new.remembered ≡ self.old.remembered }
 
-        // Nobody is turned away while there is room, and nobody unblemished while a blemished one waits.
+        // Nobody is turned away while there is room, or while one of a greater rank waits.
         ensures room { may_grow ≡ true → length self.old.waiting < 8 → result ≢ Entry.TurnedAway }
-        ensures welcome { is_blemished now self.old.remembered (number_of (socket_ip address)) ≡ false
-            → result ≡ Entry.TurnedAway
-            → All (λ guest. has_blemished now self.old.remembered guest ≡ false) self.old.waiting }
+        ensures welcome { result ≡ Entry.TurnedAway → All (λ guest. rank_in now self.old.remembered guest
+            ≤ rank_of now self.old.remembered (number_of (socket_ip address))) self.old.waiting }
     {
         let guest = Guest {
             connection,
@@ -109,30 +110,30 @@ impl<C: Drop> Anteroom<C> {
 
     /// Whether one from the address with this number takes the place of another.
     fn displacement(&self, number: u128, now: u64) -> Entry
-        ensures entry { result ≡ displacement (is_blemished now self.now.remembered number)
-            (last_place (has_blemished now self.now.remembered) self.now.waiting) }
+        ensures entry { result
+            ≡ displacement (rank_of now self.now.remembered number) now self.now.remembered self.now.waiting }
         ensures fits { IsFree number self.now.waiting → Fits result number self.now.waiting }
     {
-        if self.memory.is_blemished(number, now) {
+        if self.queue.greatest_rank(&self.memory, now) <= self.memory.rank(number, now) {
             return Entry::TurnedAway;
         }
-        match self.queue.last_blemished(&self.memory, now) {
+        match self.queue.last_of_greatest(&self.memory, now) {
             Some(place) => Entry::Displaced(place),
             None => Entry::TurnedAway,
         }
     }
 
-    /// Takes out whom the line is to be given: the first whose address is unblemished; if there is
-    /// none, the first whose pause is over.
+    /// Takes out whom the line is to be given: the first who is known; if there is none, the first who
+    /// is new; if there is none either, the first whose pause is over.
     pub fn next(&mut self, now: u64) -> Option<Guest<C>>
         ensures guest { result ≡ guest_at (next_place now self.old.remembered self.old.waiting) self.old.waiting }
         ensures waiting { self.new.waiting
             ≡ without_place (next_place now self.old.remembered self.old.waiting) self.old.waiting }
         ensures remembered { self.new.remembered ≡ self.old.remembered }
 
-        // No stranger before the right peer, and nobody waits beyond the first moment.
-        ensures first { IfSome result (λ one. has_blemished now self.old.remembered one ≡ true
-            → All (λ guest. has_blemished now self.old.remembered guest ≡ true) self.old.waiting) }
+        // Nobody of a lesser rank waits than who is given the line, and nobody waits beyond the first moment.
+        ensures first { IfSome result (λ one. All (λ guest. rank_in now self.old.remembered one
+            ≤ rank_in now self.old.remembered guest) self.old.waiting) }
         ensures due { IsSome result → first_moment self.old.remembered self.old.waiting ≤ now }
         ensures in_time { first_moment self.old.remembered self.old.waiting ≤ now → now < 18446744073709551615
             → IsSome result }
@@ -159,7 +160,8 @@ impl<C: Drop> Anteroom<C> {
         self.memory.end(address, was_refused, now);
     }
 
-    /// An address had a session: its next pause is the shortest again.
+    /// A session came up on a connection of an address: that is known from now on, and its next pause
+    /// is the shortest again.
     pub fn session(&mut self, address: IpAddr)
         ensures remembered { self.new.remembered ≡ with_session address self.old.remembered }
         ensures waiting { self.new.waiting ≡ self.old.waiting }

@@ -1,12 +1,12 @@
 //! What is remembered of addresses.
 
-ghost use Rattle.std.specs.Prelude.{◌≡◌, ◌<◌, false, length, IfOk, IfSome};
+ghost use Rattle.std.specs.Prelude.{◌≡◌, ◌<◌, false, length, not, position, IfOk, IfSome};
 ghost use Rattle.njh_anteroom.specs.Addresses.{is_loopback, number_of};
-ghost use Rattle.njh_anteroom.specs.Remembered.{ended, is_blemished, noted, remembered_of, remembered_or_new};
+ghost use Rattle.njh_anteroom.specs.Remembered.{ended, first_to_go, noted, rank_of, remembered_of, remembered_or_new};
 ghost use Rattle.njh_anteroom.specs.Remembered.{until_of, with_room, with_session, without, IsMemory};
 
 use crate::address::{is_loopback, number_of};
-use crate::remembered::Remembered;
+use crate::remembered::{NEW, Remembered};
 use std::alloc::{AllocError, Global};
 use std::marker::Model;
 use std::net::IpAddr;
@@ -61,14 +61,13 @@ impl Memory {
         found(&self.seen, number)
     }
 
-    /// Whether the address with this number is blemished: a sign-on was refused in the last minute,
-    /// or its pause still runs.
-    pub(crate) fn is_blemished(&self, number: u128, now: u64) -> bool
-        ensures { result ≡ is_blemished now self.now number }
+    /// The rank of the address with this number. One of which nothing is remembered is new.
+    pub(crate) fn rank(&self, number: u128, now: u64) -> u8
+        ensures { result ≡ rank_of now self.now number }
     {
         match self.find(number) {
-            Some(remembered) => remembered.has_blemish(now),
-            None => false,
+            Some(remembered) => remembered.rank(now),
+            None => NEW,
         }
     }
 
@@ -105,14 +104,15 @@ impl Memory {
         }
     }
 
-    /// An address had a session.
+    /// A session came up on a connection of an address. Nothing is remembered of loopback.
     pub(crate) fn session(&mut self, address: IpAddr)
         ensures { self.new ≡ with_session address self.old }
     {
-        match self.find(number_of(address)) {
-            Some(remembered) => self.note(remembered.after_session()),
-            None => {}
+        if is_loopback(number_of(address)) {
+            return;
         }
+        let before = self.find_or_new(address);
+        self.note(before.after_session());
     }
 
     /// Notes what is remembered of an address from now on.
@@ -132,15 +132,33 @@ impl Memory {
         self.seen.retain(|remembered| !remembered.is_of(number));
     }
 
-    /// Lets go what was noted longest ago if there is no room for one more.
+    /// Lets go the first to go if there is no room for one more.
     fn make_room(&mut self)
         ensures room { length self.new < 64 }
         ensures rest { self.new ≡ with_room self.old }
     {
         if self.seen.len() >= ROOM {
-            self.seen.remove(0);
+            let place = first_to_go(&self.seen);
+            self.seen.remove(place);
         }
     }
+}
+
+/// Where the one stands that was noted longest ago among those without a session; among all if each
+/// had one.
+fn first_to_go(all: &[Remembered]) -> usize
+    ensures place { result ≡ first_to_go all.now }
+    ensures within { 0 < length all.now → result < length all.now }
+{
+    first_without_session(all).unwrap_or(0)
+}
+
+/// Where the first stands of which no session is known.
+fn first_without_session(all: &[Remembered]) -> Option<usize>
+    ensures place { result ≡ position (λ r. not r.had_session) all.now }
+    ensures within { IfSome result (λ place. place < length all.now) }
+{
+    all.iter().position(|remembered| !remembered.had_session)
 }
 
 /// What is remembered of the address with this number.

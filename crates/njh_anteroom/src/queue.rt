@@ -1,7 +1,7 @@
 //! Who waits, in the order in which they came.
 
 ghost use Rattle.std.specs.Prelude.{◌≡◌, ◌<◌, length, nat_lt, slice_get, IfOk, IfSome};
-ghost use Rattle.njh_anteroom.specs.Next.{first_moment, has_blemished, last_place, next_place};
+ghost use Rattle.njh_anteroom.specs.Next.{first_moment, greatest_rank, last_of_greatest, next_place};
 ghost use Rattle.njh_anteroom.specs.Waiting.{number_in, place_of, seated, IsQueue};
 ghost use Rattle.njh_anteroom.specs.code.Seats.{Fits, IsFree};
 
@@ -9,7 +9,7 @@ use crate::address::is_loopback;
 use crate::entry::Entry;
 use crate::guest::Guest;
 use crate::memory::Memory;
-use crate::order::{first_moment, first_paused, first_unblemished, last_blemished, place_from};
+use crate::order::{first_moment, greatest_rank, last_of_rank, next_place, place_from};
 use std::alloc::{AllocError, Global};
 use std::marker::Model;
 
@@ -76,24 +76,29 @@ impl<C: Drop> Queue<C> {
         }
     }
 
-    /// Where the last stands whose address is blemished.
-    pub(crate) fn last_blemished(&self, memory: &Memory, now: u64) -> Option<usize>
-        ensures last { result ≡ last_place (has_blemished now memory.now) self.now }
-        ensures within { IfSome result (λ place. place < length self.now) }
+    /// The greatest rank of those who wait; 0 if nobody does.
+    pub(crate) fn greatest_rank(&self, memory: &Memory, now: u64) -> u8
+        ensures { result ≡ greatest_rank now memory.now self.now }
     {
-        last_blemished(&self.guests, memory, now)
+        greatest_rank(&self.guests, memory, now)
     }
 
-    /// Where who is next stands: the first whose address is unblemished; if there is none, the first
-    /// whose pause is over.
+    /// Where the last stands who has it.
+    pub(crate) fn last_of_greatest(&self, memory: &Memory, now: u64) -> Option<usize>
+        ensures last { result ≡ last_of_greatest now memory.now self.now }
+        ensures within { IfSome result (λ place. place < length self.now) }
+    {
+        let greatest = self.greatest_rank(memory, now);
+        last_of_rank(&self.guests, memory, now, greatest)
+    }
+
+    /// Where who is next stands: the first who is known; if there is none, the first who is new; if
+    /// there is none either, the first whose pause is over.
     pub(crate) fn next_place(&self, memory: &Memory, now: u64) -> Option<usize>
         ensures place { result ≡ next_place now memory.now self.now }
         ensures within { IfSome result (λ place. place < length self.now) }
     {
-        match first_unblemished(&self.guests, memory, now) {
-            Some(place) => Some(place),
-            None => first_paused(&self.guests, memory, now),
-        }
+        next_place(&self.guests, memory, now)
     }
 
     /// When the first may be given the line, if nothing else happens.

@@ -2,8 +2,7 @@
 
 ghost use Rattle.std.specs.Prelude.{◌≡◌};
 ghost use Rattle.njh_anteroom.specs.Remembered.{after_end, after_session, has_blemish, is_of, is_recent};
-ghost use Rattle.njh_anteroom.specs.Remembered.{new_remembered};
-ghost use Rattle.njh_anteroom.specs.Remembered.{pause_after};
+ghost use Rattle.njh_anteroom.specs.Remembered.{new_remembered, pause_after, rank_at};
 
 use crate::address::number_of;
 use std::net::IpAddr;
@@ -17,11 +16,23 @@ const LONGEST_PAUSE: u64 = 60_000;
 /// For how long a refusal is held against an address, and the length of a pause after it ended.
 const MINUTE: u64 = 60_000;
 
+/// The rank of an address on a connection of which a session was up.
+pub(crate) const KNOWN: u8 = 0;
+
+/// The rank of an address of which no session is known.
+pub(crate) const NEW: u8 = 1;
+
+/// The rank of an address of which a sign-on was refused in the last minute, or whose pause still
+/// runs.
+pub(crate) const BLEMISHED: u8 = 2;
+
 /// What is remembered of an address. Moments are milliseconds.
 #[derive(Clone, Copy)]
 pub struct Remembered {
     /// The address.
     pub address: IpAddr,
+    /// Whether a session was up on a connection of it.
+    pub had_session: bool,
     /// How many of its sign-ons were refused.
     pub refusals: u64,
     /// When the last of them was, if there is one.
@@ -39,6 +50,7 @@ impl Remembered {
     {
         Remembered {
             address,
+            had_session: false,
             refusals: 0,
             refused: None,
             pause: 0,
@@ -53,8 +65,21 @@ impl Remembered {
         number_of(self.address) == number
     }
 
+    /// Its rank.
+    pub(crate) fn rank(&self, now: u64) -> u8
+        ensures { result ≡ rank_at now self.now }
+    {
+        if self.has_blemish(now) {
+            BLEMISHED
+        } else if self.had_session {
+            KNOWN
+        } else {
+            NEW
+        }
+    }
+
     /// Whether a sign-on was refused in the last minute, or the pause still runs.
-    pub(crate) fn has_blemish(&self, now: u64) -> bool
+    fn has_blemish(&self, now: u64) -> bool
         ensures { result ≡ has_blemish now self.now }
     {
         self.was_refused(now) || now < self.until
@@ -79,6 +104,7 @@ impl Remembered {
         if was_refused {
             Remembered {
                 address: self.address,
+                had_session: self.had_session,
                 refusals: self.refusals.saturating_add(1),
                 refused: Some(now),
                 pause,
@@ -112,6 +138,7 @@ impl Remembered {
         ensures { result ≡ after_session self }
     {
         Remembered {
+            had_session: true,
             pause: 0,
             until: 0,
             ..self

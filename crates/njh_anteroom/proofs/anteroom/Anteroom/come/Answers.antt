@@ -1,5 +1,5 @@
-use Rattle.std.proofs.Common.{◌∙◌, ap, sym}
-use Rattle.njh_anteroom.specs.Remembered.{is_blemished}
+use Rattle.std.proofs.Common.{◌∙◌, ap, arith, sym}
+use Rattle.njh_anteroom.specs.Remembered.{rank_of}
 use Rattle.njh_anteroom.proofs.QueueLaws.{room_law, welcome_law}
 use Rattle.njh_anteroom.proofs.anteroom.Anteroom.come.Goals as goal
 
@@ -10,6 +10,8 @@ returns-clause-room g c =
 
 pub returns-clause-welcome : goal.returns-clause-welcome
 returns-clause-welcome g c =
-    λ clean gone. welcome_law c.number.result c.args.now c.args.may_grow c.args.self.now.remembered
-    c.args.self.now.waiting (ap (is_blemished c.args.now c.args.self.now.remembered) c.number.ensures ∙ clean)
-    (sym c.entry_of-entry.ensures.entry ∙ gone)
+    λ gone k d there.
+    let remembered = c.args.self.now.remembered in
+    let most = welcome_law c.number.result c.args.now c.args.may_grow remembered c.args.self.now.waiting
+    (sym c.entry_of-entry.ensures.entry ∙ gone) k d there in
+    let same = ap (rank_of c.args.now remembered) c.number.ensures in omega (arith, most, same)
