@@ -15,7 +15,7 @@ use njh_presence::SpoolFaults;
 use njh_record::Kind;
 use njh_request::{EndMoment, RequestRefusal};
 use std::fmt;
-use std::net::SocketAddr;
+use std::net::{IpAddr, SocketAddr};
 
 /// A blank in EBCDIC.
 const BLANK: u8 = 0x40;
@@ -31,6 +31,9 @@ pub enum LogEvent {
     ListenFailed(SocketAddr, ListenCause),
     /// The port of this address is listened on: from the start on, or now that it can be.
     Listening(SocketAddr),
+    /// Anybody who reaches this port may sign on: it is listened on beyond this machine, and its
+    /// line has no password and doesn't say from where it takes connections.
+    OpenToAll(u16),
     /// This address is dialled.
     Dials(SocketAddr),
     /// The peer ended the connection, or the hub did after the tries.
@@ -43,8 +46,12 @@ pub enum LogEvent {
     DialFailed(SocketAddr),
     /// A connection that waits could not be taken.
     AcceptFailed,
+    /// So many connections were closed as they came, for this reason, since it was told last.
+    TurnedAway(Rebuff, u64),
     /// A sign-on was refused, for this reason: it doesn't fit, or none came where one was due.
     SignOnRefused(Refusal),
+    /// So many from this address were refused so far, and the last of them for this reason.
+    SignOnsRefused(Refusal, IpAddr, u64),
     /// A connection is without a session for ten seconds, or for a minute more, and this is due.
     NoSession(Awaited),
     /// The session went up or down.
@@ -111,6 +118,15 @@ pub enum ConnectionFailure {
     Replaced,
 }
 
+/// Why a connection was closed as it came.
+#[derive(Clone, Copy, Debug, Drop, PartialEq, Eq)]
+pub enum Rebuff {
+    /// Its address isn't one of those from which the line takes connections.
+    NotAllowed,
+    /// So many wait on the line that it has no place for a further one.
+    NoRoom,
+}
+
 /// A change of a line's session.
 #[derive(Clone, Copy, Drop)]
 pub enum SessionChange {
@@ -156,14 +172,30 @@ impl fmt::Display for LogEvent {
                 "can't listen on {address}: {cause}"
             ),
             LogEvent::Listening(address) => write!(f, "listens on {address}"),
+            LogEvent::OpenToAll(port) => write!(f, "anybody who reaches port {port} may sign on"),
             LogEvent::Dials(address) => write!(f, "dials {address}"),
             LogEvent::Closed => write!(f, "closed"),
             LogEvent::ClosedEarly => write!(f, "closed before a session was up"),
             LogEvent::Failed(failure) => write!(f, "failed: {failure}"),
             LogEvent::DialFailed(address) => write!(f, "no connection to {address}"),
             LogEvent::AcceptFailed => write!(f, "a connection could not be taken"),
+            LogEvent::TurnedAway(rebuff, 1) => write!(f, "a connection was closed: {rebuff}"),
+            LogEvent::TurnedAway(rebuff, count) => {
+                write!(f, "{count} connections were closed: {rebuff}")
+            }
             LogEvent::SignOnRefused(refusal) => {
                 write!(f, "sign-on refused: {}", RefusalText(*refusal))
+            }
+            LogEvent::SignOnsRefused(refusal, address, 1) => {
+                let why = RefusalText(*refusal);
+                write!(f, "sign-on refused: {why}, from {address}")
+            }
+            LogEvent::SignOnsRefused(refusal, address, count) => {
+                let why = RefusalText(*refusal);
+                write!(
+                    f,
+                    "sign-on refused: {why}, from {address}, the last of {count} from there"
+                )
             }
             LogEvent::NoSession(due) => write!(f, "{due}"),
             LogEvent::SessionChanged(change) => write!(f, "{change}"),
@@ -227,6 +259,15 @@ impl fmt::Display for ConnectionFailure {
             ConnectionFailure::Broken => "a read or a write failed",
             ConnectionFailure::Stalled => "the peer did not take its bytes within a second",
             ConnectionFailure::Replaced => "replaced by another connection",
+        })
+    }
+}
+
+impl fmt::Display for Rebuff {
+    fn fmt<W: fmt::Write>(&self, f: &mut fmt::Formatter<W>) -> fmt::Result {
+        f.write_str(match self {
+            Rebuff::NotAllowed => "not from where the line takes them",
+            Rebuff::NoRoom => "too many waited",
         })
     }
 }

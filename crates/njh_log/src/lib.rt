@@ -18,7 +18,7 @@ mod severity;
 
 pub use awaited::Awaited;
 pub use command_line::CommandLine;
-pub use entry::{ConnectionFailure, DownCause, FileLine, LogEvent, SessionChange};
+pub use entry::{ConnectionFailure, DownCause, FileLine, LogEvent, Rebuff, SessionChange};
 pub use heading::{Heading, Place};
 pub use last_frame::LastFrame;
 pub use line_text::LineText;

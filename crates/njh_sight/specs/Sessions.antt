@@ -1,6 +1,7 @@
 -- When a line is in a session, and how a session ended.
-use Rattle.std.specs.Prelude.{ℕ, zero, suc, ◌+◌, ◌-◌, ◌<◌, Bool, true, false, ◌&&◌, ◌==◌, nat_lt, min, if◌then◌else◌}
-use Rattle.std.specs.Prelude.{Option, Some, None, List}
+use Rattle.std.specs.Prelude.{ℕ, zero, suc, ◌+◌, ◌-◌, ◌<◌, Bool, true, false, ◌&&◌, ◌==◌, nat_lt, min}
+use Rattle.std.specs.Prelude.{if◌then◌else◌, Option, Some, None, List}
+use Rattle.std.specs.declared.net.ip_addr.IpAddr.{IpAddr}
 use Rattle.njh_line.specs.declared.Phase.{Phase}
 use Rattle.njh_line.specs.declared.Phase.TheVariants.{Down, Calling, Answered, SentI, Up}
 use Rattle.njh_line.specs.declared.ending.SessionEnd as line
@@ -98,6 +99,11 @@ after_session label session end now = record (after_step label session end now) 
 abbrev pub refusal_event : Option Refusal → LogEvent
 refusal_event (Some refusal) = events.SignOnRefused refusal
 refusal_event None = events.SignOnRefused refusals.NoSignOn
+
+-- the same, with the address from which it came and with how many from there were refused so far
+abbrev pub refusals_event : Option Refusal → IpAddr → (count : ℕ) → LogEvent
+refusals_event (Some refusal) address count = events.SignOnsRefused refusal address count
+refusals_event None address count = events.SignOnsRefused refusals.NoSignOn address count
 
 -- one was refused since so many were
 abbrev pub HasRefusedMore : (seen : ℕ) → SessionView → Type 0

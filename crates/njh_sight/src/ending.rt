@@ -2,13 +2,14 @@
 
 ghost use Rattle.std.specs.Prelude.{◌≡◌};
 ghost use Rattle.njh_sight.specs.Sessions.{is_session, is_up, no_session_since, session_change, session_end};
-ghost use Rattle.njh_sight.specs.Sessions.{end_after, in_session_after, refusal_event, tries_end, tries_since};
-ghost use Rattle.njh_sight.specs.Sessions.{last_frame, up_since};
+ghost use Rattle.njh_sight.specs.Sessions.{end_after, in_session_after, refusal_event, refusals_event, tries_end};
+ghost use Rattle.njh_sight.specs.Sessions.{last_frame, tries_since, up_since};
 
 use njh_ebcdic::Name;
 use njh_line::{Phase, Refusal};
 use njh_log::{DownCause, LastFrame, LogEvent, SessionChange};
 use njh_wire::LastBytes;
+use std::net::IpAddr;
 
 /// Whether a line in this phase is in a session.
 pub(crate) fn is_session(phase: Phase) -> bool
@@ -116,6 +117,13 @@ pub fn refusal_event(last_refusal: Option<Refusal>) -> LogEvent
     ensures { result ≡ refusal_event last_refusal }
 {
     LogEvent::SignOnRefused(last_refusal.unwrap_or(Refusal::NoSignOn))
+}
+
+/// What is told of the last sign-on that was refused from an address, and of how many were.
+pub fn refusals_event(last_refusal: Option<Refusal>, address: IpAddr, count: u64) -> LogEvent
+    ensures { result ≡ refusals_event last_refusal address count }
+{
+    LogEvent::SignOnsRefused(last_refusal.unwrap_or(Refusal::NoSignOn), address, count)
 }
 
 /// The change of a session with this node that was up or wasn't, and is now; if it is down, it ended
