@@ -107,7 +107,8 @@ fn connect<N: Network + Drop, L: Write + Drop>(
     ensures taken { N.Connection.place_of connection ≡ wire.old.place →
         wire.new ≡ record (after_admission connection (after_displacement wire.old)) { end = None } }
     ensures came { N.Connection.place_of connection ≡ wire.old.place →
-        (label.new.no_session_since ≡ surroundings.old.now) × (label.new.in_session ≡ false) }
+        (label.new.no_session_since ≡ surroundings.old.now) × ((label.new.in_session ≡ false)
+        × (label.new.had_session ≡ false)) }
 {
     if connection.place() != wire.place() {
         return;
@@ -118,6 +119,7 @@ fn connect<N: Network + Drop, L: Write + Drop>(
     }
     // That the session before used up its tries ends its own connection, and not this one.
     label.in_session = false;
+    label.had_session = false;
     label.no_session_since = surroundings.now;
     label.connected_since = surroundings.now;
     label.awaits_again = 0;
@@ -139,7 +141,7 @@ pub(crate) fn drive<N: Network + Drop, L: Write + Drop>(
     ensures customers { surroundings.new.customers ≡ surroundings.old.customers }
     ensures address { dial.new.address ≡ dial.old.address }
     ensures begun { IsToCome dial.old.state surroundings.old.now → (dial_moment dial.new.state ≡ given_up_at surroundings.old.now)
-        ⊎ (dial_moment dial.new.state ≡ next_dial dial.old.has_failed surroundings.old.now) }
+        ⊎ (dial_moment dial.new.state ≡ next_dial dial.old.has_failed dial.old.pause surroundings.old.now) }
     ensures idle { ¬ IsToCome dial.old.state surroundings.old.now → connection_in dial.old.state ≡ None →
         wire.new ≡ wire.old }
 {

@@ -3,7 +3,7 @@
 ghost use Rattle.std.specs.Prelude.{◌≡◌};
 ghost use Rattle.std.specs.declared.net.socket_addr.SocketAddr.{SocketAddr};
 ghost use Rattle.njh_request.specs.declared.request.LineState.TheVariants.{Started};
-ghost use Rattle.njh_sites.specs.Dialling.{moment_of_loss};
+ghost use Rattle.njh_sites.specs.Dialling.{moment_of_loss, site_lost};
 ghost use Rattle.njh_sites.specs.Opened.{site_kept, site_opened};
 ghost use Rattle.njh_sight.specs.Sessions.{after_session, after_step};
 ghost use Rattle.njh_lines.specs.Connecting.{moment_behind, moment_seen};
@@ -142,13 +142,15 @@ impl<Li: Drop, C: Drop> Post<Li, C> {
         ensures state { self.new.state ≡ self.old.state }
         ensures site { (address_of : Li → SocketAddr)
             → site_kept address_of self.new.site ≡ site_kept address_of self.old.site }
-        ensures moment { self.new.moment ≡ moment_of_loss self.old.site self.old.moment now }
+        ensures lost { self.new.site ≡ site_lost self.old.label.had_session self.old.site now }
+        ensures moment { self.new.moment
+            ≡ moment_of_loss self.old.label.had_session self.old.site self.old.moment now }
         ensures label { self.new.label ≡ self.old.label }
     {
         match &mut self.site {
             Site::Listens(_) => self.moment = self.moment.min(now),
             Site::Dials(dial) => {
-                dial.lose(now);
+                dial.lose(self.label.had_session, now);
                 self.moment = dial.moment();
             }
         }

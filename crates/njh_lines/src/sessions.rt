@@ -10,7 +10,8 @@ ghost use Rattle.njh_sites.specs.Dialling.{moment_of_loss};
 ghost use Rattle.njh_sites.specs.Opened.{site_kept};
 ghost use Rattle.njh_sight.specs.Awaiting.{awaits_again, told_awaited};
 ghost use Rattle.njh_sight.specs.News.{after_telling, told_now, IsTold};
-ghost use Rattle.njh_sight.specs.Sessions.{after_step, barred_until, news_seen, session_end, tries_end, HasRefused};
+ghost use Rattle.njh_sight.specs.Sessions.{after_step, barred_until, had_session, news_seen, session_end};
+ghost use Rattle.njh_sight.specs.Sessions.{tries_end, HasRefused};
 ghost use Rattle.njh_sight.specs.Steps.{steps_after};
 ghost use Rattle.njh_lines.specs.Wires.{IsLeft};
 ghost use Rattle.njh_lines.specs.Connecting.{moment_seen, silence_of, IsConnected, IsInSession, IsReady};
@@ -48,7 +49,8 @@ pub(crate) fn look<N: Network + Drop, L: Write + Drop>(
     ensures moment { HasLine hub.now post.old.line →
         let session = line_view (hub_line post.old.line hub.now).state in
         let moment = moment_seen post.old.label session surroundings.old.now post.old.moment in
-        (post.new.moment ≡ moment) ⊎ (post.new.moment ≡ moment_of_loss post.old.site moment surroundings.old.now) }
+        (post.new.moment ≡ moment) ⊎ (post.new.moment
+        ≡ moment_of_loss (had_session post.old.label session) post.old.site moment surroundings.old.now) }
     ensures told { IsTold post.new.label.news surroundings.old.now }
     ensures ends { HasLine hub.now post.old.line →
         ¬ (IsInSession post.old.label.in_session wire.old × HasGivenUp hub.now post.old.line) →

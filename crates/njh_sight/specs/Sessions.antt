@@ -1,5 +1,5 @@
 -- When a line is in a session, and how a session ended.
-use Rattle.std.specs.Prelude.{ℕ, zero, suc, ◌+◌, ◌-◌, ◌<◌, Bool, true, false, ◌&&◌, ◌==◌, nat_lt, min}
+use Rattle.std.specs.Prelude.{ℕ, zero, suc, ◌+◌, ◌-◌, ◌<◌, Bool, true, false, ◌&&◌, ◌||◌, ◌==◌, nat_lt, min}
 use Rattle.std.specs.Prelude.{if◌then◌else◌, Option, Some, None, List}
 use Rattle.std.specs.declared.net.ip_addr.IpAddr.{IpAddr}
 use Rattle.njh_line.specs.declared.Phase.{Phase}
@@ -74,6 +74,10 @@ in_session_after in_session true false = false
 in_session_after in_session true true = in_session
 in_session_after in_session false is_up = in_session
 
+-- whether a session was up on a line's connection, once its session was seen so
+abbrev pub had_session : Label → SessionView → Bool
+had_session label session = label.had_session || is_up session.phase
+
 -- what is kept of a line once a step left its session so; if that is down, it ended so
 abbrev pub after_step : Label → SessionView → DownCause → (now : ℕ) → Label
 after_step label session end now = record label {
@@ -81,6 +85,7 @@ after_step label session end now = record label {
   no_session_since = no_session_since label.no_session_since label.up (is_up session.phase) now;
   up_since = up_since label.up_since label.up (is_up session.phase) now;
   last_end = end_after label.last_end label.up (is_up session.phase) end;
+  had_session = had_session label session;
   up = is_up session.phase;
   news = with_change (session_change label.up (is_up session.phase) label.node end) label.news;
 }

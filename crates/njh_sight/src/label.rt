@@ -60,6 +60,8 @@ pub struct Label {
     pub connected_since: u64,
     /// When its last session came up, on the service's clock.
     pub up_since: u64,
+    /// Whether a session was up on the connection that came last.
+    pub had_session: bool,
     /// Why the last session ended that was up, if one did.
     pub last_end: Option<DownCause>,
     /// From when on it may be told that its connection is without a session.
@@ -84,6 +86,7 @@ impl Label {
             barred_until: 0,
             connected_since: 0,
             up_since: 0,
+            had_session: false,
             last_end: None,
             awaits_again: 0,
             again: 0,
@@ -102,6 +105,7 @@ impl Label {
         self.no_session_since = no_session_since(self.no_session_since, self.up, is_up, now);
         self.up_since = up_since(self.up_since, self.up, is_up, now);
         self.last_end = end_after(self.last_end, self.up, is_up, end);
+        self.had_session = self.had_session || is_up;
         self.up = is_up;
     }
 

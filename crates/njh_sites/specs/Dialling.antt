@@ -1,5 +1,5 @@
 -- When a line is dialled, and when a dial is given up.
-use Rattle.std.specs.Prelude.{ℕ, ◌+◌, ◌≤◌, Bool, true, min, if◌then◌else◌, Option, Some, None}
+use Rattle.std.specs.Prelude.{ℕ, ◌+◌, ◌*◌, ◌≤◌, Bool, true, nat_lt, min, if◌then◌else◌, Option, Some, None}
 use Rattle.njh_sites.specs.declared.dial.Dial.{Dial}
 use Rattle.njh_sites.specs.declared.dial.DialState.{DialState}
 use Rattle.njh_sites.specs.declared.site.Site.{Site}
@@ -7,12 +7,22 @@ use Rattle.njh_sites.specs.declared.site.Site.TheVariants.{Listens, Dials}
 use Rattle.njh_sites.specs.declared.dial.DialState.TheVariants.{Resting, Dialling, Connected}
 
 -- The next dial comes a second after a connection ended, or after a dial failed, if the one before didn't fail; and ten
--- seconds after each that fails behind another.
-abbrev pub pause_after : (has_failed : Bool) → ℕ
-pause_after has_failed = if has_failed then 10000 else 1000
+-- seconds after each that fails behind another; but no sooner than the pause for connections without a session asks.
+abbrev pub pause_after : (has_failed : Bool) → (pause : ℕ) → ℕ
+pause_after has_failed pause =
+    let least = if has_failed then 10000 else 1000 in
+    if nat_lt least pause then pause else least
 
-abbrev pub next_dial : (has_failed : Bool) → (now : ℕ) → ℕ
-next_dial has_failed now = min (now + pause_after has_failed) 18446744073709551615
+abbrev pub next_dial : (has_failed : Bool) → (pause now : ℕ) → ℕ
+next_dial has_failed pause now = min (now + pause_after has_failed pause) 18446744073709551615
+
+-- That pause is a second after a session, and after the first connection without one; each further one in a row doubles
+-- it, up to a minute. A dial that is answered is nothing to it.
+abbrev pub pause_now : (had_session : Bool) → (pause : ℕ) → ℕ
+pause_now had_session pause = if had_session then 1000 else pause
+
+abbrev pub pause_behind : (had_session : Bool) → (pause : ℕ) → ℕ
+pause_behind had_session pause = if had_session then 1000 else min (pause * 2) 60000
 
 -- a dial that nobody answers is given up after ten seconds
 abbrev pub given_up_at : (now : ℕ) → ℕ
@@ -25,7 +35,14 @@ state_resumed Connected now = Connected
 
 -- a dial failed: the next comes after the pause
 abbrev pub failed : {C : Type 0} → Dial C → (now : ℕ) → Dial C
-failed dial now = record dial { state = Resting (next_dial dial.has_failed now); has_failed = true }
+failed dial now = record dial { state = Resting (next_dial dial.has_failed dial.pause now); has_failed = true }
+
+-- a connection ended, on which a session was up or none was
+abbrev pub lost : {C : Type 0} → (had_session : Bool) → Dial C → (now : ℕ) → Dial C
+lost had_session dial now = record dial {
+  state = Resting (next_dial dial.has_failed (pause_now had_session dial.pause) now);
+  pause = pause_behind had_session dial.pause;
+}
 
 -- the next dial comes now, if none is under way and the line has no connection
 abbrev pub resumed : {C : Type 0} → Dial C → (now : ℕ) → Dial C
@@ -49,7 +66,12 @@ connection_in (Resting moment) = None
 connection_in (Dialling connection moment) = Some connection
 connection_in Connected = None
 
--- when a line is looked at whose connection ended: a listener now, and another when its next dial is to come
-abbrev pub moment_of_loss : {L C : Type 0} → Site L (Dial C) → (moment now : ℕ) → ℕ
-moment_of_loss (Listens listener) moment now = min moment now
-moment_of_loss (Dials dial) moment now = next_dial dial.has_failed now
+-- a connection of a site ended
+abbrev pub site_lost : {L C : Type 0} → (had_session : Bool) → Site L (Dial C) → (now : ℕ) → Site L (Dial C)
+site_lost had_session (Listens listener) now = Listens listener
+site_lost had_session (Dials dial) now = Dials (lost had_session dial now)
+
+-- then its line is looked at: a listener now, and another when its next dial is to come
+abbrev pub moment_of_loss : {L C : Type 0} → (had_session : Bool) → Site L (Dial C) → (moment now : ℕ) → ℕ
+moment_of_loss had_session (Listens listener) moment now = min moment now
+moment_of_loss had_session (Dials dial) moment now = dial_moment (lost had_session dial now).state

@@ -1,20 +1,22 @@
 //! When a line is dialled.
 
 ghost use Rattle.std.specs.Prelude.{◌≡◌, ◌↔◌, IsTrue, IsSome, true, false};
-ghost use Rattle.njh_sites.specs.Dialling.{connection_in, dial_moment, failed, given_up_at, next_dial, pause_after};
-ghost use Rattle.njh_sites.specs.Dialling.{resumed, IsToCome};
+ghost use Rattle.njh_sites.specs.Dialling.{connection_in, dial_moment, failed, given_up_at, lost, next_dial};
+ghost use Rattle.njh_sites.specs.Dialling.{pause_after, pause_behind, pause_now, resumed, IsToCome};
 ghost use Rattle.njh_sites.specs.declared.dial.DialState.TheVariants.{Connected, Dialling, Resting};
 
 use njh_wire::Network;
 use std::io;
 use std::net::SocketAddr;
 
-/// How long after a connection that was made, or after a first failure, the next dial comes, in
-/// milliseconds.
+/// How long after a session, or after a first failure, the next dial comes, in milliseconds.
 const SOON: u64 = 1_000;
 
 /// How long after a further failure it comes.
 const LATER: u64 = 10_000;
+
+/// How long after a connection without a session it comes at most.
+const LONGEST: u64 = 60_000;
 
 /// How long a dial may take.
 const PATIENCE: u64 = 10_000;
@@ -28,6 +30,8 @@ pub struct Dial<C: Drop> {
     pub state: DialState<C>,
     /// Whether a dial failed since the last connection was made.
     pub has_failed: bool,
+    /// For how long no dial comes after the next connection that ends without a session.
+    pub pause: u64,
 }
 
 /// What becomes of a dial.
@@ -44,12 +48,13 @@ pub enum DialState<C: Drop> {
 impl<C: Drop> Dial<C> {
     /// Dials to an address, of which the first comes at once.
     pub fn new(address: SocketAddr) -> Dial<C>
-        ensures { result ≡ record { address = address; state = Resting 0; has_failed = false } }
+        ensures { result ≡ record { address = address; state = Resting 0; has_failed = false; pause = 1000 } }
     {
         Dial {
             address,
             state: DialState::Resting(0),
             has_failed: false,
+            pause: SOON,
         }
     }
 
@@ -131,11 +136,13 @@ impl<C: Drop> Dial<C> {
         }
     }
 
-    /// The line has no connection any more.
-    pub fn lose(&mut self, now: u64)
-        ensures { self.new ≡ record self.old { state = Resting (next_dial self.old.has_failed now) } }
+    /// The line has no connection any more; a session was up on it, or none was.
+    pub fn lose(&mut self, had_session: bool, now: u64)
+        ensures { self.new ≡ lost had_session self.old now }
     {
+        self.pause = pause_now(had_session, self.pause);
         self.rest(now);
+        self.pause = pause_behind(had_session, self.pause);
     }
 
     /// Nobody is dialled. A dial that is under way is given up.
@@ -158,15 +165,35 @@ impl<C: Drop> Dial<C> {
 
     /// The next dial comes after the pause.
     fn rest(&mut self, now: u64)
-        ensures { self.new ≡ record self.old { state = Resting (next_dial self.old.has_failed now) } }
+        ensures { self.new ≡ record self.old { state = Resting (next_dial self.old.has_failed self.old.pause now) } }
     {
-        self.state = DialState::Resting(now.saturating_add(pause_after(self.has_failed)));
+        let pause = pause_after(self.has_failed, self.pause);
+        self.state = DialState::Resting(now.saturating_add(pause));
     }
 }
 
 /// For how long no dial comes.
-fn pause_after(has_failed: bool) -> u64
-    ensures { result ≡ pause_after has_failed }
+fn pause_after(has_failed: bool, pause: u64) -> u64
+    ensures { result ≡ pause_after has_failed pause }
 {
-    if has_failed { LATER } else { SOON }
+    let least = if has_failed { LATER } else { SOON };
+    if least < pause { pause } else { least }
+}
+
+/// For how long none comes after a connection on which a session was up, or none was.
+fn pause_now(had_session: bool, pause: u64) -> u64
+    ensures { result ≡ pause_now had_session pause }
+{
+    if had_session { SOON } else { pause }
+}
+
+/// For how long none comes after the next one without a session, then.
+fn pause_behind(had_session: bool, pause: u64) -> u64
+    ensures { result ≡ pause_behind had_session pause }
+{
+    if had_session {
+        SOON
+    } else {
+        pause.saturating_mul(2).min(LONGEST)
+    }
 }

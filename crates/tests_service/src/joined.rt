@@ -1,9 +1,11 @@
 //! Two hubs that are joined line to line: their session stays up for an hour, whoever calls and
-//! whoever dials, after a text that either sent last, and after a frame that was lost each way.
+//! whoever dials, after a text that either sent last, and after a frame that was lost each way. If
+//! their passwords differ none comes up, and their logs stay short.
 //!
 //! A row of `joined.txt` has the case's name, which hub calls and which one dials (0 and 1), the
 //! name of what the first hub's peer sends or `nothing`, whether the frame is lost that the first
-//! hub sends by that, and how many texts each hub sends in all, or `any`.
+//! hub sends by that or passwords differ (`refuses`), and how many texts each hub sends in all, or
+//! `any`.
 
 use crate::joint::Joint;
 use crate::play::serve_in;
@@ -52,6 +54,8 @@ struct Case {
     sends: bool,
     /// Whether the frame is lost that the first hub sends by that.
     loses_it: bool,
+    /// Whether the hubs have different passwords.
+    refuses: bool,
     /// How many texts each hub sends in all.
     texts: Option<[u32; 2]>,
 }
@@ -83,6 +87,7 @@ pub(crate) fn join_each(rt: &HostRuntime, texts: &str) -> io::Result<()> {
             dials: number_of(dials),
             sends,
             loses_it: fate == "loses",
+            refuses: fate == "refuses",
             texts: texts_of(rest),
         };
         join(rt, row, name, case, &bytes)?;
@@ -104,7 +109,12 @@ fn join(rt: &HostRuntime, row: &str, name: &str, case: Case, script: &[u8]) -> i
         return println!(rt; "{row}: it spins at {}", joint.now());
     }
     for number in 0..2 {
-        if let Some(wrong) = wrong_in(&joint, number, case) {
+        let wrong = if case.refuses {
+            wrong_of_refused(&joint, number)
+        } else {
+            wrong_in(&joint, number, case)
+        };
+        if let Some(wrong) = wrong {
             return println!(rt; "{row}: of hub {number} {wrong}");
         }
     }
@@ -133,6 +143,19 @@ fn wrong_in(joint: &Joint<'_>, number: usize, case: Case) -> Option<&'static str
     }
 }
 
+/// What is wrong of a hub whose sign-ons are refused, or that refuses them: it connects, less and
+/// less often, so that an hour has no more lines than these, and no session goes up.
+fn wrong_of_refused(joint: &Joint<'_>, number: usize) -> Option<&'static str> {
+    if joint.told(number, " j1: session up with ") != 0 {
+        return Some("its session");
+    }
+    let lines = joint.told(number, " j1: ");
+    if lines < 100 || 250 < lines {
+        return Some("how many lines its log has");
+    }
+    None
+}
+
 /// The text of a hub's tables. Its line to the other hub comes first.
 fn text_of(alloc: Global, number: usize, case: Case) -> Result<String, AllocError> {
     let [hub, other, lyons, further] = if number == 0 { FIRST } else { SECOND };
@@ -146,6 +169,11 @@ fn text_of(alloc: Global, number: usize, case: Case) -> Result<String, AllocErro
     } else {
         "port = 9000"
     };
+    let password = match (case.refuses, number) {
+        (false, _) => "",
+        (true, 0) => "password = \"OPEN\", ",
+        (true, _) => "password = \"SHUT\", ",
+    };
     format!(in alloc;
         r#"
 capacity = 100
@@ -154,7 +182,7 @@ name = "ACME"
 hub = "{hub}"
 quota = 100
 files = 8
-line = [{{ name = "j1", node = "{other}", role = "{role}", block = 1024, streams = 4, {site} }}{further}]
+line = [{{ name = "j1", node = "{other}", role = "{role}", block = 1024, streams = 4, {password}{site} }}{further}]
 route = [{{ node = "{other}", line = "j1" }}, {{ node = "LYON", line = "{lyons}" }}]
 "#
     )
@@ -233,7 +261,7 @@ fn go_on<F: Rounds, S: Rounds>(joint: &Joint<'_>, first: &mut F, second: &mut S,
             }
         }
         for number in 0..2 {
-            if now >= LOSSES[number] && !lost[number] {
+            if now >= LOSSES[number] && !lost[number] && !case.refuses {
                 lost[number] = true;
                 joint.lose(number);
             }
