@@ -9,6 +9,8 @@ use Rattle.njh_sight.specs.declared.label.Label.{Label}
 use Rattle.njh_wire.specs.declared.end.ConnectionEnd.{ConnectionEnd}
 use Rattle.njh_wire.specs.declared.end.ConnectionEnd.TheVariants as ends
 use Rattle.njh_log.specs.declared.entry.ConnectionFailure.TheVariants as failures
+use Rattle.njh_log.specs.declared.heading.Place.{Place}
+use Rattle.njh_log.specs.declared.heading.Place.TheVariants.{Line}
 use Rattle.njh_log.specs.declared.entry.LogEvent.{LogEvent}
 use Rattle.njh_log.specs.declared.entry.LogEvent.TheVariants as events
 
@@ -51,6 +53,10 @@ moment_seen label session now moment =
     moment_behind label.up (is_up session.phase) since moment
 
 -- ---- what is told
+
+-- where it happens
+abbrev pub place_of : Label → Place
+place_of label = Line label.customer label.line
 
 -- a new connection is told, unless one was told in the second before
 abbrev pub told_connected : Label → (now : ℕ) → Label

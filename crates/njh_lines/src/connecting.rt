@@ -1,10 +1,10 @@
 //! How a line gets a connection and loses it, and what is told of that.
 
-ghost use Rattle.std.specs.Prelude.{◌≡◌, ◌<◌, ◌≤◌, ◌⊎◌, None, false, IsSome, IsTrue};
+ghost use Rattle.std.specs.Prelude.{◌≡◌, ◌<◌, ◌≤◌, ◌⊎◌, None, false, IsTrue};
 ghost use Rattle.njh_wire.specs.Standing.{after_admission, after_displacement};
 ghost use Rattle.njh_wire.specs.Tally.{tally};
-ghost use Rattle.njh_lines.specs.Connecting.{end_event, told_connected, IsBarred, KeepsLine};
-ghost use Rattle.njh_log.specs.Logging.{IsLogged};
+ghost use Rattle.njh_lines.specs.Connecting.{end_event, place_of, told_connected, IsBarred, KeepsLine};
+ghost use Rattle.njh_log.specs.Limiting.{IsTold};
 ghost use Rattle.njh_sites.specs.Admitting.{kept_until, listens_again};
 ghost use Rattle.njh_sites.specs.Dialling.{connection_in, dial_moment, failed, given_up_at, next_dial, IsToCome};
 
@@ -182,7 +182,8 @@ fn give_up<N: Network + Drop, L: Write + Drop>(
     ensures failed { dial.new ≡ failed dial.old surroundings.old.now }
     ensures now { surroundings.new.now ≡ surroundings.old.now }
     ensures customers { surroundings.new.customers ≡ surroundings.old.customers }
-    ensures logged { IsSome surroundings.old.log.writer → IsLogged L.contents surroundings.old.log surroundings.new.log }
+    ensures told { IsTold L.contents (place_of label.now) (LogEvent.DialFailed dial.old.address) surroundings.old.now
+        surroundings.old.log surroundings.new.log }
 {
     dial.fail(surroundings.now);
     surroundings.tell(label, LogEvent::DialFailed(dial.address()));
@@ -197,8 +198,8 @@ fn tell_connected<N: Network + Drop, L: Write + Drop>(
     ensures told { label.new ≡ told_connected label.old surroundings.old.now }
     ensures now { surroundings.new.now ≡ surroundings.old.now }
     ensures customers { surroundings.new.customers ≡ surroundings.old.customers }
-    ensures logged { label.old.again ≤ surroundings.old.now → IsSome surroundings.old.log.writer →
-        IsLogged L.contents surroundings.old.log surroundings.new.log }
+    ensures logged { label.old.again ≤ surroundings.old.now →
+        IsTold L.contents (place_of label.old) event surroundings.old.now surroundings.old.log surroundings.new.log }
     ensures silent { surroundings.old.now < label.old.again → surroundings.new ≡ surroundings.old }
 {
     label.connected = label.again <= surroundings.now;
@@ -220,8 +221,8 @@ pub(crate) fn tell_end<N: Network + Drop, L: Write + Drop>(
     ensures told { label.new ≡ record label.old { connected = false } }
     ensures now { surroundings.new.now ≡ surroundings.old.now }
     ensures customers { surroundings.new.customers ≡ surroundings.old.customers }
-    ensures logged { IsTrue label.old.connected → IsSome surroundings.old.log.writer →
-        IsLogged L.contents surroundings.old.log surroundings.new.log }
+    ensures logged { IsTrue label.old.connected → IsTold L.contents (place_of label.old) (end_event is_early end)
+        surroundings.old.now surroundings.old.log surroundings.new.log }
     ensures silent { ¬ IsTrue label.old.connected → surroundings.new ≡ surroundings.old }
 {
     if !label.connected {

@@ -2,8 +2,10 @@
 
 ghost use Rattle.std.specs.Prelude.{◌≡◌, ◌≢◌, ◌≤◌, None, IsSome};
 ghost use Rattle.njh_wire.specs.Tally.{tally};
-ghost use Rattle.njh_log.specs.Logging.{IsLogged};
+ghost use Rattle.njh_log.specs.Limiting.{IsTold};
+ghost use Rattle.njh_log.specs.declared.entry.LogEvent.{LogEvent};
 ghost use Rattle.njh_sites.specs.Doors.{cause_in, door_address, to_try, IsLookedAtAgain, IsTried};
+ghost use Rattle.njh_lines.specs.Connecting.{place_of};
 
 use crate::connecting::admit;
 use crate::surroundings::Surroundings;
@@ -53,8 +55,8 @@ pub(crate) fn try_door<N: Network + Drop, L: Write + Drop>(
     ensures waits { to_try door.old surroundings.old.now ≡ None → door.new ≡ door.old }
     ensures now { surroundings.new.now ≡ surroundings.old.now }
     ensures customers { surroundings.new.customers ≡ surroundings.old.customers }
-    ensures logged { cause_in door.new ≢ cause_in door.old → IsSome surroundings.old.log.writer →
-        IsLogged L.contents surroundings.old.log surroundings.new.log }
+    ensures told { cause_in door.new ≢ cause_in door.old → (event : LogEvent)
+        × IsTold L.contents (place_of label.now) event surroundings.old.now surroundings.old.log surroundings.new.log }
     ensures silent { cause_in door.new ≡ cause_in door.old → surroundings.new.log ≡ surroundings.old.log }
 {
     let now = surroundings.now;

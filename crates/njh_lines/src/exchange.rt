@@ -38,7 +38,7 @@ use crate::waking::wake;
 use njh_arrivals::Arrivals;
 use njh_command::Replies;
 use njh_hub::{Hub, HubFault};
-use njh_log::{Log, LogEvent, Place, Severity};
+use njh_log::{EventKind, LimitedLog, Log, LogEvent, Place, Severity};
 use njh_request::LineWish;
 use njh_sight::{Customers, Label, LineNames, is_free};
 use njh_sites::{Door, Endpoint, ListenFault, Listening, Site, open};
@@ -98,7 +98,7 @@ impl<N: Network + Drop, L: Write + Drop> Exchange<N, L> {
         Exchange {
             surroundings: Surroundings {
                 network,
-                log,
+                log: LimitedLog::new(alloc, log),
                 now: 0,
                 customers: Customers::none(),
                 commands: 0,
@@ -196,7 +196,20 @@ impl<N: Network + Drop, L: Write + Drop> Exchange<N, L> {
         self.surroundings.tell_at(place, event);
     }
 
-    /// Writes a line of the log, with the time.
+    /// Tells of an event of a kind by this text.
+    pub fn tell_text<T: fmt::Display>(
+        &mut self,
+        kind: EventKind,
+        severity: Severity,
+        place: Place,
+        text: &T,
+    )
+        ensures { self.new ≡ self.old }
+    {
+        self.surroundings.tell_text(kind, severity, place, text);
+    }
+
+    /// Writes a line of the log, with the time, however many there are.
     pub fn write<T: fmt::Display>(&mut self, severity: Severity, place: Place, text: &T)
         ensures { self.new ≡ self.old }
     {
@@ -205,7 +218,7 @@ impl<N: Network + Drop, L: Write + Drop> Exchange<N, L> {
 
     /// How many lines of the log were dropped, of which no line told yet.
     pub fn dropped(&self) -> u64 {
-        self.surroundings.log.dropped()
+        self.surroundings.log.log.dropped()
     }
 
     /// What is kept of each customer.
@@ -229,6 +242,7 @@ impl<N: Network + Drop, L: Write + Drop> Exchange<N, L> {
         ensures none { OnOk result (self.new.arrivals ≡ none_seen (length tables.now.customers)) }
     {
         self.surroundings.customers.know(tables);
+        self.surroundings.log.limit(alloc)?;
         self.arrivals = Arrivals::none(alloc, tables.customers().len())?;
         Ok(())
     }
@@ -347,6 +361,7 @@ impl<N: Network + Drop, L: Write + Drop> Exchange<N, L> {
         let wait = wait_of(self.surroundings.now, self.next.min(until));
         wait_on(&mut self.surroundings.network, wait, &mut self.ready);
         self.surroundings.now = self.surroundings.network.now();
+        self.surroundings.tell_counted();
     }
 
     /// Looks at a line if something is ready or its moment came, and sets its wire's clock then.

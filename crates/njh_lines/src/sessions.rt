@@ -5,16 +5,16 @@ ghost use Rattle.njh_hub.specs.Views.{HasGivenUp, hub_line, line_view};
 ghost use Rattle.njh_hub.specs.WholeHub.{HasLine};
 ghost use Rattle.njh_wire.specs.Standing.{after_close};
 ghost use Rattle.njh_wire.specs.Tally.{tally};
-ghost use Rattle.njh_log.specs.Logging.{IsLogged};
+ghost use Rattle.njh_log.specs.Limiting.{IsTold};
 ghost use Rattle.njh_sites.specs.Dialling.{moment_of_loss};
 ghost use Rattle.njh_sites.specs.Opened.{site_kept};
 ghost use Rattle.njh_sight.specs.Awaiting.{awaits_again, told_awaited};
 ghost use Rattle.njh_sight.specs.News.{after_telling, told_now, IsTold};
-ghost use Rattle.njh_sight.specs.Sessions.{after_step, barred_until, had_session, news_seen, session_end};
-ghost use Rattle.njh_sight.specs.Sessions.{tries_end, HasRefused};
+ghost use Rattle.njh_sight.specs.Sessions.{after_step, barred_until, had_session, news_seen, refusal_event};
+ghost use Rattle.njh_sight.specs.Sessions.{session_end, tries_end, HasRefused};
 ghost use Rattle.njh_sight.specs.Steps.{steps_after};
 ghost use Rattle.njh_lines.specs.Wires.{IsLeft};
-ghost use Rattle.njh_lines.specs.Connecting.{moment_seen, silence_of, IsConnected, IsInSession, IsReady};
+ghost use Rattle.njh_lines.specs.Connecting.{moment_seen, place_of, silence_of, IsConnected, IsInSession, IsReady};
 
 use crate::connecting::tell_end;
 use crate::post::Post;
@@ -174,7 +174,8 @@ fn end_refused<N: Network + Drop, L: Write + Drop>(
     ensures barred { IsTrue result → label.new ≡ record label.old { barred_until = barred_until surroundings.old.now } }
     ensures closed { IsTrue result → wire.new ≡ after_close wire.old }
     ensures left { IsLeft wire.old wire.new }
-    ensures logged { IsTrue result → IsSome surroundings.old.log.writer → IsLogged L.contents surroundings.old.log surroundings.new.log }
+    ensures logged { IsTrue result → IsTold L.contents (place_of label.old) (refusal_event session.now.last_refusal)
+        surroundings.old.now surroundings.old.log surroundings.new.log }
     ensures kept { ¬ IsTrue result → (wire.new ≡ wire.old) × ((label.new ≡ label.old) × (surroundings.new ≡ surroundings.old)) }
     ensures now { surroundings.new.now ≡ surroundings.old.now }
     ensures counts { wire.old.failures ≤ wire.new.failures }
@@ -198,8 +199,8 @@ pub(crate) fn tell_sessions<N: Network + Drop, L: Write + Drop>(
     ensures told { label.new ≡ record label.old { news = after_telling label.old.news now } }
     ensures now { surroundings.new.now ≡ surroundings.old.now }
     ensures silent { told_now label.old.news now ≡ None → surroundings.new ≡ surroundings.old }
-    ensures logged { IsSome (told_now label.old.news now) → IsSome surroundings.old.log.writer →
-        IsLogged L.contents surroundings.old.log surroundings.new.log }
+    ensures logged { IfSome (told_now label.old.news now) (λ event. IsTold L.contents (place_of label.old) event
+        surroundings.old.now surroundings.old.log surroundings.new.log) }
 {
     match label.news.take(now) {
         Some(event) => surroundings.tell(label, event),
@@ -221,8 +222,8 @@ fn tell_awaited<N: Network + Drop, L: Write + Drop>(
         label.new ≡ record label.old { awaits_again = awaits_again surroundings.old.now } }
     ensures silent { told_awaited label.old session.now is_connected surroundings.old.now ≡ None →
         (label.new ≡ label.old) × (surroundings.new ≡ surroundings.old) }
-    ensures logged { IsSome (told_awaited label.old session.now is_connected surroundings.old.now) →
-        IsSome surroundings.old.log.writer → IsLogged L.contents surroundings.old.log surroundings.new.log }
+    ensures logged { IfSome (told_awaited label.old session.now is_connected surroundings.old.now) (λ event.
+        IsTold L.contents (place_of label.old) event surroundings.old.now surroundings.old.log surroundings.new.log) }
 {
     match awaited_event(label, session, is_connected, surroundings.now) {
         Some(event) => {

@@ -1,14 +1,14 @@
 //! What is told of a line's files and commands, and of its customer's quota.
 
-ghost use Rattle.std.specs.Prelude.{◌≡◌, ◌<◌, IsSome};
-ghost use Rattle.njh_log.specs.Logging.{IsLogged};
+ghost use Rattle.std.specs.Prelude.{◌≡◌, ◌<◌};
+ghost use Rattle.njh_log.specs.Limiting.{IsToldText};
 
 use crate::surroundings::Surroundings;
 use njh_arrivals::Arrivals;
 use njh_block::Stream;
 use njh_command::Replies;
 use njh_hub::{Hub, HubFault};
-use njh_log::{CommandLine, FileLine, LogEvent, OrderLine, Place, Severity};
+use njh_log::{CommandLine, EventKind, FileLine, LogEvent, OrderLine, Place, Severity};
 use njh_sight::{
     CUSTOMERS, Came, Label, STREAMS, Streams, arrival, ended, event_of_gone, files_coming,
     files_going, first_gone, loss_on, summary_of,
@@ -260,7 +260,7 @@ pub(crate) fn tell_commands<N: Network + Drop, L: Write + Drop>(
                 commands,
             };
             let place = Place::Line(label.customer, label.line);
-            surroundings.write(Severity::Information, place, &line);
+            surroundings.tell_text(EventKind::Commands, Severity::Information, place, &line);
         }
         _ => {}
     }
@@ -276,7 +276,8 @@ pub(crate) fn tell_order<N: Network + Drop, L: Write + Drop>(
 )
     ensures now { surroundings.new.now ≡ surroundings.old.now }
     ensures customers { surroundings.new.customers ≡ surroundings.old.customers }
-    ensures logged { IsSome surroundings.old.log.writer → IsLogged L.contents surroundings.old.log surroundings.new.log }
+    ensures told { (place : Place)
+        × IsToldText L.contents place EventKind.Orders surroundings.old.now surroundings.old.log surroundings.new.log }
 {
     let severity = if answer.is_ok() {
         Severity::Information
@@ -292,7 +293,7 @@ pub(crate) fn tell_order<N: Network + Drop, L: Write + Drop>(
         answer,
         replies,
     };
-    surroundings.write(severity, place, &line);
+    surroundings.tell_text(EventKind::Orders, severity, place, &line);
 }
 
 /// Notes of each file of a hub that a depot opened when it came, as far as the depot knows.

@@ -1,4 +1,9 @@
+pub mod Kinds
+pub mod Limiting
 pub mod Logging
 pub mod Objects
+pub mod Places
 pub mod Severities
+pub mod Spells
+pub mod Table
 pub mod code

@@ -1,5 +1,8 @@
 //! What a line of the log begins with.
 
+ghost use Rattle.std.specs.Prelude.{◌≡◌};
+ghost use Rattle.njh_log.specs.Places.{customer_place, same_place};
+
 use crate::severity::Severity;
 use arrayvec::ArrayString;
 use njh_ebcdic::Name;
@@ -36,6 +39,33 @@ impl fmt::Display for Place {
             Place::Hub => Ok(()),
             Place::Customer(customer) => write!(f, "{customer}: "),
             Place::Line(customer, line) => write!(f, "{customer} {line}: "),
+        }
+    }
+}
+
+impl Place {
+    /// Whether this is the same place as another.
+    pub(crate) fn is_same(&self, other: &Place) -> bool
+        ensures { result ≡ same_place self.now other.now }
+    {
+        match (self, other) {
+            (Place::Hub, Place::Hub) => true,
+            (Place::Customer(one), Place::Customer(other)) => *one == *other,
+            (Place::Line(one, line), Place::Line(other, second)) => {
+                *one == *other && line.as_str() == second.as_str()
+            }
+            (_, _) => false,
+        }
+    }
+
+    /// The customer with whom it happened, as a place.
+    pub(crate) fn customer(&self) -> Place
+        ensures { result ≡ customer_place self.now }
+    {
+        match self {
+            Place::Hub => Place::Hub,
+            Place::Customer(customer) => Place::Customer(*customer),
+            Place::Line(customer, _) => Place::Customer(*customer),
         }
     }
 }

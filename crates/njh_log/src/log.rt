@@ -7,10 +7,8 @@ ghost use Rattle.std.specs.Io.KnownBytes.{Appends};
 ghost use Rattle.njh_log.specs.Logging.{log_onto, one_dropped, IsLine, IsLogged, Begins, GoesOut};
 ghost use Rattle.njh_log.specs.code.Logs.{HasTold, Sends, Tells};
 
-use crate::entry::LogEvent;
-use crate::heading::{Heading, Place};
+use crate::heading::Heading;
 use crate::line_text::LineText;
-use crate::severity::severity_of;
 use std::fmt;
 use std::io::Write;
 use std::marker::Model;
@@ -95,19 +93,6 @@ impl<L: Write + Drop> Log<L> {
         if !self.hand_on(heading, text) {
             self.count();
         }
-    }
-
-    /// Tells of an event that happened at this moment, in milliseconds since the beginning of 1970.
-    pub fn tell(&mut self, milliseconds: i64, place: Place, event: &LogEvent)
-        ensures none { self.old.writer ≡ None → self.new ≡ self.old }
-        ensures logged { IsSome self.old.writer → IsLogged L.contents self.old self.new }
-    {
-        let heading = Heading {
-            milliseconds,
-            severity: severity_of(event),
-            place,
-        };
-        self.write(heading, event);
     }
 
     /// Counts a line that is dropped.

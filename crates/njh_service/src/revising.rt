@@ -6,7 +6,7 @@ ghost use Rattle.njh_revision.specs.Revisions.{AreKept, IsGiven};
 
 use njh_hub::{Hub, HubFault};
 use njh_lines::Exchange;
-use njh_log::{LogEvent, Place, Severity};
+use njh_log::{EventKind, LogEvent, Place, Severity};
 use njh_revision::{Revision, RouteChange, SourceOutcome, TableSource};
 use njh_table::Tables;
 use njh_turns::NewRoutes;
@@ -77,7 +77,9 @@ fn tell_change<N: Network + Drop, L: Write + Drop>(
     ensures { exchange.new ≡ exchange.old }
 {
     match change {
-        RouteChange::Stays(_) => exchange.write(Severity::Warning, Place::Hub, &change),
+        RouteChange::Stays(_) => {
+            exchange.tell_text(EventKind::Routes, Severity::Warning, Place::Hub, &change);
+        }
         RouteChange::Differs(customer, event) => exchange.tell(Place::Customer(customer), event),
     }
 }
