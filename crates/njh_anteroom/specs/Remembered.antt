@@ -49,6 +49,10 @@ rank_of now all number = option_map_or (rank_at now) (remembered_of number all) 
 abbrev pub until_of : List Remembered → ℕ → ℕ
 until_of all number = option_map_or (λ r. r.until) (remembered_of number all) 0
 
+-- how many sign-ons from an address were refused, as far as that is remembered
+abbrev pub refusals_of : IpAddr → List Remembered → ℕ
+refusals_of address all = option_map_or (λ r. r.refusals) (remembered_of (number_of address) all) 0
+
 -- ---- what happens to it
 
 -- The first pause is a second, and each is twice the one before, up to a minute. A second again behind one that ended a

@@ -6,6 +6,7 @@ ghost use Rattle.njh_anteroom.specs.Addresses.{number_of};
 ghost use Rattle.njh_anteroom.specs.Next.{displacement, entry_of, first_moment, guest_at, next_place, rank_in};
 ghost use Rattle.njh_anteroom.specs.Next.{without_place};
 ghost use Rattle.njh_anteroom.specs.Remembered.{ended, rank_of, with_session, IsMemory};
+ghost use Rattle.njh_anteroom.specs.Remembered.{refusals_of};
 ghost use Rattle.njh_anteroom.specs.Rooms.{empty_room};
 ghost use Rattle.njh_anteroom.specs.Waiting.{seated, IsQueue};
 ghost use Rattle.njh_anteroom.specs.code.Seats.{Fits, IsFree};
@@ -65,6 +66,13 @@ impl<C: Drop> Anteroom<C> {
         ensures memory { IsMemory self.now.remembered }
     {
         self.memory.all()
+    }
+
+    /// How many sign-ons from an address were refused, as far as that is remembered.
+    pub fn refusals_of(&self, address: IpAddr) -> u64
+        ensures { result ≡ refusals_of address self.now.remembered }
+    {
+        self.memory.refusals_of(address)
     }
 
     /// A connection comes from an address. Answers what becomes of it: `may_grow` says whether one

@@ -3,7 +3,7 @@
 ghost use Rattle.std.specs.Prelude.{◌≡◌, ◌<◌, false, length, not, position, IfOk, IfSome};
 ghost use Rattle.njh_anteroom.specs.Addresses.{is_loopback, number_of};
 ghost use Rattle.njh_anteroom.specs.Remembered.{ended, first_to_go, noted, rank_of, remembered_of, remembered_or_new};
-ghost use Rattle.njh_anteroom.specs.Remembered.{until_of, with_room, with_session, without, IsMemory};
+ghost use Rattle.njh_anteroom.specs.Remembered.{refusals_of, until_of, with_room, with_session, without, IsMemory};
 
 use crate::address::{is_loopback, number_of};
 use crate::remembered::{NEW, Remembered};
@@ -51,6 +51,16 @@ impl Memory {
         ensures memory { IsMemory self.now }
     {
         &self.seen
+    }
+
+    /// How many sign-ons from an address were refused, as far as that is remembered.
+    pub(crate) fn refusals_of(&self, address: IpAddr) -> u64
+        ensures { result ≡ refusals_of address self.now }
+    {
+        match self.find(number_of(address)) {
+            Some(found) => found.refusals,
+            None => 0,
+        }
     }
 
     /// What is remembered of the address with this number.

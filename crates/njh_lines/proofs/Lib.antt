@@ -1,4 +1,5 @@
 mod CallLaws
+mod EntranceLaws
 mod GroupLaws
 mod MomentLaws
 pub mod PostLaws

@@ -14,12 +14,13 @@ use Rattle.njh_lines.proofs.CallLaws.{as_woken}
 
 -- nothing changed
 pub same_here : (place : ℕ) (seen : Watched) → IsSameAt place seen seen
-same_here place seen = record { noted = refl; watch = refl }
+same_here place seen = record { noted = refl; watch = refl; refusals = refl }
 
 same_then : (place : ℕ) (a b c : Watched) → IsSameAt place a b → IsSameAt place b c → IsSameAt place a c
 same_then place a b c first then = record {
   noted = then.noted ∙ first.noted;
   watch = then.watch ∙ first.watch;
+  refusals = then.refusals ∙ first.refusals;
 }
 
 -- a line rests, and then its watch, what is noted of it, the time and its wire stay

@@ -10,8 +10,9 @@ use Rattle.njh_wire.specs.Standing.{Standing}
 use Rattle.njh_lines.specs.declared.attention.Watch.{Watch}
 use Rattle.njh_lines.specs.Attention.{watch_at}
 use Rattle.njh_lines.specs.Connecting.{IsConnected}
-use Rattle.njh_lines.specs.Watching.{ServedLine}
-use Rattle.njh_lines.specs.Wires.{AreHeld, AreLetOut, IsLeft, IsLetOut}
+use Rattle.njh_hub.specs.WholeHub.{Part}
+use Rattle.njh_lines.specs.Watching.{ServedLine, Watched}
+use Rattle.njh_lines.specs.Wires.{AreHeld, AreMadeSo, IsDone, IsJudged, IsLeft}
 
 -- ---- as it begins
 
@@ -125,37 +126,39 @@ left_then {C} a b c first then = record {
       (λ (none : c.waiting ≡ []). inr none) then.drops;
 }
 
-pub none_let_out : {C : Type 0} (moved : C → C → List ℕ → List ℕ → Type 0) (lines first : ℕ) (watches : List Watch)
-    (wires : List (Standing C)) → AreLetOut moved lines first first watches wires wires
-none_let_out moved lines first watches wires = record {
+pub none_made : {C : Type 0} (made : ℕ → Standing C → Standing C → Type 0) (lines first : ℕ) (watches : List Watch)
+    (wires : List (Standing C)) → AreMadeSo made lines first first watches wires wires
+none_made made lines first watches wires = record {
   each = λ p d from before there line due. let none : ⊥ = omega (arith, from, before) in absurd none;
   same = λ p d other. refl;
 }
 
 -- none of these lines is looked at
-pub idle_let_out : {C : Type 0} (moved : C → C → List ℕ → List ℕ → Type 0) (lines first end : ℕ) (watches : List Watch)
+pub idle_made : {C : Type 0} (made : ℕ → Standing C → Standing C → Type 0) (lines first end : ℕ) (watches : List Watch)
     (wires : List (Standing C))
     → ((place : ℕ) → first ≤ place → place < end → place < lines → ¬ IsTrue (watch_at watches place).is_due)
-    → AreLetOut moved lines first end watches wires wires
-idle_let_out moved lines first end watches wires idle = record {
+    → AreMadeSo made lines first end watches wires wires
+idle_made made lines first end watches wires idle = record {
   each = λ p d from before there line due. absurd (idle p from before line due);
   same = λ p d other. refl;
 }
 
--- some lines, and then more, whose watches stayed
-pub let_out_after : {C : Type 0} (moved : C → C → List ℕ → List ℕ → Type 0) (lines a b e : ℕ) (w new_w : List Watch)
-    (x y z : List (Standing C)) → a ≤ b → b ≤ e → length y ≡ length x
+-- some lines, and then more, whose watches stayed, and of which is made what is said of them from then on
+pub made_after : {C : Type 0} (made then_made : ℕ → Standing C → Standing C → Type 0) (lines a b e : ℕ)
+    (w new_w : List Watch) (x y z : List (Standing C)) → a ≤ b → b ≤ e → length y ≡ length x
     → ((place : ℕ) → b ≤ place → watch_at new_w place ≡ watch_at w place)
-    → AreLetOut moved lines a b w x y → AreLetOut moved lines b e new_w y z → AreLetOut moved lines a e w x z
-let_out_after {C} moved lines a b e w new_w x y z ab be long same_watch first then = record {
+    → ((place : ℕ) (s new : Standing C) → b ≤ place → then_made place s new → made place s new)
+    → AreMadeSo made lines a b w x y → AreMadeSo then_made lines b e new_w y z → AreMadeSo made lines a e w x z
+made_after {C} made then_made lines a b e w new_w x y z ab be long same_watch weaker first then = record {
   each = λ p d from before there line due. ⊎_elim
       (λ (earlier : p < b).
-      let To : Standing C → Type 0 = λ wire. IsLetOut moved (get_or x p d) wire in
+      let To : Standing C → Type 0 = λ wire. made p (get_or x p d) wire in
       subst To (sym (then.same p d (inl earlier))) (first.each p d from earlier there line due))
       (λ (later : b ≤ p).
-      let From : Standing C → Type 0 = λ wire. IsLetOut moved wire (get_or z p d) in
-      subst From (first.same p d (inr later)) (then.each p d later before (omega (arith, there, long)) line
-      (ap (λ (watch : Watch). watch.is_due) (same_watch p later) ∙ due)))
+      let From : Standing C → Type 0 = λ wire. made p wire (get_or z p d) in
+      subst From (first.same p d (inr later)) (weaker p (get_or y p d) (get_or z p d) later
+      (then.each p d later before (omega (arith, there, long)) line
+      (ap (λ (watch : Watch). watch.is_due) (same_watch p later) ∙ due))))
       (cases_lt p b);
   same = λ p d other. ⊎_elim
       (λ (less : p < a). then.same p d (inl (omega (arith, less, ab))) ∙ first.same p d (inl less))
@@ -164,17 +167,17 @@ let_out_after {C} moved lines a b e w new_w x y z ab be long same_watch first th
 }
 
 -- one line
-pub one_let_out : {C : Type 0} (moved : C → C → List ℕ → List ℕ → Type 0) (lines place : ℕ) (w : List Watch)
+pub one_made : {C : Type 0} (made : ℕ → Standing C → Standing C → Type 0) (lines place : ℕ) (w : List Watch)
     (wires : List (Standing C)) (was new : Standing C) → place < length wires → was ≡ get_or wires place was
-    → (IsTrue (watch_at w place).is_due → IsLetOut moved was new)
-    → AreLetOut moved lines place (place + 1) w wires (set wires place new)
-one_let_out {C} moved lines place w wires was new there read out = record {
+    → (IsTrue (watch_at w place).is_due → made place was new)
+    → AreMadeSo made lines place (place + 1) w wires (set wires place new)
+one_made {C} made lines place w wires was new there read out = record {
   each = λ p d from before within line due.
       let here : place ≡ p = omega (arith, from, before) in
       let Of : ℕ → Type 0 = λ k. IsTrue (watch_at w k).is_due
-      → IsLetOut moved (get_or wires k d) (get_or (set wires place new) k d) in
-      let From : Standing C → Type 0 = λ wire. IsLetOut moved wire (get_or (set wires place new) place d) in
-      let To : Standing C → Type 0 = λ wire. IsLetOut moved was wire in
+      → made k (get_or wires k d) (get_or (set wires place new) k d) in
+      let From : Standing C → Type 0 = λ wire. made place wire (get_or (set wires place new) place d) in
+      let To : Standing C → Type 0 = λ wire. made place was wire in
       subst Of here (λ looked. subst From (get_or_read wires place was there read d)
       (subst To (sym (get_or-set_same wires place new d there)) (out looked))) due;
   same = λ p d other. get_or-set_other wires place p new d (λ same. is_other p place other same);
@@ -184,11 +187,11 @@ one_let_out {C} moved lines place w wires was new there read out = record {
   is_other p place (inr more) same = omega (arith, more, same)
 
 -- the places of a group that have wires
-pub group_let_out : {C : Type 0} (moved : C → C → List ℕ → List ℕ → Type 0) (lines group first end : ℕ)
+pub group_made : {C : Type 0} (made : ℕ → Standing C → Standing C → Type 0) (lines group first end : ℕ)
     (w : List Watch) (x y : List (Standing C)) → first ≡ min (16 * group) (length x)
-    → end ≡ min (16 * group + 16) (length x) → length y ≡ length x → AreLetOut moved lines first end w x y
-    → AreLetOut moved lines (16 * group) (16 * group + 16) w x y
-group_let_out moved lines group first end w x y first_is end_is long out = record {
+    → end ≡ min (16 * group + 16) (length x) → length y ≡ length x → AreMadeSo made lines first end w x y
+    → AreMadeSo made lines (16 * group) (16 * group + 16) w x y
+group_made made lines group first end w x y first_is end_is long out = record {
   each = λ p d from before there line due. out.each p d (omega (arith, first_is, from))
       (omega (arith, end_is, before, there)) there line due;
   same = λ p d other. ⊎_elim
@@ -201,13 +204,32 @@ group_let_out moved lines group first end w x y first_is end_is long out = recor
 }
 
 -- and those of all groups
-pub all_let_out : {C : Type 0} (moved : C → C → List ℕ → List ℕ → Type 0) (lines end : ℕ) (w : List Watch)
-    (x y : List (Standing C)) → lines ≤ end → length y ≡ length x → AreLetOut moved lines 0 end w x y
-    → AreLetOut moved lines 0 (length x) w x y
-all_let_out moved lines end w x y within long out = record {
+pub all_made : {C : Type 0} (made : ℕ → Standing C → Standing C → Type 0) (lines end : ℕ) (w : List Watch)
+    (x y : List (Standing C)) → lines ≤ end → length y ≡ length x → AreMadeSo made lines 0 end w x y
+    → AreMadeSo made lines 0 (length x) w x y
+all_made made lines end w x y within long out = record {
   each = λ p d from before there line due. out.each p d from (omega (arith, line, within)) there line due;
   same = λ p d other. ⊎_elim
       (λ (less : p < 0). let none : ⊥ = omega (arith, less) in absurd none)
       (λ (past : length x ≤ p). get_or_past y p d (omega (arith, past, long)) ∙ sym (get_or_past x p d past))
       other;
+}
+
+-- what its session makes of a wire is the same while the line and what was seen of it stay
+judged_as : {C : Type 0} (old mid : Watched) (parts : List Part) (place : ℕ) (new : Standing C) → mid.lines ≡ old.lines
+    → slice_get mid.refusals place ≡ slice_get old.refusals place → IsJudged mid parts place new
+    → IsJudged old parts place new
+judged_as old mid parts place new lines refusals judged = record {
+  refused = λ line seen found known. judged.refused line seen
+      (ap (λ (ls : List ServedLine). slice_get ls place) lines ∙ found) (refusals ∙ known);
+  up = λ line found. judged.up line (ap (λ (ls : List ServedLine). slice_get ls place) lines ∙ found);
+}
+
+pub done_as : {C : Type 0} (moved : C → C → List ℕ → List ℕ → Type 0) (old mid : Watched) (parts : List Part)
+    (place : ℕ) (s new : Standing C) → mid.lines ≡ old.lines
+    → slice_get mid.refusals place ≡ slice_get old.refusals place → IsDone moved mid parts place s new
+    → IsDone moved old parts place s new
+done_as moved old mid parts place s new lines refusals done = record {
+  out = done.out;
+  judged = judged_as old mid parts place new lines refusals done.judged;
 }

@@ -1,10 +1,16 @@
 -- When a line takes a connection, and when it is looked for one again.
-use Rattle.std.specs.Prelude.{◌≡◌, ℕ, ◌⊎◌, ◌+◌, ◌-◌, ◌<◌, [], Bool, true, false, nat_le, min, if◌then◌else◌, IsSome, IsTrue}
+use Rattle.std.specs.Prelude.{◌≡◌, ℕ, ◌⊎◌, ◌+◌, ◌-◌, ◌<◌, [], Bool, true, false, nat_le, min, max, if◌then◌else◌}
+use Rattle.std.specs.Prelude.{IsSome, IsTrue}
+use Rattle.std.specs.Prelude.{Option, Some, None}
+use Rattle.std.specs.Net.Socket.{socket_ip}
+use Rattle.njh_anteroom.specs.Remembered.{refusals_of}
+use Rattle.njh_line.specs.declared.refusal.Refusal.{Refusal}
+use Rattle.njh_lines.specs.declared.entrance.Entrance.{Entrance}
 use Rattle.njh_hub.specs.declared.session_view.SessionView.{SessionView}
 use Rattle.njh_wire.specs.Readings.{IsOpen}
 use Rattle.njh_wire.specs.Standing.{Standing}
 use Rattle.njh_sites.specs.Admitting.{kept_until}
-use Rattle.njh_sight.specs.Sessions.{is_up, no_session_since}
+use Rattle.njh_sight.specs.Sessions.{is_up, no_session_since, refusal_event, refusals_event}
 use Rattle.njh_sight.specs.declared.label.Label.{Label}
 use Rattle.njh_wire.specs.declared.end.ConnectionEnd.{ConnectionEnd}
 use Rattle.njh_wire.specs.declared.end.ConnectionEnd.TheVariants as ends
@@ -63,6 +69,15 @@ abbrev pub told_connected : Label → (now : ℕ) → Label
 told_connected label now = if nat_le label.again now
     then record label { connected = true; again = min (now + 1000) 18446744073709551615 }
     else record label { connected = false }
+
+-- A sign-on that was refused is told with the address from which it came and with how many from there were refused, one
+-- at least: of an address of this machine nothing is remembered.
+abbrev pub told_refusal : {C : Type 0} → Option Refusal → Entrance C → LogEvent
+told_refusal why entrance = elim entrance.peer [
+  | None ↦ refusal_event why
+  | Some address ↦ refusals_event why (socket_ip address)
+      (max (refusals_of (socket_ip address) entrance.anteroom.remembered) 1)
+]
 
 -- its end, which came early if the peer ended it while a session was on its way up
 abbrev pub end_event : (is_early : Bool) → ConnectionEnd → LogEvent

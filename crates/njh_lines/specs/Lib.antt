@@ -1,7 +1,9 @@
 pub mod Attention
 pub mod Connecting
+pub mod Entrances
 pub mod LineStates
 pub mod Resting
+pub mod TurningAway
 pub mod Watching
 pub mod Wires
 pub mod Wrong

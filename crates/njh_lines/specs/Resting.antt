@@ -33,6 +33,7 @@ pub record HasRested {C : Type 0} (seen : Watched) (place : ℕ) (wire : Standin
 pub record IsSameAt (place : ℕ) (old new : Watched) : Type 0 where
   pub noted : slice_get new.noted place ≡ slice_get old.noted place
   pub watch : watch_at new.watches place ≡ watch_at old.watches place
+  pub refusals : slice_get new.refusals place ≡ slice_get old.refusals place
 
 -- Of the lines from the first of these places on, up to the other, each that was looked at rests. Of the others nothing
 -- changed.

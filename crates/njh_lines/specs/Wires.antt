@@ -5,7 +5,12 @@ use Rattle.njh_wire.specs.Readings.{IsFlushed}
 use Rattle.njh_wire.specs.Standing.{Standing}
 use Rattle.njh_lines.specs.Attention.{watch_at}
 use Rattle.njh_lines.specs.Connecting.{IsConnected}
-use Rattle.njh_lines.specs.Watching.{ServedLine}
+use Rattle.njh_hub.specs.Views.{hub_line, line_view}
+use Rattle.njh_hub.specs.declared.session_view.SessionView.{SessionView}
+use Rattle.njh_table.specs.declared.LineId.{LineId}
+use Rattle.njh_hub.specs.WholeHub.{HasLine, Part}
+use Rattle.njh_sight.specs.Sessions.{is_up, HasRefusedMore}
+use Rattle.njh_lines.specs.Watching.{ServedLine, Watched}
 use Rattle.njh_lines.specs.declared.attention.Watch.{Watch}
 
 -- ---- as it begins
@@ -35,12 +40,31 @@ pub record IsLetOut {C : Type 0} (moved : C → C → List ℕ → List ℕ → 
   pub flushed : 0 < length s.waiting → IsFlushed moved s middle
   pub left : IsLeft middle new
 
--- So it is on each of so many lines that is looked at, from the first of these places on, up to the other. Of the other
--- wires nothing changed.
-pub record AreLetOut {C : Type 0} (moved : C → C → List ℕ → List ℕ → Type 0) (lines first end : ℕ)
+-- what is shown of a line's session
+abbrev pub session_on : LineId → List Part → SessionView
+session_on id parts = line_view (hub_line id parts).state
+
+-- A line's session judges who is connected on its wire, as the line was seen before: where a sign-on was refused since,
+-- nobody is connected any more; and whether the session is up says what the next read may hold.
+pub record IsJudged {C : Type 0} (seen : Watched) (parts : List Part) (place : ℕ) (new : Standing C) : Type 0 where
+  pub refused : (line : ServedLine) (refusals : ℕ) → slice_get seen.lines place ≡ Some line
+      → slice_get seen.refusals place ≡ Some refusals → HasLine parts line.id
+      → HasRefusedMore refusals (session_on line.id parts) → ¬ IsConnected new
+  pub up : (line : ServedLine) → slice_get seen.lines place ≡ Some line → HasLine parts line.id
+      → new.up ≡ is_up (session_on line.id parts).phase
+
+-- Both are done with the wire of the line at a place.
+pub record IsDone {C : Type 0} (moved : C → C → List ℕ → List ℕ → Type 0) (seen : Watched) (parts : List Part)
+    (place : ℕ) (s new : Standing C) : Type 0 where
+  pub out : IsLetOut moved s new
+  pub judged : IsJudged seen parts place new
+
+-- So much is made of the wire of each of so many lines that is looked at, from the first of these places on, up to the
+-- other. Of the other wires nothing changed.
+pub record AreMadeSo {C : Type 0} (made : ℕ → Standing C → Standing C → Type 0) (lines first end : ℕ)
     (watches : List Watch) (wires new_wires : List (Standing C)) : Type 0 where
   pub each : (place : ℕ) (d : Standing C) → first ≤ place → place < end → place < length wires
       → place < lines → IsTrue (watch_at watches place).is_due
-      → IsLetOut moved (slice_index_or wires place d) (slice_index_or new_wires place d)
+      → made place (slice_index_or wires place d) (slice_index_or new_wires place d)
   pub same : (place : ℕ) (d : Standing C) → (place < first) ⊎ (end ≤ place)
       → slice_index_or new_wires place d ≡ slice_index_or wires place d

@@ -1,82 +1,99 @@
 //! How a line gets a connection and loses it, and what is told of that.
 
-ghost use Rattle.std.specs.Prelude.{◌≡◌, ◌<◌, ◌≤◌, ◌⊎◌, None, false, IsTrue};
+ghost use Rattle.std.specs.Prelude.{◌≡◌, ℕ, ◌<◌, ◌≤◌, ◌⊎◌, ◌↔◌, max, min, nat_lt, None, Some, false, IfSome, IsTrue};
 ghost use Rattle.njh_wire.specs.Standing.{after_admission, after_displacement};
 ghost use Rattle.njh_wire.specs.Tally.{tally};
+ghost use Rattle.njh_anteroom.specs.declared.guest.Guest.{Guest};
+ghost use Rattle.njh_lines.specs.Entrances.{left_after, next_guest, visited, wanted_at};
+ghost use Rattle.njh_lines.specs.TurningAway.{away_left, away_moment, away_told};
 ghost use Rattle.njh_lines.specs.Connecting.{end_event, place_of, told_connected, IsBarred, KeepsLine};
+ghost use Rattle.njh_lines.specs.Connecting.{told_refusal};
 ghost use Rattle.njh_log.specs.Limiting.{IsTold};
 ghost use Rattle.njh_sites.specs.Admitting.{kept_until, listens_again};
 ghost use Rattle.njh_sites.specs.Dialling.{connection_in, dial_moment, failed, given_up_at, next_dial, IsToCome};
 
+use crate::entrance::Entrance;
 use crate::surroundings::Surroundings;
-use njh_log::{ConnectionFailure, LogEvent};
-use njh_sight::Label;
+use njh_anteroom::{Entry, Guest};
+use njh_line::Refusal;
+use njh_log::{ConnectionFailure, LogEvent, Rebuff};
+use njh_sight::{Label, refusal_event, refusals_event};
 use njh_sites::{Admission, Dial, DialAnswer, answer_of, keeps_line, kept_until, listens_again};
 use njh_wire::{Connection, ConnectionEnd, LineWire, Network};
 use std::io::Write;
+use std::net::SocketAddr;
 
 /// How often connections of a line are told at most.
 const TELL: u64 = 1_000;
 
-/// Takes a connection that waits, if the line has none or one that was without a session for
-/// ten seconds, and no sign-on was refused on it in the second before. Answers when the listener
-/// is to be looked at again.
-pub(crate) fn admit<N: Network + Drop, L: Write + Drop>(
+/// How many connections are accepted of a line's listener at once.
+const AT_ONCE: usize = 16;
+
+/// Lets connections that wait to be accepted into a line's anteroom, a few at once, and tells of
+/// those that were closed. Answers when the listener is to be looked at again.
+pub(crate) fn let_in<N: Network + Drop, L: Write + Drop>(
     surroundings: &mut Surroundings<N, L>,
     listener: &mut N::Listener,
+    entrance: &mut Entrance<N::Connection>,
     label: &mut Label,
-    wire: &mut LineWire<N::Connection>,
 ) -> u64
-    ensures counts { wire.old.failures ≤ wire.new.failures }
-    ensures tally { tally wire.new ≡ tally wire.old }
-    ensures clock { wire.new.clock ≡ wire.old.clock }
     ensures now { surroundings.new.now ≡ surroundings.old.now }
     ensures customers { surroundings.new.customers ≡ surroundings.old.customers }
     ensures address { N.address_of listener.new ≡ N.address_of listener.old }
-    ensures barred { IsBarred label.old surroundings.old.now → (wire.new ≡ wire.old) × ((label.new ≡ label.old)
-        × (result ≡ label.old.barred_until)) }
-    ensures kept { ¬ IsBarred label.old surroundings.old.now → KeepsLine wire.old label.old surroundings.old.now →
-        (wire.new ≡ wire.old) × ((label.new ≡ label.old)
-        × (result ≡ kept_until label.old.up label.old.no_session_since)) }
-    ensures tried { ¬ IsBarred label.old surroundings.old.now → ¬ KeepsLine wire.old label.old surroundings.old.now →
-        (admission : Admission) × (result ≡ listens_again admission surroundings.old.now) }
-    ensures same { surroundings.old.now < result → wire.new ≡ wire.old }
+    ensures label { label.new ≡ record label.old { again = label.new.again } }
+    ensures again { (admission : Admission) × (result
+        ≡ min (listens_again admission surroundings.old.now) (away_moment entrance.new.turned_away)) }
+    ensures told { away_told entrance.new.turned_away surroundings.old.now ≡ None }
+    ensures remembered { entrance.new.anteroom.remembered ≡ entrance.old.anteroom.remembered }
+    ensures peer { entrance.new.peer ≡ entrance.old.peer }
 {
-    if surroundings.now < label.barred_until {
-        return label.barred_until;
-    }
-    let since = label.no_session_since;
-    if keeps_line(wire.is_connected(), label.up, since, surroundings.now) {
-        return kept_until(label.up, since);
-    }
-    let admission = accept(surroundings, listener, label, wire);
-    listens_again(admission, surroundings.now)
+    let admission = accept_some(surroundings, listener, entrance, label);
+    tell_turned_away(surroundings, entrance, label);
+    let again = listens_again(admission, surroundings.now);
+    again.min(entrance.turned_away.moment())
 }
 
-/// Takes a connection that waits, if there is one.
+/// Accepts connections that wait, a few at once. Answers what came of the last.
+fn accept_some<N: Network + Drop, L: Write + Drop>(
+    surroundings: &mut Surroundings<N, L>,
+    listener: &mut N::Listener,
+    entrance: &mut Entrance<N::Connection>,
+    label: &mut Label,
+) -> Admission
+    ensures now { surroundings.new.now ≡ surroundings.old.now }
+    ensures customers { surroundings.new.customers ≡ surroundings.old.customers }
+    ensures address { N.address_of listener.new ≡ N.address_of listener.old }
+    ensures label { label.new ≡ record label.old { again = label.new.again } }
+    ensures remembered { entrance.new.anteroom.remembered ≡ entrance.old.anteroom.remembered }
+    ensures peer { entrance.new.peer ≡ entrance.old.peer }
+{
+    for _ in 0..AT_ONCE {
+        let admission = accept(surroundings, listener, entrance, label);
+        if admission != Admission::Taken {
+            return admission;
+        }
+    }
+    Admission::Taken
+}
+
+/// Accepts a connection that waits, if there is one: it waits in the anteroom then, or is closed.
 fn accept<N: Network + Drop, L: Write + Drop>(
     surroundings: &mut Surroundings<N, L>,
     listener: &mut N::Listener,
+    entrance: &mut Entrance<N::Connection>,
     label: &mut Label,
-    wire: &mut LineWire<N::Connection>,
 ) -> Admission
-    ensures counts { wire.old.failures ≤ wire.new.failures }
-    ensures tally { tally wire.new ≡ tally wire.old }
-    ensures clock { wire.new.clock ≡ wire.old.clock }
     ensures now { surroundings.new.now ≡ surroundings.old.now }
     ensures customers { surroundings.new.customers ≡ surroundings.old.customers }
     ensures address { N.address_of listener.new ≡ N.address_of listener.old }
-    ensures same { (result ≡ Admission.Taken) ⊎ (wire.new ≡ wire.old) }
+    ensures label { label.new ≡ record label.old { again = label.new.again } }
+    ensures remembered { entrance.new.anteroom.remembered ≡ entrance.old.anteroom.remembered }
+    ensures peer { entrance.new.peer ≡ entrance.old.peer }
+    ensures same { (result ≡ Admission.Taken) ⊎ (entrance.new ≡ entrance.old) }
 {
     match surroundings.network.accept(listener) {
         Ok(Some((connection, address))) => {
-            connect(
-                surroundings,
-                label,
-                wire,
-                connection,
-                LogEvent::ConnectedFrom(address),
-            );
+            receive(surroundings, entrance, connection, address);
             Admission::Taken
         }
         Ok(None) => Admission::NobodyWaits,
@@ -90,47 +107,148 @@ fn accept<N: Network + Drop, L: Write + Drop>(
     }
 }
 
-/// Gives a line a connection of its own, in place of one that it has. One of another line is
-/// dropped.
-fn connect<N: Network + Drop, L: Write + Drop>(
+/// A connection comes to a line from an address: it waits in the anteroom, or it is closed, and
+/// counted.
+fn receive<N: Network + Drop, L: Write + Drop>(
     surroundings: &mut Surroundings<N, L>,
+    entrance: &mut Entrance<N::Connection>,
+    connection: N::Connection,
+    address: SocketAddr,
+)
+    ensures now { surroundings.new.now ≡ surroundings.old.now }
+    ensures customers { surroundings.new.customers ≡ surroundings.old.customers }
+    ensures came { entrance.new ≡ visited address (nat_lt surroundings.old.guests surroundings.old.most_guests)
+        surroundings.old.now connection entrance.old }
+{
+    let entry = surroundings.seat(&mut entrance.anteroom, connection, address);
+    if let Entry::TurnedAway = entry {
+        entrance.turned_away.note();
+    }
+}
+
+/// Tells how many connections were closed as they came, if that is to be told now.
+fn tell_turned_away<N: Network + Drop, L: Write + Drop>(
+    surroundings: &mut Surroundings<N, L>,
+    entrance: &mut Entrance<N::Connection>,
+    label: &Label,
+)
+    ensures now { surroundings.new.now ≡ surroundings.old.now }
+    ensures customers { surroundings.new.customers ≡ surroundings.old.customers }
+    ensures taken { entrance.new ≡ record entrance.old {
+      turned_away = away_left entrance.old.turned_away surroundings.old.now;
+    } }
+    ensures logged { IfSome (away_told entrance.old.turned_away surroundings.old.now) (λ count.
+        IsTold L.contents (place_of label.now) (LogEvent.TurnedAway Rebuff.NoRoom count) surroundings.old.now
+        surroundings.old.log surroundings.new.log) }
+    ensures silent { away_told entrance.old.turned_away surroundings.old.now ≡ None →
+        surroundings.new ≡ surroundings.old }
+{
+    match entrance.turned_away.take(surroundings.now) {
+        Some(count) => surroundings.tell(label, LogEvent::TurnedAway(Rebuff::NoRoom, count)),
+        None => {}
+    }
+}
+
+/// Gives the line to one who waits in its anteroom, if the line has no connection or one that was
+/// without a session for ten seconds, and no sign-on was refused on it in the second before. Answers
+/// when the anteroom is to be looked at again.
+pub(crate) fn admit<N: Network + Drop, L: Write + Drop>(
+    surroundings: &mut Surroundings<N, L>,
+    entrance: &mut Entrance<N::Connection>,
     label: &mut Label,
     wire: &mut LineWire<N::Connection>,
-    connection: N::Connection,
-    event: LogEvent,
-)
+) -> u64
     ensures counts { wire.old.failures ≤ wire.new.failures }
     ensures tally { tally wire.new ≡ tally wire.old }
     ensures clock { wire.new.clock ≡ wire.old.clock }
     ensures now { surroundings.new.now ≡ surroundings.old.now }
     ensures customers { surroundings.new.customers ≡ surroundings.old.customers }
-    ensures taken { N.Connection.place_of connection ≡ wire.old.place →
-        wire.new ≡ record (after_admission connection (after_displacement wire.old)) { end = None } }
-    ensures came { N.Connection.place_of connection ≡ wire.old.place →
-        (label.new.no_session_since ≡ surroundings.old.now) × ((label.new.in_session ≡ false)
-        × (label.new.had_session ≡ false)) }
+    ensures barred { IsBarred label.old surroundings.old.now → (wire.new ≡ wire.old) × ((label.new ≡ label.old)
+        × ((entrance.new ≡ entrance.old) × (result ≡ max label.old.barred_until (wanted_at entrance.old)))) }
+    ensures kept { ¬ IsBarred label.old surroundings.old.now → KeepsLine wire.old label.old surroundings.old.now →
+        (wire.new ≡ wire.old) × ((label.new ≡ label.old) × ((entrance.new ≡ entrance.old)
+        × (result ≡ max (kept_until label.old.up label.old.no_session_since) (wanted_at entrance.old)))) }
+    ensures nobody { ¬ IsBarred label.old surroundings.old.now → ¬ KeepsLine wire.old label.old surroundings.old.now →
+        next_guest surroundings.old.now entrance.old ≡ None →
+        (wire.new ≡ wire.old) × ((label.new ≡ label.old) × (result ≡ wanted_at entrance.new)) }
+    ensures waiting { ¬ IsBarred label.old surroundings.old.now → ¬ KeepsLine wire.old label.old surroundings.old.now →
+        entrance.new.anteroom.waiting ≡ left_after surroundings.old.now entrance.old }
+    ensures given { ¬ IsBarred label.old surroundings.old.now → ¬ KeepsLine wire.old label.old surroundings.old.now →
+        (guest : Guest N.Connection) → next_guest surroundings.old.now entrance.old ≡ Some guest →
+        N.Connection.place_of guest.connection ≡ wire.old.place →
+        (wire.new ≡ record (after_admission guest.connection (after_displacement wire.old)) { end = None })
+        × (entrance.new.peer ≡ Some guest.address) }
 {
+    let now = surroundings.now;
+    if now < label.barred_until {
+        return label.barred_until.max(entrance.anteroom.next_at());
+    }
+    let since = label.no_session_since;
+    if keeps_line(wire.is_connected(), label.up, since, now) {
+        return kept_until(label.up, since).max(entrance.anteroom.next_at());
+    }
+    match surroundings.next_of(&mut entrance.anteroom) {
+        Some(guest) => {
+            let address = guest.address;
+            if connect(surroundings, entrance, label, wire, guest) {
+                tell_connected(surroundings, label, LogEvent::ConnectedFrom(address));
+            }
+            kept_until(label.up, label.no_session_since).max(entrance.anteroom.next_at())
+        }
+        None => entrance.anteroom.next_at(),
+    }
+}
+
+/// Gives a line a connection of its own, in place of one that it has, and answers whether it did.
+/// One of another line is dropped.
+fn connect<N: Network + Drop, L: Write + Drop>(
+    surroundings: &mut Surroundings<N, L>,
+    entrance: &mut Entrance<N::Connection>,
+    label: &mut Label,
+    wire: &mut LineWire<N::Connection>,
+    guest: Guest<N::Connection>,
+) -> bool
+    ensures counts { wire.old.failures ≤ wire.new.failures }
+    ensures tally { tally wire.new ≡ tally wire.old }
+    ensures clock { wire.new.clock ≡ wire.old.clock }
+    ensures now { surroundings.new.now ≡ surroundings.old.now }
+    ensures customers { surroundings.new.customers ≡ surroundings.old.customers }
+    ensures own { IsTrue result ↔ (N.Connection.place_of guest.connection ≡ wire.old.place) }
+    ensures taken { IsTrue result →
+        wire.new ≡ record (after_admission guest.connection (after_displacement wire.old)) { end = None } }
+    ensures came { IsTrue result → (label.new.no_session_since ≡ surroundings.old.now)
+        × ((label.new.in_session ≡ false) × (label.new.had_session ≡ false)) }
+    ensures given { IsTrue result → entrance.new.peer ≡ Some guest.address }
+    ensures waiting { entrance.new.anteroom.waiting ≡ entrance.old.anteroom.waiting }
+{
+    let Guest {
+        connection,
+        address,
+        ..
+    } = guest;
     if connection.place() != wire.place() {
-        return;
+        return false;
     }
     wire.connect(connection);
     if let Some(end) = wire.take_end() {
         tell_end(surroundings, label, end, false);
+        entrance.part(label.had_session, false, surroundings.now);
     }
+    entrance.give(address);
     // That the session before used up its tries ends its own connection, and not this one.
     label.in_session = false;
     label.had_session = false;
     label.no_session_since = surroundings.now;
     label.connected_since = surroundings.now;
     label.awaits_again = 0;
-    tell_connected(surroundings, label, event);
+    true
 }
 
 /// Dials, or sees whether a dial was answered.
 pub(crate) fn drive<N: Network + Drop, L: Write + Drop>(
     surroundings: &mut Surroundings<N, L>,
-    place: usize,
     dial: &mut Dial<N::Connection>,
+    entrance: &mut Entrance<N::Connection>,
     label: &mut Label,
     wire: &mut LineWire<N::Connection>,
 )
@@ -140,32 +258,35 @@ pub(crate) fn drive<N: Network + Drop, L: Write + Drop>(
     ensures now { surroundings.new.now ≡ surroundings.old.now }
     ensures customers { surroundings.new.customers ≡ surroundings.old.customers }
     ensures address { dial.new.address ≡ dial.old.address }
-    ensures begun { IsToCome dial.old.state surroundings.old.now → (dial_moment dial.new.state ≡ given_up_at surroundings.old.now)
+    ensures begun { IsToCome dial.old.state surroundings.old.now →
+        (dial_moment dial.new.state ≡ given_up_at surroundings.old.now)
         ⊎ (dial_moment dial.new.state ≡ next_dial dial.old.has_failed dial.old.pause surroundings.old.now) }
     ensures idle { ¬ IsToCome dial.old.state surroundings.old.now → connection_in dial.old.state ≡ None →
         wire.new ≡ wire.old }
 {
     if dial.is_to_come(surroundings.now) {
-        match surroundings.network.dial(dial.address(), place) {
+        match surroundings.network.dial(dial.address(), wire.place()) {
             Ok(connection) => dial.begin(connection, surroundings.now),
             Err(_) => give_up(surroundings, dial, label),
         }
         return;
     }
     let until = dial.moment();
+    let address = dial.address();
     let Some(made) = dial.ask(&mut surroundings.network) else {
         return;
     };
     match answer_of(made, until, surroundings.now) {
         DialAnswer::Made => {
             if let Some(connection) = dial.take() {
-                connect(
-                    surroundings,
-                    label,
-                    wire,
+                let guest = Guest {
                     connection,
-                    LogEvent::ConnectedTo(dial.address()),
-                );
+                    address,
+                    since: surroundings.now,
+                };
+                if connect(surroundings, entrance, label, wire, guest) {
+                    tell_connected(surroundings, label, LogEvent::ConnectedTo(address));
+                }
             }
         }
         DialAnswer::Waits => {}
@@ -230,6 +351,20 @@ pub(crate) fn tell_end<N: Network + Drop, L: Write + Drop>(
     }
     label.connected = false;
     surroundings.tell(label, end_event(end, is_early));
+}
+
+/// What is told of a sign-on that was refused: from which address it came, and how many from there
+/// were refused so far.
+pub(crate) fn told_refusal<C: Drop>(why: Option<Refusal>, entrance: &Entrance<C>) -> LogEvent
+    ensures { result ≡ told_refusal why entrance.now }
+{
+    match entrance.peer {
+        Some(address) => {
+            let count = entrance.anteroom.refusals_of(address.ip());
+            refusals_event(why, address.ip(), count.max(1))
+        }
+        None => refusal_event(why),
+    }
 }
 
 /// What is told of a connection's end, which may come early.

@@ -7,20 +7,21 @@ ghost use Rattle.njh_log.specs.declared.entry.LogEvent.{LogEvent};
 ghost use Rattle.njh_sites.specs.Doors.{cause_in, door_address, to_try, IsLookedAtAgain, IsTried};
 ghost use Rattle.njh_lines.specs.Connecting.{place_of};
 
-use crate::connecting::admit;
+use crate::connecting::{admit, let_in};
+use crate::entrance::Entrance;
 use crate::surroundings::Surroundings;
 use njh_sight::Label;
 use njh_sites::{Door, try_again};
 use njh_wire::{LineWire, Network};
 use std::io::Write;
 
-/// Tries the port of a line again if nothing listens there and the time for that came, and
-/// takes a connection that waits if something does. Answers when the door is to be looked at
-/// again.
+/// Tries the port of a line again if nothing listens there and the time for that came. If something
+/// does, lets those in who wait to be accepted, and gives the line to one if it is free. Answers when
+/// the door is to be looked at again.
 pub(crate) fn keep_door<N: Network + Drop, L: Write + Drop>(
     surroundings: &mut Surroundings<N, L>,
-    place: usize,
     door: &mut Door<N::Listener>,
+    entrance: &mut Entrance<N::Connection>,
     label: &mut Label,
     wire: &mut LineWire<N::Connection>,
 ) -> u64
@@ -35,9 +36,12 @@ pub(crate) fn keep_door<N: Network + Drop, L: Write + Drop>(
     ensures waits { to_try door.old surroundings.old.now ≡ None → IsSome (cause_in door.old) →
         (door.new ≡ door.old) × (wire.new ≡ wire.old) }
 {
-    try_door(surroundings, place, door, label);
+    try_door(surroundings, wire.place(), door, label);
     match door {
-        Door::Open(listener) => admit(surroundings, listener, label, wire),
+        Door::Open(listener) => {
+            let again = let_in(surroundings, listener, entrance, label);
+            admit(surroundings, entrance, label, wire).min(again)
+        }
         Door::Shut { again, .. } => *again,
     }
 }

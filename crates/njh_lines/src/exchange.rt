@@ -20,12 +20,13 @@ ghost use Rattle.njh_lines.specs.LineStates.{line_settled, line_wished, AreFree,
 ghost use Rattle.njh_lines.specs.Resting.{HasRested, HaveEnded, IsNextLook, IsSameAt, WaitsForFirst};
 ghost use Rattle.njh_lines.specs.Watching.{served_line, HasBegun, HasNoted, HaveBegun, IsRoundBegun, IsToBePrompted};
 ghost use Rattle.njh_lines.specs.Watching.{Noted, ServedLine};
-ghost use Rattle.njh_lines.specs.Wires.{AreHeld, AreLetOut, IsLeft, IsLetOut};
+ghost use Rattle.njh_lines.specs.Wires.{AreHeld, AreMadeSo, IsDone, IsJudged, IsLeft};
 ghost use Rattle.njh_lines.specs.declared.attention.Watch.{Watch};
 
 use crate::attention::{
     AT_ONCE, NOTHING, Watch, add_to_groups, call_group, look_at_group, wait_of,
 };
+use crate::entrance::Entrance;
 use crate::groups::{begin_groups, end_group};
 use crate::line_state::is_draining;
 use crate::post::Post;
@@ -65,6 +66,8 @@ pub struct Exchange<N: Network + Drop, L: Write + Drop> {
     pub(crate) next: u64,
     /// When files came.
     arrivals: Arrivals,
+    /// Where the anterooms of lines take their memory, as these are added.
+    alloc: Global,
 }
 
 impl<N: Network + Drop, L: Write + Drop> Model for Exchange<N, L> {
@@ -91,8 +94,9 @@ impl<N: Network + Drop, L: Write + Drop> Model for Exchange<N, L> {
 }
 
 impl<N: Network + Drop, L: Write + Drop> Exchange<N, L> {
-    /// One on this network and with this log, which serves no line yet.
-    pub fn new(alloc: Global, network: N, log: Log<L>) -> Exchange<N, L>
+    /// One on this network and with this log, which serves no line yet. In the anterooms of its
+    /// lines so many wait at most, all together.
+    pub fn new(alloc: Global, network: N, log: Log<L>, most_guests: u64) -> Exchange<N, L>
         ensures { result.lines ≡ [] }
     {
         Exchange {
@@ -102,6 +106,8 @@ impl<N: Network + Drop, L: Write + Drop> Exchange<N, L> {
                 now: 0,
                 customers: Customers::none(),
                 commands: 0,
+                guests: 0,
+                most_guests,
             },
             posts: Vec::new(alloc),
             ready: Vec::new(alloc),
@@ -109,6 +115,7 @@ impl<N: Network + Drop, L: Write + Drop> Exchange<N, L> {
             groups: Vec::new(alloc),
             next: 0,
             arrivals: Arrivals::empty(alloc),
+            alloc,
         }
     }
 
@@ -289,6 +296,7 @@ impl<N: Network + Drop, L: Write + Drop> Exchange<N, L> {
         ensures err { OnErr result (self.new ≡ self.old) }
     {
         let label = Label::of(names);
+        let entrance = Entrance::new(self.alloc)?;
         self.posts.reserve(1)?;
         self.ready.reserve(1)?;
         self.watches.reserve(1)?;
@@ -298,7 +306,8 @@ impl<N: Network + Drop, L: Write + Drop> Exchange<N, L> {
             .add(id.customer, self.posts.len());
         self.ready.push_reserved(NOTHING);
         self.watches.push_reserved(AT_ONCE);
-        self.posts.push_reserved(Post::new(id, label, site));
+        self.posts
+            .push_reserved(Post::new(id, label, site, entrance));
         self.next = 0;
         Ok(())
     }
@@ -425,7 +434,7 @@ impl<N: Network + Drop, L: Write + Drop> Exchange<N, L> {
     }
 
     /// Of each line that was looked at, which are all that had a turn, lets out what waits, ends a
-    /// connection whose session gave up, and tells what changed. Then has those lines looked at in
+    /// connection whose session gave up or refused a sign-on, and tells what changed. Then has those lines looked at in
     /// the next round to which others of their customers gave something to send.
     pub fn end_round(&mut self, hub: &Hub, wires: &mut [LineWire<N::Connection>])
         ensures still { AreStill IsTallied (λ wire. wire.failures) wires.old wires.new }
@@ -433,8 +442,8 @@ impl<N: Network + Drop, L: Write + Drop> Exchange<N, L> {
         ensures now { self.new.now ≡ self.old.now }
         ensures waits { WaitsForFirst self.new }
         ensures ended { HaveEnded self.old self.new hub.now wires.new }
-        ensures out { AreLetOut N.Connection.moved (length self.old.lines) 0 (length wires.old) self.old.watches
-            wires.old wires.new }
+        ensures done { AreMadeSo (λ place s new. IsDone N.Connection.moved self.old hub.now place s new)
+            (length self.old.lines) 0 (length wires.old) self.old.watches wires.old wires.new }
     {
         let mut next = u64::MAX;
         for group in 0..self.groups.len() {
@@ -455,8 +464,8 @@ impl<N: Network + Drop, L: Write + Drop> Exchange<N, L> {
             HasRested self.new place wire.new (watch_at self.new.watches place) }
         ensures idle { ¬ IsTrue (watch_at self.old.watches place).is_due → IsSameAt place self.old self.new }
         ensures others { (other : ℕ) → other ≢ place → IsSameAt other self.old self.new }
-        ensures out { IsTrue (watch_at self.old.watches place).is_due →
-            IsLetOut N.Connection.moved wire.old wire.new }
+        ensures done { IsTrue (watch_at self.old.watches place).is_due →
+            IsDone N.Connection.moved self.old hub.now place wire.old wire.new }
     {
         if !self.is_due(place) {
             return;
@@ -471,6 +480,7 @@ impl<N: Network + Drop, L: Write + Drop> Exchange<N, L> {
         requires { IsTrue (watch_at self.old.watches place).is_due }
         ensures lines { self.new.lines ≡ self.old.lines }
         ensures noted { self.new.noted ≡ self.old.noted }
+        ensures refusals { self.new.refusals ≡ self.old.refusals }
         ensures customers { self.new.customers ≡ self.old.customers }
         ensures now { self.new.now ≡ self.old.now }
         ensures rests { place < length self.old.lines →
@@ -499,6 +509,9 @@ impl<N: Network + Drop, L: Write + Drop> Exchange<N, L> {
             IsNextLook wire.new noted self.old.now result }
         ensures others { (other : ℕ) → other ≢ place →
             slice_get self.new.noted other ≡ slice_get self.old.noted other }
+        ensures counts_of_others { (other : ℕ) → other ≢ place →
+            slice_get self.new.refusals other ≡ slice_get self.old.refusals other }
+        ensures judged { IsJudged self.old hub.now place wire.new }
         ensures kept { (line : ServedLine) → (seen : ℕ) → slice_get self.old.lines place ≡ Some line →
             slice_get self.old.refusals place ≡ Some seen → HasLine hub.now line.id → ¬ HasGivenUp hub.now line.id →
             ¬ HasRefusedMore seen (line_view (hub_line line.id hub.now).state) →

@@ -6,7 +6,7 @@ ghost use Rattle.njh_wire.specs.Tally.{IsTallied};
 ghost use Rattle.njh_lines.specs.Attention.{mark_at, watch_at, IsAnyMarked, IsInGroup};
 ghost use Rattle.njh_lines.specs.Resting.{HaveRested, IsMomentIn};
 ghost use Rattle.njh_lines.specs.Watching.{HasBegun, HaveBegun};
-ghost use Rattle.njh_lines.specs.Wires.{AreHeld, AreLetOut};
+ghost use Rattle.njh_lines.specs.Wires.{AreHeld, AreMadeSo, IsDone};
 
 use crate::attention::{AT_ONCE, Watch, first_moment, is_any_due, is_any_marked, places_of};
 use crate::exchange::Exchange;
@@ -71,8 +71,8 @@ pub(crate) fn end_group<N: Network + Drop, L: Write + Drop>(
         result ≤ (watch_at exchange.new.watches place).moment }
     ensures wanted { IsMomentIn group exchange.new result }
     ensures rested { HaveRested (16 * group) (16 * group + 16) exchange.old exchange.new wires.new }
-    ensures out { AreLetOut N.Connection.moved (length exchange.old.lines) (16 * group) (16 * group + 16)
-        exchange.old.watches wires.old wires.new }
+    ensures done { AreMadeSo (λ place s new. IsDone N.Connection.moved exchange.old hub.now place s new)
+        (length exchange.old.lines) (16 * group) (16 * group + 16) exchange.old.watches wires.old wires.new }
 {
     let watch = watch_of(exchange, group);
     if !watch.is_due {

@@ -4,6 +4,7 @@
 mod attention;
 mod connecting;
 mod doors;
+mod entrance;
 mod exchange;
 mod groups;
 mod line_state;
@@ -13,10 +14,13 @@ mod states;
 mod stopping;
 mod surroundings;
 mod telling;
+mod turned_away;
 mod visiting;
 mod waking;
 mod wrong;
 
+pub use entrance::Entrance;
 pub use exchange::Exchange;
 pub use post::Post;
+pub use turned_away::TurnedAway;
 pub use wrong::wrong_on;

@@ -5,10 +5,12 @@ ghost use Rattle.std.specs.declared.net.socket_addr.SocketAddr.{SocketAddr};
 ghost use Rattle.njh_request.specs.declared.request.LineState.TheVariants.{Started};
 ghost use Rattle.njh_sites.specs.Dialling.{moment_of_loss, site_lost};
 ghost use Rattle.njh_sites.specs.Opened.{site_kept, site_opened};
-ghost use Rattle.njh_sight.specs.Sessions.{after_session, after_step};
+ghost use Rattle.njh_sight.specs.Sessions.{after_session, after_step, had_session};
 ghost use Rattle.njh_lines.specs.Connecting.{moment_behind, moment_seen};
+ghost use Rattle.njh_lines.specs.Entrances.{parted_as_lost, seen_session};
 ghost use Rattle.njh_lines.specs.LineStates.{change_event};
 
+use crate::entrance::Entrance;
 use crate::line_state::change_event;
 use njh_hub::SessionView;
 use njh_log::{DownCause, LogEvent};
@@ -31,6 +33,8 @@ pub struct Post<Li: Drop, C: Drop> {
     pub state: LineState,
     /// Its door, or its dials.
     pub site: Site<Door<Li>, Dial<C>>,
+    /// Who comes to it.
+    pub entrance: Entrance<C>,
     /// What the log calls it, and what it told of it.
     pub label: Label,
     /// What its streams were about after the last step on it.
@@ -42,8 +46,13 @@ pub struct Post<Li: Drop, C: Drop> {
 }
 
 impl<Li: Drop, C: Drop> Post<Li, C> {
-    /// A line on which nothing happened yet.
-    pub(crate) fn new(id: LineId, label: Label, site: Site<Door<Li>, SocketAddr>) -> Post<Li, C>
+    /// A line on which nothing happened yet, with its entrance.
+    pub(crate) fn new(
+        id: LineId,
+        label: Label,
+        site: Site<Door<Li>, SocketAddr>,
+        entrance: Entrance<C>,
+    ) -> Post<Li, C>
         ensures line { result.line ≡ id }
         ensures state { result.state ≡ Started }
         ensures site { (address_of : Li → SocketAddr)
@@ -58,6 +67,7 @@ impl<Li: Drop, C: Drop> Post<Li, C> {
                 Site::Listens(door) => Site::Listens(door),
                 Site::Dials(address) => Site::Dials(Dial::new(address)),
             },
+            entrance,
             label,
             streams: Streams::idle(),
             steps: Steps::none(),
@@ -71,11 +81,14 @@ impl<Li: Drop, C: Drop> Post<Li, C> {
         ensures { self.new ≡ record self.old {
           label = after_session self.old.label session end now;
           moment = moment_seen self.old.label session now self.old.moment;
+          entrance = seen_session self.old.label.had_session (had_session self.old.label session) self.old.entrance;
         } }
     {
         let was_up = self.label.up;
+        let had_session = self.label.had_session;
         self.label.see(session, end, now);
         self.wait(was_up);
+        self.note_session(had_session);
     }
 
     /// A step left its session so; if it is down, it ended so. Its site is looked at as if it was
@@ -84,11 +97,25 @@ impl<Li: Drop, C: Drop> Post<Li, C> {
         ensures { self.new ≡ record self.old {
           label = after_step self.old.label session end now;
           moment = moment_seen self.old.label session now self.old.moment;
+          entrance = seen_session self.old.label.had_session (had_session self.old.label session) self.old.entrance;
         } }
     {
         let was_up = self.label.up;
+        let had_session = self.label.had_session;
         self.label.follow(session, end, now);
         self.wait(was_up);
+        self.note_session(had_session);
+    }
+
+    /// If a session was up on its connection for the first time, that is noted of who has it.
+    fn note_session(&mut self, had_session: bool)
+        ensures { self.new ≡ record self.old {
+          entrance = seen_session had_session self.old.label.had_session self.old.entrance;
+        } }
+    {
+        if self.label.had_session && !had_session {
+            self.entrance.note_session();
+        }
     }
 
     /// If its session was up before, its site is looked at ten seconds after that ended, if not
@@ -136,8 +163,11 @@ impl<Li: Drop, C: Drop> Post<Li, C> {
         }
     }
 
-    /// The line has no connection any more.
-    pub(crate) fn lose(&mut self, now: u64)
+    /// The line has no connection any more; `was_refused`: since a sign-on was refused on it, which
+    /// was noted of who had it.
+    pub(crate) fn lose(&mut self, was_refused: bool, now: u64)
+        ensures entrance { self.new.entrance
+            ≡ parted_as_lost self.old.label.had_session was_refused now self.old.entrance }
         ensures line { self.new.line ≡ self.old.line }
         ensures state { self.new.state ≡ self.old.state }
         ensures site { (address_of : Li → SocketAddr)
@@ -147,6 +177,9 @@ impl<Li: Drop, C: Drop> Post<Li, C> {
             ≡ moment_of_loss self.old.label.had_session self.old.site self.old.moment now }
         ensures label { self.new.label ≡ self.old.label }
     {
+        if !was_refused {
+            self.entrance.part(self.label.had_session, false, now);
+        }
         match &mut self.site {
             Site::Listens(_) => self.moment = self.moment.min(now),
             Site::Dials(dial) => {

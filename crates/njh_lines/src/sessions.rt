@@ -1,11 +1,11 @@
 //! What the attendant sees of a line's session, and tells of it.
 
-ghost use Rattle.std.specs.Prelude.{◌≡◌, ◌≤◌, ◌↔◌, ◌⊎◌, None, IsSome, IfSome, IsTrue};
+ghost use Rattle.std.specs.Prelude.{◌≡◌, ◌≤◌, ◌↔◌, ◌⊎◌, None, Some, true, IsSome, IfSome, IsTrue};
 ghost use Rattle.njh_hub.specs.Views.{HasGivenUp, hub_line, line_view};
 ghost use Rattle.njh_hub.specs.WholeHub.{HasLine};
 ghost use Rattle.njh_wire.specs.Standing.{after_close};
 ghost use Rattle.njh_wire.specs.Tally.{tally};
-ghost use Rattle.njh_log.specs.Limiting.{IsTold};
+ghost use Rattle.njh_log.specs.Limiting.{IsTold as IsLogged};
 ghost use Rattle.njh_sites.specs.Dialling.{moment_of_loss};
 ghost use Rattle.njh_sites.specs.Opened.{site_kept};
 ghost use Rattle.njh_sight.specs.Awaiting.{awaits_again, told_awaited};
@@ -13,19 +13,20 @@ ghost use Rattle.njh_sight.specs.News.{after_telling, told_now, IsTold};
 ghost use Rattle.njh_sight.specs.Sessions.{after_step, barred_until, had_session, news_seen, refusal_event};
 ghost use Rattle.njh_sight.specs.Sessions.{session_end, tries_end, HasRefused};
 ghost use Rattle.njh_sight.specs.Steps.{steps_after};
+ghost use Rattle.njh_lines.specs.Entrances.{parted};
 ghost use Rattle.njh_lines.specs.Wires.{IsLeft};
 ghost use Rattle.njh_lines.specs.Connecting.{moment_seen, place_of, silence_of, IsConnected, IsInSession, IsReady};
+ghost use Rattle.njh_lines.specs.Connecting.{told_refusal};
 
-use crate::connecting::tell_end;
+use crate::connecting::{tell_end, told_refusal};
+use crate::entrance::Entrance;
 use crate::post::Post;
 use crate::surroundings::Surroundings;
 use crate::telling::{tell_commands, tell_files};
 use njh_arrivals::Arrivals;
 use njh_hub::{Hub, SessionView};
 use njh_log::DownCause;
-use njh_sight::{
-    Label, awaited_event, awaits_again, refusal_event, session_end, session_of, tries_end,
-};
+use njh_sight::{Label, awaited_event, awaits_again, session_end, session_of, tries_end};
 use njh_table::LineId;
 use njh_wire::{Connection, ConnectionEnd, LineWire, Network};
 use std::io::Write;
@@ -59,7 +60,8 @@ pub(crate) fn look<N: Network + Drop, L: Write + Drop>(
     ensures tries { HasLine hub.now post.old.line → IsInSession post.old.label.in_session wire.old →
         HasGivenUp hub.now post.old.line →
         let session = line_view (hub_line post.old.line hub.now).state in
-        let tries = tries_end post.old.label.tries_since (silence_of wire.old) surroundings.old.now wire.old.last_bytes in
+        let silence = silence_of wire.old in
+        let tries = tries_end post.old.label.tries_since silence surroundings.old.now wire.old.last_bytes in
         post.new.label.news ≡ news_seen post.old.label session (Some tries) surroundings.old.now }
     ensures kept { HasLine hub.now post.old.line → ¬ HasGivenUp hub.now post.old.line →
         ¬ HasRefused post.old.label (line_view (hub_line post.old.line hub.now).state) →
@@ -73,7 +75,8 @@ pub(crate) fn look<N: Network + Drop, L: Write + Drop>(
     let now = surroundings.now;
     let session = session_of(hub, post.line);
     let gave_up = end_tries(surroundings, post.line, &post.label, hub, wire);
-    let is_refused = end_refused(surroundings, &mut post.label, &session, wire);
+    let entrance = &mut post.entrance;
+    let is_refused = end_refused(surroundings, entrance, &mut post.label, &session, wire);
     let end = heard_end(wire, gave_up.is_some() || is_refused);
     let is_early = post.label.in_session && !post.label.up;
     post.see(session, session_end(gave_up, session.last_end), now);
@@ -81,7 +84,7 @@ pub(crate) fn look<N: Network + Drop, L: Write + Drop>(
     tell_awaited(surroundings, &mut post.label, &session, wire.is_connected());
     if let Some(end) = end {
         tell_end(surroundings, &mut post.label, end, is_early);
-        post.lose(now);
+        post.lose(is_refused, now);
     }
 }
 
@@ -166,6 +169,7 @@ fn end_tries<N: Network + Drop, L: Write + Drop>(
 /// tells of it, and has the line take none for a second. Answers whether one was.
 fn end_refused<N: Network + Drop, L: Write + Drop>(
     surroundings: &mut Surroundings<N, L>,
+    entrance: &mut Entrance<N::Connection>,
     label: &mut Label,
     session: &SessionView,
     wire: &mut LineWire<N::Connection>,
@@ -174,9 +178,13 @@ fn end_refused<N: Network + Drop, L: Write + Drop>(
     ensures barred { IsTrue result → label.new ≡ record label.old { barred_until = barred_until surroundings.old.now } }
     ensures closed { IsTrue result → wire.new ≡ after_close wire.old }
     ensures left { IsLeft wire.old wire.new }
-    ensures logged { IsTrue result → IsTold L.contents (place_of label.old) (refusal_event session.now.last_refusal)
-        surroundings.old.now surroundings.old.log surroundings.new.log }
-    ensures kept { ¬ IsTrue result → (wire.new ≡ wire.old) × ((label.new ≡ label.old) × (surroundings.new ≡ surroundings.old)) }
+    ensures noted { IsTrue result →
+        entrance.new ≡ parted label.old.had_session true surroundings.old.now entrance.old }
+    ensures logged { IsTrue result → IsLogged L.contents (place_of label.old)
+        (told_refusal session.now.last_refusal entrance.new) surroundings.old.now
+        surroundings.old.log surroundings.new.log }
+    ensures kept { ¬ IsTrue result → (wire.new ≡ wire.old) × ((label.new ≡ label.old)
+        × ((surroundings.new ≡ surroundings.old) × (entrance.new ≡ entrance.old))) }
     ensures now { surroundings.new.now ≡ surroundings.old.now }
     ensures counts { wire.old.failures ≤ wire.new.failures }
     ensures tally { tally wire.new ≡ tally wire.old }
@@ -186,7 +194,8 @@ fn end_refused<N: Network + Drop, L: Write + Drop>(
     }
     wire.close();
     label.barred_until = surroundings.now.saturating_add(BARRED);
-    surroundings.tell(label, refusal_event(session.last_refusal));
+    entrance.part(label.had_session, true, surroundings.now);
+    surroundings.tell(label, told_refusal(session.last_refusal, entrance));
     true
 }
 
@@ -199,7 +208,7 @@ pub(crate) fn tell_sessions<N: Network + Drop, L: Write + Drop>(
     ensures told { label.new ≡ record label.old { news = after_telling label.old.news now } }
     ensures now { surroundings.new.now ≡ surroundings.old.now }
     ensures silent { told_now label.old.news now ≡ None → surroundings.new ≡ surroundings.old }
-    ensures logged { IfSome (told_now label.old.news now) (λ event. IsTold L.contents (place_of label.old) event
+    ensures logged { IfSome (told_now label.old.news now) (λ event. IsLogged L.contents (place_of label.old) event
         surroundings.old.now surroundings.old.log surroundings.new.log) }
 {
     match label.news.take(now) {
@@ -223,7 +232,7 @@ fn tell_awaited<N: Network + Drop, L: Write + Drop>(
     ensures silent { told_awaited label.old session.now is_connected surroundings.old.now ≡ None →
         (label.new ≡ label.old) × (surroundings.new ≡ surroundings.old) }
     ensures logged { IfSome (told_awaited label.old session.now is_connected surroundings.old.now) (λ event.
-        IsTold L.contents (place_of label.old) event surroundings.old.now surroundings.old.log surroundings.new.log) }
+        IsLogged L.contents (place_of label.old) event surroundings.old.now surroundings.old.log surroundings.new.log) }
 {
     match awaited_event(label, session, is_connected, surroundings.now) {
         Some(event) => {

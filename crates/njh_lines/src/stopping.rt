@@ -14,8 +14,7 @@ use njh_sites::{Admission, Door, Site, listens_again};
 use njh_wire::{LineWire, Network, Readiness};
 use std::io::Write;
 
-/// Keeps a line stopped: its connection ends, a peer that waits to be accepted is let go, and
-/// nobody is dialled.
+/// Keeps a line stopped: its connection ends, peers that wait are let go, and nobody is dialled.
 pub(crate) fn hold<N: Network + Drop, L: Write + Drop>(
     surroundings: &mut Surroundings<N, L>,
     place: usize,
@@ -34,6 +33,7 @@ pub(crate) fn hold<N: Network + Drop, L: Write + Drop>(
     ensures customers { surroundings.new.customers ≡ surroundings.old.customers }
 {
     wire.close();
+    surroundings.clear(&mut post.entrance.anteroom);
     match &mut post.site {
         Site::Listens(door) => {
             if mark.listener || post.moment <= surroundings.now {

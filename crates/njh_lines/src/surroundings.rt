@@ -1,16 +1,23 @@
 //! What the attendant has around the lines.
 
-ghost use Rattle.std.specs.Prelude.{◌≡◌, ◌<◌, ◌≤◌};
+ghost use Rattle.std.specs.Prelude.{◌≡◌, ◌<◌, ◌≤◌, [], length, nat_lt};
+ghost use Rattle.std.specs.Net.Socket.{socket_ip};
+ghost use Rattle.njh_anteroom.specs.Addresses.{number_of};
+ghost use Rattle.njh_anteroom.specs.Next.{entry_of, guest_at, next_place, without_place};
+ghost use Rattle.njh_anteroom.specs.Waiting.{seated};
 ghost use Rattle.njh_log.specs.Limiting.{AreTold, AreWritten, IsTold, IsToldText, Writes};
 ghost use Rattle.njh_log.specs.Spells.{due_in};
 ghost use Rattle.njh_lines.specs.Connecting.{place_of};
+ghost use Rattle.njh_lines.specs.Entrances.{recounted};
 
+use njh_anteroom::{Anteroom, Entry, Guest};
 use njh_ebcdic::Name;
 use njh_log::{EventKind, Heading, LimitedLog, Log, LogEvent, Place, Severity};
 use njh_sight::{Customers, Label};
 use njh_wire::Network;
 use std::fmt;
 use std::io::Write;
+use std::net::SocketAddr;
 
 /// The network, the time on its clock, the log, and what is kept of each customer.
 #[derive(Drop)]
@@ -22,6 +29,9 @@ pub(crate) struct Surroundings<N: Network + Drop, L: Write + Drop> {
     /// How many commands of users were carried out before the step that was followed last, and in
     /// it.
     pub(crate) commands: u64,
+    /// How many wait in the anterooms of all lines, and how many may.
+    pub(crate) guests: u64,
+    pub(crate) most_guests: u64,
 }
 
 impl<N: Network + Drop, L: Write + Drop> Surroundings<N, L> {
@@ -51,6 +61,69 @@ impl<N: Network + Drop, L: Write + Drop> Surroundings<N, L> {
     {
         let milliseconds = self.network.utc();
         self.log.look(milliseconds, self.now);
+    }
+
+    /// A connection comes to an anteroom, as long as in all of them no more wait than may.
+    pub(crate) fn seat<C: Drop>(
+        &mut self,
+        anteroom: &mut Anteroom<C>,
+        connection: C,
+        address: SocketAddr,
+    ) -> Entry
+        ensures entry { result ≡ entry_of (number_of (socket_ip address)) self.old.now
+            (nat_lt self.old.guests self.old.most_guests) anteroom.old.remembered anteroom.old.waiting }
+        ensures waiting { anteroom.new.waiting ≡ seated result
+            (record { connection = connection; address = address; since = self.old.now }) anteroom.old.waiting }
+        ensures remembered { anteroom.new.remembered ≡ anteroom.old.remembered }
+        ensures guests { self.new ≡ record self.old {
+          guests =
+              recounted self.old.guests (length anteroom.old.waiting) (length anteroom.new.waiting);
+        } }
+    {
+        let before = anteroom.waiting().len();
+        let may_grow = self.guests < self.most_guests;
+        let entry = anteroom.come(connection, address, self.now, may_grow);
+        self.recount(before, anteroom.waiting().len());
+        entry
+    }
+
+    /// Takes out of an anteroom whom its line is to be given now.
+    pub(crate) fn next_of<C: Drop>(&mut self, anteroom: &mut Anteroom<C>) -> Option<Guest<C>>
+        ensures guest { result ≡ guest_at (next_place self.old.now anteroom.old.remembered anteroom.old.waiting)
+            anteroom.old.waiting }
+        ensures waiting { anteroom.new.waiting ≡ without_place
+            (next_place self.old.now anteroom.old.remembered anteroom.old.waiting) anteroom.old.waiting }
+        ensures remembered { anteroom.new.remembered ≡ anteroom.old.remembered }
+        ensures guests { self.new ≡ record self.old {
+          guests =
+              recounted self.old.guests (length anteroom.old.waiting) (length anteroom.new.waiting);
+        } }
+    {
+        let before = anteroom.waiting().len();
+        let guest = anteroom.next(self.now);
+        self.recount(before, anteroom.waiting().len());
+        guest
+    }
+
+    /// Nobody waits in an anteroom any more.
+    pub(crate) fn clear<C: Drop>(&mut self, anteroom: &mut Anteroom<C>)
+        ensures waiting { anteroom.new ≡ record anteroom.old { waiting = [] } }
+        ensures guests { self.new ≡ record self.old {
+          guests =
+              recounted self.old.guests (length anteroom.old.waiting) 0;
+        } }
+    {
+        let before = anteroom.waiting().len();
+        anteroom.close_all();
+        self.recount(before, 0);
+    }
+
+    /// So many waited in an anteroom before, and so many do now.
+    fn recount(&mut self, before: usize, after: usize)
+        ensures { self.new ≡ record self.old { guests = recounted self.old.guests before after } }
+    {
+        let all = self.guests.saturating_add(after as u64);
+        self.guests = all.saturating_sub(before as u64);
     }
 
     /// Tells of a line.

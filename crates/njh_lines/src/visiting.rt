@@ -1,7 +1,7 @@
 //! What the attendant does with one line.
 
 ghost use Rattle.std.specs.Prelude.{◌≡◌, ◌<◌, ◌≤◌, ◌↔◌, [], length, None, IsSome, IsTrue};
-ghost use Rattle.njh_hub.specs.Quiets.{quiet_on};
+ghost use Rattle.njh_hub.specs.Quiets.{quiet_on, quiet_time};
 ghost use Rattle.njh_hub.specs.Views.{HasGivenUp, hub_line, line_view};
 ghost use Rattle.njh_hub.specs.WholeHub.{HasLine};
 ghost use Rattle.njh_wire.specs.Standing.{due};
@@ -10,7 +10,7 @@ ghost use Rattle.njh_lines.specs.Attention.{again_at, first_of, stalled_at, IsDu
 ghost use Rattle.njh_lines.specs.Connecting.{IsConnected};
 ghost use Rattle.njh_sight.specs.News.{news_moment, IsTold};
 ghost use Rattle.njh_sites.specs.Opened.{site_kept};
-ghost use Rattle.njh_sight.specs.Sessions.{HasRefused};
+ghost use Rattle.njh_sight.specs.Sessions.{is_up, HasRefused};
 ghost use Rattle.njh_lines.specs.Connecting.{IsReady};
 ghost use Rattle.njh_lines.specs.Resting.{IsMarkedFor, IsNextLook};
 ghost use Rattle.njh_lines.specs.Watching.{noted_of};
@@ -26,8 +26,8 @@ use crate::post::Post;
 use crate::sessions::{look, tell_sessions};
 use crate::stopping::hold;
 use crate::surroundings::Surroundings;
-use njh_hub::Hub;
-use njh_sight::{Sight, Traffic, sight_of};
+use njh_hub::{Hub, SessionView};
+use njh_sight::{Sight, Traffic, is_up, session_of, sight_of};
 use njh_sites::Site;
 use njh_table::LineId;
 use njh_wire::{Connection, LineWire, Network, Readiness};
@@ -93,7 +93,7 @@ pub(crate) fn attend<N: Network + Drop, L: Write + Drop>(
     if is_stopped(post.state) {
         hold(surroundings, place, post, wire, mark);
     } else {
-        look_for_peer(surroundings, place, post, wire, mark);
+        look_for_peer(surroundings, post, wire, mark);
     }
     // A connection that ends in the round to come is seen to have been there.
     post.linked = post.linked || wire.is_connected();
@@ -102,7 +102,6 @@ pub(crate) fn attend<N: Network + Drop, L: Write + Drop>(
 /// Looks at a line that isn't stopped.
 fn look_for_peer<N: Network + Drop, L: Write + Drop>(
     surroundings: &mut Surroundings<N, L>,
-    place: usize,
     post: &mut Post<N::Listener, N::Connection>,
     wire: &mut LineWire<N::Connection>,
     mark: Readiness,
@@ -125,11 +124,18 @@ fn look_for_peer<N: Network + Drop, L: Write + Drop>(
     match &mut post.site {
         Site::Listens(door) => {
             if mark.listener || post.moment <= surroundings.now {
-                post.moment = keep_door(surroundings, place, door, &mut post.label, wire);
+                let entrance = &mut post.entrance;
+                post.moment = keep_door(surroundings, door, entrance, &mut post.label, wire);
             }
         }
         Site::Dials(dial) => {
-            drive(surroundings, place, dial, &mut post.label, wire);
+            drive(
+                surroundings,
+                dial,
+                &mut post.entrance,
+                &mut post.label,
+                wire,
+            );
             post.moment = dial.moment();
         }
     }
@@ -158,10 +164,15 @@ pub(crate) fn apply_session<N: Network + Drop, L: Write + Drop>(
         wire.new.connection ≡ wire.old.connection }
     ensures left { IsLeft wire.old wire.new }
     ensures quiet { HasLine hub.now post.old.line → wire.new.quiet ≡ quiet_on post.old.line hub.now }
+    ensures refused { HasLine hub.now post.old.line →
+        HasRefused post.old.label (line_view (hub_line post.old.line hub.now).state) → ¬ IsConnected wire.new }
+    ensures up { HasLine hub.now post.old.line →
+        wire.new.up ≡ is_up (line_view (hub_line post.old.line hub.now).state).phase }
 {
     let now = surroundings.now;
-    visit(surroundings, post, hub, wire);
-    set_quiet(post.line, hub, wire);
+    let session = session_of(hub, post.line);
+    visit(surroundings, post, &session, hub, wire);
+    set_session(&session, wire);
     note_sight(
         surroundings,
         post.line,
@@ -173,11 +184,12 @@ pub(crate) fn apply_session<N: Network + Drop, L: Write + Drop>(
     moment.min(post.label.news.moment())
 }
 
-/// Looks at a line, if something came, or the line was quiet or prompted. Else tells only what
-/// of its sessions waited to be told.
+/// Looks at a line, if something came, or the line was quiet or prompted, or a sign-on was refused.
+/// Else tells only what of its sessions waited to be told.
 fn visit<N: Network + Drop, L: Write + Drop>(
     surroundings: &mut Surroundings<N, L>,
     post: &mut Post<N::Listener, N::Connection>,
+    session: &SessionView,
     hub: &Hub,
     wire: &mut LineWire<N::Connection>,
 )
@@ -192,15 +204,31 @@ fn visit<N: Network + Drop, L: Write + Drop>(
         ¬ HasRefused post.old.label (line_view (hub_line post.old.line hub.now).state) →
         wire.new.connection ≡ wire.old.connection }
     ensures left { IsLeft wire.old wire.new }
+    ensures refused { HasLine hub.now post.old.line → HasRefused post.old.label session.now →
+        session.now ≡ line_view (hub_line post.old.line hub.now).state → ¬ IsConnected wire.new }
 {
     let now = surroundings.now;
-    let begun = wire.begun();
-    if begun == post.traffic.seen.begun && begun != now && (!post.linked || wire.is_connected()) {
+    if is_at_rest(post, session, wire, now) {
         tell_sessions(surroundings, &mut post.label, now);
         return;
     }
     look(surroundings, post, hub, wire);
     post.linked = wire.is_connected() || wire.is_ready();
+}
+
+/// Whether nothing came on a line, it was neither quiet nor prompted, no end of a connection is to
+/// be seen, and no sign-on was refused.
+fn is_at_rest<Li: Drop, C: Connection + Drop>(
+    post: &Post<Li, C>,
+    session: &SessionView,
+    wire: &LineWire<C>,
+    now: u64,
+) -> bool
+    ensures refused { IsTrue result → ¬ HasRefused post.now.label session.now }
+{
+    let begun = wire.begun();
+    let is_silent = begun == post.traffic.seen.begun && begun != now;
+    is_silent && (!post.linked || wire.is_connected()) && !post.label.has_refused(session)
 }
 
 /// Notes how a line is at the end of its turn, and of its customer whether a line may have
@@ -221,17 +249,15 @@ fn note_sight<N: Network + Drop, L: Write + Drop>(
     }
 }
 
-/// Sets how long the next quiet of a line's wire lasts.
-fn set_quiet<C: Connection + Drop>(id: LineId, hub: &Hub, wire: &mut LineWire<C>)
-    ensures quiet { HasLine hub.now id → wire.new.quiet ≡ quiet_on id hub.now }
-    ensures counts { wire.old.failures ≤ wire.new.failures }
-    ensures tally { tally wire.new ≡ tally wire.old }
-    ensures kept { wire.new.connection ≡ wire.old.connection }
-    ensures left { IsLeft wire.old wire.new }
+/// Tells a line's wire whether its session is up, and how long its next quiet lasts.
+fn set_session<C: Connection + Drop>(session: &SessionView, wire: &mut LineWire<C>)
+    ensures { wire.new ≡ record wire.old {
+      quiet = quiet_time session.now;
+      up = is_up session.now.phase;
+    } }
 {
-    if let Ok(session) = hub.session(id) {
-        wire.set_quiet(session.quiet_time());
-    }
+    wire.set_quiet(session.quiet_time());
+    wire.set_up(is_up(session.phase));
 }
 
 /// When a line wants to be looked at: at once if something is ready; else at the first of what it

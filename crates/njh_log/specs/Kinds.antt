@@ -62,3 +62,5 @@ kind_of events.LineStopped = kinds.Orders
 kind_of (events.ServiceEnds moment) = kinds.Orders
 kind_of (events.RequestRefused refusal) = kinds.Requests
 kind_of (events.NoRequest visitors) = kinds.Requests
+kind_of (events.SpoolAstray faults) = kinds.Others
+kind_of events.SpoolBack = kinds.Others

@@ -157,5 +157,7 @@ pub(crate) fn kind_of(event: &LogEvent) -> EventKind
         LogEvent::ServiceEnds(_) => EventKind::Orders,
         LogEvent::RequestRefused(_) => EventKind::Requests,
         LogEvent::NoRequest(_) => EventKind::Requests,
+        LogEvent::SpoolAstray(_) => EventKind::Others,
+        LogEvent::SpoolBack => EventKind::Others,
     }
 }

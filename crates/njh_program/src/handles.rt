@@ -1,6 +1,6 @@
 //! Whether the program may have the handles that lines need.
 
-ghost use Rattle.std.specs.Prelude.{◌<◌, ◌↔◌, IfErr, IsSome};
+ghost use Rattle.std.specs.Prelude.{◌≡◌, ◌-◌, ◌<◌, ◌≤◌, ◌↔◌, min, IfErr, IfOk, IsSome};
 ghost use Rattle.njh_program.specs.ProgramOutcome.{IsOfDevices};
 ghost use Rattle.njh_sites.specs.Handles.{handles_needed};
 
@@ -19,17 +19,22 @@ const LIMITS: &str = "/proc/self/limits";
 /// What its line begins with that has how many handles that is.
 const HANDLES: &str = "Max open files";
 
+/// In how many handles at most those wait who come to lines, those of all lines together.
+const MOST_GUESTS: u64 = 64;
+
 /// Refuses tables whose lines need more handles than the program may have, and logs that. Where the
-/// system doesn't say how many these are, nothing is refused.
+/// system doesn't say how many these are, nothing is refused. Answers how many handles may be taken
+/// by those who wait for a line: 64, or as many as are left.
 pub(crate) fn refuse_few<F: Files + Clock + AllocGlobal, L: Write + Drop>(
     rt: &F,
     tables: &Tables,
     log: &mut Log<L>,
-) -> Result<(), Failure>
-    ensures { IfErr result IsOfDevices }
+) -> Result<u64, Failure>
+    ensures refused { IfErr result IsOfDevices }
+    ensures few { IfOk result (λ guests. guests ≤ 64) }
 {
     let Some(limit) = limit_of(rt) else {
-        return Ok(());
+        return Ok(MOST_GUESTS);
     };
     let endpoints = match endpoints_of(rt.alloc(), tables) {
         Ok(endpoints) => endpoints,
@@ -40,8 +45,15 @@ pub(crate) fn refuse_few<F: Files + Clock + AllocGlobal, L: Write + Drop>(
             log.write(Heading::error(utc_milliseconds(rt)), &few);
             Err(Failure::Device)
         }
-        None => Ok(()),
+        None => Ok(guests_of(limit, handles_needed(&endpoints))),
     }
+}
+
+/// How many may wait for a line, by how many handles there may be and how many are needed.
+fn guests_of(limit: u64, needed: u64) -> u64
+    ensures { result ≡ min (limit - needed) 64 }
+{
+    limit.saturating_sub(needed).min(MOST_GUESTS)
 }
 
 /// How many handles the program may have, if the system says so.

@@ -1,6 +1,6 @@
 //! Serves the lines of a table file.
 
-ghost use Rattle.std.specs.Prelude.{◌≡◌, ⊤, None, Some, OnOk, IfErr, IfOk};
+ghost use Rattle.std.specs.Prelude.{◌≡◌, ◌≤◌, ⊤, None, Some, OnOk, IfErr, IfOk};
 ghost use Rattle.njh_program.specs.ProgramOutcome.{AreServedOf, IsOfDevices, failure_of};
 ghost use Rattle.njh_service.specs.Serving.{AreServedFrom};
 ghost use Rattle.njh_subcommands.specs.TableBytes.{AreGiven, AreRefused};
@@ -124,7 +124,10 @@ fn bureau_of<'a, R: Files + Net + Clock + AllocGlobal, L: Write + Drop, S: Table
     ensures { IfErr result (λ refused. IsOfDevices refused.0) }
 {
     match network_for(rt, tables, console, &mut log) {
-        Ok(network) => bureau_on(rt.alloc(), network, log, revision),
+        Ok((network, guests)) => {
+            let exchange = Exchange::new(rt.alloc(), network, log, guests);
+            bureau_on(rt.alloc(), exchange, revision)
+        }
         Err(failure) => {
             drop(revision);
             Err((failure, log))
@@ -132,43 +135,38 @@ fn bureau_of<'a, R: Files + Net + Clock + AllocGlobal, L: Write + Drop, S: Table
     }
 }
 
-/// An attendant of no line yet and of a console, on a network. If there is none the log is given
-/// back.
+/// An attendant of no line yet and of a console. If there is none the log is given back.
 fn bureau_on<N: Network + Drop, L: Write + Drop, S: TableSource + Drop>(
     alloc: Global,
-    network: N,
-    log: Log<L>,
+    exchange: Exchange<N, L>,
     revision: Revision<S>,
 ) -> Result<Bureau<N, L, S>, (Failure, Log<L>)>
     ensures { IfErr result (λ refused. IsOfDevices refused.0) }
 {
     match Console::new(alloc) {
-        Ok(console) => {
-            let exchange = Exchange::new(alloc, network, log);
-            Ok(Bureau::new(alloc, VERSION, exchange, revision, console))
-        }
+        Ok(console) => Ok(Bureau::new(alloc, VERSION, exchange, revision, console)),
         Err(_) => {
-            drop(network);
             drop(revision);
-            Err((Failure::Memory, log))
+            Err((Failure::Memory, exchange.into_log()))
         }
     }
 }
 
 /// The sockets of this machine, if the lines of these tables may have as many as they need, and the
-/// console, if there is to be one.
+/// console, if there is to be one; and how many may wait for a line.
 fn network_for<'a, R: Files + Net + Clock + AllocGlobal, L: Write + Drop>(
     rt: &'a R,
     tables: &Tables,
     console: Option<&str>,
     log: &mut Log<L>,
-) -> Result<MioNetwork<'a, R>, Failure>
-    ensures { IfErr result IsOfDevices }
+) -> Result<(MioNetwork<'a, R>, u64), Failure>
+    ensures refused { IfErr result IsOfDevices }
+    ensures few { IfOk result (λ found. found.1 ≤ 64) }
 {
-    refuse_few(rt, tables, log)?;
+    let guests = refuse_few(rt, tables, log)?;
     let mut network = network_on(rt, log)?;
     match open_console(rt, &mut network, console, log) {
-        Ok(()) => Ok(network),
+        Ok(()) => Ok((network, guests)),
         Err(failure) => {
             drop(network);
             Err(failure)

@@ -22,7 +22,7 @@ pub(crate) fn is_session(phase: Phase) -> bool
 }
 
 /// Whether it is up.
-pub(crate) fn is_up(phase: Phase) -> bool
+pub fn is_up(phase: Phase) -> bool
     ensures { result ≡ is_up phase }
 {
     match phase {

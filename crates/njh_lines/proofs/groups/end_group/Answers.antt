@@ -3,15 +3,16 @@ use Rattle.std.specs.Prelude.{not}
 use Rattle.std.proofs.lemmas.Bool.{false≢true}
 use Rattle.std.proofs.lemmas.List.{get_or-set_other, length-set}
 use Rattle.njh_lines.specs.Watching.{ServedLine, Watched}
+use Rattle.njh_lines.specs.Wires.{IsDone}
 use Rattle.njh_lines.specs.declared.attention.Watch.{Watch}
 use Rattle.njh_lines.proofs.RestLaws.{group_rested, idle_rested, none_rested, one_rested, rested_after}
 use Rattle.njh_lines.proofs.StillLaws.{still_more, still_same}
-use Rattle.njh_lines.proofs.WireLaws.{group_let_out, idle_let_out, let_out_after, none_let_out, one_let_out}
+use Rattle.njh_lines.proofs.WireLaws.{done_as, group_made, idle_made, made_after, none_made, one_made}
 use Rattle.njh_lines.proofs.groups.end_group.Goals as goal
 
-pub returns-then-not-watch-clause-out : goal.returns-then-not-watch-clause-out
-returns-then-not-watch-clause-out g c =
-    idle_let_out _ (length c.args.exchange.now.lines) (16 * c.args.group) (16 * c.args.group + 16)
+pub returns-then-not-watch-clause-done : goal.returns-then-not-watch-clause-done
+returns-then-not-watch-clause-done g c =
+    idle_made _ (length c.args.exchange.now.lines) (16 * c.args.group) (16 * c.args.group + 16)
     c.args.exchange.now.watches c.args.wires.now
     (λ p from before line due. false≢true
     (sym (ap not (c.watch_of-watch.ensures.due p (from, before) line due)) ∙ c.if-not-watch.true))
@@ -32,7 +33,7 @@ loop-place-init g c =
     let end = c.places_of-first.ensures.end in record {
       still = still_same c.args.wires.now;
       lines = refl;
-      out = none_let_out _ (length c.args.exchange.now.lines) c.places_of-first.result.0 c.args.exchange.now.watches
+      done = none_made _ (length c.args.exchange.now.lines) c.places_of-first.result.0 c.args.exchange.now.watches
           c.args.wires.now;
       now = refl;
       rested = none_rested c.places_of-first.result.0 c.args.exchange.now c.args.wires.now;
@@ -47,15 +48,18 @@ loop-place-preserved g c = record {
       (ap (get_or c.loop-place.wires c.loop-place.place) c.index-wires-place.is)
       (sym c.end.ensures.tally) c.end.ensures.counts c.loop-place.invariant.still;
   lines = c.end.ensures.lines ∙ c.loop-place.invariant.lines;
-  out = let_out_after _ (length c.args.exchange.now.lines) _ c.loop-place.place
-      (c.loop-place.place + 1) c.args.exchange.now.watches c.args.exchange.now.watches c.args.wires.now
-      c.loop-place.wires _ (omega (arith, c.loop-place.auto.place)) (omega arith) c.loop-place.auto.wires
-      (λ p from. refl) c.loop-place.invariant.out
-      (one_let_out _ (length c.args.exchange.now.lines) c.loop-place.place c.args.exchange.now.watches
+  done = made_after _ (λ place s new. IsDone g.N.Connection.Connection.moved c.loop-place.exchange c.args.hub.now place s
+      new) (length c.args.exchange.now.lines) _ c.loop-place.place (c.loop-place.place + 1) c.args.exchange.now.watches
+      c.args.exchange.now.watches c.args.wires.now c.loop-place.wires _ (omega (arith, c.loop-place.auto.place))
+      (omega arith) c.loop-place.auto.wires (λ p from. refl)
+      (λ p s new from. done_as _ c.args.exchange.now c.loop-place.exchange c.args.hub.now p s new
+      c.loop-place.invariant.lines (c.loop-place.invariant.rested.others p (inr from)).refusals)
+      c.loop-place.invariant.done
+      (one_made _ (length c.args.exchange.now.lines) c.loop-place.place c.args.exchange.now.watches
       c.loop-place.wires (get_or c.loop-place.wires c.loop-place.place c.index-wires-place.result) c.end.new.wire
       (omega (arith, c.loop-place-test.true, c.loop-place.auto.wires))
       (ap (get_or c.loop-place.wires c.loop-place.place) c.index-wires-place.is)
-      (λ due. c.end.ensures.out (ap (λ (watch : Watch). watch.is_due)
+      (λ due. c.end.ensures.done (ap (λ (watch : Watch). watch.is_due)
       (c.loop-place.invariant.rested.others c.loop-place.place (inr (omega arith))).watch ∙ due)));
   now = c.end.ensures.now ∙ c.loop-place.invariant.now;
   rested = rested_after _ c.loop-place.place (c.loop-place.place + 1) c.args.exchange.now c.loop-place.exchange
@@ -91,8 +95,8 @@ pub returns-clause-now : goal.returns-clause-now
 returns-clause-now g c =
     ap (λ (seen : Watched). seen.now) c.rest_group.ensures.same ∙ c.loop-place.invariant.now
 
-pub returns-clause-out : goal.returns-clause-out
-returns-clause-out g c =
+pub returns-clause-done : goal.returns-clause-done
+returns-clause-done g c =
     let last : c.loop-place.place ≡ min (16 * c.args.group + 16) (length c.args.wires.now) =
     omega (
       arith,
@@ -101,6 +105,6 @@ returns-clause-out g c =
       c.places_of-first.ensures.end,
       c.loop-place.auto.wires,
     ) in
-    group_let_out _ (length c.args.exchange.now.lines) c.args.group c.places_of-first.result.0 c.loop-place.place
+    group_made _ (length c.args.exchange.now.lines) c.args.group c.places_of-first.result.0 c.loop-place.place
     c.args.exchange.now.watches c.args.wires.now c.loop-place.wires c.places_of-first.ensures.first last
-    c.loop-place.auto.wires c.loop-place.invariant.out
+    c.loop-place.auto.wires c.loop-place.invariant.done

@@ -16,7 +16,7 @@ returns-clause-asks g c =
       waits = λ some. first_with _ _ _ _ _ c.min.ensures (look.waits some) c.moment.ensures;
       ready = λ now. first_with _ _ _ _ _ c.min.ensures (look.ready now) c.moment.ensures;
       rests = λ none quiet on. first_with _ _ _ _ _ c.min.ensures (look.rests none quiet on
-          ∙ ap (λ (n : ℕ). first_of (due c.set_quiet.new.wire) c.visit.new.post.moment n) soon) c.moment.ensures;
+          ∙ ap (λ (n : ℕ). first_of (due c.set_session.new.wire) c.visit.new.post.moment n) soon) c.moment.ensures;
       alone = λ none quiet on. first_with _ _ _ _ _ c.min.ensures (look.alone none quiet on
           ∙ ap (λ (n : ℕ). first_of 18446744073709551615 c.visit.new.post.moment n) soon) c.moment.ensures;
     }

@@ -17,7 +17,7 @@ invariant_of-self-2 g c =
     let posts = ap length c.reserve.ensures.items in
     let many : length c.push_reserved-3.new.self.items ≡ length c.self.inside.posts.items + 1 =
     ap length c.push_reserved-3.ensures.items
-    ∙ (length-append c.reserve.new.self.items (c.new.result ∷ []) ∙ ap (λ (n : ℕ). n + 1) posts) in
+    ∙ (length-append c.reserve.new.self.items (c.new-2.result ∷ []) ∙ ap (λ (n : ℕ). n + 1) posts) in
     let As : ℕ → Type 0 = λ n. AreGrouped n c.push_reserved.new.self.items c.push_reserved-2.new.self.items
     c.add_to_groups.new.groups.items 0 in
     let here : c.len.result ≡ length c.self.inside.posts.items = omega (arith, posts) in
@@ -42,11 +42,11 @@ invariant_of-self-2 g c =
 pub returns-clause-added : goal.returns-clause-added
 returns-clause-added g c =
     let P : Type 0 = Post g.row.N-Listener.Denot g.row.N-Connection.Denot in
-    post_added g.N.Network.address_of c.self.inside.posts.items c.push_reserved-3.new.self.items c.new.result
+    post_added g.N.Network.address_of c.self.inside.posts.items c.push_reserved-3.new.self.items c.new-2.result
     c.args.self.now.lines c.args.id c.args.site
-    (c.push_reserved-3.ensures.items ∙ ap (λ (posts : List P). posts ++ c.new.result ∷ []) c.reserve.ensures.items)
-    (ap (λ (seen : Watched). seen.lines) c.self.view_is) c.new.ensures.line
-    (c.new.ensures.site g.N.Network.address_of) c.new.ensures.state
+    (c.push_reserved-3.ensures.items ∙ ap (λ (posts : List P). posts ++ c.new-2.result ∷ []) c.reserve.ensures.items)
+    (ap (λ (seen : Watched). seen.lines) c.self.view_is) c.new-2.ensures.line
+    (c.new-2.ensures.site g.N.Network.address_of) c.new-2.ensures.state
 
 -- it is the next of its customer's
 pub returns-clause-row : goal.returns-clause-row

@@ -1,13 +1,14 @@
-use Rattle.std.proofs.Common.{ℕ, ◌<◌, map, subst, refl, sym, ap, ◌∙◌}
+use Rattle.std.proofs.Common.{◌≡◌, ℕ, ◌<◌, Some, map, subst, refl, sym, ap, ◌∙◌}
 use Rattle.std.specs.Prelude.{slice_get}
 use Rattle.std.proofs.lemmas.Bool.{false≢true}
 use Rattle.njh_hub.specs.Quiets.{quiet_on}
 use Rattle.njh_hub.specs.Views.{HasGivenUp, hub_line, line_view}
 use Rattle.njh_hub.specs.declared.session_view.SessionView.{SessionView}
 use Rattle.njh_hub.specs.WholeHub.{HasLine}
-use Rattle.njh_sight.specs.Sessions.{HasRefusedMore}
+use Rattle.njh_sight.specs.Sessions.{is_up, HasRefusedMore}
 use Rattle.njh_lines.specs.Resting.{IsNextLook}
 use Rattle.njh_lines.specs.Watching.{noted_of, served_line, Noted, ServedLine, Watched}
+use Rattle.njh_lines.specs.Wires.{session_on}
 use Rattle.njh_lines.specs.declared.post.Post.{Post}
 use Rattle.njh_lines.proofs.PostLaws.{lines_stay, line_there, others_noted, post_there, seen_there, served_stays}
 use Rattle.njh_lines.proofs.exchange.Exchange.apply_session.Goals as goal
@@ -94,3 +95,49 @@ returns-clause-others g c = λ other apart.
 pub returns-in_default-clause-others : goal.returns-in_default-clause-others
 returns-in_default-clause-others g c = λ other apart.
     ap (λ (seen : Watched). slice_get seen.noted other) c.self.view_is
+
+pub returns-clause-counts_of_others : goal.returns-clause-counts_of_others
+returns-clause-counts_of_others g c = λ other apart.
+    let P : Type 0 = Post g.row.N-Listener.Denot g.row.N-Connection.Denot in
+    others_noted (λ (post : P). post.label.refusals) c.self.inside.posts.items c.args.self.now.refusals c.args.place other
+    c.apply_session.new.post (ap (λ (seen : Watched). seen.refusals) c.self.view_is) apart
+
+pub returns-in_default-clause-counts_of_others : goal.returns-in_default-clause-counts_of_others
+returns-in_default-clause-counts_of_others g c = λ other apart.
+    ap (λ (seen : Watched). slice_get seen.refusals other) c.self.view_is
+
+-- its session judges who is connected on its wire
+pub returns-clause-judged : goal.returns-clause-judged
+returns-clause-judged g c =
+    let Within : ℕ → Type 0 = λ many. c.args.place < many in
+    let IsThere : ServedLine → Type 0 = λ own. HasLine c.args.hub.now own.id in
+    let post = c.in-Some.post.now in
+    let low = subst Within c.self.inside.posts.ok.0 (c.in-Some.ensures.variant.0 refl) in
+    let own = λ (line : ServedLine) (found : slice_get c.args.self.now.lines c.args.place ≡ Some line). line_there
+    (λ (x : Post g.row.N-Listener.Denot g.row.N-Connection.Denot). served_line g.N.Network.address_of x)
+    c.self.inside.posts.items c.args.self.now.lines c.args.place post line
+    (ap (λ (w : Watched). w.lines) c.self.view_is) low c.in-Some.ensures.value found in record {
+      refused = λ line seen found noted there more.
+          let had = line_there (λ (x : Post g.row.N-Listener.Denot g.row.N-Connection.Denot). x.label.refusals)
+          c.self.inside.posts.items c.args.self.now.refusals c.args.place post seen
+          (ap (λ (w : Watched). w.refusals) c.self.view_is) low c.in-Some.ensures.value noted in
+          c.apply_session.ensures.refused (subst IsThere (own line found) there)
+          (subst (λ (its : ServedLine). HasRefusedMore post.label.refusals (session_on its.id c.args.hub.now))
+          (own line found) (subst (λ (n : ℕ). HasRefusedMore n (session_on line.id c.args.hub.now)) had more));
+      up = λ line found there. c.apply_session.ensures.up (subst IsThere (own line found) there)
+          ∙ ap (λ (its : ServedLine). is_up (session_on its.id c.args.hub.now).phase) (sym (own line found));
+    }
+
+-- no line is where no post is
+pub returns-in_default-clause-judged : goal.returns-in_default-clause-judged
+returns-in_default-clause-judged g c =
+    let Within : ℕ → Type 0 = λ many. c.args.place < many in
+    let none = λ (line : ServedLine) (found : slice_get c.args.self.now.lines c.args.place ≡ Some line). post_there
+    (λ (post : Post g.row.N-Listener.Denot g.row.N-Connection.Denot). served_line g.N.Network.address_of post)
+    c.self.inside.posts.items c.args.self.now.lines c.args.place line
+    (ap (λ (seen : Watched). seen.lines) c.self.view_is) found in record {
+      refused = λ line seen found noted there more. absurd (false≢true (c.in_default.ensures.variant.1
+          (subst Within (sym c.self.inside.posts.ok.0) (none line found))));
+      up = λ line found there. absurd (false≢true (c.in_default.ensures.variant.1
+          (subst Within (sym c.self.inside.posts.ok.0) (none line found))));
+    }

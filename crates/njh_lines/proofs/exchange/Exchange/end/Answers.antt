@@ -1,4 +1,4 @@
-use Rattle.std.proofs.Common.{◌∙◌, ◌<◌, List, ap, arith, length, subst, sym}
+use Rattle.std.proofs.Common.{ℕ, ◌∙◌, ◌<◌, List, ap, arith, length, subst, sym}
 use Rattle.std.specs.Prelude.{slice_get, IsTrue}
 use Rattle.std.proofs.lemmas.Bool.{false≢true}
 use Rattle.njh_lines.specs.Attention.{watch_at}
@@ -13,12 +13,15 @@ rest-requires g c =
     subst Due (sym c.apply_session-moment.ensures.watches) (c.is_due.ensures.0 c.if-not-is_due.false)
 
 -- it was flushed, and then its session's will was done with it
-pub returns-clause-out : goal.returns-clause-out
-returns-clause-out g c = λ due. record {
-  middle = c.flush.new.self;
-  idle = c.flush.ensures.idle;
-  flushed = c.flush.ensures.flushed;
-  left = c.apply_session-moment.ensures.left;
+pub returns-clause-done : goal.returns-clause-done
+returns-clause-done g c = λ due. record {
+  out = record {
+    middle = c.flush.new.self;
+    idle = c.flush.ensures.idle;
+    flushed = c.flush.ensures.flushed;
+    left = c.apply_session-moment.ensures.left;
+  };
+  judged = c.apply_session-moment.ensures.judged;
 }
 
 -- it rests until its session asks for it
@@ -40,6 +43,8 @@ returns-clause-others g c = λ other apart. record {
       ∙ c.apply_session-moment.ensures.others other apart;
   watch = c.rest.ensures.others other apart
       ∙ ap (λ (xs : List Watch). watch_at xs other) c.apply_session-moment.ensures.watches;
+  refusals = ap (λ (xs : List ℕ). slice_get xs other) c.rest.ensures.refusals
+      ∙ c.apply_session-moment.ensures.counts_of_others other apart;
 }
 
 -- it isn't looked at
@@ -53,6 +58,6 @@ returns-then-not-is_due-clause-idle g c = λ none. same_here c.args.place c.args
 pub returns-then-not-is_due-clause-others : goal.returns-then-not-is_due-clause-others
 returns-then-not-is_due-clause-others g c = λ other apart. same_here other c.args.self.now
 
-pub returns-then-not-is_due-clause-out : goal.returns-then-not-is_due-clause-out
-returns-then-not-is_due-clause-out g c = λ due.
+pub returns-then-not-is_due-clause-done : goal.returns-then-not-is_due-clause-done
+returns-then-not-is_due-clause-done g c = λ due.
     absurd (false≢true (sym c.if-not-is_due.true ∙ c.is_due.ensures.1 due))

@@ -11,8 +11,8 @@ use Rattle.njh_lines.proofs.GroupLaws.{waits_until}
 use Rattle.njh_lines.proofs.MomentLaws.{first_among, moment_among}
 use Rattle.njh_lines.proofs.RestLaws.{ended_so, none_rested, rested_after}
 use Rattle.njh_lines.proofs.StillLaws.{still_after, still_same}
-use Rattle.njh_lines.specs.Wires.{AreLetOut}
-use Rattle.njh_lines.proofs.WireLaws.{all_let_out, let_out_after, none_let_out}
+use Rattle.njh_lines.specs.Wires.{AreMadeSo, IsDone}
+use Rattle.njh_lines.proofs.WireLaws.{all_made, done_as, made_after, none_made}
 use Rattle.njh_lines.proofs.exchange.Exchange.end_round.Goals as goal
 
 pub loop-group-init : goal.loop-group-init
@@ -20,7 +20,7 @@ loop-group-init g c = record {
   still = still_same c.args.wires.now;
   lines = refl;
   waits = λ p before within. let none : ⊥ = omega (arith, before) in absurd none;
-  out = none_let_out _ (length c.args.self.now.lines) 0 c.args.self.now.watches c.args.wires.now;
+  done = none_made _ (length c.args.self.now.lines) 0 c.args.self.now.watches c.args.wires.now;
   now = refl;
   rested = none_rested 0 c.args.self.now c.args.wires.now;
   wanted = inl refl;
@@ -42,17 +42,21 @@ loop-group-preserved g c = record {
       let first = c.end_group-moment.ensures.first p (later, omega (arith, before)) within in
       omega (arith, first, c.min-next.ensures))
       (cases_lt p (16 * c.loop-group.group));
-  out = let next : 16 * c.loop-group.group + 16 ≡ 16 * (c.loop-group.group + 1) = omega arith in
+  done = let next : 16 * c.loop-group.group + 16 ≡ 16 * (c.loop-group.group + 1) = omega arith in
       let many = ap length c.loop-group.invariant.lines in
-      let Of : ℕ → ℕ → Type 0 = λ lines last. AreLetOut g.N.Connection.Connection.moved lines
+      let Of : ℕ → ℕ → Type 0 = λ lines last. AreMadeSo
+      (λ place s new. IsDone g.N.Connection.Connection.moved c.loop-group.self c.args.hub.now place s new) lines
       (16 * c.loop-group.group) last c.loop-group.self.watches c.loop-group.wires c.end_group-moment.new.wires in
-      let_out_after _ (length c.args.self.now.lines) 0 (16 * c.loop-group.group) (16 * (c.loop-group.group + 1))
+      made_after _ (λ place s new. IsDone g.N.Connection.Connection.moved c.loop-group.self c.args.hub.now place s new)
+      (length c.args.self.now.lines) 0 (16 * c.loop-group.group) (16 * (c.loop-group.group + 1))
       c.args.self.now.watches c.loop-group.self.watches c.args.wires.now c.loop-group.wires
       c.end_group-moment.new.wires (omega arith) (omega arith) c.loop-group.auto.wires
       (λ p from. (c.loop-group.invariant.rested.others p (inr from)).watch)
-      c.loop-group.invariant.out
+      (λ p s new from. done_as _ c.args.self.now c.loop-group.self c.args.hub.now p s new c.loop-group.invariant.lines
+      (c.loop-group.invariant.rested.others p (inr from)).refusals)
+      c.loop-group.invariant.done
       (subst (Of (length c.args.self.now.lines)) next
-      (subst (λ (n : ℕ). Of n (16 * c.loop-group.group + 16)) many c.end_group-moment.ensures.out));
+      (subst (λ (n : ℕ). Of n (16 * c.loop-group.group + 16)) many c.end_group-moment.ensures.done));
   now = c.end_group-moment.ensures.now ∙ c.loop-group.invariant.now;
   rested = let next : 16 * c.loop-group.group + 16 ≡ 16 * (c.loop-group.group + 1) = omega arith in
       let Of : ℕ → Type 0 = λ last. HaveRested (16 * c.loop-group.group) last c.loop-group.self
@@ -60,7 +64,7 @@ loop-group-preserved g c = record {
       rested_after 0 (16 * c.loop-group.group) (16 * (c.loop-group.group + 1)) c.args.self.now c.loop-group.self
       c.end_group-moment.new.exchange c.loop-group.wires c.end_group-moment.new.wires (omega arith) (omega arith)
       (ap length c.loop-group.invariant.lines) c.end_group-moment.ensures.now c.end_group-moment.auto.wires
-      (λ p d before. c.end_group-moment.ensures.out.same p d (inl before)) c.loop-group.invariant.rested
+      (λ p d before. c.end_group-moment.ensures.done.same p d (inl before)) c.loop-group.invariant.rested
       (subst Of next c.end_group-moment.ensures.rested);
   wanted = let lines = ap length c.end_group-moment.ensures.lines in
       first_among (λ p. (p < 16 * c.loop-group.group) × (p < length c.loop-group.self.lines)) _ _
@@ -95,15 +99,15 @@ invariant_of-self g c =
     (omega (arith, before, length-map c.self-2.inside.posts.items line))) c.self-2.invariant
 
 -- all lines are in groups
-pub returns-clause-out : goal.returns-clause-out
-returns-clause-out g c =
+pub returns-clause-done : goal.returns-clause-done
+returns-clause-done g c =
     let many : length c.self.inside.posts.items ≡ length c.args.self.now.lines =
     sym (length-map c.self.inside.posts.items (λ (post : Post g.row.N-Listener.Denot g.row.N-Connection.Denot).
     served_line g.N.Network.address_of post))
     ∙ ap (λ (seen : Watched). length seen.lines) c.self.view_is in
-    all_let_out _ (length c.args.self.now.lines) (16 * c.loop-group.group) c.args.self.now.watches c.args.wires.now
+    all_made _ (length c.args.self.now.lines) (16 * c.loop-group.group) c.args.self.now.watches c.args.wires.now
     c.loop-group.wires (omega (arith, many, c.self.invariant.many_groups, c.loop-group-test.false))
-    c.loop-group.auto.wires c.loop-group.invariant.out
+    c.loop-group.auto.wires c.loop-group.invariant.done
 
 pub returns-clause-now : goal.returns-clause-now
 returns-clause-now g c =

@@ -1,0 +1,63 @@
+//! Who comes to a line: who has it, or had it last, and who waits for it.
+
+ghost use Rattle.std.specs.Prelude.{◌≡◌, IfOk};
+ghost use Rattle.njh_lines.specs.Entrances.{first_entrance, given_to, in_session, parted};
+
+use crate::turned_away::TurnedAway;
+use njh_anteroom::Anteroom;
+use std::alloc::{AllocError, Global};
+use std::net::SocketAddr;
+
+/// Who comes to a line.
+#[derive(Drop)]
+pub struct Entrance<C: Drop> {
+    /// Who waits to be given the line, and what is remembered of addresses.
+    pub anteroom: Anteroom<C>,
+    /// The address of the peer that has the line, or had it last.
+    pub peer: Option<SocketAddr>,
+    /// Connections to it that were closed as they came.
+    pub turned_away: TurnedAway,
+}
+
+impl<C: Drop> Entrance<C> {
+    /// Nobody came yet. Out of memory is the only refusal.
+    pub(crate) fn new(alloc: Global) -> Result<Entrance<C>, AllocError>
+        ensures { IfOk result (λ entrance. entrance ≡ first_entrance) }
+    {
+        Ok(Entrance {
+            anteroom: Anteroom::new(alloc)?,
+            peer: None,
+            turned_away: TurnedAway::none(),
+        })
+    }
+
+    /// The line is given to a peer.
+    pub(crate) fn give(&mut self, address: SocketAddr)
+        ensures { self.new ≡ given_to address self.old }
+    {
+        self.peer = Some(address);
+    }
+
+    /// A session came up on the connection of the peer that has the line.
+    pub(crate) fn note_session(&mut self)
+        ensures { self.new ≡ in_session self.old }
+    {
+        if let Some(address) = self.peer {
+            self.anteroom.session(address.ip());
+        }
+    }
+
+    /// The peer's connection ended, or is ended since a sign-on was refused on it. If there was no
+    /// session on it, or a refusal, that is remembered of its address.
+    pub(crate) fn part(&mut self, had_session: bool, was_refused: bool, now: u64)
+        ensures { self.new ≡ parted had_session was_refused now self.old }
+    {
+        if had_session && !was_refused {
+            return;
+        }
+        if let Some(address) = self.peer {
+            self.anteroom
+                .end_without_session(address.ip(), was_refused, now);
+        }
+    }
+}
