@@ -1,3 +1,4 @@
+pub mod AddressLaws
 pub mod AnswerLaws
 pub mod OwnerLaws
 pub mod Summing

@@ -1,4 +1,5 @@
 pub mod Fields
+pub mod Addresses
 pub mod Pages
 pub mod Files
 pub mod Customers

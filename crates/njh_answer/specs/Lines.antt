@@ -22,6 +22,7 @@ use Rattle.njh_hub.specs.Files.{said_name}
 use Rattle.njh_hub.specs.Views.{line_view}
 use Rattle.njh_hub.specs.WholeHub.{Part}
 use Rattle.njh_hub.specs.declared.session_view.SessionView.{SessionView}
+use Rattle.njh_answer.specs.Addresses.{guest_data, peer_data, refused_data}
 use Rattle.njh_answer.specs.Fields.{file_name_text, name_text}
 use Rattle.njh_answer.specs.Pages.{next_data, page_of}
 use Rattle.njh_answer.specs.declared.page.Page.{Page}
@@ -31,7 +32,7 @@ use Rattle.njh_answer.specs.declared.views.LineView.{LineView}
 
 -- how many lines an answer has at most
 abbrev pub lines_told : ℕ
-lines_told = 32
+lines_told = 8
 
 -- ---- its session
 
@@ -132,10 +133,13 @@ served_data (Some v) = object (
     member (codes "connected") (moment_data v.connected)
     (member (codes "last_end") (string (string_bytes v.last_end))
     (member (codes "naks") (number (unsigned v.naks))
+    (member (codes "peer") (peer_data v.peer)
+    (member (codes "refused") (array (items_of (map refused_data v.refused.items)))
     (member (codes "repeats") (number (unsigned v.repeats))
     (member (codes "site") (string (string_bytes v.site))
     (member (codes "state") (string (state_text v.state))
-    (member (codes "up") (moment_data v.up) no_members)))))))
+    (member (codes "up") (moment_data v.up)
+    (member (codes "waiting") (array (items_of (map guest_data v.waiting.items))) no_members))))))))))
 
 abbrev pub is_of_line : LineId → LineView → Bool
 is_of_line id v = (v.line.customer == id.customer) && (v.line.number == id.number)

@@ -12,8 +12,8 @@ ghost use Rattle.njh_answer.specs.Files.{state_text, text_data};
 ghost use Rattle.njh_answer.specs.Pages.{told};
 
 use crate::fields::{file_name_text, name_text, user_value};
-use crate::lines::moment_value;
 use crate::page::Page;
+use crate::served::moment_value;
 use njh_arrivals::Arrivals;
 use njh_ebcdic::{FIELD, Name};
 use njh_hub::{FileSummaryView, Hub};

@@ -7,25 +7,26 @@ ghost use Rattle.njh_hub.specs.WholeHub.{part};
 ghost use Rattle.njh_spool.specs.CustomerSpool.{whole_numbered};
 ghost use Rattle.njh_table.specs.TableFile.{customer_at};
 ghost use Rattle.njh_answer.specs.Lines.{going_data, is_of_line, line_data, line_told, line_where};
-ghost use Rattle.njh_answer.specs.Lines.{lines_data, lines_told_from, messages_where, moment_data, name_where};
+ghost use Rattle.njh_answer.specs.Lines.{lines_data, lines_told_from, messages_where, name_where};
 ghost use Rattle.njh_answer.specs.Lines.{phase_text};
 ghost use Rattle.njh_answer.specs.Lines.{receiver_data, receivers_where, role_text, sender_data, senders_where};
-ghost use Rattle.njh_answer.specs.Lines.{served_data, session_data, session_where, state_text, turn_text};
+ghost use Rattle.njh_answer.specs.Lines.{served_data, session_data, session_where, turn_text};
 
 use crate::fields::{file_name_text, name_text};
 use crate::page::Page;
+use crate::served::served_value;
 use crate::views::LineView;
 use njh_hub::{Hub, SessionView};
 use njh_line::Phase;
-use njh_request::LineState;
 use njh_spool::FileId;
 use njh_stream::{Receiver, Sender};
 use njh_table::{LineId, NamedLine, Role, Tables};
 use serde_json::{Value, json};
 use std::alloc::{AllocError, Global};
 
-/// How many lines an answer has at most.
-const LINES: usize = 32;
+/// How many lines an answer has at most: with 64 addresses that were refused a line has some 7,300
+/// bytes, and an answer of the console 65,536.
+const LINES: usize = 8;
 
 /// A line's session.
 fn session_value(alloc: Global, session: &SessionView) -> Result<Value, AllocError>
@@ -236,44 +237,6 @@ fn nothing() -> Value
     ensures { view result ≡ null }
 {
     Value::Null
-}
-
-/// How a line is served; null if it isn't.
-fn served_value(alloc: Global, served: Option<&LineView>) -> Result<Value, AllocError>
-    ensures { IfOk result (λ value. view value ≡ served_data (option_map (λ s. s.now) served.entry)) }
-{
-    match served {
-        Some(served) => json!(in alloc; {
-            "connected": moment_value(served.connected),
-            "last_end": served.last_end.as_str(),
-            "naks": served.naks,
-            "repeats": served.repeats,
-            "site": served.site.as_str(),
-            "state": state_text(served.state),
-            "up": moment_value(served.up)
-        }),
-        None => Ok(Value::Null),
-    }
-}
-
-fn state_text(state: LineState) -> &'static str
-    ensures { result.now ≡ state_text state }
-{
-    match state {
-        LineState::Started => "started",
-        LineState::Draining => "draining",
-        LineState::Stopped => "stopped",
-    }
-}
-
-/// A moment, if there is one.
-pub(crate) fn moment_value(moment: Option<u64>) -> Value
-    ensures { view result ≡ moment_data moment }
-{
-    match moment {
-        Some(moment) => Value::from(moment),
-        None => Value::Null,
-    }
 }
 
 /// What the service knows of a line, if it serves it.

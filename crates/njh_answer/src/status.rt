@@ -9,7 +9,8 @@ ghost use Rattle.njh_answer.specs.Status.{blocks_data, fault_data, files_of, is_
 ghost use Rattle.njh_answer.specs.Status.{quota_of, status_data, sum_of, up_of, up_to, used_of};
 
 use crate::customers::{quota_of, used_by};
-use crate::lines::{lines_at, moment_value};
+use crate::lines::lines_at;
+use crate::served::moment_value;
 use crate::views::ServiceView;
 use njh_hub::Hub;
 use njh_line::Phase;

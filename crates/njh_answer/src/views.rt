@@ -2,6 +2,7 @@
 
 use njh_request::LineState;
 use njh_table::LineId;
+use std::net::{IpAddr, SocketAddr};
 
 /// What the service knows of a line. Moments are seconds since the beginning of 1970.
 #[derive(Drop)]
@@ -22,6 +23,22 @@ pub struct LineView {
     pub naks: u64,
     /// How many blocks it sent again since then.
     pub repeats: u64,
+    /// The address of the peer that is connected on it now, if one is.
+    pub peer: Option<SocketAddr>,
+    /// Who waits to be given it, in their order, at most eight.
+    pub waiting: Vec<SocketAddr>,
+    /// The addresses of which it is remembered that sign-ons were refused on it, at most 64, what
+    /// was noted last behind all else.
+    pub refused: Vec<Refused>,
+}
+
+/// An address of which sign-ons were refused on a line.
+#[derive(Clone, Copy)]
+pub struct Refused {
+    /// The address.
+    pub address: IpAddr,
+    /// How many so far.
+    pub count: u64,
 }
 
 /// What the service knows of itself.

@@ -1,10 +1,11 @@
 //! What is told of lines, for people.
 
-ghost use Rattle.std.specs.Prelude.{◌≡◌, IfErr, IfOk, OnOk, map, string_bytes};
+ghost use Rattle.std.specs.Prelude.{◌≡◌, IfErr, IfOk, OnOk, codes, map, string_bytes};
 ghost use Rattle.serde_json.specs.View.{view};
 ghost use Rattle.njh_ctl.specs.Questions.{Text};
-ghost use Rattle.njh_ctl.specs.Shown.{Adds, Grows, Rows};
-ghost use Rattle.njh_ctl.specs.ShownLines.{AreLineNames, IsAny, IsLineRow};
+ghost use Rattle.njh_ctl.specs.Shown.{Adds, Grows, Rows, RowsOf};
+ghost use Rattle.njh_ctl.specs.ShownLines.{AreCallers, AreLineNames, IsAny, IsGuestRow, IsLineRow, IsRefusalRow};
+ghost use Rattle.njh_ctl.specs.ShownLines.{IsServed, IsServedRow, IsSessionTold, peer_in};
 ghost use Rattle.njh_ctl.specs.Talks.{IsPlain};
 
 use crate::answers::{count_in, list_in, text_in};
@@ -15,7 +16,8 @@ use std::alloc::Global;
 
 /// What stands above lines.
 pub(crate) const LINES: &str =
-    "CUSTOMER LINE     NODE     ROLE    STATE    SESSION    TURN   SINCE                SITE\n";
+    "CUSTOMER LINE     NODE     ROLE    STATE    SESSION    TURN   SINCE                \
+    SITE                        PEER\n";
 
 /// Tells of a customer's lines.
 pub(crate) fn show_lines(
@@ -33,7 +35,7 @@ pub(crate) fn show_lines(
     Ok(())
 }
 
-/// Tells of a line, its session, its messages and its streams.
+/// Tells of a line, its session and who comes to it, its messages and its streams.
 fn show_line(alloc: Global, customer: &str, line: &Value, out: &mut String) -> Result<(), CtlFault>
     ensures shown { OnOk result (Adds (IsLineRow customer.now (view line.now)) out.old out.new) }
     ensures fault { IfErr result IsPlain }
@@ -58,9 +60,9 @@ fn show_names(alloc: Global, customer: &str, line: &Value, out: &mut String) -> 
     )
 }
 
-/// Tells of a line's session and connection, if the line is served.
+/// Tells of a line's session and who comes to it, if the line is served.
 fn show_served(alloc: Global, line: &Value, out: &mut String) -> Result<(), CtlFault>
-    ensures shown { OnOk result (Adds IsAny out.old out.new) }
+    ensures shown { OnOk result (Adds (IsServed (view line.now)) out.old out.new) }
     ensures fault { IfErr result IsPlain }
 {
     let served = member(line, "served")?;
@@ -71,14 +73,29 @@ fn show_served(alloc: Global, line: &Value, out: &mut String) -> Result<(), CtlF
     show_session(alloc, served, session, out)
 }
 
-/// Tells of a line's session and connection.
+/// Tells of a line's session and connection, and who else comes to it.
 fn show_session(
     alloc: Global,
     served: &Value,
     session: &Value,
     out: &mut String,
 ) -> Result<(), CtlFault>
-    ensures shown { OnOk result (Adds IsAny out.old out.new) }
+    ensures shown { OnOk result (Adds (IsSessionTold (view served.now) (view session.now)) out.old out.new) }
+    ensures fault { IfErr result IsPlain }
+{
+    show_row(alloc, served, session, out)?;
+    show_troubles(alloc, served, session, out)?;
+    show_callers(alloc, served, out)
+}
+
+/// Tells how a line is served, how its session is, and who is connected.
+fn show_row(
+    alloc: Global,
+    served: &Value,
+    session: &Value,
+    out: &mut String,
+) -> Result<(), CtlFault>
+    ensures shown { OnOk result (Adds (IsServedRow (view served.now) (view session.now)) out.old out.new) }
     ensures fault { IfErr result IsPlain }
 {
     let state = text_in(served, "state")?;
@@ -87,11 +104,18 @@ fn show_session(
     let turn = text_in(session, "turn")?;
     let since = since_text(alloc, served)?;
     let since = since.as_str();
+    let peer = peer_of(served);
     add(
         out,
-        format!(in alloc; "{state:<8} {phase:<10} {turn:<6} {since:<20} {site}\n"),
-    )?;
-    show_troubles(alloc, served, session, out)
+        format!(in alloc; "{state:<8} {phase:<10} {turn:<6} {since:<20} {site:<27} {peer}\n"),
+    )
+}
+
+/// The address of who is connected; a dash if nobody is.
+fn peer_of(served: &Value) -> &str
+    ensures { result.now ≡ peer_in (view served.now) }
+{
+    served.get("peer").and_then(Value::as_str).unwrap_or("-")
 }
 
 /// Since when the session is up, or else there is a connection, if one of the two is so.
@@ -159,6 +183,72 @@ fn show_repeats(alloc: Global, served: &Value, out: &mut String) -> Result<(), C
         add(out, format!(in alloc; "  naks {naks}, repeats {repeats}\n"))?;
     }
     Ok(())
+}
+
+/// Tells who waits for a line, and of which addresses sign-ons were refused on it.
+fn show_callers(alloc: Global, served: &Value, out: &mut String) -> Result<(), CtlFault>
+    ensures shown { OnOk result (Adds (AreCallers (view served.now)) out.old out.new) }
+    ensures fault { IfErr result IsPlain }
+{
+    show_waiting(alloc, served, out)?;
+    show_refused(alloc, served, out)
+}
+
+fn show_waiting(alloc: Global, served: &Value, out: &mut String) -> Result<(), CtlFault>
+    ensures shown { OnOk result (Adds (RowsOf (codes "waiting") IsGuestRow (view served.now)) out.old out.new) }
+    ensures fault { IfErr result IsPlain }
+{
+    show_guests(alloc, list_in(served, "waiting")?, out)
+}
+
+fn show_guests(alloc: Global, guests: &[Value], out: &mut String) -> Result<(), CtlFault>
+    ensures shown { OnOk result (Adds (Rows IsGuestRow (map view guests.now)) out.old out.new) }
+    ensures fault { IfErr result IsPlain }
+{
+    for guest in guests {
+        show_guest(alloc, guest, out)?;
+    }
+    Ok(())
+}
+
+fn show_guest(alloc: Global, guest: &Value, out: &mut String) -> Result<(), CtlFault>
+    ensures shown { OnOk result (Adds (IsGuestRow (view guest.now)) out.old out.new) }
+    ensures fault { IfErr result IsPlain }
+{
+    match guest.as_str() {
+        Some(guest) => add(out, format!(in alloc; "  waits: {guest}\n")),
+        None => Err(CtlFault::NotUnderstood),
+    }
+}
+
+fn show_refused(alloc: Global, served: &Value, out: &mut String) -> Result<(), CtlFault>
+    ensures shown { OnOk result (Adds (RowsOf (codes "refused") IsRefusalRow (view served.now)) out.old out.new) }
+    ensures fault { IfErr result IsPlain }
+{
+    show_refusals(alloc, list_in(served, "refused")?, out)
+}
+
+fn show_refusals(alloc: Global, refused: &[Value], out: &mut String) -> Result<(), CtlFault>
+    ensures shown { OnOk result (Adds (Rows IsRefusalRow (map view refused.now)) out.old out.new) }
+    ensures fault { IfErr result IsPlain }
+{
+    for address in refused {
+        show_refusal(alloc, address, out)?;
+    }
+    Ok(())
+}
+
+/// Tells how many sign-ons of an address were refused.
+fn show_refusal(alloc: Global, refused: &Value, out: &mut String) -> Result<(), CtlFault>
+    ensures shown { OnOk result (Adds (IsRefusalRow (view refused.now)) out.old out.new) }
+    ensures fault { IfErr result IsPlain }
+{
+    let address = text_in(refused, "address")?;
+    let count = count_in(refused, "count")?;
+    add(
+        out,
+        format!(in alloc; "  refused sign-ons of {address}: {count}\n"),
+    )
 }
 
 /// Tells how many nodal messages wait, if any do.

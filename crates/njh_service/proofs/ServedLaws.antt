@@ -8,7 +8,6 @@ use Rattle.std.proofs.Math.ListN.{get_or-append, get_or-map}
 use Rattle.std.proofs.Math.Seq.{get_or-append_seam}
 use Rattle.std.specs.declared.net.ip_addr.IpAddr.{IpAddr}
 use Rattle.std.specs.declared.net.socket_addr.SocketAddr.{SocketAddr}
-use Rattle.njh_table.specs.declared.LineId.{LineId}
 use Rattle.njh_wire.specs.Standing.{first_standing, Standing}
 use Rattle.njh_sites.specs.Opened.{site_on, site_opened}
 use Rattle.njh_service.specs.Serving.{ArePlaced}

@@ -1,7 +1,11 @@
 -- What is seen of a service's attendant: its lines, the operator's console, and when the service ends.
-use Rattle.std.specs.Prelude.{◌≡◌, ◌⊎◌, ◌↔◌, ⊤, ℕ, Bool, List, [], ◌∷◌, length, map, min, Option, Some, None, IsTrue}
+use Rattle.std.specs.Prelude.{◌≡◌, ◌⊎◌, ◌↔◌, ⊤, ℕ, Bool, List, [], ◌∷◌, filter, length, map, min, nat_lt, Option, Some}
+use Rattle.std.specs.Prelude.{None, IsTrue, if◌then◌else◌}
+use Rattle.std.specs.declared.net.socket_addr.SocketAddr.{SocketAddr}
 use Rattle.njh_request.specs.declared.request.LineState.{LineState}
 use Rattle.njh_answer.specs.declared.views.LineView.{LineView}
+use Rattle.njh_answer.specs.declared.views.Refused.{Refused}
+use Rattle.njh_anteroom.specs.declared.remembered.Remembered.{Remembered}
 use Rattle.njh_console.specs.Consoles.{AreTended, ConsoleState, IsRoundServed}
 use Rattle.njh_console.specs.Scenes.{Scene}
 use Rattle.njh_console.specs.declared.act.Act.{Act}
@@ -16,6 +20,9 @@ use Rattle.njh_request.specs.declared.request.EndMoment.{EndMoment}
 use Rattle.njh_request.specs.declared.request.EndMoment.TheVariants.{AtOnce, WhenIdle}
 use Rattle.njh_table.specs.declared.LineId.{LineId}
 use Rattle.njh_lines.specs.LineStates.{line_settled, line_wished, AreFree, AreMade}
+use Rattle.njh_presence.specs.declared.presence.Presence.{Presence}
+use Rattle.njh_presence.specs.declared.presence.PresenceNews.{PresenceNews}
+use Rattle.njh_service.specs.Presences.{IsLookedAt}
 use Rattle.njh_log.specs.declared.entry.LogEvent.{LogEvent}
 use Rattle.njh_log.specs.declared.entry.LogEvent.TheVariants as log
 use Rattle.njh_request.specs.declared.refusal.RequestRefusal.{RequestRefusal}
@@ -25,11 +32,13 @@ use Rattle.njh_lines.specs.Watching.{IsRoundBegun, ServedLine, Watched}
 use Rattle.njh_lines.specs.declared.post.Post.{Post}
 use Rattle.njh_sight.specs.declared.steps.Steps.{Steps}
 
--- The lines and what is seen of them, the tables of the hub, the console, whether a line may be one that is to be
--- stopped once it is idle, when the service is to end, if that was ordered, and whether it ends now.
+-- The lines and what is seen of them, the tables of the hub, what is known of the spool file if the hub's files are
+-- kept, the console, whether a line may be one that is to be stopped once it is idle, when the service is to end, if
+-- that was ordered, and whether it ends now.
 pub record Attended (V : Type 0) : Type 0 where
   pub exchange : Watched
   pub tables : Option KnownTables
+  pub presence : Option Presence
   pub console : ConsoleState V
   pub drains : Bool
   pub stop : Option EndMoment
@@ -75,6 +84,17 @@ pub record ToldLine : Type 0 where
   pub state : LineState
   pub naks : ℕ
   pub repeats : ℕ
+
+-- the addresses of which sign-ons were refused, with how many, what was noted last behind all else
+abbrev pub refused_by : Remembered → Refused
+refused_by r = record { address = r.address; count = r.refusals }
+
+abbrev pub refused_in : List Remembered → List Refused
+refused_in remembered = map refused_by (filter (λ r. nat_lt 0 r.refusals) remembered)
+
+-- who is connected, if somebody is: of who had the line last nothing is told
+abbrev pub peer_if : (is_connected : Bool) → Option SocketAddr → Option SocketAddr
+peer_if is_connected peer = if is_connected then peer else None
 
 -- as the console tells it
 abbrev pub view_told : LineView → ToldLine
@@ -129,6 +149,7 @@ pub record IsConsoleServed {V : Type 0} (parts : List Part) (old new : Attended 
   pub tended : AreTended old.exchange.now between.seats new.console.seats astray
   pub orders : new.console.orders ≡ between.orders
   pub tables : new.tables ≡ old.tables
+  pub presence : new.presence ≡ old.presence
 
 -- ---- before and after a round
 
@@ -141,10 +162,12 @@ pub record IsOpenedBy {V C : Type 0} (old : Attended V) (wires : List C) (new : 
   pub orders : new.console.orders ≡ old.console.orders
   pub stop : new.stop ≡ old.stop
 
--- After a round: lines that are to be stopped once they are idle are, if they are; it is noted whether the service ends
--- now; and then the console is served.
+-- After a round: what stands at the spool file's path is looked at, if it is time to; lines that are to be stopped once
+-- they are idle are, if they are; it is noted whether the service ends now; and then the console is served.
 pub record IsClosed {V : Type 0} (parts : List Part) (old new : Attended V) : Type 0 where
   pub ended : Attended V
+  pub news : Option PresenceNews
+  pub looked : IsLookedAt old.exchange.now old.presence ended.presence news
   pub lines : AreMade (line_settled parts) old.exchange.lines ended.exchange.lines
   pub over : IsTrue ended.is_over ↔ IsOver old.stop parts ended.exchange.lines
   pub console : ended.console ≡ old.console

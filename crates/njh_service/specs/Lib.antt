@@ -1,3 +1,4 @@
 pub mod Bureaus
+pub mod Opening
 pub mod Presences
 pub mod Serving

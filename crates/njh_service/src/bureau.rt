@@ -74,6 +74,7 @@ impl<N: Network + Drop, L: Write + Drop, S: TableSource + Drop> Model for Bureau
     ghost view = { λ bureau. record {
       exchange = bureau.exchange;
       tables = bureau.revision;
+      presence = bureau.presence;
       console = bureau.console;
       drains = bureau.drains;
       stop = bureau.stop;
@@ -287,6 +288,7 @@ impl<N: Network + Drop, L: Write + Drop, S: TableSource + Drop> Bureau<N, L, S> 
         ensures still { AreStill IsTallied (λ wire. wire.failures) wires.old wires.new }
         ensures lines { AreMade (line_settled hub.now) self.old.exchange.lines self.new.exchange.lines }
         ensures over { IsTrue self.new.is_over ↔ IsOver self.old.stop hub.now self.new.exchange.lines }
+        ensures presence { self.new.presence ≡ self.old.presence }
         ensures console { self.new.console ≡ self.old.console }
         ensures stop { self.new.stop ≡ self.old.stop }
     {
@@ -298,6 +300,7 @@ impl<N: Network + Drop, L: Write + Drop, S: TableSource + Drop> Bureau<N, L, S> 
     /// Lines that are to be stopped once no file is on their streams are stopped if none is.
     fn settle(&mut self, hub: &Hub)
         ensures lines { AreMade (line_settled hub.now) self.old.exchange.lines self.new.exchange.lines }
+        ensures presence { self.new.presence ≡ self.old.presence }
         ensures console { self.new.console ≡ self.old.console }
         ensures stop { self.new.stop ≡ self.old.stop }
     {
@@ -338,6 +341,7 @@ impl<N: Network + Drop, L: Write + Drop, S: TableSource + Drop> Bureau<N, L, S> 
         ensures asked { IsAsked hub.now self.old.tables self.old.exchange self.old.console self.new.console result }
         ensures given { self.new.console.orders.given ≡ self.old.console.orders.given }
         ensures tables { self.new.tables ≡ self.old.tables }
+        ensures presence { self.new.presence ≡ self.old.presence }
         ensures over { self.new.is_over ≡ self.old.is_over }
     {
         if !self.console.has_request() {
@@ -367,6 +371,7 @@ impl<N: Network + Drop, L: Write + Drop, S: TableSource + Drop> Bureau<N, L, S> 
         ensures asked { IsAsked hub.now self.old.tables self.old.exchange self.old.console self.new.console result }
         ensures given { self.new.console.orders.given ≡ self.old.console.orders.given }
         ensures tables { self.new.tables ≡ self.old.tables }
+        ensures presence { self.new.presence ≡ self.old.presence }
         ensures over { self.new.is_over ≡ self.old.is_over }
     {
         match self.service_view(hub, wires) {
@@ -415,6 +420,7 @@ impl<N: Network + Drop, L: Write + Drop, S: TableSource + Drop> Bureau<N, L, S> 
         ensures asked { IsAsked hub.now self.old.tables self.old.exchange self.old.console self.new.console result }
         ensures given { self.new.console.orders.given ≡ self.old.console.orders.given }
         ensures tables { self.new.tables ≡ self.old.tables }
+        ensures presence { self.new.presence ≡ self.old.presence }
         ensures over { self.new.is_over ≡ self.old.is_over }
     {
         let Some(tables) = self.revision.tables() else {
@@ -430,6 +436,7 @@ impl<N: Network + Drop, L: Write + Drop, S: TableSource + Drop> Bureau<N, L, S> 
         ensures obeyed { IsObeyed act self.old self.new }
         ensures console { self.new.console ≡ self.old.console }
         ensures tables { self.new.tables ≡ self.old.tables }
+        ensures presence { self.new.presence ≡ self.old.presence }
         ensures over { self.new.is_over ≡ self.old.is_over }
     {
         match act {

@@ -1,18 +1,19 @@
 //! The attendant opens the sockets of its lines.
 
-ghost use Rattle.std.specs.Prelude.{◌≡◌, ◌++◌, map, All, IfOk, OnOk};
+ghost use Rattle.std.specs.Prelude.{◌≡◌, ◌++◌, ◌↔◌, [], map, All, IfOk, IsTrue, OnOk};
 ghost use Rattle.std.specs.declared.net.ip_addr.IpAddr.{IpAddr};
 ghost use Rattle.njh_table.specs.TableFile.{HasLine};
 ghost use Rattle.njh_sites.specs.Endpoints.{endpoints_of};
 ghost use Rattle.njh_sites.specs.Opened.{IsApart, site_on, site_opened};
 ghost use Rattle.njh_lines.specs.Watching.{served_on};
+ghost use Rattle.njh_service.specs.Opening.{IsOpenToAll};
 
 use crate::fault::ServeFault;
 use njh_lines::Exchange;
-use njh_log::{ListenCause, Place, Severity};
+use njh_log::{ListenCause, LogEvent, Place, Severity};
 use njh_sight::{Label, LineNames};
 use njh_sites::{Door, Endpoint, Listening, PortRefusal, Site, begin_event, endpoints_of};
-use njh_table::{LineId, Tables};
+use njh_table::{LineId, NamedLine, Tables};
 use njh_wire::Network;
 use std::alloc::{AllocError, Global};
 use std::io::Write;
@@ -91,27 +92,59 @@ fn add_lines<N: Network + Drop, L: Write + Drop>(
         let Some(site) = left.next() else {
             return Ok(());
         };
+        tell_site(exchange, tables, own, endpoint, &site);
         let names = names_of(tables, endpoint.line);
-        tell_site(exchange, &names, address_in(own, endpoint), &site);
         exchange.add(endpoint.line, &names, site)?;
     }
     Ok(())
 }
 
-/// Tells of a line's site, by the address on which it is to listen if it doesn't dial.
+/// Tells of the site of a line of tables, which listens on this address if it doesn't dial, and
+/// whether anybody who reaches it there may sign on.
 fn tell_site<N: Network + Drop, L: Write + Drop>(
     exchange: &mut Exchange<N, L>,
-    names: &LineNames<'_>,
-    address: SocketAddr,
+    tables: &Tables,
+    own: IpAddr,
+    endpoint: &Endpoint,
     site: &Site<Door<N::Listener>, SocketAddr>,
 )
+    requires { HasLine tables.now endpoint.now.line }
     ensures lines { exchange.new.lines ≡ exchange.old.lines }
 {
-    let label = Label::of(names);
-    exchange.tell(
-        Place::Line(label.customer, label.line),
-        begin_event(address, site),
-    );
+    let address = address_in(own, endpoint);
+    exchange.tell(place_of(tables, endpoint.line), begin_event(address, site));
+    if is_open_to_all(tables.line(endpoint.line), own) {
+        exchange.tell(
+            place_of(tables, endpoint.line),
+            LogEvent::OpenToAll(address.port()),
+        );
+    }
+}
+
+/// What the log calls a line of tables.
+fn place_of(tables: &Tables, id: LineId) -> Place
+    requires { HasLine tables.now id }
+{
+    let label = Label::of(&names_of(tables, id));
+    Place::Line(label.customer, label.line)
+}
+
+/// Whether anybody who reaches a line may sign on: it has a port on this address, which others than
+/// this machine reach, and wants no password.
+fn is_open_to_all(line: &NamedLine, own: IpAddr) -> bool
+    ensures { IsTrue result ↔ IsOpenToAll line.now own }
+{
+    line.port() != 0 && wants_no_password(line) && !own.is_loopback()
+}
+
+/// Whether a sign-on on a line needs no password.
+fn wants_no_password(line: &NamedLine) -> bool
+    ensures { IsTrue result ↔ (line.now.entry.password ≡ []) }
+{
+    match line.password() {
+        Some(password) => password.trimmed().is_empty(),
+        None => true,
+    }
 }
 
 /// Where a line is connected: on this address if it listens, or at its peer's.

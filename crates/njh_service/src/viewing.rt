@@ -1,16 +1,18 @@
 //! What the console tells of the lines that are served.
 
 ghost use Rattle.std.specs.Prelude.{◌≡◌, map, IfOk};
-ghost use Rattle.njh_service.specs.Bureaus.{lines_told, post_told, view_told};
+ghost use Rattle.njh_service.specs.Bureaus.{lines_told, peer_if, post_told, refused_in, view_told};
 
 use crate::faults::is_connected_at;
 use crate::line_clock::LineClock;
-use njh_answer::LineView;
+use njh_answer::{LineView, Refused};
+use njh_anteroom::{Guest, Remembered};
 use njh_lines::{Exchange, Post};
 use njh_table::{LineId, Tables};
 use njh_wire::{Connection, LineWire, Network};
 use std::alloc::{AllocError, Global};
 use std::io::Write;
+use std::net::SocketAddr;
 
 /// What is told of each line, on the wires of the lines, by the tables that the hub was opened
 /// with. Out of memory is the only refusal.
@@ -57,10 +59,17 @@ fn view_of<Li: Drop, C: Drop>(
     is_connected: bool,
     clock: LineClock,
 ) -> Result<LineView, AllocError>
-    ensures { IfOk result (λ view. view_told view ≡ post_told post.now) }
+    ensures told { IfOk result (λ view. view_told view ≡ post_told post.now) }
+    ensures peer { IfOk result (λ view. view.peer ≡ peer_if is_connected post.now.entrance.peer) }
+    ensures waiting { IfOk result (λ view.
+        view.waiting.items ≡ map (λ guest. guest.address) post.now.entrance.anteroom.waiting) }
+    ensures refused { IfOk result (λ view.
+        view.refused.items ≡ refused_in post.now.entrance.anteroom.remembered) }
 {
     let site = site_text(alloc, tables, post.line)?;
     let last_end = end_text(alloc, post)?;
+    let waiting = waiting_of(alloc, post.entrance.anteroom.waiting())?;
+    let refused = refused_of(alloc, post.entrance.anteroom.remembered())?;
     let label = &post.label;
     Ok(LineView {
         line: post.line,
@@ -71,7 +80,45 @@ fn view_of<Li: Drop, C: Drop>(
         last_end,
         naks: post.steps.naks,
         repeats: post.steps.repeats,
+        peer: peer_if(is_connected, post.entrance.peer),
+        waiting,
+        refused,
     })
+}
+
+/// Who is connected, if somebody is: of who had the line last nothing is told.
+fn peer_if(is_connected: bool, peer: Option<SocketAddr>) -> Option<SocketAddr>
+    ensures { result ≡ peer_if is_connected peer }
+{
+    if is_connected { peer } else { None }
+}
+
+/// Who waits for a line, in their order.
+fn waiting_of<C: Drop>(alloc: Global, guests: &[Guest<C>]) -> Result<Vec<SocketAddr>, AllocError>
+    ensures { IfOk result (λ waiting. waiting.items ≡ map (λ guest. guest.address) guests.now) }
+{
+    let mut waiting = Vec::new(alloc);
+    for guest in guests {
+        waiting.push(guest.address)?;
+    }
+    Ok(waiting)
+}
+
+/// The addresses that are remembered of which sign-ons were refused, what was noted last behind all
+/// else.
+fn refused_of(alloc: Global, remembered: &[Remembered]) -> Result<Vec<Refused>, AllocError>
+    ensures { IfOk result (λ refused. refused.items ≡ refused_in remembered.now) }
+{
+    let mut refused = Vec::new(alloc);
+    for known in remembered {
+        if known.refusals > 0 {
+            refused.push(Refused {
+                address: known.address,
+                count: known.refusals,
+            })?;
+        }
+    }
+    Ok(refused)
 }
 
 /// Where a line of tables listens, or whom it dials; nothing if there are no tables.

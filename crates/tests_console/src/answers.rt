@@ -3,8 +3,8 @@
 
 use crate::asked::{bad, hub_of, request_of, tables_of};
 use njh_answer::{
-    Deed, LineView, OrderRecord, Outcome, RequestAnswer, ServiceView, Views, answer_request,
-    refuses,
+    Deed, LineView, OrderRecord, Outcome, Refused, RequestAnswer, ServiceView, Views,
+    answer_request, refuses,
 };
 use njh_arrivals::Arrivals;
 use njh_command::Replies;
@@ -15,6 +15,7 @@ use njh_request::{LineState, Text};
 use njh_table::{LineId, Tables};
 use std::alloc::{AllocError, Global};
 use std::io;
+use std::net::{IpAddr, Ipv4Addr, Ipv6Addr, SocketAddr};
 
 const TABLES: &str = r#"
 capacity = 200
@@ -124,7 +125,44 @@ fn line_view(alloc: Global) -> Result<LineView, AllocError> {
         last_end,
         naks: 2,
         repeats: 5,
+        peer: Some(peer()),
+        waiting: waiting(alloc)?,
+        refused: refused(alloc)?,
     })
+}
+
+/// An IPv4 address that is mapped into IPv6.
+fn mapped(last: u8) -> IpAddr {
+    IpAddr::V6(Ipv4Addr::new(192, 0, 2, last).to_ipv6_mapped())
+}
+
+fn peer() -> SocketAddr {
+    SocketAddr::new(mapped(7), 41022)
+}
+
+/// Two wait.
+fn waiting(alloc: Global) -> Result<Vec<SocketAddr>, AllocError> {
+    let mut waiting = Vec::new(alloc);
+    waiting.push(SocketAddr::new(IpAddr::V4(Ipv4Addr::new(203, 0, 113, 9)), 50112))?;
+    waiting.push(SocketAddr::new(
+        IpAddr::V6(Ipv6Addr::new(0x2001, 0xdb8, 0, 0, 0, 0, 0, 9)),
+        40212,
+    ))?;
+    Ok(waiting)
+}
+
+/// Of two addresses sign-ons were refused.
+fn refused(alloc: Global) -> Result<Vec<Refused>, AllocError> {
+    let mut refused = Vec::new(alloc);
+    refused.push(Refused {
+        address: mapped(4),
+        count: 1,
+    })?;
+    refused.push(Refused {
+        address: IpAddr::V6(Ipv6Addr::new(0x2001, 0xdb8, 0, 0, 0, 0, 0, 9)),
+        count: 12,
+    })?;
+    Ok(refused)
 }
 
 fn line_views(alloc: Global) -> Result<Vec<LineView>, AllocError> {

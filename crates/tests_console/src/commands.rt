@@ -39,6 +39,13 @@ fn lists<R: Print + AllocGlobal>(rt: &R) -> io::Result<()> {
         true,
         &[(200, "{\"lines\":[],\"next\":null}")],
     )?;
+    let customer = Some("ACME");
+    play(
+        rt,
+        ConsoleCommand::Lines { customer },
+        true,
+        &[(200, LINES)],
+    )?;
     play(
         rt,
         files(None, None),

@@ -8,7 +8,7 @@ use Rattle.njh_service.proofs.viewing.views_of.Goals as goal
 pub loop-place-preserved : goal.loop-place-preserved
 loop-place-preserved g c =
     told_more c.args.posts.now c.loop-place.place c.index-posts-place.result c.loop-place.views.items _ _
-    c.loop-place-test.true c.loop-place.invariant c.in_ok-push.ensures.items c.in_ok-view_of.ensures
+    c.loop-place-test.true c.loop-place.invariant c.in_ok-push.ensures.items c.in_ok-view_of.ensures.told
     c.index-posts-place.is
 
 -- all lines are

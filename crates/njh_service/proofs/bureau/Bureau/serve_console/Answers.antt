@@ -6,6 +6,7 @@ use Rattle.njh_request.specs.declared.request.EndMoment.{EndMoment}
 use Rattle.njh_service.specs.Bureaus.{Attended}
 use Rattle.njh_revision.specs.Revisions.{KnownTables}
 use Rattle.njh_lines.specs.Watching.{Watched}
+use Rattle.njh_presence.specs.declared.presence.Presence.{Presence}
 use Rattle.njh_service.proofs.BureauLaws.{none_drain, obeyed_after, obeyed_as}
 use Rattle.njh_service.proofs.bureau.Bureau.serve_console.Goals as goal
 
@@ -25,6 +26,7 @@ returns-clause-served g c =
     let Stop : Attended V → Option EndMoment = λ seen. seen.stop in
     let Own : Attended V → ConsoleState V = λ seen. seen.console in
     let Tables : Attended V → Option KnownTables = λ seen. seen.tables in
+    let Known : Attended V → Option Presence = λ seen. seen.presence in
     let Now : Attended V → ℕ = λ seen. seen.exchange.now in
     let Orders : ConsoleState V → TakenOrders = λ console. console.orders in
     let console = ap Own c.self-2.view_is ∙ c.obey.ensures.console in record {
@@ -42,6 +44,7 @@ returns-clause-served g c =
           c.tend-astray.result) console c.tend-astray.ensures.seats);
       orders = c.tend-astray.ensures.orders ∙ ap Orders console;
       tables = ap Tables c.self-2.view_is ∙ (c.obey.ensures.tables ∙ c.answer-act.ensures.tables);
+      presence = ap Known c.self-2.view_is ∙ (c.obey.ensures.presence ∙ c.answer-act.ensures.presence);
     }
 
 pub returns-clause-given : goal.returns-clause-given
