@@ -1,9 +1,10 @@
 //! The cases of a file.
 //!
 //! A case begins with `case NAME`, and an empty line stands between two. Rows behind a `#` say
-//! what it shows. `tables FILE` names its tables, and `shows` what is seen beside what the hub
-//! sends, dials, logs and answers (`closes`, `waits`, `looks`). Then come its acts: the moment in
-//! milliseconds, the number of the peer whose act it is, what is done (`deed_of`), and with what.
+//! what it shows. `tables FILE` names its tables, `listens` the address at which its lines listen if
+//! that isn't 10.0.0.100, and `shows` what is seen beside what the hub sends, dials, logs and
+//! answers (`closes`, `waits`, `looks`). Then come its acts: the moment in milliseconds, the number
+//! of the peer whose act it is, what is done (`deed_of`), and with what.
 //! Bytes are hex digits or names of `texts.txt` behind an `@`; `visits` is followed by a method,
 //! a path and a body, `table` by the file of the new tables, `spool` by what stands at the paths
 //! of the spool file and of its log (`stands_in`). A `+` behind the moment says that
@@ -22,7 +23,11 @@ use crate::seen::Shows;
 use crate::texts::{add_wanted, bytes_of, request_of};
 use njh_log::LogStyle;
 use std::alloc::Global;
+use std::net::{IpAddr, Ipv4Addr};
 use std::{fs, io};
+
+/// Where the lines of a case listen, if it doesn't say.
+const ADDRESS: [u8; 4] = [10, 0, 0, 100];
 
 /// How a case ends, and what of it is compared.
 #[derive(Clone, Copy)]
@@ -41,6 +46,8 @@ pub enum End {
 #[derive(Drop)]
 pub struct Case {
     pub tables: String,
+    /// Where its lines listen.
+    pub address: IpAddr,
     pub acts: Vec<Act>,
     pub shows: Shows,
     /// Not said yet: the rows so far say what is done.
@@ -54,6 +61,7 @@ impl Case {
     pub(crate) fn new(alloc: Global) -> Case {
         Case {
             tables: String::new(alloc),
+            address: IpAddr::V4(Ipv4Addr::from(ADDRESS)),
             acts: Vec::new(alloc),
             shows: Shows::NOTHING,
             end: None,
@@ -74,6 +82,7 @@ impl Case {
                 self.tables = stored(rt, rest)?;
                 Ok(true)
             }
+            "listens" => Ok(self.listen(rest)),
             "shows" => Ok(self.show(rest)),
             _ => {
                 self.end = end_of(word, rest);
@@ -82,6 +91,17 @@ impl Case {
                 }
                 self.read_act(rt, texts, word, rest)
             }
+        }
+    }
+
+    /// That its lines listen at this address. Answers whether it is one.
+    fn listen(&mut self, word: &str) -> bool {
+        match word.parse::<IpAddr>() {
+            Ok(address) => {
+                self.address = address;
+                true
+            }
+            Err(_) => false,
         }
     }
 

@@ -121,12 +121,13 @@ fn join(rt: &HostRuntime, row: &str, name: &str, case: Case, script: &[u8]) -> i
     println!(rt; "ok {name} {} {}", case.calls, case.dials)
 }
 
-/// What is wrong of a hub: it listens or dials, it connects once and its session goes up, and
-/// nothing else but commands that it answered.
+/// What is wrong of a hub: it dials, or it listens and anybody may sign on; it connects once and its
+/// session goes up, and nothing else but commands that it answered.
 fn wrong_in(joint: &Joint<'_>, number: usize, case: Case) -> Option<&'static str> {
     let commands = joint.told(number, " j1: command of LYON.ANNA: LIST: ");
     let others = joint.told(number, " j1: ").saturating_sub(commands);
-    if others != 3 {
+    let wanted = if case.dials == number { 3 } else { 4 };
+    if others != wanted {
         return Some("its log");
     }
     if joint.told(number, " j1: session up with ") != 1 {

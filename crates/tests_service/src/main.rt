@@ -51,6 +51,6 @@ fn main(rt: HostRuntime) -> io::Result<()> {
     let endpoints = fs::read_to_string(&rt, "endpoints.toml")?;
     pieces::show(&rt, endpoints.as_str())?;
     let loopback = fs::read_to_string(&rt, "loopback.toml")?;
-    loopback::play(&rt, loopback.as_str())?;
+    loopback::play(&rt, texts.as_str(), loopback.as_str())?;
     socket::play(&rt)
 }

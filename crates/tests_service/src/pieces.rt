@@ -72,10 +72,7 @@ fn show_marks<R: Print + AllocGlobal>(rt: &R) -> io::Result<()> {
 /// A log of texts, onto a writer that takes all.
 fn plain_log<R: AllocGlobal>(rt: &R) -> io::Result<LimitedLog<Vec<u8>>> {
     let alloc = rt.alloc();
-    let mut log = LimitedLog::new(
-        alloc,
-        Log::new(Some(Vec::new(alloc)), LogStyle::PLAIN),
-    );
+    let mut log = LimitedLog::new(alloc, Log::new(Some(Vec::new(alloc)), LogStyle::PLAIN));
     log.limit(alloc)?;
     Ok(log)
 }
@@ -92,8 +89,8 @@ fn line_of(customer: &str, line: &str) -> io::Result<Place> {
 
 /// Prints what is told of those who may not connect or sign on, and of whom anybody may be.
 fn show_strangers<R: Print + AllocGlobal>(rt: &R) -> io::Result<()> {
-    let mut log = plain_log(rt)?;
     let place = line_of("ACME", "a1")?;
+    let mut log = plain_log(rt)?;
     let address = IpAddr::V4(Ipv4Addr::new(192, 0, 2, 7));
     for event in [
         LogEvent::SignOnsRefused(Refusal::Password, address, 1),
@@ -103,33 +100,26 @@ fn show_strangers<R: Print + AllocGlobal>(rt: &R) -> io::Result<()> {
         LogEvent::TurnedAway(Rebuff::NoRoom, 12),
         LogEvent::OpenToAll(2301),
     ] {
-        log.tell(0, 0, place, &event);
+        tell_at(&mut log, 0, &place, &event);
     }
     show_log(rt, &log.log)
+}
+
+/// Tells of an event at a place, so many milliseconds after the start.
+fn tell_at(log: &mut LimitedLog<Vec<u8>>, now: u32, place: &Place, event: &LogEvent) {
+    log.tell(i64::from(now), u64::from(now), *place, event);
 }
 
 /// Prints what is told of 25 commands within three seconds on a line, of one on another, and of one
 /// on the first once its ten seconds are over, and before it is told how many more there were than
 /// ten: it is counted too.
 fn show_spells<R: Print + AllocGlobal>(rt: &R) -> io::Result<()> {
+    let first = line_of("ACME", "a1")?;
+    let second = line_of("ACME", "a2")?;
     let mut log = plain_log(rt)?;
-    for (line, first, last) in [
-        ("a1", 1_000, 3_400),
-        ("a2", 3_500, 3_500),
-        ("a1", 11_000, 11_000),
-    ] {
-        let heading = Heading {
-            milliseconds: first as i64,
-            severity: Severity::Information,
-            place: line_of("ACME", line)?,
-        };
-        let mut now = first;
-        while now <= last {
-            log.tell_text(heading, now, EventKind::Commands, &"a command");
-            now += 100;
-        }
-        log.look(10_999, 10_999);
-    }
+    tell_of_commands(&mut log, &first, 1_000, 25);
+    tell_of_commands(&mut log, &second, 3_500, 1);
+    tell_of_commands(&mut log, &first, 11_000, 1);
     log.look(12_000, 12_000);
     log.tell_text(
         Heading::warning(12_500),
@@ -140,27 +130,61 @@ fn show_spells<R: Print + AllocGlobal>(rt: &R) -> io::Result<()> {
     show_log(rt, &log.log)
 }
 
+/// Tells of so many commands, the first at this moment and the next a tenth of a second later, each
+/// with the time of the first.
+fn tell_of_commands(log: &mut LimitedLog<Vec<u8>>, place: &Place, first: u32, commands: usize) {
+    let mut now = first;
+    for _ in 0..commands {
+        tell_of_command(log, place, first, now);
+        now = now.saturating_add(100);
+    }
+    log.look(10_999, 10_999);
+}
+
+fn tell_of_command(log: &mut LimitedLog<Vec<u8>>, place: &Place, first: u32, now: u32) {
+    let heading = Heading {
+        milliseconds: i64::from(first),
+        severity: Severity::Information,
+        place: *place,
+    };
+    log.tell_text(heading, u64::from(now), EventKind::Commands, &"a command");
+}
+
 /// Prints how many lines there are of 1,005 files of a customer on two lines within a second, and
 /// of one of another customer, and what is told of those that have none.
 fn show_files<R: Print + AllocGlobal>(rt: &R) -> io::Result<()> {
+    let first = line_of("ACME", "a1")?;
+    let second = line_of("ACME", "a2")?;
+    let other = line_of("BOLT", "b1")?;
     let mut log = plain_log(rt)?;
+    tell_of_files(&mut log, &first, 1_003);
+    tell_of_files(&mut log, &second, 2);
+    tell_of_files(&mut log, &other, 1);
+    show_counted(rt, &mut log)
+}
+
+fn tell_of_files(log: &mut LimitedLog<Vec<u8>>, place: &Place, files: usize) {
     let event = LogEvent::FileLeft(Stream::at(0));
-    for (customer, line, files) in [("ACME", "a1", 1_003), ("ACME", "a2", 2), ("BOLT", "b1", 1)] {
-        let place = line_of(customer, line)?;
-        for _ in 0..files {
-            log.tell(500, 500, place, &event);
-        }
+    for _ in 0..files {
+        tell_at(log, 500, place, &event);
     }
-    let lines = match log.log.writer() {
-        Some(bytes) => bytes.iter().filter(|byte| **byte == b'\n').count(),
-        None => 0,
-    };
-    println!(rt; "lines of files: {lines}")?;
+}
+
+/// Prints how many lines a log has, and what another tells of its spells once they are over.
+fn show_counted<R: Print + AllocGlobal>(rt: &R, log: &mut LimitedLog<Vec<u8>>) -> io::Result<()> {
+    println!(rt; "lines of files: {}", lines_of(&log.log))?;
     let mut rest = plain_log(rt)?;
     std::mem::swap(&mut rest.spells, &mut log.spells);
     rest.look(1_499, 499);
     rest.look(1_500, 1_500);
     show_log(rt, &rest.log)
+}
+
+fn lines_of(log: &Log<Vec<u8>>) -> usize {
+    match log.writer() {
+        Some(bytes) => bytes.iter().filter(|byte| **byte == b'\n').count(),
+        None => 0,
+    }
 }
 
 fn show_log<R: Print>(rt: &R, log: &Log<Vec<u8>>) -> io::Result<()> {

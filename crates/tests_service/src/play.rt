@@ -9,7 +9,6 @@ use crate::world::World;
 use njh_log::LogStyle;
 use njh_sites::Listening;
 use std::alloc::Global;
-use std::net::{IpAddr, Ipv4Addr};
 use std::{fs, io};
 
 /// How many rounds a second of a service may take, if each of its lines is due ten times and
@@ -21,9 +20,6 @@ const WHOLE: u64 = 31_900;
 
 /// How much longer a service is looked at that is to have ended.
 const MORE: u64 = 5_000;
-
-/// Where the hub listens.
-const ADDRESS: [u8; 4] = [10, 0, 0, 100];
 
 /// Plays each case of a file.
 pub(crate) fn play_file(rt: &HostRuntime, texts: &str, file: &str) -> io::Result<()> {
@@ -117,7 +113,7 @@ fn play_in<'a>(alloc: Global, world: &'a World<'a>, case: &Case) -> io::Result<b
         None => return Ok(false),
     };
     let listening = Listening {
-        address: IpAddr::V4(Ipv4Addr::from(ADDRESS)),
+        address: case.address,
         strict,
     };
     let plan = Plan {

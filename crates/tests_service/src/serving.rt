@@ -15,6 +15,9 @@ use std::alloc::Global;
 use std::io;
 use std::io::{ErrorKind, Write};
 
+/// How many wait for a line at most.
+const GUESTS: u64 = 64;
+
 /// What runs in rounds.
 pub trait Rounds {
     /// Runs a round.
@@ -87,7 +90,7 @@ fn bureau_of<N: Network + Drop, L: Write + Drop, S: TableSource + Drop>(
     let known = tables_of(alloc, plan.tables)?;
     let revision = Revision::new(alloc, known, source)?;
     let console = Console::new(alloc)?;
-    let exchange = Exchange::new(alloc, network, Log::new(Some(log), plan.style));
+    let exchange = Exchange::new(alloc, network, Log::new(Some(log), plan.style), GUESTS);
     Ok(Bureau::new(alloc, "9.9", exchange, revision, console))
 }
 
