@@ -18,7 +18,7 @@ Of all but `files` and `dials` the table has a row for each kind of line that ca
 or the one that came most: how many there were in all, and the most of them in ten seconds of one line of the table
 file. At most ten are wanted. Of commands, what is counted by the last line of the spell is to add up to those that were
 said. Of files a row has the most lines in a second of the customer, of which a thousand are wanted at most; and those
-that are told one by one, or counted as `N files`, are to be all that came.
+that are told one by one, or counted as `files: N more`, are to be all that came.
 
 Of `joined`, `dials` and `guesses` a row has the pauses in seconds between two tries: they are to double from one second
 on, and to begin anew after a session. The last line says "right", or the script ends with status 1 and says how many
@@ -70,7 +70,7 @@ MOST, SPELL, FILES = 10, 10.0, 1000
 ABOUT_FILES = ("file in", "file out", "file held", "file refused")
 
 # How a line tells that it stands for many files.
-COUNTED = re.compile(r"\b(\d+) (?:more |further |other )?files\b")
+COUNTED = re.compile(r"\bfiles: (\d+) more\b")
 
 LINE = re.compile(r"(\d{4}-\d\d-\d\dT\d\d:\d\d:\d\d)\.(\d{3})Z (?:(\S+) ?(\S*): )?(.*)")
 
@@ -173,9 +173,9 @@ def commands(options):
     log, said = by(Commander, options, "commands")
     found = counted("commands", log)
     told = [one for one in told_in(log) if one.words.startswith("command of")]
-    counts = [int(number) for one in told for number in re.findall(r"last of (\d+) commands", one.words)]
-    # Each line tells one command, or of how many it is the last. The peer may not have heard the answer to one.
-    most = len(told) - len(counts) + sum(counts)
+    counts = [int(number) for one in told_in(log) for number in re.findall(r"^commands: (\d+) more", one.words)]
+    # The peer may not have heard the answer to one.
+    most = len(told) + sum(counts)
     right = said - 1 <= most <= said + len(told)
     print(f"    {said} commands were said; the last line: {last_of(told)}")
     return found + [show("commands", "told, with those that a line counts", said, most, right)]
