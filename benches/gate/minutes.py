@@ -1,7 +1,7 @@
 #!/usr/bin/env python3
 """Says what a run of the gate costs: by part and by crate, in minutes of CPU and GB of memory.
 
-    python3 benches/gate/minutes.py [--cpus 0,1] [--keep] [the words of a command: RT_JOBS=4 rt ci where none are given]
+    python3 benches/gate/minutes.py [--cpus 0,1] [--keep] [the words of a command: the gate's rt ci where none are given]
 
 Where the toolchain's `rt ci` keeps what passed and no words are given, it is told to keep nothing (`--anew`); older
 ones keep nothing anyway.
@@ -195,8 +195,7 @@ def main():
     if words[:1] == ["--keep"]:
         words, keeps = words[1:], True
     if not words:
-        os.environ.setdefault("RT_JOBS", "4")
-        words = ["rt", "ci", *anew()]
+        words = [sys.executable, "-B", "benches/gate/rt.py", "ci", *anew()]
     os.chdir(pathlib.Path(__file__).resolve().parents[2])
     begin = time.monotonic()
     process = subprocess.Popen(words, stdout=subprocess.PIPE, text=True, errors="replace")

@@ -6,7 +6,6 @@
 The last line is the verdict, 'N passed, M failed': crates, edits in must-fail, wrong bodies, and the looks at documents.
 """
 
-import os
 import pathlib
 import re
 import shutil
@@ -53,7 +52,6 @@ def ran(words, verdict):
 
 
 def main():
-    os.environ.setdefault("RT_JOBS", "4")
     for why, words in LOOKS.items():
         if subprocess.run([*OWN, *words], cwd=ROOT, check=False).returncode:
             print(f"0 passed, 1 failed: {why}")
