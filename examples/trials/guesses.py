@@ -3,10 +3,11 @@
     python3 examples/trials/guesses.py PROGRAM [--seconds 10] [--quick]
 
 LYON's line a1 has a password. Each row has a hub of its own. In the first rows one connection says 75 sign-ons with
-wrong passwords, or other faults, and then the right one: in one write, which the hub reads at once; byte by byte; after
-a session of its own; and one after the other, each as soon as its contact is answered. In the last rows strangers say
-75 of them on each of their connections, and connect anew as soon as the hub ends one, for so many seconds: from one
-address, from eight, and from loopback.
+wrong passwords, or other faults, and then the right one: in one write, which the hub reads at once; byte by byte; and
+one after the other, each as soon as its contact is answered. Then one says them in one write behind a session of its
+own: it has the password, so that isn't guessing, but its connection is to be ended behind them. In the last rows
+strangers say 75 of them on each of their connections, and connect anew as soon as the hub ends one, for so many
+seconds: from one address, from eight, and from loopback.
 
 The table has for each how many connections there were and how many of them were answered, how many sign-ons the hub
 judged (by the console's count of refusals, and the sessions that came), how many answers came (each ACK0 is of a
@@ -123,16 +124,26 @@ def byte_by_byte(hub):
     return one.shown()
 
 
-def after_a_session(hub):
-    """A session, its end and the guesses in one write, of which the hub has read more than it knows yet."""
-    one = One(hub)
-    one.say(RIGHT_ONE)
-    one.hear(5, lambda frames: any(isinstance(frame, Text) for frame in frames))
-    assert len(one.frames) == 2, "there was no session"
-    one.frames.clear()
-    one.say(EOT + WRONG * (MANY - 1) + RIGHT_ONE)
-    one.hear(2)
-    return one.shown()
+def behind_a_session(options, what):
+    """A session, and then its end, guesses and the right sign-on in one write.
+
+    Whose session is up has the password, and is read as fast as he sends: all of that is judged. But his connection is
+    ended behind it, since a sign-on was refused, and what he says then isn't.
+    """
+    with Guessed(options) as hub:
+        one = One(hub)
+        one.say(RIGHT_ONE)
+        one.hear(5, lambda frames: any(isinstance(frame, Text) for frame in frames))
+        assert len(one.frames) == 2, "there was no session"
+        one.frames.clear()
+        one.say(EOT + WRONG * (MANY - 1) + RIGHT_ONE)
+        is_over = one.hear(2)
+        one.say(WRONG)
+        time.sleep(1.2)
+        shown, judged, told = one.shown(), hub.refusals(), len(hub.refused())
+        right = is_over and judged == MANY - 1 and told == 1
+        row(WIDTHS, what, 1, shown.answered, judged, shown.answers, shown.texts, told, "" if right else "WRONG")
+        return right
 
 
 def one_by_one(hub):
@@ -150,7 +161,6 @@ ROWS = (
     ("75 in one write", one_write),
     ("75 with other faults in one write", other_faults),
     ("75 byte by byte", byte_by_byte),
-    ("a session and 74 in one write", after_a_session),
     ("one by one", one_by_one),
 )
 
@@ -202,6 +212,7 @@ def main():
     right = []
     for what, play in ROWS:
         right.append(alone(options, what, play))
+    right.append(behind_a_session(options, "a session, then 74 in one write"))
     seconds = f"{options.seconds:g} s"
     right.append(storm(options, f"one address, {seconds}", [stranger(0)] * 16))
     right.append(storm(options, f"eight addresses, {seconds}", [stranger(at) for at in range(8)] * 4))

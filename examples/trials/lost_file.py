@@ -108,6 +108,8 @@ class Play:
         if self.what in ("FILE-wal is removed", "both are removed"):
             self.wal.unlink()
         if self.what == "FILE-wal is cut":
+            # (the hub knows its size by looks that are a second apart)
+            time.sleep(1.5)
             os.truncate(self.wal, 41)
 
     def told(self, hub):
