@@ -13,7 +13,7 @@ use Rattle.njh_table.specs.declared.places.Part.{Part}
 use Rattle.njh_table.specs.declared.places.Part.TheVariants as parts
 use Rattle.njh_table.specs.Keys.{number}
 use Rattle.njh_table.specs.Limits.{max_block, max_capacity, max_customers, max_files, max_line_name, max_lines}
-use Rattle.njh_table.specs.Limits.{max_port, max_quota, max_routes, max_streams, min_block}
+use Rattle.njh_table.specs.Limits.{max_port, max_quota, max_ranges, max_routes, max_streams, min_block}
 use Rattle.njh_table.specs.Places.{key_name}
 use Rattle.njh_check.specs.Words.{◌+++◌, between_words, found_words}
 
@@ -48,6 +48,8 @@ wanted_words part named.Streams = between_words 1 max_streams
 wanted_words part named.Password = codes "empty or a name: 1 to 8 of A to Z, 0 to 9, $, # and @"
 wanted_words part named.Port = between_words 0 max_port
 wanted_words part named.Connect = codes "an IP address and a port, on a line without a port of its own"
+wanted_words part named.From =
+    between_words 1 max_ranges +++ codes " addresses or networks without bits behind the mask, on a line with a port"
 wanted_words part named.Second = codes "the name of another line"
 
 -- how many of a part there may be

@@ -1,15 +1,17 @@
 -- The report of tables that are right.
 use Rattle.std.specs.Prelude.{ℕ, ◌-◌, ◌==◌, Bool, true, false, List, [], ◌∷◌, ◌++◌, codes, cond, sum_by}
-use Rattle.std.specs.Prelude.{slice_get, Option, Some, None, flat_map}
+use Rattle.std.specs.Prelude.{length, slice_get, Option, Some, None, flat_map}
 use Rattle.std.specs.Fmt.{decimal}
 use Rattle.std.specs.Option.{option_map_or}
 use Rattle.std.specs.declared.net.socket_addr.SocketAddr.{SocketAddr}
-use Rattle.std.specs.Net.Text.{socket_text}
+use Rattle.std.specs.Net.Text.{ip_text, socket_text}
 use Rattle.njh_ebcdic.specs.Characters.{shown_text}
 use Rattle.njh_ebcdic.specs.Names.{without_end_blanks}
 use Rattle.njh_table.specs.declared.Role.{Role}
 use Rattle.njh_table.specs.declared.Role.TheVariants.{Call, Answer}
+use Rattle.njh_table.specs.declared.address_range.AddressRange.{AddressRange}
 use Rattle.njh_table.specs.Entries.{RouteEntry}
+use Rattle.njh_table.specs.Ranges.{is_single}
 use Rattle.njh_table.specs.TableFile.{NamedLine, NamedCustomer, TableFile}
 use Rattle.njh_check.specs.Words.{◌+++◌}
 
@@ -29,6 +31,16 @@ unfoldable pub peer_words : ℕ → Option SocketAddr → List ℕ
 peer_words port None = port_words port
 peer_words port (Some address) = codes "connect " +++ socket_text address
 
+-- an address by itself, or an address and how many of its first bits count
+unfoldable pub range_words : AddressRange → List ℕ
+range_words range =
+    cond (is_single range) (codes " " +++ ip_text range.address)
+    (codes " " +++ ip_text range.address +++ codes "/" +++ decimal range.bits)
+
+-- from where a line's peer may connect, if that isn't from anywhere
+unfoldable pub from_words : List AddressRange → List ℕ
+from_words ranges = cond (length ranges == 0) (codes "") (codes ", from" ++ flat_map range_words ranges)
+
 -- how much a line takes at once
 unfoldable pub size_words : ℕ → ℕ → List ℕ
 size_words block streams = codes "block " +++ decimal block +++ codes ", streams " +++ decimal streams
@@ -39,8 +51,8 @@ name_words l = codes "  line " +++ l.name +++ codes ": node " +++ name_text l.en
 
 unfoldable pub line_text : NamedLine → List ℕ
 line_text l =
-    name_words l +++ role_words l.entry.role +++ codes ", " +++ peer_words l.port l.peer +++ codes ", "
-    +++ size_words l.entry.block l.entry.streams +++ codes "\n"
+    name_words l +++ role_words l.entry.role +++ codes ", " +++ peer_words l.port l.peer +++ from_words l.from
+    +++ codes ", " +++ size_words l.entry.block l.entry.streams +++ codes "\n"
 
 abbrev pub has_password : List ℕ → Bool
 has_password [] = false

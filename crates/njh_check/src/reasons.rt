@@ -63,6 +63,9 @@ fn wanted_words(part: Part, key: Key) -> &'static str
         Key::Password => "empty or a name: 1 to 8 of A to Z, 0 to 9, $, # and @",
         Key::Port => "0 to 65535",
         Key::Connect => "an IP address and a port, on a line without a port of its own",
+        Key::From => {
+            "1 to 16 addresses or networks without bits behind the mask, on a line with a port"
+        }
         Key::Second => "the name of another line",
     }
 }

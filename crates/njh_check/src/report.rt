@@ -5,10 +5,11 @@ ghost use Rattle.njh_table.specs.Limits.{max_customers};
 ghost use Rattle.njh_table.specs.TableFile.{route_entry};
 ghost use Rattle.njh_check.specs.Reports.{capacity_text, customer_text, head_text, line_name, line_text, name_words};
 ghost use Rattle.njh_check.specs.Reports.{peer_words, port_words, report_of, role_words, route_text, second_words};
-ghost use Rattle.njh_check.specs.Reports.{has_password, line_report, password_text, size_words};
+ghost use Rattle.njh_check.specs.Reports.{from_words, has_password, line_report, password_text, range_words};
+ghost use Rattle.njh_check.specs.Reports.{size_words};
 
 use njh_ebcdic::Name;
-use njh_table::{NamedCustomer, NamedLine, Role, RouteLines, Tables};
+use njh_table::{AddressRange, NamedCustomer, NamedLine, Role, RouteLines, Tables};
 use std::alloc::{AllocError, Global};
 use std::net::SocketAddr;
 
@@ -42,6 +43,34 @@ fn peer_words(alloc: Global, port: u16, peer: Option<SocketAddr>) -> Result<Stri
     }
 }
 
+/// A range of addresses, behind a blank.
+#[tactic(auto, unfolding(crate::specs::Reports::range_words))]
+fn range_words(alloc: Global, range: AddressRange) -> Result<String, AllocError>
+    ensures { IfOk result (λ words. string_bytes words ≡ range_words range) }
+{
+    let AddressRange { address, bits } = range;
+    if range.is_single() {
+        return format!(in alloc; " {address}");
+    }
+    format!(in alloc; " {address}/{bits}")
+}
+
+/// From where a line's peer may connect, if that isn't from anywhere.
+#[tactic(auto, unfolding(crate::specs::Reports::from_words))]
+fn from_words(alloc: Global, ranges: &[AddressRange]) -> Result<String, AllocError>
+    ensures { IfOk result (λ words. string_bytes words ≡ from_words ranges.now) }
+{
+    if ranges.is_empty() {
+        return Ok(String::new(alloc));
+    }
+    let mut words = String::from_str(alloc, ", from")?;
+    for range in ranges {
+        let text = range_words(alloc, *range)?;
+        words.push_str(text.as_str())?;
+    }
+    Ok(words)
+}
+
 /// How much a line takes at once.
 #[tactic(auto, unfolding(crate::specs::Reports::size_words))]
 fn size_words(alloc: Global, block: u16, streams: u8) -> Result<String, AllocError>
@@ -67,8 +96,9 @@ fn line_text(alloc: Global, line: &NamedLine) -> Result<String, AllocError>
     let name = name_words(alloc, line)?;
     let role = role_words(line.role());
     let peer = peer_words(alloc, line.port(), line.peer())?;
+    let from = from_words(alloc, line.from().as_slice())?;
     let size = size_words(alloc, line.block(), line.streams())?;
-    format!(in alloc; "{name}{role}, {peer}, {size}\n")
+    format!(in alloc; "{name}{role}, {peer}{from}, {size}\n")
 }
 
 /// Whether a line has a password, which is a name, so it isn't empty.

@@ -39,6 +39,7 @@ fn known_keys(part: Part) -> &'static [Key]
             Key::Password,
             Key::Port,
             Key::Connect,
+            Key::From,
         ],
         Part::Route(_, _) => &[Key::Node, Key::Line, Key::Second],
     }

@@ -1,7 +1,7 @@
-//! What differs between two tables, their routes aside.
+//! What differs between two tables, their routes aside and the addresses from which peers connect.
 
 ghost use Rattle.std.specs.Prelude.{◌≡◌, None, length, map};
-ghost use Rattle.njh_revision.specs.Revisions.{without_mark, without_routes};
+ghost use Rattle.njh_revision.specs.Revisions.{what_stays, without_routes};
 
 use arrayvec::ArrayString;
 use njh_ebcdic::Name;
@@ -133,7 +133,7 @@ fn customer_key(customer: &NamedCustomer, other: &NamedCustomer) -> Option<Custo
 /// What differs first between as many lines of two customers.
 fn of_lines(customer: Name, lines: &[NamedLine], others: &[NamedLine]) -> Option<Difference>
     requires { length others.now ≡ length lines.now }
-    ensures { result ≡ None → map without_mark others.now ≡ map without_mark lines.now }
+    ensures { result ≡ None → map what_stays others.now ≡ map what_stays lines.now }
 {
     for place in 0..lines.len() {
         match line_key(&lines[place], &others[place]) {
@@ -151,9 +151,9 @@ fn of_line(customer: Name, line: &NamedLine, key: LineKey) -> Difference {
     Difference::Line(customer, name, key)
 }
 
-/// What of two lines differs first.
+/// What of two lines differs first, the addresses from which their peers may connect aside.
 fn line_key(line: &NamedLine, other: &NamedLine) -> Option<LineKey>
-    ensures { result ≡ None → without_mark other.now ≡ without_mark line.now }
+    ensures { result ≡ None → what_stays other.now ≡ what_stays line.now }
 {
     if other.name() != line.name() {
         return Some(LineKey::Name);

@@ -2,7 +2,7 @@
 
 ghost use Rattle.std.specs.Prelude.{◌≡◌, ◌⊎◌, option_map, Some, None, IfSome, IfOk};
 ghost use Rattle.njh_revision.specs.Giving.{IsPassedOver};
-ghost use Rattle.njh_revision.specs.Revisions.{opened_tables, AreKept, IsGiven};
+ghost use Rattle.njh_revision.specs.Revisions.{opened_tables, AreKept, AreRangesOf, IsGiven};
 
 use crate::customer_routes::routes_of;
 use crate::difference::{customers_difference, size_difference};
@@ -16,7 +16,7 @@ use njh_hub::{FileSummaryView, GivenRoutes, Hub};
 use njh_log::LineText;
 use njh_presence::SpoolSeen;
 use njh_spool::State;
-use njh_table::{NamedCustomer, Route, Tables};
+use njh_table::{AddressRange, LineId, NamedCustomer, Route, Tables};
 use njh_turns::NewRoutes;
 use std::alloc::{AllocError, Global};
 use std::marker::Model;
@@ -186,6 +186,20 @@ impl<S: TableSource + Drop> Revision<S> {
             Ok(routes) => Some(Ok(NewRoutes { customer, routes })),
             Err(_) => Some(Err(customer)),
         }
+    }
+
+    /// The ranges of addresses from which a line's peer may connect, by the tables that were taken
+    /// last; none where it may from anywhere. If the entry of its customer there isn't that of the
+    /// hub in all else, its routes aside, nothing is known of the line.
+    pub fn ranges_of(&self, line: LineId) -> Option<&[AddressRange]>
+        ensures { IfSome result (λ ranges. IfSome self.now (AreRangesOf line ranges.now)) }
+    {
+        let known = self.known.as_ref()?;
+        let last = known.last();
+        if is_apart(line.customer, &known.opened, last) || !last.has_line(line) {
+            return None;
+        }
+        Some(last.line(line).from())
     }
 
     /// The next customer that waits for routes.

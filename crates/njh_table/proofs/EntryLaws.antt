@@ -10,6 +10,7 @@ same_line l m same = λ i. record {
   name = sym same.name i;
   port = sym same.port i;
   peer = sym same.peer i;
+  from = sym same.from i;
   up = sym same.up i;
   entry = record {
     node = sym same.node i;

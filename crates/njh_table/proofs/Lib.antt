@@ -10,8 +10,10 @@ pub mod MapLaws
 pub mod MarkLaws
 pub mod NewRouteLaws
 pub mod OwnersLaws
+pub mod RangeLaws
 pub mod Replaced
 pub mod RouteLaws
+pub mod SameRanges
 pub mod WalkedLines
 pub mod WalkedRoutes
 pub mod WalkedTables

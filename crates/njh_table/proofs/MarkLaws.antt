@@ -30,7 +30,16 @@ customer_there t id has =
     (cases_lt id.customer (length t.customers))
 
 still_line : (up : Bool) (l : NamedLine) → IsLine l → IsLine (line_marked up l)
-still_line up l is = record { name = is.name; block = is.block; streams = is.streams; port = is.port; peer = is.peer }
+still_line up l is = record {
+  name = is.name;
+  block = is.block;
+  streams = is.streams;
+  port = is.port;
+  peer = is.peer;
+  from = is.from;
+  few = is.few;
+  ranges = is.ranges;
+}
 
 marked_names : (line : ℕ) (up : Bool) (c : NamedCustomer)
     → map (λ l. l.name) (customer_marked line up c).lines ≡ map (λ l. l.name) c.lines

@@ -15,11 +15,12 @@ use Rattle.njh_table.specs.Limits.{max_lines, min_block, max_block, max_streams,
 use Rattle.njh_table.specs.Accepted.{IsBetween, AreDistinct, IsLine}
 use Rattle.njh_table.specs.Places.{at_part, at_value}
 use Rattle.njh_table.specs.TableFile.{NamedLine}
-use Rattle.njh_table.specs.Keys.{number, node_name, is_line_name, line_name, role, password, peer}
+use Rattle.njh_table.specs.Keys.{number, node_name, is_line_name, line_name, role, password, peer, from}
 use Rattle.njh_table.specs.Walk.{walked_line, next_line, lines_onto}
 use Rattle.njh_table.proofs.OwnersLaws.{AreApart}
 use Rattle.njh_table.proofs.Gives.{Gives, and_then, weaker, past, with_keys, with_value, with_any, with_value_or}
 use Rattle.njh_table.proofs.Gives.{with_any_or, number-is, line_name-is, IsPeerOf, peer-is}
+use Rattle.njh_table.proofs.RangeLaws.{IsFromOf, from_nobody, from-is}
 use Rattle.njh_table.proofs.Distinct.{distinct_push}
 
 pub record IsNewLine (taken : List (List ℕ)) (l : NamedLine) : Type 0 where
@@ -41,7 +42,20 @@ line_of-gives part name keys is_name =
     with_value_or (IsBetween 0 max_port) _ (number 0 max_port) 0 part named.Port keys _ (omega arith, omega arith)
     (number-is 0 max_port) (λ port in_port.
     with_value_or (IsPeerOf port) _ (peer port) None part named.Connect keys _ tt (peer-is port) (λ peer is_peer.
-    (refl, record { name = is_name; block = in_block; streams = in_streams; port = in_port.1; peer = is_peer }))))))))
+    with_value_or (IsFromOf port) _ (from port) [] part named.From keys _ (from_nobody port) (from-is port)
+    (λ from is_from. (
+      refl,
+      record {
+        name = is_name;
+        block = in_block;
+        streams = in_streams;
+        port = in_port.1;
+        peer = is_peer;
+        from = is_from.listens;
+        few = is_from.few;
+        ranges = is_from.written;
+      },
+    )))))))))
 
 next_line-gives : (part : Part) (taken : List (List ℕ)) (value : Data)
     → Gives (IsNewLine taken) (next_line part taken value)

@@ -3,10 +3,11 @@
 use Rattle.std.specs.Prelude.{◌≡◌, ◌≢◌, ℕ, ◌<◌, ◌≤◌, List, ◌∷◌, length, map, sum_by, All, AllPairs, IfSome, IsTrue}
 use Rattle.std.specs.Net.Socket.{socket_port}
 use Rattle.njh_table.specs.Limits.{max_customers, max_lines, max_routes, max_capacity, max_quota}
-use Rattle.njh_table.specs.Limits.{max_files, min_block, max_block, max_streams, max_port}
+use Rattle.njh_table.specs.Limits.{max_files, max_ranges, min_block, max_block, max_streams, max_port}
 use Rattle.njh_table.specs.Entries.{RouteEntry}
 use Rattle.njh_table.specs.TableFile.{NamedLine, NamedCustomer, TableFile, line_names}
 use Rattle.njh_table.specs.Keys.{is_line_name}
+use Rattle.njh_table.specs.Ranges.{is_range}
 
 abbrev pub IsBetween : ℕ → ℕ → ℕ → Type 0
 IsBetween low high n = (low ≤ n) × (n ≤ high)
@@ -21,6 +22,10 @@ pub record IsLine (l : NamedLine) : Type 0 where
   pub port : l.port ≤ max_port
   -- a line whose peer listens has no port of its own
   pub peer : IfSome l.peer (λ address. (l.port ≡ 0) × (socket_port address ≢ 0))
+  -- a line that says from where its peer may connect has a port
+  pub from : 0 < length l.from → l.port ≢ 0
+  pub few : length l.from ≤ max_ranges
+  pub ranges : All (λ range. IsTrue (is_range range)) l.from
 
 -- a route of a customer with so many lines: its second line is another than its first
 pub record IsRoute (lines : ℕ) (r : RouteEntry) : Type 0 where

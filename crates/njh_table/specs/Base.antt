@@ -18,6 +18,7 @@ customer_with_a_line name line =
             name = line;
             port = 0;
             peer = None;
+            from = [];
             up = false;
             entry = record { node = lyon; role = Answer; block = 1024; streams = 4; password = [] };
           }

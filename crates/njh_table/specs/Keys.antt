@@ -1,25 +1,30 @@
 -- The keys of a table file, which is written in TOML: what a key's value must be, and the fault with its place where it
 -- isn't.
-use Rattle.std.specs.Prelude.{ℕ, ℤ, pos, negsuc, Bool, true, false, ◌&&◌, ◌||◌, ◌==◌, if◌then◌else◌, List, [], ◌∷◌}
-use Rattle.std.specs.Prelude.{length, codes, bytes_eq, Option, Some, None, option_and_then, option_map, ok_or, Result}
-use Rattle.std.specs.Prelude.{Ok, Err}
-use Rattle.std.specs.List.{list_all}
+use Rattle.std.specs.Prelude.{ℕ, suc, ℤ, pos, negsuc, ◌+◌, Bool, true, false, not, ◌&&◌, ◌||◌, ◌==◌, if◌then◌else◌}
+use Rattle.std.specs.Prelude.{List, [], ◌∷◌, length, take, drop, slice_get, codes, bytes_eq, nat_lt, Option, Some, None}
+use Rattle.std.specs.Prelude.{option_and_then, option_map, ok_or, Result, Ok, Err}
+use Rattle.std.specs.List.{list_all, position}
+use Rattle.std.specs.Option.{option_map_or}
 use Rattle.std.specs.Result.{result_ok}
+use Rattle.std.specs.Str.Parse.{digits_value}
 use Rattle.std.specs.declared.net.socket_addr.SocketAddr.{SocketAddr}
+use Rattle.std.specs.declared.net.ip_addr.IpAddr.{IpAddr}
 use Rattle.std.specs.Net.Socket.{socket_port}
-use Rattle.toml.specs.Data.{Data, Members, get_member, as_str, as_integer, as_table}
+use Rattle.toml.specs.Data.{Data, Items, no_items, item, Members, get_member, as_str, as_integer, as_array, as_table}
 use Rattle.njh_ebcdic.specs.Names.{within}
 use Rattle.njh_ebcdic.specs.Reading.{name_of_text}
 use Rattle.njh_table.specs.declared.Role.{Role}
 use Rattle.njh_table.specs.declared.Role.TheVariants.{Call, Answer}
 use Rattle.njh_table.specs.declared.fault.TableFault.{TableFault}
 use Rattle.njh_table.specs.declared.fault.TableFault.TheVariants.{MissingKey, BadValue}
-use Rattle.njh_table.specs.Limits.{max_line_name}
+use Rattle.njh_table.specs.Limits.{max_line_name, max_ranges}
+use Rattle.njh_table.specs.declared.address_range.AddressRange.{AddressRange}
 use Rattle.njh_table.specs.declared.places.Key.{Key}
 use Rattle.njh_table.specs.declared.places.Part.{Part}
 use Rattle.njh_table.specs.declared.places.PlacedFault.{PlacedFault}
-use Rattle.njh_table.specs.Addresses.{address_of}
+use Rattle.njh_table.specs.Addresses.{address_of, ip_of}
 use Rattle.njh_table.specs.Places.{at_part, at_value, key_name}
+use Rattle.njh_table.specs.Ranges.{is_range, own_range}
 
 -- what a test or a part of the walk gives, or the first fault
 abbrev pub Walked : Type 0 → Type 0
@@ -107,6 +112,65 @@ peer_of port text = if port == 0 then option_and_then peer_address (address_of t
 
 abbrev pub peer : ℕ → Data → Option (Option SocketAddr)
 peer port value = option_map Some (option_and_then (peer_of port) (as_str value))
+
+-- ---- from where a peer may connect
+
+-- a number as it is written in decimal: digits alone, and the first of several isn't 0
+abbrev pub is_digit : ℕ → Bool
+is_digit c = within 48 57 c
+
+abbrev pub leads : List ℕ → Bool
+leads text = option_map_or (λ first. (length text == 1) || not (first == 48)) (slice_get text 0) false
+
+abbrev pub is_decimal : List ℕ → Bool
+is_decimal text = list_all is_digit text && leads text
+
+-- the number below 256 that a text writes
+abbrev pub bits_of : List ℕ → Option ℕ
+bits_of text = if is_decimal text && nat_lt (digits_value 10 text) 256 then Some (digits_value 10 text) else None
+
+-- what stands before the first slash of a text and what after it
+abbrev pub halves : List ℕ → Option (List ℕ × List ℕ)
+halves text = option_map (λ place. (take place text, drop (place + 1) text)) (position (λ c. c == 47) text)
+
+-- an address and its first bits, if that is a range that may be written
+abbrev pub range_with : IpAddr → ℕ → Option AddressRange
+range_with address bits =
+    let range : AddressRange = record { address = address; bits = bits } in
+    if is_range range then Some range else None
+
+-- the range that a text writes whole, or in two halves: an address by itself, or an address and its first bits
+abbrev pub range_in : List ℕ → Option (List ℕ × List ℕ) → Option AddressRange
+range_in text None = option_map own_range (ip_of text)
+range_in text (Some halves) =
+    option_and_then (λ address. option_and_then (range_with address) (bits_of halves.1)) (ip_of halves.0)
+
+abbrev pub range_of : List ℕ → Option AddressRange
+range_of text = range_in text (halves text)
+
+abbrev pub range : Data → Option AddressRange
+range value = option_and_then range_of (as_str value)
+
+-- those that the texts of a list write, in their order
+abbrev pub ranges_in : Items → Option (List AddressRange)
+ranges_in no_items = Some []
+ranges_in (item value more) =
+    option_and_then (λ first. option_map (λ others. first ∷ others) (ranges_in more)) (range value)
+
+abbrev pub count_of : Items → ℕ
+count_of no_items = 0
+count_of (item value more) = suc (count_of more)
+
+-- a line with this port may have so many: none without a port of its own
+abbrev pub may_have : ℕ → ℕ → Bool
+may_have port count = not (port == 0) && within 1 max_ranges count
+
+abbrev pub ranges_of : ℕ → Items → Option (List AddressRange)
+ranges_of port values = if may_have port (count_of values) then ranges_in values else None
+
+-- from where the peer of a line with this port may connect
+abbrev pub from : ℕ → Data → Option (List AddressRange)
+from port value = option_and_then (ranges_of port) (as_array value)
 
 -- ---- keys
 

@@ -41,6 +41,10 @@ max_block = 4096
 abbrev pub max_streams : ℕ
 max_streams = 4
 
+-- how many ranges of addresses a line's `from` has at most
+abbrev pub max_ranges : ℕ
+max_ranges = 16
+
 -- the greatest number of a port
 abbrev pub max_port : ℕ
 max_port = 65535

@@ -13,6 +13,7 @@ pub record SameLine (l m : NamedLine) : Type 0 where
   pub password : l.entry.password ≡ m.entry.password
   pub port : l.port ≡ m.port
   pub peer : l.peer ≡ m.peer
+  pub from : l.from ≡ m.from
   pub up : l.up ≡ m.up
 
 pub record SameRoute (r s : RouteEntry) : Type 0 where

@@ -4,17 +4,20 @@ use Rattle.std.specs.Prelude.{slice_index_or, bytes_eq, Option, Some, None, opti
 use Rattle.std.specs.List.{flat_map}
 use Rattle.std.specs.Map.{lookup}
 use Rattle.std.specs.declared.net.socket_addr.SocketAddr.{SocketAddr}
+use Rattle.njh_table.specs.declared.address_range.AddressRange.{AddressRange}
 use Rattle.njh_table.specs.declared.LineId.{LineId}
 use Rattle.njh_table.specs.declared.Role.TheVariants.{Answer}
 use Rattle.njh_table.specs.declared.routes.RouteLines.{RouteLines}
 use Rattle.njh_table.specs.Entries.{LineEntry, RouteEntry, CustomerEntry}
 
--- a line: its name on the hub (text), its port, where its peer listens if the hub is to connect to it, its mark as up,
--- and what its customer's entry says of it
+-- a line: its name on the hub (text), its port, where its peer listens if the hub is to connect to it, the ranges of
+-- addresses from which its peer may connect (none where it may from anywhere), its mark as up, and what its customer's
+-- entry says of it
 pub record NamedLine : Type 0 where
   pub name : List ℕ
   pub port : ℕ
   pub peer : Option SocketAddr
+  pub from : List AddressRange
   pub up : Bool
   pub entry : LineEntry
 
@@ -62,6 +65,7 @@ no_line = record {
   name = [];
   port = 0;
   peer = None;
+  from = [];
   up = false;
   entry = record { node = []; role = Answer; block = 0; streams = 0; password = [] };
 }

@@ -17,7 +17,7 @@ use Rattle.njh_table.specs.Limits.{max_customers, max_lines, max_routes, max_cap
 use Rattle.njh_table.specs.Limits.{max_files, min_block, max_block, max_streams, max_port}
 use Rattle.njh_table.specs.Entries.{RouteEntry, lines_to}
 use Rattle.njh_table.specs.Keys.{Walked, Placed, ◌>>=◌, ◌>>◌, fault_where, without_place, keys_in, at_key, at_key_or}
-use Rattle.njh_table.specs.Keys.{number, node_name, line_name, role, password, peer, second_line}
+use Rattle.njh_table.specs.Keys.{number, node_name, line_name, role, password, peer, from, second_line}
 use Rattle.njh_table.specs.Places.{at_part, at_value}
 use Rattle.njh_table.specs.TableFile.{NamedLine, NamedCustomer, TableFile, line_names}
 
@@ -33,10 +33,12 @@ walked_line part name keys = do
   password ← at_key_or password [] part named.Password keys
   port ← at_key_or (number 0 max_port) 0 part named.Port keys
   peer ← at_key_or (peer port) None part named.Connect keys
+  from ← at_key_or (from port) [] part named.From keys
   Ok (record {
     name = name;
     port = port;
     peer = peer;
+    from = from;
     up = false;
     entry = record { node = node; role = role; block = block; streams = streams; password = password };
   })

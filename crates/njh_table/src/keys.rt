@@ -8,15 +8,17 @@ ghost use Rattle.std.specs.Result.{result_map_both};
 ghost use Rattle.toml.specs.Data.{get_member, as_str, as_array, as_table, no_items};
 ghost use Rattle.toml.specs.View.{view, table_view, items_view};
 ghost use Rattle.njh_table.specs.Addresses.{address_of};
-ghost use Rattle.njh_table.specs.Keys.{keys_in, at_key, at_key_or, number, node_name, role, password, peer, line_name};
-ghost use Rattle.njh_table.specs.Keys.{second_line, is_line_name, is_letter_or_digit};
+ghost use Rattle.njh_table.specs.Keys.{keys_in, at_key, at_key_or, from, number, node_name, role, password, peer};
+ghost use Rattle.njh_table.specs.Keys.{line_name, second_line, is_line_name, is_letter_or_digit};
 ghost use Rattle.njh_table.specs.Places.{at_value, key_name};
 ghost use Rattle.njh_table.specs.TableFile.{password_bytes};
 
 use crate::Role;
+use crate::address_ranges::AddressRanges;
 use crate::fault::TableFault;
 use crate::limits::MAX_LINE_NAME;
 use crate::places::{Key, Part, PlacedFault};
+use crate::range_text::from_in;
 use njh_ebcdic::Name;
 use std::net::SocketAddr;
 use toml::{Table, Value};
@@ -214,6 +216,20 @@ pub fn peer_at(
     };
     match peer_in(value, port) {
         Some(address) => Ok(Some(address)),
+        None => Err(part.fault_at(key, TableFault::BadValue)),
+    }
+}
+
+/// From where the peer of a line with this port may connect, which may be missing: where it isn't,
+/// the port isn't 0.
+pub fn from_at(keys: &Table, part: Part, key: Key, port: u16) -> Result<AddressRanges, PlacedFault>
+    ensures { result ≡ at_key_or (from port) [] part key (table_view keys.now) }
+{
+    let Some(value) = find(keys, key) else {
+        return Ok(AddressRanges::all());
+    };
+    match from_in(value, port) {
+        Some(ranges) => Ok(ranges),
         None => Err(part.fault_at(key, TableFault::BadValue)),
     }
 }

@@ -1,12 +1,13 @@
 //! Laws over the definitions.
 
 ghost use Rattle.std.specs.Prelude.{◌≡◌, ◌≢◌, ℕ, ◌<◌, ◌↔◌, Bool, List, Some, Ok, Err, length};
+ghost use Rattle.std.specs.declared.net.ip_addr.IpAddr.{IpAddr};
 ghost use Rattle.std.specs.declared.net.socket_addr.SocketAddr.{SocketAddr};
-ghost use Rattle.std.specs.Net.Grammar.{IsSocketText};
+ghost use Rattle.std.specs.Net.Grammar.{IsIpText, IsSocketText};
 ghost use Rattle.toml.specs.Data.{Members};
 ghost use Rattle.njh_table.specs.declared.fault.TableFault.{TableFault as Fault};
 ghost use Rattle.njh_table.specs.Accepted.{IsAccepted};
-ghost use Rattle.njh_table.specs.Addresses.{address_of};
+ghost use Rattle.njh_table.specs.Addresses.{address_of, ip_of};
 ghost use Rattle.njh_table.specs.Entries.{route_of};
 ghost use Rattle.njh_table.specs.declared.LineId.{LineId};
 ghost use Rattle.njh_table.specs.Marks.{entry_marked, entry_unmarked, without_marks, with_mark};
@@ -24,11 +25,12 @@ pub fn walk_keeps_limits()
         → (fault ≢ TableFault.BadToml) × (fault ≢ TableFault.Memory) }
 {}
 
-/// The address that a text writes is the one that the grammar of such texts gives; a text outside
-/// that grammar writes none.
+/// The address that a text writes, with a port or without one, is the one that the grammar of such
+/// texts gives; a text outside that grammar writes none.
 pub fn addresses_are_of_the_grammar()
     ensures spelled { (text : List ℕ) (address : SocketAddr)
         → IsSocketText text address ↔ (address_of text ≡ Some address) }
+    ensures bare { (text : List ℕ) (address : IpAddr) → IsIpText text address ↔ (ip_of text ≡ Some address) }
 {}
 
 /// Customers with the same entry route alike, wherever each stands in its table; and what can be

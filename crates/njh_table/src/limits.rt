@@ -30,5 +30,8 @@ pub const MAX_BLOCK: u32 = 4096;
 /// How many streams of a kind a line has at most.
 pub const MAX_STREAMS: u32 = 4;
 
+/// How many ranges of addresses a line's `from` has at most.
+pub const MAX_RANGES: usize = 16;
+
 /// The greatest number of a port.
 pub const MAX_PORT: u32 = 65_535;

@@ -4,6 +4,7 @@ ghost use Rattle.std.specs.Prelude.{◌≡◌, Some, None};
 ghost use Rattle.njh_table.specs.TableFile.{password_bytes};
 
 use crate::Role;
+use crate::address_ranges::AddressRanges;
 use njh_ebcdic::Name;
 use std::marker::Model;
 use std::net::SocketAddr;
@@ -19,6 +20,7 @@ pub struct NamedLine {
     pub(crate) password: Option<Name>,
     pub(crate) port: u16,
     pub(crate) peer: Option<SocketAddr>,
+    pub(crate) from: AddressRanges,
     pub(crate) up: bool,
 }
 
@@ -33,6 +35,7 @@ impl Model for NamedLine {
       name = string_bytes l.name;
       port = l.port;
       peer = l.peer;
+      from = l.from;
       up = l.up;
       entry = record {
         node = l.node;
@@ -100,6 +103,14 @@ impl NamedLine {
         ensures { result ≡ self.now.peer }
     {
         self.peer
+    }
+
+    /// From where the line's peer may connect. A line that takes connections from some addresses
+    /// alone has a port of its own.
+    pub fn from(&self) -> &AddressRanges
+        ensures { result.now ≡ self.now.from }
+    {
+        &self.from
     }
 
     /// Whether the line is marked as up, by `Tables::set_up`; a table file gives no mark.

@@ -53,6 +53,8 @@ pub enum Key {
     Port,
     /// `connect`, of a line.
     Connect,
+    /// `from`, of a line.
+    From,
     /// `second`, of a route.
     Second,
 }
@@ -78,6 +80,7 @@ impl Key {
             Key::Password => "password",
             Key::Port => "port",
             Key::Connect => "connect",
+            Key::From => "from",
             Key::Second => "second",
         }
     }

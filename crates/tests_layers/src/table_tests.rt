@@ -4,6 +4,7 @@
 use crate::same::is_same;
 use njh_table::{TableFault, Tables};
 use std::alloc::{AllocError, Global};
+use std::net::IpAddr;
 use std::ops::Range;
 use std::process::Abort;
 use std::test::Fail;
@@ -51,7 +52,7 @@ fn outcome(alloc: Global, text: &str) -> Result<String, AllocError> {
 }
 
 /// What comes of the base tables after changes. `A > B` puts B in the place of the first A; `/` is
-/// the end of a line, and `#` begins a comment.
+/// the end of a line, `~` a slash, and `#` begins a comment.
 const ONE: &str = r#"
 K1 BadToml: capacity = 200 > capacity =
 K1 BadToml: capacity = 200 > capacity = 200/capacity = 200
@@ -93,6 +94,36 @@ K3 BadValue: streams = 4 > streams = 4/connect = "[::1]:0"
 K3 BadValue: streams = 4 > streams = 4/connect = ""
 K3 BadValue: streams = 4 > streams = 4/connect = 17501
 K3 BadValue: streams = 4 > streams = 4/port = 17501/connect = "127.0.0.1:17501"
+K3 BadValue: streams = 4 > streams = 4/from = ["192.0.2.7"]
+K3 BadValue: streams = 4 > streams = 4/port = 0/from = ["192.0.2.7"]
+K3 BadValue: streams = 4 > streams = 4/connect = "127.0.0.1:17501"/from = ["192.0.2.7"]
+K3 BadValue: streams = 4 > streams = 4/port = 17501/from = []
+K3 BadValue: streams = 4 > streams = 4/port = 17501/from = "192.0.2.7"
+K3 BadValue: streams = 4 > streams = 4/port = 17501/from = [3]
+K3 BadValue: streams = 4 > streams = 4/port = 17501/from = [["192.0.2.7"]]
+K3 BadValue: streams = 4 > streams = 4/port = 17501/from = [""]
+K3 BadValue: streams = 4 > streams = 4/port = 17501/from = ["localhost"]
+K3 BadValue: streams = 4 > streams = 4/port = 17501/from = ["192.0.2.7", "192.0.2"]
+K3 BadValue: streams = 4 > streams = 4/port = 17501/from = ["192.0.2.07"]
+K3 BadValue: streams = 4 > streams = 4/port = 17501/from = ["192.0.2.7:17501"]
+K3 BadValue: streams = 4 > streams = 4/port = 17501/from = [" 192.0.2.7"]
+K3 BadValue: streams = 4 > streams = 4/port = 17501/from = ["[::1]"]
+K3 BadValue: streams = 4 > streams = 4/port = 17501/from = ["fe80::1%3"]
+K3 BadValue: streams = 4 > streams = 4/port = 17501/from = ["10.1.0.0~"]
+K3 BadValue: streams = 4 > streams = 4/port = 17501/from = ["~16"]
+K3 BadValue: streams = 4 > streams = 4/port = 17501/from = ["10.1.0.0~16~16"]
+K3 BadValue: streams = 4 > streams = 4/port = 17501/from = ["10.1.0.0~+16"]
+K3 BadValue: streams = 4 > streams = 4/port = 17501/from = ["10.1.0.0~016"]
+K3 BadValue: streams = 4 > streams = 4/port = 17501/from = ["10.1.0.0~1 6"]
+K3 BadValue: streams = 4 > streams = 4/port = 17501/from = ["10.1.0.0~255.255.0.0"]
+K3 BadValue: streams = 4 > streams = 4/port = 17501/from = ["10.1.0.0~33"]
+K3 BadValue: streams = 4 > streams = 4/port = 17501/from = ["10.1.0.0~272"]
+K3 BadValue: streams = 4 > streams = 4/port = 17501/from = ["2001:db8::~129"]
+K3 BadValue: streams = 4 > streams = 4/port = 17501/from = ["10.1.0.1~16"]
+K3 BadValue: streams = 4 > streams = 4/port = 17501/from = ["10.1.0.0~15"]
+K3 BadValue: streams = 4 > streams = 4/port = 17501/from = ["0.0.0.1~0"]
+K3 BadValue: streams = 4 > streams = 4/port = 17501/from = ["2001:db8::1~32"]
+K3 BadValue: streams = 4 > streams = 4/port = 17501/from = ["::1~0"]
 K3 BadValue: streams = 4 > streams = 4/password = "secret"
 K3 BadValue: role = "answer" > role = "Answer"
 K3 BadValue: name = "ACME" > name = "ACMEACMEA"
@@ -130,6 +161,10 @@ taken: streams = 4 > streams = 4/password = "SECRET"
 taken: streams = 4 > streams = 4/password = ""/port = 0
 taken: streams = 4 > streams = 4/connect = "127.0.0.1:17501"
 taken: streams = 4 > streams = 4/connect = "[2001:db8::7]:65535"/port = 0
+taken: streams = 4 > streams = 4/port = 17501/from = ["192.0.2.7"]
+taken: streams = 4 > streams = 4/from = ["192.0.2.7", "10.1.0.0~16", "2001:db8::~32", "::1"]/port = 1
+taken: streams = 4 > streams = 4/port = 17501/from = ["0.0.0.0~0", "::~0", "::ffff:10.1.0.0~112"]
+taken: streams = 4 > streams = 4/port = 17501/from = ["10.1.0.1~32", "2001:DB8:0:0:0:0:0:1~128"]
 taken: role = "answer" > role = "call" | hub = "BUREAU" > hub = "PARIS"
 taken: capacity = 200 > capacity = 200/colour = "red"
 "#;
@@ -144,6 +179,17 @@ const LONG: &str = "\
     line = \"a1\" > line = \"a1\"/second = \"a2\"\n\
     taken: node = \"LYON\" > node = \"METZ\" | files = 8 > files = 8/route = [] | \
     [[customer.route]]/node = \"LYON\"/line = \"a1\" > #";
+
+/// Lines that say of 16 addresses, and of one more.
+const MANY: &str = "\
+    taken: streams = 4 > streams = 4/port = 17501/from = [\"10.0.0.1\", \"10.0.0.2\", \
+    \"10.0.0.3\", \"10.0.0.4\", \"10.0.0.5\", \"10.0.0.6\", \"10.0.0.7\", \"10.0.0.8\", \
+    \"10.0.0.9\", \"10.0.0.10\", \"10.0.0.11\", \"10.0.0.12\", \"10.0.0.13\", \"10.0.0.14\", \
+    \"10.0.0.15\", \"10.0.0.16\"]\n\
+    K3 BadValue: streams = 4 > streams = 4/port = 17501/from = [\"10.0.0.1\", \"10.0.0.2\", \
+    \"10.0.0.3\", \"10.0.0.4\", \"10.0.0.5\", \"10.0.0.6\", \"10.0.0.7\", \"10.0.0.8\", \
+    \"10.0.0.9\", \"10.0.0.10\", \"10.0.0.11\", \"10.0.0.12\", \"10.0.0.13\", \"10.0.0.14\", \
+    \"10.0.0.15\", \"10.0.0.16\", \"10.0.0.17\"]";
 
 /// Two changes, of which each alone has a fault: the first is told.
 const TWO: &str = r#"
@@ -163,6 +209,7 @@ K3 BadValue: role = "answer" > role = 1 | block = 1024 > #
 K2 MissingKey: block = 1024 > # | streams = 4 > streams = 5
 K3 BadValue: streams = 4 > streams = 5 | line = "a1" > line = "b1"
 K3 BadValue: streams = 4 > streams = 4/connect = "" | name = "b1" > name = "a1"
+K3 BadValue: streams = 4 > streams = 4/from = [] | name = "b1" > name = "a1"
 K2 MissingKey: node = "LYON"/line > line | line = "a1" > line = 1
 K3 BadValue: line = "a1" > line = 1 | node = "LYON"/line > node = "BUREAU"/line
 K3 BadValue: line = "a1" > line = "a1"/second = 3 | node = "LYON"/line > node = "BUREAU"/line
@@ -191,7 +238,7 @@ fn changed_once(alloc: Global, text: &str, change: &str) -> Result<String, Fail>
     if !text.contains(from.as_str()) {
         return Err("a change of nothing".into());
     }
-    let to = to.replace(alloc, "/", "\n")?;
+    let to = to.replace(alloc, "/", "\n")?.replace(alloc, "~", "/")?;
     Ok(text.replacen(alloc, from.as_str(), to.as_str(), 1)?)
 }
 
@@ -206,7 +253,7 @@ fn comes<R: Abort>(rt: &R, alloc: Global, case: &str) -> Result<(), Fail> {
 
 #[test]
 fn what_comes_of_changes(rt: HostRuntime) -> Result<(), Fail> {
-    for cases in [ONE, LONG, TWO] {
+    for cases in [ONE, LONG, MANY, TWO] {
         for case in cases.trim().lines() {
             comes(&rt, rt.alloc(), case)?;
         }
@@ -305,6 +352,68 @@ fn comes_of_sizes<R: Abort>(
 fn files_at_and_past_a_limit(rt: HostRuntime) -> Result<(), Fail> {
     for (sizes, last, want) in &SIZES {
         comes_of_sizes(&rt, rt.alloc(), *sizes, last, want)?;
+    }
+    Ok(())
+}
+
+/// A key of a line, addresses from which its peer may connect, and some from which it may not.
+const FROM: [[&str; 3]; 7] = [
+    ["", "192.0.2.7 ::1 255.255.255.255", ""],
+    [
+        "from = [\"192.0.2.7\"]",
+        "192.0.2.7 ::ffff:192.0.2.7",
+        "192.0.2.6 192.0.3.7 ::192.0.2.7 ::1",
+    ],
+    [
+        "from = [\"10.1.0.0/16\"]",
+        "10.1.0.0 10.1.255.255 ::ffff:10.1.2.3",
+        "10.0.255.255 10.2.0.0 11.1.0.0 2001:db8::10.1.0.0",
+    ],
+    [
+        "from = [\"2001:db8::/32\"]",
+        "2001:db8:: 2001:db8:ffff:ffff:ffff:ffff:ffff:ffff",
+        "2001:db7:ffff:ffff:ffff:ffff:ffff:ffff 2001:db9:: 32.1.13.184",
+    ],
+    [
+        "from = [\"10.0.0.1\", \"10.0.0.8/29\", \"::1\"]",
+        "10.0.0.1 10.0.0.8 10.0.0.15 ::1",
+        "10.0.0.0 10.0.0.2 10.0.0.7 10.0.0.16 :: 127.0.0.1",
+    ],
+    [
+        "from = [\"0.0.0.0/0\"]",
+        "0.0.0.0 255.255.255.255 ::ffff:0.0.0.0",
+        ":: ::1 ::fffe:ffff:ffff",
+    ],
+    [
+        "from = [\"::/0\"]",
+        ":: ffff:ffff:ffff:ffff:ffff:ffff:ffff:ffff 127.0.0.1",
+        "",
+    ],
+];
+
+/// Whether the peer of a line with this key may connect from an address.
+fn connects(alloc: Global, key: &str, address: &str) -> Result<&'static str, Fail> {
+    let keys = format!(in alloc; "streams = 4\nport = 17501\n{key}")?;
+    let text = BASE.replacen(alloc, "streams = 4", keys.as_str(), 1)?;
+    let tables = Tables::read(alloc, text.as_str())?;
+    let line = tables.line_owner("a1").ok_or("no line a1")?;
+    let address = address.parse::<IpAddr>()?;
+    if tables.line(line).from().allows(address) {
+        Ok("it may")
+    } else {
+        Ok("it may not")
+    }
+}
+
+#[test]
+fn from_where_a_peer_may_connect(rt: HostRuntime) -> Result<(), Fail> {
+    for [key, within, outside] in &FROM {
+        for address in within.split_whitespace() {
+            is_same(&rt, connects(rt.alloc(), key, address)?, "it may", address);
+        }
+        for address in outside.split_whitespace() {
+            is_same(&rt, connects(rt.alloc(), key, address)?, "it may not", address);
+        }
     }
     Ok(())
 }

@@ -9,7 +9,8 @@ ghost use Rattle.njh_table.specs.Walk.{Walks, walked_line, next_line, lines_onto
 use crate::LineId;
 use crate::fault::TableFault;
 use crate::keys::{
-    keys_in, line_name_at, name_at, number_at, number_or_zero_at, password_at, peer_at, role_at,
+    from_at, keys_in, line_name_at, name_at, number_at, number_or_zero_at, password_at, peer_at,
+    role_at,
 };
 use crate::limits::{MAX_BLOCK, MAX_LINES, MAX_PORT, MAX_STREAMS, MIN_BLOCK};
 use crate::line::NamedLine;
@@ -31,6 +32,7 @@ fn line_of(alloc: Global, part: Part, name: &str, keys: &Table) -> Result<NamedL
     let password = password_at(keys, part, Key::Password)?;
     let port = number_or_zero_at(keys, part, Key::Port, MAX_PORT)? as u16;
     let peer = peer_at(keys, part, Key::Connect, port)?;
+    let from = from_at(keys, part, Key::From, port)?;
     Ok(NamedLine {
         name: String::from_str(alloc, name)?,
         node,
@@ -40,6 +42,7 @@ fn line_of(alloc: Global, part: Part, name: &str, keys: &Table) -> Result<NamedL
         password,
         port,
         peer,
+        from,
         up: false,
     })
 }

@@ -23,6 +23,10 @@ pub returns-in-Streams : goal.returns-in-Streams
 unfolding wanted_words digits
 returns-in-Streams c = search rules
 
+pub returns-in-From : goal.returns-in-From
+unfolding wanted_words digits
+returns-in-From c = search rules
+
 pub returns-in-Port : goal.returns-in-Port
 unfolding wanted_words digits
 returns-in-Port c = search rules

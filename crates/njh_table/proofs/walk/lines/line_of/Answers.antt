@@ -67,6 +67,19 @@ returns-in_err-peer-clause-walk c =
     ∙ goes_on _ _ _ (sym c.in_ok-port.ensures.read)
     ∙ ends _ _ _ (sym c.in_err-peer.ensures))
 
+pub returns-in_err-from-clause-walk : goal.returns-in_err-from-clause-walk
+unfolding walked_line
+returns-in_err-from-clause-walk c =
+    stops _ _ _ _ c.from_residual-in_err-from.ensures.1
+    (λ _. goes_on _ _ _ (sym c.in_ok-node.ensures)
+    ∙ goes_on _ _ _ (sym c.in_ok-role.ensures)
+    ∙ goes_on _ _ _ (sym c.in_ok-block.ensures.read)
+    ∙ goes_on _ _ _ (sym c.in_ok-streams.ensures.read)
+    ∙ goes_on _ _ _ (sym c.in_ok-password.ensures)
+    ∙ goes_on _ _ _ (sym c.in_ok-port.ensures.read)
+    ∙ goes_on _ _ _ (sym c.in_ok-peer.ensures)
+    ∙ ends _ _ _ (sym c.in_err-from.ensures))
+
 pub returns-clause-walk : goal.returns-clause-walk
 unfolding walked_line
 returns-clause-walk c =
@@ -77,10 +90,12 @@ returns-clause-walk c =
     ∙ goes_on _ _ _ (sym c.in_ok-password.ensures)
     ∙ goes_on _ _ _ (sym c.in_ok-port.ensures.read)
     ∙ goes_on _ _ _ (sym c.in_ok-peer.ensures)
+    ∙ goes_on _ _ _ (sym c.in_ok-from.ensures)
     ∙ ap (λ name. Ok (record {
       name = name;
       port = c.in_ok-port.field-0;
       peer = c.in_ok-peer.peer;
+      from = c.in_ok-from.from;
       up = false;
       entry = record {
         node = c.in_ok-node.node;
