@@ -5,7 +5,8 @@ use Rattle.std.specs.List.{list_any}
 use Rattle.std.proofs.lemmas.Bool.{or_from, or_parts}
 use Rattle.std.proofs.lemmas.List.{at_drop_more, drop_all, length-append, map-append}
 use Rattle.std.proofs.lemmas.List.Folds.{list_any-append}
-use Rattle.njh_anteroom.specs.Addresses.{are_distinct, is_among, is_loopback, number_of}
+use Rattle.njh_table.specs.Ranges.{number_of}
+use Rattle.njh_anteroom.specs.Addresses.{are_distinct, is_among, is_loopback}
 use Rattle.njh_anteroom.specs.Remembered.{first_to_go, is_of, numbers_of, remembered_of, with_room, without, IsMemory}
 use Rattle.njh_anteroom.specs.declared.remembered.Remembered.{Remembered}
 use Rattle.njh_anteroom.proofs.NumberLaws.{any_filter, any_remove, distinct_filter, distinct_less, distinct_push}

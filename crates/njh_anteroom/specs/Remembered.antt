@@ -6,7 +6,8 @@ use Rattle.std.specs.Prelude.{remove, unwrap_or}
 use Rattle.std.specs.List.{list_any}
 use Rattle.std.specs.Option.{option_map_or}
 use Rattle.std.specs.declared.net.ip_addr.IpAddr.{IpAddr}
-use Rattle.njh_anteroom.specs.Addresses.{are_distinct, is_loopback, number_of}
+use Rattle.njh_table.specs.Ranges.{number_of}
+use Rattle.njh_anteroom.specs.Addresses.{are_distinct, is_loopback}
 use Rattle.njh_anteroom.specs.declared.remembered.Remembered.{Remembered}
 
 abbrev pub new_remembered : IpAddr → Remembered

@@ -3,7 +3,8 @@ use Rattle.std.specs.Prelude.{◌≡◌, ℕ, ◌≤◌, ◌==◌, Bool, true, n
 use Rattle.std.specs.Prelude.{remove}
 use Rattle.std.specs.Prelude.{slice_set, cond, Option, None}
 use Rattle.std.specs.Net.Socket.{socket_ip}
-use Rattle.njh_anteroom.specs.Addresses.{are_distinct, is_loopback, number_of}
+use Rattle.njh_table.specs.Ranges.{number_of}
+use Rattle.njh_anteroom.specs.Addresses.{are_distinct, is_loopback}
 use Rattle.njh_anteroom.specs.declared.entry.Entry.{Entry}
 use Rattle.njh_anteroom.specs.declared.entry.Entry.TheVariants.{Renewed, Added, Displaced, TurnedAway}
 use Rattle.njh_anteroom.specs.declared.guest.Guest.{Guest}

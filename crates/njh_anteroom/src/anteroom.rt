@@ -2,7 +2,7 @@
 
 ghost use Rattle.std.specs.Prelude.{◌≡◌, ◌≢◌, ◌<◌, ◌≤◌, All, IfOk, IfSome, IsSome, length, true};
 ghost use Rattle.std.specs.Net.Socket.{socket_ip};
-ghost use Rattle.njh_anteroom.specs.Addresses.{number_of};
+ghost use Rattle.njh_table.specs.Ranges.{number_of};
 ghost use Rattle.njh_anteroom.specs.Next.{displacement, entry_of, first_moment, guest_at, next_place, rank_in};
 ghost use Rattle.njh_anteroom.specs.Next.{without_place};
 ghost use Rattle.njh_anteroom.specs.Remembered.{ended, rank_of, with_session, IsMemory};

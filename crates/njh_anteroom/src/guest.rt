@@ -3,7 +3,7 @@
 ghost use Rattle.std.specs.Prelude.{◌≡◌};
 ghost use Rattle.njh_anteroom.specs.Waiting.{number_in};
 
-use crate::address::number_of;
+use njh_table::number_of;
 use std::net::SocketAddr;
 
 /// A connection that waits to be given the line.

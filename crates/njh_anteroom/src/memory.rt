@@ -1,12 +1,14 @@
 //! What is remembered of addresses.
 
 ghost use Rattle.std.specs.Prelude.{◌≡◌, ◌<◌, false, length, not, position, IfOk, IfSome};
-ghost use Rattle.njh_anteroom.specs.Addresses.{is_loopback, number_of};
+ghost use Rattle.njh_table.specs.Ranges.{number_of};
+ghost use Rattle.njh_anteroom.specs.Addresses.{is_loopback};
 ghost use Rattle.njh_anteroom.specs.Remembered.{ended, first_to_go, noted, rank_of, remembered_of, remembered_or_new};
 ghost use Rattle.njh_anteroom.specs.Remembered.{refusals_of, until_of, with_room, with_session, without, IsMemory};
 
-use crate::address::{is_loopback, number_of};
+use crate::address::is_loopback;
 use crate::remembered::{NEW, Remembered};
+use njh_table::number_of;
 use std::alloc::{AllocError, Global};
 use std::marker::Model;
 use std::net::IpAddr;

@@ -4,7 +4,7 @@ ghost use Rattle.std.specs.Prelude.{◌≡◌};
 ghost use Rattle.njh_anteroom.specs.Remembered.{after_end, after_session, has_blemish, is_of, is_recent};
 ghost use Rattle.njh_anteroom.specs.Remembered.{new_remembered, pause_after, rank_at};
 
-use crate::address::number_of;
+use njh_table::number_of;
 use std::net::IpAddr;
 
 /// The pause after a first connection without a session, in milliseconds.

@@ -2,7 +2,7 @@
 use Rattle.std.specs.Prelude.{ℕ, ◌+◌, ◌-◌, ◌&&◌, min, Bool, true, false, not, if◌then◌else◌, List, Option, Some, None}
 use Rattle.std.specs.Net.Socket.{socket_ip}
 use Rattle.std.specs.declared.net.socket_addr.SocketAddr.{SocketAddr}
-use Rattle.njh_anteroom.specs.Addresses.{number_of}
+use Rattle.njh_table.specs.Ranges.{number_of}
 use Rattle.njh_anteroom.specs.Next.{entry_of, first_moment, guest_at, next_place, without_place}
 use Rattle.njh_anteroom.specs.Remembered.{ended, with_session}
 use Rattle.njh_anteroom.specs.Rooms.{empty_room}

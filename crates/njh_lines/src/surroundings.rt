@@ -2,7 +2,7 @@
 
 ghost use Rattle.std.specs.Prelude.{◌≡◌, ◌<◌, ◌≤◌, [], length, nat_lt};
 ghost use Rattle.std.specs.Net.Socket.{socket_ip};
-ghost use Rattle.njh_anteroom.specs.Addresses.{number_of};
+ghost use Rattle.njh_table.specs.Ranges.{number_of};
 ghost use Rattle.njh_anteroom.specs.Next.{entry_of, guest_at, next_place, without_place};
 ghost use Rattle.njh_anteroom.specs.Waiting.{seated};
 ghost use Rattle.njh_log.specs.Limiting.{AreTold, AreWritten, IsTold, IsToldText, Writes};

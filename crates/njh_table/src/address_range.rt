@@ -81,9 +81,10 @@ fn width(address: IpAddr) -> u8
     }
 }
 
-/// The number by which an address is known: that of IPv6.
+/// The number by which an address is known: that of IPv6. An IPv4 address has the number of the one
+/// into which it is mapped.
 #[tactic(auto, unfolding(crate::specs::Ranges::number_of))]
-fn number_of(address: IpAddr) -> u128
+pub fn number_of(address: IpAddr) -> u128
     ensures { result ≡ number_of address }
 {
     match address {
