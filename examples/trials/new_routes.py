@@ -85,7 +85,7 @@ def play(ports, hub, crowd, loop):
     row(WIDTHS, "a file for METZ came, and waits", "", "", "right" if waits else "WRONG")
     moved = table_of(ports, "a3")
     steps.step("METZ by the line of PARIS: the file goes out", moved, "ACME: new routes", lambda: taker.files == [FILE])
-    steps.step("another quota", table_of(ports, "a2", 501), "customer ACME: its quota differs; nothing changes")
+    steps.step("another quota", table_of(ports, "a2", 501), "customer ACME: its quota differs; no routes change")
     steps.step("no TOML", "capacity = \n", "K1 BadToml: line 1: no TOML; nothing changes")
     steps.step("3 MB", padded(moved, 3_000_000), "longer than 2000000 bytes; nothing changes")
     steps.step("as it was", moved, "no new routes")

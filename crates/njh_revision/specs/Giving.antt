@@ -38,6 +38,6 @@ state_given false = Lacks
 abbrev pub IsPassedOver : {F : Type 0} → Option (SourceOutcome F) → Type 0
 IsPassedOver None = ⊥
 IsPassedOver (Some (outcomes.Refused fault)) = ⊥
-IsPassedOver (Some (outcomes.Differs difference)) = ⊤
+IsPassedOver (Some (outcomes.Differs difference tables)) = ⊤
 IsPassedOver (Some outcomes.Same) = ⊥
 IsPassedOver (Some (outcomes.Taken before)) = ⊥

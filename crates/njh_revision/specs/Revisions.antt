@@ -1,23 +1,20 @@
 -- What tables may change while a hub runs: the routes of each customer whose entry stays in all else.
 use Rattle.std.specs.Prelude.{◌≡◌, ℕ, false, List, [], map, Option, Some, None, option_map}
-use Rattle.njh_table.specs.declared.address_range.AddressRange.{AddressRange}
-use Rattle.njh_table.specs.declared.LineId.{LineId}
 use Rattle.njh_table.specs.declared.new_routes.GivenRoute.{GivenRoute}
 use Rattle.njh_table.specs.Entries.{RouteEntry}
-use Rattle.njh_table.specs.TableFile.{NamedLine, NamedCustomer, TableFile, customer_at, table_line}
+use Rattle.njh_table.specs.TableFile.{NamedLine, NamedCustomer, TableFile, customer_at}
 
 -- ---- what stays
 
--- a line but for its mark as up, which no table file gives, and for the addresses from which its peer may connect,
--- which may change
+-- a line but for its mark as up, which no table file gives, and for from where its peer may connect, which may change
 abbrev pub what_stays : NamedLine → NamedLine
 what_stays l = record l { from = []; up = false }
 
--- a customer but for its routes and its lines' addresses
+-- a customer but for its routes and for from where the peers of its lines may connect
 abbrev pub without_routes : NamedCustomer → NamedCustomer
 without_routes c = record c { lines = map what_stays c.lines; routes = [] }
 
--- the entry of the customer of a number is the same in both but for its routes and its lines' addresses
+-- the entry of the customer of a number is the same in both, but for its routes and these
 abbrev pub AgreesAt : ℕ → (old new : TableFile) → Type 0
 AgreesAt c old new = without_routes (customer_at new c) ≡ without_routes (customer_at old c)
 
@@ -61,9 +58,3 @@ AreKept old new = opened_tables new ≡ opened_tables old
 pub record IsGiven (customer : ℕ) (routes : List GivenRoute) (known : KnownTables) : Type 0 where
   pub routes_are : routes ≡ given_routes customer (customer_at known.last customer).routes
   pub agrees : AgreesAt customer known.opened known.last
-
--- From where the peer of a line may connect is said by the tables that were taken last. All else of its customer's
--- entry there, its routes aside, is what the hub was opened with.
-pub record AreRangesOf (line : LineId) (ranges : List AddressRange) (known : KnownTables) : Type 0 where
-  pub ranges_are : ranges ≡ (table_line known.last line).from
-  pub agrees : AgreesAt line.customer known.opened known.last

@@ -1,10 +1,11 @@
-//! New routes from a table file that changed: each customer is given those of its entry, if this is
-//! that of the hub in all else.
+//! What a table file that changed brings: each customer is given the routes of its entry, if this is
+//! that of the hub in all else; and from where the peer of a line may connect holds at once.
 #![tactic(auto)]
 
 mod customer_routes;
 mod difference;
 mod known;
+mod origins;
 mod outcome;
 mod revision;
 mod route_changes;

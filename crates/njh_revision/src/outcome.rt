@@ -11,9 +11,9 @@ use std::fmt::Write as _;
 pub enum SourceOutcome<F: Drop> {
     /// It gives no tables.
     Refused(F),
-    /// Nobody can be given other routes, since this differs first.
-    Differs(Difference),
-    /// No routes differ.
+    /// Nobody can be given other routes by its tables, since this differs first.
+    Differs(Difference, Tables),
+    /// No routes differ. Its tables are taken.
     Same,
     /// Routes differ from those of the tables that were taken before, if any were. Its own are taken
     /// in their place.
@@ -25,7 +25,7 @@ impl<F: fmt::Display + Drop> SourceOutcome<F> {
     pub fn severity(&self) -> Severity {
         match self {
             SourceOutcome::Refused(_) => Severity::Error,
-            SourceOutcome::Differs(_) => Severity::Warning,
+            SourceOutcome::Differs(_, _) => Severity::Warning,
             SourceOutcome::Same => Severity::Information,
             SourceOutcome::Taken(_) => Severity::Information,
         }
@@ -36,9 +36,9 @@ impl<F: fmt::Display + Drop> fmt::Display for SourceOutcome<F> {
     fn fmt<W: fmt::Write>(&self, f: &mut fmt::Formatter<W>) -> fmt::Result {
         match self {
             SourceOutcome::Refused(fault) => write!(f, "table file: {fault}; nothing changes"),
-            SourceOutcome::Differs(difference) => write!(
+            SourceOutcome::Differs(difference, _) => write!(
                 f,
-                "table file: {difference}; nothing changes"
+                "table file: {difference}; no routes change"
             ),
             SourceOutcome::Same => write!(f, "table file: no new routes"),
             SourceOutcome::Taken(_) => write!(f, "table file: new routes"),
@@ -51,7 +51,7 @@ pub(crate) fn fault_in<F: fmt::Display + Drop>(outcome: &SourceOutcome<F>) -> Op
     let mut text = LineText::new();
     match outcome {
         SourceOutcome::Refused(_) => {}
-        SourceOutcome::Differs(_) => {}
+        SourceOutcome::Differs(_, _) => {}
         SourceOutcome::Same => return None,
         SourceOutcome::Taken(_) => return None,
     }

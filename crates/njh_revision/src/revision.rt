@@ -2,11 +2,13 @@
 
 ghost use Rattle.std.specs.Prelude.{◌≡◌, ◌⊎◌, option_map, Some, None, IfSome, IfOk};
 ghost use Rattle.njh_revision.specs.Giving.{IsPassedOver};
-ghost use Rattle.njh_revision.specs.Revisions.{opened_tables, AreKept, AreRangesOf, IsGiven};
+ghost use Rattle.njh_revision.specs.Origins.{from_known, read_in};
+ghost use Rattle.njh_revision.specs.Revisions.{opened_tables, AreKept, IsGiven};
 
 use crate::customer_routes::routes_of;
 use crate::difference::{customers_difference, size_difference};
 use crate::known::Known;
+use crate::origins::from_read;
 use crate::outcome::{SourceOutcome, fault_in};
 use crate::route_changes::RouteChanges;
 use crate::route_states::{RouteState, first_waiting, is_apart, mark, state_given, will_wait};
@@ -16,7 +18,7 @@ use njh_hub::{FileSummaryView, GivenRoutes, Hub};
 use njh_log::LineText;
 use njh_presence::SpoolSeen;
 use njh_spool::State;
-use njh_table::{AddressRange, LineId, NamedCustomer, Route, Tables};
+use njh_table::{AddressRanges, LineId, NamedCustomer, Route, Tables};
 use njh_turns::NewRoutes;
 use std::alloc::{AllocError, Global};
 use std::marker::Model;
@@ -124,7 +126,7 @@ impl<S: TableSource + Drop> Revision<S> {
     }
 
     /// Looks at the source, once a second on this clock, and takes its tables if a customer can be
-    /// given other routes by them.
+    /// given other routes by them, or if nothing differs but from where peers may connect.
     pub fn look(&mut self, now: u64) -> Option<SourceOutcome<S::Fault>>
         ensures { AreKept self.old self.new }
     {
@@ -140,22 +142,24 @@ impl<S: TableSource + Drop> Revision<S> {
         Some(outcome)
     }
 
-    /// Takes new tables, if a customer can be given other routes by them or nothing differs.
+    /// Takes new tables, if a customer can be given other routes by them or nothing differs but from
+    /// where peers may connect. Else they are answered with what differs.
     fn take(&mut self, tables: Tables) -> Option<SourceOutcome<S::Fault>>
         ensures kept { AreKept self.old self.new }
         ensures taken { IfSome self.old (λ old.
             IsPassedOver result ⊎ (self.new ≡ Some (record old { last = tables }))) }
         ensures passed { IsPassedOver result → self.new ≡ self.old }
+        ensures read { IfSome result (λ outcome. IfSome self.new (λ new. read_in new outcome ≡ Some tables)) }
     {
         let known = self.known.as_mut()?;
         match size_difference(&known.opened, &tables) {
-            Some(difference) => return Some(SourceOutcome::Differs(difference)),
+            Some(difference) => return Some(SourceOutcome::Differs(difference, tables)),
             None => {}
         }
         let differ = will_wait(&self.route_states, known, &tables);
         if !differ {
             match customers_difference(known.opened.customers(), tables.customers()) {
-                Some(difference) => return Some(SourceOutcome::Differs(difference)),
+                Some(difference) => return Some(SourceOutcome::Differs(difference, tables)),
                 None => {}
             }
         }
@@ -188,18 +192,18 @@ impl<S: TableSource + Drop> Revision<S> {
         }
     }
 
-    /// The ranges of addresses from which a line's peer may connect, by the tables that were taken
-    /// last; none where it may from anywhere. If the entry of its customer there isn't that of the
-    /// hub in all else, its routes aside, nothing is known of the line.
-    pub fn ranges_of(&self, line: LineId) -> Option<&[AddressRange]>
-        ensures { IfSome result (λ ranges. IfSome self.now (AreRangesOf line ranges.now)) }
+    /// From where the peer of a line may connect, by the tables that were read at the last look,
+    /// whether they were taken or not. Nothing if none were, or if they don't have this line with its
+    /// name, its customer and its port: then it may from where it might before.
+    pub fn from_read<'a>(
+        &'a self,
+        outcome: &'a SourceOutcome<S::Fault>,
+        line: LineId,
+    ) -> Option<&'a AddressRanges>
+        ensures { option_map (λ from. from.now) result ≡ from_known self.now outcome.now line }
     {
         let known = self.known.as_ref()?;
-        let last = known.last();
-        if is_apart(line.customer, &known.opened, last) || !last.has_line(line) {
-            return None;
-        }
-        Some(last.line(line).from())
+        from_read(&known.opened, read_in(known, outcome)?, line)
     }
 
     /// The next customer that waits for routes.
@@ -258,6 +262,17 @@ impl<S: TableSource + Drop> Revision<S> {
             Some(kept) => *kept = state,
             None => {}
         }
+    }
+}
+
+/// The tables that were read at a look, if some were.
+fn read_in<'a, F: Drop>(known: &'a Known, outcome: &'a SourceOutcome<F>) -> Option<&'a Tables>
+    ensures { option_map (λ tables. tables.now) result ≡ read_in known.now outcome.now }
+{
+    match outcome {
+        SourceOutcome::Refused(_) => None,
+        SourceOutcome::Differs(_, tables) => Some(tables),
+        SourceOutcome::Same | SourceOutcome::Taken(_) => Some(known.last()),
     }
 }
 
