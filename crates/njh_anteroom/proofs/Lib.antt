@@ -1,3 +1,4 @@
 pub mod NumberLaws
 pub mod MemoryLaws
 pub mod QueueLaws
+pub mod SeatLaws

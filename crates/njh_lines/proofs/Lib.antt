@@ -1,3 +1,4 @@
+mod AllowedLaws
 mod CallLaws
 mod EntranceLaws
 mod GroupLaws
@@ -5,7 +6,7 @@ mod MomentLaws
 pub mod PostLaws
 mod RestLaws
 mod RoundLaws
-mod StateLaws
+pub mod StateLaws
 mod StillLaws
 mod WatchLaws
 mod WireLaws

@@ -3,9 +3,9 @@ use Rattle.std.proofs.Common.{◌≡◌, ◌≢◌, ℕ, ◌<◌, List, length, 
 use Rattle.std.specs.Prelude.{option_map, slice_get}
 use Rattle.std.proofs.lemmas.List.{get_or-set_same, length-map, length-set}
 use Rattle.std.proofs.lemmas.Option.{slice_get-get_or, slice_get-map, slice_get_read, slice_get_within, same_Some}
-use Rattle.std.specs.declared.net.ip_addr.IpAddr.{IpAddr}
 use Rattle.std.specs.declared.net.socket_addr.SocketAddr.{SocketAddr}
 use Rattle.std.proofs.Math.ListN.{get_or-map}
+use Rattle.njh_table.specs.declared.address_range.AddressRange.{AddressRange}
 use Rattle.njh_table.specs.declared.LineId.{LineId}
 use Rattle.njh_lines.specs.LineStates.{with_state}
 use Rattle.njh_sites.specs.Opened.{site_kept}
@@ -21,31 +21,20 @@ use Rattle.njh_request.specs.declared.request.LineState.TheVariants.{Started}
 use Rattle.njh_sites.specs.Opened.{site_opened}
 use Rattle.njh_sites.specs.declared.door.Door.{Door}
 
--- a post of which the line, the site and the state stay
+-- a post of which the line, the site, from where it takes connections, and the state stay
 pub served_stays : {L C : Type 0} (address_of : L → SocketAddr) (was new : Post L C) → new.line ≡ was.line
-    → site_kept address_of new.site ≡ site_kept address_of was.site → new.state ≡ was.state
-    → served_line address_of new ≡ served_line address_of was
-served_stays {L} {C} address_of was new line site state =
-    let On : LineId → ServedLine = λ id.
-    record { id = id; site = site_kept address_of new.site; state = new.state } in
-    let At : Site (IpAddr × ℕ) SocketAddr → ServedLine = λ own.
-    record { id = was.line; site = own; state = new.state } in
-    let As : LineState → ServedLine = λ its.
-    record { id = was.line; site = site_kept address_of was.site; state = its } in
-    ap On line ∙ (ap At site ∙ ap As state)
+    → site_kept address_of new.site ≡ site_kept address_of was.site → new.entrance.from ≡ was.entrance.from
+    → new.state ≡ was.state → served_line address_of new ≡ served_line address_of was
+served_stays address_of was new line site from state = λ i.
+    record { id = line i; site = site i; from = from i; state = state i }
 
--- a post of which the line and the site stay, and which is served so now
+-- a post of which the line, the site and from where it takes connections stay, and which is served so now
 pub served_so : {L C : Type 0} (address_of : L → SocketAddr) (was new : Post L C) (state : LineState)
-    → new.line ≡ was.line → site_kept address_of new.site ≡ site_kept address_of was.site → new.state ≡ state
+    → new.line ≡ was.line → site_kept address_of new.site ≡ site_kept address_of was.site
+    → new.entrance.from ≡ was.entrance.from → new.state ≡ state
     → served_line address_of new ≡ with_state state (served_line address_of was)
-served_so {L} {C} address_of was new state line site is =
-    let On : LineId → ServedLine = λ id.
-    record { id = id; site = site_kept address_of new.site; state = new.state } in
-    let At : Site (IpAddr × ℕ) SocketAddr → ServedLine = λ own.
-    record { id = was.line; site = own; state = new.state } in
-    let As : LineState → ServedLine = λ its.
-    record { id = was.line; site = site_kept address_of was.site; state = its } in
-    ap On line ∙ (ap At site ∙ ap As is)
+served_so address_of was new state line site from is = λ i.
+    record { id = line i; site = site i; from = from i; state = is i }
 
 -- one of them changed, and keeps its line
 pub lines_stay : {P L : Type 0} (line_of : P → L) (posts : List P) (lines : List L) (place : ℕ) (was new : P)
@@ -102,20 +91,18 @@ others_noted {P} {L} line_of posts lines place other new seen apart =
 
 -- a post more
 pub post_added : {L C : Type 0} (address_of : L → SocketAddr) (posts new_posts : List (Post L C)) (post : Post L C)
-    (lines : List ServedLine) (id : LineId) (site : Site (Door L) SocketAddr)
+    (lines : List ServedLine) (id : LineId) (site : Site (Door L) SocketAddr) (from : List AddressRange)
     → new_posts ≡ posts ++ post ∷ [] → map (served_line address_of) posts ≡ lines → post.line ≡ id
-    → site_kept address_of post.site ≡ site_opened address_of site → post.state ≡ Started
+    → site_kept address_of post.site ≡ site_opened address_of site → post.entrance.from ≡ from → post.state ≡ Started
     → map (served_line address_of) new_posts
-    ≡ lines ++ record { id = id; site = site_opened address_of site; state = Started } ∷ []
-post_added {L} {C} address_of posts new_posts post lines id site added seen line own started =
-    let On : LineId → ServedLine = λ name.
-    record { id = name; site = site_kept address_of post.site; state = post.state } in
-    let At : Site (IpAddr × ℕ) SocketAddr → ServedLine = λ its.
-    record { id = id; site = its; state = post.state } in
-    let As : LineState → ServedLine = λ state.
-    record { id = id; site = site_opened address_of site; state = state } in
-    let same : served_line address_of post ≡ record { id = id; site = site_opened address_of site; state = Started } =
-    ap On line ∙ (ap At own ∙ ap As started) in
+    ≡ lines ++ record { id = id; site = site_opened address_of site; from = from; state = Started } ∷ []
+post_added address_of posts new_posts post lines id site from added seen line own its started =
+    let same : served_line address_of post ≡ record {
+      id = id;
+      site = site_opened address_of site;
+      from = from;
+      state = Started;
+    } = λ i. record { id = line i; site = own i; from = its i; state = started i } in
     ap (map (served_line address_of)) added
     ∙ (map-append (served_line address_of) posts (post ∷ [])
     ∙ (ap (λ (xs : List ServedLine). xs ++ served_line address_of post ∷ []) seen

@@ -1,8 +1,10 @@
 -- Who comes to a line: who has it, or had it last, and who waits for it.
 use Rattle.std.specs.Prelude.{ℕ, ◌+◌, ◌-◌, ◌&&◌, min, Bool, true, false, not, if◌then◌else◌, List, Option, Some, None}
+use Rattle.std.specs.Prelude.{All, IsTrue}
 use Rattle.std.specs.Net.Socket.{socket_ip}
 use Rattle.std.specs.declared.net.socket_addr.SocketAddr.{SocketAddr}
-use Rattle.njh_table.specs.Ranges.{number_of}
+use Rattle.njh_table.specs.Ranges.{allows, number_of}
+use Rattle.njh_table.specs.declared.address_range.AddressRange.{AddressRange}
 use Rattle.njh_anteroom.specs.Next.{entry_of, first_moment, guest_at, next_place, without_place}
 use Rattle.njh_anteroom.specs.Remembered.{ended, with_session}
 use Rattle.njh_anteroom.specs.Rooms.{empty_room}
@@ -10,11 +12,17 @@ use Rattle.njh_anteroom.specs.Waiting.{seated}
 use Rattle.njh_anteroom.specs.declared.entry.Entry.{Entry}
 use Rattle.njh_anteroom.specs.declared.guest.Guest.{Guest}
 use Rattle.njh_anteroom.specs.declared.remembered.Remembered.{Remembered}
-use Rattle.njh_lines.specs.TurningAway.{away_after, nobody_away}
+use Rattle.njh_lines.specs.TurningAway.{away_after, away_moment, nobody_away, one_more_away}
 use Rattle.njh_lines.specs.declared.entrance.Entrance.{Entrance}
 
-abbrev pub first_entrance : {C : Type 0} → Entrance C
-first_entrance = record { anteroom = empty_room; peer = None; turned_away = nobody_away }
+abbrev pub first_entrance : {C : Type 0} → List AddressRange → Entrance C
+first_entrance from = record {
+  from = from;
+  anteroom = empty_room;
+  peer = None;
+  not_allowed = nobody_away;
+  turned_away = nobody_away;
+}
 
 -- the line is given to a peer
 abbrev pub given_to : {C : Type 0} → SocketAddr → Entrance C → Entrance C
@@ -88,12 +96,27 @@ abbrev pub entry_at : {C : Type 0} → SocketAddr → (may_grow : Bool) → (now
 entry_at address may_grow now entrance =
     entry_of (number_of (socket_ip address)) now may_grow entrance.anteroom.remembered entrance.anteroom.waiting
 
--- a connection came to the line: it waits, or it was closed, and counts as turned away
-abbrev pub visited : {C : Type 0} → SocketAddr → (may_grow : Bool) → (now : ℕ) → C → Entrance C → Entrance C
-visited {C} address may_grow now connection entrance =
+-- a connection came from where the line takes some: it waits, or it was closed, and counts as turned away
+abbrev pub welcomed : {C : Type 0} → SocketAddr → (may_grow : Bool) → (now : ℕ) → C → Entrance C → Entrance C
+welcomed {C} address may_grow now connection entrance =
     let entry = entry_at address may_grow now entrance in
     let guest : Guest C = record { connection = connection; address = address; since = now } in
     record entrance {
       anteroom = record entrance.anteroom { waiting = seated entry guest entrance.anteroom.waiting };
       turned_away = away_after entry entrance.turned_away;
     }
+
+-- a connection came to the line: one from where it takes none was closed, and counts as not allowed
+abbrev pub visited : {C : Type 0} → SocketAddr → (may_grow : Bool) → (now : ℕ) → C → Entrance C → Entrance C
+visited address may_grow now connection entrance = if allows entrance.from (socket_ip address)
+    then welcomed address may_grow now connection entrance
+    else record entrance { not_allowed = one_more_away entrance.not_allowed }
+
+-- all who wait came from where the line takes connections
+abbrev pub AreAllowed : {C : Type 0} → Entrance C → Type 0
+AreAllowed entrance =
+    All (λ guest. IsTrue (allows entrance.from (socket_ip guest.address))) entrance.anteroom.waiting
+
+-- when some who were closed are told of next, if no further one comes
+abbrev pub away_at : {C : Type 0} → Entrance C → ℕ
+away_at entrance = min (away_moment entrance.not_allowed) (away_moment entrance.turned_away)

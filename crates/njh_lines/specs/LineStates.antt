@@ -3,6 +3,7 @@ use Rattle.std.specs.Prelude.{◌≡◌, ◌≢◌, ℕ, Bool, true, false, ◌=
 use Rattle.std.specs.Prelude.{Option, Some, None}
 use Rattle.std.specs.Prelude.{if◌then◌else◌}
 use Rattle.std.specs.Option.{option_map}
+use Rattle.njh_table.specs.declared.address_range.AddressRange.{AddressRange}
 use Rattle.njh_table.specs.declared.LineId.{LineId}
 use Rattle.njh_hub.specs.WholeHub.{Part}
 use Rattle.njh_log.specs.declared.entry.LogEvent.{LogEvent}
@@ -40,6 +41,10 @@ is_line id other = id.customer == other.customer && id.number == other.number
 
 abbrev pub with_state : LineState → ServedLine → ServedLine
 with_state state line = record line { state = state }
+
+-- its peer may connect from there from now on
+abbrev pub with_from : List AddressRange → ServedLine → ServedLine
+with_from from line = record line { from = from }
 
 abbrev pub state_after : LineId → LineWish → (line : LineId) → LineState → LineState
 state_after id wish line state = if is_line id line then state_wished wish state else state

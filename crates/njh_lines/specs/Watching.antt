@@ -4,7 +4,9 @@ use Rattle.std.specs.declared.net.ip_addr.IpAddr.{IpAddr}
 use Rattle.std.specs.declared.net.socket_addr.SocketAddr.{SocketAddr}
 use Rattle.njh_hub.specs.Views.{hub_line, line_view}
 use Rattle.njh_hub.specs.WholeHub.{HasLine, Part}
+use Rattle.njh_table.specs.declared.address_range.AddressRange.{AddressRange}
 use Rattle.njh_table.specs.declared.LineId.{LineId}
+use Rattle.njh_table.specs.TableFile.{TableFile, table_line}
 use Rattle.njh_wire.specs.declared.network.Readiness.{Readiness}
 use Rattle.njh_lines.specs.Attention.{IsDue, IsInGroup, IsMarked, IsMomentOf, mark_at, watch_at}
 use Rattle.njh_sites.specs.Opened.{site_kept, site_on}
@@ -23,21 +25,30 @@ use Rattle.njh_sight.specs.declared.customers.Row.{Row}
 use Rattle.njh_sight.specs.declared.steps.Steps.{Steps}
 use Rattle.njh_sight.specs.declared.traffic.Traffic.{Traffic}
 
--- A line that is served: which it is, the address and the port on which it listens, or the peer that it dials, and how
--- it is served.
+-- A line that is served: which it is, the address and the port on which it listens, or the peer that it dials, from
+-- where it takes connections, and how it is served.
 pub record ServedLine : Type 0 where
   pub id : LineId
   pub site : Site (IpAddr × ℕ) SocketAddr
+  pub from : List AddressRange
   pub state : LineState
 
 abbrev pub served_line : {L C : Type 0} → (L → SocketAddr) → Post L C → ServedLine
-served_line address_of post =
-    record { id = post.line; site = site_kept address_of post.site; state = post.state }
+served_line address_of post = record {
+  id = post.line;
+  site = site_kept address_of post.site;
+  from = post.entrance.from;
+  state = post.state;
+}
 
--- the line of an endpoint, if lines with a port listen on this address, at first
-abbrev pub served_on : IpAddr → Endpoint → ServedLine
-served_on address endpoint =
-    record { id = endpoint.line; site = site_on address endpoint.site; state = Started }
+-- the line of an endpoint of tables, if lines with a port listen on this address, at first
+abbrev pub served_on : TableFile → IpAddr → Endpoint → ServedLine
+served_on tables address endpoint = record {
+  id = endpoint.line;
+  site = site_on address endpoint.site;
+  from = (table_line tables endpoint.line).from;
+  state = Started;
+}
 
 -- What is noted of a line: its traffic, when its site is to be looked at, and when something is to be told of it.
 pub record Noted : Type 0 where

@@ -4,8 +4,8 @@ ghost use Rattle.std.specs.Prelude.{◌≡◌, ℕ, ◌<◌, ◌≤◌, ◌⊎�
 ghost use Rattle.njh_wire.specs.Standing.{after_admission, after_displacement};
 ghost use Rattle.njh_wire.specs.Tally.{tally};
 ghost use Rattle.njh_anteroom.specs.declared.guest.Guest.{Guest};
-ghost use Rattle.njh_lines.specs.Entrances.{left_after, next_guest, visited, wanted_at};
-ghost use Rattle.njh_lines.specs.TurningAway.{away_left, away_moment, away_told};
+ghost use Rattle.njh_lines.specs.Entrances.{away_at, left_after, next_guest, visited, wanted_at, AreAllowed};
+ghost use Rattle.njh_lines.specs.TurningAway.{away_left, away_told};
 ghost use Rattle.njh_lines.specs.Connecting.{end_event, place_of, told_connected, IsBarred, KeepsLine};
 ghost use Rattle.njh_lines.specs.Connecting.{told_refusal};
 ghost use Rattle.njh_log.specs.Limiting.{IsTold};
@@ -14,6 +14,7 @@ ghost use Rattle.njh_sites.specs.Dialling.{connection_in, dial_moment, failed, g
 
 use crate::entrance::Entrance;
 use crate::surroundings::Surroundings;
+use crate::turned_away::TurnedAway;
 use njh_anteroom::{Entry, Guest};
 use njh_line::Refusal;
 use njh_log::{ConnectionFailure, LogEvent, Rebuff};
@@ -42,15 +43,25 @@ pub(crate) fn let_in<N: Network + Drop, L: Write + Drop>(
     ensures address { N.address_of listener.new ≡ N.address_of listener.old }
     ensures label { label.new ≡ record label.old { again = label.new.again } }
     ensures again { (admission : Admission) × (result
-        ≡ min (listens_again admission surroundings.old.now) (away_moment entrance.new.turned_away)) }
-    ensures told { away_told entrance.new.turned_away surroundings.old.now ≡ None }
+        ≡ min (listens_again admission surroundings.old.now) (away_at entrance.new)) }
+    ensures told { (away_told entrance.new.not_allowed surroundings.old.now ≡ None)
+        × (away_told entrance.new.turned_away surroundings.old.now ≡ None) }
+    ensures allowed { AreAllowed entrance.old → AreAllowed entrance.new }
     ensures remembered { entrance.new.anteroom.remembered ≡ entrance.old.anteroom.remembered }
     ensures peer { entrance.new.peer ≡ entrance.old.peer }
+    ensures from { entrance.new.from ≡ entrance.old.from }
 {
     let admission = accept_some(surroundings, listener, entrance, label);
-    tell_turned_away(surroundings, entrance, label);
+    let not_allowed = &mut entrance.not_allowed;
+    tell_away(surroundings, label, not_allowed, Rebuff::NotAllowed);
+    tell_away(
+        surroundings,
+        label,
+        &mut entrance.turned_away,
+        Rebuff::NoRoom,
+    );
     let again = listens_again(admission, surroundings.now);
-    again.min(entrance.turned_away.moment())
+    again.min(entrance.away_moment())
 }
 
 /// Accepts connections that wait, a few at once. Answers what came of the last.
@@ -64,8 +75,10 @@ fn accept_some<N: Network + Drop, L: Write + Drop>(
     ensures customers { surroundings.new.customers ≡ surroundings.old.customers }
     ensures address { N.address_of listener.new ≡ N.address_of listener.old }
     ensures label { label.new ≡ record label.old { again = label.new.again } }
+    ensures allowed { AreAllowed entrance.old → AreAllowed entrance.new }
     ensures remembered { entrance.new.anteroom.remembered ≡ entrance.old.anteroom.remembered }
     ensures peer { entrance.new.peer ≡ entrance.old.peer }
+    ensures from { entrance.new.from ≡ entrance.old.from }
 {
     for _ in 0..AT_ONCE {
         let admission = accept(surroundings, listener, entrance, label);
@@ -77,6 +90,7 @@ fn accept_some<N: Network + Drop, L: Write + Drop>(
 }
 
 /// Accepts a connection that waits, if there is one: it waits in the anteroom then, or is closed.
+#[tactic(auto, using(crate::proofs::AllowedLaws::came_allowed))]
 fn accept<N: Network + Drop, L: Write + Drop>(
     surroundings: &mut Surroundings<N, L>,
     listener: &mut N::Listener,
@@ -87,8 +101,10 @@ fn accept<N: Network + Drop, L: Write + Drop>(
     ensures customers { surroundings.new.customers ≡ surroundings.old.customers }
     ensures address { N.address_of listener.new ≡ N.address_of listener.old }
     ensures label { label.new ≡ record label.old { again = label.new.again } }
+    ensures allowed { AreAllowed entrance.old → AreAllowed entrance.new }
     ensures remembered { entrance.new.anteroom.remembered ≡ entrance.old.anteroom.remembered }
     ensures peer { entrance.new.peer ≡ entrance.old.peer }
+    ensures from { entrance.new.from ≡ entrance.old.from }
     ensures same { (result ≡ Admission.Taken) ⊎ (entrance.new ≡ entrance.old) }
 {
     match surroundings.network.accept(listener) {
@@ -107,8 +123,8 @@ fn accept<N: Network + Drop, L: Write + Drop>(
     }
 }
 
-/// A connection comes to a line from an address: it waits in the anteroom, or it is closed, and
-/// counted.
+/// A connection comes to a line from an address: it waits in the anteroom, or it is closed, before
+/// anything of it is read, and counted.
 fn receive<N: Network + Drop, L: Write + Drop>(
     surroundings: &mut Surroundings<N, L>,
     entrance: &mut Entrance<N::Connection>,
@@ -120,31 +136,34 @@ fn receive<N: Network + Drop, L: Write + Drop>(
     ensures came { entrance.new ≡ visited address (nat_lt surroundings.old.guests surroundings.old.most_guests)
         surroundings.old.now connection entrance.old }
 {
+    if !entrance.from.allows(address.ip()) {
+        drop(connection);
+        entrance.not_allowed.note();
+        return;
+    }
     let entry = surroundings.seat(&mut entrance.anteroom, connection, address);
     if let Entry::TurnedAway = entry {
         entrance.turned_away.note();
     }
 }
 
-/// Tells how many connections were closed as they came, if that is to be told now.
-fn tell_turned_away<N: Network + Drop, L: Write + Drop>(
+/// Tells how many connections were closed as they came for this reason, if that is to be told now.
+fn tell_away<N: Network + Drop, L: Write + Drop>(
     surroundings: &mut Surroundings<N, L>,
-    entrance: &mut Entrance<N::Connection>,
     label: &Label,
+    away: &mut TurnedAway,
+    rebuff: Rebuff,
 )
     ensures now { surroundings.new.now ≡ surroundings.old.now }
     ensures customers { surroundings.new.customers ≡ surroundings.old.customers }
-    ensures taken { entrance.new ≡ record entrance.old {
-      turned_away = away_left entrance.old.turned_away surroundings.old.now;
-    } }
-    ensures logged { IfSome (away_told entrance.old.turned_away surroundings.old.now) (λ count.
-        IsTold L.contents (place_of label.now) (LogEvent.TurnedAway Rebuff.NoRoom count) surroundings.old.now
+    ensures taken { away.new ≡ away_left away.old surroundings.old.now }
+    ensures logged { IfSome (away_told away.old surroundings.old.now) (λ count.
+        IsTold L.contents (place_of label.now) (LogEvent.TurnedAway rebuff count) surroundings.old.now
         surroundings.old.log surroundings.new.log) }
-    ensures silent { away_told entrance.old.turned_away surroundings.old.now ≡ None →
-        surroundings.new ≡ surroundings.old }
+    ensures silent { away_told away.old surroundings.old.now ≡ None → surroundings.new ≡ surroundings.old }
 {
-    match entrance.turned_away.take(surroundings.now) {
-        Some(count) => surroundings.tell(label, LogEvent::TurnedAway(Rebuff::NoRoom, count)),
+    match away.take(surroundings.now) {
+        Some(count) => surroundings.tell(label, LogEvent::TurnedAway(rebuff, count)),
         None => {}
     }
 }
@@ -152,6 +171,7 @@ fn tell_turned_away<N: Network + Drop, L: Write + Drop>(
 /// Gives the line to one who waits in its anteroom, if the line has no connection or one that was
 /// without a session for ten seconds, and no sign-on was refused on it in the second before. Answers
 /// when the anteroom is to be looked at again.
+#[tactic(auto, using(crate::proofs::AllowedLaws::left_allowed))]
 pub(crate) fn admit<N: Network + Drop, L: Write + Drop>(
     surroundings: &mut Surroundings<N, L>,
     entrance: &mut Entrance<N::Connection>,
@@ -163,6 +183,8 @@ pub(crate) fn admit<N: Network + Drop, L: Write + Drop>(
     ensures clock { wire.new.clock ≡ wire.old.clock }
     ensures now { surroundings.new.now ≡ surroundings.old.now }
     ensures customers { surroundings.new.customers ≡ surroundings.old.customers }
+    ensures from { entrance.new.from ≡ entrance.old.from }
+    ensures allowed { AreAllowed entrance.old → AreAllowed entrance.new }
     ensures barred { IsBarred label.old surroundings.old.now → (wire.new ≡ wire.old) × ((label.new ≡ label.old)
         × ((entrance.new ≡ entrance.old) × (result ≡ max label.old.barred_until (wanted_at entrance.old)))) }
     ensures kept { ¬ IsBarred label.old surroundings.old.now → KeepsLine wire.old label.old surroundings.old.now →
@@ -220,6 +242,7 @@ fn connect<N: Network + Drop, L: Write + Drop>(
         × ((label.new.in_session ≡ false) × (label.new.had_session ≡ false)) }
     ensures given { IsTrue result → entrance.new.peer ≡ Some guest.address }
     ensures waiting { entrance.new.anteroom.waiting ≡ entrance.old.anteroom.waiting }
+    ensures from { entrance.new.from ≡ entrance.old.from }
 {
     let Guest {
         connection,
@@ -258,6 +281,7 @@ pub(crate) fn drive<N: Network + Drop, L: Write + Drop>(
     ensures now { surroundings.new.now ≡ surroundings.old.now }
     ensures customers { surroundings.new.customers ≡ surroundings.old.customers }
     ensures address { dial.new.address ≡ dial.old.address }
+    ensures from { entrance.new.from ≡ entrance.old.from }
     ensures begun { IsToCome dial.old.state surroundings.old.now →
         (dial_moment dial.new.state ≡ given_up_at surroundings.old.now)
         ⊎ (dial_moment dial.new.state ≡ next_dial dial.old.has_failed dial.old.pause surroundings.old.now) }

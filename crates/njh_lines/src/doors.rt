@@ -6,6 +6,7 @@ ghost use Rattle.njh_log.specs.Limiting.{IsTold};
 ghost use Rattle.njh_log.specs.declared.entry.LogEvent.{LogEvent};
 ghost use Rattle.njh_sites.specs.Doors.{cause_in, door_address, to_try, IsLookedAtAgain, IsTried};
 ghost use Rattle.njh_lines.specs.Connecting.{place_of};
+ghost use Rattle.njh_lines.specs.Entrances.{AreAllowed};
 
 use crate::connecting::{admit, let_in};
 use crate::entrance::Entrance;
@@ -32,6 +33,8 @@ pub(crate) fn keep_door<N: Network + Drop, L: Write + Drop>(
     ensures customers { surroundings.new.customers ≡ surroundings.old.customers }
     ensures address { door_address N.address_of door.new ≡ door_address N.address_of door.old }
     ensures tried { IsSome (to_try door.old surroundings.old.now) → IsTried surroundings.old.now door.new }
+    ensures from { entrance.new.from ≡ entrance.old.from }
+    ensures allowed { AreAllowed entrance.old → AreAllowed entrance.new }
     ensures shut { IsLookedAtAgain door.new result }
     ensures waits { to_try door.old surroundings.old.now ≡ None → IsSome (cause_in door.old) →
         (door.new ≡ door.old) × (wire.new ≡ wire.old) }

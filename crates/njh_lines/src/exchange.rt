@@ -16,13 +16,15 @@ ghost use Rattle.njh_sight.specs.Waking.{marked, with_line, IsRowMade};
 ghost use Rattle.njh_sight.specs.declared.steps.Steps.{Steps};
 ghost use Rattle.njh_lines.specs.Attention.{at_once, mark_at, watch_at, IsDue, IsInGroup};
 ghost use Rattle.njh_lines.specs.Connecting.{IsConnected};
-ghost use Rattle.njh_lines.specs.LineStates.{line_settled, line_wished, AreFree, AreMade, NoneDrains};
+ghost use Rattle.njh_lines.specs.LineStates.{line_settled, line_wished, with_from, AreFree, AreMade, IsMadeAt};
+ghost use Rattle.njh_lines.specs.LineStates.{NoneDrains};
 ghost use Rattle.njh_lines.specs.Resting.{HasRested, HaveEnded, IsNextLook, IsSameAt, WaitsForFirst};
 ghost use Rattle.njh_lines.specs.Watching.{served_line, HasBegun, HasNoted, HaveBegun, IsRoundBegun, IsToBePrompted};
 ghost use Rattle.njh_lines.specs.Watching.{Noted, ServedLine};
 ghost use Rattle.njh_lines.specs.Wires.{AreHeld, AreMadeSo, IsDone, IsJudged, IsLeft};
 ghost use Rattle.njh_lines.specs.declared.attention.Watch.{Watch};
 
+use crate::allowing::take_from;
 use crate::attention::{
     AT_ONCE, NOTHING, Watch, add_to_groups, call_group, look_at_group, wait_of,
 };
@@ -43,7 +45,7 @@ use njh_log::{EventKind, LimitedLog, Log, LogEvent, Place, Severity};
 use njh_request::LineWish;
 use njh_sight::{Customers, Label, LineNames, is_free};
 use njh_sites::{Door, Endpoint, ListenFault, Listening, Site, open};
-use njh_table::{LineId, Tables};
+use njh_table::{AddressRanges, LineId, Tables};
 use njh_turns::{Depot, NewOrder};
 use njh_wire::{LineWire, Network, Readiness};
 use std::alloc::{AllocError, Global};
@@ -281,22 +283,27 @@ impl<N: Network + Drop, L: Write + Drop> Exchange<N, L> {
         tell_order(&mut self.surroundings, new, answer, replies);
     }
 
-    /// Serves a further line. Out of memory is the only refusal.
+    /// Serves a further line, which takes connections from there. Out of memory is the only refusal.
     pub fn add(
         &mut self,
         id: LineId,
         names: &LineNames<'_>,
+        from: &AddressRanges,
         site: Site<Door<N::Listener>, SocketAddr>,
     ) -> Result<(), AllocError>
-        ensures added { OnOk result (self.new.lines
-            ≡ self.old.lines ++ record { id = id; site = site_opened N.address_of site; state = Started } ∷ []) }
+        ensures added { OnOk result (self.new.lines ≡ self.old.lines ++ record {
+          id = id;
+          site = site_opened N.address_of site;
+          from = from.now;
+          state = Started;
+        } ∷ []) }
         ensures watched { OnOk result (self.new.watches ≡ self.old.watches ++ at_once ∷ []) }
         ensures row { OnOk result (IsRowMade id.customer (with_line id.customer (length self.old.lines))
             self.old.customers self.new.customers) }
         ensures err { OnErr result (self.new ≡ self.old) }
     {
         let label = Label::of(names);
-        let entrance = Entrance::new(self.alloc)?;
+        let entrance = Entrance::new(self.alloc, from)?;
         self.posts.reserve(1)?;
         self.ready.reserve(1)?;
         self.watches.reserve(1)?;
@@ -310,6 +317,17 @@ impl<N: Network + Drop, L: Write + Drop> Exchange<N, L> {
             .push_reserved(Post::new(id, label, site, entrance));
         self.next = 0;
         Ok(())
+    }
+
+    /// The peer of the line at this place may connect from there from now on.
+    pub fn take_from(&mut self, place: usize, from: &AddressRanges)
+        ensures lines { IsMadeAt place (with_from from.now) self.old.lines self.new.lines }
+        ensures same { self.new ≡ record self.old { lines = self.new.lines } }
+    {
+        let Some(post) = self.posts.get_mut(place) else {
+            return;
+        };
+        take_from(&mut self.surroundings, post, from);
     }
 
     /// The operator wants the line of this id to be served so.

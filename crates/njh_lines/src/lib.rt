@@ -1,6 +1,7 @@
 //! A line is looked at no later than its moment; its site and its session decide its connection.
 #![tactic(auto)]
 
+mod allowing;
 mod attention;
 mod connecting;
 mod doors;

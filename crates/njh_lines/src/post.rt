@@ -55,6 +55,7 @@ impl<Li: Drop, C: Drop> Post<Li, C> {
     ) -> Post<Li, C>
         ensures line { result.line ≡ id }
         ensures state { result.state ≡ Started }
+        ensures entrance { result.entrance ≡ entrance }
         ensures site { (address_of : Li → SocketAddr)
             → site_kept address_of result.site ≡ site_opened address_of site }
     {
@@ -78,11 +79,12 @@ impl<Li: Drop, C: Drop> Post<Li, C> {
     /// Its session was seen so; if it is down, it ended so. If it was up before, the site is looked
     /// at ten seconds later, if not before: another connection may wait there.
     pub(crate) fn see(&mut self, session: SessionView, end: DownCause, now: u64)
-        ensures { self.new ≡ record self.old {
+        ensures noted { self.new ≡ record self.old {
           label = after_session self.old.label session end now;
           moment = moment_seen self.old.label session now self.old.moment;
           entrance = seen_session self.old.label.had_session (had_session self.old.label session) self.old.entrance;
         } }
+        ensures from { self.new.entrance.from ≡ self.old.entrance.from }
     {
         let was_up = self.label.up;
         let had_session = self.label.had_session;
@@ -94,11 +96,12 @@ impl<Li: Drop, C: Drop> Post<Li, C> {
     /// A step left its session so; if it is down, it ended so. Its site is looked at as if it was
     /// seen so.
     pub(crate) fn follow(&mut self, session: SessionView, end: DownCause, now: u64)
-        ensures { self.new ≡ record self.old {
+        ensures noted { self.new ≡ record self.old {
           label = after_step self.old.label session end now;
           moment = moment_seen self.old.label session now self.old.moment;
           entrance = seen_session self.old.label.had_session (had_session self.old.label session) self.old.entrance;
         } }
+        ensures from { self.new.entrance.from ≡ self.old.entrance.from }
     {
         let was_up = self.label.up;
         let had_session = self.label.had_session;
@@ -109,9 +112,10 @@ impl<Li: Drop, C: Drop> Post<Li, C> {
 
     /// If a session was up on its connection for the first time, that is noted of who has it.
     fn note_session(&mut self, had_session: bool)
-        ensures { self.new ≡ record self.old {
+        ensures noted { self.new ≡ record self.old {
           entrance = seen_session had_session self.old.label.had_session self.old.entrance;
         } }
+        ensures from { self.new.entrance.from ≡ self.old.entrance.from }
     {
         if self.label.had_session && !had_session {
             self.entrance.note_session();
@@ -139,6 +143,7 @@ impl<Li: Drop, C: Drop> Post<Li, C> {
         ensures site { (address_of : Li → SocketAddr)
             → site_kept address_of self.new.site ≡ site_kept address_of self.old.site }
         ensures state { self.new.state ≡ state }
+        ensures from { self.new.entrance.from ≡ self.old.entrance.from }
         ensures told { result ≡ change_event self.old.state state }
     {
         let event = change_event(self.state, state);
@@ -154,6 +159,7 @@ impl<Li: Drop, C: Drop> Post<Li, C> {
     fn resume(&mut self, now: u64)
         ensures line { self.new.line ≡ self.old.line }
         ensures state { self.new.state ≡ self.old.state }
+        ensures from { self.new.entrance.from ≡ self.old.entrance.from }
         ensures site { (address_of : Li → SocketAddr)
             → site_kept address_of self.new.site ≡ site_kept address_of self.old.site }
     {
@@ -170,6 +176,7 @@ impl<Li: Drop, C: Drop> Post<Li, C> {
             ≡ parted_as_lost self.old.label.had_session was_refused now self.old.entrance }
         ensures line { self.new.line ≡ self.old.line }
         ensures state { self.new.state ≡ self.old.state }
+        ensures from { self.new.entrance.from ≡ self.old.entrance.from }
         ensures site { (address_of : Li → SocketAddr)
             → site_kept address_of self.new.site ≡ site_kept address_of self.old.site }
         ensures lost { self.new.site ≡ site_lost self.old.label.had_session self.old.site now }

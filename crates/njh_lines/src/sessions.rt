@@ -46,6 +46,7 @@ pub(crate) fn look<N: Network + Drop, L: Write + Drop>(
     ensures line { post.new.line ≡ post.old.line }
     ensures site { site_kept N.address_of post.new.site ≡ site_kept N.address_of post.old.site }
     ensures state { post.new.state ≡ post.old.state }
+    ensures from { post.new.entrance.from ≡ post.old.entrance.from }
     ensures now { surroundings.new.now ≡ surroundings.old.now }
     ensures moment { HasLine hub.now post.old.line →
         let session = line_view (hub_line post.old.line hub.now).state in
@@ -101,6 +102,7 @@ pub(crate) fn follow<N: Network + Drop, L: Write + Drop>(
     ensures line { post.new.line ≡ post.old.line }
     ensures site { site_kept N.address_of post.new.site ≡ site_kept N.address_of post.old.site }
     ensures state { post.new.state ≡ post.old.state }
+    ensures from { post.new.entrance.from ≡ post.old.entrance.from }
     ensures traffic { post.new.traffic ≡ post.old.traffic }
     ensures now { surroundings.new.now ≡ surroundings.old.now }
     ensures customers { surroundings.new.customers ≡ surroundings.old.customers }
@@ -180,6 +182,7 @@ fn end_refused<N: Network + Drop, L: Write + Drop>(
     ensures left { IsLeft wire.old wire.new }
     ensures noted { IsTrue result →
         entrance.new ≡ parted label.old.had_session true surroundings.old.now entrance.old }
+    ensures from { entrance.new.from ≡ entrance.old.from }
     ensures logged { IsTrue result → IsLogged L.contents (place_of label.old)
         (told_refusal session.now.last_refusal entrance.new) surroundings.old.now
         surroundings.old.log surroundings.new.log }

@@ -28,6 +28,7 @@ pub(crate) fn hold<N: Network + Drop, L: Write + Drop>(
     ensures line { post.new.line ≡ post.old.line }
     ensures site { site_kept N.address_of post.new.site ≡ site_kept N.address_of post.old.site }
     ensures state { post.new.state ≡ post.old.state }
+    ensures from { post.new.entrance.from ≡ post.old.entrance.from }
     ensures ended { ¬ IsConnected wire.new }
     ensures now { surroundings.new.now ≡ surroundings.old.now }
     ensures customers { surroundings.new.customers ≡ surroundings.old.customers }

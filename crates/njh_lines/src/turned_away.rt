@@ -6,7 +6,7 @@ ghost use Rattle.njh_lines.specs.TurningAway.{away_left, away_moment, away_told,
 /// How often the log tells of them at most, in milliseconds.
 const TELL: u64 = 60_000;
 
-/// Connections to a line that were closed as they came, since so many waited for it already.
+/// Connections to a line that were closed as they came, for one reason.
 #[derive(Clone, Copy, Drop)]
 pub struct TurnedAway {
     /// How many there were since the log told of some.

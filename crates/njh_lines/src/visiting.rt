@@ -56,6 +56,7 @@ pub(crate) fn begin<N: Network + Drop, L: Write + Drop>(
     ensures line { post.new.line ≡ post.old.line }
     ensures site { site_kept N.address_of post.new.site ≡ site_kept N.address_of post.old.site }
     ensures state { post.new.state ≡ post.old.state }
+    ensures from { post.new.entrance.from ≡ post.old.entrance.from }
     ensures stopped { post.old.state ≡ Stopped → IsTrue watch.new.is_due → ¬ IsConnected wire.new }
     ensures now { surroundings.new.now ≡ surroundings.old.now }
     ensures customers { surroundings.new.customers ≡ surroundings.old.customers }
@@ -86,6 +87,7 @@ pub(crate) fn attend<N: Network + Drop, L: Write + Drop>(
     ensures line { post.new.line ≡ post.old.line }
     ensures site { site_kept N.address_of post.new.site ≡ site_kept N.address_of post.old.site }
     ensures state { post.new.state ≡ post.old.state }
+    ensures from { post.new.entrance.from ≡ post.old.entrance.from }
     ensures stopped { post.old.state ≡ Stopped → ¬ IsConnected wire.new }
     ensures now { surroundings.new.now ≡ surroundings.old.now }
     ensures customers { surroundings.new.customers ≡ surroundings.old.customers }
@@ -112,6 +114,7 @@ fn look_for_peer<N: Network + Drop, L: Write + Drop>(
     ensures line { post.new.line ≡ post.old.line }
     ensures site { site_kept N.address_of post.new.site ≡ site_kept N.address_of post.old.site }
     ensures state { post.new.state ≡ post.old.state }
+    ensures from { post.new.entrance.from ≡ post.old.entrance.from }
     ensures now { surroundings.new.now ≡ surroundings.old.now }
     ensures customers { surroundings.new.customers ≡ surroundings.old.customers }
 {
@@ -155,6 +158,7 @@ pub(crate) fn apply_session<N: Network + Drop, L: Write + Drop>(
     ensures line { post.new.line ≡ post.old.line }
     ensures site { site_kept N.address_of post.new.site ≡ site_kept N.address_of post.old.site }
     ensures state { post.new.state ≡ post.old.state }
+    ensures from { post.new.entrance.from ≡ post.old.entrance.from }
     ensures now { surroundings.new.now ≡ surroundings.old.now }
     ensures asks { IsNextLook wire.new (noted_of post.new) surroundings.old.now result }
     ensures told { IsTold post.new.label.news surroundings.old.now }
@@ -198,6 +202,7 @@ fn visit<N: Network + Drop, L: Write + Drop>(
     ensures line { post.new.line ≡ post.old.line }
     ensures site { site_kept N.address_of post.new.site ≡ site_kept N.address_of post.old.site }
     ensures state { post.new.state ≡ post.old.state }
+    ensures from { post.new.entrance.from ≡ post.old.entrance.from }
     ensures now { surroundings.new.now ≡ surroundings.old.now }
     ensures told { IsTold post.new.label.news surroundings.old.now }
     ensures kept { HasLine hub.now post.old.line → ¬ HasGivenUp hub.now post.old.line →

@@ -1,4 +1,5 @@
 mod BureauLaws
 mod EndpointLaws
+mod RevisingLaws
 mod ServedLaws
 mod ServiceLaws

@@ -8,6 +8,9 @@ use Rattle.std.proofs.Math.ListN.{get_or-append, get_or-map}
 use Rattle.std.proofs.Math.Seq.{get_or-append_seam}
 use Rattle.std.specs.declared.net.ip_addr.IpAddr.{IpAddr}
 use Rattle.std.specs.declared.net.socket_addr.SocketAddr.{SocketAddr}
+use Rattle.njh_table.specs.TableFile.{TableFile, table_line}
+use Rattle.njh_table.specs.declared.LineId.{LineId}
+use Rattle.njh_table.specs.declared.address_range.AddressRange.{AddressRange}
 use Rattle.njh_wire.specs.Standing.{first_standing, Standing}
 use Rattle.njh_sites.specs.Opened.{site_on, site_opened}
 use Rattle.njh_service.specs.Serving.{ArePlaced}
@@ -46,26 +49,41 @@ its_site {L} address_of address es sites n d site same within read =
     ∙ (get_or_default (map on es) n (site_opened address_of site) (on d) there
     ∙ get_or-map on es n d)))
 
+-- from where it takes connections, in other words
+pub added_from : (lines after : List ServedLine) (id : LineId) (site : Site (IpAddr × ℕ) SocketAddr)
+    (from own : List AddressRange) → from ≡ own
+    → after ≡ lines ++ record { id = id; site = site; from = from; state = Started } ∷ []
+    → after ≡ lines ++ record { id = id; site = site; from = own; state = Started } ∷ []
+added_from lines after id site from own same added =
+    added
+    ∙ ap (λ (its : List AddressRange). lines ++ record { id = id; site = site; from = its; state = Started } ∷ []) same
+
 -- one more is served
-pub served_more : {L : Type 0} (address_of : L → SocketAddr) (es : List Endpoint)
+pub served_more : {L : Type 0} (address_of : L → SocketAddr) (tables : TableFile) (es : List Endpoint)
     (sites : List (Site (Door L) SocketAddr)) (n : ℕ) (d : Endpoint) (site : Site (Door L) SocketAddr)
     (old before told after : List ServedLine)
     → ((address : IpAddr) → map (site_opened address_of) sites ≡ map (λ (e : Endpoint). site_on address e.site) es
-    → before ≡ old ++ map (served_on address) (take n es))
+    → before ≡ old ++ map (served_on tables address) (take n es))
     → n < length es → site ≡ get_or sites n site → told ≡ before
-    → after ≡ told ++ record { id = (get_or es n d).line; site = site_opened address_of site; state = Started } ∷ []
+    → after ≡ told ++ record {
+      id = (get_or es n d).line;
+      site = site_opened address_of site;
+      from = (table_line tables (get_or es n d).line).from;
+      state = Started;
+    } ∷ []
     → (address : IpAddr) → map (site_opened address_of) sites ≡ map (λ (e : Endpoint). site_on address e.site) es
-    → after ≡ old ++ map (served_on address) (take (n + 1) es)
-served_more address_of es sites n d site old before told after so_far within read still one address same =
-    let front = map (served_on address) (take n es) in
+    → after ≡ old ++ map (served_on tables address) (take (n + 1) es)
+served_more address_of tables es sites n d site old before told after so_far within read still one address same =
+    let front = map (served_on tables address) (take n es) in
     let line = (get_or es n d).line in
-    let own : Site (IpAddr × ℕ) SocketAddr → ServedLine = λ s. record { id = line; site = s; state = Started } in
+    let own : Site (IpAddr × ℕ) SocketAddr → ServedLine = λ s.
+    record { id = line; site = s; from = (table_line tables line).from; state = Started } in
     let its = its_site address_of address es sites n d site same within read in
     one
     ∙ (ap (λ (xs : List ServedLine). xs ++ own (site_opened address_of site) ∷ []) (still ∙ so_far address same)
     ∙ (append_assoc old front (own (site_opened address_of site) ∷ [])
     ∙ (ap (λ (s : Site (IpAddr × ℕ) SocketAddr). old ++ (front ++ own s ∷ [])) its
-    ∙ ap (λ (xs : List ServedLine). old ++ xs) (sym (map_more (served_on address) es n d within)))))
+    ∙ ap (λ (xs : List ServedLine). old ++ xs) (sym (map_more (served_on tables address) es n d within)))))
 
 -- the first of those that are left
 pub next_left : {X : Type 0} (xs : List X) (n : ℕ) (x : X) (ys : List X) → drop n xs ≡ x ∷ ys

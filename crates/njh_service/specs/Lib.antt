@@ -1,4 +1,5 @@
 pub mod Bureaus
 pub mod Opening
 pub mod Presences
+pub mod Revising
 pub mod Serving

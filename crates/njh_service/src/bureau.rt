@@ -141,7 +141,7 @@ impl<N: Network + Drop, L: Write + Drop, S: TableSource + Drop> Bureau<N, L, S> 
         ensures known { IfOk result (λ endpoints. All (λ endpoint. HasLine tables.now endpoint.line) endpoints.items) }
         ensures apart { IfOk result (λ endpoints. IsApart endpoints.items) }
         ensures served { IfOk result (λ endpoints. self.new.exchange.lines
-            ≡ self.old.exchange.lines ++ map (served_on listening.address) endpoints.items) }
+            ≡ self.old.exchange.lines ++ map (served_on tables.now listening.address) endpoints.items) }
     {
         self.drains = true;
         open_lines(&mut self.exchange, alloc, tables, listening, needed)

@@ -33,7 +33,7 @@ pub(crate) fn open_lines<N: Network + Drop, L: Write + Drop>(
     ensures known { IfOk result (λ endpoints. All (λ endpoint. HasLine tables.now endpoint.line) endpoints.items) }
     ensures apart { IfOk result (λ endpoints. IsApart endpoints.items) }
     ensures served { IfOk result (λ endpoints.
-        exchange.new.lines ≡ exchange.old.lines ++ map (served_on listening.address) endpoints.items) }
+        exchange.new.lines ≡ exchange.old.lines ++ map (served_on tables.now listening.address) endpoints.items) }
 {
     let endpoints = endpoints_of(alloc, tables)?;
     if needed && endpoints.is_empty() {
@@ -85,7 +85,7 @@ fn add_lines<N: Network + Drop, L: Write + Drop>(
     requires { All (λ endpoint. HasLine tables.now endpoint.line) endpoints.now }
     ensures { (address : IpAddr) → map (site_opened N.address_of) sites.items
         ≡ map (λ endpoint. site_on address endpoint.site) endpoints.now
-        → OnOk result (exchange.new.lines ≡ exchange.old.lines ++ map (served_on address) endpoints.now) }
+        → OnOk result (exchange.new.lines ≡ exchange.old.lines ++ map (served_on tables.now address) endpoints.now) }
 {
     let mut left = sites.into_iter();
     for endpoint in endpoints {
@@ -94,7 +94,8 @@ fn add_lines<N: Network + Drop, L: Write + Drop>(
         };
         tell_site(exchange, tables, own, endpoint, &site);
         let names = names_of(tables, endpoint.line);
-        exchange.add(endpoint.line, &names, site)?;
+        let from = tables.line(endpoint.line).from();
+        exchange.add(endpoint.line, &names, from, site)?;
     }
     Ok(())
 }

@@ -1,25 +1,31 @@
-//! New routes, and what the log tells of them.
+//! What a table file that changed brings, and what the log tells of that.
 
-ghost use Rattle.std.specs.Prelude.{◌≡◌, is_ok, IfSome, IsTrue};
+ghost use Rattle.std.specs.Prelude.{◌≡◌, is_ok, unwrap_or, IfSome, IsTrue};
+ghost use Rattle.njh_lines.specs.LineStates.{AreMade, IsMadeAt};
 ghost use Rattle.njh_sight.specs.Waking.{marked, IsRowMade};
+ghost use Rattle.njh_revision.specs.Origins.{from_known};
 ghost use Rattle.njh_revision.specs.Revisions.{AreKept, IsGiven};
+ghost use Rattle.njh_service.specs.Revising.{line_reread, AreReread};
 
 use njh_hub::{Hub, HubFault};
-use njh_lines::Exchange;
+use njh_lines::{Exchange, Post};
 use njh_log::{EventKind, LogEvent, Place, Severity};
 use njh_revision::{Revision, RouteChange, SourceOutcome, TableSource};
-use njh_table::Tables;
+use njh_table::{AddressRanges, Tables};
 use njh_turns::NewRoutes;
 use njh_wire::Network;
 use std::io::Write;
 
-/// Looks at the tables, if a second is over, and tells what came of that. Answers the routes of the
-/// next customer that is to be given some.
+/// Looks at the tables, if a second is over, and tells what came of that. From where the peers of
+/// lines may connect holds at once. Answers the routes of the next customer that is to be given
+/// some.
+#[tactic(auto, using(crate::proofs::RevisingLaws::reread_as))]
 pub(crate) fn revise<N: Network + Drop, L: Write + Drop, S: TableSource + Drop>(
     revision: &mut Revision<S>,
     exchange: &mut Exchange<N, L>,
 ) -> Option<NewRoutes>
-    ensures same { exchange.new ≡ exchange.old }
+    ensures same { exchange.new ≡ record exchange.old { lines = exchange.new.lines } }
+    ensures lines { AreReread S.Fault revision.new exchange.old.lines exchange.new.lines }
     ensures kept { AreKept revision.old revision.new }
     ensures routes { IfSome result (λ new. IfSome revision.new (IsGiven new.customer new.routes)) }
 {
@@ -27,25 +33,98 @@ pub(crate) fn revise<N: Network + Drop, L: Write + Drop, S: TableSource + Drop>(
     match revision.next_routes()? {
         Ok(new) => Some(new),
         Err(customer) => {
-            tell_routes(revision, exchange, customer, Err(HubFault::Memory));
+            tell_no_memory(revision, exchange, customer);
             None
         }
     }
 }
 
-/// Looks at the tables, if a second is over, and tells what came of that.
+/// Tells that there was no memory for the new routes of a customer.
+fn tell_no_memory<N: Network + Drop, L: Write + Drop, S: TableSource + Drop>(
+    revision: &mut Revision<S>,
+    exchange: &mut Exchange<N, L>,
+    customer: u16,
+)
+    ensures same { exchange.new ≡ exchange.old }
+    ensures tables { revision.new ≡ revision.old }
+{
+    tell_routes(revision, exchange, customer, Err(HubFault::Memory));
+}
+
+/// Looks at the tables, if a second is over, and tells what came of that. From where the peers of
+/// lines may connect holds at once.
 fn look_at_tables<N: Network + Drop, L: Write + Drop, S: TableSource + Drop>(
     revision: &mut Revision<S>,
     exchange: &mut Exchange<N, L>,
 )
-    ensures same { exchange.new ≡ exchange.old }
+    ensures same { exchange.new ≡ record exchange.old { lines = exchange.new.lines } }
+    ensures lines { AreReread S.Fault revision.new exchange.old.lines exchange.new.lines }
     ensures kept { AreKept revision.old revision.new }
 {
     let Some(outcome) = revision.look(exchange.now()) else {
         return;
     };
     exchange.write(outcome.severity(), Place::Hub, &outcome);
-    if let SourceOutcome::Taken(before) = &outcome {
+    take_from(revision, exchange, &outcome);
+    tell_taken(revision, exchange, &outcome);
+}
+
+/// From where the peer of each line may connect is as the tables say that were just read, if they
+/// say it; else as before.
+fn take_from<N: Network + Drop, L: Write + Drop, S: TableSource + Drop>(
+    revision: &Revision<S>,
+    exchange: &mut Exchange<N, L>,
+    outcome: &SourceOutcome<S::Fault>,
+)
+    ensures same { exchange.new ≡ record exchange.old { lines = exchange.new.lines } }
+    ensures lines { AreMade (line_reread revision.now outcome.now) exchange.old.lines exchange.new.lines }
+{
+    for place in 0..exchange.posts().len() {
+        take_from_at(revision, exchange, outcome, place);
+    }
+}
+
+/// So it is with the line at a place.
+fn take_from_at<N: Network + Drop, L: Write + Drop, S: TableSource + Drop>(
+    revision: &Revision<S>,
+    exchange: &mut Exchange<N, L>,
+    outcome: &SourceOutcome<S::Fault>,
+    place: usize,
+)
+    ensures same { exchange.new ≡ record exchange.old { lines = exchange.new.lines } }
+    ensures lines { IsMadeAt place (line_reread revision.now outcome.now) exchange.old.lines exchange.new.lines }
+{
+    let Some(post) = exchange.posts().get(place) else {
+        return;
+    };
+    let from = new_from(revision, outcome, post);
+    exchange.take_from(place, &from);
+}
+
+/// From where the peer of a line may connect, as the tables say that were just read; as before if
+/// they don't say it.
+fn new_from<Li: Drop, C: Drop, S: TableSource + Drop>(
+    revision: &Revision<S>,
+    outcome: &SourceOutcome<S::Fault>,
+    post: &Post<Li, C>,
+) -> AddressRanges
+    ensures { result ≡ unwrap_or (from_known revision.now outcome.now post.now.line) post.now.entrance.from }
+{
+    match revision.from_read(outcome, post.line) {
+        Some(from) => from.copy(),
+        None => post.entrance.from.copy(),
+    }
+}
+
+/// Tells what new tables bring the customers, if some were taken.
+fn tell_taken<N: Network + Drop, L: Write + Drop, S: TableSource + Drop>(
+    revision: &Revision<S>,
+    exchange: &mut Exchange<N, L>,
+    outcome: &SourceOutcome<S::Fault>,
+)
+    ensures { exchange.new ≡ exchange.old }
+{
+    if let SourceOutcome::Taken(before) = outcome {
         tell_changes(revision, exchange, before);
     }
 }

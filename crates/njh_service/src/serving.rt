@@ -84,7 +84,7 @@ pub fn service_on<N: Network + Drop, L: Write + Drop, S: TableSource + Drop, D: 
 ) -> Result<Service<LineWire<N::Connection>, Bureau<N, L, S>, D>, (ServeFault, D, Bureau<N, L, S>)>
     ensures opened { IfOk result (λ service. IsOpened (D.opens depot service.depot tables) tables service) }
     ensures attended { IfOk result (λ service. service.attendant.exchange.lines
-        ≡ bureau.exchange.lines ++ map (served_on listening.address) (endpoints_of tables)) }
+        ≡ bureau.exchange.lines ++ map (served_on tables listening.address) (endpoints_of tables)) }
     ensures places { IfOk result (λ service. ArePlaced service.wires) }
     ensures settled { IfOk result (λ service. IsSettled D.says service.depot service.hub) }
 {

@@ -26,7 +26,7 @@ mod world;
 use std::{fs, io};
 
 /// The files of cases.
-const FILES: [&str; 13] = [
+const FILES: [&str; 14] = [
     "listening.cases",
     "dialling.cases",
     "groups.cases",
@@ -34,6 +34,7 @@ const FILES: [&str; 13] = [
     "ports.cases",
     "prompting.cases",
     "routes.cases",
+    "from.cases",
     "sessions.cases",
     "states.cases",
     "wrong.cases",

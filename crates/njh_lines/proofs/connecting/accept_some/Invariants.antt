@@ -1,4 +1,5 @@
 use Rattle.std.specs.Prelude.{◌≡◌}
+use Rattle.njh_lines.specs.Entrances.{AreAllowed}
 use Rattle.njh_lines.proofs.connecting.accept_some.Given as goal
 
 -- all that may have changed is who waits, how many were closed, and when a failure is told again
@@ -10,4 +11,6 @@ invariant-loop g l = record {
   label : l.label ≡ record l.fn.label { again = l.label.again };
   remembered : l.entrance.anteroom.remembered ≡ l.fn.entrance.anteroom.remembered;
   peer : l.entrance.peer ≡ l.fn.entrance.peer;
+  from : l.entrance.from ≡ l.fn.entrance.from;
+  allowed : AreAllowed l.fn.entrance → AreAllowed l.entrance;
 }

@@ -17,7 +17,8 @@ returns g c =
     (ap (λ (seen : Watched). seen.lines) c.exchange.view_is)
     (subst Within c.exchange.inside.posts.ok.0 (c.in-Some.ensures.variant.0 refl)) c.in-Some.ensures.value
     (served_so g.N.Network.address_of c.in-Some.post.now c.set_state.new.self c.args.state
-    c.set_state.ensures.line (c.set_state.ensures.site g.N.Network.address_of) c.set_state.ensures.state)
+    c.set_state.ensures.line (c.set_state.ensures.site g.N.Network.address_of) c.set_state.ensures.from
+    c.set_state.ensures.state)
 
 pub returns-in_default-set_state : goal.returns-in_default-set_state
 returns-in_default-set_state g c =
@@ -28,7 +29,8 @@ returns-in_default-set_state g c =
     (ap (λ (seen : Watched). seen.lines) c.exchange.view_is)
     (subst Within c.exchange.inside.posts.ok.0 (c.in-Some.ensures.variant.0 refl)) c.in-Some.ensures.value
     (served_so g.N.Network.address_of c.in-Some.post.now c.set_state.new.self c.args.state
-    c.set_state.ensures.line (c.set_state.ensures.site g.N.Network.address_of) c.set_state.ensures.state)
+    c.set_state.ensures.line (c.set_state.ensures.site g.N.Network.address_of) c.set_state.ensures.from
+    c.set_state.ensures.state)
 
 -- no line is where no post is
 pub returns-in_default : goal.returns-in_default

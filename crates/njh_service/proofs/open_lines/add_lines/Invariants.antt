@@ -12,5 +12,6 @@ invariant-loop-endpoint g l = record {
   many : l.endpoint-index + into_iter_len l.left ≡ length l.fn.sites.items;
   served : (address : IpAddr) → map (site_opened g.N.Network.address_of) l.fn.sites.items
       ≡ map (λ endpoint. site_on address endpoint.site) l.endpoints
-      → l.exchange.lines ≡ l.fn.exchange.lines ++ map (served_on address) (take l.endpoint-index l.endpoints);
+      → l.exchange.lines ≡ l.fn.exchange.lines ++ map (served_on l.tables address)
+      (take l.endpoint-index l.endpoints);
 }

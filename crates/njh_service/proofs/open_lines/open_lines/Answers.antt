@@ -13,9 +13,10 @@ returns-clause-served g c =
     let on = c.args.listening.address in
     let sites : List Endpoint → List (Site (IpAddr × ℕ) SocketAddr) = λ es. map (λ (e : Endpoint). site_on on e.site) es
     in
-    let lines : List Endpoint → List ServedLine = λ es. c.args.exchange.now.lines ++ map (served_on on) es in
+    let lines : List Endpoint → List ServedLine = λ es. c.args.exchange.now.lines
+    ++ map (served_on c.args.tables.now on) es in
     let same = c.deref.ensures.value ∙ sym c.deref-2.ensures.value in
     c.in_ok-add_lines.ensures on (c.in_ok-sites.ensures.opened ∙ ap sites same)
-    ∙ (ap (λ (before : List ServedLine). before ++ map (served_on on) c.deref-2.result.now)
+    ∙ (ap (λ (before : List ServedLine). before ++ map (served_on c.args.tables.now on) c.deref-2.result.now)
     (c.sites_on.ensures.lines ∙ c.know_customers.ensures.lines)
     ∙ ap lines c.deref-2.ensures.value)

@@ -18,7 +18,7 @@ returns-in-Ok-clause-opened g c =
 pub returns-in-Ok-clause-attended : goal.returns-in-Ok-clause-attended
 returns-in-Ok-clause-attended g c =
     let Of : List Endpoint → List ServedLine = λ endpoints.
-    c.args.bureau.exchange.lines ++ map (served_on c.args.listening.address) endpoints in
+    c.args.bureau.exchange.lines ++ map (served_on c.args.tables c.args.listening.address) endpoints in
     let Lines : Attended g.row.N-Visitor.Denot → List ServedLine = λ seen. seen.exchange.lines in
     let lines = c.in-Ok.ensures.served ∙ ap Of c.in-Ok.ensures.all in
     IfOk-weaker c.service_of.result _ _ (λ service same. ap Lines same ∙ lines)

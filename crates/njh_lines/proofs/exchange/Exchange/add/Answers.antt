@@ -2,6 +2,7 @@ use Rattle.std.proofs.Common.{◌≡◌, ℕ, ◌+◌, List, [], ◌∷◌, ◌+
 use Rattle.std.proofs.lemmas.List.{length-append, length-map}
 use Rattle.njh_wire.specs.declared.network.Readiness.{Readiness}
 use Rattle.njh_lines.specs.declared.attention.Watch.{Watch}
+use Rattle.njh_lines.specs.declared.entrance.Entrance.{Entrance}
 use Rattle.njh_lines.specs.Attention.{at_once, nothing, IsInGroup}
 use Rattle.njh_sight.specs.Waking.{with_line, IsRowMade}
 use Rattle.njh_sight.specs.declared.customers.Row.{Row}
@@ -43,10 +44,13 @@ pub returns-clause-added : goal.returns-clause-added
 returns-clause-added g c =
     let P : Type 0 = Post g.row.N-Listener.Denot g.row.N-Connection.Denot in
     post_added g.N.Network.address_of c.self.inside.posts.items c.push_reserved-3.new.self.items c.new-2.result
-    c.args.self.now.lines c.args.id c.args.site
+    c.args.self.now.lines c.args.id c.args.site c.args.from.now
     (c.push_reserved-3.ensures.items ∙ ap (λ (posts : List P). posts ++ c.new-2.result ∷ []) c.reserve.ensures.items)
     (ap (λ (seen : Watched). seen.lines) c.self.view_is) c.new-2.ensures.line
-    (c.new-2.ensures.site g.N.Network.address_of) c.new-2.ensures.state
+    (c.new-2.ensures.site g.N.Network.address_of)
+    (ap (λ (entrance : Entrance g.row.N-Connection.Denot). entrance.from)
+    (c.new-2.ensures.entrance ∙ c.in_ok-entrance.ensures))
+    c.new-2.ensures.state
 
 -- it is the next of its customer's
 pub returns-clause-row : goal.returns-clause-row

@@ -21,7 +21,7 @@ returns-clause-lines g c =
     c.args.self.now.lines c.args.place c.in-Some.post.now c.apply_session.new.post
     (ap (λ (seen : Watched). seen.lines) c.self.view_is) c.in-Some.ensures.value
     (served_stays g.N.Network.address_of c.in-Some.post.now c.apply_session.new.post c.apply_session.ensures.line
-    c.apply_session.ensures.site c.apply_session.ensures.state)
+    c.apply_session.ensures.site c.apply_session.ensures.from c.apply_session.ensures.state)
 
 pub returns-clause-kept : goal.returns-clause-kept
 returns-clause-kept g c = λ line seen found noted there alive fits.

@@ -72,4 +72,4 @@ returns-clause-lines g c =
     c.args.self.now.lines c.args.place c.index_mut-post.result.now c.begin.new.post
     (ap (λ (seen : Watched). seen.lines) c.self.view_is) c.index_mut-post.ensures.value
     (served_stays g.N.Network.address_of c.index_mut-post.result.now c.begin.new.post c.begin.ensures.line
-    c.begin.ensures.site c.begin.ensures.state)
+    c.begin.ensures.site c.begin.ensures.from c.begin.ensures.state)

@@ -19,7 +19,7 @@ returns-clause-lines g c =
     c.args.self.now.lines c.args.place c.in-Some.post.now c.follow.new.post
     (ap (λ (seen : Watched). seen.lines) c.self.view_is) c.in-Some.ensures.value
     (served_stays g.N.Network.address_of c.in-Some.post.now c.follow.new.post c.follow.ensures.line
-    c.follow.ensures.site c.follow.ensures.state)
+    c.follow.ensures.site c.follow.ensures.from c.follow.ensures.state)
 
 -- what is counted goes on from what was
 pub returns-clause-counted : goal.returns-clause-counted

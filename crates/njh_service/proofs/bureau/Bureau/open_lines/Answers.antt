@@ -14,5 +14,5 @@ returns-clause-served g c =
     let Lines : Attended g.row.N-Visitor.Denot → List ServedLine = λ seen. seen.exchange.lines in
     IfOk-weaker c.open_lines.result _ _
     (λ endpoints served. served ∙ ap (λ (lines : List ServedLine). lines
-    ++ map (served_on c.args.listening.address) endpoints.items) (ap Lines c.self.view_is))
+    ++ map (served_on c.args.tables.now c.args.listening.address) endpoints.items) (ap Lines c.self.view_is))
     c.open_lines.ensures.served
