@@ -131,11 +131,18 @@ fn place_of(tables: &Tables, id: LineId) -> Place
 }
 
 /// Whether anybody who reaches a line may sign on: it has a port on this address, which others than
-/// this machine reach, and wants no password.
+/// this machine reach, takes connections from everywhere, and wants no password.
 fn is_open_to_all(line: &NamedLine, own: IpAddr) -> bool
     ensures { IsTrue result ↔ IsOpenToAll line.now own }
 {
-    line.port() != 0 && wants_no_password(line) && !own.is_loopback()
+    line.port() != 0 && takes_from_all(line) && wants_no_password(line) && !own.is_loopback()
+}
+
+/// Whether a line takes connections from everywhere.
+fn takes_from_all(line: &NamedLine) -> bool
+    ensures { IsTrue result ↔ (line.now.from ≡ []) }
+{
+    line.from().as_slice().is_empty()
 }
 
 /// Whether a sign-on on a line needs no password.

@@ -25,9 +25,9 @@ loop-place-preserved g c = record {
 -- all lines are as the tables say
 pub returns-clause-lines : goal.returns-clause-lines
 returns-clause-lines g c =
-    let lines : length c.args.exchange.now.lines ≡ length c.posts.result.now =
-    sym (ap length c.posts.ensures.lines)
-    ∙ length-map c.posts.result.now
+    let lines : length c.args.exchange.now.lines ≡ length c.posts-place-end.result.now =
+    sym (ap length c.posts-place-end.ensures.lines)
+    ∙ length-map c.posts-place-end.result.now
     (λ (post : Post g.row.N-Listener.Denot g.row.N-Connection.Denot). served_line g.N.Network.address_of post) in
     all_made c.loop-place.place (line_reread c.args.revision.now c.args.outcome.now) c.args.exchange.now.lines
     c.loop-place.exchange.lines (omega (arith, lines, c.loop-place-test.false)) c.loop-place.invariant.made

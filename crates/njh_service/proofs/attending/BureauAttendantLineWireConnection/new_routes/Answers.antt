@@ -1,5 +1,5 @@
 use Rattle.njh_service.proofs.RevisingLaws.{reread_drains}
-use Rattle.njh_service.proofs.attending.BureauAttendant.new_routes.Goals as goal
+use Rattle.njh_service.proofs.attending.BureauAttendantLineWireConnection.new_routes.Goals as goal
 
 -- no line drains that didn't
 pub invariant_of-self : goal.invariant_of-self
