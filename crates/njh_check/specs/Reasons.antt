@@ -50,6 +50,8 @@ wanted_words part named.Port = between_words 0 max_port
 wanted_words part named.Connect = codes "an IP address and a port, on a line without a port of its own"
 wanted_words part named.From =
     between_words 1 max_ranges +++ codes " addresses or networks without bits behind the mask, on a line with a port"
+wanted_words part named.Protocol =
+    codes "\"bisync\", or \"tcp\" on a line that answers with a port or calls with connect"
 wanted_words part named.Second = codes "the name of another line"
 
 -- how many of a part there may be

@@ -7,6 +7,8 @@ use Rattle.std.specs.declared.net.socket_addr.SocketAddr.{SocketAddr}
 use Rattle.std.specs.Net.Text.{ip_text, socket_text}
 use Rattle.njh_ebcdic.specs.Characters.{shown_text}
 use Rattle.njh_ebcdic.specs.Names.{without_end_blanks}
+use Rattle.njh_table.specs.declared.Protocol.{Protocol}
+use Rattle.njh_table.specs.declared.Protocol.TheVariants.{Bisync, Tcp}
 use Rattle.njh_table.specs.declared.Role.{Role}
 use Rattle.njh_table.specs.declared.Role.TheVariants.{Call, Answer}
 use Rattle.njh_table.specs.declared.address_range.AddressRange.{AddressRange}
@@ -41,6 +43,11 @@ range_words range =
 unfoldable pub from_words : List AddressRange → List ℕ
 from_words ranges = cond (length ranges == 0) (codes "") (codes ", from" ++ flat_map range_words ranges)
 
+-- how a line's bytes are written on its connections, if that isn't as on a bisync line
+unfoldable pub protocol_words : Protocol → List ℕ
+protocol_words Bisync = codes ""
+protocol_words Tcp = codes ", protocol tcp"
+
 -- how much a line takes at once
 unfoldable pub size_words : ℕ → ℕ → List ℕ
 size_words block streams = codes "block " +++ decimal block +++ codes ", streams " +++ decimal streams
@@ -52,7 +59,7 @@ name_words l = codes "  line " +++ l.name +++ codes ": node " +++ name_text l.en
 unfoldable pub line_text : NamedLine → List ℕ
 line_text l =
     name_words l +++ role_words l.entry.role +++ codes ", " +++ peer_words l.port l.peer +++ from_words l.from
-    +++ codes ", " +++ size_words l.entry.block l.entry.streams +++ codes "\n"
+    +++ protocol_words l.protocol +++ codes ", " +++ size_words l.entry.block l.entry.streams +++ codes "\n"
 
 abbrev pub has_password : List ℕ → Bool
 has_password [] = false

@@ -32,7 +32,7 @@ known_keys (parts.Customer c) =
     named.Name ∷ named.Hub ∷ named.Quota ∷ named.Files ∷ named.Line ∷ named.Route ∷ []
 known_keys (parts.Line c n) =
     named.Name ∷ named.Node ∷ named.Role ∷ named.Block ∷ named.Streams ∷ named.Password ∷ named.Port
-    ∷ named.Connect ∷ named.From ∷ []
+    ∷ named.Connect ∷ named.From ∷ named.Protocol ∷ []
 known_keys (parts.Route c n) = named.Node ∷ named.Line ∷ named.Second ∷ []
 
 abbrev pub is_known : Part → (name : List ℕ) → Bool

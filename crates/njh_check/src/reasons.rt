@@ -66,6 +66,9 @@ fn wanted_words(part: Part, key: Key) -> &'static str
         Key::From => {
             "1 to 16 addresses or networks without bits behind the mask, on a line with a port"
         }
+        Key::Protocol => {
+            "\"bisync\", or \"tcp\" on a line that answers with a port or calls with connect"
+        }
         Key::Second => "the name of another line",
     }
 }

@@ -5,11 +5,11 @@ ghost use Rattle.njh_table.specs.Limits.{max_customers};
 ghost use Rattle.njh_table.specs.TableFile.{route_entry};
 ghost use Rattle.njh_check.specs.Reports.{capacity_text, customer_text, head_text, line_name, line_text, name_words};
 ghost use Rattle.njh_check.specs.Reports.{peer_words, port_words, report_of, role_words, route_text, second_words};
-ghost use Rattle.njh_check.specs.Reports.{from_words, has_password, line_report, password_text, range_words};
-ghost use Rattle.njh_check.specs.Reports.{size_words};
+ghost use Rattle.njh_check.specs.Reports.{from_words, has_password, line_report, password_text, protocol_words};
+ghost use Rattle.njh_check.specs.Reports.{range_words, size_words};
 
 use njh_ebcdic::Name;
-use njh_table::{AddressRange, NamedCustomer, NamedLine, Role, RouteLines, Tables};
+use njh_table::{AddressRange, NamedCustomer, NamedLine, Protocol, Role, RouteLines, Tables};
 use std::alloc::{AllocError, Global};
 use std::net::SocketAddr;
 
@@ -71,6 +71,17 @@ fn from_words(alloc: Global, ranges: &[AddressRange]) -> Result<String, AllocErr
     Ok(words)
 }
 
+/// How a line's bytes are written on its connections, if that isn't as on a bisync line.
+#[tactic(auto, unfolding(crate::specs::Reports::protocol_words))]
+fn protocol_words(protocol: Protocol) -> &'static str
+    ensures { result.now ≡ protocol_words protocol }
+{
+    match protocol {
+        Protocol::Bisync => "",
+        Protocol::Tcp => ", protocol tcp",
+    }
+}
+
 /// How much a line takes at once.
 #[tactic(auto, unfolding(crate::specs::Reports::size_words))]
 fn size_words(alloc: Global, block: u16, streams: u8) -> Result<String, AllocError>
@@ -97,8 +108,9 @@ fn line_text(alloc: Global, line: &NamedLine) -> Result<String, AllocError>
     let role = role_words(line.role());
     let peer = peer_words(alloc, line.port(), line.peer())?;
     let from = from_words(alloc, line.from().as_slice())?;
+    let protocol = protocol_words(line.protocol());
     let size = size_words(alloc, line.block(), line.streams())?;
-    format!(in alloc; "{name}{role}, {peer}{from}, {size}\n")
+    format!(in alloc; "{name}{role}, {peer}{from}{protocol}, {size}\n")
 }
 
 /// Whether a line has a password, which is a name, so it isn't empty.

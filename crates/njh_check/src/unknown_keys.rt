@@ -40,6 +40,7 @@ fn known_keys(part: Part) -> &'static [Key]
             Key::Port,
             Key::Connect,
             Key::From,
+            Key::Protocol,
         ],
         Part::Route(_, _) => &[Key::Node, Key::Line, Key::Second],
     }

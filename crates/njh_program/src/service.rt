@@ -10,6 +10,7 @@ use crate::console_log::open_console;
 use crate::handles::refuse_few;
 use crate::start_log::log_failure;
 use crate::table_source::TableFileSource;
+use crate::unserved::refuse_unserved;
 use njh_arguments::VERSION;
 use njh_console::Console;
 use njh_lines::Exchange;
@@ -163,6 +164,7 @@ fn network_for<'a, R: Files + Net + Clock + AllocGlobal, L: Write + Drop>(
     ensures refused { IfErr result IsOfDevices }
     ensures few { IfOk result (λ found. found.1 ≤ 64) }
 {
+    refuse_unserved(rt, tables, log)?;
     let guests = refuse_few(rt, tables, log)?;
     let mut network = network_on(rt, log)?;
     match open_console(rt, &mut network, console, log) {

@@ -58,6 +58,8 @@ pub enum LineKey {
     Port,
     /// Where the hub connects to.
     Connect,
+    /// How its bytes are written on its connections.
+    Protocol,
 }
 
 /// What differs first between these tables and others that concerns all customers.
@@ -164,6 +166,9 @@ fn line_key(line: &NamedLine, other: &NamedLine) -> Option<LineKey>
     if other.peer() != line.peer() {
         return Some(LineKey::Connect);
     }
+    if other.protocol() != line.protocol() {
+        return Some(LineKey::Protocol);
+    }
     entry_key(line, other)
 }
 
@@ -225,6 +230,7 @@ impl fmt::Display for LineKey {
             LineKey::Password => "password",
             LineKey::Port => "port",
             LineKey::Connect => "connect",
+            LineKey::Protocol => "protocol",
         })
     }
 }

@@ -11,6 +11,7 @@ same_line l m same = λ i. record {
   port = sym same.port i;
   peer = sym same.peer i;
   from = sym same.from i;
+  protocol = sym same.protocol i;
   up = sym same.up i;
   entry = record {
     node = sym same.node i;

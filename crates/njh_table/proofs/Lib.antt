@@ -11,6 +11,7 @@ pub mod MarkLaws
 pub mod NewRouteLaws
 pub mod OwnersLaws
 pub mod RangeLaws
+pub mod ProtocolLaws
 pub mod Replaced
 pub mod RouteLaws
 pub mod SameRanges

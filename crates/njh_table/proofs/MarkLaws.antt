@@ -39,6 +39,8 @@ still_line up l is = record {
   from = is.from;
   few = is.few;
   ranges = is.ranges;
+  answers = is.answers;
+  calls = is.calls;
 }
 
 marked_names : (line : ℕ) (up : Bool) (c : NamedCustomer)

@@ -8,6 +8,7 @@ use Rattle.std.proofs.lemmas.List.Folds.{list_any-append}
 use Rattle.std.proofs.lemmas.List.Elements.{All-push}
 use Rattle.toml.specs.Data.{Data, Members, Items, no_items, item}
 use Rattle.njh_table.specs.declared.fault.TableFault.TheVariants.{TooMany, DoubleLine}
+use Rattle.njh_table.specs.declared.Protocol.TheVariants.{Bisync}
 use Rattle.njh_table.specs.declared.places.Key.TheVariants as named
 use Rattle.njh_table.specs.declared.places.Part.{Part}
 use Rattle.njh_table.specs.declared.places.Part.TheVariants as parts
@@ -15,11 +16,13 @@ use Rattle.njh_table.specs.Limits.{max_lines, min_block, max_block, max_streams,
 use Rattle.njh_table.specs.Accepted.{IsBetween, AreDistinct, IsLine}
 use Rattle.njh_table.specs.Places.{at_part, at_value}
 use Rattle.njh_table.specs.TableFile.{NamedLine}
-use Rattle.njh_table.specs.Keys.{number, node_name, is_line_name, line_name, role, password, peer, from}
+use Rattle.njh_table.specs.Keys.{number, node_name, is_line_name, line_name, role, password, peer, from, may_be_tcp}
+use Rattle.njh_table.specs.Keys.{protocol}
 use Rattle.njh_table.specs.Walk.{walked_line, next_line, lines_onto}
 use Rattle.njh_table.proofs.OwnersLaws.{AreApart}
 use Rattle.njh_table.proofs.Gives.{Gives, and_then, weaker, past, with_keys, with_value, with_any, with_value_or}
 use Rattle.njh_table.proofs.Gives.{with_any_or, number-is, line_name-is, IsPeerOf, peer-is}
+use Rattle.njh_table.proofs.ProtocolLaws.{IsProtocolOf, bisync-is, protocol-is}
 use Rattle.njh_table.proofs.RangeLaws.{IsFromOf, from_nobody, from-is}
 use Rattle.njh_table.proofs.Distinct.{distinct_push}
 
@@ -43,7 +46,9 @@ line_of-gives part name keys is_name =
     (number-is 0 max_port) (λ port in_port.
     with_value_or (IsPeerOf port) _ (peer port) None part named.Connect keys _ tt (peer-is port) (λ peer is_peer.
     with_value_or (IsFromOf port) _ (from port) [] part named.From keys _ (from_nobody port) (from-is port)
-    (λ from is_from. (
+    (λ from is_from.
+    with_value_or (IsProtocolOf role port peer) _ (protocol (may_be_tcp role port peer)) Bisync part named.Protocol keys _
+    (bisync-is role port peer) (protocol-is role port peer) (λ protocol is_protocol. (
       refl,
       record {
         name = is_name;
@@ -54,8 +59,10 @@ line_of-gives part name keys is_name =
         from = is_from.listens;
         few = is_from.few;
         ranges = is_from.written;
+        answers = is_protocol.answers;
+        calls = is_protocol.calls;
       },
-    )))))))))
+    ))))))))))
 
 next_line-gives : (part : Part) (taken : List (List ℕ)) (value : Data)
     → Gives (IsNewLine taken) (next_line part taken value)

@@ -1,7 +1,9 @@
 -- What holds of every table that is accepted: the limits, names that differ, and quotas that add to at most the
 -- capacity.
-use Rattle.std.specs.Prelude.{◌≡◌, ◌≢◌, ℕ, ◌<◌, ◌≤◌, List, ◌∷◌, length, map, sum_by, All, AllPairs, IfSome, IsTrue}
+use Rattle.std.specs.Prelude.{◌≡◌, ◌≢◌, ℕ, ◌<◌, ◌≤◌, List, ◌∷◌, length, map, sum_by, All, AllPairs, IfSome, IsSome, IsTrue}
 use Rattle.std.specs.Net.Socket.{socket_port}
+use Rattle.njh_table.specs.declared.Protocol.TheVariants.{Tcp}
+use Rattle.njh_table.specs.declared.Role.TheVariants.{Call, Answer}
 use Rattle.njh_table.specs.Limits.{max_customers, max_lines, max_routes, max_capacity, max_quota}
 use Rattle.njh_table.specs.Limits.{max_files, max_ranges, min_block, max_block, max_streams, max_port}
 use Rattle.njh_table.specs.Entries.{RouteEntry}
@@ -26,6 +28,9 @@ pub record IsLine (l : NamedLine) : Type 0 where
   pub from : 0 < length l.from → l.port ≢ 0
   pub few : length l.from ≤ max_ranges
   pub ranges : All (λ range. IsTrue (is_range range)) l.from
+  -- over TCP the end that connects makes contact
+  pub answers : l.protocol ≡ Tcp → l.port ≢ 0 → l.entry.role ≡ Answer
+  pub calls : l.protocol ≡ Tcp → IsSome l.peer → l.entry.role ≡ Call
 
 -- a route of a customer with so many lines: its second line is another than its first
 pub record IsRoute (lines : ℕ) (r : RouteEntry) : Type 0 where

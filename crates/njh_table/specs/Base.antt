@@ -1,6 +1,7 @@
 -- The tables without a file: two customers with a line each.
 use Rattle.std.specs.Prelude.{List, ℕ, false, [], ◌∷◌, codes, None}
 use Rattle.njh_ebcdic.specs.Names.{ebcdic, padded_field}
+use Rattle.njh_table.specs.declared.Protocol.TheVariants.{Bisync}
 use Rattle.njh_table.specs.declared.Role.TheVariants.{Answer}
 use Rattle.njh_table.specs.TableFile.{NamedCustomer, TableFile}
 
@@ -19,6 +20,7 @@ customer_with_a_line name line =
             port = 0;
             peer = None;
             from = [];
+            protocol = Bisync;
             up = false;
             entry = record { node = lyon; role = Answer; block = 1024; streams = 4; password = [] };
           }

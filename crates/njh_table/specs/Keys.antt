@@ -2,7 +2,7 @@
 -- isn't.
 use Rattle.std.specs.Prelude.{ℕ, suc, ℤ, pos, negsuc, ◌+◌, Bool, true, false, not, ◌&&◌, ◌||◌, ◌==◌, if◌then◌else◌}
 use Rattle.std.specs.Prelude.{List, [], ◌∷◌, length, take, drop, slice_get, codes, bytes_eq, nat_lt, Option, Some, None}
-use Rattle.std.specs.Prelude.{option_and_then, option_map, ok_or, Result, Ok, Err}
+use Rattle.std.specs.Prelude.{is_none, option_and_then, option_map, ok_or, Result, Ok, Err}
 use Rattle.std.specs.List.{list_all, position}
 use Rattle.std.specs.Option.{option_map_or}
 use Rattle.std.specs.Result.{result_ok}
@@ -13,6 +13,8 @@ use Rattle.std.specs.Net.Socket.{socket_port}
 use Rattle.toml.specs.Data.{Data, Items, no_items, item, Members, get_member, as_str, as_integer, as_array, as_table}
 use Rattle.njh_ebcdic.specs.Names.{within}
 use Rattle.njh_ebcdic.specs.Reading.{name_of_text}
+use Rattle.njh_table.specs.declared.Protocol.{Protocol}
+use Rattle.njh_table.specs.declared.Protocol.TheVariants.{Bisync, Tcp}
 use Rattle.njh_table.specs.declared.Role.{Role}
 use Rattle.njh_table.specs.declared.Role.TheVariants.{Call, Answer}
 use Rattle.njh_table.specs.declared.fault.TableFault.{TableFault}
@@ -171,6 +173,22 @@ ranges_of port values = if may_have port (count_of values) then ranges_in values
 -- from where the peer of a line with this port may connect
 abbrev pub from : ℕ → Data → Option (List AddressRange)
 from port value = option_and_then (ranges_of port) (as_array value)
+
+-- ---- how a line's bytes are written on its connections
+
+-- over TCP the end that connects makes contact: a line that calls has no port, and one that answers no peer's address
+abbrev pub may_be_tcp : Role → ℕ → Option SocketAddr → Bool
+may_be_tcp Call port peer = port == 0
+may_be_tcp Answer port peer = is_none peer
+
+-- the protocol of a name, if TCP may be named
+abbrev pub protocol_of : Bool → List ℕ → Option Protocol
+protocol_of tcp text =
+    if bytes_eq text (codes "bisync") then Some Bisync else if tcp && bytes_eq text (codes "tcp") then Some Tcp else
+    None
+
+abbrev pub protocol : Bool → Data → Option Protocol
+protocol tcp value = option_and_then (protocol_of tcp) (as_str value)
 
 -- ---- keys
 

@@ -14,6 +14,7 @@ pub record SameLine (l m : NamedLine) : Type 0 where
   pub port : l.port ≡ m.port
   pub peer : l.peer ≡ m.peer
   pub from : l.from ≡ m.from
+  pub protocol : l.protocol ≡ m.protocol
   pub up : l.up ≡ m.up
 
 pub record SameRoute (r s : RouteEntry) : Type 0 where

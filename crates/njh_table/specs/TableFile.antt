@@ -6,18 +6,21 @@ use Rattle.std.specs.Map.{lookup}
 use Rattle.std.specs.declared.net.socket_addr.SocketAddr.{SocketAddr}
 use Rattle.njh_table.specs.declared.address_range.AddressRange.{AddressRange}
 use Rattle.njh_table.specs.declared.LineId.{LineId}
+use Rattle.njh_table.specs.declared.Protocol.{Protocol}
+use Rattle.njh_table.specs.declared.Protocol.TheVariants.{Bisync}
 use Rattle.njh_table.specs.declared.Role.TheVariants.{Answer}
 use Rattle.njh_table.specs.declared.routes.RouteLines.{RouteLines}
 use Rattle.njh_table.specs.Entries.{LineEntry, RouteEntry, CustomerEntry}
 
 -- a line: its name on the hub (text), its port, where its peer listens if the hub is to connect to it, the ranges of
--- addresses from which its peer may connect (none where it may from anywhere), its mark as up, and what its customer's
--- entry says of it
+-- addresses from which its peer may connect (none where it may from anywhere), how its bytes are written on its
+-- connections, its mark as up, and what its customer's entry says of it
 pub record NamedLine : Type 0 where
   pub name : List ℕ
   pub port : ℕ
   pub peer : Option SocketAddr
   pub from : List AddressRange
+  pub protocol : Protocol
   pub up : Bool
   pub entry : LineEntry
 
@@ -66,6 +69,7 @@ no_line = record {
   port = 0;
   peer = None;
   from = [];
+  protocol = Bisync;
   up = false;
   entry = record { node = []; role = Answer; block = 0; streams = 0; password = [] };
 }

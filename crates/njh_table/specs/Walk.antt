@@ -9,6 +9,7 @@ use Rattle.toml.specs.Data.{Data, Items, no_items, item, Members, as_str, as_arr
 use Rattle.toml.specs.Parse.{parse_document}
 use Rattle.njh_table.specs.declared.fault.TableFault.TheVariants.{BadToml, MissingKey, BadValue, DoubleLine, DoubleNode}
 use Rattle.njh_table.specs.declared.fault.TableFault.TheVariants.{UnknownLine, QuotaOver, TooMany, Memory}
+use Rattle.njh_table.specs.declared.Protocol.TheVariants.{Bisync}
 use Rattle.njh_table.specs.declared.places.Key.TheVariants as named
 use Rattle.njh_table.specs.declared.places.Part.{Part}
 use Rattle.njh_table.specs.declared.places.Part.TheVariants as parts
@@ -17,7 +18,8 @@ use Rattle.njh_table.specs.Limits.{max_customers, max_lines, max_routes, max_cap
 use Rattle.njh_table.specs.Limits.{max_files, min_block, max_block, max_streams, max_port}
 use Rattle.njh_table.specs.Entries.{RouteEntry, lines_to}
 use Rattle.njh_table.specs.Keys.{Walked, Placed, ◌>>=◌, ◌>>◌, fault_where, without_place, keys_in, at_key, at_key_or}
-use Rattle.njh_table.specs.Keys.{number, node_name, line_name, role, password, peer, from, second_line}
+use Rattle.njh_table.specs.Keys.{number, node_name, line_name, role, password, peer, from, may_be_tcp, protocol}
+use Rattle.njh_table.specs.Keys.{second_line}
 use Rattle.njh_table.specs.Places.{at_part, at_value}
 use Rattle.njh_table.specs.TableFile.{NamedLine, NamedCustomer, TableFile, line_names}
 
@@ -34,11 +36,13 @@ walked_line part name keys = do
   port ← at_key_or (number 0 max_port) 0 part named.Port keys
   peer ← at_key_or (peer port) None part named.Connect keys
   from ← at_key_or (from port) [] part named.From keys
+  protocol ← at_key_or (protocol (may_be_tcp role port peer)) Bisync part named.Protocol keys
   Ok (record {
     name = name;
     port = port;
     peer = peer;
     from = from;
+    protocol = protocol;
     up = false;
     entry = record { node = node; role = role; block = block; streams = streams; password = password };
   })

@@ -17,7 +17,8 @@ pub enum TableFault {
     #[error("K2 MissingKey")]
     MissingKey,
     /// A value of another type or out of range, a customer's name twice, a route's second line that
-    /// is its line, a line's `connect` beside a port, or its `from` without one.
+    /// is its line, a line's `connect` beside a port, its `from` without one, or its `protocol` that
+    /// wants the other role.
     #[error("K3 BadValue")]
     BadValue,
     /// A line's name twice on the whole hub.

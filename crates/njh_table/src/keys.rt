@@ -8,17 +8,18 @@ ghost use Rattle.std.specs.Result.{result_map_both};
 ghost use Rattle.toml.specs.Data.{get_member, as_str, as_array, as_table, no_items};
 ghost use Rattle.toml.specs.View.{view, table_view, items_view};
 ghost use Rattle.njh_table.specs.Addresses.{address_of};
+ghost use Rattle.njh_table.specs.declared.Protocol.TheVariants.{Bisync};
 ghost use Rattle.njh_table.specs.Keys.{keys_in, at_key, at_key_or, from, number, node_name, role, password, peer};
-ghost use Rattle.njh_table.specs.Keys.{line_name, second_line, is_line_name, is_letter_or_digit};
+ghost use Rattle.njh_table.specs.Keys.{line_name, second_line, is_line_name, is_letter_or_digit, may_be_tcp, protocol};
 ghost use Rattle.njh_table.specs.Places.{at_value, key_name};
 ghost use Rattle.njh_table.specs.TableFile.{password_bytes};
 
-use crate::Role;
 use crate::address_ranges::AddressRanges;
 use crate::fault::TableFault;
 use crate::limits::MAX_LINE_NAME;
 use crate::places::{Key, Part, PlacedFault};
 use crate::range_text::from_in;
+use crate::{Protocol, Role};
 use njh_ebcdic::Name;
 use std::net::SocketAddr;
 use toml::{Table, Value};
@@ -230,6 +231,41 @@ pub fn from_at(keys: &Table, part: Part, key: Key, port: u16) -> Result<AddressR
     };
     match from_in(value, port) {
         Some(ranges) => Ok(ranges),
+        None => Err(part.fault_at(key, TableFault::BadValue)),
+    }
+}
+
+/// Whether a line may have NJE over TCP/IP, by its role, its port and its peer's address: there the
+/// end that connects makes contact.
+pub fn may_be_tcp(role: Role, port: u16, peer: Option<SocketAddr>) -> bool
+    ensures { result ≡ may_be_tcp role port peer }
+{
+    match role {
+        Role::Call => port == 0,
+        Role::Answer => peer.is_none(),
+    }
+}
+
+fn protocol_in(value: &Value, tcp: bool) -> Option<Protocol>
+    ensures { result ≡ protocol tcp (view value.now) }
+{
+    match value.as_str()? {
+        "bisync" => Some(Protocol::Bisync),
+        "tcp" if tcp => Some(Protocol::Tcp),
+        _ => None,
+    }
+}
+
+/// How a line's bytes are written on its connections: `bisync`, also where the key is missing, or
+/// `tcp`, if the line may have that.
+pub fn protocol_at(keys: &Table, part: Part, key: Key, tcp: bool) -> Result<Protocol, PlacedFault>
+    ensures { result ≡ at_key_or (protocol tcp) Bisync part key (table_view keys.now) }
+{
+    let Some(value) = find(keys, key) else {
+        return Ok(Protocol::Bisync);
+    };
+    match protocol_in(value, tcp) {
+        Some(protocol) => Ok(protocol),
         None => Err(part.fault_at(key, TableFault::BadValue)),
     }
 }

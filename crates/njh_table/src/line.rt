@@ -3,8 +3,8 @@
 ghost use Rattle.std.specs.Prelude.{◌≡◌, Some, None};
 ghost use Rattle.njh_table.specs.TableFile.{password_bytes};
 
-use crate::Role;
 use crate::address_ranges::AddressRanges;
+use crate::{Protocol, Role};
 use njh_ebcdic::Name;
 use std::marker::Model;
 use std::net::SocketAddr;
@@ -21,6 +21,7 @@ pub struct NamedLine {
     pub(crate) port: u16,
     pub(crate) peer: Option<SocketAddr>,
     pub(crate) from: AddressRanges,
+    pub(crate) protocol: Protocol,
     pub(crate) up: bool,
 }
 
@@ -36,6 +37,7 @@ impl Model for NamedLine {
       port = l.port;
       peer = l.peer;
       from = l.from;
+      protocol = l.protocol;
       up = l.up;
       entry = record {
         node = l.node;
@@ -111,6 +113,14 @@ impl NamedLine {
         ensures { result.now ≡ self.now.from }
     {
         &self.from
+    }
+
+    /// How the line's bytes are written on its connections. Over TCP a line that calls has no port,
+    /// and one that answers no peer's address: who connects makes contact.
+    pub fn protocol(&self) -> Protocol
+        ensures { result ≡ self.now.protocol }
+    {
+        self.protocol
     }
 
     /// Whether the line is marked as up, by `Tables::set_up`; a table file gives no mark.

@@ -55,6 +55,8 @@ pub enum Key {
     Connect,
     /// `from`, of a line.
     From,
+    /// `protocol`, of a line.
+    Protocol,
     /// `second`, of a route.
     Second,
 }
@@ -81,6 +83,7 @@ impl Key {
             Key::Port => "port",
             Key::Connect => "connect",
             Key::From => "from",
+            Key::Protocol => "protocol",
             Key::Second => "second",
         }
     }

@@ -2,7 +2,7 @@
 //! of files at and past the limits.
 
 use crate::same::is_same;
-use njh_table::{TableFault, Tables};
+use njh_table::{Protocol, TableFault, Tables};
 use std::alloc::{AllocError, Global};
 use std::net::IpAddr;
 use std::ops::Range;
@@ -124,6 +124,13 @@ K3 BadValue: streams = 4 > streams = 4/port = 17501/from = ["10.1.0.0~15"]
 K3 BadValue: streams = 4 > streams = 4/port = 17501/from = ["0.0.0.1~0"]
 K3 BadValue: streams = 4 > streams = 4/port = 17501/from = ["2001:db8::1~32"]
 K3 BadValue: streams = 4 > streams = 4/port = 17501/from = ["::1~0"]
+K3 BadValue: streams = 4 > streams = 4/protocol = ""
+K3 BadValue: streams = 4 > streams = 4/protocol = "TCP"
+K3 BadValue: streams = 4 > streams = 4/protocol = "tcp "
+K3 BadValue: streams = 4 > streams = 4/protocol = true
+K3 BadValue: streams = 4 > streams = 4/protocol = ["tcp"]
+K3 BadValue: role = "answer" > role = "call"/port = 17501/protocol = "tcp"
+K3 BadValue: streams = 4 > streams = 4/connect = "127.0.0.1:17501"/protocol = "tcp"
 K3 BadValue: streams = 4 > streams = 4/password = "secret"
 K3 BadValue: role = "answer" > role = "Answer"
 K3 BadValue: name = "ACME" > name = "ACMEACMEA"
@@ -165,6 +172,13 @@ taken: streams = 4 > streams = 4/port = 17501/from = ["192.0.2.7"]
 taken: streams = 4 > streams = 4/from = ["192.0.2.7", "10.1.0.0~16", "2001:db8::~32", "::1"]/port = 1
 taken: streams = 4 > streams = 4/port = 17501/from = ["0.0.0.0~0", "::~0", "::ffff:10.1.0.0~112"]
 taken: streams = 4 > streams = 4/port = 17501/from = ["10.1.0.1~32", "2001:DB8:0:0:0:0:0:1~128"]
+taken: streams = 4 > streams = 4/protocol = "bisync"
+taken: streams = 4 > streams = 4/protocol = "tcp"
+taken: streams = 4 > streams = 4/protocol = "tcp"/port = 17501
+taken: role = "answer" > role = "call"/protocol = "tcp"
+taken: role = "answer" > role = "call"/port = 0/connect = "127.0.0.1:17501"/protocol = "tcp"
+taken: role = "answer" > role = "call"/port = 17501/protocol = "bisync"
+taken: streams = 4 > streams = 4/connect = "127.0.0.1:17501"/protocol = "bisync"
 taken: role = "answer" > role = "call" | hub = "BUREAU" > hub = "PARIS"
 taken: capacity = 200 > capacity = 200/colour = "red"
 "#;
@@ -210,6 +224,7 @@ K2 MissingKey: block = 1024 > # | streams = 4 > streams = 5
 K3 BadValue: streams = 4 > streams = 5 | line = "a1" > line = "b1"
 K3 BadValue: streams = 4 > streams = 4/connect = "" | name = "b1" > name = "a1"
 K3 BadValue: streams = 4 > streams = 4/from = [] | name = "b1" > name = "a1"
+K3 BadValue: streams = 4 > streams = 4/protocol = "" | name = "b1" > name = "a1"
 K2 MissingKey: node = "LYON"/line > line | line = "a1" > line = 1
 K3 BadValue: line = "a1" > line = 1 | node = "LYON"/line > node = "BUREAU"/line
 K3 BadValue: line = "a1" > line = "a1"/second = 3 | node = "LYON"/line > node = "BUREAU"/line
@@ -412,8 +427,42 @@ fn from_where_a_peer_may_connect(rt: HostRuntime) -> Result<(), Fail> {
             is_same(&rt, connects(rt.alloc(), key, address)?, "it may", address);
         }
         for address in outside.split_whitespace() {
-            is_same(&rt, connects(rt.alloc(), key, address)?, "it may not", address);
+            is_same(
+                &rt,
+                connects(rt.alloc(), key, address)?,
+                "it may not",
+                address,
+            );
         }
+    }
+    Ok(())
+}
+
+/// Keys of a line, and how its bytes are written on its connections.
+const PROTOCOLS: [[&str; 2]; 5] = [
+    ["port = 17501", "bisync"],
+    ["port = 17501\nprotocol = \"bisync\"", "bisync"],
+    ["port = 17501\nprotocol = \"tcp\"", "tcp"],
+    ["connect = \"127.0.0.1:17501\"", "bisync"],
+    ["protocol = \"tcp\"", "tcp"],
+];
+
+/// How the bytes of a line with these keys are written.
+fn protocol_of(alloc: Global, keys: &str) -> Result<&'static str, Fail> {
+    let keys = format!(in alloc; "streams = 4\n{keys}")?;
+    let text = BASE.replacen(alloc, "streams = 4", keys.as_str(), 1)?;
+    let tables = Tables::read(alloc, text.as_str())?;
+    let line = tables.line_owner("a1").ok_or("no line a1")?;
+    match tables.line(line).protocol() {
+        Protocol::Bisync => Ok("bisync"),
+        Protocol::Tcp => Ok("tcp"),
+    }
+}
+
+#[test]
+fn protocols_of_lines(rt: HostRuntime) -> Result<(), Fail> {
+    for [keys, protocol] in &PROTOCOLS {
+        is_same(&rt, protocol_of(rt.alloc(), keys)?, protocol, keys);
     }
     Ok(())
 }

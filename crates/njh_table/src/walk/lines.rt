@@ -9,8 +9,8 @@ ghost use Rattle.njh_table.specs.Walk.{Walks, walked_line, next_line, lines_onto
 use crate::LineId;
 use crate::fault::TableFault;
 use crate::keys::{
-    from_at, keys_in, line_name_at, name_at, number_at, number_or_zero_at, password_at, peer_at,
-    role_at,
+    from_at, keys_in, line_name_at, may_be_tcp, name_at, number_at, number_or_zero_at, password_at,
+    peer_at, protocol_at, role_at,
 };
 use crate::limits::{MAX_BLOCK, MAX_LINES, MAX_PORT, MAX_STREAMS, MIN_BLOCK};
 use crate::line::NamedLine;
@@ -33,6 +33,7 @@ fn line_of(alloc: Global, part: Part, name: &str, keys: &Table) -> Result<NamedL
     let port = number_or_zero_at(keys, part, Key::Port, MAX_PORT)? as u16;
     let peer = peer_at(keys, part, Key::Connect, port)?;
     let from = from_at(keys, part, Key::From, port)?;
+    let protocol = protocol_at(keys, part, Key::Protocol, may_be_tcp(role, port, peer))?;
     Ok(NamedLine {
         name: String::from_str(alloc, name)?,
         node,
@@ -43,6 +44,7 @@ fn line_of(alloc: Global, part: Part, name: &str, keys: &Table) -> Result<NamedL
         port,
         peer,
         from,
+        protocol,
         up: false,
     })
 }
