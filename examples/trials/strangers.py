@@ -5,19 +5,21 @@
 LYON's line has a password. Strangers connect to it, and once the hub ends one's connection that one connects again, a
 hundredth of a second later. Beside them the right peer tries to sign on, from an address of its own, so many times, one
 after the other: it gives up after 25 seconds. Within a try it connects again if its connection ends. Then a hub does
-so, whose line dials, anew for each try. The plays, each with a new hub, for each count of strangers and for both kinds
-of peers:
+so, whose line dials, anew for each try. The right peer had a session before the strangers came, but in `first`. The
+plays, each with a new hub, for each count of strangers and for both kinds of peers:
 
 - `wrong`: each stranger has an address of its own, and says a contact and a sign-on with a wrong password;
 - `silent`: each has an address of its own, and says nothing;
 - `wrong_at_one`, `silent_at_one`: the same, and all strangers have one address;
 - `begun`: each has an address of its own, makes contact, and says no more;
+- `first`: as `wrong` with 30 strangers, and the right peer never had a session: nothing tells it from a stranger until
+  each of those was refused once, one a second, so it tries once, for 40 seconds;
 - `from`: the line has the key `from`, and the strangers aren't of it: each is to be closed without an answer;
 - `from_mapped`: the same at a hub that listens at `::`, so that all addresses are IPv4's in IPv6.
 
 The table has a row for each: how many connections the strangers made in the meantime and how many of them were
-answered, and after how many seconds each try of the right peer had its session, "-" if it had none; and whether all are
-within 25 seconds. Of `wrong` it is looked too whether `ctl lines` and the log tell addresses of strangers, and of
+answered, and after how many seconds each try of the right peer had its session, "-" if it had none; and whether all
+had one. Of `wrong` it is looked too whether `ctl lines` and the log tell addresses of strangers, and of
 `from` whether the log tells of them once a minute. Then come, without strangers,
 
 - `from_changed`: the right peer isn't of `from`, and is closed without an answer; then the table file has its address,
@@ -49,6 +51,9 @@ NODE, PASSWORD = "LYON", "SECRET"
 # How long a peer tries, in seconds; and how long a stranger waits until it connects again.
 PATIENCE, PAUSE = 25.0, 0.01
 
+# How many strangers there are where the right peer never had a session, and how long it tries then, in seconds.
+FEW, LONGER = 30, 40.0
+
 # How many seconds a line rests between two tries.
 REST = 2.0
 
@@ -64,6 +69,7 @@ PLAYS = {
     "wrong_at_one": (WRONG, True, {}),
     "silent_at_one": (b"", True, {}),
     "begun": (CONTACT, False, {}),
+    "first": (WRONG, False, {}),
     "from": (WRONG, False, {"from": OWN}),
     "from_mapped": (WRONG, False, {"from": OWN}),
 }
@@ -122,10 +128,10 @@ def session_of(port, seconds):
     return False
 
 
-def peer_tries(_, port):
+def peer_tries(_, port, patience):
     """After how many seconds the right peer has its session, None if it gives up."""
     begin = time.monotonic()
-    while (left := begin + PATIENCE - time.monotonic()) > 0:
+    while (left := begin + patience - time.monotonic()) > 0:
         try:
             if session_of(port, left):
                 return time.monotonic() - begin
@@ -135,13 +141,13 @@ def peer_tries(_, port):
     return None
 
 
-def hub_tries(options, port):
+def hub_tries(options, port, patience):
     """The same of a hub whose line dials."""
     line = line_of("joined", "BUREAU", "call", connect=f"{HUB}:{port}", password=PASSWORD)
     table = "capacity = 100\n" + customer_of("LYON", NODE, 100, [line], [("BUREAU", "joined")])
     with Hub(options, table) as hub:
         begin = time.monotonic()
-        while (now := time.monotonic()) < begin + PATIENCE:
+        while (now := time.monotonic()) < begin + patience:
             if any("session up" in line for line in hub.log()):
                 return now - begin
             time.sleep(0.05)
@@ -168,19 +174,22 @@ def play(options, name, count, what, tries):
     port = free_ports(1)[0]
     sources = [stranger(0 if is_one else at) for at in range(count)]
     listens = ("--listen", "::") if name == "from_mapped" else LISTENS
+    patience, many = (LONGER, 1) if name == "first" else (PATIENCE, options.tries)
     with ConsoleHub(options, table_with(port, more), *listens) as hub:
         hub.serves()
+        if name != "first":
+            assert tries(options, port, patience) is not None, "there is no session without strangers"
         with Strangers(port, sources, words, PAUSE) as strangers:
             begin = time.monotonic()
             time.sleep(options.before)
             lasted = []
-            for _ in range(options.tries):
-                lasted.append(tries(options, port))
+            for _ in range(many):
+                lasted.append(tries(options, port, patience))
                 time.sleep(REST)
             seconds = time.monotonic() - begin
             lines, log = hub.prints("lines", "ACME"), hub.log()
             heard = strangers.stop()
-        right = hub.runs() and None not in lasted and max(lasted) <= PATIENCE
+        right = hub.runs() and None not in lasted
     if "from" in more:
         right = right and not heard.answered
     shown = " ".join("-" if one is None else f"{one:.1f}" for one in lasted)
@@ -281,7 +290,7 @@ def main():
         if name in OTHERS:
             right += OTHERS[name](options)
             continue
-        for count in options.counts:
+        for count in [FEW] if name == "first" else options.counts:
             for what, tries in kinds:
                 right += play(options, name, count, what, tries)
     print("right" if all(right) else f"{right.count(False)} rows are wrong")
