@@ -99,11 +99,15 @@ class CodeModule:
     def methods(self):
         """The methods of each type and trait, and of each `impl` of a trait by the name that the toolchain gives it."""
         for _, head, body in BLOCK.findall(self.text):
-            while head != (head := re.sub(r"<[^<>]*>", "", head.replace("->", ""))):
+            head = plain = head.replace("->", "")
+            while plain != (plain := re.sub(r"<[^<>]*>", "", plain)):
                 pass
-            words = re.findall(r"\w+", head)
+            words = re.findall(r"\w+", plain)
             at = words.index("for") if "for" in words else 0
-            yield words[at + 1] + words[at - 1] if at else words[0], {name for _, name in METHOD.findall(body)}
+            # what the trait is of, as in Attendant<LineWire<N::Connection>>, stands behind its name
+            of = re.search(rf"\b{words[at - 1]}<(.*)>\s+for ", head, re.S) if at else None
+            of = "".join(re.findall(r"\w+", re.sub(r"\w+::", "", of[1]))) if of else ""
+            yield words[at + 1] + words[at - 1] + of if at else words[0], {name for _, name in METHOD.findall(body)}
 
 
 class SpecModule:
