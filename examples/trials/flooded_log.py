@@ -17,8 +17,9 @@ The plays, each with hubs of its own:
 Of all but `files` and `dials` the table has a row for each kind of line that came more than ten times in ten seconds,
 or the one that came most: how many there were in all, and the most of them in ten seconds of one line of the table
 file. At most ten are wanted. Of commands, what is counted by the last line of the spell is to add up to those that were
-said. Of files a row has the most lines in a second of the customer, of which a thousand are wanted at most; and those
-that are told one by one, or counted as `files: N more`, are to be all that came.
+said. Of files a row has the most lines in a second of the customer, of seconds that each begin with the first line
+behind the one before, as the log counts them: a thousand are wanted at most. And those that are told one by one, or
+counted as `files: N more`, are to be all that came.
 
 Of `joined`, `dials` and `guesses` a row has the pauses in seconds between two tries: they are to double from one second
 on, and to begin anew after a session. The last line says "right", or the script ends with status 1 and says how many
@@ -98,6 +99,16 @@ def most_in(times, seconds):
     for last, at in enumerate(times):
         while times[first] <= at - seconds:
             first += 1
+        most = max(most, last - first + 1)
+    return most
+
+
+def most_in_turn(times, seconds):
+    """The most of these moments in so many seconds, where each such time begins with the first moment behind the last."""
+    most = first = 0
+    for last, at in enumerate(times):
+        if times[first] <= at - seconds:
+            first = last
         most = max(most, last - first + 1)
     return most
 
@@ -239,7 +250,7 @@ def files(options):
         came = hub.answers("customers")[0]["customers"][0]["arrived"]
         log = hub.log()
     told = [one for one in told_in(log) if one.words.startswith(ABOUT_FILES)]
-    most = most_in([one.at for one in told], 1.0)
+    most = most_in_turn([one.at for one in told], 1.0)
     print(f"    {came} files came, {came / options.files:.0f} a second; the last line: {last_of(told)}")
     # What is beyond that is counted, a line of the log for each line of the table file.
     counts = [int(number) for one in told_in(log) if one.line for number in COUNTED.findall(one.words)]

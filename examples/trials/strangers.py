@@ -162,9 +162,8 @@ def told_of_wrong(lines, log):
 
 
 def told_of_from(log, seconds):
-    """A row: how many lines of the log are about those who aren't of the line's `from`, with how many they were."""
-    others = re.compile(r" a1: (?!connected|listens|session|closed|failed|sign-on).*\d")
-    count = sum(bool(others.search(line)) for line in log)
+    """A row: how many lines of the log are about those who aren't of the line's `from`."""
+    count = sum("closed: not from where the line takes them" in line for line in log)
     return show("    lines about them", 1 <= count <= 1 + seconds / 60, "", "", "", f"{count} in {seconds:.0f} s")
 
 
