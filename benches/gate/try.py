@@ -33,10 +33,11 @@ from letter import Letter, Wrong, code_blocks, letter_of
 
 ROOT = pathlib.Path(__file__).resolve().parents[2]
 JOBS = 4
-RUN_LIMIT = 600  # seconds for a program that was built, or for a test
+RUN_LIMIT = 1200  # seconds for a program that was built, or for a test
 TASK_LIMIT = 3600  # seconds for a build with its runs
 LARGE, APART = 40000, 90  # builds of so many lines begin so many seconds apart: each has its most memory for a moment
 HELD = 0.55  # the part of its most memory that a build takes for long
+LONG_RUNS = {"tests_service", "tests_keeper"}  # their runs take minutes, so they begin first
 STEP, LETTER = "README's first step", "README's letter"
 STORED, FIRST, SERVE = "1-stored", "2-first-step", "3-serve"  # the cases of a program, in this order
 
@@ -219,7 +220,7 @@ class Lanes:
     """Builds that run side by side, and what came of them."""
 
     def __init__(self, builds, jobs, room):
-        self.left = sorted(builds, key=lambda build: -build.lines)
+        self.left = sorted(builds, key=lambda build: (build.name not in LONG_RUNS, -build.lines))
         self.lanes = jobs or min(JOBS, len(os.sched_getaffinity(0)))
         self.memory = float("inf") if jobs else 0.9 * free_memory()
         self.room, self.running, self.passed, self.failed = room, [], 0, 0
