@@ -1,11 +1,14 @@
 -- What the bureau's operator orders for a customer: a command in the name of a user, or a message to a user.
 use Rattle.std.specs.Prelude.{ℕ, Bool, true, false, List, [], fold}
+use Rattle.njh_ebcdic.specs.Users.{User}
+use Rattle.njh_nmr.specs.Nodal.{notice_record}
+use Rattle.njh_line.specs.Lines.{has_message_room}
 use Rattle.njh_table.specs.Entries.{CustomerEntry, route_of}
 use Rattle.njh_table.specs.declared.Route.{Route}
 use Rattle.njh_table.specs.declared.Route.TheVariants.{Here, Line, Unknown}
 use Rattle.njh_command.specs.Commands.{CommandOutcome, message_outcome, spool_after}
 use Rattle.njh_customer.specs.Acting.{without_sending}
-use Rattle.njh_customer.specs.Customer.{Customer}
+use Rattle.njh_customer.specs.Customer.{Customer, CustomerLine, line_at}
 use Rattle.njh_customer.specs.Part.{Part}
 use Rattle.njh_customer.specs.Waiting.{with_message_to}
 use Rattle.njh_customer.specs.declared.given_order.GivenOrder.{GivenOrder}
@@ -34,6 +37,10 @@ abbrev pub replies_to : GivenOrder → Customer → List (List ℕ)
 replies_to (Command owner text) c = (message_outcome c.entry owner text c.spool).replies
 replies_to (Message whom text) c = []
 
+-- the record by which a message to a user waits on a line
+abbrev pub message_record : CustomerEntry → User → List ℕ → List ℕ
+message_record entry whom text = notice_record entry.hub whom text
+
 -- ---- which messages have a way
 
 abbrev pub leads_to_line : Route → Bool
@@ -45,3 +52,16 @@ leads_to_line Unknown = false
 abbrev pub has_way : CustomerEntry → GivenOrder → Bool
 has_way entry (Command owner text) = true
 has_way entry (Message whom text) = leads_to_line (route_of entry whom.node)
+
+-- ---- which messages have room
+
+-- The queue of the line that a route is has room. A message that goes by no line needs none.
+abbrev pub has_room_by : Route → List CustomerLine → Bool
+has_room_by Here lines = true
+has_room_by (Line l) lines = has_message_room (line_at l lines).state
+has_room_by Unknown lines = true
+
+-- a command needs none
+abbrev pub has_room : CustomerEntry → List CustomerLine → GivenOrder → Bool
+has_room entry lines (Command owner text) = true
+has_room entry lines (Message whom text) = has_room_by (route_of entry whom.node) lines

@@ -190,6 +190,13 @@ impl CustomerLine {
         self.line.message_count()
     }
 
+    /// Whether there is room for a nodal message.
+    pub(crate) fn has_message_room(&self) -> bool
+        ensures { result ≡ lines.has_message_room self.now.state }
+    {
+        self.line.has_message_room()
+    }
+
     /// Whether its state is up.
     pub(crate) fn is_up(&self) -> bool
         ensures { result ≡ laws.is_up self.now.state.session.phase }

@@ -11,13 +11,14 @@ ghost use Rattle.njh_customer.specs.Acting.{without_sending, with_senders_by};
 ghost use Rattle.njh_customer.specs.Alone.{replied_to, session_closed};
 ghost use Rattle.njh_line.specs.LineTable.{table_outcome, input_value};
 ghost use Rattle.njh_line.specs.Laws.{is_up};
-ghost use Rattle.njh_line.specs.Lines.{after_end, after_input};
+ghost use Rattle.njh_line.specs.Lines.{after_end, after_input, has_message_room};
 ghost use Rattle.njh_customer.specs.CustomerSteps.{ChangesFiles, ChangesFilesBy, IsReady, IsThere};
 ghost use Rattle.njh_customer.specs.CustomerSteps.{customer_of};
 ghost use Rattle.njh_customer.specs.Customer.{in_state, line_at, with_notice, on_line, receiver_at, with_receiver};
 ghost use Rattle.njh_customer.specs.Customer.{sender_at, with_sender};
 ghost use Rattle.njh_customer.specs.Waiting.{all_said, with_answer_on, goes, with_notice_to, with_message_to};
 ghost use Rattle.njh_customer.specs.Waiting.{with_waiting};
+ghost use Rattle.njh_customer.specs.Orders.{has_room_by};
 
 use crate::customer_line::CustomerLine;
 use crate::frame_buffer::FrameBuffer;
@@ -174,6 +175,27 @@ impl CustomerLines {
         if usize::from(line) < self.lines.len() {
             self.lines[usize::from(line)].push_message(message);
         }
+    }
+
+    /// Whether the line that a route is has room for a nodal message. One that goes by no line needs
+    /// none.
+    pub(crate) fn has_room_by(&self, route: Route) -> bool
+        ensures { result ≡ has_room_by route self.now }
+    {
+        match route {
+            Route::Line(line) => self.has_message_room(line),
+            Route::Here | Route::Unknown => true,
+        }
+    }
+
+    /// Whether a line has room for a nodal message. One that isn't there counts as having some.
+    fn has_message_room(&self, line: u16) -> bool
+        ensures { result ≡ has_message_room (line_at line self.now).state }
+    {
+        if usize::from(line) >= self.lines.len() {
+            return true;
+        }
+        self.lines[usize::from(line)].has_message_room()
     }
 
     /// A nodal message goes by a route, and is dropped if that is no line.

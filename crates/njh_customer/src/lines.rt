@@ -13,7 +13,7 @@ ghost use Rattle.njh_customer.specs.CustomerSteps.{IsReady, LeavesReadyBy, PartL
 ghost use Rattle.njh_customer.specs.CustomerSteps.{part_of};
 ghost use Rattle.njh_customer.specs.Part.{rest_at};
 ghost use Rattle.njh_customer.specs.Having.{has_next};
-ghost use Rattle.njh_customer.specs.Orders.{part_after_order, replies_to};
+ghost use Rattle.njh_customer.specs.Orders.{has_room, part_after_order, replies_to};
 
 use crate::customer_line::CustomerLine;
 use crate::customer_lines::CustomerLines;
@@ -220,6 +220,20 @@ impl Lines {
     {
         self.deframers[usize::from(id.number)].reset();
         shared.take_signal(id, signal, &mut self.lines, out);
+    }
+
+    /// Whether there is room for an order: for a message, in the queue of the line that its node
+    /// goes by. A command needs none.
+    pub fn has_room(&self, customer: u16, order: &GivenOrder, tables: &Tables) -> bool
+        requires { customer < length tables.now.customers }
+        ensures { result ≡ has_room (entry_of (customer_at tables.now customer)) self.now.lines order.now }
+    {
+        match order {
+            GivenOrder::Command(..) => true,
+            GivenOrder::Message(whom, _) => {
+                self.lines.has_room_by(tables.route(customer, whom.node))
+            }
+        }
     }
 
     /// Does what is ordered for the customer. In `replies` are then the replies to a command, in

@@ -1,5 +1,5 @@
 -- A line: its session, the last frame that it sent, NAKs aside, and what waits to be sent.
-use Rattle.std.specs.Prelude.{ℕ, ◌+◌, ◌%◌, ◌≤◌, true, false, List, [], ◌∷◌, ◌++◌, length, drop, nat_lt, cond}
+use Rattle.std.specs.Prelude.{ℕ, ◌+◌, ◌%◌, ◌≤◌, Bool, true, false, List, [], ◌∷◌, ◌++◌, length, drop, nat_lt, cond}
 use Rattle.njh_bisync.specs.Limits.{longest_frame}
 use Rattle.njh_line.specs.declared.config.Config.{Config}
 use Rattle.njh_block.specs.declared.answer.Answer.{Answer}
@@ -86,10 +86,14 @@ abbrev pub with_answer : Answer → LineState → LineState
 with_answer a line =
     record line { answers = cond (nat_lt (length line.answers) max_answers) (line.answers ++ a ∷ []) line.answers }
 
+-- there is room for a nodal message
+abbrev pub has_message_room : LineState → Bool
+has_message_room line = nat_lt (length line.messages) max_messages
+
 -- a nodal message waits, where there is room for it
 abbrev pub with_message : List ℕ → LineState → LineState
 with_message m line =
-    record line { messages = cond (nat_lt (length line.messages) max_messages) (line.messages ++ m ∷ []) line.messages }
+    record line { messages = cond (has_message_room line) (line.messages ++ m ∷ []) line.messages }
 
 abbrev pub without_answer : LineState → LineState
 without_answer line = record line { answers = drop 1 line.answers }

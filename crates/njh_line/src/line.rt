@@ -62,6 +62,7 @@ impl Line {
     ghost use Rattle.njh_line.specs.Sessions.{IsConfig, IsSession};
     ghost use Rattle.njh_line.specs.LineTable.{table_outcome, input_value};
     ghost use Rattle.njh_line.specs.Lines.{IsShort, after_end, after_input, after_sending, fresh_line, sent_value};
+    ghost use Rattle.njh_line.specs.Lines.{has_message_room};
     ghost use Rattle.njh_line.specs.Lines.{with_answer, with_message, without_answer, without_answers, without_message};
 
     /// A line that is down, with room for all that may wait and for the longest frame. Want of
@@ -178,6 +179,13 @@ impl Line {
         ensures { self.new ≡ with_message message.items self.old }
     {
         let _has_room = self.messages.try_push_back(message).is_ok();
+    }
+
+    /// Whether there is room for a nodal message: fewer than 64 wait.
+    pub fn has_message_room(&self) -> bool
+        ensures { result ≡ has_message_room self.now }
+    {
+        self.message_count() < MESSAGES
     }
 
     /// The message that waits longest.
