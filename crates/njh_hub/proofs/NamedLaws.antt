@@ -1,6 +1,6 @@
 -- What the events of a run name, and why one of them is refused.
 use Rattle.std.proofs.Common.{◌≡◌, ℕ, ◌+◌, ◌<◌, List, [], ◌∷◌, ◌++◌, length, take, set, get_or, Option, None, Some}
-use Rattle.std.proofs.Common.{refl, ap, sym, subst, ◌∙◌, ⊎_elim, arith, inl, inr, ◌⊎◌, true}
+use Rattle.std.proofs.Common.{refl, ap, sym, subst, ◌∙◌, ⊎_elim, arith, inl, inr, ◌⊎◌}
 use Rattle.std.proofs.lemmas.List.{length-set, take_more}
 use Rattle.std.proofs.lemmas.Option.{slice_get-get_or}
 use Rattle.std.proofs.lemmas.List.Elements.{All-push, All-same}
@@ -15,10 +15,10 @@ use Rattle.njh_hub.specs.declared.fault.Cause.{Cause}
 use Rattle.njh_hub.specs.declared.fault.Cause.TheVariants.{Hub, Sink}
 use Rattle.njh_hub.specs.declared.fault.HubFault.{HubFault}
 use Rattle.njh_hub.specs.declared.fault.HubFault.TheVariants.{UnknownLine, UnknownCustomer, Memory, BadRoutes, NoRoute}
+use Rattle.njh_hub.specs.declared.fault.HubFault.TheVariants.{QueueFull}
 use Rattle.njh_hub.specs.RunStops.{IfHub, IsGiven, IsRefused}
-use Rattle.njh_hub.specs.WholeHub.{Part, part, HaveWays, IfOrder, IsNamed, IsWay, SameLines}
+use Rattle.njh_hub.specs.WholeHub.{Part, part, AreTaken, IsNamed, IsTaken, IsTurnedAway, SameLines}
 use Rattle.njh_hub.specs.WholeHub.{hub_event, hub_run}
-use Rattle.njh_customer.specs.declared.given_order.GivenOrder.{GivenOrder}
 use Rattle.njh_hub.proofs.RunLaws.{each_is_alone}
 
 -- a hub keeps its customers over a run
@@ -81,6 +81,8 @@ refused-before start now on event (BadRoutes cause) refused = IsSomeAnd-weaker _
     (there, sym (on.checked given.0 there (new_routes_of given.0 given.1)) ∙ bad.1)) (routes_of event) refused
 refused-before start now on event NoRoute refused = IsSomeAnd-weaker _ _
     (λ given there. omega (arith, there, on.many)) (order_of event) refused
+refused-before start now on event QueueFull refused = IsSomeAnd-weaker _ _
+    (λ given there. omega (arith, there, on.many)) (order_of event) refused
 refused-before start now on event Memory refused = named-before start now on event refused
 
 -- an event comes on a line, or gives routes or an order
@@ -92,22 +94,12 @@ either_event (Lost id) = inl refl
 either_event (Routes c routes) = inr refl
 either_event (Order c order) = inr refl
 
--- what is said of an order under a condition, where that is so
-pub if_order_given : {A : Type 0} (event : Event) (P : ℕ → GivenOrder → Type 0)
-    → IfOrder event (λ c order. A → P c order) → A → IfOrder event P
-if_order_given (Bytes id piece) P told so = tt
-if_order_given (Tick id) P told so = tt
-if_order_given (Garbled id) P told so = tt
-if_order_given (Lost id) P told so = tt
-if_order_given (Routes c routes) P told so = tt
-if_order_given (Order c order) P told so = told so
-
--- one order more that has a way
-pub have_ways_more : (parts : List Part) (events : List Event) (event : Event) → HaveWays parts events
-    → IsWay (hub_run parts events).parts event true → HaveWays parts (events ++ event ∷ [])
-have_ways_more parts [] event have way = (way, tt)
-have_ways_more parts (e ∷ es) event have way =
-    (have.0, have_ways_more (hub_event parts e).parts es event have.1 way)
+-- one order more that isn't refused
+pub are_taken_more : (parts : List Part) (events : List Event) (event : Event) → AreTaken parts events
+    → IsTaken (hub_run parts events).parts event → AreTaken parts (events ++ event ∷ [])
+are_taken_more parts [] event are is = (is, tt)
+are_taken_more parts (e ∷ es) event are is =
+    (are.0, are_taken_more (hub_event parts e).parts es event are.1 is)
 
 -- of one event more
 pub All-more : (P : Event → Type 0) (events : List Event) (i : ℕ) (event : Event) → i < length events
@@ -152,3 +144,17 @@ refused_at start now on events i n event within found cause stopped = IfHub-weak
     (λ why told. subst (λ (o : Option Event). IsSomeAnd o (λ e. IsRefused start e why))
     (sym (found_at events i n event within found told.0))
     (refused-before start now on event why told.1)) cause stopped
+
+-- an order that is refused is so by what its customer is then
+pub turned_away_at : (start now : List Part) (events : List Event) (i n : ℕ) (event : Event)
+    → now ≡ (hub_run start (take i events)).parts → i < length events → event ≡ get_or events i event → (cause : Cause)
+    → IfHub cause (λ why. (n ≡ 0) × IsRefused now event why) → IfHub cause (IsTurnedAway now event)
+    → IfHub cause (λ why. IsSomeAnd (slice_get events (i + n))
+    (λ e. IsTurnedAway (hub_run start (take (i + n) events)).parts e why))
+turned_away_at start now events i n event led within found (Hub why) stopped away =
+    let here : i ≡ i + n = omega (arith, stopped.0) in
+    let Q : ℕ → Type 0 = λ k. IsTurnedAway (hub_run start (take k events)).parts event why in
+    subst (λ (o : Option Event). IsSomeAnd o (λ e. IsTurnedAway (hub_run start (take (i + n) events)).parts e why))
+    (sym (found_at events i n event within found stopped.0))
+    (subst Q here (subst (λ (ps : List Part). IsTurnedAway ps event why) led away))
+turned_away_at start now events i n event led within found Sink stopped away = tt

@@ -1,11 +1,16 @@
 -- What is said of all runs, over the definitions alone.
-use Rattle.std.specs.Prelude.{◌≡◌, ◌≢◌, ℕ, ◌<◌, List, ◌++◌, length}
-use Rattle.njh_table.specs.Entries.{CustomerEntry}
+use Rattle.std.specs.Prelude.{◌≡◌, ◌≢◌, ℕ, ◌<◌, List, [], ◌∷◌, ◌++◌, length, None}
+use Rattle.njh_ebcdic.specs.Users.{User}
+use Rattle.njh_table.specs.Entries.{CustomerEntry, route_of}
+use Rattle.njh_table.specs.declared.Route.TheVariants.{Line}
 use Rattle.njh_hub.specs.declared.event.Event.{Event}
+use Rattle.njh_customer.specs.Customer.{line_at}
+use Rattle.njh_customer.specs.Orders.{message_record, part_after_order}
 use Rattle.njh_customer.specs.Runs.{alone_run, event_run}
+use Rattle.njh_customer.specs.declared.given_order.GivenOrder.TheVariants.{Message}
 use Rattle.njh_hub.specs.Outcome.{alone, entry_at, outcome_of}
 use Rattle.njh_hub.specs.OwnEvents.{customer_of_event, events_of, first_events, own, sent_to}
-use Rattle.njh_hub.specs.WholeHub.{Part, part, hub_event, hub_run}
+use Rattle.njh_hub.specs.WholeHub.{Part, part, refusal_of, hub_event, hub_run}
 
 -- Events lead customer c's part of a hub, and what is sent on its lines, as its own events lead that part alone.
 pub record IsAlone (c : ℕ) (parts : List Part) (events : List Event) : Type 0 where
@@ -63,3 +68,15 @@ abbrev pub SentInOrder : Type 0
 SentInOrder =
     (parts : List Part) (events : List Event) (whole bytes : ℕ) →
     Begins (hub_run parts (first_events events whole bytes)).sent (hub_run parts events).sent
+
+-- the messages that wait on a line of a customer
+abbrev pub waiting_on : ℕ → Part → List (List ℕ)
+waiting_on l p = (line_at l p.customer.lines).state.messages
+
+-- A message that isn't refused waits behind the others on the line that its node goes by.
+abbrev pub TakenMessagesWait : Type 0
+TakenMessagesWait =
+    (p : Part) (whom : User) (text : List ℕ) (l : ℕ) → refusal_of (Message whom text) p ≡ None
+    → route_of p.customer.entry whom.node ≡ Line l → l < length p.customer.lines
+    → waiting_on l (part_after_order (Message whom text) p)
+    ≡ waiting_on l p ++ message_record p.customer.entry whom text ∷ []

@@ -1,5 +1,5 @@
 -- How far a run came, and why it stopped.
-use Rattle.std.specs.Prelude.{◌≡◌, ℕ, ◌+◌, ◌<◌, ◌≤◌, ◌⊎◌, Bool, true, false}
+use Rattle.std.specs.Prelude.{◌≡◌, ℕ, ◌+◌, ◌<◌, ◌≤◌, ◌⊎◌}
 use Rattle.std.specs.Prelude.{List, [], ◌∷◌, ◌++◌, length, Result, Ok, Err, OnOk, IfErr}
 use Rattle.std.specs.Prelude.{Vec, vec_capacity, ⊤, IsSome, IsSomeAnd}
 use Rattle.njh_bisync.specs.Limits.{longest_frame}
@@ -8,14 +8,14 @@ use Rattle.njh_table.specs.NewRoutes.{new_routes_of, routes_checked}
 use Rattle.njh_hub.specs.declared.event.Event.{Event}
 use Rattle.njh_hub.specs.declared.fault.HubFault.{HubFault}
 use Rattle.njh_hub.specs.declared.fault.HubFault.TheVariants.{UnknownLine, UnknownCustomer, Memory, BadRoutes, NoRoute}
+use Rattle.njh_hub.specs.declared.fault.HubFault.TheVariants.{QueueFull}
 use Rattle.njh_hub.specs.declared.fault.Cause.{Cause}
 use Rattle.njh_hub.specs.declared.fault.Cause.TheVariants.{Hub, Sink}
 use Rattle.njh_hub.specs.declared.fault.RunFault.{RunFault}
 use Rattle.njh_hub.specs.OwnEvents.{line_of_event, routes_of, order_of, given_to, first_events, bytes_in_event}
 use Rattle.njh_hub.specs.Sent.{IsCounted, SinkSays}
 use Rattle.njh_hub.specs.Cuts.{SendsAt}
-use Rattle.njh_hub.specs.WholeHub.{Part, part, HasLine, IfOrder, IsNamed, SameLines, hub_run}
-use Rattle.njh_customer.specs.Orders.{has_way}
+use Rattle.njh_hub.specs.WholeHub.{Part, part, HasLine, IsNamed, IsTaken, IsTurnedAway, SameLines, hub_run}
 
 -- the events that happened: all, or up to where the run stopped
 abbrev pub done : {A : Type 0} → List Event → Result A RunFault → List Event
@@ -23,13 +23,15 @@ done events (Ok x) = events
 done events (Err fault) = first_events events fault.events fault.bytes
 
 -- Why the hub refuses an event: it has no such line; it has no such customer; that customer can't have the routes; its
--- order has no way, by the routes of its moment; or there was no memory for an event that names what is there.
+-- order has no way, or no room, by what its customer is then; or there was no memory for an event that names what is
+-- there.
 abbrev pub IsRefused : List Part → Event → HubFault → Type 0
 IsRefused parts event UnknownLine = IsSomeAnd (line_of_event event) (λ line. HasLine parts line → ⊥)
 IsRefused parts event UnknownCustomer = IsSomeAnd (given_to event) (λ c. c < length parts → ⊥)
 IsRefused parts event (BadRoutes cause) = IsSomeAnd (routes_of event) (λ given. (given.0 < length parts) ×
     (routes_checked (part given.0 parts).customer.entry (new_routes_of given.0 given.1) ≡ Err cause))
 IsRefused parts event NoRoute = IsSomeAnd (order_of event) (λ given. given.0 < length parts)
+IsRefused parts event QueueFull = IsSomeAnd (order_of event) (λ given. given.0 < length parts)
 IsRefused parts event Memory = IsNamed parts event
 
 -- where the hub is the cause, and not the sink, this is so of its refusal
@@ -45,14 +47,10 @@ IsRoutes event = IsSome (routes_of event)
 abbrev pub IsGiven : Event → Type 0
 IsGiven event = IsSome (given_to event)
 
--- An order that was done had a way; where it was refused for want of one it had none.
-abbrev pub IsWayTold : {A : Type 0} → Bool → Result A RunFault → Type 0
-IsWayTold way (Ok x) = way ≡ true
-IsWayTold way (Err fault) = fault.cause ≡ Hub NoRoute → way ≡ false
-
-abbrev pub TellsWay : {A : Type 0} → List Part → Event → Result A RunFault → Type 0
-TellsWay parts event result =
-    IfOrder event (λ c order. IsWayTold (has_way (part c parts).customer.entry order) result)
+-- An order that was done wasn't refused by what its customer was; one that the hub refused was refused so.
+abbrev pub TellsOrder : {A : Type 0} → List Part → Event → Result A RunFault → Type 0
+TellsOrder parts event (Ok x) = IsTaken parts event
+TellsOrder parts event (Err fault) = IfHub fault.cause (IsTurnedAway parts event)
 
 -- A sink took all of these frames but the last, and refused that one.
 pub record RefusedLast {S : Type 0} (took : S → S → List (LineId × List ℕ) → Type 0)

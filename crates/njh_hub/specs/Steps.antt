@@ -1,14 +1,14 @@
 -- A step on one line of the hub, and what comes of it.
-use Rattle.std.specs.Prelude.{◌≡◌, ◌≢◌, ℕ, ◌+◌, ◌<◌, ◌≤◌, ◌⊎◌, true, false, List, length, slice_set}
+use Rattle.std.specs.Prelude.{◌≡◌, ◌≢◌, ℕ, ◌+◌, ◌<◌, ◌≤◌, ◌⊎◌, List, length, slice_set, Some, None}
 use Rattle.std.specs.Prelude.{Result, Err, OnOk, OnErr, Vec, vec_len}
 use Rattle.std.specs.Prelude.{vec_capacity}
 use Rattle.njh_bisync.specs.Limits.{longest_frame}
 use Rattle.njh_table.specs.declared.LineId.{LineId}
 use Rattle.njh_hub.specs.declared.fault.HubFault.{HubFault}
-use Rattle.njh_hub.specs.declared.fault.HubFault.TheVariants.{UnknownLine, UnknownCustomer, Memory, NoRoute}
-use Rattle.njh_customer.specs.Orders.{has_way, part_after_order}
+use Rattle.njh_hub.specs.declared.fault.HubFault.TheVariants.{UnknownLine, UnknownCustomer, Memory, NoRoute, QueueFull}
+use Rattle.njh_customer.specs.Orders.{part_after_order}
 use Rattle.njh_customer.specs.declared.given_order.GivenOrder.{GivenOrder}
-use Rattle.njh_hub.specs.WholeHub.{Part, part, HasLine, SameLines}
+use Rattle.njh_hub.specs.WholeHub.{Part, part, refusal_of, HasLine, SameLines}
 
 -- What is given to a customer, new routes or an order, leaves the others' parts, and each as many lines; where it is
 -- refused, all is as it was.
@@ -18,20 +18,24 @@ pub record GivenLeaves {A : Type 0} (parts : List Part) (customer : ℕ) (result
   pub lines : SameLines parts new
   pub err : OnErr result (new ≡ parts)
 
+-- An order is refused by this fault, as it is by what its customer is.
+abbrev pub IsRefusedBy : {A : Type 0} → HubFault → List Part → ℕ → GivenOrder → Result A HubFault → Type 0
+IsRefusedBy why parts customer order result =
+    (result ≡ Err why) × (customer < length parts) × (refusal_of order (part customer parts) ≡ Some why)
+
 -- An order leads its customer to what it is after it and no other anywhere; or it is refused, since there is no such
--- customer or the order has no way.
+-- customer, or as it is refused by what its customer is: a message has no way, or no room.
 pub record IsOrdered {A : Type 0} (parts : List Part) (customer : ℕ) (order : GivenOrder) (result : Result A HubFault)
     (new : List Part) : Type 0 where
   pub hub : OnOk result (new ≡ slice_set parts customer (part_after_order order (part customer parts)))
   pub stays : GivenLeaves parts customer result new
   pub known : OnOk result (customer < length parts)
-  pub way : OnOk result (has_way (part customer parts).customer.entry order ≡ true)
+  pub taken : OnOk result (refusal_of order (part customer parts) ≡ None)
   pub unknown : (customer < length parts → ⊥) → result ≡ Err UnknownCustomer
-  pub refused : customer < length parts → has_way (part customer parts).customer.entry order ≡ false
-      → result ≡ Err NoRoute
+  pub refused : customer < length parts → (why : HubFault) → refusal_of order (part customer parts) ≡ Some why
+      → result ≡ Err why
   pub causes : OnErr result (((result ≡ Err UnknownCustomer) × (customer < length parts → ⊥))
-      ⊎ ((result ≡ Err NoRoute) × (customer < length parts)
-      × (has_way (part customer parts).customer.entry order ≡ false)))
+      ⊎ (IsRefusedBy NoRoute parts customer order result ⊎ IsRefusedBy QueueFull parts customer order result))
 
 -- A step on a line leads that line's customer to `after` and no other anywhere, and puts what it sent in the place of
 -- what `out` held; or it is refused, and nothing has changed.

@@ -1,12 +1,15 @@
 -- The hub as the list of its customers' parts: an event of one moves that one as if it were alone, and no other.
-use Rattle.std.specs.Prelude.{◌≡◌, ℕ, ◌<◌, Bool, true, List, [], ◌∷◌, ◌++◌, length, slice_index_or, slice_set, Ok, ⊤}
+use Rattle.std.specs.Prelude.{◌≡◌, ℕ, ◌<◌, Bool, true, false, List, [], ◌∷◌, ◌++◌, length, slice_index_or, slice_set}
+use Rattle.std.specs.Prelude.{Ok, ⊤, Option, Some, None}
 use Rattle.njh_table.specs.declared.LineId.{LineId}
 use Rattle.njh_table.specs.Entries.{CustomerEntry}
 use Rattle.njh_table.specs.NewRoutes.{new_routes_of, routes_checked}
 pub use Rattle.njh_customer.specs.Part.{Part, part_at_open}
-use Rattle.njh_customer.specs.Orders.{has_way}
+use Rattle.njh_customer.specs.Orders.{has_room, has_way}
 use Rattle.njh_customer.specs.Runs.{OwnEvent, event_run}
 use Rattle.njh_customer.specs.declared.given_order.GivenOrder.{GivenOrder}
+use Rattle.njh_hub.specs.declared.fault.HubFault.{HubFault}
+use Rattle.njh_hub.specs.declared.fault.HubFault.TheVariants.{NoRoute, QueueFull}
 use Rattle.njh_hub.specs.OwnEvents.{customer_of_event, own}
 use Rattle.njh_hub.specs.declared.event.Event.{Event}
 use Rattle.njh_hub.specs.declared.event.Event.TheVariants.{Bytes, Tick, Garbled, Lost, Routes, Order}
@@ -65,7 +68,20 @@ hub_run parts (event ∷ events) =
     let later = hub_run x.parts events in
     record { parts = later.parts; sent = x.sent ++ later.sent }
 
--- ---- the way of an order
+-- ---- which orders are refused
+
+-- by whether there is a way, and room
+abbrev pub refusal_by : Bool → Bool → Option HubFault
+refusal_by false room = Some NoRoute
+refusal_by true false = Some QueueFull
+refusal_by true true = None
+
+-- Why an order is refused, if it is, by what its customer is: a message goes by no line, or the queue of the line that
+-- it goes by is full.
+abbrev pub refusal_of : GivenOrder → Part → Option HubFault
+refusal_of order p =
+    let c = p.customer in
+    refusal_by (has_way c.entry order) (has_room c.entry c.lines order)
 
 -- what is said of an order, where the event is one
 abbrev pub IfOrder : Event → (ℕ → GivenOrder → Type 0) → Type 0
@@ -76,11 +92,16 @@ IfOrder (Lost id) P = ⊤
 IfOrder (Routes c routes) P = ⊤
 IfOrder (Order c order) P = P c order
 
--- an order has a way, or hasn't, by the routes that its customer has
-abbrev pub IsWay : List Part → Event → Bool → Type 0
-IsWay parts event way = IfOrder event (λ c order. has_way (part c parts).customer.entry order ≡ way)
+-- an order isn't refused, by what its customer is
+abbrev pub IsTaken : List Part → Event → Type 0
+IsTaken parts event = IfOrder event (λ c order. refusal_of order (part c parts) ≡ None)
 
--- each has one when it comes
-abbrev pub HaveWays : List Part → List Event → Type 0
-HaveWays parts [] = ⊤
-HaveWays parts (event ∷ events) = IsWay parts event true × HaveWays (hub_event parts event).parts events
+-- each isn't when it comes
+abbrev pub AreTaken : List Part → List Event → Type 0
+AreTaken parts [] = ⊤
+AreTaken parts (event ∷ events) = IsTaken parts event × AreTaken (hub_event parts event).parts events
+
+-- an order of a customer that is there is refused by this fault
+abbrev pub IsTurnedAway : List Part → Event → HubFault → Type 0
+IsTurnedAway parts event why =
+    IfOrder event (λ c order. c < length parts → refusal_of order (part c parts) ≡ Some why)

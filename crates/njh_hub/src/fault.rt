@@ -21,6 +21,9 @@ pub enum HubFault {
     /// No line leads to the node that a message is for.
     #[error("U6 NoRoute")]
     NoRoute,
+    /// The queue of the line by which a message goes is full.
+    #[error("U7 QueueFull")]
+    QueueFull,
     /// The customer can't have these routes.
     #[error("U5 BadRoutes: {cause}")]
     BadRoutes {

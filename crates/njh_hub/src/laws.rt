@@ -1,7 +1,7 @@
 //! Laws of the definitions: what holds of all runs, whoever computes them.
 
 ghost use Rattle.njh_hub.specs.Laws.{EachIsAlone, TwoListsAreLike, CustomersNeverMeet, OthersStay, OwnStepIsOwn};
-ghost use Rattle.njh_hub.specs.Laws.{SentInOrder};
+ghost use Rattle.njh_hub.specs.Laws.{SentInOrder, TakenMessagesWait};
 
 /// Whatever events come, each customer's part of the hub and the frames on its lines are those of
 /// that customer alone over its own events.
@@ -38,4 +38,9 @@ pub fn own_step_is_own()
 /// all.
 pub fn sent_in_order()
     ensures { SentInOrder }
+{}
+
+/// A message that isn't refused waits behind the others on the line that its node goes by.
+pub fn taken_messages_wait()
+    ensures { TakenMessagesWait }
 {}

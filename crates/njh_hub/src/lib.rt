@@ -23,7 +23,7 @@ pub use headline::{Trial, outcome, two_runs};
 pub use hub::Hub;
 pub use laws::{
     customers_never_meet, each_is_alone, others_stay, own_step_is_own, sent_in_order,
-    two_lists_are_like,
+    taken_messages_wait, two_lists_are_like,
 };
 pub use njh_customer::{GivenOrder, LastCommand, OrderText, Signal, cuts_are_like};
 pub use njh_spool::RestoreFault;

@@ -1,14 +1,14 @@
 //! Runs over lists of events.
 
 ghost use Rattle.std.specs.Prelude.{◌≡◌, ℕ, ◌+◌, ◌<◌, ◌≤◌, List, [], ◌∷◌, ◌⊎◌, length, slice_get, take, OnOk, OnErr};
-ghost use Rattle.std.specs.Prelude.{IfErr, IsSomeAnd, All, false};
+ghost use Rattle.std.specs.Prelude.{IfErr, IsSomeAnd, All};
 ghost use Rattle.njh_customer.specs.Feeding.{sent_on};
 ghost use Rattle.njh_customer.specs.Runs.{alone_run};
 ghost use Rattle.njh_hub.specs.OwnEvents.{events_of, event_by, sent_to, bytes_in_event};
 ghost use Rattle.njh_hub.specs.Sent.{IsCounted, sink_says};
 ghost use Rattle.njh_hub.specs.RunStops.{done, moment, Handed, IfHub, IsBehindFrame, IsEventRun, IsGiven, IsRefused};
-ghost use Rattle.njh_hub.specs.RunStops.{IsRoutes, TellsWay};
-ghost use Rattle.njh_hub.specs.WholeHub.{part, HaveWays, IsNamed, IsWay, SameLines, sent_by, hub_run};
+ghost use Rattle.njh_hub.specs.RunStops.{IsRoutes, TellsOrder};
+ghost use Rattle.njh_hub.specs.WholeHub.{part, AreTaken, IsNamed, IsTurnedAway, SameLines, sent_by, hub_run};
 ghost use Rattle.njh_hub.specs.declared.event.Event.TheVariants.{Bytes};
 
 use crate::event::Event;
@@ -56,12 +56,12 @@ impl Hub {
             IsSomeAnd (slice_get events.now fault.events) (λ event. IsRefused self.old event why))) }
         ensures memory { IfErr result (λ fault. fault.cause ≡ Cause.Hub HubFault.Memory → (fault.bytes ≡ 0) ×
             (IsSomeAnd (slice_get events.now fault.events) IsRoutes ⊎ All IsGiven (take fault.events events.now))) }
-        // Each order that was done had a way when it came, and one that was refused for want of a
-        // way had none.
-        ensures ways { OnOk result (HaveWays self.old events.now) }
-        ensures no_way { IfErr result (λ fault. fault.cause ≡ Cause.Hub HubFault.NoRoute →
+        // Each order that was done had a way and room when it came, and one that was refused for
+        // want of either had none.
+        ensures orders { OnOk result (AreTaken self.old events.now) }
+        ensures turned_away { IfErr result (λ fault. IfHub fault.cause (λ why.
             IsSomeAnd (slice_get events.now fault.events) (λ event.
-            IsWay (hub_run self.old (take fault.events events.now)).parts event false)) }
+            IsTurnedAway (hub_run self.old (take fault.events events.now)).parts event why))) }
         // Where the hub refused an event, none of its bytes are done; where the sink refused a
         // frame, the stop is right behind the byte, or the signal, that sent it.
         ensures begun { IfErr result (λ fault. IfHub fault.cause (λ why. fault.bytes ≡ 0)) }
@@ -90,7 +90,7 @@ impl Hub {
     ) -> Result<(), RunFault>
         ensures run { IsEventRun (sink_says S.took S.refused S.count) (moment self.old out.old sink.old) event.now
             result (moment self.new out.new sink.new) }
-        ensures way { TellsWay self.old event.now result }
+        ensures order { TellsOrder self.old event.now result }
     {
         match event {
             Event::Bytes(line, piece) => self.run_bytes(*line, piece.bytes(), out, sink),

@@ -1,7 +1,8 @@
 //! Orders that a hub refuses, and some that it takes, by the call.
 
 use crate::looks::characters;
-use crate::trial::of_hub;
+use crate::steps::{CONTACT, SIGN_ON};
+use crate::trial::{A1, bytes_of, of_hub};
 use njh_command::Replies;
 use njh_ebcdic::Name;
 use njh_header::User;
@@ -69,4 +70,57 @@ pub(crate) fn give_each<R: Print + AllocGlobal>(rt: &R, hub: &mut Hub) -> io::Re
         give(rt, hub, customer, &order)?;
     }
     Ok(())
+}
+
+/// How many messages wait on ACME's line to LYON, and what an order that goes by it is answered.
+fn tell<R: Print + AllocGlobal>(rt: &R, hub: &mut Hub, order: &GivenOrder) -> io::Result<()> {
+    match hub.message_count(A1) {
+        Ok(count) => println!(rt; "queue: {count} messages")?,
+        Err(fault) => println!(rt; "queue: {fault}")?,
+    }
+    give(rt, hub, 0, order)
+}
+
+/// Gives an order so many times, and says how many of them are taken.
+fn give_times<R: Print>(rt: &R, hub: &mut Hub, order: &GivenOrder, times: u64) -> io::Result<()> {
+    let mut replies = Replies::new();
+    let mut taken = 0u64;
+    for _ in 0..times {
+        if hub.order(0, order, &mut replies).is_ok() {
+            taken = taken.saturating_add(1);
+        }
+    }
+    println!(rt; "queue: {taken} of {times} taken")
+}
+
+/// LYON comes, and is sent the first block of the messages that wait.
+fn send_block(alloc: Global, hub: &mut Hub) -> io::Result<()> {
+    for digits in [CONTACT, SIGN_ON, "1070"] {
+        let piece = bytes_of(alloc, digits)?;
+        let mut out = Vec::new(alloc);
+        if let Err(fault) = hub.take(A1, &piece, &mut out) {
+            return Err(of_hub(fault));
+        }
+    }
+    Ok(())
+}
+
+/// 63 messages for LYON and one more wait, and all that follow are refused. A command needs no
+/// room, nor does a message that goes by the other line. Once some went out there is room.
+pub(crate) fn fill<R: Print + AllocGlobal>(rt: &R, hub: &mut Hub) -> io::Result<()> {
+    let anna = user_at("LYON", "ANNA")?;
+    let paul = user_at("METZ", "PAUL")?;
+    let message = order_of(rt.alloc(), OrderKind::Message, anna, "HELLO")?;
+    let command = order_of(rt.alloc(), OrderKind::Command, anna, "LIST")?;
+    let other = order_of(rt.alloc(), OrderKind::Message, paul, "HELLO")?;
+    give_times(rt, hub, &message, 63)?;
+    tell(rt, hub, &message)?;
+    tell(rt, hub, &message)?;
+    tell(rt, hub, &command)?;
+    tell(rt, hub, &other)?;
+    give_times(rt, hub, &message, 6)?;
+    send_block(rt.alloc(), hub)?;
+    tell(rt, hub, &message)?;
+    give_times(rt, hub, &message, 64)?;
+    tell(rt, hub, &message)
 }

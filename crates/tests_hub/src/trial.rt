@@ -40,6 +40,7 @@ enum Trial {
     Refusal,
     Routes,
     Orders,
+    Queue,
     Sink,
 }
 
@@ -53,6 +54,7 @@ pub(crate) fn try_each<R: Print + AllocGlobal>(rt: &R, tables: &str) -> io::Resu
         Trial::Refusal,
         Trial::Routes,
         Trial::Orders,
+        Trial::Queue,
         Trial::Sink,
     ] {
         let mut hub = open(rt.alloc(), tables)?;
@@ -72,6 +74,7 @@ fn try_on<R: Print + AllocGlobal>(rt: &R, hub: &mut Hub, trial: Trial) -> io::Re
         Trial::Refusal => looks::refuse(rt, hub),
         Trial::Routes => new_routes::refuse(rt, hub),
         Trial::Orders => orders::give_each(rt, hub),
+        Trial::Queue => orders::fill(rt, hub),
         Trial::Sink => steps::refuse(rt, hub),
     }
 }

@@ -1,9 +1,9 @@
 //! An order for a customer while the hub runs.
 
-ghost use Rattle.std.specs.Prelude.{◌≡◌, OnOk, OnErr};
+ghost use Rattle.std.specs.Prelude.{◌≡◌, ◌<◌, length, OnOk, OnErr};
 ghost use Rattle.njh_customer.specs.Orders.{replies_to};
 ghost use Rattle.njh_hub.specs.Steps.{IsOrdered};
-ghost use Rattle.njh_hub.specs.WholeHub.{part};
+ghost use Rattle.njh_hub.specs.WholeHub.{part, refusal_of};
 
 use crate::fault::HubFault;
 use crate::hub::Hub;
@@ -16,7 +16,8 @@ impl Hub {
     /// No frame goes out, no memory is taken, and nothing else changes.
     ///
     /// `UnknownCustomer` comes where the hub has no such customer; then `NoRoute` for a message to
-    /// a node that goes by no line. After each nothing has changed.
+    /// a node that goes by no line, and `QueueFull` if 64 messages wait on the line that it goes by.
+    /// After each nothing has changed.
     pub fn order(
         &mut self,
         customer: u16,
@@ -30,8 +31,8 @@ impl Hub {
         if usize::from(customer) >= self.lines.len() {
             return Err(HubFault::UnknownCustomer);
         }
-        if !order.has_way(customer, &self.shared.tables) {
-            return Err(HubFault::NoRoute);
+        if let Some(fault) = self.refusal_of(customer, order) {
+            return Err(fault);
         }
         let lines = &mut self.lines[usize::from(customer)];
         lines.order(
@@ -50,5 +51,20 @@ impl Hub {
     {
         let mut replies = Replies::new();
         self.order(customer, order, &mut replies)
+    }
+
+    /// Why an order for a customer that is there is refused, if it is.
+    fn refusal_of(&self, customer: u16, order: &GivenOrder) -> Option<HubFault>
+        requires { customer < length self.now }
+        ensures { result ≡ refusal_of order.now (part customer self.now) }
+    {
+        if !order.has_way(customer, &self.shared.tables) {
+            return Some(HubFault::NoRoute);
+        }
+        let lines = &self.lines[usize::from(customer)];
+        if !lines.has_room(customer, order, &self.shared.tables) {
+            return Some(HubFault::QueueFull);
+        }
+        None
     }
 }

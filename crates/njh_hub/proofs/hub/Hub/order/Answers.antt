@@ -1,17 +1,16 @@
-use Rattle.std.proofs.Common.{◌≡◌, ◌<◌, ◌∙◌, ℕ, List, length, slice_set, ap, refl, subst, sym, rules, arith, true, false}
-use Rattle.std.proofs.Common.{inl, inr}
+use Rattle.std.proofs.Common.{◌≡◌, ◌<◌, ◌∙◌, ℕ, List, length, slice_set, ap, refl, subst, sym, rules, arith, inl}
+use Rattle.std.proofs.Common.{None}
 use Rattle.std.proofs.lemmas.List.{get_or_read}
 use Rattle.njh_spool.specs.Spools as spools
 use Rattle.njh_table.specs.TableFile.{customer_at, entry_of}
-use Rattle.njh_table.specs.Entries.{CustomerEntry}
-use Rattle.njh_customer.specs.Orders.{has_way, part_after_order, replies_to}
+use Rattle.njh_customer.specs.Orders.{part_after_order, replies_to}
 use Rattle.njh_customer.specs.Part.{Lines, part_with}
 use Rattle.njh_hub.specs.Parts.{lines_at, no_lines, parts_of}
 use Rattle.njh_hub.specs.code.HubInvariant.{IsHub}
-use Rattle.njh_hub.specs.WholeHub.{Part, part}
-use Rattle.njh_hub.proofs.PartsLaws.{customer-known, entry-there, hub-moved, length-parts_of, lines-stay, others-stay}
+use Rattle.njh_hub.specs.WholeHub.{Part, part, refusal_of}
+use Rattle.njh_hub.proofs.PartsLaws.{customer-known, hub-moved, length-parts_of, lines-stay, others-stay}
 use Rattle.njh_hub.proofs.PartsLaws.{part-there}
-use Rattle.njh_hub.proofs.GivenOrderLaws.{Ordered, lines-ordered, ordered, parts-ordered}
+use Rattle.njh_hub.proofs.GivenOrderLaws.{Ordered, lines-ordered, ordered, parts-ordered, refused_so}
 use Rattle.njh_hub.proofs.hub.Hub.order.Goals.{After-self-1}
 use Rattle.njh_hub.proofs.hub.Hub.order.Goals as goal
 
@@ -67,13 +66,8 @@ leads c =
     ∙ ap (λ (ps : List Part). slice_set ps c.args.customer
     (part_after_order c.args.order.now (part c.args.customer ps))) c.self.view_is
 
-has : (c : After-self-1) → has_way (part c.args.customer c.args.self.now).customer.entry c.args.order.now ≡ true
-has c =
-    let s = c.self.inside in
-    subst (λ (e : CustomerEntry). has_way e c.args.order.now ≡ true)
-    (sym (entry-there s.shared.tables s.shared.spool s.lines.items c.args.self.now c.args.customer c.self.view_is
-    (there c)))
-    (search rules)
+accepted : (c : After-self-1) → refusal_of c.args.order.now (part c.args.customer c.args.self.now) ≡ None
+accepted c = sym c.refusal_of.ensures ∙ search rules
 
 pub invariant_of-self : goal.invariant_of-self
 invariant_of-self c =
@@ -92,9 +86,9 @@ returns-clause-step c = record {
     err = search rules;
   };
   known = known c;
-  way = has c;
+  taken = accepted c;
   unknown = λ nowhere. absurd (nowhere (known c));
-  refused = λ here none. absurd (cc (sym (has c) ∙ none));
+  refused = λ here why is. absurd (cc (sym (accepted c) ∙ is));
   causes = search rules;
 }
 
@@ -122,31 +116,24 @@ returns-then-from-len-clause-step c =
       hub = search rules;
       stays = search rules;
       known = search rules;
-      way = search rules;
+      taken = search rules;
       unknown = λ _. refl;
-      refused = λ here none. absurd (nowhere here);
+      refused = λ here why is. absurd (nowhere here);
       causes = inl (refl, nowhere);
     }
 
--- ---- where the order has no way
+-- ---- where the order is refused
 
-pub returns-then-not-has_way-clause-step : goal.returns-then-not-has_way-clause-step
-returns-then-not-has_way-clause-step c =
+pub refusal_of-requires : goal.refusal_of-requires
+refusal_of-requires c =
     let s = c.self.inside in
-    let n = c.args.customer in
-    let is : n < length s.shared.tables.customers = omega (arith, s.lines.ok.0, c.self.invariant.lined) in
-    let here : n < length c.args.self.now =
-    customer-known s.shared.tables s.shared.spool s.lines.items c.args.self.now n c.self.view_is is in
-    let none : has_way (part n c.args.self.now).customer.entry c.args.order.now ≡ false =
-    subst (λ (e : CustomerEntry). has_way e c.args.order.now ≡ false)
-    (sym (entry-there s.shared.tables s.shared.spool s.lines.items c.args.self.now n c.self.view_is is))
-    (search rules) in
-    record {
-      hub = search rules;
-      stays = search rules;
-      known = search rules;
-      way = search rules;
-      unknown = λ nowhere. absurd (nowhere here);
-      refused = λ _ _. refl;
-      causes = inr (refl, here, none);
-    }
+    let is : c.args.customer < length s.shared.tables.customers = omega (arith, s.lines.ok.0, c.self.invariant.lined) in
+    customer-known s.shared.tables s.shared.spool s.lines.items c.args.self.now c.args.customer c.self.view_is is
+
+pub returns-in-Some-clause-step : goal.returns-in-Some-clause-step
+returns-in-Some-clause-step c =
+    let s = c.self.inside in
+    let is : c.args.customer < length s.shared.tables.customers = omega (arith, s.lines.ok.0, c.self.invariant.lined) in
+    refused_so c.args.self.now c.args.customer c.args.order.now c.in-Some.fault
+    (customer-known s.shared.tables s.shared.spool s.lines.items c.args.self.now c.args.customer c.self.view_is is)
+    (cc (c.refusal_of.ensures, c.in-Some.is))

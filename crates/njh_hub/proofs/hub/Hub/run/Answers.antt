@@ -1,5 +1,5 @@
 use Rattle.std.proofs.Common.{◌≡◌, ℕ, ◌+◌, ◌<◌, List, [], ◌∷◌, ◌++◌, length, take, Option, Some, ap, sym, subst, ◌∙◌}
-use Rattle.std.proofs.Common.{arith, ◌≤◌, ⊎_elim, inl, inr, true, false}
+use Rattle.std.proofs.Common.{arith, ◌≤◌, ⊎_elim, inl, inr}
 use Rattle.std.specs.Prelude.{IsSomeAnd, slice_get, All, IsSome}
 use Rattle.std.specs.Vec.{vec_capacity}
 use Rattle.njh_bisync.specs.Limits.{longest_frame}
@@ -7,17 +7,13 @@ use Rattle.std.proofs.lemmas.List.{take_all, take_more, length-append}
 use Rattle.njh_customer.specs.Runs.{alone_run}
 use Rattle.njh_hub.specs.declared.event.Event.{Event}
 use Rattle.njh_hub.specs.declared.fault.RunFault.{RunFault}
-use Rattle.njh_hub.specs.declared.fault.Cause.{Cause}
-use Rattle.njh_hub.specs.declared.fault.Cause.TheVariants.{Hub}
-use Rattle.njh_hub.specs.declared.fault.HubFault.TheVariants.{NoRoute}
 use Rattle.njh_hub.specs.OwnEvents.{line_of_event, events_of, bytes_in_event, first_events}
 use Rattle.njh_hub.specs.RunStops.{HandedUntil, IfHub, IsGiven, IsRefused, IsRoutes}
-use Rattle.njh_hub.specs.WholeHub.{Part, part, HaveWays, HubRun, IsNamed, IsWay, hub_run}
+use Rattle.njh_hub.specs.WholeHub.{Part, part, AreTaken, HubRun, IsNamed, IsTaken, IsTurnedAway, hub_run}
 use Rattle.njh_hub.proofs.RunLaws.{each_is_alone}
 use Rattle.njh_hub.proofs.RunningLaws.{stopped_in, went_on, HandedUntil-after, HandedUntil-some}
 use Rattle.njh_hub.proofs.NamedLaws.{All-more, LedOn, behind-known, either_event, found_at, hub_run-length, led_on}
-use Rattle.njh_hub.proofs.NamedLaws.{have_ways_more, if_order_given, named-before, refused_at}
-use Rattle.njh_customer.specs.Orders.{has_way}
+use Rattle.njh_hub.proofs.NamedLaws.{are_taken_more, named-before, refused_at, turned_away_at}
 use Rattle.njh_hub.proofs.StopLaws.{stop_later}
 use Rattle.njh_hub.proofs.hub.Hub.run.Goals as goal
 
@@ -161,28 +157,19 @@ returns-in-Err-clause-memory g c = λ memory.
           c.loop-index.invariant.room) told.2,
     )
 
-pub returns-in-Err-clause-no_way : goal.returns-in-Err-clause-no_way
-returns-in-Err-clause-no_way g c = λ none.
+pub returns-in-Err-clause-turned_away : goal.returns-in-Err-clause-turned_away
+returns-in-Err-clause-turned_away g c =
     let start = c.args.self.now in
     let events = c.args.events.now in
     let k = c.loop-index.index in
     let fault = c.in-Err.fault in
     let event = c.index-events-index.result in
     let within : k < length events = omega arith in
-    let cause : fault.cause ≡ Hub NoRoute = sym (ap (λ (f : RunFault). f.cause) c.after.ensures) ∙ none in
-    let C : Cause → Type 0 = λ cause. IfHub cause
-    (λ why. (fault.events ≡ 0) × IsRefused c.loop-index.self event why) in
-    let told = subst C cause c.in-Err.ensures.run.causes in
-    let at : slice_get events c.after.result.events ≡ Some event =
-    ap (λ (f : RunFault). slice_get events f.events) c.after.ensures
-    ∙ found_at events k fault.events event within c.index-events-index.is told.0 in
-    let here : k ≡ c.after.result.events = omega (arith, ap (λ (f : RunFault). f.events) c.after.ensures, told.0) in
-    let P : Option Event → Type 0 = λ o. IsSomeAnd o
-    (λ e. IsWay (hub_run start (take c.after.result.events events)).parts e false) in
-    let Q : ℕ → Type 0 = λ n. IsWay (hub_run start (take n events)).parts event false in
-    let way : IsWay c.loop-index.self event false = if_order_given event
-    (λ n order. has_way (part n c.loop-index.self).customer.entry order ≡ false) c.in-Err.ensures.way cause in
-    subst P (sym at) (subst Q here (subst (λ (ps : List Part). IsWay ps event false) c.loop-index.invariant.parts way))
+    let P : RunFault → Type 0 = λ f. IfHub f.cause (λ why. IsSomeAnd (slice_get events f.events)
+    (λ e. IsTurnedAway (hub_run start (take f.events events)).parts e why)) in
+    subst P (sym c.after.ensures) (turned_away_at start c.loop-index.self events k fault.events event
+    c.loop-index.invariant.parts within c.index-events-index.is fault.cause c.in-Err.ensures.run.causes
+    c.in-Err.ensures.order)
 
 pub returns-in-Err-clause-begun : goal.returns-in-Err-clause-begun
 returns-in-Err-clause-begun g c =
@@ -226,11 +213,11 @@ loop-index-preserved g c =
           c.loop-index.invariant.room)
           (either_event event);
       counts = omega (arith, c.in-Ok.ensures.run.counts);
-      ways = subst (HaveWays start)
+      orders = subst (AreTaken start)
           (sym (take_more events k event within
           ∙ ap (λ (x : Event). take k events ++ x ∷ []) (sym c.index-events-index.is)))
-          (have_ways_more start (take k events) event c.loop-index.invariant.ways
-          (subst (λ (ps : List Part). IsWay ps event true) c.loop-index.invariant.parts c.in-Ok.ensures.way));
+          (are_taken_more start (take k events) event c.loop-index.invariant.orders
+          (subst (λ (ps : List Part). IsTaken ps event) c.loop-index.invariant.parts c.in-Ok.ensures.order));
     }
 
 pub returns-clause-parts : goal.returns-clause-parts
@@ -265,6 +252,6 @@ returns-clause-sent g c =
           (each_is_alone d start events there).sent,
     )
 
-pub returns-clause-ways : goal.returns-clause-ways
-returns-clause-ways g c =
-    subst (HaveWays c.args.self.now) (take_all _ c.args.events.now (omega arith)) c.loop-index.invariant.ways
+pub returns-clause-orders : goal.returns-clause-orders
+returns-clause-orders g c =
+    subst (AreTaken c.args.self.now) (take_all _ c.args.events.now (omega arith)) c.loop-index.invariant.orders

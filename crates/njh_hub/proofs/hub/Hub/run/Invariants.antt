@@ -3,7 +3,7 @@ use Rattle.std.specs.Prelude.{All}
 use Rattle.std.specs.Vec.{vec_capacity}
 use Rattle.njh_bisync.specs.Limits.{longest_frame}
 use Rattle.njh_hub.specs.RunStops.{IsGiven}
-use Rattle.njh_hub.specs.WholeHub.{HaveWays, IsNamed, SameLines, hub_run}
+use Rattle.njh_hub.specs.WholeHub.{AreTaken, IsNamed, SameLines, hub_run}
 use Rattle.njh_hub.proofs.hub.Hub.run.Given as goal
 
 -- so many events have happened
@@ -14,6 +14,6 @@ invariant-loop-index g l = record {
   known : All (IsNamed l.fn.self) (take l.index l.events);
   same : SameLines l.fn.self l.self;
   room : All IsGiven (take l.index l.events) ⊎ (longest_frame ≤ vec_capacity l.out);
-  ways : HaveWays l.fn.self (take l.index l.events);
+  orders : AreTaken l.fn.self (take l.index l.events);
   counts : g.S.Sink.count l.fn.sink ≤ g.S.Sink.count l.sink;
 }
