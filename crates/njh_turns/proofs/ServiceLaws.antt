@@ -1,6 +1,6 @@
 -- A service that goes on: wires at rest, what a customer is given, one round more.
 use Rattle.std.proofs.Common.{◌≡◌, ℕ, ◌<◌, ◌≤◌, List, [], ◌∷◌, ◌++◌, length, set, get_or, refl, Option, Some, None}
-use Rattle.std.proofs.Common.{true, Ok, ap, sym, subst, ◌∙◌, ◌⊎◌, ⊎_elim, inl, arith, append_assoc, append-nil}
+use Rattle.std.proofs.Common.{Ok, ap, sym, subst, ◌∙◌, ◌⊎◌, ⊎_elim, inl, arith, append_assoc, append-nil}
 use Rattle.std.specs.Prelude.{All, IsSome}
 use Rattle.std.proofs.lemmas.Grind.{flat_map-append}
 use Rattle.std.proofs.lemmas.List.Elements.{All-push}
@@ -8,7 +8,7 @@ use Rattle.njh_table.specs.declared.LineId.{LineId}
 use Rattle.njh_table.specs.declared.new_routes.GivenRoute.{GivenRoute}
 use Rattle.njh_table.specs.NewRoutes.{new_routes_of, routes_checked, entries_of_routes}
 use Rattle.njh_customer.specs.NewRoutes.{part_after_routes}
-use Rattle.njh_customer.specs.Orders.{has_way, part_after_order}
+use Rattle.njh_customer.specs.Orders.{part_after_order}
 use Rattle.njh_customer.specs.declared.given_order.GivenOrder.{GivenOrder}
 use Rattle.njh_spool.specs.Restoring.{KeptFile}
 use Rattle.njh_hub.specs.declared.event.Event.{Event}
@@ -19,7 +19,7 @@ use Rattle.njh_turns.specs.Service.{Happening, Round, Given, happening_events, h
 use Rattle.njh_turns.specs.Service.{happening_turns, IsPossible, ArePossible, IsBrought, service_events, service_quiets}
 use Rattle.njh_turns.specs.Service.{service_rounds, service_turns, AreStill, IsAttended, WasGiven}
 use Rattle.std.specs.List.{flat_map}
-use Rattle.njh_hub.specs.WholeHub.{Part, HubRun, part, hub_run}
+use Rattle.njh_hub.specs.WholeHub.{Part, HubRun, part, refusal_of, hub_run}
 use Rattle.njh_hub.proofs.RunningLaws.{hub_run-append, routes_done}
 use Rattle.njh_turns.specs.Turns.{Turn, Placed, HubMoment, HadTurn, HadTurns, IsRound, moment, turn_at, placed_acts}
 use Rattle.njh_turns.specs.Turns.{quiets_after}
@@ -276,15 +276,15 @@ pub by_routes : (parts new : List Part) (c : ℕ) (routes : List GivenRoute) →
     c < length parts → routes_checked (part c parts).customer.entry (new_routes_of c routes) ≡ Ok tt →
     WasGiven parts (Some (Routes c routes)) new
 by_routes parts new c routes hub known checked = (
-  record { given = refl; named = (known, checked); way = tt },
+  record { given = refl; named = (known, checked); taken = tt },
   hub ∙ sym (ap (λ (h : HubRun). h.parts) (routes_done parts c routes checked)),
 )
 
 -- an order
 pub by_order : (parts new : List Part) (c : ℕ) (order : GivenOrder) →
     new ≡ set parts c (part_after_order order (part c parts)) → c < length parts →
-    has_way (part c parts).customer.entry order ≡ true → WasGiven parts (Some (Order c order)) new
-by_order parts new c order hub known way = (record { given = refl; named = known; way = way }, hub)
+    refusal_of order (part c parts) ≡ None → WasGiven parts (Some (Order c order)) new
+by_order parts new c order hub known taken = (record { given = refl; named = known; taken = taken }, hub)
 
 -- where it is kept, or isn't
 pub was_given : {parts new : List Part} {event : Event} → WasGiven parts (Some event) new

@@ -1,5 +1,5 @@
 -- A service: rounds of turns, and between them what customers are given: new routes, or an order.
-use Rattle.std.specs.Prelude.{◌≡◌, ◌⊎◌, ℕ, ◌<◌, ◌≤◌, ◌==◌, true, cond, List, [], ◌∷◌, ◌++◌, length, Option, Some, None}
+use Rattle.std.specs.Prelude.{◌≡◌, ◌⊎◌, ℕ, ◌<◌, ◌≤◌, ◌==◌, cond, List, [], ◌∷◌, ◌++◌, length, Option, Some, None}
 use Rattle.std.specs.Prelude.{⊤, Result, OnOk, OnErr, slice_index_or, All}
 use Rattle.std.specs.List.{flat_map}
 use Rattle.njh_table.specs.declared.LineId.{LineId}
@@ -11,7 +11,7 @@ use Rattle.njh_hub.specs.declared.fault.HubFault.{HubFault}
 use Rattle.njh_hub.specs.OwnEvents.{customer_of_event, events_of}
 use Rattle.njh_hub.specs.RunStops.{IsGiven}
 use Rattle.njh_hub.specs.Steps.{IsOrdered}
-use Rattle.njh_hub.specs.WholeHub.{Part, part, IsNamed, IsWay, hub_run}
+use Rattle.njh_hub.specs.WholeHub.{Part, part, IsNamed, IsTaken, hub_run}
 use Rattle.njh_turns.specs.declared.attendant.NewOrder.{NewOrder}
 use Rattle.njh_turns.specs.declared.attendant.NewRoutes.{NewRoutes}
 use Rattle.njh_turns.specs.Turns.{Turn, Placed, HubMoment, HadTurns, turn_at, quiets_after, round_events}
@@ -66,11 +66,11 @@ happening_rounds (Round turns) = turns ∷ []
 happening_rounds (Given event) = []
 
 -- An event of new routes or of an order, that can be given: the hub has the customer, which may have the routes, and
--- the order has a way.
+-- the order has a way and room.
 pub record CanBeGiven (parts : List Part) (event : Event) : Type 0 where
   pub given : IsGiven event
   pub named : IsNamed parts event
-  pub way : IsWay parts event true
+  pub taken : IsTaken parts event
 
 abbrev pub IsPossible : List Part → Happening → Type 0
 IsPossible parts (Round turns) = ⊤

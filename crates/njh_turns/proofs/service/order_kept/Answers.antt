@@ -12,7 +12,7 @@ pub returns-in-Ok-keep-clause-given : goal.returns-in-Ok-keep-clause-given
 returns-in-Ok-keep-clause-given g c =
     let did = c.in-Ok.ensures.step in
     laws.was_given (laws.by_order c.args.hub.now c.order.new.self c.args.new.now.customer c.args.new.now.order did.hub
-    did.known did.way)
+    did.known did.taken)
 
 -- ---- the keeper failed
 
@@ -20,7 +20,7 @@ pub returns-in-Err-keep-clause-breaks : goal.returns-in-Err-keep-clause-breaks
 returns-in-Err-keep-clause-breaks g c =
     let did = c.in-Ok.ensures.step in
     laws.given_break (laws.by_order c.args.hub.now c.order.new.self c.args.new.now.customer c.args.new.now.order did.hub
-    did.known did.way)
+    did.known did.taken)
     (c.in-Err-keep.ensures.left c.args.hub.now c.requires.settled (_, by_order _ refl, did.hub))
 
 -- ---- the order was refused
