@@ -5,17 +5,18 @@ use Rattle.std.specs.Io.KnownBytes.{Keeps}
 use Rattle.njh_table.specs.TableFile.{TableFile}
 use Rattle.njh_hub.specs.declared.event.Event.{Event}
 use Rattle.njh_hub.specs.declared.fault.HubFault.{HubFault}
-use Rattle.njh_hub.specs.declared.fault.HubFault.TheVariants.{Memory, NoRoute}
+use Rattle.njh_hub.specs.declared.fault.HubFault.TheVariants.{Memory, NoRoute, QueueFull}
 use Rattle.njh_hub.specs.Parts.{entries_of}
-use Rattle.njh_hub.specs.WholeHub.{Part, part, part_at_open, HaveWays}
+use Rattle.njh_hub.specs.WholeHub.{Part, part, part_at_open, AreTaken}
 use Rattle.njh_hub.specs.Steps.{IsOrdered}
 use Rattle.njh_customer.specs.declared.given_order.GivenOrder.{GivenOrder}
 use Rattle.njh_replay.specs.LineNames.{customers_of, names_of}
 use Rattle.njh_replay.specs.declared.fault.ReplayFault.{ReplayFault}
 use Rattle.njh_replay.specs.declared.fault.ReplayFault.TheVariants.{TooLong, Script, Device, Hub}
 use Rattle.njh_io.specs.Written.{AppendsBeginning}
-use Rattle.njh_replay.specs.Replayed.{text_by, text_of_run, HadWays, HasScript, IfHubs, IsBegun, IsReplayed}
-use Rattle.njh_replay.specs.Replayed.{IsReplayedToMessage, IsReplayedToWant, IsRunShort, MayStop, Prints}
+use Rattle.njh_replay.specs.Replayed.{text_by, text_of_run, HasScript, IfHubs, IsBegun, IsOfMessage}
+use Rattle.njh_replay.specs.Replayed.{IsReplayed, IsReplayedToMessage, IsReplayedToWant, IsRunShort, MayStop, Prints}
+use Rattle.njh_replay.specs.Replayed.{WereTaken}
 use Rattle.njh_replay.specs.code.RunPieces.{IsOrderShort}
 use Rattle.njh_replay.proofs.PrintedParts.{beginning-none}
 
@@ -36,11 +37,18 @@ pub order_stopped : {A B : Type 0} (r : Result A ReplayFault) (parts new : List 
 order_stopped r parts new c order (Ok x) fault old text there same ordered is = absurd (cc is)
 order_stopped r parts new c order (Err other) fault old text there same ordered is = elim ordered.causes [
   | inl unknown ↦ absurd (unknown.1 there)
-  | inr refused ↦
-      let why : fault ≡ NoRoute = cc (is, refused.0) in
-      prints_stopped r (Hub NoRoute) old old text (IsOrderShort (part c parts) order)
-      (subst (λ f. IsErrAnd r (λ e. e ≡ Hub f)) why same) (beginning-none old text) (inr refl, λ refusal. refusal)
-      (refused.2, refl)
+  | inr refused ↦ elim refused [
+    | inl wayless ↦
+        let why : fault ≡ NoRoute = cc (is, wayless.0) in
+        prints_stopped r (Hub NoRoute) old old text (IsOrderShort (part c parts) order)
+        (subst (λ f. IsErrAnd r (λ e. e ≡ Hub f)) why same) (beginning-none old text)
+        (inr (inl refl), λ refusal. refusal) (wayless.2, refl)
+    | inr full ↦
+        let why : fault ≡ QueueFull = cc (is, full.0) in
+        prints_stopped r (Hub QueueFull) old old text (IsOrderShort (part c parts) order)
+        (subst (λ f. IsErrAnd r (λ e. e ≡ Hub f)) why same) (beginning-none old text)
+        (inr (inr refl), λ refusal. refusal) (full.2, refl)
+  ]
 ]
 
 -- what is so of the hub's fault in a step is so of it in the whole
@@ -101,23 +109,28 @@ module _ {A : Type 0} (t : TableFile) (left old new : Option (List ℕ)) (events
         | inr sent ↦ inr (events, good, sent)
       ]
 
-  pub replayed-wayless : (r : Result A ReplayFault) → PrintsRun t events r old new → r ≡ Err (Hub NoRoute)
-      → IsReplayedToMessage t left old new
-  replayed-wayless (Ok x) printed wayless = absurd (cc wayless)
-  replayed-wayless (Err e) printed wayless =
-      let same : e ≡ Hub NoRoute = cc wayless in
+  pub replayed-to_message : (r : Result A ReplayFault) → PrintsRun t events r old new → (why : HubFault)
+      → IsOfMessage why → r ≡ Err (Hub why) → IsReplayedToMessage why t left old new
+  replayed-to_message (Ok x) printed why of_message stopped = absurd (cc stopped)
+  replayed-to_message (Err e) printed why (inl wayless) stopped =
+      let same : e ≡ Hub NoRoute = cc (stopped, wayless) in
+      subst (λ w. IsReplayedToMessage w t left old new) (sym wayless)
       (events, good, short_by t old new events e NoRoute same printed.2)
+  replayed-to_message (Err e) printed why (inr full) stopped =
+      let same : e ≡ Hub QueueFull = cc (stopped, full) in
+      subst (λ w. IsReplayedToMessage w t left old new) (sym full)
+      (events, good, short_by t old new events e QueueFull same printed.2)
 
-  pub replayed-ways : (r : Result A ReplayFault) → OnOk r (HaveWays (map part_at_open (entries_of t)) events)
-      → OnOk r (HadWays t left)
-  replayed-ways (Ok x) ways = (events, good, ways)
-  replayed-ways (Err e) ways = tt
+  pub replayed-taken : (r : Result A ReplayFault) → OnOk r (AreTaken (map part_at_open (entries_of t)) events)
+      → OnOk r (WereTaken t left)
+  replayed-taken (Ok x) taken = (events, good, taken)
+  replayed-taken (Err e) taken = tt
 
--- a script that isn't read ends no run for want of a way
-pub not_wayless : {A : Type 0} (r : Result A ReplayFault) (fault : ReplayFault) (P : Type 0)
-    → IsErrAnd r (λ e. e ≡ fault) → IfHubs fault (λ why. why ≡ Memory) → r ≡ Err (Hub NoRoute) → P
-not_wayless (Ok x) fault P is memory wayless = absurd is
-not_wayless (Err e) fault P is memory wayless =
-    let same : fault ≡ Hub NoRoute = cc (is, wayless) in
-    let wrong : NoRoute ≡ Memory = subst (λ f. IfHubs f (λ why. why ≡ Memory)) same memory in
-    absurd (cc wrong)
+-- a script that isn't read ends no run at a message
+pub no_message : {A : Type 0} (r : Result A ReplayFault) (fault : ReplayFault) (why : HubFault) (P : Type 0)
+    → IsErrAnd r (λ e. e ≡ fault) → IfHubs fault (λ w. w ≡ Memory) → IsOfMessage why → r ≡ Err (Hub why) → P
+no_message (Ok x) fault why P is memory of_message stopped = absurd is
+no_message (Err e) fault why P is memory of_message stopped =
+    let same : fault ≡ Hub why = cc (is, stopped) in
+    let wrong : why ≡ Memory = subst (λ f. IfHubs f (λ w. w ≡ Memory)) same memory in
+    elim of_message [ inl wayless ↦ absurd (cc (wrong, wayless)) | inr full ↦ absurd (cc (wrong, full)) ]

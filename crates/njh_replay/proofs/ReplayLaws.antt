@@ -17,6 +17,7 @@ use Rattle.njh_hub.specs.declared.fault.Cause.{Cause}
 use Rattle.njh_hub.specs.declared.fault.Cause.TheVariants as cause
 use Rattle.njh_hub.specs.declared.fault.HubFault.{HubFault}
 use Rattle.njh_hub.specs.declared.fault.HubFault.TheVariants.{UnknownLine, UnknownCustomer, Memory, NoRoute, BadRoutes}
+use Rattle.njh_hub.specs.declared.fault.HubFault.TheVariants.{QueueFull}
 use Rattle.njh_hub.specs.OwnEvents.{first_events}
 use Rattle.njh_hub.specs.Parts.{entries_of}
 use Rattle.njh_hub.specs.WholeHub.{Part, part_at_open}
@@ -112,13 +113,14 @@ not_bad parts (Lost id) fault named refused = refused
 not_bad parts (Routes c routes) fault named refused = cc (sym named.1 ∙ refused.1)
 not_bad parts (Order c order) fault named refused = refused
 
-not_wayless : (parts : List Part) (event : Event) → IsNoOrder event → IsRefused parts event NoRoute → ⊥
-not_wayless parts (Bytes id piece) no_order refused = refused
-not_wayless parts (Tick id) no_order refused = refused
-not_wayless parts (Garbled id) no_order refused = refused
-not_wayless parts (Lost id) no_order refused = refused
-not_wayless parts (Routes c routes) no_order refused = refused
-not_wayless parts (Order c order) no_order refused = cc no_order
+-- an event that is no order isn't refused as a message is
+no_message : (parts : List Part) (event : Event) → IsNoOrder event → IsRefused parts event NoRoute → ⊥
+no_message parts (Bytes id piece) no_order refused = refused
+no_message parts (Tick id) no_order refused = refused
+no_message parts (Garbled id) no_order refused = refused
+no_message parts (Lost id) no_order refused = refused
+no_message parts (Routes c routes) no_order refused = refused
+no_message parts (Order c order) no_order refused = cc no_order
 
 -- what stops a run of events none of which is an order: the sink, or that memory ran out
 abbrev pub IsSinkOrMemory : Cause → Type 0
@@ -147,7 +149,9 @@ module _ (parts : List Part) (events : List Event) (k : ℕ) (named : All (hub.I
       absurd (never UnknownCustomer (λ event named plain. not_foreign parts event named) refused)
   sink_or_memory (cause.Hub Memory) refused = refl
   sink_or_memory (cause.Hub NoRoute) refused =
-      absurd (never NoRoute (λ event named plain. not_wayless parts event plain) refused)
+      absurd (never NoRoute (λ event named plain. no_message parts event plain) refused)
+  sink_or_memory (cause.Hub QueueFull) refused =
+      absurd (never QueueFull (λ event named plain. no_message parts event plain) refused)
   sink_or_memory (cause.Hub (BadRoutes fault)) refused =
       absurd (never (BadRoutes fault) (λ event named plain. not_bad parts event fault named) refused)
   sink_or_memory cause.Sink refused = tt

@@ -1,6 +1,6 @@
 -- How far a run in pieces has come: up to behind its last order, and to the event that it looks at.
 use Rattle.std.proofs.Common.{◌≡◌, ◌⊎◌, inl, inr, ℕ, suc, ◌+◌, ◌<◌, ◌≤◌, ◌-◌, true, ◌||◌, Bool, List, [], ◌∷◌, ◌++◌}
-use Rattle.std.proofs.Common.{length}
+use Rattle.std.proofs.Common.{length, None}
 use Rattle.std.proofs.Common.{take, drop, get_or, Option, refl, sym, ap, subst, ◌∙◌, arith, append-nil, append_assoc}
 use Rattle.std.proofs.Common.{take-append-drop, take_all, length-drop, false, Result, Ok, Err}
 use Rattle.std.specs.Prelude.{All, IsErrAnd, slice_range}
@@ -14,10 +14,11 @@ use Rattle.std.proofs.lemmas.List.Folds.{drop_split, list_any-append}
 use Rattle.njh_table.specs.NewRoutes.{new_routes_of}
 use Rattle.njh_hub.specs.declared.event.Event.{Event}
 use Rattle.njh_hub.specs.declared.event.Event.TheVariants.{Bytes, Tick, Garbled, Lost, Routes, Order}
-use Rattle.njh_hub.specs.WholeHub.{HaveWays, HubRun, Part, part, IsNamed, IsWay, SameLines, hub_event, hub_run}
-use Rattle.njh_hub.proofs.NamedLaws.{LedOn, have_ways_more, led_on}
+use Rattle.njh_hub.specs.WholeHub.{AreTaken, HubRun, Part, part, refusal_of, IsNamed, IsTaken, SameLines, hub_event}
+use Rattle.njh_hub.specs.WholeHub.{hub_run}
+use Rattle.njh_hub.proofs.NamedLaws.{LedOn, are_taken_more, led_on}
 use Rattle.njh_hub.proofs.RunningLaws.{hub_run-append}
-use Rattle.njh_customer.specs.Orders.{has_way, replies_to}
+use Rattle.njh_customer.specs.Orders.{replies_to}
 use Rattle.njh_customer.specs.declared.given_order.GivenOrder.{GivenOrder}
 use Rattle.njh_io.specs.Written.{AppendsBeginning}
 use Rattle.njh_replay.specs.declared.fault.ReplayFault.{ReplayFault}
@@ -109,29 +110,29 @@ named_later start now on (Routes c routes) known =
     (omega (arith, known.0, on.many), on.checked c known.0 (new_routes_of c routes) ∙ known.1)
 named_later start now on (Order c order) known = omega (arith, known, on.many)
 
--- ---- the ways of orders
+-- ---- orders that aren't refused
 
-plain_way : (parts : List Part) (event : Event) → IsNoOrder event → IsWay parts event true
-plain_way parts (Bytes id piece) plain = tt
-plain_way parts (Tick id) plain = tt
-plain_way parts (Garbled id) plain = tt
-plain_way parts (Lost id) plain = tt
-plain_way parts (Routes c routes) plain = tt
-plain_way parts (Order c order) plain = absurd (cc plain)
+plain_is_taken : (parts : List Part) (event : Event) → IsNoOrder event → IsTaken parts event
+plain_is_taken parts (Bytes id piece) plain = tt
+plain_is_taken parts (Tick id) plain = tt
+plain_is_taken parts (Garbled id) plain = tt
+plain_is_taken parts (Lost id) plain = tt
+plain_is_taken parts (Routes c routes) plain = tt
+plain_is_taken parts (Order c order) plain = absurd (cc plain)
 
 -- events none of which is an order need none
-plain_ways : (parts : List Part) (events : List Event) → All IsNoOrder events → HaveWays parts events
-plain_ways parts [] all = tt
-plain_ways parts (event ∷ events) all = (
-  plain_way parts event (all 0 event (omega arith)),
-  plain_ways (hub_event parts event).parts events (λ k d within. all (suc k) d (omega (arith, within))),
+plain_taken : (parts : List Part) (events : List Event) → All IsNoOrder events → AreTaken parts events
+plain_taken parts [] all = tt
+plain_taken parts (event ∷ events) all = (
+  plain_is_taken parts event (all 0 event (omega arith)),
+  plain_taken (hub_event parts event).parts events (λ k d within. all (suc k) d (omega (arith, within))),
 )
 
-ways_append : (parts : List Part) (xs ys : List Event) → HaveWays parts xs → HaveWays (hub_run parts xs).parts ys
-    → HaveWays parts (xs ++ ys)
-ways_append parts [] ys front back = back
-ways_append parts (x ∷ xs) ys front back =
-    (front.0, ways_append (hub_event parts x).parts xs ys front.1 back)
+taken_append : (parts : List Part) (xs ys : List Event) → AreTaken parts xs → AreTaken (hub_run parts xs).parts ys
+    → AreTaken parts (xs ++ ys)
+taken_append parts [] ys front back = back
+taken_append parts (x ∷ xs) ys front back =
+    (front.0, taken_append (hub_event parts x).parts xs ys front.1 back)
 
 -- ---- how far a run has come
 
@@ -162,7 +163,7 @@ pub record IsRunSoFar (names : List (List (List ℕ))) (customers : List (List �
   pub led : now ≡ (hub_run start (take from events)).parts
   pub lines : SameLines start now
   pub printed : Appends a b (run_text names customers start (take from events))
-  pub ways : HaveWays start (take from events)
+  pub orders : AreTaken start (take from events)
   pub first : (take from events ≡ []) ⊎ (list_any is_order (take from events) ≡ true)
   pub plain : All IsNoOrder (slice_range events from index)
 
@@ -174,7 +175,7 @@ started names customers start events a = record {
   led = refl;
   lines = λ c. refl;
   printed = Appends-nil a;
-  ways = tt;
+  orders = tt;
   first = inl refl;
   plain = no_events events 0;
 }
@@ -190,7 +191,7 @@ goes_on names customers start now events from index a b event so_far inside is n
   led = so_far.led;
   lines = so_far.lines;
   printed = so_far.printed;
-  ways = so_far.ways;
+  orders = so_far.orders;
   first = so_far.first;
   plain = one_more events from index event so_far.within inside is none so_far.plain;
 }
@@ -255,10 +256,10 @@ module _ (names : List (List (List ℕ))) (customers : List (List ℕ)) (start n
       let said = frames_by {A = Unit {0}} names own now piece (Err fault) b c same so in
       prints_stopped r fault a c _ _ is (frames_begun said.0) said.1 (frames_short_of fault said.2)
 
-  -- its orders had ways
-  pub ways_behind : HaveWays start (take from events ++ piece)
-  ways_behind = ways_append start (take from events) piece so_far.ways
-      (plain_ways (hub_run start (take from events)).parts piece plain)
+  -- none of its orders is refused
+  pub taken_behind : AreTaken start (take from events ++ piece)
+  taken_behind = taken_append start (take from events) piece so_far.orders
+      (plain_taken (hub_run start (take from events)).parts piece plain)
 
   -- what the hub is behind it
   pub led_behind : (later : List Part) → later ≡ (hub_run now piece).parts
@@ -291,9 +292,9 @@ module _ (names : List (List (List ℕ))) (customers : List (List ℕ)) (start n
       (slice_range events from (length events)) [] (cut_end events from) last_plain c {A = A} (Err fault) fault refl
       printed
 
-  pub last_ways : HaveWays start events
-  last_ways = subst (HaveWays start) whole
-      (ways_behind names customers start now events from index a b so_far own same
+  pub last_taken : AreTaken start events
+  last_taken = subst (AreTaken start) whole
+      (taken_behind names customers start now events from index a b so_far own same
       (slice_range events from (length events)) [] (cut_end events from) last_plain c)
 
   pub last_led : (later : List Part) → later ≡ (hub_run now (slice_range events from (length events))).parts
@@ -328,12 +329,12 @@ module _ (names : List (List (List ℕ))) (customers : List (List ℕ)) (start l
 
   -- what has come so far behind it
   pub behind_order : (last : List Part) (from index : ℕ) (e : Option (List ℕ)) → from ≡ index
-      → take index events ≡ front ++ Order n order ∷ [] → HaveWays start front
-      → has_way (part n later).customer.entry order ≡ true → last ≡ (hub_event later (Order n order)).parts
+      → take index events ≡ front ++ Order n order ∷ [] → AreTaken start front
+      → refusal_of order (part n later) ≡ None → last ≡ (hub_event later (Order n order)).parts
       → SameLines start last → e ≡ d
       → Appends c d (replies_text name (replies_to order (part n later).customer))
       → IsRunSoFar names customers start last events from index a e
-  behind_order last from index e here taken before way moved same seen answered =
+  behind_order last from index e here taken before accepted moved same seen answered =
       subst (λ (k : ℕ). IsRunSoFar names customers start last events k index a e) (sym here)
       (subst (IsRunSoFar names customers start last events index index a) (sym seen) (record {
         within = omega arith;
@@ -345,9 +346,9 @@ module _ (names : List (List (List ℕ))) (customers : List (List ℕ)) (start l
         printed = subst (λ (es : List Event). Appends a d (run_text names customers start es)) (sym taken)
             (piece_printed names customers start later front (Order n order ∷ []) more events are led
             (replies_text name (replies_to order (part n later).customer)) replies_are a c d printed answered);
-        ways = subst (λ (es : List Event). HaveWays start es) (sym taken)
-            (have_ways_more start front (Order n order) before
-            (subst (λ (ps : List Part). has_way (part n ps).customer.entry order ≡ true) led way));
+        orders = subst (λ (es : List Event). AreTaken start es) (sym taken)
+            (are_taken_more start front (Order n order) before
+            (subst (λ (ps : List Part). refusal_of order (part n ps) ≡ None) led accepted));
         first = inr (ap (list_any is_order) taken ∙ has_order front n order);
         plain = no_events events index;
       }))

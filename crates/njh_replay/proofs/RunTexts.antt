@@ -1,6 +1,6 @@
 -- The text of a run, piece by piece: events none of which is an order, and then one that is.
-use Rattle.std.proofs.Common.{◌≡◌, ◌⊎◌, inl, inr, ℕ, suc, Bool, true, false, ◌||◌, List, []}
-use Rattle.std.proofs.Common.{◌∷◌, ◌++◌, length, get_or, Option, refl, sym, ap, subst, ◌∙◌, arith}
+use Rattle.std.proofs.Common.{◌≡◌, ◌⊎◌, inl, inr, ℕ, suc, Bool, true, ◌||◌, List, []}
+use Rattle.std.proofs.Common.{◌∷◌, ◌++◌, length, get_or, Option, Some, refl, sym, ap, subst, ◌∙◌, arith}
 use Rattle.std.proofs.Common.{append_assoc, append-nil}
 use Rattle.std.specs.Prelude.{All}
 use Rattle.std.specs.List.{list_any}
@@ -9,17 +9,18 @@ use Rattle.std.proofs.KnownBytes.{Appends-trans}
 use Rattle.std.proofs.Math.Seq.{take-append_seam}
 use Rattle.std.proofs.lemmas.List.Elements.{All-take}
 use Rattle.std.proofs.lemmas.List.Folds.{list_any-append}
-use Rattle.njh_customer.specs.Orders.{has_way, replies_to}
+use Rattle.njh_customer.specs.Orders.{replies_to}
 use Rattle.njh_customer.specs.declared.given_order.GivenOrder.{GivenOrder}
 use Rattle.njh_hub.specs.declared.event.Event.{Event}
 use Rattle.njh_hub.specs.declared.event.Event.TheVariants.{Bytes, Tick, Garbled, Lost, Routes, Order}
 use Rattle.njh_hub.specs.declared.fault.HubFault.{HubFault}
 use Rattle.njh_hub.specs.declared.fault.HubFault.TheVariants.{UnknownLine, UnknownCustomer, Memory, NoRoute, BadRoutes}
+use Rattle.njh_hub.specs.declared.fault.HubFault.TheVariants.{QueueFull}
 use Rattle.njh_hub.specs.RunStops.{IsGiven}
-use Rattle.njh_hub.specs.WholeHub.{Part, part, hub_event, hub_run}
+use Rattle.njh_hub.specs.WholeHub.{Part, part, refusal_of, hub_event, hub_run}
 use Rattle.njh_io.specs.Written.{AppendsBeginning}
 use Rattle.njh_replay.specs.Printed.{answers_text, frames_text, replies_text, run_text}
-use Rattle.njh_replay.specs.Replayed.{is_order, IsRunShort, IsSentUpTo, MayWantMemory}
+use Rattle.njh_replay.specs.Replayed.{is_order, IsRefusedBehind, IsRunShort, IsSentUpTo, MayWantMemory}
 use Rattle.njh_replay.specs.code.PrintedLaws.{text_of-append}
 use Rattle.njh_replay.specs.code.RunPieces.{IsFramesShort, IsNoOrder, IsOrderShort}
 use Rattle.njh_replay.proofs.PrintedParts.{beginning-after}
@@ -155,6 +156,7 @@ module _ (names : List (List (List ℕ))) (customers : List (List ℕ)) (start n
       → (why : HubFault) → IsFramesShort names now piece why b c → IsRunShort names customers start events why a c
   frames_short plain first Memory short = frames_want plain first short
   frames_short plain first NoRoute short = absurd short
+  frames_short plain first QueueFull short = absurd short
   frames_short plain first UnknownLine short = absurd short
   frames_short plain first UnknownCustomer short = absurd short
   frames_short plain first (BadRoutes cause) short = absurd short
@@ -164,16 +166,21 @@ module _ (names : List (List (List ℕ))) (customers : List (List ℕ)) (start n
     (led : now ≡ (hub_run start front).parts) (a b c : Option (List ℕ))
     (printed : Appends a b (run_text names customers start front)) where
   -- an order that is refused: what comes of the events before it
-  pub order_short : (why : HubFault) → IsOrderShort (part n now) order why b c
-      → IsRunShort names customers start events why a c
-  order_short NoRoute short = record {
+  stopped_at_order : (why : HubFault) → (refusal_of order (part n now) ≡ Some why) × (c ≡ b)
+      → IsSentUpTo (run_text names customers start) events (IsRefusedBehind why start) a c
+  stopped_at_order why short = record {
     before = front;
     stop = Order n order;
     behind = more;
     are = are;
-    stops = subst (λ (ps : List Part). has_way (part n ps).customer.entry order ≡ false) led short.0;
+    stops = subst (λ (ps : List Part). refusal_of order (part n ps) ≡ Some why) led short.0;
     sent = subst (λ (x : Option (List ℕ)). Appends a x (run_text names customers start front)) (sym short.1) printed;
   }
+
+  pub order_short : (why : HubFault) → IsOrderShort (part n now) order why b c
+      → IsRunShort names customers start events why a c
+  order_short NoRoute short = stopped_at_order NoRoute short
+  order_short QueueFull short = stopped_at_order QueueFull short
   order_short Memory short = absurd short
   order_short UnknownLine short = absurd short
   order_short UnknownCustomer short = absurd short

@@ -1,5 +1,5 @@
 -- What a replay answers.
-use Rattle.std.specs.Prelude.{◌≡◌, ℕ, ◌<◌, ◌≤◌, ◌⊎◌, Bool, true, false, List, ◌∷◌, ◌++◌, length, map, Option, IfSome}
+use Rattle.std.specs.Prelude.{◌≡◌, ℕ, ◌<◌, ◌≤◌, ◌⊎◌, Bool, true, List, ◌∷◌, ◌++◌, length, map, Option, Some, IfSome}
 use Rattle.std.specs.Prelude.{is_some, IsSomeAnd, Result, Ok, Err, ⊤}
 use Rattle.std.specs.List.{list_any}
 use Rattle.std.specs.Io.KnownBytes.{Appends, Keeps}
@@ -7,8 +7,7 @@ use Rattle.njh_table.specs.TableFile.{TableFile}
 use Rattle.njh_hub.specs.Parts.{entries_of}
 use Rattle.njh_hub.specs.OwnEvents.{order_of}
 use Rattle.njh_hub.specs.RunStops.{IsRoutes}
-use Rattle.njh_customer.specs.Orders.{has_way}
-use Rattle.njh_hub.specs.WholeHub.{Part, part, part_at_open, HaveWays, hub_run}
+use Rattle.njh_hub.specs.WholeHub.{Part, part, part_at_open, refusal_of, AreTaken, hub_run}
 use Rattle.njh_hub.specs.declared.event.Event.{Event}
 use Rattle.njh_hub.specs.declared.fault.Cause.{Cause}
 use Rattle.njh_hub.specs.declared.fault.Cause.TheVariants as cause
@@ -16,6 +15,7 @@ use Rattle.njh_replay.specs.declared.fault.ReplayFault.{ReplayFault}
 use Rattle.njh_replay.specs.declared.fault.ReplayFault.TheVariants.{TooLong, Script, Device, Hub}
 use Rattle.njh_hub.specs.declared.fault.HubFault.{HubFault}
 use Rattle.njh_hub.specs.declared.fault.HubFault.TheVariants.{UnknownLine, UnknownCustomer, Memory, NoRoute, BadRoutes}
+use Rattle.njh_hub.specs.declared.fault.HubFault.TheVariants.{QueueFull}
 use Rattle.njh_io.specs.declared.fault.ReadFault.{ReadFault}
 use Rattle.njh_io.specs.declared.fault.ReadFault.TheVariants as read
 use Rattle.njh_replay.specs.LineNames.{customers_of, names_of}
@@ -78,10 +78,10 @@ is_order event = is_some (order_of event)
 abbrev pub MayWantMemory : List Event → Event → Type 0
 MayWantMemory before event = IsRoutes event ⊎ (list_any is_order before ≡ true)
 
--- Behind these events this one is a message without a way, by the routes that its customer has then.
-abbrev pub HasNoWay : List Part → List Event → Event → Type 0
-HasNoWay parts before event = IsSomeAnd (order_of event)
-    (λ given. has_way (part given.0 (hub_run parts before).parts).customer.entry given.1 ≡ false)
+-- Behind these events this one is an order that is refused by this fault, by what its customer is then.
+abbrev pub IsRefusedBehind : HubFault → List Part → List Event → Event → Type 0
+IsRefusedBehind why parts before event = IsSomeAnd (order_of event)
+    (λ given. refusal_of given.1 (part given.0 (hub_run parts before).parts) ≡ Some why)
 
 -- A script was replayed up to an event of which this holds: it is a good script, and what comes of the events before
 -- that one came after what had been written; each if that is known.
@@ -91,18 +91,18 @@ IsReplayedTo tables Stops left old new = (events : List Event) × HasScript tabl
     × IsSentUpTo (run_text (names_of tables) (customers_of tables) (map part_at_open (entries_of tables))) events Stops
     old new
 
--- up to one that found no memory, and up to a message without a way
+-- up to one that found no memory, and up to a message that is refused by this fault
 abbrev pub IsReplayedToWant : (tables : TableFile) (left old new : Option (List ℕ)) → Type 0
 IsReplayedToWant tables left old new = IsReplayedTo tables MayWantMemory left old new
 
-abbrev pub IsReplayedToMessage : (tables : TableFile) (left old new : Option (List ℕ)) → Type 0
-IsReplayedToMessage tables left old new =
-    IsReplayedTo tables (HasNoWay (map part_at_open (entries_of tables))) left old new
+abbrev pub IsReplayedToMessage : (why : HubFault) (tables : TableFile) (left old new : Option (List ℕ)) → Type 0
+IsReplayedToMessage why tables left old new =
+    IsReplayedTo tables (IsRefusedBehind why (map part_at_open (entries_of tables))) left old new
 
--- A script was replayed, and each of its messages had a way when it came.
-abbrev pub HadWays : (tables : TableFile) (left : Option (List ℕ)) → Type 0
-HadWays tables left = (events : List Event) × HasScript tables left events
-    × HaveWays (map part_at_open (entries_of tables)) events
+-- A script was replayed, and none of its orders was refused when it came.
+abbrev pub WereTaken : (tables : TableFile) (left : Option (List ℕ)) → Type 0
+WereTaken tables left = (events : List Event) × HasScript tables left events
+    × AreTaken (map part_at_open (entries_of tables)) events
 
 -- the faults by which a script is refused
 abbrev pub IsRefusal : ReplayFault → Type 0
@@ -111,11 +111,15 @@ IsRefusal (Script number) = ⊤
 IsRefusal Device = ⊥
 IsRefusal (Hub fault) = ⊥
 
+-- the faults by which the hub refuses a message for a customer that it has
+abbrev pub IsOfMessage : HubFault → Type 0
+IsOfMessage fault = (fault ≡ NoRoute) ⊎ (fault ≡ QueueFull)
+
 -- the faults of the hub that may end a run over a good script
 abbrev pub MayEndRun : HubFault → Type 0
-MayEndRun fault = (fault ≡ Memory) ⊎ (fault ≡ NoRoute)
+MayEndRun fault = (fault ≡ Memory) ⊎ IsOfMessage fault
 
--- the faults that a replay may end with: of the hub's own, out of memory and no route for a message
+-- the faults that a replay may end with: of the hub's own, out of memory and those of a message
 abbrev pub MayEnd : ReplayFault → Type 0
 MayEnd TooLong = ⊤
 MayEnd (Script number) = ⊤
@@ -147,13 +151,15 @@ Prints (Err fault) old new text Short =
     AppendsBeginning old new text × MayStop fault × IfHubs fault (λ why. Short why old new)
 
 -- What is written if the hub's fault stopped a run: if memory ran out nothing, or what comes of the events before the
--- one that found none; if a message had no way what comes of those before it. There are no others.
+-- one that found none; if a message was refused what comes of those before it. There are no others.
 abbrev pub IsRunShort : (names : List (List (List ℕ))) (customers : List (List ℕ)) (parts : List Part)
     (events : List Event) (why : HubFault) (old new : Option (List ℕ)) → Type 0
 IsRunShort names customers parts events Memory old new =
     Keeps old new ⊎ IsSentUpTo (run_text names customers parts) events MayWantMemory old new
 IsRunShort names customers parts events NoRoute old new =
-    IsSentUpTo (run_text names customers parts) events (HasNoWay parts) old new
+    IsSentUpTo (run_text names customers parts) events (IsRefusedBehind NoRoute parts) old new
+IsRunShort names customers parts events QueueFull old new =
+    IsSentUpTo (run_text names customers parts) events (IsRefusedBehind QueueFull parts) old new
 IsRunShort names customers parts events UnknownLine old new = ⊥
 IsRunShort names customers parts events UnknownCustomer old new = ⊥
 IsRunShort names customers parts events (BadRoutes cause) old new = ⊥

@@ -1,9 +1,9 @@
 //! Prints what a hub answers to orders.
 
-ghost use Rattle.std.specs.Prelude.{◌≡◌, ◌<◌, ◌≤◌, true, map, length, OnOk, OnErr};
+ghost use Rattle.std.specs.Prelude.{◌≡◌, ◌<◌, ◌≤◌, None, map, length, OnOk, OnErr};
 ghost use Rattle.std.specs.Io.KnownBytes.{Appends};
-ghost use Rattle.njh_customer.specs.Orders.{has_way, replies_to};
-ghost use Rattle.njh_hub.specs.WholeHub.{hub_event, part, SameLines};
+ghost use Rattle.njh_customer.specs.Orders.{replies_to};
+ghost use Rattle.njh_hub.specs.WholeHub.{hub_event, part, refusal_of, SameLines};
 ghost use Rattle.njh_io.specs.Written.{AppendsBeginning};
 ghost use Rattle.njh_replay.specs.Printed.{replies_text};
 ghost use Rattle.njh_replay.specs.Replayed.{Prints};
@@ -30,7 +30,7 @@ pub fn print_answers<W: Write>(
     ensures printed { Prints result (W.contents out.old) (W.contents out.new)
         (replies_text name (replies_to order.now (part customer hub.old).customer))
         (IsOrderShort (part customer hub.old) order.now) }
-    ensures way { OnOk result (has_way (part customer hub.old).customer.entry order.now ≡ true) }
+    ensures taken { OnOk result (refusal_of order.now (part customer hub.old) ≡ None) }
     ensures hub { OnOk result (hub.new ≡ (hub_event hub.old (Event.Order customer order.now)).parts) }
     ensures lines { SameLines hub.old hub.new }
 {

@@ -4,14 +4,14 @@ ghost use Rattle.std.specs.Prelude.{◌≡◌, ◌≤◌, ◌⊎◌, ℕ, length
 ghost use Rattle.std.specs.Io.KnownBytes.{Keeps};
 ghost use Rattle.njh_replay.specs.LineNames.{customers_of, names_of};
 ghost use Rattle.njh_replay.specs.Printed.{frames_text, run_text};
-ghost use Rattle.njh_replay.specs.Replayed.{fault_after, text_by, text_of_run, HadWays, HasBadLine, HasScript};
-ghost use Rattle.njh_replay.specs.Replayed.{HasTooLong, IfHubs, IsBegun, IsRefusal, IsReplayed, IsReplayedToMessage};
-ghost use Rattle.njh_replay.specs.Replayed.{IsReplayedToWant, IsRunShort, MayEnd, Prints};
+ghost use Rattle.njh_replay.specs.Replayed.{fault_after, text_by, text_of_run, HasBadLine, HasScript, HasTooLong};
+ghost use Rattle.njh_replay.specs.Replayed.{IfHubs, IsBegun, IsOfMessage, IsRefusal, IsReplayed, IsReplayedToMessage};
+ghost use Rattle.njh_replay.specs.Replayed.{IsReplayedToWant, IsRunShort, MayEnd, Prints, WereTaken};
 ghost use Rattle.njh_replay.specs.ScriptRoutes.{IsNamedIn};
 ghost use Rattle.njh_replay.specs.code.RunPieces.{IsFramesShort, IsNoOrder};
 ghost use Rattle.njh_hub.specs.Parts.{entries_of};
 ghost use Rattle.njh_hub.specs.Sent.{IsCounted};
-ghost use Rattle.njh_hub.specs.WholeHub.{hub_run, part_at_open, HaveWays, IsNamed, SameLines};
+ghost use Rattle.njh_hub.specs.WholeHub.{hub_run, part_at_open, AreTaken, IsNamed, SameLines};
 
 use crate::answers::print_answers;
 use crate::fault::ReplayFault;
@@ -51,17 +51,17 @@ pub fn replay<R: Read, W: Write>(
 
     // Else a device failed, and a beginning of that text is written, or nothing; or memory ran out:
     // before anything was written, or at an event that gives routes or has an order before it; or
-    // a message had no way. What comes of the events before that one is written then.
+    // a message had no way or no room. What comes of the events before that one is written then.
     ensures faults { IfErr result MayEnd }
     ensures begun { OnErr result (Keeps (W.contents out.old) (W.contents out.new)
         ⊎ IsBegun tables (R.remaining script.old) (W.contents out.old) (W.contents out.new)) }
     ensures memory { result ≡ Err (ReplayFault.Hub HubFault.Memory) → Keeps (W.contents out.old) (W.contents out.new)
         ⊎ IsReplayedToWant tables (R.remaining script.old) (W.contents out.old) (W.contents out.new) }
-    ensures no_way { result ≡ Err (ReplayFault.Hub HubFault.NoRoute) →
-        IsReplayedToMessage tables (R.remaining script.old) (W.contents out.old) (W.contents out.new) }
+    ensures message { (why : HubFault) → IsOfMessage why → result ≡ Err (ReplayFault.Hub why) →
+        IsReplayedToMessage why tables (R.remaining script.old) (W.contents out.old) (W.contents out.new) }
 
-    // So each message of a script that was run to its end had a way when it came.
-    ensures ways { OnOk result (HadWays tables (R.remaining script.old)) }
+    // So each message of a script that was run to its end had a way and room when it came.
+    ensures orders { OnOk result (WereTaken tables (R.remaining script.old)) }
 {
     let events = read_events(alloc, &tables, script)?;
     print_events(alloc, tables, &events, out)
@@ -78,7 +78,7 @@ fn print_events<W: Write>(
     requires { All (IsNamedIn tables) events.now }
     ensures printed { Prints result (W.contents out.old) (W.contents out.new) (text_of_run tables events.now)
         (IsRunShort (names_of tables) (customers_of tables) (map part_at_open (entries_of tables)) events.now) }
-    ensures ways { OnOk result (HaveWays (map part_at_open (entries_of tables)) events.now) }
+    ensures orders { OnOk result (AreTaken (map part_at_open (entries_of tables)) events.now) }
 {
     let names = LineNames::of(alloc, &tables)?;
     let customers = customer_names(alloc, &tables)?;
@@ -101,7 +101,7 @@ fn print_all<W: Write>(
     ensures printed { Prints result (W.contents out.old) (W.contents out.new)
         (text_by names.now hub.old events.now customers.now)
         (IsRunShort names.now customers.now hub.old events.now) }
-    ensures ways { OnOk result (HaveWays hub.old events.now) }
+    ensures orders { OnOk result (AreTaken hub.old events.now) }
 {
     let mut printer = Printer {
         out: &mut *out,
@@ -129,7 +129,7 @@ fn print_run<W: Write>(
     ensures printed { Prints result (W.contents printer.old.out.now) (W.contents printer.new.out.now)
         (run_text printer.old.names.now customers.now hub.old events.now)
         (IsRunShort printer.old.names.now customers.now hub.old events.now) }
-    ensures ways { OnOk result (HaveWays hub.old events.now) }
+    ensures orders { OnOk result (AreTaken hub.old events.now) }
     ensures same_reference { printer.new.out.ghost_name ≡ printer.old.out.ghost_name }
     ensures after { OnOk result (hub.new ≡ (hub_run hub.old events.now).parts) }
 {

@@ -1,13 +1,13 @@
 -- A run in pieces: events none of which is an order, and then one that is.
-use Rattle.std.specs.Prelude.{◌≡◌, ◌⊎◌, ℕ, false, List, Option, None, All}
-use Rattle.njh_customer.specs.Orders.{has_way}
+use Rattle.std.specs.Prelude.{◌≡◌, ◌⊎◌, ℕ, List, Option, Some, None, All}
 use Rattle.njh_customer.specs.declared.given_order.GivenOrder.{GivenOrder}
 use Rattle.njh_hub.specs.OwnEvents.{order_of}
 use Rattle.njh_hub.specs.RunStops.{IsGiven, IsRoutes}
-use Rattle.njh_hub.specs.WholeHub.{Part, hub_run}
+use Rattle.njh_hub.specs.WholeHub.{Part, refusal_of, hub_run}
 use Rattle.njh_hub.specs.declared.event.Event.{Event}
 use Rattle.njh_hub.specs.declared.fault.HubFault.{HubFault}
 use Rattle.njh_hub.specs.declared.fault.HubFault.TheVariants.{UnknownLine, UnknownCustomer, Memory, NoRoute, BadRoutes}
+use Rattle.njh_hub.specs.declared.fault.HubFault.TheVariants.{QueueFull}
 use Rattle.njh_replay.specs.Printed.{frames_text}
 use Rattle.njh_replay.specs.Replayed.{IsSentUpTo}
 
@@ -25,13 +25,15 @@ abbrev pub IsFramesShort : (names : List (List (List ℕ))) (parts : List Part) 
 IsFramesShort names parts events Memory old new =
     IsSentUpTo (λ before. frames_text names (hub_run parts before).sent) events MayBeFirst old new
 IsFramesShort names parts events NoRoute old new = ⊥
+IsFramesShort names parts events QueueFull old new = ⊥
 IsFramesShort names parts events UnknownLine old new = ⊥
 IsFramesShort names parts events UnknownCustomer old new = ⊥
 IsFramesShort names parts events (BadRoutes cause) old new = ⊥
 
--- what is written if the hub refused an order, which it does for want of a way alone
+-- what is written if the hub refused an order, which it does for want of a way or of room alone
 abbrev pub IsOrderShort : Part → GivenOrder → (why : HubFault) (old new : Option (List ℕ)) → Type 0
-IsOrderShort p order NoRoute old new = (has_way p.customer.entry order ≡ false) × (new ≡ old)
+IsOrderShort p order NoRoute old new = (refusal_of order p ≡ Some NoRoute) × (new ≡ old)
+IsOrderShort p order QueueFull old new = (refusal_of order p ≡ Some QueueFull) × (new ≡ old)
 IsOrderShort p order Memory old new = ⊥
 IsOrderShort p order UnknownLine old new = ⊥
 IsOrderShort p order UnknownCustomer old new = ⊥

@@ -36,8 +36,8 @@ returns-clause-printed g c =
     subst (λ (rs : List (List ℕ)). Appends old new (replies_text c.args.name rs))
     (c.texts.ensures ∙ c.in_ok-order.ensures.replies) c.in_ok-print_replies.ensures.ok
 
-pub returns-clause-way : goal.returns-clause-way
-returns-clause-way g c = c.in_ok-order.ensures.step.way
+pub returns-clause-taken : goal.returns-clause-taken
+returns-clause-taken g c = c.in_ok-order.ensures.step.taken
 
 pub returns-clause-hub : goal.returns-clause-hub
 returns-clause-hub g c = c.in_ok-order.ensures.step.hub

@@ -1,5 +1,5 @@
 use Rattle.std.proofs.Common.{◌∙◌, List, OnOk, subst}
-use Rattle.njh_hub.specs.WholeHub.{Part, HaveWays}
+use Rattle.njh_hub.specs.WholeHub.{Part, AreTaken}
 use Rattle.njh_replay.proofs.PrintSteps.{fresh_prints}
 use Rattle.njh_replay.proofs.ReplayLaws.{all_named, opened_customers}
 use Rattle.njh_replay.proofs.replaying.print_events.Goals as goal
@@ -21,7 +21,7 @@ returns-clause-printed g c =
     (contents c.args.out.now) (contents c.print_all.new.out) c.in_ok-names.ensures c.in_ok-hub.ensures.opened
     (c.deref.ensures.value ∙ c.in_ok-customers.ensures.names) c.print_all.ensures.printed
 
-pub returns-clause-ways : goal.returns-clause-ways
-returns-clause-ways g c =
-    subst (λ (ps : List Part). OnOk c.print_all.result (HaveWays ps c.args.events.now)) c.in_ok-hub.ensures.opened
-    c.print_all.ensures.ways
+pub returns-clause-orders : goal.returns-clause-orders
+returns-clause-orders g c =
+    subst (λ (ps : List Part). OnOk c.print_all.result (AreTaken ps c.args.events.now)) c.in_ok-hub.ensures.opened
+    c.print_all.ensures.orders

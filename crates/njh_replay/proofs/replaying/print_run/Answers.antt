@@ -9,8 +9,8 @@ use Rattle.njh_replay.specs.declared.printer.Printer.{Printer}
 use Rattle.njh_replay.proofs.PrintedParts.{on_ok_of, on_ok_then}
 use Rattle.njh_replay.proofs.RunPieces.{IsRunSoFar, answers_stopped, behind_order, cut_at, cut_order}
 use Rattle.njh_replay.proofs.RunPieces.{frames_printed, frames_stopped, goes_on, has_customers, last_led}
-use Rattle.njh_replay.proofs.RunPieces.{last_plain, last_printed, last_ways, led_behind, order_named, order_there}
-use Rattle.njh_replay.proofs.RunPieces.{piece_named, plain_event, started, taken_at, ways_behind}
+use Rattle.njh_replay.proofs.RunPieces.{last_plain, last_printed, last_taken, led_behind, order_named, order_there}
+use Rattle.njh_replay.proofs.RunPieces.{piece_named, plain_event, started, taken_at, taken_behind}
 use Rattle.njh_replay.proofs.replaying.print_run.Goals.{in-Order+in_ok-print_frames+in_ok-print_answers, in_default}
 use Rattle.njh_replay.proofs.replaying.print_run.Goals as goal
 
@@ -141,7 +141,7 @@ loop-index-preserved g c =
           w.print_frames.new.hub w.in_ok-print_frames.ensures.after in
           let printed = frames_printed names customers start _ events from index a _ so_far _ same piece _ cut
           so_far.plain b w.in_ok-print_frames.ensures.printed in
-          let ways = ways_behind names customers start _ events from index a _ so_far _ same piece _ cut so_far.plain
+          let taken = taken_behind names customers start _ events from index a _ so_far _ same piece _ cut so_far.plain
           b in
           let read = subst (λ (k : ℕ). w.index-customers-from.result
           ≡ get_or customers k w.index-customers-from.result)
@@ -155,7 +155,7 @@ loop-index-preserved g c =
             so_far = behind_order names customers start w.print_frames.new.hub events (take from events ++ piece)
                 (drop (index + 1) events) n order are led a b d printed w.index-customers-from.result called
                 c.match-event.hub c.match-event.from (index + 1) (contents c.match-event.printer.out.now) w.from-is
-                (taken_at events from index (Order n order) before within is) ways w.in_ok-print_answers.ensures.way
+                (taken_at events from index (Order n order) before within is) taken w.in_ok-print_answers.ensures.taken
                 (hub ∙ w.in_ok-print_answers.ensures.hub)
                 (λ k. ap (λ (ps : List Part). length (part k ps).customer.lines) hub ∙ w.print_answers.ensures.lines k
                 ∙ w.print_frames.ensures.lines k ∙ so_far.lines k)
@@ -201,11 +201,11 @@ returns-clause-printed g c =
     last_printed _ _ _ _ _ _ _ _ _ c.loop-index.invariant.so_far ended _ c.loop-index.invariant.names _
     c.print_frames-2.result c.print_frames-2.ensures.printed
 
-pub returns-clause-ways : goal.returns-clause-ways
-returns-clause-ways g c =
+pub returns-clause-orders : goal.returns-clause-orders
+returns-clause-orders g c =
     let ended : c.loop-index.index ≡ length c.args.events.now = omega arith in
     on_ok_of c.print_frames-2.result _
-    (last_ways _ _ _ _ _ _ _ _ _ c.loop-index.invariant.so_far ended _ c.loop-index.invariant.names
+    (last_taken _ _ _ _ _ _ _ _ _ c.loop-index.invariant.so_far ended _ c.loop-index.invariant.names
     (g.W.Write.contents c.loop-index.printer.out.now))
 
 pub returns-clause-same_reference : goal.returns-clause-same_reference

@@ -1,8 +1,8 @@
 use Rattle.std.proofs.Common.{OnOk, map, subst}
 use Rattle.njh_hub.specs.Parts.{entries_of}
-use Rattle.njh_hub.specs.WholeHub.{HaveWays, part_at_open}
-use Rattle.njh_replay.proofs.PrintSteps.{not_wayless, replayed-begun, replayed-memory, replayed-wayless, replayed-ways}
-use Rattle.njh_replay.proofs.PrintSteps.{replayed-whole, PrintsRun}
+use Rattle.njh_hub.specs.WholeHub.{AreTaken, part_at_open}
+use Rattle.njh_replay.proofs.PrintSteps.{no_message, replayed-begun, replayed-memory, replayed-taken}
+use Rattle.njh_replay.proofs.PrintSteps.{replayed-to_message, replayed-whole, PrintsRun}
 use Rattle.njh_replay.proofs.replaying.replay.Goals as goal
 
 pub returns-clause-replayed : goal.returns-clause-replayed
@@ -35,28 +35,29 @@ returns-clause-memory g c =
     replayed-memory c.args.tables left old new c.in_ok-events.events.items c.in_ok-events.ensures.good
     c.print_events.result printed
 
-pub returns-clause-no_way : goal.returns-clause-no_way
-returns-clause-no_way g c =
+pub returns-clause-message : goal.returns-clause-message
+returns-clause-message g c = λ why of_message stopped.
     let left = g.R.Read.remaining c.args.script.now in
     let old = g.W.Write.contents c.args.out.now in
     let new = g.W.Write.contents c.print_events.new.out in
     let printed = subst (λ events. PrintsRun c.args.tables events c.print_events.result old new) c.deref.ensures.value
     c.print_events.ensures.printed in
-    replayed-wayless c.args.tables left old new c.in_ok-events.events.items c.in_ok-events.ensures.good
-    c.print_events.result printed
+    replayed-to_message c.args.tables left old new c.in_ok-events.events.items c.in_ok-events.ensures.good
+    c.print_events.result printed why of_message stopped
 
-pub returns-clause-ways : goal.returns-clause-ways
-returns-clause-ways g c =
+pub returns-clause-orders : goal.returns-clause-orders
+returns-clause-orders g c =
     let left = g.R.Read.remaining c.args.script.now in
     let old = g.W.Write.contents c.args.out.now in
     let new = g.W.Write.contents c.print_events.new.out in
     let parts = map part_at_open (entries_of c.args.tables) in
-    let ways = subst (λ events. OnOk c.print_events.result (HaveWays parts events)) c.deref.ensures.value
-    c.print_events.ensures.ways in
-    replayed-ways c.args.tables left old new c.in_ok-events.events.items c.in_ok-events.ensures.good
-    c.print_events.result ways
+    let taken = subst (λ events. OnOk c.print_events.result (AreTaken parts events)) c.deref.ensures.value
+    c.print_events.ensures.orders in
+    replayed-taken c.args.tables left old new c.in_ok-events.events.items c.in_ok-events.ensures.good
+    c.print_events.result taken
 
--- a script that isn't read ends no run for want of a way
-pub returns-in_err-events-clause-no_way : goal.returns-in_err-events-clause-no_way
-returns-in_err-events-clause-no_way g c =
-    not_wayless c.from_residual.result _ _ c.from_residual.ensures.1 c.in_err-events.ensures.memory
+-- a script that isn't read ends no run at a message
+pub returns-in_err-events-clause-message : goal.returns-in_err-events-clause-message
+returns-in_err-events-clause-message g c = λ why of_message stopped.
+    no_message c.from_residual.result _ why _ c.from_residual.ensures.1 c.in_err-events.ensures.memory of_message
+    stopped
