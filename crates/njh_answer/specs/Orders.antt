@@ -1,4 +1,4 @@
--- What is told of an order: what it answered, or that it isn't known, waits, or had no way.
+-- What is told of an order: what it answered, or that it isn't known, waits, or had no way or no room.
 use Rattle.std.specs.Prelude.{ℕ, ◌==◌, Bool, List, map, flat_map, codes, Option, Some, None, Result, Ok, Err}
 use Rattle.std.specs.Prelude.{encode_utf8}
 use Rattle.serde_json.specs.Data.{Data, number, unsigned, string, array, object, member, no_members}
@@ -10,7 +10,7 @@ use Rattle.njh_request.specs.declared.refusal.RequestRefusal.TheVariants as refu
 use Rattle.njh_answer.specs.Fields.{name_text}
 use Rattle.njh_answer.specs.declared.orders.OrderRecord.{OrderRecord}
 use Rattle.njh_answer.specs.declared.orders.Outcome.{Outcome}
-use Rattle.njh_answer.specs.declared.orders.Outcome.TheVariants.{Waits, Done, NotKept, NoWay}
+use Rattle.njh_answer.specs.declared.orders.Outcome.TheVariants.{Waits, Done, NotKept, NoWay, QueueFull}
 
 abbrev pub viewed : Result Value RequestRefusal → Result Data RequestRefusal
 viewed (Ok value) = Ok (view value)
@@ -34,6 +34,7 @@ told_by order Waits = Err refusal.OrderWaits
 told_by order (Done replies) = Ok (done_data order replies.items)
 told_by order NotKept = Err refusal.NotKept
 told_by order NoWay = Err refusal.NoWay
+told_by order QueueFull = Err refusal.QueueFull
 
 abbrev pub order_told : OrderRecord → Result Data RequestRefusal
 order_told order = told_by order order.outcome

@@ -22,6 +22,8 @@ pub enum Outcome {
     NotKept,
     /// It was a message to a node to which no line leads.
     NoWay,
+    /// It was a message, and the queue of the line to its node was full.
+    QueueFull,
 }
 
 /// An order that was taken.
@@ -66,6 +68,7 @@ fn told_value(
     match &order.outcome {
         Outcome::Waits => Ok(Err(RequestRefusal::OrderWaits)),
         Outcome::NoWay => Ok(Err(RequestRefusal::NoWay)),
+        Outcome::QueueFull => Ok(Err(RequestRefusal::QueueFull)),
         Outcome::NotKept => Ok(Err(RequestRefusal::NotKept)),
         Outcome::Done(replies) => {
             let value = done_value(alloc, order, replies)?;

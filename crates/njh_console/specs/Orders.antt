@@ -5,11 +5,12 @@ use Rattle.std.specs.Prelude.{slice_index_or, Option, Some, None, is_some, Resul
 use Rattle.njh_customer.specs.declared.given_order.GivenOrder.{GivenOrder}
 use Rattle.njh_customer.specs.declared.given_order.GivenOrder.TheVariants.{Command}
 use Rattle.njh_hub.specs.declared.fault.HubFault.{HubFault}
+use Rattle.njh_hub.specs.declared.fault.HubFault.TheVariants as fault
 use Rattle.njh_turns.specs.declared.attendant.NewOrder.{NewOrder}
 use Rattle.njh_turns.specs.Service.{ordered}
 use Rattle.njh_answer.specs.declared.orders.OrderRecord.{OrderRecord}
 use Rattle.njh_answer.specs.declared.orders.Outcome.{Outcome}
-use Rattle.njh_answer.specs.declared.orders.Outcome.TheVariants.{Waits, Done, NotKept, NoWay}
+use Rattle.njh_answer.specs.declared.orders.Outcome.TheVariants.{Waits, Done, NotKept, NoWay, QueueFull}
 
 pub record TakenOrders : Type 0 where
   pub records : List OrderRecord
@@ -53,12 +54,17 @@ given_of (Some order) before = Some (ordered order)
 abbrev pub with_order_given : TakenOrders → TakenOrders
 with_order_given o = record o { waiting = None; given = given_of o.waiting o.given }
 
+-- what comes of an order that the hub refused by this fault
+abbrev pub refused_as : HubFault → Outcome
+refused_as fault.QueueFull = QueueFull
+refused_as other = NoWay
+
 -- What comes of an order that the hub answered so, with these replies: they are kept, or there was no memory for them.
 abbrev pub IsOutcomeOf : {A : Type 0} → Result A HubFault → List (List ℕ) → Outcome → Type 0
 IsOutcomeOf (Ok x) replies (Done texts) = texts.items ≡ replies
 IsOutcomeOf (Ok x) replies NotKept = ⊤
-IsOutcomeOf (Err e) replies NoWay = ⊤
-IsOutcomeOf answer replies outcome = ⊥
+IsOutcomeOf (Ok x) replies outcome = ⊥
+IsOutcomeOf (Err e) replies outcome = outcome ≡ refused_as e
 
 -- the last of them has this outcome
 abbrev pub with_last : Outcome → List OrderRecord → List OrderRecord

@@ -162,6 +162,7 @@ fn outcome_of(alloc: Global, answer: Result<(), HubFault>, replies: &Replies) ->
             Ok(texts) => Outcome::Done(texts),
             Err(_) => Outcome::NotKept,
         },
+        Err(HubFault::QueueFull) => Outcome::QueueFull,
         Err(_) => Outcome::NoWay,
     }
 }

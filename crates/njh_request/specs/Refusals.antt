@@ -3,7 +3,7 @@ use Rattle.std.specs.Prelude.{ℕ, List, codes}
 use Rattle.njh_request.specs.declared.refusal.RequestRefusal.{RequestRefusal}
 use Rattle.njh_request.specs.declared.refusal.RequestRefusal.TheVariants.{NoResource, BadMethod, BadPlace, NotJson, BadText}
 use Rattle.njh_request.specs.declared.refusal.RequestRefusal.TheVariants.{BadUser, NotACommand, NoOwner, BadState, BadMoment}
-use Rattle.njh_request.specs.declared.refusal.RequestRefusal.TheVariants.{NoFile, NoOrder, NoWay, SeveralOwners}
+use Rattle.njh_request.specs.declared.refusal.RequestRefusal.TheVariants.{NoFile, NoOrder, NoWay, QueueFull, SeveralOwners}
 use Rattle.njh_request.specs.declared.refusal.RequestRefusal.TheVariants.{OrderWaits, NotKept, TooLong}
 
 abbrev pub status_of : RequestRefusal → ℕ
@@ -20,6 +20,7 @@ status_of BadMoment = 400
 status_of NoFile = 404
 status_of NoOrder = 404
 status_of NoWay = 404
+status_of QueueFull = 503
 status_of SeveralOwners = 409
 status_of OrderWaits = 409
 status_of NotKept = 500
@@ -40,6 +41,7 @@ sentence_of BadMoment = codes "when_idle is true or false"
 sentence_of NoFile = codes "the customer has no file of this name"
 sentence_of NoOrder = codes "no order of this number is remembered"
 sentence_of NoWay = codes "no line leads to this node"
+sentence_of QueueFull = codes "64 messages wait on the line to this node"
 sentence_of SeveralOwners = codes "files of this name have several owners: give one"
 sentence_of OrderWaits = codes "the order hasn't been carried out yet"
 sentence_of NotKept = codes "the order was carried out, but there was no memory for its replies"

@@ -32,6 +32,8 @@ pub enum RequestRefusal {
     NoOrder,
     /// No line leads to the node of whom the message is for.
     NoWay,
+    /// The queue of the line that leads there is full.
+    QueueFull,
     /// Files of this name have several owners, and none is given.
     SeveralOwners,
     /// The order hasn't been carried out yet.
@@ -53,6 +55,7 @@ impl RequestRefusal {
             | RequestRefusal::NoOrder
             | RequestRefusal::NoWay => NOT_FOUND,
             RequestRefusal::SeveralOwners | RequestRefusal::OrderWaits => CONFLICT,
+            RequestRefusal::QueueFull => UNAVAILABLE,
             RequestRefusal::NotKept | RequestRefusal::TooLong => SERVER_FAULT,
             _ => BAD_REQUEST,
         }
@@ -78,6 +81,7 @@ impl RequestRefusal {
             RequestRefusal::NoFile => "the customer has no file of this name",
             RequestRefusal::NoOrder => "no order of this number is remembered",
             RequestRefusal::NoWay => "no line leads to this node",
+            RequestRefusal::QueueFull => "64 messages wait on the line to this node",
             RequestRefusal::SeveralOwners => "files of this name have several owners: give one",
             RequestRefusal::OrderWaits => "the order hasn't been carried out yet",
             RequestRefusal::NotKept =>
@@ -94,3 +98,5 @@ const NOT_FOUND: u16 = 404;
 const CONFLICT: u16 = 409;
 
 const SERVER_FAULT: u16 = 500;
+
+const UNAVAILABLE: u16 = 503;

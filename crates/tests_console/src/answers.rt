@@ -171,10 +171,11 @@ fn line_views(alloc: Global) -> Result<Vec<LineView>, AllocError> {
     Ok(lines)
 }
 
-/// Three orders: one was carried out, one waits, and one had no way.
+/// Four orders: one had no room, one was carried out, one waits, and one had no way.
 fn order_records(alloc: Global) -> Result<Vec<OrderRecord>, AllocError> {
     let mut orders = Vec::new(alloc);
     if let Ok(customer) = Name::of_text("ACME") {
+        orders.push(order_record(2, customer, Outcome::QueueFull))?;
         orders.push(order_record(3, customer, Outcome::Done(replies(alloc)?)))?;
         orders.push(order_record(4, customer, Outcome::Waits))?;
         orders.push(order_record(5, customer, Outcome::NoWay))?;

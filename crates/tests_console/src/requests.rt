@@ -125,10 +125,11 @@ fn told(alloc: Global, tables: &Tables, line: &str) -> Result<String, AllocError
 }
 
 /// The refusals that no request has by itself.
-const LATER: [RequestRefusal; 7] = [
+const LATER: [RequestRefusal; 8] = [
     RequestRefusal::NoFile,
     RequestRefusal::NoOrder,
     RequestRefusal::NoWay,
+    RequestRefusal::QueueFull,
     RequestRefusal::SeveralOwners,
     RequestRefusal::OrderWaits,
     RequestRefusal::NotKept,
