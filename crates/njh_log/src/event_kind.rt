@@ -70,7 +70,9 @@ impl EventKind {
     }
 
     /// The kind of a number.
-    pub(crate) fn at(number: usize) -> EventKind {
+    pub(crate) fn at(number: usize) -> EventKind
+        ensures { number < 16 → kind_number result ≡ number }
+    {
         match number {
             0 => EventKind::Connections,
             1 => EventKind::Ends,

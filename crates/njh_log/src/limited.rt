@@ -22,7 +22,9 @@ const LOOK: u64 = 1_000;
 /// time, and what comes beyond is told as a count.
 #[derive(Drop)]
 pub struct LimitedLog<L: Write + Drop> {
+    /// What is written goes there.
     pub log: Log<L>,
+    /// How much more is written of each kind and place, and what was counted.
     pub spells: Spells,
     /// From when on it is looked whether spells are over, on the service's clock.
     pub again: u64,

@@ -1,6 +1,8 @@
 //! How many lines of a kind and place are written, and what is counted instead.
 
-ghost use Rattle.std.specs.Prelude.{◌≡◌, ◌≢◌, ℕ, ◌<◌, ◌↔◌, [], length, IfOk, IfSome, IsSome, IsTrue};
+ghost use Rattle.std.specs.Prelude.{◌≡◌, ◌≢◌, ℕ, ◌<◌, ◌↔◌, ◌/◌, ◌%◌, [], length, slice_get, IfOk, IfSome};
+ghost use Rattle.std.specs.Prelude.{IsSome, IsTrue, Some};
+ghost use Rattle.njh_log.specs.Kinds.{kind_number};
 ghost use Rattle.njh_log.specs.Spells.{after_event, after_kind, after_telling, begun, has_room, is_due, is_for, is_written};
 ghost use Rattle.njh_log.specs.Spells.{keeper_of, limit_of, noted_at, number_of, spell_at, writes};
 
@@ -21,7 +23,9 @@ const SPELLS: usize = PLACES * KINDS;
 /// How many lines are written in how many milliseconds.
 #[derive(Clone, Copy, Drop)]
 pub struct Limit {
+    /// How many lines.
     pub lines: u32,
+    /// In how many milliseconds.
     pub milliseconds: u64,
 }
 
@@ -233,7 +237,10 @@ impl Spells {
     }
 
     /// Where a spell is, and of which kind.
-    pub(crate) fn place_of(&self, index: usize) -> (Place, EventKind) {
+    pub(crate) fn place_of(&self, index: usize) -> (Place, EventKind)
+        ensures place { (place : Place) → slice_get self.now.places (index / 16) ≡ Some (Some place) → result.0 ≡ place }
+        ensures kind { kind_number result.1 ≡ index % 16 }
+    {
         let place = match self.places.get(index / KINDS) {
             Some(Some(place)) => *place,
             Some(None) => Place::Hub,
