@@ -2,8 +2,6 @@
 use Rattle.std.specs.Prelude.{List, []}
 use Rattle.njh_anteroom.specs.declared.guest.Guest.{Guest}
 use Rattle.njh_anteroom.specs.declared.remembered.Remembered.{Remembered}
-use Rattle.njh_anteroom.specs.Remembered.{IsMemory}
-use Rattle.njh_anteroom.specs.Waiting.{IsQueue}
 
 -- who waits, in the order in which they came, and what is remembered of addresses, what was noted last behind all else
 pub record Room (C : Type 0) : Type 0 where
@@ -12,8 +10,3 @@ pub record Room (C : Type 0) : Type 0 where
 
 abbrev pub empty_room : {C : Type 0} → Room C
 empty_room = record { waiting = []; remembered = [] }
-
--- what always holds
-pub record IsRoom {C : Type 0} (room : Room C) : Type 0 where
-  pub queue : IsQueue room.waiting
-  pub memory : IsMemory room.remembered
