@@ -452,8 +452,8 @@ impl<N: Network + Drop, L: Write + Drop> Exchange<N, L> {
     }
 
     /// Of each line that was looked at, which are all that had a turn, lets out what waits, ends a
-    /// connection whose session gave up or refused a sign-on, and tells what changed. Then has those lines looked at in
-    /// the next round to which others of their customers gave something to send.
+    /// connection whose session gave up or refused a sign-on, and tells what changed. Then has those
+    /// lines looked at in the next round to which others of their customers gave something to send.
     pub fn end_round(&mut self, hub: &Hub, wires: &mut [LineWire<N::Connection>])
         ensures still { AreStill IsTallied (λ wire. wire.failures) wires.old wires.new }
         ensures lines { self.new.lines ≡ self.old.lines }
