@@ -1,3 +1,4 @@
 pub mod ProgramOutcome
 pub mod ShownText
 pub mod SpoolService
+pub mod Unserved

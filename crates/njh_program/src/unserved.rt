@@ -1,7 +1,8 @@
 //! Whether the protocols of lines are served.
 
-ghost use Rattle.std.specs.Prelude.{IfErr};
+ghost use Rattle.std.specs.Prelude.{◌≡◌, find, option_map, None, IfErr, IsSome, OnErr, OnOk};
 ghost use Rattle.njh_program.specs.ProgramOutcome.{IsOfDevices};
+ghost use Rattle.njh_program.specs.Unserved.{first_unserved, has_unserved, is_unserved};
 
 use njh_log::{Heading, Log};
 use njh_sockets::utc_milliseconds;
@@ -17,43 +18,54 @@ pub(crate) fn refuse_unserved<F: Clock, L: Write + Drop>(
     tables: &Tables,
     log: &mut Log<L>,
 ) -> Result<(), Failure>
-    ensures { IfErr result IsOfDevices }
+    ensures served { OnOk result (first_unserved tables.now ≡ None) }
+    ensures refused { OnErr result (IsSome (first_unserved tables.now)) }
+    ensures device { IfErr result IsOfDevices }
 {
-    for customer in tables.customers() {
-        refuse_unserved_of(rt, customer, log)?;
-    }
-    Ok(())
-}
-
-/// The same of a customer's lines.
-fn refuse_unserved_of<F: Clock, L: Write + Drop>(
-    rt: &F,
-    customer: &NamedCustomer,
-    log: &mut Log<L>,
-) -> Result<(), Failure>
-    ensures { IfErr result IsOfDevices }
-{
-    for line in customer.lines() {
-        refuse_line(rt, line, log)?;
-    }
-    Ok(())
-}
-
-/// The same of a line.
-fn refuse_line<F: Clock, L: Write + Drop>(
-    rt: &F,
-    line: &NamedLine,
-    log: &mut Log<L>,
-) -> Result<(), Failure>
-    ensures { IfErr result IsOfDevices }
-{
-    match line.protocol() {
-        Protocol::Bisync => Ok(()),
-        Protocol::Tcp => {
+    match first_unserved(tables) {
+        None => Ok(()),
+        Some(line) => {
             let unserved = Unserved { line: line.name() };
             log.write(Heading::error(utc_milliseconds(rt)), &unserved);
             Err(Failure::Device)
         }
+    }
+}
+
+/// The first line of tables that isn't served, if there is one.
+fn first_unserved(tables: &Tables) -> Option<&NamedLine>
+    ensures { option_map (λ line. line.now) result ≡ first_unserved tables.now }
+{
+    let customer = first_with_unserved(tables.customers())?;
+    unserved_in(customer.lines())
+}
+
+/// The first customer that has such a line.
+fn first_with_unserved(customers: &[NamedCustomer]) -> Option<&NamedCustomer>
+    ensures { option_map (λ customer. customer.now) result ≡ find has_unserved customers.now }
+{
+    customers.iter().find(|customer| has_unserved(*customer))
+}
+
+/// The first of some lines that isn't served.
+fn unserved_in(lines: &[NamedLine]) -> Option<&NamedLine>
+    ensures { option_map (λ line. line.now) result ≡ find is_unserved lines.now }
+{
+    lines.iter().find(|line| is_unserved(*line))
+}
+
+fn has_unserved(customer: &NamedCustomer) -> bool
+    ensures { result ≡ has_unserved customer.now }
+{
+    customer.lines().iter().any(|line| is_unserved(line))
+}
+
+fn is_unserved(line: &NamedLine) -> bool
+    ensures { result ≡ is_unserved line.now }
+{
+    match line.protocol() {
+        Protocol::Bisync => false,
+        Protocol::Tcp => true,
     }
 }
 
