@@ -1,14 +1,14 @@
 #!/usr/bin/env python3
 """Says what a run of the gate costs: by part and by crate, in minutes of CPU and GB of memory.
 
-    python3 benches/gate/minutes.py [--cpus 0,1] [--keep] [the words of a command: the gate's rt ci where none are given]
+    python3 benches/gate/minutes.py [--cpus 0,1] [--keep] [words of a command; where none are given, the gate's rt ci]
 
 Where the toolchain's `rt ci` keeps what passed and no words are given, it is told to keep nothing (`--anew`); older
 ones keep nothing anyway.
 
-The file minutes.txt beside this, if it is there, has each crate's minutes of CPU at the last measurement. After a run that did a crate's
-whole work this says which crates took over a quarter more than they did then, where the run as a whole took so many
-times as long as then: machines differ. --keep writes what this run took into that file.
+The file minutes.txt beside this, if it is there, has each crate's minutes of CPU at the last measurement. After a run
+that did a crate's whole work this says which crates took over a quarter more than they did then, where the run as a
+whole took so many times as long as then: machines differ. --keep writes what this run took into that file.
 
 Runs the command at the top of the repository (with --cpus, on these processors alone) and looks at its processes twice
 a second: the crate is the one that a check names, the part what the check is for. What a process used since it was

@@ -7,9 +7,9 @@
 highest ones: minutes before a check there begins, one crate at a time. Nothing of a source changes while `rt` runs, so
 a sum is kept by its crate's folder here.
 
-`rt` gives a check that no other waits beside the processors that are idle, as far as memory holds that, and reckons that
-a check of this repository takes up to 11.6 GB, so that two run at once where four would. No check took more than 6.5 GB
-and most under 3, in part files of libraries that they share, so no more than MOST is reckoned here for one.
+`rt` gives a check that no other waits beside the processors that are idle, as far as memory holds that, and reckons
+that a check of this repository takes up to 11.6 GB, so that two run at once where four would. No check took more than
+6.5 GB and most under 3, in part files of libraries that they share, so no more than MOST is reckoned here for one.
 
 All else is the toolchain's. If its `rt` is made otherwise, it is run as it is.
 """

@@ -104,7 +104,7 @@ def most_in(times, seconds):
 
 
 def most_in_turn(times, seconds):
-    """The most of these moments in so many seconds, where each such time begins with the first moment behind the last."""
+    """The most of these moments in so many seconds; each such time begins with the first moment behind the last."""
     most = first = 0
     for last, at in enumerate(times):
         if times[first] <= at - seconds:
