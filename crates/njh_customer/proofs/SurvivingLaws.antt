@@ -3,16 +3,15 @@ use Rattle.njh_customer.proofs.Words
 use Words.{cond_both, ℕ, zero, suc, Bool, true, cond, not, inl, inr, List, [], length, map, filter, take, None}
 use Words.{IsSomeAnd, refl, sym, ap, subst, arith, length-append, append_assoc, append-nil, take-append-le}
 use Words.{Contains-append_right, Contains, is_name, Stored, Kind, with_destination, records_to_node, WholeFile}
-use Words.{max_arrived, CustomerEntry, entry_marked, entries_of_routes, has_lost_route, held_file, ready, changed_file}
-use Words.{is_of_name, may_change, with_new_destination, Coming, Records, Routes, nowhere, onward, MovesBy}
-use Words.{with_changed, coming, entry_with, Outgoing, with_arrival, outgoing, part_after_bytes, OwnBytes, alone_run}
+use Words.{max_arrived, CustomerEntry, has_lost_route, held_file, ready, changed_file}
+use Words.{is_of_name, may_change, with_new_destination, Coming, nowhere, onward}
+use Words.{with_changed, coming, Outgoing, with_arrival, outgoing, part_after_bytes, OwnBytes, alone_run}
 use Words.{event_run, IsRerouted, as_before, to_node, IsStill, Survive, stays, leaves, FilesGoOn, FilesSurvive}
 use Words.{EventsKeepFiles, TakesKeepFiles, FirstFilesSurvive, FilesGoOnFurther, RunsKeepFiles, SurvivorsAreNumbered}
-use Words.{Command, Item, Order, Some, User, command_of}
 use Rattle.{std.proofs.Common.{◌≡◌, ◌<◌, ◌≤◌, ◌-◌, ◌∷◌, ◌++◌, ◌∙◌}, njh_header.proofs.Redirected.redirected_is}
-use Rattle.{njh_command.proofs.RerouteNodes.nodes_are_names, njh_customer.proofs.EventMoves.{events_move, takes_move}}
-use Rattle.njh_customer.proofs.{FileListLaws.{first_or_later, found_numbered}, RecordsChange.{CommandFiles, FilesDo}}
-use Rattle.njh_customer.proofs.RecordsChange.{command_files, files_do}
+use Rattle.{njh_customer.proofs.EventMoves.{events_move, takes_move}}
+use Rattle.njh_customer.proofs.{FileListLaws.{first_or_later, found_numbered}, RecordsChange.{FilesDo, files_do}}
+use Rattle.njh_customer.proofs.RecordsChange.{node_named}
 use Rattle.njh_customer.specs.Surviving.{none}
 use Rattle.njh_customer.proofs.RecordsChange as does
 
@@ -186,53 +185,26 @@ rerouted_still node is f = record {
       (as_before (records_to_node f.kind node None f.records)));
 }
 
-by_files : (entry : CustomerEntry) (l : ℕ) (items : List Item) (x y : Outgoing) → FilesDo entry l items x y
-    → y.arrived < max_arrived → FilesGoOn x y
-by_files entry l items x y (does.states same arrived) below =
-    none_came x y y.files refl (but_states x.files y.files same) arrived
-by_files entry l items x y (does.comes i rcb srcb f at is waits whole e) below = one_came x y f e below
-by_files entry l items x y (does.rerouted i who name node at given e) below =
-    let p = is_of_name who name in
-    let named = nodes_are_names given.nodal.message name node given.says in
-    let change = with_new_destination node in
-    none_came x y (with_changed p change x).files (ap (λ z. z.files) e)
-    (all_still (changed_file p change) (changed_still p change (rerouted_still node named)) x.files)
-    (ap (λ z. z.arrived) e)
-by_files entry l items x y (does.leave p e arrived each) below =
-    none_came x y (filter (λ f. not (p f)) x.files) e (some_still (λ f. not (p f)) x.files) arrived
-
-by_command : (who : User) (command : Command) (text : List ℕ) (x y : Outgoing) → command_of text ≡ Some command
-    → CommandFiles who command x y → FilesGoOn x y
-by_command who command text x y says (does.in_new_states same arrived) =
-    none_came x y y.files refl (but_states x.files y.files same) arrived
-by_command who command text x y says (does.to_another name node is e) =
-    let p = is_of_name who name in
-    let named = nodes_are_names text name node (says ∙ ap Some is) in
-    let change = with_new_destination node in
-    none_came x y (with_changed p change x).files (ap (λ z. z.files) e)
-    (all_still (changed_file p change) (changed_still p change (rerouted_still node named)) x.files)
-    (ap (λ z. z.arrived) e)
-by_command who command text x y says (does.files_gone name is e arrived) =
-    let stays : WholeFile → Bool = λ f. not (is_of_name who name f) in
-    none_came x y (filter stays x.files) e (some_still stays x.files) arrived
-
-one_move : (entry : CustomerEntry) (came : Coming) (x y : Outgoing) → MovesBy entry came x y → y.arrived < max_arrived
+one_move : (entry : CustomerEntry) (came : Coming) (x y : Outgoing) → FilesDo entry came x y → y.arrived < max_arrived
     → FilesGoOn x y
-one_move entry (Records l items) x y (up, move) below =
-    let marked = entry_marked l up entry in by_files marked l items x y (files_do marked l items x y move) below
-one_move entry (Routes routes) x y given below =
-    let new = entry_with (entries_of_routes routes) entry in
-    none_came x y (map (λ f. cond (has_lost_route new f) (held_file f) f) x.files) (ap (λ z. z.files) given.holds)
-    (held_still new x.files) (ap (λ z. z.arrived) given.holds)
-one_move entry (Order order) x y move below =
-    by_command move.who move.command move.given.text x y move.given.says
-    (command_files entry move.who move.command x y move.moves)
+one_move entry came x y (does.states same arrived) below =
+    none_came x y y.files refl (but_states x.files y.files same) arrived
+one_move entry came x y (does.comes f arrived e) below = one_came x y f e below
+one_move entry came x y (does.rerouted who name node given e) below =
+    let p = is_of_name who name in
+    let change = with_new_destination node in
+    let named = node_named entry came who name node given in
+    none_came x y (with_changed p change x).files (ap (λ z. z.files) e)
+    (all_still (changed_file p change) (changed_still p change (rerouted_still node named)) x.files)
+    (ap (λ z. z.arrived) e)
+one_move entry came x y (does.leave p e arrived each) below =
+    none_came x y (filter (λ f. not (p f)) x.files) e (some_still (λ f. not (p f)) x.files) arrived
 
 pub files_survive : FilesSurvive
 files_survive entry came _ _ (nowhere x) below = none_came x x x.files refl (same_files x.files) refl
 files_survive entry came _ _ (onward x y z move later) below =
     let further = files_survive entry came y z later below in
-    goes_on_then x y z (one_move entry came x y move (omega arith)) further
+    goes_on_then x y z (one_move entry came x y (files_do entry came x y move) (omega arith)) further
 
 pub events_keep_files : EventsKeepFiles
 events_keep_files p event below = files_survive p.customer.entry (coming p event) (outgoing p.customer)
