@@ -1,15 +1,13 @@
 -- What changes of a customer's files no more than states of whole ones.
 use Rattle.njh_customer.proofs.Words
-use Words.{ℕ, cond, List, [], All, map, Option, Some, None, refl, sym, subst, arith, Bool, not, true, false, slice_get}
-use Words.{option_map, get_or-map, length-map, All-map, All-filter, all_suspended, kind_of, has_room, HasHeaders}
+use Words.{ℕ, cond, List, [], All, map, Option, Some, None, refl, sym, subst, arith, Bool, not}
+use Words.{get_or-map, length-map, All-map, All-filter, HasHeaders}
 use Words.{CustomerSpool, WholeFile, with_state, without_partial, without_whole, State, Ready, Refused, CustomerEntry}
 use Words.{has_lost_route, held_file, unrouted_held, without_all_open, without_open, all_ended, file_in, may_go_again}
-use Words.{ready, spool_after_session, tried_again, after_completion, after_refusal, next_of, HaveHeaders, Receiver}
-use Words.{Sender, Outlet, Candidate, Filling, Source, WaitingAnswer, StreamAbort, StreamRequest, WaitingMessage}
-use Words.{StreamTurn, answering, abort_where, asking, may_ask, oldest, telling, serving, next_served, candidate}
-use Words.{added_where, after_candidate, after_source_where, filled_where, sources, limits_of}
-use Rattle.{std.proofs.Common.{◌≡◌, ◌==◌, ◌∷◌, ◌∙◌}, njh_spool.specs.declared.State.TheVariants.Sending}
-use Rattle.njh_sched.specs.NextBlock.{sender_at, after_source, after_sources, filled_block}
+use Words.{ready, spool_after_session, tried_again, after_completion, after_refusal, HaveHeaders, Receiver}
+use Words.{Sender}
+use Words.{limits_of}
+use Rattle.{std.proofs.Common.{◌≡◌, ◌==◌, ◌∷◌, ◌∙◌}}
 use Rattle.njh_customer.proofs.FileListLaws.{changed_where}
 use Rattle.njh_stream.specs.declared.receiver.Receiver.TheVariants as receiver
 use Rattle.njh_stream.specs.declared.sender.Sender.TheVariants as sender
@@ -127,74 +125,3 @@ pub completed_harmless : (x : Sender) (s : CustomerSpool) → IsHarmless s (afte
 completed_harmless x s = completed_so (IsHarmless s) s
     (λ n. record { partial = refl; limits = refl; headers = All-filter (λ f. not (f.number == n)) Reads s.whole })
     (restated_harmless s s (as_it_is s)) x
-
--- ---- what fills a block
-
-pub record Kept (y x : Filling) : Type 0 where
-  pub fcs : y.block.fcs ≡ x.block.fcs
-  pub files : IsRestated x.spool y.spool
-
--- a record that may come leaves all but states of whole files
-abbrev IsCalm : CustomerSpool → Option Candidate → Type 0
-IsCalm s None = Unit {0}
-IsCalm s (Some c) = IsRestated s c.spool
-
-calm_map : {A : Type 0} (s : CustomerSpool) (f : A → Candidate) (o : Option A) → ((x : A) → IsRestated s (f x).spool)
-    → IsCalm s (option_map f o)
-calm_map s f None each = tt
-calm_map s f (Some x) each = each x
-
-calm_abort : (x : Sender) (o : Outlet) (s : CustomerSpool) (k : ℕ) → IsCalm s (abort_where x o s k)
-calm_abort sender.Aborting o s k = as_it_is s
-calm_abort _ o s k = tt
-
-calm_request : (goes : WholeFile → Bool) (o : Outlet) (s : CustomerSpool) (k : ℕ) (b : Bool)
-    → IsCalm s (elim b [ false ↦ None | true ↦ option_map (λ f. asking o s k f.number) (oldest goes (kind_of k) s) ])
-calm_request goes o s k false = tt
-calm_request goes o s k true = calm_map {A = WholeFile} s (λ f. asking o s k f.number) (oldest goes (kind_of k) s)
-    (λ f. marked_restated f.number Sending s)
-
-calm : (goes : WholeFile → Bool) (source : Source) (o : Outlet) (s : CustomerSpool)
-    → IsCalm s (candidate goes source o s)
-calm goes WaitingAnswer o s = calm_map s (answering o s) (slice_get o.answers 0) (λ a. as_it_is s)
-calm goes (StreamAbort k) o s = calm_abort (sender_at k o) o s k
-calm goes (StreamRequest k) o s = calm_request goes o s k (may_ask o k)
-calm goes WaitingMessage o s = calm_map s (telling o s) (slice_get o.messages 0) (λ m. as_it_is s)
-calm goes StreamTurn o s = calm_map s (λ k. serving o s k (next_of (sender_at k o) s)) (next_served o) (λ k. as_it_is s)
-
-same : (x : Filling) → Kept x x
-same x = record { fcs = refl; files = as_it_is x.spool }
-
-after_candidate_kept : (o : Option Candidate) (x : Filling) → IsCalm x.spool o → Kept (after_candidate o x) x
-after_candidate_kept None x h = same x
-after_candidate_kept (Some c) x h =
-    elim (has_room x.block c.item) as (λ b. Kept (added_where b c x) x) [
-      | true ↦ record { fcs = refl; files = h }
-      | false ↦ record { fcs = refl; files = as_it_is x.spool }
-    ]
-
-after_source_kept : (goes : WholeFile → Bool) (source : Source) (x : Filling) → Kept (after_source goes source x) x
-unfolding after_source
-after_source_kept goes source x = elim (x.full) as (λ b. Kept (after_source_where b goes source x) x) [
-  | true ↦ same x
-  | false ↦ after_candidate_kept (candidate goes source x.outlet x.spool) x (calm goes source x.outlet x.spool)
-]
-
-after_sources_kept : (goes : WholeFile → Bool) (more : List Source) (x : Filling) → Kept (after_sources goes more x) x
-unfolding after_sources
-after_sources_kept goes [] x = same x
-after_sources_kept goes (source ∷ more) x =
-    let one = after_source_kept goes source x in
-    let y = after_source goes source x in
-    let rest = after_sources_kept goes more y in
-    record {
-      fcs = rest.fcs ∙ one.fcs;
-      files = restated_then x.spool y.spool (after_sources goes more y).spool one.files rest.files;
-    }
-
-pub filled_kept : (goes : WholeFile → Bool) (x : Filling) → Kept (filled_block goes x) x
-unfolding filled_block
-filled_kept goes x = elim (all_suspended x.outlet.peer_fcs) as (λ b. Kept (filled_where b goes x) x) [
-  | true ↦ same x
-  | false ↦ after_sources_kept goes (sources x.block.limit x.outlet) x
-]

@@ -11,11 +11,14 @@ use Words.{requests, sources, turns, waiting_answers, waiting_messages, filling,
 use Words.{LeadsByMoves, nowhere, onward, Sends, Outgoing, record_numbered, sender_on, with_sender_on, outgoing}
 use Words.{streams_from_hub, next_block, outlet_of, own_block, sending_of_reply, map, take, drop, length-drop}
 use Words.{length-take-le, rcb_of, end_of_file, file_records, record_item, records_under, sends_file, Carries}
+use Words.{length-replicate}
 use Rattle.std.proofs.Common.{◌≡◌, ◌<◌, ◌+◌, ◌∷◌, ◌++◌, ◌%◌, ◌∙◌}
 use Rattle.njh_stream.specs.declared.sender.Sender.TheVariants.{Idle, Sending}
 use Rattle.njh_sched.{proofs.CarryingLaws.{filled_carries, filled_quiet}, specs.NextBlock.{sender_at, after_source}}
 use Rattle.{njh_sched.specs.NextBlock.{after_sources, filled_block, streams}, njh_customer.proofs.OutgoingLaws.of_parts}
-use Rattle.njh_customer.proofs.OutgoingLaws.{own_again}
+use Rattle.njh_customer.proofs.{OutgoingLaws.{own_again}, Restated.{IsRestated, as_it_is, marked_restated}}
+use Rattle.njh_customer.proofs.Restated.{restated_then}
+use Rattle.njh_spool.specs.declared.State.TheVariants as state
 use Rattle.njh_line.specs.declared.verdict.LineReply.TheVariants as reply
 use Rattle.njh_customer.specs.Moves as moves
 use Rattle.njh_customer.specs.FrameEffects as effects
@@ -54,7 +57,7 @@ messages_eight : (b : Bool) (messages : List (List ℕ)) → AreOfEight (message
 messages_eight true messages = many_eight (length messages) WaitingMessage tt
 messages_eight false messages = tt
 
-pub sources_eight : (limit : ℕ) (o : Outlet) → AreOfEight (sources limit o)
+sources_eight : (limit : ℕ) (o : Outlet) → AreOfEight (sources limit o)
 sources_eight limit o = both_eight (waiting_answers o) (aborts ++ (requests ++ (waiting_messages o ++ turns limit)))
     (many_eight (length o.answers) WaitingAnswer tt)
     (both_eight aborts (requests ++ (waiting_messages o ++ turns limit)) aborts_eight
@@ -70,16 +73,26 @@ out_of l base x = of_parts x.spool.whole x.spool.arrived (set base l x.outlet.se
 
 -- a candidate moves nothing, or one stream, as its record says
 data OffersOne (entry : CustomerEntry) (l : ℕ) (base : List (List Sender)) (x : Filling) (c : Candidate) : Type 0 where
-  same : out_of l base (record x { outlet = c.outlet; spool = c.spool }) ≡ out_of l base x → OffersOne entry l base x c
-  one : Sends entry l (out_of l base x) (out_of l base (record x { outlet = c.outlet; spool = c.spool }))
+  same : IsRestated x.spool c.spool
+      → out_of l base (record x { outlet = c.outlet; spool = c.spool }) ≡ out_of l base x → OffersOne entry l base x c
+  one : IsRestated x.spool c.spool
+      → Sends entry l (out_of l base x) (out_of l base (record x { outlet = c.outlet; spool = c.spool }))
       → OffersOne entry l base x c
 
+-- the function control sequence of a block is the same, and of the files all but states of whole ones
+pub record Kept (y x : Filling) : Type 0 where
+  pub fcs : y.block.fcs ≡ x.block.fcs
+  pub files : IsRestated x.spool y.spool
+
+all_kept : (x : Filling) → Kept x x
+all_kept x = record { fcs = refl; files = as_it_is x.spool }
+
 -- a source moves nothing, or one stream, and then the block has one record more
-pub data GivesOne (entry : CustomerEntry) (l : ℕ) (base : List (List Sender)) (x y : Filling) : Type 0 where
-  nothing : out_of l base y ≡ out_of l base x → (more : List Item) → y.block.items ≡ x.block.items ++ more
-      → GivesOne entry l base x y
-  a_record : Sends entry l (out_of l base x) (out_of l base y) → (i : Item) → y.block.items ≡ x.block.items ++ i ∷ []
-      → GivesOne entry l base x y
+data GivesOne (entry : CustomerEntry) (l : ℕ) (base : List (List Sender)) (x y : Filling) : Type 0 where
+  nothing : Kept y x → out_of l base y ≡ out_of l base x → (more : List Item)
+      → y.block.items ≡ x.block.items ++ more → GivesOne entry l base x y
+  a_record : Kept y x → Sends entry l (out_of l base x) (out_of l base y) → (i : Item)
+      → y.block.items ≡ x.block.items ++ i ∷ [] → GivesOne entry l base x y
 
 module _ (entry : CustomerEntry) (l : ℕ) (base : List (List Sender)) (inside : l < length base) where
   pub stream_now : (k : ℕ) (x : Filling) → sender_on l k (out_of l base x) ≡ sender_at k x.outlet
@@ -110,7 +123,8 @@ module _ (entry : CustomerEntry) (l : ℕ) (base : List (List Sender)) (inside :
 
   offers_abort : (x : Filling) (k : ℕ) (s : Sender) → sender_at k x.outlet ≡ s
       → OffersIf x (abort_where s x.outlet x.spool k)
-  offers_abort x k Aborting e = one (moves.gives_up k (stream_now k x ∙ e) (moved_is x k Idle x.spool.whole))
+  offers_abort x k Aborting e =
+      one (as_it_is x.spool) (moves.gives_up k (stream_now k x ∙ e) (moved_is x k Idle x.spool.whole))
   offers_abort x k _ e = tt
 
   idle_is : (s : Sender) → is_idle s ≡ true → s ≡ Idle
@@ -124,7 +138,7 @@ module _ (entry : CustomerEntry) (l : ℕ) (base : List (List Sender)) (inside :
   offers_request x k false few e = tt
   offers_request x k true few e = offers_map {A = WholeFile} x (λ f. asking x.outlet x.spool k f.number)
       (oldest (goes_by entry l) (kind_of k) x.spool)
-      (λ f found. one (moves.asks k f few (stream_now k x ∙ idle_is (sender_at k x.outlet)
+      (λ f found. one (marked_restated f.number state.Sending x.spool) (moves.asks k f few (stream_now k x ∙ idle_is (sender_at k x.outlet)
       (and_parts (nat_lt (k % 4) x.outlet.streams) (is_idle (sender_at k x.outlet)) e).1) found
       (moved_is x k (Requested f.number) (asking x.outlet x.spool k f.number).spool.whole)))
 
@@ -146,25 +160,25 @@ module _ (entry : CustomerEntry) (l : ℕ) (base : List (List Sender)) (inside :
   offers_next : (x : Filling) (k n place : ℕ) (o : Option Stored) → sender_at k x.outlet ≡ Sending n place
       → record_at n place x.spool ≡ o → Offers x (serving x.outlet x.spool k (next_at n place o))
   offers_next x k n place (Some r) e found =
-      one (moves.goes_on k n place r (stream_now k x ∙ e) (sym (at_place n place x) ∙ found)
+      one (as_it_is x.spool) (moves.goes_on k n place r (stream_now k x ∙ e) (sym (at_place n place x) ∙ found)
       (moved_is x k (Sending n (place + 1)) x.spool.whole))
   offers_next x k n place None e found =
-      one (moves.ends k n place (stream_now k x ∙ e) (sym (at_place n place x) ∙ found)
+      one (as_it_is x.spool) (moves.ends k n place (stream_now k x ∙ e) (sym (at_place n place x) ∙ found)
       (moved_is x k (EofSent n) x.spool.whole))
 
   offers_turn : (x : Filling) (k : ℕ) (s : Sender) → sender_at k x.outlet ≡ s
       → Offers x (serving x.outlet x.spool k (next_of s x.spool))
   offers_turn x k (Sending n place) e = offers_next x k n place (record_at n place x.spool) e refl
-  offers_turn x k s e = same (left_as_it_is x k s e)
+  offers_turn x k s e = same (as_it_is x.spool) (left_as_it_is x k s e)
 
   offers : (source : Source) (x : Filling) → IsOfEight source
       → OffersIf x (candidate (goes_by entry l) source x.outlet x.spool)
   offers WaitingAnswer x few = offers_map {A = Answer} x (answering x.outlet x.spool) (slice_get x.outlet.answers 0)
-      (λ a found. same refl)
+      (λ a found. same (as_it_is x.spool) refl)
   offers (StreamAbort k) x few = offers_abort x k (sender_at k x.outlet) refl
   offers (StreamRequest k) x few = offers_request x k (may_ask x.outlet k) few refl
   offers WaitingMessage x few = offers_map {A = List ℕ} x (telling x.outlet x.spool) (slice_get x.outlet.messages 0)
-      (λ m found. same refl)
+      (λ m found. same (as_it_is x.spool) refl)
   offers StreamTurn x few =
       offers_map {A = ℕ} x (λ k. serving x.outlet x.spool k (next_of (sender_at k x.outlet) x.spool))
       (next_served x.outlet) (λ k found. offers_turn x k (sender_at k x.outlet) refl)
@@ -173,26 +187,27 @@ module _ (entry : CustomerEntry) (l : ℕ) (base : List (List Sender)) (inside :
   Gives x y = GivesOne entry l base x y
 
   gives_candidate : (x : Filling) (o : Option Candidate) → OffersIf x o → Gives x (after_candidate o x)
-  gives_candidate x None h = nothing refl [] (sym (append-nil x.block.items))
+  gives_candidate x None h = nothing (all_kept x) refl [] (sym (append-nil x.block.items))
   gives_candidate x (Some c) h = at_room (has_room x.block c.item) h
     where
       at_room : (b : Bool) → Offers x c → Gives x (added_where b c x)
-      at_room true (same e) = nothing e (c.item ∷ []) refl
-      at_room true (one s) = a_record s c.item refl
-      at_room false h = nothing refl [] (sym (append-nil x.block.items))
+      at_room true (same kept e) = nothing (record { fcs = refl; files = kept }) e (c.item ∷ []) refl
+      at_room true (one kept s) = a_record (record { fcs = refl; files = kept }) s c.item refl
+      at_room false h =
+          nothing (record { fcs = refl; files = as_it_is x.spool }) refl [] (sym (append-nil x.block.items))
 
-  pub gives : (source : Source) (x : Filling) → IsOfEight source → Gives x (after_source (goes_by entry l) source x)
+  gives : (source : Source) (x : Filling) → IsOfEight source → Gives x (after_source (goes_by entry l) source x)
   unfolding after_source
   gives source x few = elim (x.full) as (λ b. Gives x (after_source_where b (goes_by entry l) source x)) [
-    | true ↦ nothing refl [] (sym (append-nil x.block.items))
+    | true ↦ nothing (all_kept x) refl [] (sym (append-nil x.block.items))
     | false ↦ gives_candidate x (candidate (goes_by entry l) source x.outlet x.spool) (offers source x few)
   ]
 
   -- all sources, one after the other
   step_on : (x y : Filling) (z : Outgoing) → Gives x y → LeadsByMoves (Sends entry l) (out_of l base y) z
       → LeadsByMoves (Sends entry l) (out_of l base x) z
-  step_on x y z (nothing e more items) later = subst (λ w. LeadsByMoves (Sends entry l) w z) e later
-  step_on x y z (a_record s i items) later = onward (out_of l base x) (out_of l base y) z s later
+  step_on x y z (nothing kept e more items) later = subst (λ w. LeadsByMoves (Sends entry l) w z) e later
+  step_on x y z (a_record kept s i items) later = onward (out_of l base x) (out_of l base y) z s later
 
   all_lead : (more : List Source) (x : Filling) → AreOfEight more
       → LeadsByMoves (Sends entry l) (out_of l base x) (out_of l base (after_sources (goes_by entry l) more x))
@@ -202,6 +217,28 @@ module _ (entry : CustomerEntry) (l : ℕ) (base : List (List Sender)) (inside :
       let y = after_source (goes_by entry l) source x in
       step_on x y (out_of l base (after_sources (goes_by entry l) more y)) (gives source x few.0)
       (all_lead more y few.1)
+
+  gave_kept : (x y : Filling) → Gives x y → Kept y x
+  gave_kept x y (nothing kept e more items) = kept
+  gave_kept x y (a_record kept s i items) = kept
+
+  sources_kept : (more : List Source) (x : Filling) → AreOfEight more
+      → Kept (after_sources (goes_by entry l) more x) x
+  unfolding after_sources
+  sources_kept [] x few = all_kept x
+  sources_kept (source ∷ more) x few =
+      let y = after_source (goes_by entry l) source x in
+      let first = gave_kept x y (gives source x few.0) in
+      let later = sources_kept more y few.1 in
+      let z = after_sources (goes_by entry l) more y in
+      record { fcs = later.fcs ∙ first.fcs; files = restated_then x.spool y.spool z.spool first.files later.files }
+
+  block_kept : (x : Filling) → Kept (filled_block (goes_by entry l) x) x
+  unfolding filled_block
+  block_kept x = elim (all_suspended x.outlet.peer_fcs) as (λ b. Kept (filled_where b (goes_by entry l) x) x) [
+    | true ↦ all_kept x
+    | false ↦ sources_kept (sources x.block.limit x.outlet) x (sources_eight x.block.limit x.outlet)
+  ]
 
   -- a block without records has moved nothing
   no_records : (xs ys : List Item) → xs ++ ys ≡ [] → xs ≡ []
@@ -214,8 +251,8 @@ module _ (entry : CustomerEntry) (l : ℕ) (base : List (List Sender)) (inside :
 
   gave_none : (x y : Filling) → Gives x y → y.block.items ≡ []
       → (x.block.items ≡ []) × (out_of l base y ≡ out_of l base x)
-  gave_none x y (nothing e more items) none = (no_records x.block.items more (sym items ∙ none), e)
-  gave_none x y (a_record s i items) none = absurd (not_one_more x.block.items i (sym items ∙ none))
+  gave_none x y (nothing kept e more items) none = (no_records x.block.items more (sym items ∙ none), e)
+  gave_none x y (a_record kept s i items) none = absurd (not_one_more x.block.items i (sym items ∙ none))
 
   all_gave_none :
       (more : List Source) (x : Filling) → AreOfEight more → (after_sources (goes_by entry l) more x).block.items ≡ []
@@ -247,6 +284,10 @@ module _ (entry : CustomerEntry) (l : ℕ) (base : List (List Sender)) (inside :
       at_suspended true none = refl
       at_suspended false none = (all_gave_none (sources x.block.limit x.outlet) x
           (sources_eight x.block.limit x.outlet) none).1
+
+pub filled_kept : (entry : CustomerEntry) (l : ℕ) (x : Filling) → Kept (filled_block (goes_by entry l) x) x
+filled_kept entry l = block_kept entry l (replicate (suc l) [])
+    (omega (arith, length-replicate {A = List Sender} (suc l) []))
 
 -- ---- the next block of a line
 

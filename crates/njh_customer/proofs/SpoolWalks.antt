@@ -4,7 +4,7 @@ use Words.{ℕ, Bool, true, false, not, List, [], filter, map, refl, sym, ap, su
 use Words.{kind_of, sender_of, CustomerSpool, WholeFile, has_block, has_file_room, has_room_for, partial_records}
 use Words.{with_appended, with_finished, with_new_partial, without_partial, Held, Ready, CustomerEntry, RouteEntry}
 use Words.{Arrival, closed_by, received_arrival, received_request, requested_where, stored_by, after_completion}
-use Words.{after_refusal, all_ended, goes_by, ready, tried_again, Taken, Cancelled, Fitting, is_whole, judged_coming}
+use Words.{after_refusal, all_ended, ready, tried_again, Taken, Cancelled, Fitting, is_whole, judged_coming}
 use Words.{verdict_of, with_room, Receiver, Sender, filling, own_fcs, FilesMove, stay, held, released, rerouted}
 use Words.{cancelled, CommandOutcome, changed_file, file_in_state, is_of_name, may_change, message_outcome, spool_after}
 use Words.{with_new_destination, LineReply, after_record, replied_to, session_over, Customer, line_at, receiver_at}
@@ -13,7 +13,8 @@ use Rattle.{std.proofs.Common.{◌≡◌, ◌&&◌, ◌==◌, ◌∷◌, ◌++�
 use Rattle.{njh_stream.specs.Transmissions.RecordVerdict, njh_command.proofs.CommandMoves.files_move}
 use Rattle.{njh_command.proofs.RerouteNodes.nodes_are_names, njh_customer.proofs.FileListLaws.changed_where}
 use Rattle.njh_customer.proofs.RecordsDo.{Brings, a_request, an_abort, some_data, too_long, RecordDoes, record_does}
-use Rattle.njh_customer.proofs.Restated.{filled_kept, IsRestated, ended_restated, held_restated, open_so, completed_so}
+use Rattle.njh_customer.proofs.Restated.{IsRestated, ended_restated, held_restated, open_so, completed_so}
+use Rattle.njh_customer.proofs.SendingMoves.{filled_kept}
 use Rattle.njh_customer.{proofs.{Restated.refused_restated, StepWalks.StaysInSteps}, specs.Customer.sender_at}
 use Rattle.njh_stream.specs.declared.receiver.Receiver.TheVariants as receiver
 use Rattle.njh_line.specs.declared.verdict.LineReply.TheVariants as reply
@@ -156,7 +157,7 @@ module _ (I : CustomerSpool → Type 0) (restated : (s t : CustomerSpool) → Is
       let x = line_at l c.lines in
       let first = filling (own_block (own_fcs c.spool) x.state) (outlet_of x) c.spool in
       restated c.spool (replied_to l (reply.Next or_ack0) c).after.spool
-      (filled_kept (goes_by c.entry l) first).files so
+      (filled_kept c.entry l first).files so
   replied_so l r c so = so
 
   pub session_over_so : ((n : ℕ) (s : CustomerSpool) → I s → I (without_partial n s)) → (l : ℕ) (c : Customer)
